@@ -1,0 +1,98 @@
+-- The order of keys in words, and that bytes have one reading.
+use Rattle.std.proofs.Common.{◌≡◌, ℕ, suc, ◌<◌, ◌≤◌, List, [], ◌∷◌, ◌++◌, length, Option, Some, None, Ordering, nat_cmp, refl, sym, ap, ◌∙◌, subst, arith, append_assoc}
+use Rattle.std.specs.declared.cmp.Ordering.TheVariants.{Less, Equal, Greater}
+use Rattle.std.specs.Ordering.{ordering_then}
+use Rattle.std.proofs.lemmas.Bool.Decides.{nat_tests}
+use Rattle.std.specs.List.{flat_map, AllByRecursion}
+use Rattle.prolly_entry.specs.Record.{Record, IsRecord}
+use Rattle.prolly_entry.specs.Spelling.{record_spelling}
+use Rattle.prolly_entry.specs.Keys.{key_order, KeyBelow, ComesBefore, KeyOrderIsBytewise}
+use Rattle.prolly_entry.specs.declared.flaw.Flaw.{Flaw}
+use Rattle.prolly_entry.specs.Reading.{EndsIn, OneReading}
+use Rattle.prolly_entry.proofs.Spellings.{record_one_form}
+
+cmp_less : (a b : ℕ) → a < b → nat_cmp a b ≡ Less
+cmp_less a b h = grind (arith, nat_tests)
+
+cmp_self : (a : ℕ) → nat_cmp a a ≡ Equal
+cmp_self a = grind (arith, nat_tests)
+
+less_cmp : (a b : ℕ) → nat_cmp a b ≡ Less → a < b
+less_cmp a b h = grind (arith, nat_tests)
+
+equal_cmp : (a b : ℕ) → nat_cmp a b ≡ Equal → a ≡ b
+equal_cmp a b h = grind (arith, nat_tests)
+
+front_below : (x : List ℕ) (b : ℕ) (y : List ℕ) → KeyBelow x (x ++ b ∷ y)
+front_below [] b y = refl
+front_below (a ∷ x) b y = ap (λ o. ordering_then o (key_order x (x ++ b ∷ y))) (cmp_self a) ∙ front_below x b y
+
+less_below : (same : List ℕ) (a b : ℕ) (x y : List ℕ) → a < b → KeyBelow (same ++ a ∷ x) (same ++ b ∷ y)
+less_below [] a b x y h = ap (λ o. ordering_then o (key_order x y)) (cmp_less a b h)
+less_below (c ∷ same) a b x y h = ap (λ o. ordering_then o (key_order (same ++ a ∷ x) (same ++ b ∷ y))) (cmp_self c) ∙ less_below same a b x y h
+
+below : {x y : List ℕ} → ComesBefore x y → KeyBelow x y
+below (ComesBefore.is_prefix x b y) = front_below x b y
+below (ComesBefore.is_less same a b x y h) = less_below same a b x y h
+
+one_more : {x y : List ℕ} (a : ℕ) → ComesBefore x y → ComesBefore (a ∷ x) (a ∷ y)
+one_more a (ComesBefore.is_prefix x b y) = ComesBefore.is_prefix (a ∷ x) b y
+one_more a (ComesBefore.is_less same c b x y h) = ComesBefore.is_less (a ∷ same) c b x y h
+
+comes : (x y : List ℕ) → KeyBelow x y → ComesBefore x y
+comes [] [] h = absurd (not_less h)
+  where
+    not_less : Equal ≡ Less → ⊥
+    not_less e = cc
+comes [] (b ∷ y) h = ComesBefore.is_prefix [] b y
+comes (a ∷ x) [] h = absurd (not_less h)
+  where
+    not_less : Greater ≡ Less → ⊥
+    not_less e = cc
+comes (a ∷ x) (b ∷ y) h = go (nat_cmp a b) refl (λ k. comes x y k) h
+  where
+    go : (o : Ordering) → nat_cmp a b ≡ o → (KeyBelow x y → ComesBefore x y) → ordering_then (nat_cmp a b) (key_order x y) ≡ Less → ComesBefore (a ∷ x) (b ∷ y)
+    go Less e more k = ComesBefore.is_less [] a b x y (less_cmp a b e)
+    go Equal e more k = subst (λ c. ComesBefore (a ∷ x) (c ∷ y)) (equal_cmp a b e)
+        (one_more a (more (sym (ap (λ o. ordering_then o (key_order x y)) e) ∙ k)))
+    go Greater e more k = absurd (not_less (sym (ap (λ o. ordering_then o (key_order x y)) e) ∙ k))
+      where
+        not_less : Greater ≡ Less → ⊥
+        not_less e = cc
+
+pub key_order_is : KeyOrderIsBytewise
+key_order_is x y = (below, comes x y)
+
+-- ---- one reading
+
+record Same (rs ss : List Record) (x y : List ℕ) : Type 0 where
+  records : rs ≡ ss
+  rest : x ≡ y
+
+same_fronts : (rs ss : List Record) (x y : List ℕ) → AllByRecursion IsRecord rs → AllByRecursion IsRecord ss → length rs ≡ length ss →
+    flat_map record_spelling rs ++ x ≡ flat_map record_spelling ss ++ y → Same rs ss x y
+same_fronts [] [] x y h k n e = record { records = refl; rest = e }
+same_fronts [] (s ∷ ss) x y h k n e = absurd (let n' : 0 ≡ suc (length ss) = n in omega arith)
+same_fronts (r ∷ rs) [] x y h k n e = absurd (let n' : suc (length rs) ≡ 0 = n in omega arith)
+same_fronts (r ∷ rs) (s ∷ ss) x y h k n e =
+    let n' : suc (length rs) ≡ suc (length ss) = n in
+    let first = record_one_form r s (flat_map record_spelling rs ++ x) (flat_map record_spelling ss ++ y) h.0 k.0
+    (sym (append_assoc (record_spelling r) (flat_map record_spelling rs) x) ∙ e ∙ append_assoc (record_spelling s) (flat_map record_spelling ss) y) in
+    let more = same_fronts rs ss x y h.1 k.1 (omega arith) first.1 in
+    record { records = ap (λ q. q ∷ rs) first.0 ∙ ap (λ q. s ∷ q) more.records; rest = more.rest }
+
+ending_same : (limit : ℕ) (good : List Record) (rest : List ℕ) (e f : Option Flaw) → EndsIn limit good rest e → EndsIn limit good rest f → e ≡ f
+ending_same limit good [] e f h k = h ∙ sym k
+ending_same limit good (b ∷ rest) None f h k = absurd h
+ending_same limit good (b ∷ rest) (Some e) None h k = absurd k
+ending_same limit good (b ∷ rest) (Some e) (Some f) h k = sym h ∙ k
+
+pub one_reading : OneReading
+one_reading bytes limit good good' ending ending' h k =
+    let a : length good ≤ length good' = k.longest good h.rest h.begins in
+    let b : length good' ≤ length good = h.longest good' k.rest k.begins in
+    let s = same_fronts good good' h.rest k.rest h.begins.lawful k.begins.lawful (omega arith) (sym h.begins.spelled ∙ k.begins.spelled) in (
+      s.records,
+      ending_same limit good h.rest ending ending' h.ends
+          (subst (λ r. EndsIn limit good r ending') (sym s.rest) (subst (λ g. EndsIn limit g k.rest ending') (sym s.records) k.ends)),
+    )

@@ -1,0 +1,5 @@
+use Rattle.prolly_entry.proofs.Orders.{one_reading}
+use Rattle.prolly_entry.proofs.laws.reading.bytes_have_one_reading.Goals as goal
+
+pub returns : goal.returns
+returns c = record { one = one_reading }

@@ -1,0 +1,66 @@
+-- The records that the bytes of a record file spell, and what follows them. (This project's format.)
+use Rattle.std.specs.Prelude.{◌≡◌, ℕ, ◌+◌, ◌<◌, ◌≤◌, nat_lt, ◌==◌, List, [], ◌∷◌, ◌++◌, length, take, drop, get_or, Option, Some, None, if◌then◌else◌}
+use Rattle.std.specs.Int.{w16, w32, from_be_bytes}
+use Rattle.std.specs.List.{flat_map, AllByRecursion}
+use Rattle.prolly_entry.specs.declared.flaw.Flaw.{Flaw}
+use Rattle.prolly_entry.specs.declared.flaw.Flaw.TheVariants.{Truncated, KeyTooLong, ValueTooLong, OutOfOrder, TooManyRecords}
+use Rattle.prolly_entry.specs.Keys.{Rising}
+use Rattle.prolly_entry.specs.Record.{Record, IsRecord, keys_of}
+use Rattle.prolly_entry.specs.Spelling.{record_spelling}
+use Rattle.prolly_entry.specs.Position.{last_position, is_before}
+
+-- The records are lawful, at most `limit` many, their keys rise, and their spellings, one after another, begin the bytes; the
+-- rest follows.
+pub record Begins (bytes : List ℕ) (limit : ℕ) (records : List Record) (rest : List ℕ) : Type 0 where
+  pub spelled : bytes ≡ flat_map record_spelling records ++ rest
+  pub lawful : AllByRecursion IsRecord records
+  pub rising : Rising (keys_of records)
+  pub few : length records ≤ limit
+
+-- What is wrong with a whole record of this key behind the good ones: its key is not greater than the last good one.
+abbrev pub key_flaw : List Record → List ℕ → Option Flaw
+key_flaw good key = if is_before (last_position good) (Some key) then None else Some OutOfOrder
+
+-- What is wrong with the next record, where bytes follow the good ones: the first of these that holds, and None where one more
+-- good record follows. By the bytes the key's length is n and the value's m; the greatest number for m is a removal.
+abbrev pub next_flaw : ℕ → List Record → List ℕ → Option Flaw
+next_flaw limit good rest =
+    let n = from_be_bytes w16 (take 2 rest) in
+    let m = from_be_bytes w32 (take 4 (drop (2 + n) rest)) in
+    let key = take n (drop 2 rest) in
+    if length good == limit then Some TooManyRecords
+    else (if nat_lt (length rest) 2 then Some Truncated
+    else (if nat_lt 1024 n then Some KeyTooLong
+    else (if nat_lt (length rest) (6 + n) then Some Truncated
+    else (if m == 0xFFFF_FFFF then key_flaw good key
+    else (if nat_lt 65536 m then Some ValueTooLong
+    else (if nat_lt (length rest) (6 + n + m) then Some Truncated
+    else key_flaw good key))))))
+
+-- The ending: clean (None) where no byte follows the good records, else what is wrong with the next record.
+abbrev pub EndsIn : ℕ → List Record → List ℕ → Option Flaw → Type 0
+EndsIn limit good [] ending = ending ≡ None
+EndsIn limit good (b ∷ rest) None = ⊥
+EndsIn limit good (b ∷ rest) (Some flaw) = next_flaw limit good (b ∷ rest) ≡ Some flaw
+
+-- The reading of bytes: the good records are the longest list of records that begins them, and what follows them is the ending.
+-- A flaw's place is the number of good records.
+pub record IsReading (bytes : List ℕ) (limit : ℕ) (good : List Record) (ending : Option Flaw) : Type 0 where
+  pub rest : List ℕ
+  pub begins : Begins bytes limit good rest
+  pub longest : (records : List Record) (more : List ℕ) → Begins bytes limit records more → length records ≤ length good
+  pub ends : EndsIn limit good rest ending
+
+-- Law: bytes have at most one reading.
+abbrev pub OneReading : Type 0
+OneReading = (bytes : List ℕ) (limit : ℕ) (good good' : List Record) (ending ending' : Option Flaw) →
+    IsReading bytes limit good ending → IsReading bytes limit good' ending' → (good ≡ good') × (ending ≡ ending')
+
+-- Law: and they have one. A number below 256 is a byte.
+pub record HasReading (bytes : List ℕ) (limit : ℕ) : Type 0 where
+  pub good : List Record
+  pub ending : Option Flaw
+  pub reading : IsReading bytes limit good ending
+
+abbrev pub SomeReading : Type 0
+SomeReading = (bytes : List ℕ) (limit : ℕ) → ((i : ℕ) → get_or bytes i 0 < 256) → HasReading bytes limit

@@ -1,0 +1,11 @@
+//! Laws of the definitions. Each is the contract of a function that does nothing: to call it is to know
+//! the law, and to prove the crate is to prove it.
+
+pub mod examples;
+pub mod files;
+pub mod merging;
+pub mod reading;
+pub mod spelling;
+pub mod splitting;
+pub mod stages;
+pub mod trees;

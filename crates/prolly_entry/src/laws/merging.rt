@@ -1,0 +1,23 @@
+//! Overlays of lists of records, and merging them.
+ghost use Rattle.prolly_entry.specs.Overlay.{OneRawOverlay, DivisionKeepsOverlay, OverlayStep};
+ghost use Rattle.prolly_entry.specs.Merge.{NeighboursMergeFirst};
+
+/// Lists with rising keys have one overlay.
+pub fn lists_have_one_overlay()
+    ensures { OneRawOverlay }
+{}
+
+/// To divide a list leaves the overlay as it was.
+pub fn divisions_keep_the_overlay()
+    ensures { DivisionKeepsOverlay }
+{}
+
+/// Two neighbours may be merged first.
+pub fn neighbours_merge_first<Fault>()
+    ensures { NeighboursMergeFirst Fault }
+{}
+
+/// An overlay goes on key by key.
+pub fn overlays_go_on()
+    ensures { OverlayStep }
+{}
