@@ -2,9 +2,24 @@
 //! of everything that the crates above build, write and check.
 #![tactic(auto)]
 
+mod cut;
 mod flaw;
+mod keys;
 pub mod laws;
+mod limits;
+mod numbers;
+mod pair;
+mod record;
+mod reference;
+mod spelling;
 mod version;
 
+pub use cut::{BITS_LIMIT, Cut, KeyCut, Sha512Cut};
 pub use flaw::Flaw;
+pub use keys::key_order;
+pub use limits::{KEY_LIMIT, VALUE_LIMIT};
+pub use pair::{EntryFault, Pair};
+pub use record::Record;
+pub use reference::Ref;
+pub use spelling::{append_child, append_child_as, append_pair, append_record};
 pub use version::Version;

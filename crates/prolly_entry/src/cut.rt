@@ -1,0 +1,103 @@
+//! Cuts: which entries end a chunk.
+ghost use Rattle.std.specs.Prelude.{◌≡◌, ℕ, ◌≤◌, ◌<◌, IfSome, IfNone};
+ghost use Rattle.prolly_entry.specs.Cut.{Cut as CutValue, boundary_number, sha512_cut, key_cut};
+
+use byteorder::{BigEndian, ByteOrder};
+use sha2::{Digest, Sha512};
+use std::marker::Model;
+
+/// The greatest number of bits of a [`Sha512Cut`].
+pub const BITS_LIMIT: u8 = 24;
+
+/// Which entries end a chunk. Both answers are functions of the cut's value and the entry's bytes, so
+/// equal contents are cut in equal places.
+pub trait Cut: Copy + Send {
+    /// The cut as the definitions have it.
+    ghost cut: { Self → CutValue };
+
+    /// The number of the cut, which stands in the header of a chunk file.
+    fn bits(&self) -> u8
+        ensures { result ≡ (cut self.now).bits };
+
+    /// Whether the entry, the spelling of a pair or of a child entry, is a boundary.
+    fn is_boundary(&self, entry: &[u8]) -> bool
+        ensures { result ≡ (cut self.now).is_boundary entry.now };
+}
+
+/// The cut of a number of bits q from 0 to 24: an entry is a boundary where its boundary number is a
+/// multiple of 2^q, so about one entry in 2^q is.
+#[derive(Clone, Copy, Debug, PartialEq, Eq)]
+pub struct Sha512Cut {
+    bits: u8,
+}
+
+impl Model for Sha512Cut {
+    ghost Value = { ℕ };
+
+    ghost view = { λ cut. cut.bits };
+
+    ghost invariant = { λ cut. cut.bits ≤ 24 };
+
+    ghost inverse = { λ bits. record { bits = bits } };
+}
+
+impl Sha512Cut {
+    /// The cut of so many bits; none for more than 24.
+    pub fn new(bits: u8) -> Option<Sha512Cut>
+        ensures some { IfSome result (λ cut. (cut ≡ bits) × (bits ≤ 24)) }
+        ensures none { IfNone result (24 < bits) }
+    {
+        if bits > BITS_LIMIT {
+            return None;
+        }
+        Some(Sha512Cut { bits })
+    }
+}
+
+impl Cut for Sha512Cut {
+    ghost cut = { λ bits. sha512_cut bits };
+
+    fn bits(&self) -> u8 {
+        self.bits
+    }
+
+    /// Takes one hash of the entry.
+    fn is_boundary(&self, entry: &[u8]) -> bool {
+        boundary_number(entry) % (1u32 << self.bits) == 0
+    }
+}
+
+/// The big-endian number in the bytes 20 to 23 of the SHA-512 of an entry. The first 20 bytes are left
+/// to references.
+#[tactic(auto, unfolding(crate::specs::Cut::boundary_number))]
+fn boundary_number(entry: &[u8]) -> u32
+    ensures { result ≡ boundary_number entry.now }
+{
+    let digest = Sha512::digest(entry);
+    BigEndian::read_u32(&digest[20..24])
+}
+
+/// The cut of examples and tests: an entry is a boundary where it holds a key whole, by the length in
+/// its first two bytes, and that key ends with `!`. Its number is 255, which no lawful chunk file has.
+#[derive(Clone, Copy, Debug, PartialEq, Eq)]
+pub struct KeyCut;
+
+impl Cut for KeyCut {
+    ghost cut = { λ _. key_cut };
+
+    fn bits(&self) -> u8 {
+        255
+    }
+
+    fn is_boundary(&self, entry: &[u8]) -> bool {
+        if entry.len() < 2 {
+            return false;
+        }
+        let (length, rest) = entry.split_at(2);
+        let key_length = BigEndian::read_u16(length) as usize;
+        if key_length == 0 || rest.len() < key_length {
+            return false;
+        }
+        rest[key_length - 1] == b'!'
+    }
+}

@@ -1,0 +1,70 @@
+//! Records: what a record file says of its keys.
+ghost use Rattle.std.specs.Prelude.{◌≡◌};
+
+use crate::limits::KEY_LIMIT;
+use crate::pair::{EntryFault, Pair};
+use std::marker::Model;
+
+/// A record puts a value at its key, or removes the key.
+#[derive(Drop)]
+pub struct Record {
+    key: Vec<u8>,
+    value: Option<Vec<u8>>,
+}
+
+impl Model for Record {
+    ghost use Rattle.std.specs.Prelude.{◌≤◌, vec_len};
+    ghost use Rattle.prolly_entry.specs.Record.{Record as RecordValue, IsChange};
+    ghost use Rattle.std.specs.Option.{option_map};
+
+    ghost Value = { RecordValue };
+
+    ghost view = { λ r. record { key = r.key.items; value = option_map (λ v. v.items) r.value } };
+
+    ghost invariant = { λ r. (vec_len r.key ≤ 1024) × IsChange (option_map (λ v. v.items) r.value) };
+}
+
+impl Record {
+    ghost use Rattle.std.specs.Prelude.{◌≤◌, ◌<◌, ◌↔◌, length, vec_len, None, Some, Err, IfOk};
+    ghost use Rattle.std.specs.Option.{option_copied};
+    ghost use Rattle.prolly_entry.specs.Record.{IsChange};
+
+    /// The record that puts a pair.
+    pub fn put(pair: Pair) -> Record
+        ensures { result ≡ record { key = pair.key; value = Some pair.value } }
+    {
+        let (key, value) = pair.into_parts();
+        Record {
+            key,
+            value: Some(value),
+        }
+    }
+
+    /// The record that removes a key. The only fault is a key that is too long.
+    pub fn remove(key: Vec<u8>) -> Result<Record, EntryFault>
+        ensures ok { IfOk result (λ r. r ≡ record { key = key.items; value = None }) }
+        ensures key { (result ≡ Err EntryFault.KeyTooLong) ↔ (1024 < vec_len key) }
+        ensures no_other { result ≡ Err EntryFault.ValueTooLong → ⊥ }
+    {
+        if key.len() > KEY_LIMIT {
+            return Err(EntryFault::KeyTooLong);
+        }
+        Ok(Record { key, value: None })
+    }
+
+    /// The key.
+    pub fn key(&self) -> &[u8]
+        ensures key { result.now ≡ self.now.key }
+        ensures short { length self.now.key ≤ 1024 }
+    {
+        &self.key
+    }
+
+    /// The value that is put; none where the key is removed.
+    pub fn value(&self) -> Option<&[u8]>
+        ensures value { option_copied result ≡ self.now.value }
+        ensures short { IsChange self.now.value }
+    {
+        self.value.as_deref()
+    }
+}
