@@ -6,7 +6,7 @@ pub mod Groups
 pub mod Growth
 pub mod Faults
 pub mod Composition
-pub mod Fronts
+pub mod Prefixes
 pub mod Spellings
 pub mod Sizes
 pub mod Overlays
@@ -14,8 +14,9 @@ pub mod Joins
 pub mod Steps
 pub mod Orders
 pub mod Roots
-pub mod Upto
+pub mod Writers
 pub mod Files
 pub mod Distinct
 pub mod Levels
 pub mod Computed
+pub mod FrontBytes

@@ -9,7 +9,7 @@ use Rattle.prolly_entry.specs.Spelling.{record_spelling}
 use Rattle.prolly_entry.specs.Keys.{key_order, KeyBelow, ComesBefore, KeyOrderIsBytewise}
 use Rattle.prolly_entry.specs.declared.flaw.Flaw.{Flaw}
 use Rattle.prolly_entry.specs.Reading.{EndsIn, OneReading}
-use Rattle.prolly_entry.proofs.Spellings.{record_one_form}
+use Rattle.prolly_entry.proofs.Spellings.{record_spellings_apart}
 
 cmp_less : (a b : ℕ) → a < b → nat_cmp a b ≡ Less
 cmp_less a b h = grind (arith, nat_tests)
@@ -76,7 +76,7 @@ same_fronts [] (s ∷ ss) x y h k n e = absurd (let n' : 0 ≡ suc (length ss) =
 same_fronts (r ∷ rs) [] x y h k n e = absurd (let n' : suc (length rs) ≡ 0 = n in omega arith)
 same_fronts (r ∷ rs) (s ∷ ss) x y h k n e =
     let n' : suc (length rs) ≡ suc (length ss) = n in
-    let first = record_one_form r s (flat_map record_spelling rs ++ x) (flat_map record_spelling ss ++ y) h.0 k.0
+    let first = record_spellings_apart r s (flat_map record_spelling rs ++ x) (flat_map record_spelling ss ++ y) h.0 k.0
     (sym (append_assoc (record_spelling r) (flat_map record_spelling rs) x) ∙ e ∙ append_assoc (record_spelling s) (flat_map record_spelling ss) y) in
     let more = same_fronts rs ss x y h.1 k.1 (omega arith) first.1 in
     record { records = ap (λ q. q ∷ rs) first.0 ∙ ap (λ q. s ∷ q) more.records; rest = more.rest }

@@ -11,7 +11,7 @@ use Rattle.prolly_entry.specs.Tree.{Tree, bytes_of, pairs_below, greatest_key, p
 use Rattle.prolly_entry.specs.Chunk.{Chunk, chunk_of, post_order, chunks, IsIn, Collision}
 use Rattle.prolly_entry.specs.File.{RootsTellMaps}
 use Rattle.prolly_entry.proofs.Groups.{all_front, all_back}
-use Rattle.prolly_entry.proofs.Spellings.{pair_one_form, child_one_form}
+use Rattle.prolly_entry.proofs.Spellings.{pair_spellings_apart, child_spellings_apart}
 use Rattle.prolly_entry.proofs.Sizes.{pairs_are}
 
 -- ---- lists of bytes are equal or not
@@ -84,7 +84,7 @@ leaf_same (p ∷ ps) [] h k e = absurd (cons_nil e)
     cons_nil : {x : ℕ} {xs : List ℕ} → ◌≡◌ {A = List ℕ} (x ∷ xs) [] → ⊥
     cons_nil e = cc
 leaf_same (p ∷ ps) (q ∷ qs) h k e =
-    let r = pair_one_form p q (flat_map pair_spelling ps) (flat_map pair_spelling qs) h.0 k.0 e in
+    let r = pair_spellings_apart p q (flat_map pair_spelling ps) (flat_map pair_spelling qs) h.0 k.0 e in
     ap (λ x. x ∷ ps) r.0 ∙ ap (λ x. q ∷ x) (leaf_same ps qs h.1 k.1 r.1)
 
 -- ---- trees of one level
@@ -118,7 +118,7 @@ module _ (version : Version) where
   children_tell level tell (t ∷ ts) (u ∷ us) h k e =
       let ht = all_front IsPair (pairs_below level t) (flat_map (pairs_below level) ts) h in
       let hu = all_front IsPair (pairs_below level u) (flat_map (pairs_below level) us) k in
-      let r = child_one_form version (greatest_key level t) (greatest_key level u) (reference_of (bytes_of version level t)) (reference_of (bytes_of version level u))
+      let r = child_spellings_apart version (greatest_key level t) (greatest_key level u) (reference_of (bytes_of version level t)) (reference_of (bytes_of version level u))
       (pair_count level t) (pair_count level u) (entries level ts) (entries level us)
       (last_key_short (pairs_below level t) ht) (last_key_short (pairs_below level u) hu)
       (reference_length (bytes_of version level t) ∙ sym (reference_length (bytes_of version level u))) e in

@@ -47,8 +47,8 @@ same_pair : (key key' value value' : List ℕ) → key ≡ key' → value ≡ va
     ◌≡◌ {A = Pair} (record { key = key; value = value }) (record { key = key'; value = value' })
 same_pair key key' value value' e f = cc
 
-pub pair_one_form : PairSpellingsApart
-pair_one_form p q x y h k e =
+pub pair_spellings_apart : PairSpellingsApart
+pair_spellings_apart p q x y h k e =
     let first = key_apart p.key q.key (value_spelling p.value ++ x) (value_spelling q.value ++ y) h.key k.key
     (sym (append_assoc (key_spelling p.key) (value_spelling p.value) x) ∙ e ∙ append_assoc (key_spelling q.key) (value_spelling q.value) y) in
     let second = value_apart p.value q.value x y h.value k.value first.rest in
@@ -71,8 +71,8 @@ same_record : (key key' : List ℕ) (value value' : Option (List ℕ)) → key �
     ◌≡◌ {A = Record} (record { key = key; value = value }) (record { key = key'; value = value' })
 same_record key key' value value' e f = cc
 
-pub record_one_form : RecordSpellingsApart
-record_one_form r s x y h k e =
+pub record_spellings_apart : RecordSpellingsApart
+record_spellings_apart r s x y h k e =
     let first = key_apart r.key s.key (change_spelling r.value ++ x) (change_spelling s.value ++ y) h.key k.key
     (sym (append_assoc (key_spelling r.key) (change_spelling r.value) x) ∙ e ∙ append_assoc (key_spelling s.key) (change_spelling s.value) y) in
     let second = change_apart r.value s.value x y h.value k.value first.rest in
@@ -82,8 +82,8 @@ count_apart : (version : Version) (m n : ℕ) (x y : List ℕ) → count_spellin
 count_apart One m n x y e = record { front = refl; rest = e }
 count_apart Two m n x y e = apart (to_be_bytes w64 m) (to_be_bytes w64 n) x y refl e
 
-pub child_one_form : (version : Version) → ChildSpellingsApart version
-child_one_form version key key' reference reference' count count' x y h k n e =
+pub child_spellings_apart : (version : Version) → ChildSpellingsApart version
+child_spellings_apart version key key' reference reference' count count' x y h k n e =
     let first = key_apart key key' (reference ++ (count_spelling version count ++ x)) (reference' ++ (count_spelling version count' ++ y)) h k
     (simp append_assoc at e) in
     let second = apart reference reference' (count_spelling version count ++ x) (count_spelling version count' ++ y) n first.rest in

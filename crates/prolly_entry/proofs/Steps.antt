@@ -8,7 +8,7 @@ use Rattle.prolly_entry.specs.Split.{is_closed, closed_groups, open_groups, open
 use Rattle.prolly_entry.specs.Chunk.{Chunk}
 use Rattle.prolly_entry.specs.Events.{clean, faulty, stage_events, has_level, events_through, events_beyond, with_group_events, events_at_end, StageStep}
 use Rattle.prolly_entry.proofs.Parts.{flat, as_group, closes, Open, Ends, AllEnd, parts, open_rest_of, closed_parts, open_parts, ends_more, ends_closed, open_not_closed}
-use Rattle.prolly_entry.proofs.Fronts.{count, within, count_true, count_false}
+use Rattle.prolly_entry.proofs.Prefixes.{count, within, count_true, count_false}
 use Rattle.prolly_entry.proofs.Streams.{through_true, through_false, beyond_true, beyond_false}
 
 flat_as_group : {A : Type 0} (rest : List A) → flat (as_group rest) ≡ rest

@@ -7,6 +7,7 @@ pub mod Spelling
 pub mod Reference
 pub mod Cut
 pub mod Reading
+pub mod Front
 pub mod Overlay
 pub mod Merge
 pub mod LookUp

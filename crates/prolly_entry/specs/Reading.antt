@@ -7,7 +7,7 @@ use Rattle.prolly_entry.specs.declared.flaw.Flaw.TheVariants.{Truncated, KeyTooL
 use Rattle.prolly_entry.specs.Keys.{Rising}
 use Rattle.prolly_entry.specs.Record.{Record, IsRecord, keys_of}
 use Rattle.prolly_entry.specs.Spelling.{record_spelling}
-use Rattle.prolly_entry.specs.Position.{last_position, is_before}
+use Rattle.prolly_entry.specs.Position.{Position, last_position, is_before}
 
 -- The records are lawful, at most `limit` many, their keys rise, and their spellings, one after another, begin the bytes; the
 -- rest follows.
@@ -17,31 +17,42 @@ pub record Begins (bytes : List ℕ) (limit : ℕ) (records : List Record) (rest
   pub rising : Rising (keys_of records)
   pub few : length records ≤ limit
 
--- What is wrong with a whole record of this key behind the good ones: its key is not greater than the last good one.
-abbrev pub key_flaw : List Record → List ℕ → Option Flaw
-key_flaw good key = if is_before (last_position good) (Some key) then None else Some OutOfOrder
+-- The numbers that stand where the lengths of a record's key and value stand.
+abbrev pub key_length : List ℕ → ℕ
+key_length bytes = from_be_bytes w16 (take 2 bytes)
 
--- What is wrong with the next record, where bytes follow the good ones: the first of these that holds, and None where one more
--- good record follows. By the bytes the key's length is n and the value's m; the greatest number for m is a removal.
-abbrev pub next_flaw : ℕ → List Record → List ℕ → Option Flaw
-next_flaw limit good rest =
-    let n = from_be_bytes w16 (take 2 rest) in
-    let m = from_be_bytes w32 (take 4 (drop (2 + n) rest)) in
-    let key = take n (drop 2 rest) in
-    if length good == limit then Some TooManyRecords
-    else (if nat_lt (length rest) 2 then Some Truncated
+abbrev pub value_length : List ℕ → ℕ
+value_length bytes = from_be_bytes w32 (take 4 (drop (2 + key_length bytes) bytes))
+
+-- What is wrong with a whole record of this key behind a position: the key is not greater.
+abbrev pub order_flaw : Position → List ℕ → Option Flaw
+order_flaw position key = if is_before position (Some key) then None else Some OutOfOrder
+
+-- What is wrong with the next record, where `size` bytes follow `count` good records: the first of these that holds, and None
+-- where one more good record follows. By the bytes the key's length is n and the value's m, where the greatest number marks a
+-- removal, which has no value; the last question is the order of the keys.
+abbrev pub flaw_by : ℕ → ℕ → ℕ → ℕ → ℕ → Option Flaw → Option Flaw
+flaw_by limit count size n m order =
+    if count == limit then Some TooManyRecords
+    else (if nat_lt size 2 then Some Truncated
     else (if nat_lt 1024 n then Some KeyTooLong
-    else (if nat_lt (length rest) (6 + n) then Some Truncated
-    else (if m == 0xFFFF_FFFF then key_flaw good key
+    else (if nat_lt size (6 + n) then Some Truncated
+    else (if m == 0xFFFF_FFFF then order
     else (if nat_lt 65536 m then Some ValueTooLong
-    else (if nat_lt (length rest) (6 + n + m) then Some Truncated
-    else key_flaw good key))))))
+    else (if nat_lt size (6 + n + m) then Some Truncated
+    else order))))))
+
+-- The same of the bytes that follow, where the last good record's key is the position.
+abbrev pub next_flaw : ℕ → ℕ → Position → List ℕ → Option Flaw
+next_flaw limit count position rest =
+    flaw_by limit count (length rest) (key_length rest) (value_length rest)
+    (order_flaw position (take (key_length rest) (drop 2 rest)))
 
 -- The ending: clean (None) where no byte follows the good records, else what is wrong with the next record.
 abbrev pub EndsIn : ℕ → List Record → List ℕ → Option Flaw → Type 0
 EndsIn limit good [] ending = ending ≡ None
 EndsIn limit good (b ∷ rest) None = ⊥
-EndsIn limit good (b ∷ rest) (Some flaw) = next_flaw limit good (b ∷ rest) ≡ Some flaw
+EndsIn limit good (b ∷ rest) (Some flaw) = next_flaw limit (length good) (last_position good) (b ∷ rest) ≡ Some flaw
 
 -- The reading of bytes: the good records are the longest list of records that begins them, and what follows them is the ending.
 -- A flaw's place is the number of good records.

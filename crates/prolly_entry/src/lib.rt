@@ -4,6 +4,7 @@
 
 mod cut;
 mod flaw;
+mod front;
 mod keys;
 pub mod laws;
 mod limits;
@@ -16,6 +17,7 @@ mod version;
 
 pub use cut::{BITS_LIMIT, Cut, KeyCut, Sha512Cut};
 pub use flaw::Flaw;
+pub use front::{Front, FrontRecord, front_pair, front_record};
 pub use keys::key_order;
 pub use limits::{KEY_LIMIT, VALUE_LIMIT};
 pub use pair::{EntryFault, Pair};

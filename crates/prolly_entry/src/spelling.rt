@@ -11,7 +11,7 @@ use crate::version::Version;
 use std::alloc::AllocError;
 
 /// What stands in a removal where a value's length stands in a put.
-const REMOVAL: u32 = 0xFFFF_FFFF;
+pub(crate) const REMOVAL: u32 = 0xFFFF_FFFF;
 
 /// Appends the spelling of a pair. An `Err` leaves `out` as it was.
 ///

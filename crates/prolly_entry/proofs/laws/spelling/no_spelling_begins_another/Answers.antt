@@ -1,5 +1,5 @@
-use Rattle.prolly_entry.proofs.Spellings.{pair_one_form, record_one_form, child_one_form}
+use Rattle.prolly_entry.proofs.Spellings.{pair_spellings_apart, record_spellings_apart, child_spellings_apart}
 use Rattle.prolly_entry.proofs.laws.spelling.no_spelling_begins_another.Goals as goal
 
 pub returns : goal.returns
-returns c = record { pairs = pair_one_form; records = record_one_form; children = child_one_form }
+returns c = record { pairs = pair_spellings_apart; records = record_spellings_apart; children = child_spellings_apart }

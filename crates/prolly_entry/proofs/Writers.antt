@@ -42,11 +42,11 @@ module _ (level : ℕ) where
       go true h = cons_front e (before_first level a) a (first_of a)
       go false h = cons_front e (before_second level a) a h
 
-pub upto_is_front : WriterTakesPrefix
-upto_is_front zero front list h = (h, ([], sym (nil_behind list)))
+pub within_is_prefix : WriterTakesPrefix
+within_is_prefix zero front list h = (h, ([], sym (nil_behind list)))
   where
     nil_behind : (xs : List Chunk) → xs ++ [] ≡ xs
     nil_behind [] = refl
     nil_behind (x ∷ xs) = ap (λ z. x ∷ z) (nil_behind xs)
-upto_is_front (suc level) front list h =
+within_is_prefix (suc level) front list h =
     (subst (λ xs. IsPrefix (before_second level front) (before_second level xs)) (sym h.1) (second_front level front h.0), second_of level list)

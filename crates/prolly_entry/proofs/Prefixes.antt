@@ -207,8 +207,8 @@ inner_front : (cut : Cut) (version : Version) (closing : Closing) (level : ℕ) 
 inner_front cut version closing zero front more = (more, refl)
 inner_front cut version closing (suc below) front more = stage_front below (event_is_boundary cut version) (group_event version (suc below)) closing front more
 
-pub fault_is_front : (cut : Cut) (version : Version) → FaultSendsPrefix cut version
-fault_is_front cut version = (λ closing front more. leaf_front cut version closing front more, λ closing level front more. inner_front cut version closing level front more)
+pub fault_is_prefix : (cut : Cut) (version : Version) → FaultSendsPrefix cut version
+fault_is_prefix cut version = (λ closing front more. leaf_front cut version closing front more, λ closing level front more. inner_front cut version closing level front more)
 
 -- ---- what is begun_file
 
@@ -261,5 +261,5 @@ module _ (cut : Cut) (version : Version) where
             ∙ simp append_assoc,
       )
 
-  pub begun_is_front : BegunIsPrefix cut version
-  begun_is_front front m h = subst (λ x. IsPrefix (begun_file cut version front) (file cut version x)) (sym h.1) (file_front front h.0)
+  pub begun_is_prefix : BegunIsPrefix cut version
+  begun_is_prefix front m h = subst (λ x. IsPrefix (begun_file cut version front) (file cut version x)) (sym h.1) (file_front front h.0)

@@ -1,0 +1,393 @@
+-- What bytes begin with, and when no further record does.
+use Rattle.std.specs.Prelude.{nat_lt, ◌==◌}
+use Rattle.std.proofs.Common.{◌≡◌, ◌≢◌, ℕ, suc, ◌+◌, ◌-◌, ◌<◌, ◌≤◌, ◌^◌, Bool, true, false, cond, List, [], ◌∷◌, ◌++◌, length, take, drop, get_or, Option, Some, None, inl, inr, refl, sym, ap, ◌∙◌, subst, arith, append_assoc, length-append, length-drop}
+use Rattle.std.proofs.lemmas.Bool.{cond_both, cases_lt}
+use Rattle.std.proofs.lemmas.Bool.Decides.{nat_tests}
+use Rattle.std.proofs.lemmas.List.{take-append-drop, drop-drop, length-take, length-take-le, get_or-drop, get_or-take, get_or_past, take-append-le, drop-append-le, append-nil}
+use Rattle.std.proofs.lemmas.Nat.{be_bytes_2, be_bytes_4, from_be_bytes-to_be_bytes_2, from_be_bytes-to_be_bytes_4}
+use Rattle.std.proofs.Math.Seq.{take-append_seam}
+use Rattle.std.specs.Int.{w16, w32, to_be_bytes, from_be_bytes}
+use Rattle.std.specs.List.{flat_map, AllByRecursion}
+use Rattle.prolly_entry.specs.declared.front.FrontRecord.{FrontRecord}
+use Rattle.prolly_entry.specs.declared.front.FrontRecord.TheVariants.{Put, Remove, More, KeyTooLong, ValueTooLong}
+use Rattle.prolly_entry.specs.Record.{Record, IsRecord, IsChange}
+use Rattle.prolly_entry.specs.Spelling.{record_spelling, key_spelling, value_spelling, change_spelling}
+use Rattle.prolly_entry.specs.Position.{Position}
+use Rattle.prolly_entry.specs.declared.flaw.Flaw.{Flaw}
+use Rattle.prolly_entry.specs.declared.flaw.Flaw.TheVariants as flaws
+use Rattle.prolly_entry.specs.Front.{front_by, front_of, as_pair, put_at, removal_at, IsCut, IsRecordAt, IsFrontRecord, IsFrontPair, NoRecordAt, NoPairAt}
+use Rattle.prolly_entry.specs.Reading.{key_length, value_length, flaw_by, next_flaw, order_flaw}
+
+-- ---- the cases
+
+pub data Shape (len n m : ℕ) : FrontRecord → Type 0 where
+  no_key : len < 2 → Shape len n m More
+  long_key : 2 ≤ len → 1024 < n → Shape len n m KeyTooLong
+  no_length : 2 ≤ len → n ≤ 1024 → len < 6 + n → Shape len n m More
+  removal : n ≤ 1024 → 6 + n ≤ len → m ≡ 0xFFFF_FFFF → Shape len n m (Remove (2 + n) (6 + n))
+  long_value : n ≤ 1024 → 6 + n ≤ len → (m == 0xFFFF_FFFF) ≡ false → 65536 < m → Shape len n m ValueTooLong
+  no_value : n ≤ 1024 → 6 + n ≤ len → m ≤ 65536 → len < 6 + n + m → Shape len n m More
+  whole : n ≤ 1024 → m ≤ 65536 → 6 + n + m ≤ len → Shape len n m (Put (2 + n) (6 + n) (6 + n + m))
+
+below : (a b : ℕ) → nat_lt a b ≡ true → a < b
+below a b e = grind (arith, nat_tests)
+
+not_below : (a b : ℕ) → nat_lt a b ≡ false → b ≤ a
+not_below a b e = grind (arith, nat_tests)
+
+not_same : (a : ℕ) → (a == 0xFFFF_FFFF) ≡ false → a ≢ 0xFFFF_FFFF
+not_same a e = grind (arith, nat_tests)
+
+is_same : (a b : ℕ) → (a == b) ≡ true → a ≡ b
+is_same a b e = grind (arith, nat_tests)
+
+pub shape : (len n m : ℕ) → Shape len n m (front_by len n m)
+shape len n m =
+    cond_both (nat_lt len 2) _ _ (Shape len n m) (λ e. Shape.no_key (below len 2 e)) (λ e2.
+    cond_both (nat_lt 1024 n) _ _ (Shape len n m) (λ e. Shape.long_key (not_below len 2 e2) (below 1024 n e)) (λ e3.
+    cond_both (nat_lt len (6 + n)) _ _ (Shape len n m) (λ e. Shape.no_length (not_below len 2 e2) (not_below 1024 n e3) (below len (6 + n) e)) (λ e4.
+    cond_both (m == 0xFFFF_FFFF) _ _ (Shape len n m) (λ e. Shape.removal (not_below 1024 n e3) (not_below len (6 + n) e4) (is_same m 0xFFFF_FFFF e)) (λ e5.
+    cond_both (nat_lt 65536 m) _ _ (Shape len n m) (λ e. Shape.long_value (not_below 1024 n e3) (not_below len (6 + n) e4) e5 (below 65536 m e)) (λ e6.
+    cond_both (nat_lt len (6 + n + m)) _ _ (Shape len n m) (λ e. Shape.no_value (not_below 1024 n e3) (not_below len (6 + n) e4) (not_below 65536 m e6) (below len (6 + n + m) e)) (λ e7.
+    Shape.whole (not_below 1024 n e3) (not_below 65536 m e6) (not_below len (6 + n + m) e7)))))))
+
+-- What the bytes at hand decide, they decide with more bytes behind them.
+pub more_same : {len n m : ℕ} {f : FrontRecord} (len' n' m' : ℕ) → Shape len n m f → (f ≡ More → ⊥) → len ≤ len' →
+    (2 ≤ len → n ≡ n') → (6 + n ≤ len → m ≡ m') → front_by len' n' m' ≡ f
+more_same len' n' m' (Shape.no_key a) d h p q = absurd (d refl)
+more_same len' n' m' (Shape.no_length a b c) d h p q = absurd (d refl)
+more_same len' n' m' (Shape.no_value a b c k) d h p q = absurd (d refl)
+more_same {n} {m} len' n' m' (Shape.long_key a b) d h p q = let e = p (omega arith) in grind (arith, nat_tests)
+more_same {n} {m} len' n' m' (Shape.removal a b c) d h p q = let e = p (omega arith) in let k = q (omega arith) in grind (arith, nat_tests)
+more_same {n} {m} len' n' m' (Shape.long_value a b c k) d h p q =
+    let e = p (omega arith) in let i = q (omega arith) in
+    let t : (m' == 0xFFFF_FFFF) ≡ false = subst (λ x. (x == 0xFFFF_FFFF) ≡ false) i c in
+    let u : nat_lt 65536 m' ≡ true = grind (arith, nat_tests) in
+    let v : nat_lt len' 2 ≡ false = grind (arith, nat_tests) in
+    let w : nat_lt 1024 n' ≡ false = grind (arith, nat_tests) in
+    let x : nat_lt len' (6 + n') ≡ false = grind (arith, nat_tests) in
+    rw (v, w, x, t, u)
+more_same {n} {m} len' n' m' (Shape.whole a b c) d h p q = let e = p (omega arith) in let k = q (omega arith) in grind (arith, nat_tests)
+
+-- the fault, where the limit is not reached
+abbrev pub fault_at : FrontRecord → Option Flaw → Option Flaw
+fault_at (Put a b c) order = order
+fault_at (Remove a b) order = order
+fault_at More order = Some flaws.Truncated
+fault_at KeyTooLong order = Some flaws.KeyTooLong
+fault_at ValueTooLong order = Some flaws.ValueTooLong
+
+pub fault_is : {len n m : ℕ} {f : FrontRecord} (limit count : ℕ) (order : Option Flaw) → Shape len n m f → count ≢ limit → flaw_by limit count len n m order ≡ fault_at f order
+fault_is {len} {n} {m} limit count order (Shape.no_key a) d = grind (arith, nat_tests)
+fault_is {len} {n} {m} limit count order (Shape.long_key a b) d = grind (arith, nat_tests)
+fault_is {len} {n} {m} limit count order (Shape.no_length a b c) d = grind (arith, nat_tests)
+fault_is {len} {n} {m} limit count order (Shape.removal a b c) d = grind (arith, nat_tests)
+fault_is {len} {n} {m} limit count order (Shape.long_value a b c k) d = grind (arith, nat_tests)
+fault_is {len} {n} {m} limit count order (Shape.no_value a b c k) d = grind (arith, nat_tests)
+fault_is {len} {n} {m} limit count order (Shape.whole a b c) d = grind (arith, nat_tests)
+
+same_number : (a b : ℕ) → a ≡ b → (a == b) ≡ true
+same_number a b e = grind (arith, nat_tests)
+
+pub fault_full : (limit count : ℕ) (position : Position) (bytes : List ℕ) → count ≡ limit → next_flaw limit count position bytes ≡ Some flaws.TooManyRecords
+fault_full limit count position bytes e = rw (same_number count limit e)
+
+-- ---- the bytes
+
+abbrev pub IsBytes : List ℕ → Type 0
+IsBytes bytes = (i : ℕ) → get_or bytes i 0 < 256
+
+IsBytes-drop : (n : ℕ) (bytes : List ℕ) → IsBytes bytes → IsBytes (drop n bytes)
+IsBytes-drop n bytes h i = rw get_or-drop (h (n + i))
+
+IsBytes-take : (n : ℕ) (bytes : List ℕ) → IsBytes bytes → IsBytes (take n bytes)
+IsBytes-take n bytes h i =
+    elim (cases_lt i n) [
+      | inl lt ↦ rw (get_or-take n bytes i 0 lt) (h i)
+      | inr le ↦ rw (get_or_past (take n bytes) i 0 (omega (arith, length-take n bytes))) (omega arith)
+    ]
+
+-- cut at two places
+cut_at : (a b : ℕ) (bytes : List ℕ) → drop a bytes ≡ take b (drop a bytes) ++ drop (a + b) bytes
+cut_at a b bytes = sym (take-append-drop b (drop a bytes)) ∙ ap (λ (t : List ℕ). take b (drop a bytes) ++ t) (drop-drop b a bytes)
+
+two_back : (bytes : List ℕ) → IsBytes bytes → 2 ≤ length bytes → to_be_bytes w16 (key_length bytes) ≡ take 2 bytes
+two_back bytes h e = be_bytes_2 (take 2 bytes) (key_length bytes) (length-take-le 2 bytes e) (IsBytes-take 2 bytes h) refl
+
+four_back : (bytes : List ℕ) → IsBytes bytes → 6 + key_length bytes ≤ length bytes →
+    to_be_bytes w32 (value_length bytes) ≡ take 4 (drop (2 + key_length bytes) bytes)
+four_back bytes h e = be_bytes_4 (take 4 (drop (2 + key_length bytes) bytes)) (value_length bytes)
+    (length-take-le 4 (drop (2 + key_length bytes) bytes) (omega (arith, length-drop (2 + key_length bytes) bytes)))
+    (IsBytes-take 4 (drop (2 + key_length bytes) bytes) (IsBytes-drop (2 + key_length bytes) bytes h)) refl
+
+-- a key that is whole
+key_spelled : (bytes : List ℕ) → IsBytes bytes → 2 + key_length bytes ≤ length bytes →
+    bytes ≡ key_spelling (take (key_length bytes) (drop 2 bytes)) ++ drop (2 + key_length bytes) bytes
+key_spelled bytes h e =
+    let n = key_length bytes in
+    let size : length (take n (drop 2 bytes)) ≡ n = length-take-le n (drop 2 bytes) (omega (arith, length-drop 2 bytes)) in
+    sym (take-append-drop 2 bytes)
+    ∙ (ap (λ (t : List ℕ). take 2 bytes ++ t) (cut_at 2 n bytes)
+    ∙ (ap (λ (t : List ℕ). t ++ (take n (drop 2 bytes) ++ drop (2 + n) bytes)) (sym (two_back bytes h (omega arith)))
+    ∙ (ap (λ k. to_be_bytes w16 k ++ (take n (drop 2 bytes) ++ drop (2 + n) bytes)) (sym size)
+    ∙ sym (append_assoc (to_be_bytes w16 (length (take n (drop 2 bytes)))) (take n (drop 2 bytes)) (drop (2 + n) bytes)))))
+
+value_spelled : (bytes : List ℕ) → IsBytes bytes → 6 + key_length bytes + value_length bytes ≤ length bytes →
+    drop (2 + key_length bytes) bytes ≡ value_spelling (take (value_length bytes) (drop (6 + key_length bytes) bytes)) ++ drop (6 + key_length bytes + value_length bytes) bytes
+value_spelled bytes h e =
+    let n = key_length bytes in
+    let m = value_length bytes in
+    let rest = drop (6 + n) bytes in
+    let size : length (take m rest) ≡ m = length-take-le m rest (omega (arith, length-drop (6 + n) bytes)) in
+    let there : 2 + n + 4 ≡ 6 + n = omega arith in
+    cut_at (2 + n) 4 bytes
+    ∙ (ap (λ k. take 4 (drop (2 + n) bytes) ++ drop k bytes) there
+    ∙ (ap (λ (t : List ℕ). take 4 (drop (2 + n) bytes) ++ t) (cut_at (6 + n) m bytes)
+    ∙ (ap (λ (t : List ℕ). t ++ (take m rest ++ drop (6 + n + m) bytes)) (sym (four_back bytes h (omega arith)))
+    ∙ (ap (λ k. to_be_bytes w32 k ++ (take m rest ++ drop (6 + n + m) bytes)) (sym size)
+    ∙ sym (append_assoc (to_be_bytes w32 (length (take m rest))) (take m rest) (drop (6 + n + m) bytes))))))
+
+-- ---- what is spelled is found
+
+pub found_key : (key rest : List ℕ) → length key ≤ 1024 → key_length (key_spelling key ++ rest) ≡ length key
+found_key key rest h = from_be_bytes-to_be_bytes_2 (length key) (omega arith)
+
+after_two : (key rest : List ℕ) (n : ℕ) → n ≡ length key → drop (2 + n) (key_spelling key ++ rest) ≡ rest
+after_two key rest n e = sym (drop-drop n 2 (key_spelling key ++ rest)) ∙ (ap (λ k. drop k (key ++ rest)) e ∙ drop_seam key rest)
+  where
+    drop_seam : (xs ys : List ℕ) → drop (length xs) (xs ++ ys) ≡ ys
+    drop_seam [] ys = refl
+    drop_seam (x ∷ xs) ys = drop_seam xs ys
+
+key_there : (key rest : List ℕ) (n : ℕ) → n ≡ length key → take n (drop 2 (key_spelling key ++ rest)) ≡ key
+key_there key rest n e = ap (λ k. take k (key ++ rest)) e ∙ take-append_seam key rest
+
+spelled_after : (r : Record) (more : List ℕ) → record_spelling r ++ more ≡ key_spelling r.key ++ (change_spelling r.value ++ more)
+spelled_after r more = append_assoc (key_spelling r.key) (change_spelling r.value) more
+
+-- the number at the place of a value's length, and the value's bytes
+abbrev pub value_number : Option (List ℕ) → ℕ
+value_number None = 0xFFFF_FFFF
+value_number (Some v) = length v
+
+abbrev pub value_size : Option (List ℕ) → ℕ
+value_size None = 0
+value_size (Some v) = length v
+
+pub record Numbers (r : Record) (bytes : List ℕ) : Type 0 where
+  pub key : key_length bytes ≡ length r.key
+  pub value : value_length bytes ≡ value_number r.value
+  pub there : take (key_length bytes) (drop 2 bytes) ≡ r.key
+  pub len : 6 + length r.key + value_size r.value ≤ length bytes
+
+number_found : (value : Option (List ℕ)) (more : List ℕ) → IsChange value → from_be_bytes w32 (take 4 (change_spelling value ++ more)) ≡ value_number value
+number_found None more h = from_be_bytes-to_be_bytes_4 0xFFFF_FFFF (omega arith)
+number_found (Some v) more h = from_be_bytes-to_be_bytes_4 (length v) (omega arith)
+
+change_size : (value : Option (List ℕ)) → length (change_spelling value) ≡ 4 + value_size value
+change_size None = refl
+change_size (Some v) = length-append (to_be_bytes w32 (length v)) v
+
+pub key_size : (key : List ℕ) → length (key_spelling key) ≡ 2 + length key
+key_size key = length-append (to_be_bytes w16 (length key)) key
+
+pub record_size : (r : Record) → length (record_spelling r) ≡ 6 + length r.key + value_size r.value
+record_size r = length-append (key_spelling r.key) (change_spelling r.value) ∙ omega (arith, key_size r.key, change_size r.value)
+
+numbers_at : (r : Record) (more : List ℕ) → IsRecord r → Numbers r (key_spelling r.key ++ (change_spelling r.value ++ more))
+numbers_at r more h =
+    let bytes : List ℕ = key_spelling r.key ++ (change_spelling r.value ++ more) in
+    let k = found_key r.key (change_spelling r.value ++ more) h.key in record {
+      key = k;
+      value = ap (λ (t : List ℕ). from_be_bytes w32 (take 4 t)) (after_two r.key (change_spelling r.value ++ more) (key_length bytes) k) ∙ number_found r.value more h.value;
+      there = key_there r.key (change_spelling r.value ++ more) (key_length bytes) k;
+      len = omega (arith, length-append (key_spelling r.key) (change_spelling r.value ++ more), length-append (change_spelling r.value) more, key_size r.key, change_size r.value);
+    }
+
+pub numbers : (r : Record) (more bytes : List ℕ) → IsRecord r → bytes ≡ record_spelling r ++ more → Numbers r bytes
+numbers r more bytes h e = subst (λ b. Numbers r b) (sym (e ∙ spelled_after r more)) (numbers_at r more h)
+
+-- a whole record
+abbrev pub IsWhole : FrontRecord → Type 0
+IsWhole (Put a b c) = Unit {0}
+IsWhole (Remove a b) = Unit {0}
+IsWhole More = ⊥
+IsWhole KeyTooLong = ⊥
+IsWhole ValueTooLong = ⊥
+
+is_whole : {len n m : ℕ} {f : FrontRecord} (value : Option (List ℕ)) → Shape len n m f → IsChange value → m ≡ value_number value → n ≤ 1024 → 6 + n + value_size value ≤ len → IsWhole f
+is_whole value (Shape.no_key a) h e k l = absurd (omega arith)
+is_whole value (Shape.long_key a b) h e k l = absurd (omega arith)
+is_whole value (Shape.no_length a b c) h e k l = absurd (omega arith)
+is_whole value (Shape.removal a b c) h e k l = tt
+is_whole None (Shape.long_value a b c d) h e k l = absurd (not_both (subst (λ x. (x == 0xFFFF_FFFF) ≡ false) e c))
+  where
+    not_both : true ≡ false → ⊥
+    not_both e = cc
+is_whole (Some v) (Shape.long_value a b c d) h e k l = absurd (omega arith)
+is_whole None (Shape.no_value a b c d) h e k l = absurd (omega arith)
+is_whole (Some v) (Shape.no_value a b c d) h e k l = absurd (omega arith)
+is_whole value (Shape.whole a b c) h e k l = tt
+
+pub spelled_whole : (r : Record) (more bytes : List ℕ) → IsRecord r → bytes ≡ record_spelling r ++ more → IsWhole (front_of bytes)
+spelled_whole r more bytes h e =
+    let t = numbers r more bytes h e in
+    is_whole r.value (shape (length bytes) (key_length bytes) (value_length bytes)) h.value t.value (omega (arith, t.key, h.key)) (omega (arith, t.key, t.len))
+
+pub no_front : (bytes : List ℕ) → (IsWhole (front_of bytes) → ⊥) → NoRecordAt bytes
+no_front bytes d r more h e = d (spelled_whole r more bytes h e)
+
+-- ---- what is found is spelled
+
+front_is : (bytes : List ℕ) (r : Record) (len : ℕ) → IsRecord r → len ≡ 6 + length r.key + value_size r.value → len ≤ length bytes → bytes ≡ record_spelling r ++ drop len bytes → IsRecordAt bytes r len
+front_is bytes r len h e w s = record { lawful = h; spelled = s; size = record_size r ∙ sym e; within = w }
+
+spelled_by : (bytes key rest more : List ℕ) (value : Option (List ℕ)) → bytes ≡ key_spelling key ++ rest → rest ≡ change_spelling value ++ more →
+    bytes ≡ record_spelling (record { key = key; value = value }) ++ more
+spelled_by bytes key rest more value e f = e ∙ (ap (λ (t : List ℕ). key_spelling key ++ t) f ∙ sym (append_assoc (key_spelling key) (change_spelling value) more))
+
+removal_front : (bytes : List ℕ) (a : ℕ) → IsBytes bytes → a ≡ key_length bytes → key_length bytes ≤ 1024 → 6 + key_length bytes ≤ length bytes → value_length bytes ≡ 0xFFFF_FFFF →
+    IsRecordAt bytes (record { key = take a (drop 2 bytes); value = None }) (6 + key_length bytes)
+removal_front bytes a h e k w v =
+    let n = key_length bytes in
+    let there : 2 + n + 4 ≡ 6 + n = omega arith in
+    let size : length (take n (drop 2 bytes)) ≡ n = length-take-le n (drop 2 bytes) (omega (arith, length-drop 2 bytes)) in
+    let change : drop (2 + n) bytes ≡ change_spelling None ++ drop (6 + n) bytes =
+      cut_at (2 + n) 4 bytes ∙ (ap (λ k. take 4 (drop (2 + n) bytes) ++ drop k bytes) there
+      ∙ ap (λ (t : List ℕ). t ++ drop (6 + n) bytes) (sym (four_back bytes h w) ∙ ap (to_be_bytes w32) v)) in
+    let P : ℕ → Type 0 = λ x. IsRecordAt bytes (record { key = take x (drop 2 bytes); value = None }) (6 + n) in
+    subst P (sym e) (front_is bytes (record { key = take n (drop 2 bytes); value = None }) (6 + n)
+        (record { key = omega arith; value = tt }) (omega arith) w
+        (spelled_by bytes (take n (drop 2 bytes)) (drop (2 + n) bytes) (drop (6 + n) bytes) None (key_spelled bytes h (omega arith)) change))
+
+put_front : (bytes : List ℕ) (a b : ℕ) → IsBytes bytes → a ≡ key_length bytes → b ≡ value_length bytes → key_length bytes ≤ 1024 → value_length bytes ≤ 65536 →
+    6 + key_length bytes + value_length bytes ≤ length bytes →
+    IsRecordAt bytes (record { key = take a (drop 2 bytes); value = Some (take b (drop (6 + key_length bytes) bytes)) }) (6 + key_length bytes + value_length bytes)
+put_front bytes a b h e f k v w =
+    let n = key_length bytes in
+    let m = value_length bytes in
+    let key_is : length (take n (drop 2 bytes)) ≡ n = length-take-le n (drop 2 bytes) (omega (arith, length-drop 2 bytes)) in
+    let value_is : length (take m (drop (6 + n) bytes)) ≡ m = length-take-le m (drop (6 + n) bytes) (omega (arith, length-drop (6 + n) bytes)) in
+    let P : ℕ → Type 0 = λ x. IsRecordAt bytes (record { key = take x (drop 2 bytes); value = Some (take b (drop (6 + n) bytes)) }) (6 + n + m) in
+    let Q : ℕ → Type 0 = λ y. IsRecordAt bytes (record { key = take n (drop 2 bytes); value = Some (take y (drop (6 + n) bytes)) }) (6 + n + m) in
+    subst P (sym e) (subst Q (sym f) (front_is bytes (record { key = take n (drop 2 bytes); value = Some (take m (drop (6 + n) bytes)) }) (6 + n + m)
+        (record { key = omega arith; value = omega arith }) (omega arith) w
+        (spelled_by bytes (take n (drop 2 bytes)) (drop (2 + n) bytes) (drop (6 + n + m) bytes) (Some (take m (drop (6 + n) bytes)))
+            (key_spelled bytes h (omega arith)) (value_spelled bytes h w))))
+
+cut_short : (bytes : List ℕ) {f : FrontRecord} → front_of bytes ≡ f → (IsWhole f → ⊥) → NoRecordAt bytes
+cut_short bytes e d = no_front bytes (λ w. d (subst IsWhole e w))
+
+found : (bytes : List ℕ) {f : FrontRecord} → IsBytes bytes → (front_of bytes ≡ f) → Shape (length bytes) (key_length bytes) (value_length bytes) f → IsFrontRecord bytes f
+found bytes h e (Shape.no_key a) = (cut_short bytes e (λ w. w), IsCut.in_key_length a)
+found bytes h e (Shape.long_key a b) = (cut_short bytes e (λ w. w), record { there = a; over = b })
+found bytes h e (Shape.no_length a b c) = (cut_short bytes e (λ w. w), IsCut.before_value b c)
+found bytes h e (Shape.removal a b c) = (removal_front bytes (2 + key_length bytes - 2) h (omega arith) a b c, omega arith, omega arith)
+found bytes h e (Shape.long_value a b c d) = (cut_short bytes e (λ w. w), record { key = a; there = b; over = d }, not_same (value_length bytes) c)
+found bytes h e (Shape.no_value a b c d) = (cut_short bytes e (λ w. w), IsCut.in_value a c d)
+found bytes h e (Shape.whole a b c) =
+    let n = key_length bytes in
+    let m = value_length bytes in
+    (put_front bytes (2 + n - 2) (6 + n + m - (6 + n)) h (omega arith) (omega arith) a b c, omega arith, omega arith, omega arith)
+
+pub front_found : (bytes : List ℕ) (f : FrontRecord) → IsBytes bytes → f ≡ front_of bytes → IsFrontRecord bytes f
+front_found bytes f h e = subst (λ x. IsFrontRecord bytes x) (sym e)
+    (found bytes h refl (shape (length bytes) (key_length bytes) (value_length bytes)))
+
+-- Where nothing is decided, the bytes are fewer than the greatest record has.
+pub cut_few : (bytes : List ℕ) → IsCut bytes → length bytes < 66566
+cut_few bytes (IsCut.in_key_length a) = omega arith
+cut_few bytes (IsCut.before_value a b) = omega arith
+cut_few bytes (IsCut.in_value a b c) = omega arith
+
+-- ---- a pair is a record that puts it
+
+no_pair : (bytes : List ℕ) → NoRecordAt bytes → NoPairAt bytes
+no_pair bytes h p more lawful e =
+    h (record { key = p.key; value = Some p.value }) more (record { key = lawful.key; value = lawful.value }) e
+
+pub pair_found : (bytes : List ℕ) (f : FrontRecord) → IsFrontRecord bytes f → IsFrontPair bytes (as_pair f)
+pair_found bytes (Put key_end value_start len) h = (record {
+  lawful = record { key = h.0.lawful.key; value = h.0.lawful.value };
+  spelled = h.0.spelled;
+  size = h.0.size;
+  within = h.0.within;
+}, h.1, h.2, h.3)
+pair_found bytes (Remove key_end len) h =
+    let at = numbers (removal_at bytes key_end) (drop len bytes) bytes h.0.lawful h.0.spelled in
+    let short = h.0.lawful.key in (
+      λ p more lawful e. let put = numbers (record { key = p.key; value = Some p.value }) more bytes (record { key = lawful.key; value = lawful.value }) e in
+        let few = lawful.value in omega (arith, put.value, at.value),
+      record { key = omega (arith, at.key); there = omega (arith, at.key, at.len); over = omega (arith, at.value) },
+    )
+pair_found bytes More h = (no_pair bytes h.0, h.1)
+pair_found bytes KeyTooLong h = (no_pair bytes h.0, h.1)
+pair_found bytes ValueTooLong h = (no_pair bytes h.0, h.1)
+
+-- ---- the fault of what follows
+
+front_more : (bytes more : List ℕ) → (front_of bytes ≡ More → ⊥) → front_of (bytes ++ more) ≡ front_of bytes
+front_more bytes more d =
+    more_same (length (bytes ++ more)) (key_length (bytes ++ more)) (value_length (bytes ++ more))
+        (shape (length bytes) (key_length bytes) (value_length bytes)) d (omega (arith, length-append bytes more)) key value
+  where
+    key : 2 ≤ length bytes → key_length bytes ≡ key_length (bytes ++ more)
+    key h = ap (from_be_bytes w16) (sym (take-append-le 2 bytes more h))
+    value : 6 + key_length bytes ≤ length bytes → value_length bytes ≡ value_length (bytes ++ more)
+    value h =
+        let n = key_length bytes in
+        let there : drop (2 + n) (bytes ++ more) ≡ drop (2 + n) bytes ++ more = drop-append-le (2 + n) bytes more (omega arith) in
+        let four : take 4 (drop (2 + n) bytes ++ more) ≡ take 4 (drop (2 + n) bytes) = take-append-le 4 (drop (2 + n) bytes) more (omega (arith, length-drop (2 + n) bytes)) in
+        sym (ap (λ k. from_be_bytes w32 (take 4 (drop (2 + k) (bytes ++ more)))) (sym (key (omega arith)))
+        ∙ (ap (λ (t : List ℕ). from_be_bytes w32 (take 4 t)) there ∙ ap (from_be_bytes w32) four))
+
+pub fault_there : (limit count : ℕ) (position : Position) (bytes : List ℕ) → count ≢ limit →
+    next_flaw limit count position bytes ≡ fault_at (front_of bytes) (order_flaw position (take (key_length bytes) (drop 2 bytes)))
+fault_there limit count position bytes d = fault_is limit count (order_flaw position (take (key_length bytes) (drop 2 bytes)))
+    (shape (length bytes) (key_length bytes) (value_length bytes)) d
+
+at_front : (limit count : ℕ) (position : Position) (bytes : List ℕ) (f : FrontRecord) → front_of bytes ≡ f → count ≢ limit →
+    next_flaw limit count position bytes ≡ fault_at f (order_flaw position (take (key_length bytes) (drop 2 bytes)))
+at_front limit count position bytes f e d =
+    fault_there limit count position bytes d ∙ ap (λ g. fault_at g (order_flaw position (take (key_length bytes) (drop 2 bytes)))) e
+
+pub key_stays : (limit count : ℕ) (position : Position) (bytes more : List ℕ) → KeyTooLong ≡ front_of bytes → count ≢ limit →
+    next_flaw limit count position (bytes ++ more) ≡ Some flaws.KeyTooLong
+key_stays limit count position bytes more e d =
+    at_front limit count position (bytes ++ more) KeyTooLong (front_more bytes more (λ i. other (e ∙ i)) ∙ sym e) d
+  where
+    other : KeyTooLong ≡ More → ⊥
+    other e = cc
+
+pub value_stays : (limit count : ℕ) (position : Position) (bytes more : List ℕ) → ValueTooLong ≡ front_of bytes → count ≢ limit →
+    next_flaw limit count position (bytes ++ more) ≡ Some flaws.ValueTooLong
+value_stays limit count position bytes more e d =
+    at_front limit count position (bytes ++ more) ValueTooLong (front_more bytes more (λ i. other (e ∙ i)) ∙ sym e) d
+  where
+    other : ValueTooLong ≡ More → ⊥
+    other e = cc
+
+pub cut_fault : (limit count : ℕ) (position : Position) (bytes : List ℕ) → More ≡ front_of bytes → count ≢ limit →
+    next_flaw limit count position bytes ≡ Some flaws.Truncated
+cut_fault limit count position bytes e d = at_front limit count position bytes More (sym e) d
+
+whole_at : (f : FrontRecord) (order : Option Flaw) → IsWhole f → fault_at f order ≡ order
+whole_at (Put a b c) order w = refl
+whole_at (Remove a b) order w = refl
+whole_at More order w = absurd w
+whole_at KeyTooLong order w = absurd w
+whole_at ValueTooLong order w = absurd w
+
+-- behind whole records a further one is out of order, or good
+pub whole_fault : (limit count : ℕ) (position : Position) (r : Record) (more bytes : List ℕ) → IsRecord r → bytes ≡ record_spelling r ++ more → count ≢ limit →
+    next_flaw limit count position bytes ≡ order_flaw position r.key
+whole_fault limit count position r more bytes h e d =
+    fault_there limit count position bytes d
+    ∙ (whole_at (front_of bytes) (order_flaw position (take (key_length bytes) (drop 2 bytes))) (spelled_whole r more bytes h e)
+    ∙ ap (order_flaw position) (numbers r more bytes h e).there)
+
+pub front_fault : (limit count : ℕ) (position : Position) (bytes more : List ℕ) (r : Record) (len : ℕ) → IsRecordAt bytes r len → count ≢ limit →
+    next_flaw limit count position (bytes ++ more) ≡ order_flaw position r.key
+front_fault limit count position bytes more r len h d =
+    whole_fault limit count position r (drop len bytes ++ more) (bytes ++ more) h.lawful
+        (ap (λ (t : List ℕ). t ++ more) h.spelled ∙ append_assoc (record_spelling r) (drop len bytes) more) d

@@ -1,0 +1,140 @@
+//! What bytes begin with.
+ghost use Rattle.std.specs.Prelude.{◌≡◌, ◌+◌, ◌≤◌, length, take, drop};
+ghost use Rattle.std.specs.Int.{w16, w32, from_be_bytes};
+ghost use Rattle.prolly_entry.specs.Front.{IsFrontRecord, IsFrontPair, front_of, as_pair};
+
+use crate::limits::{KEY_LIMIT, VALUE_LIMIT};
+use crate::spelling::REMOVAL;
+use byteorder::{BigEndian, ByteOrder};
+
+/// The record that bytes begin with. Its key is the bytes `2..key_end`, the value of a put is
+/// `value_start..len`, and its spelling is `0..len`.
+#[derive(Clone, Copy, Debug, PartialEq, Eq)]
+pub enum FrontRecord {
+    /// A pair is put.
+    Put {
+        key_end: usize,
+        value_start: usize,
+        len: usize,
+    },
+    /// A key is removed.
+    Remove { key_end: usize, len: usize },
+    /// A field is cut, and no length that is whole is over its limit.
+    More,
+    /// The key's length is over 1,024.
+    KeyTooLong,
+    /// The key is whole, and the value's length is over 65,536 and marks no removal.
+    ValueTooLong,
+}
+
+/// The pair that bytes begin with. Its key is the bytes `2..key_end`, its value `value_start..len`, and
+/// its spelling `0..len`.
+#[derive(Clone, Copy, Debug, PartialEq, Eq)]
+pub enum Front {
+    /// A whole pair.
+    Pair {
+        key_end: usize,
+        value_start: usize,
+        len: usize,
+    },
+    /// A field is cut, and no length that is whole is over its limit.
+    More,
+    /// The key's length is over 1,024.
+    KeyTooLong,
+    /// The key is whole, and the value's length is over 65,536. A removal is such a pair.
+    ValueTooLong,
+}
+
+/// The record that the bytes begin with. Reads the two lengths, and no byte of key or value.
+pub fn front_record(bytes: &[u8]) -> FrontRecord
+    ensures is { IsFrontRecord bytes.now result }
+    ensures exact { result ≡ front_of bytes.now }
+{
+    front_at(bytes)
+}
+
+/// The pair that the bytes begin with. Reads the two lengths, and no byte of key or value.
+pub fn front_pair(bytes: &[u8]) -> Front
+    ensures is { IsFrontPair bytes.now result }
+    ensures exact { result ≡ as_pair (front_of bytes.now) }
+{
+    front_record(bytes).as_pair()
+}
+
+impl FrontRecord {
+    /// The same where only a put is a pair.
+    fn as_pair(self) -> Front
+        ensures { result ≡ as_pair self }
+    {
+        match self {
+            FrontRecord::Put {
+                key_end,
+                value_start,
+                len,
+            } => Front::Pair {
+                key_end,
+                value_start,
+                len,
+            },
+            FrontRecord::Remove { .. } => Front::ValueTooLong,
+            FrontRecord::More => Front::More,
+            FrontRecord::KeyTooLong => Front::KeyTooLong,
+            FrontRecord::ValueTooLong => Front::ValueTooLong,
+        }
+    }
+}
+
+fn front_at(bytes: &[u8]) -> FrontRecord
+    ensures { result ≡ front_of bytes.now }
+{
+    if bytes.len() < 2 {
+        return FrontRecord::More;
+    }
+    let key_length = two_at(bytes) as usize;
+    if key_length > KEY_LIMIT {
+        return FrontRecord::KeyTooLong;
+    }
+    let key_end = 2 + key_length;
+    let value_start = 6 + key_length;
+    if bytes.len() < value_start {
+        return FrontRecord::More;
+    }
+    let value_length = four_at(bytes, key_end);
+    if value_length == REMOVAL {
+        return FrontRecord::Remove {
+            key_end,
+            len: value_start,
+        };
+    }
+    if value_length as usize > VALUE_LIMIT {
+        return FrontRecord::ValueTooLong;
+    }
+    let len = value_start + value_length as usize;
+    if bytes.len() < len {
+        return FrontRecord::More;
+    }
+    FrontRecord::Put {
+        key_end,
+        value_start,
+        len,
+    }
+}
+
+/// The number in the first two bytes.
+fn two_at(bytes: &[u8]) -> u16
+    requires { 2 ≤ length bytes.now }
+    ensures { result ≡ from_be_bytes w16 (take 2 bytes.now) }
+{
+    let (first, _) = bytes.split_at(2);
+    BigEndian::read_u16(first)
+}
+
+/// The number in the four bytes from a place on.
+fn four_at(bytes: &[u8], place: usize) -> u32
+    requires { place + 4 ≤ length bytes.now }
+    ensures { result ≡ from_be_bytes w32 (take 4 (drop place bytes.now)) }
+{
+    let (_, rest) = bytes.split_at(place);
+    let (first, _) = rest.split_at(4);
+    BigEndian::read_u32(first)
+}
