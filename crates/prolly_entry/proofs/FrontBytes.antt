@@ -1,13 +1,12 @@
 -- What bytes begin with, and when no further record does.
 use Rattle.std.specs.Prelude.{nat_lt, ◌==◌}
-use Rattle.std.proofs.Common.{◌≡◌, ◌≢◌, ℕ, suc, ◌+◌, ◌-◌, ◌<◌, ◌≤◌, ◌^◌, Bool, true, false, cond, List, [], ◌∷◌, ◌++◌, length, take, drop, get_or, Option, Some, None, inl, inr, refl, sym, ap, ◌∙◌, subst, arith, append_assoc, length-append, length-drop}
+use Rattle.std.proofs.Common.{◌≡◌, ◌≢◌, ℕ, ◌+◌, ◌-◌, ◌<◌, ◌≤◌, true, false, List, [], ◌∷◌, ◌++◌, length, take, drop, get_or, Option, Some, None, inl, inr, refl, sym, ap, ◌∙◌, subst, arith, append_assoc, length-append, length-drop}
 use Rattle.std.proofs.lemmas.Bool.{cond_both, cases_lt}
 use Rattle.std.proofs.lemmas.Bool.Decides.{nat_tests}
-use Rattle.std.proofs.lemmas.List.{take-append-drop, drop-drop, length-take, length-take-le, get_or-drop, get_or-take, get_or_past, take-append-le, drop-append-le, append-nil}
+use Rattle.std.proofs.lemmas.List.{take-append-drop, drop-drop, length-take, length-take-le, get_or-drop, get_or-take, get_or_past, take-append-le, drop-append-le}
 use Rattle.std.proofs.lemmas.Nat.{be_bytes_2, be_bytes_4, from_be_bytes-to_be_bytes_2, from_be_bytes-to_be_bytes_4}
 use Rattle.std.proofs.Math.Seq.{take-append_seam}
 use Rattle.std.specs.Int.{w16, w32, to_be_bytes, from_be_bytes}
-use Rattle.std.specs.List.{flat_map, AllByRecursion}
 use Rattle.prolly_entry.specs.declared.front.FrontRecord.{FrontRecord}
 use Rattle.prolly_entry.specs.declared.front.FrontRecord.TheVariants.{Put, Remove, More, KeyTooLong, ValueTooLong}
 use Rattle.prolly_entry.specs.Record.{Record, IsRecord, IsChange}
@@ -15,7 +14,7 @@ use Rattle.prolly_entry.specs.Spelling.{record_spelling, key_spelling, value_spe
 use Rattle.prolly_entry.specs.Position.{Position}
 use Rattle.prolly_entry.specs.declared.flaw.Flaw.{Flaw}
 use Rattle.prolly_entry.specs.declared.flaw.Flaw.TheVariants as flaws
-use Rattle.prolly_entry.specs.Front.{front_by, front_of, as_pair, put_at, removal_at, IsCut, IsRecordAt, IsFrontRecord, IsFrontPair, NoRecordAt, NoPairAt}
+use Rattle.prolly_entry.specs.Front.{front_by, front_of, as_pair, removal_at, IsCut, IsRecordAt, IsFrontRecord, IsFrontPair, NoRecordAt, NoPairAt}
 use Rattle.prolly_entry.specs.Reading.{key_length, value_length, flaw_by, next_flaw, order_flaw}
 
 -- ---- the cases
@@ -253,12 +252,12 @@ removal_front bytes a h e k w v =
     let there : 2 + n + 4 ≡ 6 + n = omega arith in
     let size : length (take n (drop 2 bytes)) ≡ n = length-take-le n (drop 2 bytes) (omega (arith, length-drop 2 bytes)) in
     let change : drop (2 + n) bytes ≡ change_spelling None ++ drop (6 + n) bytes =
-      cut_at (2 + n) 4 bytes ∙ (ap (λ k. take 4 (drop (2 + n) bytes) ++ drop k bytes) there
-      ∙ ap (λ (t : List ℕ). t ++ drop (6 + n) bytes) (sym (four_back bytes h w) ∙ ap (to_be_bytes w32) v)) in
+    cut_at (2 + n) 4 bytes ∙ (ap (λ k. take 4 (drop (2 + n) bytes) ++ drop k bytes) there
+    ∙ ap (λ (t : List ℕ). t ++ drop (6 + n) bytes) (sym (four_back bytes h w) ∙ ap (to_be_bytes w32) v)) in
     let P : ℕ → Type 0 = λ x. IsRecordAt bytes (record { key = take x (drop 2 bytes); value = None }) (6 + n) in
     subst P (sym e) (front_is bytes (record { key = take n (drop 2 bytes); value = None }) (6 + n)
-        (record { key = omega arith; value = tt }) (omega arith) w
-        (spelled_by bytes (take n (drop 2 bytes)) (drop (2 + n) bytes) (drop (6 + n) bytes) None (key_spelled bytes h (omega arith)) change))
+    (record { key = omega arith; value = tt }) (omega arith) w
+    (spelled_by bytes (take n (drop 2 bytes)) (drop (2 + n) bytes) (drop (6 + n) bytes) None (key_spelled bytes h (omega arith)) change))
 
 put_front : (bytes : List ℕ) (a b : ℕ) → IsBytes bytes → a ≡ key_length bytes → b ≡ value_length bytes → key_length bytes ≤ 1024 → value_length bytes ≤ 65536 →
     6 + key_length bytes + value_length bytes ≤ length bytes →
@@ -271,9 +270,9 @@ put_front bytes a b h e f k v w =
     let P : ℕ → Type 0 = λ x. IsRecordAt bytes (record { key = take x (drop 2 bytes); value = Some (take b (drop (6 + n) bytes)) }) (6 + n + m) in
     let Q : ℕ → Type 0 = λ y. IsRecordAt bytes (record { key = take n (drop 2 bytes); value = Some (take y (drop (6 + n) bytes)) }) (6 + n + m) in
     subst P (sym e) (subst Q (sym f) (front_is bytes (record { key = take n (drop 2 bytes); value = Some (take m (drop (6 + n) bytes)) }) (6 + n + m)
-        (record { key = omega arith; value = omega arith }) (omega arith) w
-        (spelled_by bytes (take n (drop 2 bytes)) (drop (2 + n) bytes) (drop (6 + n + m) bytes) (Some (take m (drop (6 + n) bytes)))
-            (key_spelled bytes h (omega arith)) (value_spelled bytes h w))))
+    (record { key = omega arith; value = omega arith }) (omega arith) w
+    (spelled_by bytes (take n (drop 2 bytes)) (drop (2 + n) bytes) (drop (6 + n + m) bytes) (Some (take m (drop (6 + n) bytes)))
+    (key_spelled bytes h (omega arith)) (value_spelled bytes h w))))
 
 cut_short : (bytes : List ℕ) {f : FrontRecord} → front_of bytes ≡ f → (IsWhole f → ⊥) → NoRecordAt bytes
 cut_short bytes e d = no_front bytes (λ w. d (subst IsWhole e w))
@@ -307,17 +306,22 @@ no_pair bytes h p more lawful e =
     h (record { key = p.key; value = Some p.value }) more (record { key = lawful.key; value = lawful.value }) e
 
 pub pair_found : (bytes : List ℕ) (f : FrontRecord) → IsFrontRecord bytes f → IsFrontPair bytes (as_pair f)
-pair_found bytes (Put key_end value_start len) h = (record {
-  lawful = record { key = h.0.lawful.key; value = h.0.lawful.value };
-  spelled = h.0.spelled;
-  size = h.0.size;
-  within = h.0.within;
-}, h.1, h.2, h.3)
+pair_found bytes (Put key_end value_start len) h = (
+  record {
+    lawful = record { key = h.0.lawful.key; value = h.0.lawful.value };
+    spelled = h.0.spelled;
+    size = h.0.size;
+    within = h.0.within;
+  },
+  h.1,
+  h.2,
+  h.3,
+)
 pair_found bytes (Remove key_end len) h =
     let at = numbers (removal_at bytes key_end) (drop len bytes) bytes h.0.lawful h.0.spelled in
     let short = h.0.lawful.key in (
       λ p more lawful e. let put = numbers (record { key = p.key; value = Some p.value }) more bytes (record { key = lawful.key; value = lawful.value }) e in
-        let few = lawful.value in omega (arith, put.value, at.value),
+          let few = lawful.value in omega (arith, put.value, at.value),
       record { key = omega (arith, at.key); there = omega (arith, at.key, at.len); over = omega (arith, at.value) },
     )
 pair_found bytes More h = (no_pair bytes h.0, h.1)
@@ -329,10 +333,11 @@ pair_found bytes ValueTooLong h = (no_pair bytes h.0, h.1)
 front_more : (bytes more : List ℕ) → (front_of bytes ≡ More → ⊥) → front_of (bytes ++ more) ≡ front_of bytes
 front_more bytes more d =
     more_same (length (bytes ++ more)) (key_length (bytes ++ more)) (value_length (bytes ++ more))
-        (shape (length bytes) (key_length bytes) (value_length bytes)) d (omega (arith, length-append bytes more)) key value
+    (shape (length bytes) (key_length bytes) (value_length bytes)) d (omega (arith, length-append bytes more)) key value
   where
     key : 2 ≤ length bytes → key_length bytes ≡ key_length (bytes ++ more)
     key h = ap (from_be_bytes w16) (sym (take-append-le 2 bytes more h))
+
     value : 6 + key_length bytes ≤ length bytes → value_length bytes ≡ value_length (bytes ++ more)
     value h =
         let n = key_length bytes in
@@ -390,4 +395,4 @@ pub front_fault : (limit count : ℕ) (position : Position) (bytes more : List �
     next_flaw limit count position (bytes ++ more) ≡ order_flaw position r.key
 front_fault limit count position bytes more r len h d =
     whole_fault limit count position r (drop len bytes ++ more) (bytes ++ more) h.lawful
-        (ap (λ (t : List ℕ). t ++ more) h.spelled ∙ append_assoc (record_spelling r) (drop len bytes) more) d
+    (ap (λ (t : List ℕ). t ++ more) h.spelled ∙ append_assoc (record_spelling r) (drop len bytes) more) d

@@ -20,3 +20,6 @@ pub mod Distinct
 pub mod Levels
 pub mod Computed
 pub mod FrontBytes
+pub mod Endings
+pub mod Readings
+pub mod RecordSteps

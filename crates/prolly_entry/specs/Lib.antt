@@ -8,7 +8,9 @@ pub mod Reference
 pub mod Cut
 pub mod Reading
 pub mod Front
+pub mod NextRecord
 pub mod Overlay
+pub mod RecordList
 pub mod Merge
 pub mod LookUp
 pub mod Split

@@ -18,7 +18,10 @@ pub enum FrontRecord {
         len: usize,
     },
     /// A key is removed.
-    Remove { key_end: usize, len: usize },
+    Remove {
+        key_end: usize,
+        len: usize,
+    },
     /// A field is cut, and no length that is whole is over its limit.
     More,
     /// The key's length is over 1,024.

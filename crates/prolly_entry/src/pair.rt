@@ -2,6 +2,7 @@
 ghost use Rattle.std.specs.Prelude.{◌≡◌};
 
 use crate::limits::{KEY_LIMIT, VALUE_LIMIT};
+use std::alloc::{AllocError, Global};
 use std::marker::Model;
 
 /// Why there is no such pair or record.
@@ -46,6 +47,17 @@ impl Pair {
         if value.len() > VALUE_LIMIT {
             return Err(EntryFault::ValueTooLong);
         }
+        Ok(Pair { key, value })
+    }
+
+    /// A pair of copies of these bytes. Takes memory for the two copies.
+    pub fn copy_of(alloc: Global, key: &[u8], value: &[u8]) -> Result<Pair, AllocError>
+        requires key { length key.now ≤ 1024 }
+        requires value { length value.now ≤ 65536 }
+        ensures { IfOk result (λ p. p ≡ record { key = key.now; value = value.now }) }
+    {
+        let key = Vec::from_slice(alloc, key)?;
+        let value = Vec::from_slice(alloc, value)?;
         Ok(Pair { key, value })
     }
 

@@ -3,6 +3,7 @@ ghost use Rattle.std.specs.Prelude.{◌≡◌};
 
 use crate::limits::KEY_LIMIT;
 use crate::pair::{EntryFault, Pair};
+use std::alloc::{AllocError, Global};
 use std::marker::Model;
 
 /// A record puts a value at its key, or removes the key.
@@ -49,6 +50,15 @@ impl Record {
         if key.len() > KEY_LIMIT {
             return Err(EntryFault::KeyTooLong);
         }
+        Ok(Record { key, value: None })
+    }
+
+    /// The record that removes a copy of this key. Takes memory for the copy.
+    pub fn removal_of(alloc: Global, key: &[u8]) -> Result<Record, AllocError>
+        requires { length key.now ≤ 1024 }
+        ensures { IfOk result (λ r. r ≡ record { key = key.now; value = None }) }
+    {
+        let key = Vec::from_slice(alloc, key)?;
         Ok(Record { key, value: None })
     }
 

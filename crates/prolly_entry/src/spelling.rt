@@ -75,13 +75,7 @@ pub fn append_child_as(
 }
 
 /// Appends four parts, or none of them: the room for all is made first.
-fn append_parts(
-    out: &mut Vec<u8>,
-    a: &[u8],
-    b: &[u8],
-    c: &[u8],
-    d: &[u8],
-) -> Result<(), AllocError>
+fn append_parts(out: &mut Vec<u8>, a: &[u8], b: &[u8], c: &[u8], d: &[u8]) -> Result<(), AllocError>
     requires { length a.now + length b.now + length c.now + length d.now < 2 ^ 64 }
     ensures ok { OnOk result (out.new.items ≡ out.old.items ++ ((a.now ++ b.now) ++ (c.now ++ d.now))) }
     ensures err { OnErr result (out.new.items ≡ out.old.items) }

@@ -1,5 +1,5 @@
-use Rattle.std.proofs.Common.{◌≡◌, ap, sym, subst, ◌∙◌}
-use Rattle.prolly_entry.specs.Front.{IsFrontPair, as_pair}
+use Rattle.std.proofs.Common.{sym, subst}
+use Rattle.prolly_entry.specs.Front.{IsFrontPair}
 use Rattle.prolly_entry.proofs.FrontBytes.{pair_found}
 use Rattle.prolly_entry.proofs.front.front_pair.Goals as goal
 
