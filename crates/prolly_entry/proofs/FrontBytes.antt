@@ -15,6 +15,7 @@ use Rattle.prolly_entry.specs.Position.{Position}
 use Rattle.prolly_entry.specs.declared.flaw.Flaw.{Flaw}
 use Rattle.prolly_entry.specs.declared.flaw.Flaw.TheVariants as flaws
 use Rattle.prolly_entry.specs.Front.{front_by, front_of, as_pair, removal_at, IsCut, IsRecordAt, IsFrontRecord, IsFrontPair, NoRecordAt, NoPairAt}
+use Rattle.prolly_entry.proofs.ByteLists.{AreBytes, AreBytes-drop, AreBytes-take, cut_at, key_is_spelled}
 use Rattle.prolly_entry.specs.Reading.{key_length, value_length, flaw_by, next_flaw, order_flaw}
 
 -- ---- the cases
@@ -93,45 +94,13 @@ fault_full limit count position bytes e = rw (same_number count limit e)
 
 -- ---- the bytes
 
-abbrev pub IsBytes : List ℕ → Type 0
-IsBytes bytes = (i : ℕ) → get_or bytes i 0 < 256
-
-IsBytes-drop : (n : ℕ) (bytes : List ℕ) → IsBytes bytes → IsBytes (drop n bytes)
-IsBytes-drop n bytes h i = rw get_or-drop (h (n + i))
-
-IsBytes-take : (n : ℕ) (bytes : List ℕ) → IsBytes bytes → IsBytes (take n bytes)
-IsBytes-take n bytes h i =
-    elim (cases_lt i n) [
-      | inl lt ↦ rw (get_or-take n bytes i 0 lt) (h i)
-      | inr le ↦ rw (get_or_past (take n bytes) i 0 (omega (arith, length-take n bytes))) (omega arith)
-    ]
-
--- cut at two places
-cut_at : (a b : ℕ) (bytes : List ℕ) → drop a bytes ≡ take b (drop a bytes) ++ drop (a + b) bytes
-cut_at a b bytes = sym (take-append-drop b (drop a bytes)) ∙ ap (λ (t : List ℕ). take b (drop a bytes) ++ t) (drop-drop b a bytes)
-
-two_back : (bytes : List ℕ) → IsBytes bytes → 2 ≤ length bytes → to_be_bytes w16 (key_length bytes) ≡ take 2 bytes
-two_back bytes h e = be_bytes_2 (take 2 bytes) (key_length bytes) (length-take-le 2 bytes e) (IsBytes-take 2 bytes h) refl
-
-four_back : (bytes : List ℕ) → IsBytes bytes → 6 + key_length bytes ≤ length bytes →
+four_back : (bytes : List ℕ) → AreBytes bytes → 6 + key_length bytes ≤ length bytes →
     to_be_bytes w32 (value_length bytes) ≡ take 4 (drop (2 + key_length bytes) bytes)
 four_back bytes h e = be_bytes_4 (take 4 (drop (2 + key_length bytes) bytes)) (value_length bytes)
     (length-take-le 4 (drop (2 + key_length bytes) bytes) (omega (arith, length-drop (2 + key_length bytes) bytes)))
-    (IsBytes-take 4 (drop (2 + key_length bytes) bytes) (IsBytes-drop (2 + key_length bytes) bytes h)) refl
+    (AreBytes-take 4 (drop (2 + key_length bytes) bytes) (AreBytes-drop (2 + key_length bytes) bytes h)) refl
 
--- a key that is whole
-key_spelled : (bytes : List ℕ) → IsBytes bytes → 2 + key_length bytes ≤ length bytes →
-    bytes ≡ key_spelling (take (key_length bytes) (drop 2 bytes)) ++ drop (2 + key_length bytes) bytes
-key_spelled bytes h e =
-    let n = key_length bytes in
-    let size : length (take n (drop 2 bytes)) ≡ n = length-take-le n (drop 2 bytes) (omega (arith, length-drop 2 bytes)) in
-    sym (take-append-drop 2 bytes)
-    ∙ (ap (λ (t : List ℕ). take 2 bytes ++ t) (cut_at 2 n bytes)
-    ∙ (ap (λ (t : List ℕ). t ++ (take n (drop 2 bytes) ++ drop (2 + n) bytes)) (sym (two_back bytes h (omega arith)))
-    ∙ (ap (λ k. to_be_bytes w16 k ++ (take n (drop 2 bytes) ++ drop (2 + n) bytes)) (sym size)
-    ∙ sym (append_assoc (to_be_bytes w16 (length (take n (drop 2 bytes)))) (take n (drop 2 bytes)) (drop (2 + n) bytes)))))
-
-value_spelled : (bytes : List ℕ) → IsBytes bytes → 6 + key_length bytes + value_length bytes ≤ length bytes →
+value_spelled : (bytes : List ℕ) → AreBytes bytes → 6 + key_length bytes + value_length bytes ≤ length bytes →
     drop (2 + key_length bytes) bytes ≡ value_spelling (take (value_length bytes) (drop (6 + key_length bytes) bytes)) ++ drop (6 + key_length bytes + value_length bytes) bytes
 value_spelled bytes h e =
     let n = key_length bytes in
@@ -245,7 +214,7 @@ spelled_by : (bytes key rest more : List ℕ) (value : Option (List ℕ)) → by
     bytes ≡ record_spelling (record { key = key; value = value }) ++ more
 spelled_by bytes key rest more value e f = e ∙ (ap (λ (t : List ℕ). key_spelling key ++ t) f ∙ sym (append_assoc (key_spelling key) (change_spelling value) more))
 
-removal_front : (bytes : List ℕ) (a : ℕ) → IsBytes bytes → a ≡ key_length bytes → key_length bytes ≤ 1024 → 6 + key_length bytes ≤ length bytes → value_length bytes ≡ 0xFFFF_FFFF →
+removal_front : (bytes : List ℕ) (a : ℕ) → AreBytes bytes → a ≡ key_length bytes → key_length bytes ≤ 1024 → 6 + key_length bytes ≤ length bytes → value_length bytes ≡ 0xFFFF_FFFF →
     IsRecordAt bytes (record { key = take a (drop 2 bytes); value = None }) (6 + key_length bytes)
 removal_front bytes a h e k w v =
     let n = key_length bytes in
@@ -257,9 +226,9 @@ removal_front bytes a h e k w v =
     let P : ℕ → Type 0 = λ x. IsRecordAt bytes (record { key = take x (drop 2 bytes); value = None }) (6 + n) in
     subst P (sym e) (front_is bytes (record { key = take n (drop 2 bytes); value = None }) (6 + n)
     (record { key = omega arith; value = tt }) (omega arith) w
-    (spelled_by bytes (take n (drop 2 bytes)) (drop (2 + n) bytes) (drop (6 + n) bytes) None (key_spelled bytes h (omega arith)) change))
+    (spelled_by bytes (take n (drop 2 bytes)) (drop (2 + n) bytes) (drop (6 + n) bytes) None (key_is_spelled bytes (key_length bytes) h refl (omega arith)) change))
 
-put_front : (bytes : List ℕ) (a b : ℕ) → IsBytes bytes → a ≡ key_length bytes → b ≡ value_length bytes → key_length bytes ≤ 1024 → value_length bytes ≤ 65536 →
+put_front : (bytes : List ℕ) (a b : ℕ) → AreBytes bytes → a ≡ key_length bytes → b ≡ value_length bytes → key_length bytes ≤ 1024 → value_length bytes ≤ 65536 →
     6 + key_length bytes + value_length bytes ≤ length bytes →
     IsRecordAt bytes (record { key = take a (drop 2 bytes); value = Some (take b (drop (6 + key_length bytes) bytes)) }) (6 + key_length bytes + value_length bytes)
 put_front bytes a b h e f k v w =
@@ -272,12 +241,12 @@ put_front bytes a b h e f k v w =
     subst P (sym e) (subst Q (sym f) (front_is bytes (record { key = take n (drop 2 bytes); value = Some (take m (drop (6 + n) bytes)) }) (6 + n + m)
     (record { key = omega arith; value = omega arith }) (omega arith) w
     (spelled_by bytes (take n (drop 2 bytes)) (drop (2 + n) bytes) (drop (6 + n + m) bytes) (Some (take m (drop (6 + n) bytes)))
-    (key_spelled bytes h (omega arith)) (value_spelled bytes h w))))
+    (key_is_spelled bytes (key_length bytes) h refl (omega arith)) (value_spelled bytes h w))))
 
 cut_short : (bytes : List ℕ) {f : FrontRecord} → front_of bytes ≡ f → (IsWhole f → ⊥) → NoRecordAt bytes
 cut_short bytes e d = no_front bytes (λ w. d (subst IsWhole e w))
 
-found : (bytes : List ℕ) {f : FrontRecord} → IsBytes bytes → (front_of bytes ≡ f) → Shape (length bytes) (key_length bytes) (value_length bytes) f → IsFrontRecord bytes f
+found : (bytes : List ℕ) {f : FrontRecord} → AreBytes bytes → (front_of bytes ≡ f) → Shape (length bytes) (key_length bytes) (value_length bytes) f → IsFrontRecord bytes f
 found bytes h e (Shape.no_key a) = (cut_short bytes e (λ w. w), IsCut.in_key_length a)
 found bytes h e (Shape.long_key a b) = (cut_short bytes e (λ w. w), record { there = a; over = b })
 found bytes h e (Shape.no_length a b c) = (cut_short bytes e (λ w. w), IsCut.before_value b c)
@@ -289,7 +258,7 @@ found bytes h e (Shape.whole a b c) =
     let m = value_length bytes in
     (put_front bytes (2 + n - 2) (6 + n + m - (6 + n)) h (omega arith) (omega arith) a b c, omega arith, omega arith, omega arith)
 
-pub front_found : (bytes : List ℕ) (f : FrontRecord) → IsBytes bytes → f ≡ front_of bytes → IsFrontRecord bytes f
+pub front_found : (bytes : List ℕ) (f : FrontRecord) → AreBytes bytes → f ≡ front_of bytes → IsFrontRecord bytes f
 front_found bytes f h e = subst (λ x. IsFrontRecord bytes x) (sym e)
     (found bytes h refl (shape (length bytes) (key_length bytes) (value_length bytes)))
 

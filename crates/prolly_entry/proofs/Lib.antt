@@ -23,3 +23,5 @@ pub mod FrontBytes
 pub mod Endings
 pub mod Readings
 pub mod RecordSteps
+pub mod ByteLists
+pub mod Children

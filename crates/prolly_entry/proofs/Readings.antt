@@ -10,16 +10,17 @@ use Rattle.prolly_entry.specs.declared.flaw.Flaw.TheVariants as flaws
 use Rattle.prolly_entry.specs.Reading.{Begins, HasReading, SomeReading}
 use Rattle.prolly_entry.specs.Front.{front_of, put_at, removal_at, IsRecordAt, IsFrontRecord}
 use Rattle.prolly_entry.specs.NextRecord.{IsFlawed}
-use Rattle.prolly_entry.proofs.FrontBytes.{cut_few, IsBytes, front_found, fault_full, key_stays, value_stays, cut_fault}
+use Rattle.prolly_entry.proofs.ByteLists.{AreBytes}
+use Rattle.prolly_entry.proofs.FrontBytes.{cut_few, front_found, fault_full, key_stays, value_stays, cut_fault}
 use Rattle.prolly_entry.proofs.Endings.{begins_more, begins_none, ends_clean, ends_flawed, ends_cut, order_flawed}
 
 faulty : (bytes : List ℕ) (limit : ℕ) (good : List Record) (rest : List ℕ) (fault : Flaw) → Begins bytes limit good rest →
     IsFlawed limit (length good) (last_position good) rest fault → HasReading bytes limit
 faulty bytes limit good rest fault h k = record { good = good; ending = Some fault; reading = ends_flawed bytes limit good rest rest [] fault h (sym (append-nil rest)) k }
 
-next : (bytes : List ℕ) (limit : ℕ) (good : List Record) (rest : List ℕ) (r : Record) (len : ℕ) (b : Bool) → is_before (last_position good) (Some r.key) ≡ b → 0 < length rest → length good ≢ limit → IsBytes rest →
+next : (bytes : List ℕ) (limit : ℕ) (good : List Record) (rest : List ℕ) (r : Record) (len : ℕ) (b : Bool) → is_before (last_position good) (Some r.key) ≡ b → 0 < length rest → length good ≢ limit → AreBytes rest →
     Begins bytes limit good rest → IsRecordAt rest r len →
-    ((rest' : List ℕ) → IsBytes rest' → Begins bytes limit (good ++ r ∷ []) rest' → HasReading bytes limit) → HasReading bytes limit
+    ((rest' : List ℕ) → AreBytes rest' → Begins bytes limit (good ++ r ∷ []) rest' → HasReading bytes limit) → HasReading bytes limit
 next bytes limit good rest r len false e n d w h k again =
     faulty bytes limit good rest flaws.OutOfOrder h (order_flawed limit (length good) (last_position good) rest r len n k d e)
 next bytes limit good rest r len true e n d w h k again =
@@ -27,8 +28,8 @@ next bytes limit good rest r len true e n d w h k again =
     (subst (λ (t : List ℕ). Begins bytes limit (good ++ r ∷ []) t) (append-nil (drop len rest))
     (begins_more bytes limit good rest rest [] r len h (sym (append-nil rest)) (record { there = k; room = d; rises = e })))
 
-by_front : (bytes : List ℕ) (limit : ℕ) (good : List Record) (rest : List ℕ) (f : FrontRecord) → f ≡ front_of rest → IsFrontRecord rest f → 0 < length rest → length good ≢ limit → IsBytes rest →
-    Begins bytes limit good rest → ((r : Record) (rest' : List ℕ) → IsBytes rest' → Begins bytes limit (good ++ r ∷ []) rest' → HasReading bytes limit) → HasReading bytes limit
+by_front : (bytes : List ℕ) (limit : ℕ) (good : List Record) (rest : List ℕ) (f : FrontRecord) → f ≡ front_of rest → IsFrontRecord rest f → 0 < length rest → length good ≢ limit → AreBytes rest →
+    Begins bytes limit good rest → ((r : Record) (rest' : List ℕ) → AreBytes rest' → Begins bytes limit (good ++ r ∷ []) rest' → HasReading bytes limit) → HasReading bytes limit
 by_front bytes limit good rest More i k n d w h again = record {
   good = good;
   ending = Some flaws.Truncated;
@@ -43,7 +44,7 @@ by_front bytes limit good rest (Put a b c) i k n d w h again =
 by_front bytes limit good rest (Remove a b) i k n d w h again =
     next bytes limit good rest (removal_at rest a) b (is_before (last_position good) (Some (take (a - 2) (drop 2 rest)))) refl n d w h k.0 (again (removal_at rest a))
 
-reads_on : (fuel : ℕ) (bytes : List ℕ) (limit : ℕ) (good : List Record) (rest : List ℕ) → IsBytes rest → Begins bytes limit good rest → length good + fuel ≡ limit → HasReading bytes limit
+reads_on : (fuel : ℕ) (bytes : List ℕ) (limit : ℕ) (good : List Record) (rest : List ℕ) → AreBytes rest → Begins bytes limit good rest → length good + fuel ≡ limit → HasReading bytes limit
 reads_on fuel bytes limit good [] w h e = record { good = good; ending = None; reading = ends_clean bytes limit good h }
 reads_on zero bytes limit good (x ∷ rest) w h e =
     faulty bytes limit good (x ∷ rest) flaws.TooManyRecords h

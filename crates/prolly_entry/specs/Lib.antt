@@ -4,6 +4,7 @@ pub mod Record
 pub mod Position
 pub mod Version
 pub mod Spelling
+pub mod ChildAt
 pub mod Reference
 pub mod Cut
 pub mod Reading

@@ -4,8 +4,8 @@ ghost use Rattle.std.specs.Int.{w16, w32, from_be_bytes};
 ghost use Rattle.prolly_entry.specs.Front.{IsFrontRecord, IsFrontPair, front_of, as_pair};
 
 use crate::limits::{KEY_LIMIT, VALUE_LIMIT};
+use crate::numbers::{number_of_four, number_of_two};
 use crate::spelling::REMOVAL;
-use byteorder::{BigEndian, ByteOrder};
 
 /// The record that bytes begin with. Its key is the bytes `2..key_end`, the value of a put is
 /// `value_start..len`, and its spelling is `0..len`.
@@ -93,7 +93,7 @@ fn front_at(bytes: &[u8]) -> FrontRecord
     if bytes.len() < 2 {
         return FrontRecord::More;
     }
-    let key_length = two_at(bytes) as usize;
+    let key_length = number_of_two(bytes) as usize;
     if key_length > KEY_LIMIT {
         return FrontRecord::KeyTooLong;
     }
@@ -102,7 +102,7 @@ fn front_at(bytes: &[u8]) -> FrontRecord
     if bytes.len() < value_start {
         return FrontRecord::More;
     }
-    let value_length = four_at(bytes, key_end);
+    let value_length = number_of_four(bytes, key_end);
     if value_length == REMOVAL {
         return FrontRecord::Remove {
             key_end,
@@ -121,23 +121,4 @@ fn front_at(bytes: &[u8]) -> FrontRecord
         value_start,
         len,
     }
-}
-
-/// The number in the first two bytes.
-fn two_at(bytes: &[u8]) -> u16
-    requires { 2 ≤ length bytes.now }
-    ensures { result ≡ from_be_bytes w16 (take 2 bytes.now) }
-{
-    let (first, _) = bytes.split_at(2);
-    BigEndian::read_u16(first)
-}
-
-/// The number in the four bytes from a place on.
-fn four_at(bytes: &[u8], place: usize) -> u32
-    requires { place + 4 ≤ length bytes.now }
-    ensures { result ≡ from_be_bytes w32 (take 4 (drop place bytes.now)) }
-{
-    let (_, rest) = bytes.split_at(place);
-    let (first, _) = rest.split_at(4);
-    BigEndian::read_u32(first)
 }

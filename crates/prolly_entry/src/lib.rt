@@ -2,6 +2,7 @@
 //! of everything that the crates above build, write and check.
 #![tactic(auto)]
 
+mod child;
 mod cut;
 mod flaw;
 mod front;
@@ -17,6 +18,7 @@ mod reference;
 mod spelling;
 mod version;
 
+pub use child::{ChildAt, front_child, front_child_as};
 pub use cut::{BITS_LIMIT, Cut, KeyCut, Sha512Cut};
 pub use flaw::Flaw;
 pub use front::{Front, FrontRecord, front_pair, front_record};
