@@ -16,7 +16,8 @@ use Rattle.prolly_entry.specs.Reading.{Begins, EndsIn, IsReading, next_flaw}
 use Rattle.prolly_entry.specs.Front.{IsRecordAt}
 use Rattle.prolly_entry.specs.NextRecord.{IsNext, IsUndecided, IsFlawed}
 use Rattle.prolly_entry.proofs.Spellings.{record_spellings_apart}
-use Rattle.prolly_entry.proofs.FrontBytes.{whole_fault, front_fault, record_size}
+use Rattle.prolly_entry.proofs.FrontBytes.{record_size}
+use Rattle.prolly_entry.proofs.NextFlaws.{whole_flaw, front_flaw}
 
 -- ---- rising keys
 
@@ -104,7 +105,7 @@ longer (r ∷ rs) (s ∷ ss) x y h k n e =
 
 pub good_next : (limit count : ℕ) (position : Position) (r : Record) (more bytes : List ℕ) → IsRecord r → bytes ≡ record_spelling r ++ more → count ≢ limit →
     is_before position (Some r.key) ≡ true → next_flaw limit count position bytes ≡ None
-good_next limit count position r more bytes h e d k = whole_fault limit count position r more bytes h e d ∙ rw k
+good_next limit count position r more bytes h e d k = whole_flaw limit count position r more bytes h e d ∙ rw k
 
 no_next : (limit : ℕ) (good : List Record) (rest : List ℕ) (ending : Option Flaw) (r : Record) (more : List ℕ) → IsRecord r → rest ≡ record_spelling r ++ more →
     length good ≢ limit → is_before (last_position good) (Some r.key) ≡ true → EndsIn limit good rest ending → ⊥
@@ -158,5 +159,5 @@ pub order_flawed : (limit count : ℕ) (position : Position) (bytes : List ℕ) 
     is_before position (Some r.key) ≡ false → IsFlawed limit count position bytes flaws.OutOfOrder
 order_flawed limit count position bytes r len n h d k = record {
   some = n;
-  is = λ more. front_fault limit count position bytes more r len h d ∙ rw k;
+  is = λ more. front_flaw limit count position bytes more r len h d ∙ rw k;
 }

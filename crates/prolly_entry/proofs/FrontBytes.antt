@@ -1,98 +1,18 @@
--- What bytes begin with, and when no further record does.
-use Rattle.std.specs.Prelude.{nat_lt, ◌==◌}
-use Rattle.std.proofs.Common.{◌≡◌, ◌≢◌, ℕ, ◌+◌, ◌-◌, ◌<◌, ◌≤◌, true, false, List, [], ◌∷◌, ◌++◌, length, take, drop, get_or, Option, Some, None, inl, inr, refl, sym, ap, ◌∙◌, subst, arith, append_assoc, length-append, length-drop}
-use Rattle.std.proofs.lemmas.Bool.{cond_both, cases_lt}
-use Rattle.std.proofs.lemmas.Bool.Decides.{nat_tests}
-use Rattle.std.proofs.lemmas.List.{take-append-drop, drop-drop, length-take, length-take-le, get_or-drop, get_or-take, get_or_past, take-append-le, drop-append-le}
-use Rattle.std.proofs.lemmas.Nat.{be_bytes_2, be_bytes_4, from_be_bytes-to_be_bytes_2, from_be_bytes-to_be_bytes_4}
+-- What bytes begin with is spelled there, and what is spelled there is found.
+use Rattle.std.specs.Prelude.{◌==◌}
+use Rattle.std.proofs.Common.{◌≡◌, ℕ, ◌+◌, ◌-◌, ◌<◌, ◌≤◌, true, false, List, [], ◌∷◌, ◌++◌, length, take, drop, Option, Some, None, refl, sym, ap, ◌∙◌, subst, arith, append_assoc, length-append, length-drop}
+use Rattle.std.proofs.lemmas.List.{drop-drop, length-take-le}
+use Rattle.std.proofs.lemmas.Nat.{be_bytes_4, from_be_bytes-to_be_bytes_2, from_be_bytes-to_be_bytes_4}
 use Rattle.std.proofs.Math.Seq.{take-append_seam}
 use Rattle.std.specs.Int.{w16, w32, to_be_bytes, from_be_bytes}
 use Rattle.prolly_entry.specs.declared.front.FrontRecord.{FrontRecord}
 use Rattle.prolly_entry.specs.declared.front.FrontRecord.TheVariants.{Put, Remove, More, KeyTooLong, ValueTooLong}
 use Rattle.prolly_entry.specs.Record.{Record, IsRecord, IsChange}
 use Rattle.prolly_entry.specs.Spelling.{record_spelling, key_spelling, value_spelling, change_spelling}
-use Rattle.prolly_entry.specs.Position.{Position}
-use Rattle.prolly_entry.specs.declared.flaw.Flaw.{Flaw}
-use Rattle.prolly_entry.specs.declared.flaw.Flaw.TheVariants as flaws
-use Rattle.prolly_entry.specs.Front.{front_by, front_of, as_pair, removal_at, IsCut, IsRecordAt, IsFrontRecord, IsFrontPair, NoRecordAt, NoPairAt}
+use Rattle.prolly_entry.specs.Front.{front_of, as_pair, removal_at, IsCut, IsRecordAt, IsFrontRecord, IsFrontPair, NoRecordAt, NoPairAt}
 use Rattle.prolly_entry.proofs.ByteLists.{AreBytes, AreBytes-drop, AreBytes-take, cut_at, key_is_spelled}
-use Rattle.prolly_entry.specs.Reading.{key_length, value_length, flaw_by, next_flaw, order_flaw}
-
--- ---- the cases
-
-pub data Shape (len n m : ℕ) : FrontRecord → Type 0 where
-  no_key : len < 2 → Shape len n m More
-  long_key : 2 ≤ len → 1024 < n → Shape len n m KeyTooLong
-  no_length : 2 ≤ len → n ≤ 1024 → len < 6 + n → Shape len n m More
-  removal : n ≤ 1024 → 6 + n ≤ len → m ≡ 0xFFFF_FFFF → Shape len n m (Remove (2 + n) (6 + n))
-  long_value : n ≤ 1024 → 6 + n ≤ len → (m == 0xFFFF_FFFF) ≡ false → 65536 < m → Shape len n m ValueTooLong
-  no_value : n ≤ 1024 → 6 + n ≤ len → m ≤ 65536 → len < 6 + n + m → Shape len n m More
-  whole : n ≤ 1024 → m ≤ 65536 → 6 + n + m ≤ len → Shape len n m (Put (2 + n) (6 + n) (6 + n + m))
-
-below : (a b : ℕ) → nat_lt a b ≡ true → a < b
-below a b e = grind (arith, nat_tests)
-
-not_below : (a b : ℕ) → nat_lt a b ≡ false → b ≤ a
-not_below a b e = grind (arith, nat_tests)
-
-not_same : (a : ℕ) → (a == 0xFFFF_FFFF) ≡ false → a ≢ 0xFFFF_FFFF
-not_same a e = grind (arith, nat_tests)
-
-is_same : (a b : ℕ) → (a == b) ≡ true → a ≡ b
-is_same a b e = grind (arith, nat_tests)
-
-pub shape : (len n m : ℕ) → Shape len n m (front_by len n m)
-shape len n m =
-    cond_both (nat_lt len 2) _ _ (Shape len n m) (λ e. Shape.no_key (below len 2 e)) (λ e2.
-    cond_both (nat_lt 1024 n) _ _ (Shape len n m) (λ e. Shape.long_key (not_below len 2 e2) (below 1024 n e)) (λ e3.
-    cond_both (nat_lt len (6 + n)) _ _ (Shape len n m) (λ e. Shape.no_length (not_below len 2 e2) (not_below 1024 n e3) (below len (6 + n) e)) (λ e4.
-    cond_both (m == 0xFFFF_FFFF) _ _ (Shape len n m) (λ e. Shape.removal (not_below 1024 n e3) (not_below len (6 + n) e4) (is_same m 0xFFFF_FFFF e)) (λ e5.
-    cond_both (nat_lt 65536 m) _ _ (Shape len n m) (λ e. Shape.long_value (not_below 1024 n e3) (not_below len (6 + n) e4) e5 (below 65536 m e)) (λ e6.
-    cond_both (nat_lt len (6 + n + m)) _ _ (Shape len n m) (λ e. Shape.no_value (not_below 1024 n e3) (not_below len (6 + n) e4) (not_below 65536 m e6) (below len (6 + n + m) e)) (λ e7.
-    Shape.whole (not_below 1024 n e3) (not_below 65536 m e6) (not_below len (6 + n + m) e7)))))))
-
--- What the bytes at hand decide, they decide with more bytes behind them.
-pub more_same : {len n m : ℕ} {f : FrontRecord} (len' n' m' : ℕ) → Shape len n m f → (f ≡ More → ⊥) → len ≤ len' →
-    (2 ≤ len → n ≡ n') → (6 + n ≤ len → m ≡ m') → front_by len' n' m' ≡ f
-more_same len' n' m' (Shape.no_key a) d h p q = absurd (d refl)
-more_same len' n' m' (Shape.no_length a b c) d h p q = absurd (d refl)
-more_same len' n' m' (Shape.no_value a b c k) d h p q = absurd (d refl)
-more_same {n} {m} len' n' m' (Shape.long_key a b) d h p q = let e = p (omega arith) in grind (arith, nat_tests)
-more_same {n} {m} len' n' m' (Shape.removal a b c) d h p q = let e = p (omega arith) in let k = q (omega arith) in grind (arith, nat_tests)
-more_same {n} {m} len' n' m' (Shape.long_value a b c k) d h p q =
-    let e = p (omega arith) in let i = q (omega arith) in
-    let t : (m' == 0xFFFF_FFFF) ≡ false = subst (λ x. (x == 0xFFFF_FFFF) ≡ false) i c in
-    let u : nat_lt 65536 m' ≡ true = grind (arith, nat_tests) in
-    let v : nat_lt len' 2 ≡ false = grind (arith, nat_tests) in
-    let w : nat_lt 1024 n' ≡ false = grind (arith, nat_tests) in
-    let x : nat_lt len' (6 + n') ≡ false = grind (arith, nat_tests) in
-    rw (v, w, x, t, u)
-more_same {n} {m} len' n' m' (Shape.whole a b c) d h p q = let e = p (omega arith) in let k = q (omega arith) in grind (arith, nat_tests)
-
--- the fault, where the limit is not reached
-abbrev pub fault_at : FrontRecord → Option Flaw → Option Flaw
-fault_at (Put a b c) order = order
-fault_at (Remove a b) order = order
-fault_at More order = Some flaws.Truncated
-fault_at KeyTooLong order = Some flaws.KeyTooLong
-fault_at ValueTooLong order = Some flaws.ValueTooLong
-
-pub fault_is : {len n m : ℕ} {f : FrontRecord} (limit count : ℕ) (order : Option Flaw) → Shape len n m f → count ≢ limit → flaw_by limit count len n m order ≡ fault_at f order
-fault_is {len} {n} {m} limit count order (Shape.no_key a) d = grind (arith, nat_tests)
-fault_is {len} {n} {m} limit count order (Shape.long_key a b) d = grind (arith, nat_tests)
-fault_is {len} {n} {m} limit count order (Shape.no_length a b c) d = grind (arith, nat_tests)
-fault_is {len} {n} {m} limit count order (Shape.removal a b c) d = grind (arith, nat_tests)
-fault_is {len} {n} {m} limit count order (Shape.long_value a b c k) d = grind (arith, nat_tests)
-fault_is {len} {n} {m} limit count order (Shape.no_value a b c k) d = grind (arith, nat_tests)
-fault_is {len} {n} {m} limit count order (Shape.whole a b c) d = grind (arith, nat_tests)
-
-same_number : (a b : ℕ) → a ≡ b → (a == b) ≡ true
-same_number a b e = grind (arith, nat_tests)
-
-pub fault_full : (limit count : ℕ) (position : Position) (bytes : List ℕ) → count ≡ limit → next_flaw limit count position bytes ≡ Some flaws.TooManyRecords
-fault_full limit count position bytes e = rw (same_number count limit e)
-
--- ---- the bytes
+use Rattle.prolly_entry.specs.Reading.{key_length, value_length}
+use Rattle.prolly_entry.proofs.FrontCases.{Shape, shape, not_same}
 
 four_back : (bytes : List ℕ) → AreBytes bytes → 6 + key_length bytes ≤ length bytes →
     to_be_bytes w32 (value_length bytes) ≡ take 4 (drop (2 + key_length bytes) bytes)
@@ -296,72 +216,3 @@ pair_found bytes (Remove key_end len) h =
 pair_found bytes More h = (no_pair bytes h.0, h.1)
 pair_found bytes KeyTooLong h = (no_pair bytes h.0, h.1)
 pair_found bytes ValueTooLong h = (no_pair bytes h.0, h.1)
-
--- ---- the fault of what follows
-
-front_more : (bytes more : List ℕ) → (front_of bytes ≡ More → ⊥) → front_of (bytes ++ more) ≡ front_of bytes
-front_more bytes more d =
-    more_same (length (bytes ++ more)) (key_length (bytes ++ more)) (value_length (bytes ++ more))
-    (shape (length bytes) (key_length bytes) (value_length bytes)) d (omega (arith, length-append bytes more)) key value
-  where
-    key : 2 ≤ length bytes → key_length bytes ≡ key_length (bytes ++ more)
-    key h = ap (from_be_bytes w16) (sym (take-append-le 2 bytes more h))
-
-    value : 6 + key_length bytes ≤ length bytes → value_length bytes ≡ value_length (bytes ++ more)
-    value h =
-        let n = key_length bytes in
-        let there : drop (2 + n) (bytes ++ more) ≡ drop (2 + n) bytes ++ more = drop-append-le (2 + n) bytes more (omega arith) in
-        let four : take 4 (drop (2 + n) bytes ++ more) ≡ take 4 (drop (2 + n) bytes) = take-append-le 4 (drop (2 + n) bytes) more (omega (arith, length-drop (2 + n) bytes)) in
-        sym (ap (λ k. from_be_bytes w32 (take 4 (drop (2 + k) (bytes ++ more)))) (sym (key (omega arith)))
-        ∙ (ap (λ (t : List ℕ). from_be_bytes w32 (take 4 t)) there ∙ ap (from_be_bytes w32) four))
-
-pub fault_there : (limit count : ℕ) (position : Position) (bytes : List ℕ) → count ≢ limit →
-    next_flaw limit count position bytes ≡ fault_at (front_of bytes) (order_flaw position (take (key_length bytes) (drop 2 bytes)))
-fault_there limit count position bytes d = fault_is limit count (order_flaw position (take (key_length bytes) (drop 2 bytes)))
-    (shape (length bytes) (key_length bytes) (value_length bytes)) d
-
-at_front : (limit count : ℕ) (position : Position) (bytes : List ℕ) (f : FrontRecord) → front_of bytes ≡ f → count ≢ limit →
-    next_flaw limit count position bytes ≡ fault_at f (order_flaw position (take (key_length bytes) (drop 2 bytes)))
-at_front limit count position bytes f e d =
-    fault_there limit count position bytes d ∙ ap (λ g. fault_at g (order_flaw position (take (key_length bytes) (drop 2 bytes)))) e
-
-pub key_stays : (limit count : ℕ) (position : Position) (bytes more : List ℕ) → KeyTooLong ≡ front_of bytes → count ≢ limit →
-    next_flaw limit count position (bytes ++ more) ≡ Some flaws.KeyTooLong
-key_stays limit count position bytes more e d =
-    at_front limit count position (bytes ++ more) KeyTooLong (front_more bytes more (λ i. other (e ∙ i)) ∙ sym e) d
-  where
-    other : KeyTooLong ≡ More → ⊥
-    other e = cc
-
-pub value_stays : (limit count : ℕ) (position : Position) (bytes more : List ℕ) → ValueTooLong ≡ front_of bytes → count ≢ limit →
-    next_flaw limit count position (bytes ++ more) ≡ Some flaws.ValueTooLong
-value_stays limit count position bytes more e d =
-    at_front limit count position (bytes ++ more) ValueTooLong (front_more bytes more (λ i. other (e ∙ i)) ∙ sym e) d
-  where
-    other : ValueTooLong ≡ More → ⊥
-    other e = cc
-
-pub cut_fault : (limit count : ℕ) (position : Position) (bytes : List ℕ) → More ≡ front_of bytes → count ≢ limit →
-    next_flaw limit count position bytes ≡ Some flaws.Truncated
-cut_fault limit count position bytes e d = at_front limit count position bytes More (sym e) d
-
-whole_at : (f : FrontRecord) (order : Option Flaw) → IsWhole f → fault_at f order ≡ order
-whole_at (Put a b c) order w = refl
-whole_at (Remove a b) order w = refl
-whole_at More order w = absurd w
-whole_at KeyTooLong order w = absurd w
-whole_at ValueTooLong order w = absurd w
-
--- behind whole records a further one is out of order, or good
-pub whole_fault : (limit count : ℕ) (position : Position) (r : Record) (more bytes : List ℕ) → IsRecord r → bytes ≡ record_spelling r ++ more → count ≢ limit →
-    next_flaw limit count position bytes ≡ order_flaw position r.key
-whole_fault limit count position r more bytes h e d =
-    fault_there limit count position bytes d
-    ∙ (whole_at (front_of bytes) (order_flaw position (take (key_length bytes) (drop 2 bytes))) (spelled_whole r more bytes h e)
-    ∙ ap (order_flaw position) (numbers r more bytes h e).there)
-
-pub front_fault : (limit count : ℕ) (position : Position) (bytes more : List ℕ) (r : Record) (len : ℕ) → IsRecordAt bytes r len → count ≢ limit →
-    next_flaw limit count position (bytes ++ more) ≡ order_flaw position r.key
-front_fault limit count position bytes more r len h d =
-    whole_fault limit count position r (drop len bytes ++ more) (bytes ++ more) h.lawful
-    (ap (λ (t : List ℕ). t ++ more) h.spelled ∙ append_assoc (record_spelling r) (drop len bytes) more) d

@@ -19,9 +19,16 @@ pub mod Files
 pub mod Distinct
 pub mod Levels
 pub mod Computed
+pub mod FrontCases
 pub mod FrontBytes
+pub mod NextFlaws
 pub mod Endings
 pub mod Readings
 pub mod RecordSteps
 pub mod ByteLists
 pub mod Children
+pub mod Bytes
+pub mod Digits
+pub mod Powers
+pub mod Digests
+pub mod Texts

@@ -11,7 +11,8 @@ use Rattle.prolly_entry.specs.Reading.{Begins, HasReading, SomeReading}
 use Rattle.prolly_entry.specs.Front.{front_of, put_at, removal_at, IsRecordAt, IsFrontRecord}
 use Rattle.prolly_entry.specs.NextRecord.{IsFlawed}
 use Rattle.prolly_entry.proofs.ByteLists.{AreBytes}
-use Rattle.prolly_entry.proofs.FrontBytes.{cut_few, front_found, fault_full, key_stays, value_stays, cut_fault}
+use Rattle.prolly_entry.proofs.FrontBytes.{cut_few, front_found}
+use Rattle.prolly_entry.proofs.NextFlaws.{full_flaw, key_stays, value_stays, cut_flaw}
 use Rattle.prolly_entry.proofs.Endings.{begins_more, begins_none, ends_clean, ends_flawed, ends_cut, order_flawed}
 
 faulty : (bytes : List ℕ) (limit : ℕ) (good : List Record) (rest : List ℕ) (fault : Flaw) → Begins bytes limit good rest →
@@ -33,7 +34,7 @@ by_front : (bytes : List ℕ) (limit : ℕ) (good : List Record) (rest : List �
 by_front bytes limit good rest More i k n d w h again = record {
   good = good;
   ending = Some flaws.Truncated;
-  reading = ends_cut bytes limit good rest h n (record { few = cut_few rest k.1; cut = λ _. cut_fault limit (length good) (last_position good) rest i d });
+  reading = ends_cut bytes limit good rest h n (record { few = cut_few rest k.1; cut = λ _. cut_flaw limit (length good) (last_position good) rest i d });
 }
 by_front bytes limit good rest KeyTooLong i k n d w h again =
     faulty bytes limit good rest flaws.KeyTooLong h (record { some = n; is = λ more. key_stays limit (length good) (last_position good) rest more i d })
@@ -48,7 +49,7 @@ reads_on : (fuel : ℕ) (bytes : List ℕ) (limit : ℕ) (good : List Record) (r
 reads_on fuel bytes limit good [] w h e = record { good = good; ending = None; reading = ends_clean bytes limit good h }
 reads_on zero bytes limit good (x ∷ rest) w h e =
     faulty bytes limit good (x ∷ rest) flaws.TooManyRecords h
-    (record { some = omega arith; is = λ more. fault_full limit (length good) (last_position good) ((x ∷ rest) ++ more) (omega arith) })
+    (record { some = omega arith; is = λ more. full_flaw limit (length good) (last_position good) ((x ∷ rest) ++ more) (omega arith) })
 reads_on (suc fuel) bytes limit good (x ∷ rest) w h e =
     by_front bytes limit good (x ∷ rest) (front_of (x ∷ rest)) refl (front_found (x ∷ rest) (front_of (x ∷ rest)) w refl) (omega arith) (λ q. omega arith) w h
     (λ r rest' w' h'. reads_on fuel bytes limit (good ++ r ∷ []) rest' w' h' (omega (arith, length-append good (r ∷ []))))

@@ -5,6 +5,7 @@ pub mod Position
 pub mod Version
 pub mod Spelling
 pub mod ChildAt
+pub mod Byte
 pub mod Reference
 pub mod Cut
 pub mod Reading

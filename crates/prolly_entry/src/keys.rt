@@ -12,3 +12,18 @@ pub fn key_order(a: &[u8], b: &[u8]) -> Ordering
 {
     a.cmp(b)
 }
+
+#[cfg(test)]
+mod tests {
+    use super::*;
+
+    #[test]
+    fn compares_bytes_unsigned_and_prefixes_first(rt: HostRuntime) {
+        let empty: &[u8] = b"";
+        assert_eq!(rt; key_order(empty, b"a"), Ordering::Less);
+        assert_eq!(rt; key_order(b"a", b"a\0"), Ordering::Less);
+        assert_eq!(rt; key_order(b"a\xFF", b"b"), Ordering::Less);
+        assert_eq!(rt; key_order(b"\x80", b"\x7F"), Ordering::Greater);
+        assert_eq!(rt; key_order(b"a", b"a"), Ordering::Equal);
+    }
+}

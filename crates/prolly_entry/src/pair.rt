@@ -15,7 +15,7 @@ pub enum EntryFault {
 }
 
 /// A key of at most 1,024 bytes and the value at it, of at most 65,536 bytes. Either may be empty.
-#[derive(Drop)]
+#[derive(Debug, Drop)]
 pub struct Pair {
     key: Vec<u8>,
     value: Vec<u8>,

@@ -7,7 +7,7 @@ use std::alloc::{AllocError, Global};
 use std::marker::Model;
 
 /// A record puts a value at its key, or removes the key.
-#[derive(Drop)]
+#[derive(Debug, Drop)]
 pub struct Record {
     key: Vec<u8>,
     value: Option<Vec<u8>>,

@@ -1,5 +1,6 @@
 //! What spellings tell.
 ghost use Rattle.prolly_entry.specs.declared.version.Version.{Version};
+ghost use Rattle.prolly_entry.specs.Reference.{ReferenceTextsDiffer};
 ghost use Rattle.prolly_entry.specs.Keys.{KeyOrderIsBytewise};
 ghost use Rattle.prolly_entry.specs.Spelling.{PairSpellingsApart, RecordSpellingsApart, ChildSpellingsApart};
 
@@ -13,4 +14,9 @@ pub fn no_spelling_begins_another()
     ensures pairs { PairSpellingsApart }
     ensures records { RecordSpellingsApart }
     ensures children { (version : Version) → ChildSpellingsApart version }
+{}
+
+/// Two references with one text are the same.
+pub fn reference_texts_differ()
+    ensures { ReferenceTextsDiffer }
 {}

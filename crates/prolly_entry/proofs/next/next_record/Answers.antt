@@ -1,7 +1,7 @@
 use Rattle.std.proofs.Common.{rules, sym, ◌∙◌}
 use Rattle.std.specs.Option.{option_copied}
 use Rattle.prolly_entry.specs.Front.{put_at, removal_at}
-use Rattle.prolly_entry.proofs.FrontBytes.{value_stays}
+use Rattle.prolly_entry.proofs.NextFlaws.{value_stays}
 use Rattle.prolly_entry.proofs.Endings.{order_flawed}
 use Rattle.prolly_entry.proofs.next.next_record.Goals as goal
 
