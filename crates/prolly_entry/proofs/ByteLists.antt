@@ -1,15 +1,24 @@
 -- Bytes cut in pieces, and the key that they begin with.
-use Rattle.std.proofs.Common.{◌≡◌, ℕ, ◌+◌, ◌<◌, ◌≤◌, List, ◌++◌, length, take, drop, get_or, inl, inr, sym, ap, ◌∙◌, arith, append_assoc, length-drop}
+use Rattle.std.proofs.Common.{◌≡◌, ℕ, ◌+◌, ◌<◌, ◌≤◌, List, ◌++◌, length, take, drop, get_or, All, inl, inr, sym, ap, ◌∙◌, arith, append_assoc, length-drop}
 use Rattle.std.proofs.lemmas.Bool.{cases_lt}
 use Rattle.std.proofs.lemmas.List.{take-append-drop, drop-drop, length-take, length-take-le, get_or-drop, get_or-take, get_or_past}
+use Rattle.std.proofs.lemmas.List.Elements.{All-get_or}
 use Rattle.std.proofs.lemmas.Nat.{be_bytes_2}
 use Rattle.std.specs.Int.{w16, to_be_bytes}
+use Rattle.prolly_entry.specs.Byte.{IsByte}
 use Rattle.prolly_entry.specs.Spelling.{key_spelling}
 use Rattle.prolly_entry.specs.Reading.{key_length}
 
 -- Each number of the list is a byte.
 abbrev pub AreBytes : List ℕ → Type 0
 AreBytes bytes = (i : ℕ) → get_or bytes i 0 < 256
+
+pub AreBytes-from_All : (bytes : List ℕ) → All IsByte bytes → AreBytes bytes
+AreBytes-from_All bytes h i =
+    elim (cases_lt i (length bytes)) [
+      | inl lt ↦ All-get_or IsByte bytes i 0 lt h
+      | inr le ↦ rw (get_or_past bytes i 0 le) (omega arith)
+    ]
 
 pub AreBytes-drop : (n : ℕ) (bytes : List ℕ) → AreBytes bytes → AreBytes (drop n bytes)
 AreBytes-drop n bytes h i = rw get_or-drop (h (n + i))

@@ -10,7 +10,7 @@ use Rattle.prolly_entry.specs.declared.flaw.Flaw.TheVariants as flaws
 use Rattle.prolly_entry.specs.Reading.{Begins, HasReading, SomeReading}
 use Rattle.prolly_entry.specs.Front.{front_of, put_at, removal_at, IsRecordAt, IsFrontRecord}
 use Rattle.prolly_entry.specs.NextRecord.{IsFlawed}
-use Rattle.prolly_entry.proofs.ByteLists.{AreBytes}
+use Rattle.prolly_entry.proofs.ByteLists.{AreBytes, AreBytes-from_All}
 use Rattle.prolly_entry.proofs.FrontBytes.{cut_few, front_found}
 use Rattle.prolly_entry.proofs.NextFlaws.{full_flaw, key_stays, value_stays, cut_flaw}
 use Rattle.prolly_entry.proofs.Endings.{begins_more, begins_none, ends_clean, ends_flawed, ends_cut, order_flawed}
@@ -55,4 +55,4 @@ reads_on (suc fuel) bytes limit good (x ∷ rest) w h e =
     (λ r rest' w' h'. reads_on fuel bytes limit (good ++ r ∷ []) rest' w' h' (omega (arith, length-append good (r ∷ []))))
 
 pub reading_is : SomeReading
-reading_is bytes limit w = reads_on limit bytes limit [] bytes w (begins_none bytes limit) (omega arith)
+reading_is bytes limit w = reads_on limit bytes limit [] bytes (AreBytes-from_All bytes w) (begins_none bytes limit) (omega arith)

@@ -1,9 +1,10 @@
 -- The records that the bytes of a record file spell, and what follows them. (This project's format.)
-use Rattle.std.specs.Prelude.{◌≡◌, ℕ, ◌+◌, ◌<◌, ◌≤◌, nat_lt, ◌==◌, List, [], ◌∷◌, ◌++◌, length, take, drop, get_or, Option, Some, None, if◌then◌else◌}
+use Rattle.std.specs.Prelude.{◌≡◌, ℕ, ◌+◌, ◌≤◌, nat_lt, ◌==◌, List, [], ◌∷◌, ◌++◌, length, take, drop, All, Option, Some, None, if◌then◌else◌}
 use Rattle.std.specs.Int.{w16, w32, from_be_bytes}
 use Rattle.std.specs.List.{flat_map, AllByRecursion}
 use Rattle.prolly_entry.specs.declared.flaw.Flaw.{Flaw}
 use Rattle.prolly_entry.specs.declared.flaw.Flaw.TheVariants.{Truncated, KeyTooLong, ValueTooLong, OutOfOrder, TooManyRecords}
+use Rattle.prolly_entry.specs.Byte.{IsByte}
 use Rattle.prolly_entry.specs.Keys.{Rising}
 use Rattle.prolly_entry.specs.Record.{Record, IsRecord, keys_of}
 use Rattle.prolly_entry.specs.Spelling.{record_spelling}
@@ -67,11 +68,11 @@ abbrev pub OneReading : Type 0
 OneReading = (bytes : List ℕ) (limit : ℕ) (good good' : List Record) (ending ending' : Option Flaw) →
     IsReading bytes limit good ending → IsReading bytes limit good' ending' → (good ≡ good') × (ending ≡ ending')
 
--- Law: and they have one. A number below 256 is a byte.
+-- Law: and they have one.
 pub record HasReading (bytes : List ℕ) (limit : ℕ) : Type 0 where
   pub good : List Record
   pub ending : Option Flaw
   pub reading : IsReading bytes limit good ending
 
 abbrev pub SomeReading : Type 0
-SomeReading = (bytes : List ℕ) (limit : ℕ) → ((i : ℕ) → get_or bytes i 0 < 256) → HasReading bytes limit
+SomeReading = (bytes : List ℕ) (limit : ℕ) → All IsByte bytes → HasReading bytes limit
