@@ -115,89 +115,57 @@ fn fault_of(flaw: Flaw, place: u32) -> RecordFault
 #[cfg(test)]
 mod tests {
     use super::*;
-    use std::process::Abort;
     use std::test::Fail;
 
-    /// What the bytes put, or their fault.
-    fn check(
-        rt: &impl Abort,
-        alloc: Global,
-        bytes: &[u8],
-        limit: u32,
-        want: Result<&[(&[u8], &[u8])], RecordFault>,
-    ) -> Result<(), Fail> {
-        match (records(alloc, bytes, limit), want) {
-            (Ok(pairs), Ok(want)) => {
-                assert_eq!(rt; pairs.len(), want.len());
-                for (pair, (key, value)) in pairs.iter().zip(want) {
-                    assert_eq!(rt; pair.key(), *key);
-                    assert_eq!(rt; pair.value(), *value);
-                }
-            }
-            (Err(fault), Err(want)) => assert_eq!(rt; fault, want),
-            _ => panic!(rt; "a list in place of a fault, or the other way round"),
+    #[test]
+    fn reads_the_pairs_that_are_put(rt: HostRuntime) -> Result<(), Fail> {
+        let three = b"\0\x01a\0\0\0\x011\0\x01b\0\0\0\x011\0\x01c\0\0\0\x011";
+        let pairs = records(rt.alloc(), three, 3).ok().ok_or("a fault")?;
+        assert_eq!(rt; pairs.len(), 3);
+        for (pair, key) in pairs.iter().zip([b"a", b"b", b"c"]) {
+            assert_eq!(rt; pair.key(), key.as_slice());
+            assert_eq!(rt; pair.value(), b"1".as_slice());
         }
+        let removed = b"\0\x01a\xFF\xFF\xFF\xFF\0\x01b\0\0\0\x011";
+        let pairs = records(rt.alloc(), removed, 2).ok().ok_or("a fault")?;
+        assert_eq!(rt; pairs.len(), 1);
+        assert_eq!(rt; pairs[0].key(), b"b".as_slice());
+        assert_eq!(rt;
+            records(rt.alloc(), b"", 1).ok().map(|pairs| pairs.len()),
+            Some(0)
+        );
         Ok(())
     }
 
     #[test]
-    fn reads_a_record_file(rt: HostRuntime) -> Result<(), Fail> {
-        let three = b"\0\x01a\0\0\0\x011\0\x01b\0\0\0\x011\0\x01c\0\0\0\x011";
-        check(
-            &rt,
-            rt.alloc(),
-            three,
-            3,
-            Ok(&[(b"a", b"1"), (b"b", b"1"), (b"c", b"1")]),
-        )?;
-        check(&rt, rt.alloc(), three, 2, Err(RecordFault::TooManyRecords))?;
-        check(
-            &rt,
-            rt.alloc(),
-            &three[..23],
-            3,
-            Err(RecordFault::Truncated { place: 2 }),
-        )?;
-        check(&rt, rt.alloc(), b"", 1, Ok(&[]))?;
-        check(
-            &rt,
-            rt.alloc(),
-            b"\0\x01a\xFF\xFF\xFF\xFF\0\x01b\0\0\0\x011",
-            2,
-            Ok(&[(b"b", b"1")]),
-        )
-    }
-
-    #[test]
-    fn names_the_first_flaw(rt: HostRuntime) -> Result<(), Fail> {
-        let twice = b"\0\x01a\0\0\0\x011\0\x01a\0\0\0\x012";
-        check(
-            &rt,
-            rt.alloc(),
-            twice,
-            3,
-            Err(RecordFault::OutOfOrder { place: 1 }),
-        )?;
-        check(
-            &rt,
-            rt.alloc(),
-            b"\x04\x01",
-            3,
-            Err(RecordFault::KeyTooLong { place: 0 }),
-        )?;
-        check(
-            &rt,
-            rt.alloc(),
-            b"\0\0\0\x01\0\x01",
-            3,
-            Err(RecordFault::ValueTooLong { place: 0 }),
-        )?;
-        check(
-            &rt,
-            rt.alloc(),
-            b"\0\x01a\xFF\xFF\xFF\xFF\0",
-            1,
-            Err(RecordFault::TooManyRecords),
-        )
+    fn names_the_first_flaw(rt: HostRuntime) {
+        let removal = b"\0\x01a\xFF\xFF\xFF\xFF\0".as_slice();
+        for (bytes, limit, fault) in [
+            (
+                b"\0\x01a\0\0\0\x011\0\x01a\0\0\0\x012".as_slice(),
+                3,
+                RecordFault::OutOfOrder { place: 1 },
+            ),
+            (b"\x04\x01", 3, RecordFault::KeyTooLong { place: 0 }),
+            (
+                b"\0\0\0\x01\0\x01",
+                3,
+                RecordFault::ValueTooLong { place: 0 },
+            ),
+            (
+                b"\0\x01a\xFF\xFF\xFF\xFE",
+                3,
+                RecordFault::ValueTooLong { place: 0 },
+            ),
+            (
+                b"\0\x01a\xFF\xFF\xFF",
+                3,
+                RecordFault::Truncated { place: 0 },
+            ),
+            (removal, 2, RecordFault::Truncated { place: 1 }),
+            (removal, 1, RecordFault::TooManyRecords),
+        ] {
+            assert_eq!(rt; records(rt.alloc(), bytes, limit).err(), Some(fault));
+        }
     }
 }
