@@ -32,3 +32,4 @@ pub mod Digits
 pub mod Powers
 pub mod Digests
 pub mod Texts
+pub mod Nothing

@@ -1,0 +1,63 @@
+//! How long the parts of the loader take, for `make bench`. Without words it only says what it times,
+//! so that it prints the same each time it is run in the gate.
+#![tactic(auto)]
+
+use anyhow::{Context, Result, bail};
+use prolly_entry::{Pair, Sha512Cut};
+use prolly_file::scratch;
+use std::alloc::Global;
+use std::env;
+use std::io::Print;
+use std::time::{Clock, Instant};
+
+const USAGE: &str = "prolly_bench scratch PAIRS";
+
+/// The bits of the cut: about one entry in 4,096 ends a chunk.
+const BITS: u8 = 12;
+
+fn main(rt: HostRuntime) -> Result<()> {
+    let mut words = env::args(&rt)?;
+    let _ = words.next();
+    let Some(what) = words.next() else {
+        println!(&rt; "{USAGE}")?;
+        return Ok(());
+    };
+    let Some(count) = words.next() else {
+        bail!("{USAGE}");
+    };
+    let count: u32 = count.parse().context("PAIRS is a number")?;
+    match what.as_str() {
+        "scratch" => time_scratch(&rt, rt.alloc(), count),
+        _ => bail!("{USAGE}"),
+    }
+}
+
+/// Times the plain builder on so many pairs of 38 bytes.
+fn time_scratch<R: Print + Clock>(rt: &R, alloc: Global, count: u32) -> Result<()> {
+    let pairs = numbered_pairs(alloc, count)?;
+    let Some(cut) = Sha512Cut::new(BITS) else {
+        bail!("no cut");
+    };
+    let mut out = Vec::new(alloc);
+    let start = Instant::now(rt)?;
+    if scratch(alloc, cut, &pairs, 255, &mut out).is_err() {
+        bail!("no file");
+    }
+    let millis = start.elapsed(rt)?.as_millis();
+    println!(rt; "scratch {count} pairs: {millis} ms, {} bytes", out.len())?;
+    Ok(())
+}
+
+/// Pairs of a key of 16 bytes and a value of 16 bytes, whose keys rise.
+fn numbered_pairs(alloc: Global, count: u32) -> Result<Vec<Pair>> {
+    let mut pairs = Vec::new(alloc);
+    for number in 0..count {
+        let mut key = [0; 16];
+        key[..4].copy_from_slice(&number.to_be_bytes());
+        let pair = Pair::copy_of(alloc, &key, &[0x5A; 16])?;
+        if pairs.push(pair).is_err() {
+            bail!("out of memory");
+        }
+    }
+    Ok(pairs)
+}

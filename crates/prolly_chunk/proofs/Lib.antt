@@ -1,0 +1,4 @@
+pub mod Keys
+pub mod Groups
+pub mod Leaves
+pub mod Nodes

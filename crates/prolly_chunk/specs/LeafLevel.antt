@@ -1,0 +1,37 @@
+-- The level of the leaves, as a machine that takes pairs one by one.
+use Rattle.std.specs.Prelude.{◌≡◌, Bool, List, [], ◌∷◌, ◌++◌, Option}
+use Rattle.std.specs.Option.{option_to_list}
+use Rattle.prolly_entry.specs.declared.version.Version.{Version}
+use Rattle.prolly_entry.specs.declared.version.Version.TheVariants.{One}
+use Rattle.prolly_entry.specs.Pair.{Pair}
+use Rattle.prolly_entry.specs.Cut.{Cut}
+use Rattle.prolly_entry.specs.Split.{open_entries}
+use Rattle.prolly_entry.specs.Tree.{pair_is_boundary}
+use Rattle.prolly_entry.specs.Chunk.{Chunk, chunk_of}
+use Rattle.prolly_entry.specs.Events.{clean, faulty, leaf_events}
+use Rattle.prolly_chunk.specs.Chunk.{has_entries}
+
+-- The level: its cut, the open leaf as if it closed now, and whether a pair came.
+pub record LeafState (C : Type 0) : Type 0 where
+  pub cut : C
+  pub leaf : Chunk
+  pub has_pairs : Bool
+
+-- The level behind pairs. (No version matters: a leaf is the same in each.)
+abbrev pub leaf_level : {C : Type 0} → (C → Cut) → C → List Pair → LeafState C
+leaf_level cut_of cut pairs = record {
+  cut = cut;
+  leaf = chunk_of One 0 (open_entries (pair_is_boundary (cut_of cut)) 1 pairs);
+  has_pairs = has_entries pairs;
+}
+
+-- The level takes a pair, whatever pairs came before, and answers what the leaf stage sends for it.
+pub record LeafTakes {C : Type 0} (cut_of : C → Cut) (old new : LeafState C) (pair : Pair) (closed : Option Chunk) : Type 0 where
+  pub state : (cut : C) (pairs : List Pair) → old ≡ leaf_level cut_of cut pairs → new ≡ leaf_level cut_of cut (pairs ++ pair ∷ [])
+  pub events : (cut : C) (version : Version) (pairs : List Pair) → old ≡ leaf_level cut_of cut pairs →
+      leaf_events (cut_of cut) version faulty (pairs ++ pair ∷ []) ≡ leaf_events (cut_of cut) version faulty pairs ++ option_to_list closed
+
+-- The level answers what the leaf stage sends at a clean end, whatever pairs came.
+abbrev pub LeafEnds : {C : Type 0} → (C → Cut) → LeafState C → Option Chunk → Type 0
+LeafEnds {C} cut_of level last = (cut : C) (version : Version) (pairs : List Pair) → level ≡ leaf_level cut_of cut pairs →
+    leaf_events (cut_of cut) version clean pairs ≡ leaf_events (cut_of cut) version faulty pairs ++ option_to_list last

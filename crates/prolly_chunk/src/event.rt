@@ -1,0 +1,80 @@
+//! What the levels of a tree tell one another.
+ghost use Rattle.std.specs.Prelude.{◌≡◌, ◌≤◌, length};
+ghost use Rattle.prolly_entry.specs.Reference.{reference_of};
+
+use crate::chunk::Chunk;
+use prolly_entry::Ref;
+use std::marker::Model;
+
+/// A closed chunk: its level, its greatest key, its reference, its bytes and how many pairs are below
+/// it. Whoever takes it needs nothing else to write the chunk or to make the entry of a child of it.
+#[derive(Debug, Drop)]
+pub struct ChunkEvent {
+    chunk: Chunk,
+    reference: Ref,
+}
+
+impl Model for ChunkEvent {
+    ghost use Rattle.std.specs.Prelude.{◌≡◌};
+    ghost use Rattle.prolly_entry.specs.Reference.{reference_of};
+    ghost use Rattle.prolly_entry.specs.Chunk.{Chunk as ChunkValue};
+
+    ghost Value = { ChunkValue };
+
+    ghost view = { λ e. e.chunk };
+
+    ghost invariant = { λ e. e.reference.0 ≡ reference_of e.chunk.bytes };
+}
+
+impl ChunkEvent {
+    /// The event of a chunk that closes. Takes one hash of its bytes, and no memory.
+    pub(crate) fn new(chunk: Chunk) -> ChunkEvent
+        ensures { result ≡ chunk }
+    {
+        let reference = Ref::of(chunk.bytes());
+        ChunkEvent { chunk, reference }
+    }
+
+    /// The level: 0 for a leaf, and for a node one more than that of its children.
+    pub fn level(&self) -> u8
+        ensures { result ≡ self.now.level }
+    {
+        self.chunk.level()
+    }
+
+    /// The greatest key below the chunk, at most 1,024 bytes; empty for a leaf without pairs.
+    pub fn key(&self) -> &[u8]
+        ensures key { result.now ≡ self.now.key }
+        ensures short { length self.now.key ≤ 1024 }
+    {
+        self.chunk.key()
+    }
+
+    /// The reference of the bytes. It was taken when the chunk closed, so this takes no hash.
+    pub fn reference(&self) -> Ref
+        ensures { result.0 ≡ reference_of self.now.bytes }
+    {
+        self.reference
+    }
+
+    /// The bytes: the level, then the entries.
+    pub fn bytes(&self) -> &[u8]
+        ensures { result.now ≡ self.now.bytes }
+    {
+        self.chunk.bytes()
+    }
+
+    /// The number of pairs below the chunk; the greatest `u64` where there are more.
+    pub fn count(&self) -> u64
+        ensures { result ≡ self.now.count }
+    {
+        self.chunk.count()
+    }
+
+    /// The bytes as a vector. Takes no memory, and copies nothing.
+    pub fn into_bytes(self) -> Vec<u8>
+        ensures { result.items ≡ self.bytes }
+    {
+        self.chunk.into_bytes()
+    }
+}

@@ -1,0 +1,65 @@
+//! The level of the leaves.
+ghost use Rattle.std.specs.Prelude.{◌≡◌, [], IfOk};
+ghost use Rattle.prolly_chunk.specs.LeafLevel.{leaf_level, LeafTakes, LeafEnds};
+
+use crate::chunk::Chunk;
+use crate::event::ChunkEvent;
+use prolly_entry::{Cut, Pair};
+use std::alloc::{AllocError, Global};
+use std::marker::Model;
+
+/// The leaves of pairs that come one by one, in the order of their keys.
+#[derive(Drop)]
+pub struct LeafLevel<C: Cut> {
+    cut: C,
+    leaf: Chunk,
+    has_pairs: bool,
+}
+
+impl<C: Cut> Model for LeafLevel<C> {
+    ghost use Rattle.prolly_chunk.specs.LeafLevel.{LeafState};
+
+    ghost Value = { LeafState C };
+
+    ghost view = { λ l. record { cut = l.cut; leaf = l.leaf; has_pairs = l.has_pairs } };
+}
+
+impl<C: Cut> LeafLevel<C> {
+    /// The level before the first pair. Takes memory for the first byte of a leaf.
+    pub fn new(alloc: Global, cut: C) -> Result<LeafLevel<C>, AllocError>
+        ensures { IfOk result (λ level. level ≡ leaf_level C.cut cut []) }
+    {
+        let leaf = Chunk::new(alloc, 0)?;
+        Ok(LeafLevel {
+            cut,
+            leaf,
+            has_pairs: false,
+        })
+    }
+
+    /// Takes a pair, and answers the leaf that it closes, if it closes one. The pair's key is to be
+    /// greater than those before it, or else what is made is no leaf of a map's tree.
+    ///
+    /// Takes time in the pair's size and one look at the cut, and where a leaf closes one hash of the
+    /// leaf. Keeps the bytes of one leaf. After an `Err` the level is of no use.
+    pub fn push(&mut self, alloc: Global, pair: &Pair) -> Result<Option<ChunkEvent>, AllocError>
+        ensures { IfOk result (λ closed. LeafTakes C.cut self.old self.new pair.now closed) }
+    {
+        self.has_pairs = true;
+        if self.leaf.add_pair(&self.cut, pair)? {
+            return Ok(Some(self.leaf.take_event(alloc)?));
+        }
+        Ok(None)
+    }
+
+    /// What is left at a clean end: the open leaf where it has pairs, or the leaf without pairs where
+    /// no pair came at all. Takes one hash of the leaf.
+    pub fn finish(self) -> Option<ChunkEvent>
+        ensures { LeafEnds C.cut self result }
+    {
+        if !self.has_pairs || self.leaf.has_entries() {
+            return Some(ChunkEvent::new(self.leaf));
+        }
+        None
+    }
+}

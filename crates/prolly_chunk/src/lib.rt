@@ -1,0 +1,15 @@
+//! The chunks of a prolly tree, and how one level of the tree is cut into them: a machine without
+//! threads, which takes a level's entries one by one and answers the chunks that they close.
+#![tactic(auto)]
+
+mod chunk;
+mod event;
+mod leaf;
+mod node;
+
+pub use event::ChunkEvent;
+pub use leaf::LeafLevel;
+pub use node::NodeLevel;
+
+#[cfg(test)]
+mod tests;

@@ -1,0 +1,5 @@
+pub mod Slices
+pub mod ScriptReads
+pub mod Written
+pub mod Rises
+pub mod TreeChunks

@@ -1,0 +1,14 @@
+use Rattle.std.proofs.Common.{◌≡◌, ◌∙◌, arith, length, sym, ap}
+use Rattle.prolly_file.specs.Script.{SourceScript}
+use Rattle.prolly_file.proofs.ScriptReads.{all_given, handed_out}
+use Rattle.prolly_file.proofs.script_source.ScriptSourceSource.read.Goals as goal
+
+pub returns-clause-bytes : goal.returns-clause-bytes
+returns-clause-bytes c =
+    let given = c.copy_some-count.ensures in (
+      sym (ap (λ (s : SourceScript). s.left) c.self.view_is)
+          ∙ handed_out _ _ c.args.buf.now c.copy_some-count.new.to _ _ _ c.deref.ensures.value given.count given.copied,
+      λ none more.
+          let size : length c.copy_some-count.new.to ≡ length c.args.buf.now = c.copy_some-count.auto.to in
+          all_given _ _ c.args.buf.now _ _ _ c.self.invariant.1 c.deref.ensures.value given.count none (omega arith),
+    )

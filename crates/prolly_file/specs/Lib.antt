@@ -1,0 +1,10 @@
+pub mod Failures
+pub mod Known
+pub mod Source
+pub mod FromRead
+pub mod Sink
+pub mod Script
+pub mod Frame
+pub mod Writer
+pub mod Scratch
+pub mod Levels

@@ -1,0 +1,20 @@
+-- What a write does to the bytes that its sink took.
+use Rattle.std.specs.Prelude.{◌≡◌, ℕ, ◌<◌, List, ◌++◌, length, take, Result, MatchResult}
+use Rattle.prolly_entry.specs.Prefix.{IsPrefix}
+use Rattle.prolly_file.specs.Failures.{after_failure}
+
+-- A write that gave `Ok(n)` took the first n bytes of the slice. A failed write took none.
+abbrev pub Takes : {E : Type 0} → List ℕ → List ℕ → Result ℕ E → List ℕ → Type 0
+Takes old new result buf = MatchResult result (λ n. new ≡ old ++ take n buf) (λ _. new ≡ old)
+
+-- A failed write added one failure, so did one that took no byte of a slice that has some, and no other did.
+abbrev pub CountsWriteFailure : {E : Type 0} → ℕ → ℕ → Result ℕ E → List ℕ → Type 0
+CountsWriteFailure old new result buf =
+    MatchResult result (λ n. (n ≡ 0 → 0 < length buf → new ≡ after_failure old)
+    × ((n ≡ 0 → length buf ≡ 0) → new ≡ old)) (λ _. new ≡ after_failure old)
+
+-- Of bytes that were to be written, some prefix was taken.
+pub record TakesPrefix (old new wanted : List ℕ) : Type 0 where
+  pub part : List ℕ
+  pub grown : new ≡ old ++ part
+  pub is_prefix : IsPrefix part wanted

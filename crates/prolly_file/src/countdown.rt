@@ -1,0 +1,17 @@
+//! The call of a script that fails.
+ghost use Rattle.std.specs.Prelude.{◌≡◌, ◌↔◌, Some, IsTrue};
+ghost use Rattle.prolly_file.specs.Script.{after_call};
+
+/// Counts one call towards the one that fails, and answers whether this is it. It fails once.
+pub(crate) fn count_call(until_failure: &mut Option<u64>) -> bool
+    ensures due { IsTrue result ↔ (until_failure.old ≡ Some 1) }
+    ensures counted { until_failure.new ≡ after_call until_failure.old }
+{
+    match *until_failure {
+        None => false,
+        Some(calls) => {
+            *until_failure = if calls > 1 { Some(calls - 1) } else { None };
+            calls == 1
+        }
+    }
+}

@@ -1,0 +1,133 @@
+//! A reader of std as a source.
+ghost use Rattle.std.specs.Prelude.{◌≡◌, ◌≤◌, ◌<◌, ◌↔◌, Bool, true, false, [], length, Ok, IsTrue, IsOk, IfOk, OnErr, is_some, if◌then◌else◌};
+ghost use Rattle.prolly_file.specs.Failures.{CountsFailure};
+ghost use Rattle.prolly_file.specs.Known.{known_bytes};
+ghost use Rattle.prolly_file.specs.Source.{HandsOut};
+
+use crate::source::{Source, SourceFault};
+use std::io::Read;
+
+/// A reader of std as a source. It is honest where the reader tells its bytes.
+///
+/// Every error of the reader is a `SourceFault`, also one that a second try might mend, as
+/// `Interrupted`. An `Ok(0)` for a buffer that has room is the end for good: a terminal, say, would
+/// give more after it.
+#[derive(Drop)]
+pub struct FromRead<R> {
+    reader: R,
+    has_ended: bool,
+    failures: u64,
+}
+
+impl<R: Read> FromRead<R> {
+    ghost use Rattle.prolly_file.specs.FromRead.{has_ended};
+
+    /// A source of what the reader has left. It reads nothing yet.
+    pub fn new(reader: R) -> FromRead<R>
+        ensures left { ⟦<FromRead<R> as Source>⟧.left result ≡ known_bytes (R.remaining reader) }
+        ensures honest { ⟦<FromRead<R> as Source>⟧.is_honest result ≡ is_some (R.remaining reader) }
+        ensures failures { ⟦<FromRead<R> as Source>⟧.failures result ≡ 0 }
+        ensures begun { has_ended result ≡ false }
+    {
+        FromRead {
+            reader,
+            has_ended: false,
+            failures: 0,
+        }
+    }
+}
+
+impl<R: Read> Source for FromRead<R> {
+    ghost use Rattle.prolly_file.specs.FromRead.{has_ended, bytes_left, tells_bytes, failure_count};
+
+    ghost left = { bytes_left R.remaining };
+
+    ghost failures = { failure_count };
+
+    ghost is_honest = { tells_bytes R.remaining };
+
+    ghost is_steady = { λ s. false };
+
+    fn read(&mut self, buf: &mut [u8]) -> Result<usize, SourceFault>
+        ensures bound { IfOk result (λ n. n ≤ length buf.new) }
+        ensures bytes { tells_bytes R.remaining self.old ≡ true → HandsOut (bytes_left R.remaining self.old) (bytes_left R.remaining self.new) result buf.new }
+        ensures honest { tells_bytes R.remaining self.old ≡ true → tells_bytes R.remaining self.new ≡ true }
+        ensures failures { CountsFailure (failure_count self.old) (failure_count self.new) result }
+
+        // Once it has ended, the reader is left alone.
+        ensures over { has_ended self.old ≡ true → (result ≡ Ok 0) × (self.new ≡ self.old) }
+        ensures ends { IfOk result (λ n. 0 < length buf.old → (IsTrue (has_ended self.new) ↔ (n ≡ 0))) }
+        ensures no_room { length buf.old ≡ 0 → has_ended self.new ≡ has_ended self.old }
+        ensures goes_on { OnErr result (has_ended self.new ≡ false) }
+    {
+        if self.has_ended {
+            return Ok(0);
+        }
+        match self.reader.read(buf) {
+            Ok(n) => {
+                self.has_ended = n == 0 && !buf.is_empty();
+                Ok(n)
+            }
+            Err(_) => {
+                self.failures = self.failures.wrapping_add(1);
+                Err(SourceFault)
+            }
+        }
+    }
+}
+
+#[cfg(test)]
+mod tests {
+    use super::*;
+    use std::io;
+    use std::io::ErrorKind;
+
+    /// A reader that gives a byte at each read, but fails at the second and the third and says at the
+    /// fifth that it has no more.
+    #[derive(Drop)]
+    struct Stutters {
+        reads: u8,
+    }
+
+    impl Read for Stutters {
+        fn read(&mut self, buf: &mut [u8]) -> io::Result<usize> {
+            self.reads = self.reads.wrapping_add(1);
+            match self.reads {
+                2 => Err(io::Error::from(ErrorKind::Interrupted)),
+                3 => Err(io::Error::from(ErrorKind::InvalidData)),
+                5 => Ok(0),
+                reads => {
+                    if buf.is_empty() {
+                        return Ok(0);
+                    }
+                    buf[0] = reads;
+                    Ok(1)
+                }
+            }
+        }
+    }
+
+    #[test]
+    fn reads_memory(rt: HostRuntime) {
+        let mut source = FromRead::new(b"abc".as_slice());
+        let mut buf = [0; 2];
+        assert_eq!(rt; source.read(&mut buf), Ok(2));
+        assert_eq!(rt; buf, *b"ab");
+        assert_eq!(rt; source.read(&mut buf), Ok(1));
+        assert_eq!(rt; buf[0], b'c');
+        assert_eq!(rt; source.read(&mut buf), Ok(0));
+    }
+
+    #[test]
+    fn errors_are_faults_and_the_end_is_for_good(rt: HostRuntime) {
+        let mut source = FromRead::new(Stutters { reads: 0 });
+        let mut buf = [0; 2];
+        assert_eq!(rt; source.read(&mut buf), Ok(1));
+        assert_eq!(rt; source.read(&mut buf), Err(SourceFault));
+        assert_eq!(rt; source.read(&mut buf), Err(SourceFault));
+        assert_eq!(rt; source.read(&mut buf), Ok(1));
+        assert_eq!(rt; buf[0], 4);
+        assert_eq!(rt; source.read(&mut buf), Ok(0));
+        assert_eq!(rt; source.read(&mut buf), Ok(0));
+    }
+}

@@ -1,0 +1,90 @@
+//! The plain builder: the file of a map as the definitions say it, level by level, in one thread.
+ghost use Rattle.std.specs.Prelude.{◌≡◌, ◌<◌, List, [], ◌∷◌, ◌++◌, length, IfOk, IfErr, OnErr};
+ghost use Rattle.prolly_entry.specs.declared.version.Version.TheVariants.{One};
+ghost use Rattle.prolly_entry.specs.Reference.{reference_of};
+ghost use Rattle.prolly_entry.specs.Chunk.{Chunk};
+ghost use Rattle.prolly_file.specs.Scratch.{Builds, IsScratchFault};
+
+use crate::levels::{all_chunks, first_fall};
+use crate::whole_file::append_file;
+use prolly_chunk::ChunkEvent;
+use prolly_entry::{Cut, Pair, Ref, Version};
+use std::alloc::{AllocError, Global};
+
+/// Why there is no file of pairs.
+#[derive(Clone, Copy, Debug, PartialEq, Eq)]
+pub enum ScratchFault {
+    /// Memory was refused.
+    Memory,
+    /// The key of this pair, counted from 0, is not greater than the one before. It is the first such
+    /// pair.
+    OutOfOrder { pair: usize },
+    /// The tree has more levels than are allowed.
+    TooTall,
+}
+
+impl From<AllocError> for ScratchFault {
+    ghost use Rattle.prolly_file.specs.declared.plain.ScratchFault.TheVariants.{Memory};
+
+    ghost from_gives = { λ _ fault. fault ≡ Memory };
+
+    fn from(_: AllocError) -> Self {
+        ScratchFault::Memory
+    }
+}
+
+/// Appends the chunk file, of version One, of the map that the pairs are, and answers the reference of
+/// its root. See [`scratch_as`].
+pub fn scratch<C: Cut>(
+    alloc: Global,
+    cut: C,
+    pairs: &[Pair],
+    max_levels: u8,
+    out: &mut Vec<u8>,
+) -> Result<Ref, ScratchFault>
+    ensures ok { IfOk result (λ root. Builds (C.cut cut) One pairs.now max_levels out.old.items out.new.items root.0) }
+    ensures err { IfErr result (λ fault. IsScratchFault (C.cut cut) One pairs.now max_levels fault) }
+    ensures unchanged { OnErr result (out.new.items ≡ out.old.items) }
+{
+    scratch_as(alloc, cut, Version::One, pairs, max_levels, out)
+}
+
+/// Appends the chunk file of the map that the pairs are, and answers the reference of its root. A pair
+/// out of order is told before a tree that has more than `max_levels` levels. After an `Err` the vector
+/// is as it was.
+///
+/// Hashes each entry and each chunk once. Beside the file it holds the chunks once more.
+pub fn scratch_as<C: Cut>(
+    alloc: Global,
+    cut: C,
+    version: Version,
+    pairs: &[Pair],
+    max_levels: u8,
+    out: &mut Vec<u8>,
+) -> Result<Ref, ScratchFault>
+    ensures ok { IfOk result (λ root. Builds (C.cut cut) version pairs.now max_levels out.old.items out.new.items root.0) }
+    ensures err { IfErr result (λ fault. IsScratchFault (C.cut cut) version pairs.now max_levels fault) }
+    ensures unchanged { OnErr result (out.new.items ≡ out.old.items) }
+{
+    if let Some(pair) = first_fall(pairs) {
+        return Err(ScratchFault::OutOfOrder { pair });
+    }
+    let chunks = match all_chunks(alloc, cut, version, pairs, max_levels) {
+        Ok(chunks) => chunks,
+        Err(fault) => return Err(fault),
+    };
+    let root = root_of(&chunks);
+    append_file(out, version, cut.bits(), &chunks, &root)?;
+    Ok(root)
+}
+
+/// The reference of the root, which is the last chunk.
+fn root_of(chunks: &[ChunkEvent]) -> Ref
+    requires { 0 < length chunks.now }
+    ensures { (before : List Chunk) (root : Chunk) → chunks.now ≡ before ++ root ∷ [] → result.0 ≡ reference_of root.bytes }
+{
+    chunks[chunks.len() - 1].reference()
+}
+
+#[cfg(test)]
+mod tests;

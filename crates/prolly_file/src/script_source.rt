@@ -1,0 +1,110 @@
+//! A source in memory that follows a script, for tests.
+ghost use Rattle.std.specs.Prelude.{◌≡◌, ◌≤◌, ◌<◌, ◌↔◌, Bool, true, length, take, drop, min, ◌++◌, not, is_some, Some, None, IsOk, IsErr, IfOk, OnErr};
+ghost use Rattle.prolly_file.specs.Failures.{CountsFailure};
+ghost use Rattle.prolly_file.specs.Script.{after_call};
+ghost use Rattle.prolly_file.specs.Source.{HandsOut};
+
+use crate::countdown::count_call;
+use crate::source::{Source, SourceFault};
+use std::marker::Model;
+
+/// Bytes in memory as a source, which gives a fixed number of them at a time and fails once, at a
+/// read of choice.
+#[derive(Drop)]
+pub struct ScriptSource {
+    bytes: Vec<u8>,
+    at: usize,
+    step: usize,
+    until_failure: Option<u64>,
+    failures: u64,
+}
+
+impl Model for ScriptSource {
+    ghost use Rattle.std.specs.Prelude.{◌≤◌, ◌<◌, drop, vec_len};
+    ghost use Rattle.prolly_file.specs.Script.{SourceScript};
+
+    ghost Value = { SourceScript };
+
+    ghost view = { λ s. record { left = drop s.at s.bytes.items; step = s.step; until_failure = s.until_failure; failures = s.failures } };
+
+    ghost invariant = { λ s. (s.at ≤ vec_len s.bytes) × (0 < s.step) };
+}
+
+impl ScriptSource {
+    /// Each read gives `step` bytes, or fewer where the buffer has less room or fewer are left. Read
+    /// number `fail_at`, counted from 1, fails, and no other; with `None` and 0 none does.
+    pub fn new(bytes: Vec<u8>, step: usize, fail_at: Option<u64>) -> ScriptSource
+        requires { 0 < step }
+        ensures { result ≡ record { left = bytes.items; step = step; until_failure = fail_at; failures = 0 } }
+    {
+        ScriptSource {
+            bytes,
+            at: 0,
+            step,
+            until_failure: fail_at,
+            failures: 0,
+        }
+    }
+}
+
+impl Source for ScriptSource {
+    ghost left = { λ s. s.left };
+
+    ghost failures = { λ s. s.failures };
+
+    ghost is_honest = { λ s. true };
+
+    ghost is_steady = { λ s. not (is_some s.until_failure) };
+
+    fn read(&mut self, buf: &mut [u8]) -> Result<usize, SourceFault>
+        ensures bound { IfOk result (λ n. n ≤ length buf.new) }
+        ensures bytes { HandsOut self.old.left self.new.left result buf.new }
+        ensures failures { CountsFailure self.old.failures self.new.failures result }
+
+        // It follows its script.
+        ensures fails { IsErr result ↔ (self.old.until_failure ≡ Some 1) }
+        ensures count { IfOk result (λ n. n ≡ min self.old.step (min (length buf.old) (length self.old.left))) }
+        ensures behind { IfOk result (λ n. drop n buf.new ≡ drop n buf.old) }
+        ensures err { OnErr result (buf.new ≡ buf.old) }
+        ensures step { self.new.step ≡ self.old.step }
+        ensures counted { self.new.until_failure ≡ after_call self.old.until_failure }
+    {
+        if count_call(&mut self.until_failure) {
+            self.failures = self.failures.wrapping_add(1);
+            return Err(SourceFault);
+        }
+        let count = copy_some(&self.bytes[self.at..], self.step, buf);
+        self.at += count;
+        Ok(count)
+    }
+}
+
+/// Copies `step` bytes, or as many as there are or have room, and answers how many.
+fn copy_some(from: &[u8], step: usize, to: &mut [u8]) -> usize
+    ensures count { result ≡ min step (min (length to.old) (length from.now)) }
+    ensures copied { to.new ≡ take result from.now ++ drop result to.old }
+{
+    let count = step.min(to.len().min(from.len()));
+    to[..count].copy_from_slice(&from[..count]);
+    count
+}
+
+#[cfg(test)]
+mod tests {
+    use super::*;
+    use std::test::Fail;
+
+    #[test]
+    fn gives_steps_and_fails_once(rt: HostRuntime) -> Result<(), Fail> {
+        let mut source = ScriptSource::new(b"abcde".to_vec(rt.alloc())?, 2, Some(3));
+        let mut buf = [0; 4];
+        assert_eq!(rt; source.read(&mut buf), Ok(2));
+        assert_eq!(rt; source.read(&mut buf[1..2]), Ok(1));
+        assert_eq!(rt; source.read(&mut buf), Err(SourceFault));
+        assert_eq!(rt; buf, *b"ac\0\0");
+        assert_eq!(rt; source.read(&mut buf), Ok(2));
+        assert_eq!(rt; source.read(&mut buf), Ok(0));
+        assert_eq!(rt; buf, *b"de\0\0");
+        Ok(())
+    }
+}

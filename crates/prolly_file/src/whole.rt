@@ -1,0 +1,105 @@
+//! Reading a source to its end.
+ghost use Rattle.std.specs.Prelude.{◌≡◌, ◌≢◌, ◌↔◌, ◌<◌, ◌≤◌, true, [], length, vec_len, IfOk, OnOk, IsErrOf};
+
+use crate::source::Source;
+use std::alloc::{AllocError, Global};
+
+/// How many bytes are asked for at a time.
+const PART_BYTES: usize = 65_536;
+
+/// Why a source was not read whole.
+#[derive(Clone, Copy, Debug, PartialEq, Eq)]
+pub enum WholeFault {
+    /// Memory was refused.
+    Memory,
+    /// The source failed.
+    Read,
+    /// The source has more bytes than are allowed.
+    TooLong,
+}
+
+impl From<AllocError> for WholeFault {
+    ghost use Rattle.prolly_file.specs.declared.whole.WholeFault.TheVariants.{Memory};
+
+    ghost from_gives = { λ _ fault. fault ≡ Memory };
+
+    fn from(_: AllocError) -> Self {
+        WholeFault::Memory
+    }
+}
+
+/// All the bytes that a source has left, of which at most `max_bytes` are allowed.
+///
+/// Answers the fault that is met first, in the order of the bytes; what was read before it is gone.
+/// Takes time linear in the bytes, and holds 64 KiB beside those that are answered.
+pub fn read_whole<S: Source>(
+    alloc: Global,
+    source: &mut S,
+    max_bytes: u32,
+) -> Result<Vec<u8>, WholeFault>
+    ensures whole { S.is_honest source.old ≡ true → IfOk result (λ bytes. bytes.items ≡ S.left source.old) }
+    ensures end { S.is_honest source.old ≡ true → OnOk result (S.left source.new ≡ []) }
+    ensures within { IfOk result (λ bytes. vec_len bytes ≤ max_bytes) }
+    ensures too_long { S.is_honest source.old ≡ true → IsErrOf result WholeFault.TooLong → max_bytes < length (S.left source.old) }
+    ensures read { IsErrOf result WholeFault.Read ↔ (S.failures source.new ≢ S.failures source.old) }
+    ensures unfailed { OnOk result (S.failures source.new ≡ S.failures source.old) }
+    ensures never { S.is_steady source.old ≡ true → S.failures source.new ≡ S.failures source.old }
+    ensures honest { S.is_honest source.old ≡ true → S.is_honest source.new ≡ true }
+    ensures steady { S.is_steady source.old ≡ true → S.is_steady source.new ≡ true }
+{
+    let mut whole = Vec::new(alloc);
+    let mut part = part_buffer(alloc)?;
+    loop {
+        let count = match source.read(&mut part) {
+            Ok(count) => count,
+            Err(_) => return Err(WholeFault::Read),
+        };
+        if count == 0 {
+            return Ok(whole);
+        }
+        if count > max_bytes as usize - whole.len() {
+            return Err(WholeFault::TooLong);
+        }
+        whole.extend_from_slice(&part[..count])?;
+    }
+}
+
+/// Room for a part.
+fn part_buffer(alloc: Global) -> Result<Vec<u8>, AllocError>
+    ensures { IfOk result (λ part. vec_len part ≡ PART_BYTES) }
+{
+    vec![in alloc; 0; PART_BYTES]
+}
+
+#[cfg(test)]
+mod tests {
+    use super::*;
+    use crate::from_read::FromRead;
+    use crate::script_source::ScriptSource;
+    use std::test::Fail;
+
+    #[test]
+    fn reads_to_the_end_or_the_limit(rt: HostRuntime) -> Result<(), Fail> {
+        let alloc = rt.alloc();
+        let bytes = b"abc".as_slice();
+        let whole = read_whole(alloc, &mut FromRead::new(bytes), 3);
+        assert_eq!(rt; whole.as_deref(), Ok(bytes));
+        let whole = read_whole(alloc, &mut FromRead::new(bytes), 2);
+        assert_eq!(rt; whole.err(), Some(WholeFault::TooLong));
+        let mut steps = ScriptSource::new(bytes.to_vec(alloc)?, 2, None);
+        assert_eq!(rt; read_whole(alloc, &mut steps, 3).as_deref(), Ok(bytes));
+        Ok(())
+    }
+
+    #[test]
+    fn answers_the_fault_that_comes_first(rt: HostRuntime) -> Result<(), Fail> {
+        let alloc = rt.alloc();
+        let mut failing = ScriptSource::new(b"abc".to_vec(alloc)?, 1, Some(3));
+        let whole = read_whole(alloc, &mut failing, 2);
+        assert_eq!(rt; whole.err(), Some(WholeFault::Read));
+        let mut failing = ScriptSource::new(b"abc".to_vec(alloc)?, 1, Some(3));
+        let whole = read_whole(alloc, &mut failing, 1);
+        assert_eq!(rt; whole.err(), Some(WholeFault::TooLong));
+        Ok(())
+    }
+}

@@ -1,0 +1,48 @@
+//! A whole chunk file in memory.
+ghost use Rattle.std.specs.Prelude.{◌≡◌, ◌++◌, length, take, OnOk, OnErr};
+ghost use Rattle.std.specs.List.{flat_map};
+ghost use Rattle.prolly_entry.specs.File.{header, frame, end_record};
+
+use crate::frame::{end_record, frame_start, header};
+use prolly_chunk::ChunkEvent;
+use prolly_entry::{Ref, Version};
+use std::alloc::AllocError;
+
+/// Appends a file of these chunks. An `Err` leaves the vector as it was.
+pub(crate) fn append_file(
+    out: &mut Vec<u8>,
+    version: Version,
+    bits: u8,
+    chunks: &[ChunkEvent],
+    root: &Ref,
+) -> Result<(), AllocError>
+    ensures ok { OnOk result (out.new.items ≡ out.old.items ++ (header version bits ++ flat_map frame chunks.now ++ end_record root.now.0 (length chunks.now))) }
+    ensures err { OnErr result (out.new.items ≡ out.old.items) }
+{
+    let start = out.len();
+    if append_parts(out, version, bits, chunks, root).is_err() {
+        out.truncate(start);
+        return Err(AllocError);
+    }
+    Ok(())
+}
+
+/// Appends the parts of a file; on refusal some of them.
+fn append_parts(
+    out: &mut Vec<u8>,
+    version: Version,
+    bits: u8,
+    chunks: &[ChunkEvent],
+    root: &Ref,
+) -> Result<(), AllocError>
+    ensures ok { OnOk result (out.new.items ≡ out.old.items ++ (header version bits ++ flat_map frame chunks.now ++ end_record root.now.0 (length chunks.now))) }
+    ensures err { take (length out.old.items) out.new.items ≡ out.old.items }
+{
+    out.extend_from_slice(&header(version, bits))?;
+    for chunk in chunks {
+        let bytes = chunk.bytes();
+        out.extend_from_slice(&frame_start(bytes.len() as u64))?;
+        out.extend_from_slice(bytes)?;
+    }
+    out.extend_from_slice(&end_record(root, chunks.len() as u64))
+}
