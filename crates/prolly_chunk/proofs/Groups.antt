@@ -1,5 +1,5 @@
 -- Groups with one entry more, and a split as its closed groups and the open one.
-use Rattle.std.proofs.Common.{◌≡◌, ℕ, ◌≤◌, Bool, true, false, ◌&&◌, nat_le, List, [], ◌∷◌, ◌++◌, length, Option, Some, None, if◌then◌else◌, refl, sym, ap, ◌∙◌, arith, length-append}
+use Rattle.std.proofs.Common.{◌≡◌, ℕ, Bool, true, ◌&&◌, nat_le, List, [], ◌∷◌, ◌++◌, length, Option, Some, None, if◌then◌else◌, refl, sym, ap, ◌∙◌, arith, length-append}
 use Rattle.std.proofs.lemmas.Bool.{le-leb}
 use Rattle.prolly_entry.specs.Split.{last_passes, is_closed, split, closed_groups, open_groups, open_entries}
 use Rattle.prolly_entry.proofs.Parts.{flat, as_group, parts, open_rest_of, split_parts, closed_parts, open_parts}

@@ -19,7 +19,7 @@ use Rattle.prolly_entry.proofs.Parts.{flat, as_group}
 use Rattle.prolly_entry.proofs.Splits.{split_splits}
 use Rattle.prolly_entry.proofs.Steps.{split_step}
 use Rattle.prolly_chunk.specs.Chunk.{empty_chunk, with_pair, has_entries}
-use Rattle.prolly_chunk.specs.LeafLevel.{LeafState, leaf_level, LeafTakes, LeafEnds}
+use Rattle.prolly_chunk.specs.LeafLevel.{LeafState, leaf_level, LeafBegins, LeafTakes, LeafEnds}
 use Rattle.prolly_chunk.proofs.Keys.{same_chunk}
 use Rattle.prolly_chunk.proofs.Groups.{some_if, has_entries-snoc, closed_by_any, in_parts}
 
@@ -88,11 +88,14 @@ leaf_step cut pairs p room =
     left true group more = refl
     left false group more = sym more
 
--- Of no pairs the level is as it begins.
+-- The level begins with an empty leaf.
 pub leaf_begins : {C : Type 0} (cut_of : C → Cut) (cut : C) (leaf : Chunk) → leaf ≡ empty_chunk 0 →
-    record { cut = cut; leaf = leaf; has_pairs = false } ≡ leaf_level cut_of cut []
+    LeafBegins cut_of cut (record { cut = cut; leaf = leaf; has_pairs = false })
 unfolding split
-leaf_begins cut_of cut leaf e = ap (λ l. record { cut = cut; leaf = l; has_pairs = false }) e
+leaf_begins cut_of cut leaf e = record {
+  state = ap (λ l. record { cut = cut; leaf = l; has_pairs = false }) e;
+  events = λ version. refl;
+}
 
 module _ {C : Type 0} (cut_of : C → Cut) where
   abbrev state : C → Chunk → Bool → LeafState C

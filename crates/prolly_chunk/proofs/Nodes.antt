@@ -1,9 +1,9 @@
 -- What an inner stage sends, and its open node, with one event more and at a clean end.
-use Rattle.std.proofs.Common.{◌≡◌, ℕ, zero, suc, ◌+◌, ◌-◌, ◌≤◌, Bool, true, false, cond, min, ◌&&◌, ◌==◌, nat_le, List, [], ◌∷◌, ◌++◌, length, map, Option, Some, None, refl, sym, ap, ◌∙◌, subst, arith, append-nil, length-append}
+use Rattle.std.proofs.Common.{◌≡◌, ℕ, zero, suc, ◌+◌, ◌-◌, ◌≤◌, Bool, true, false, cond, min, ◌&&◌, nat_le, List, [], ◌∷◌, ◌++◌, length, map, Option, None, refl, sym, ap, ◌∙◌, subst, arith, append-nil, length-append}
 use Rattle.std.proofs.lemmas.Grind.{flat_map-append}
 use Rattle.std.proofs.lemmas.List.Elements.{filter-append}
 use Rattle.std.proofs.lemmas.Bool.{le-leb, eq-eqb, ne_eqb}
-use Rattle.std.specs.List.{flat_map, filter}
+use Rattle.std.specs.List.{flat_map}
 use Rattle.std.specs.Option.{option_to_list}
 use Rattle.std.specs.Int.{w16, to_be_bytes}
 use Rattle.prolly_entry.specs.declared.version.Version.{Version}
@@ -16,9 +16,9 @@ use Rattle.prolly_entry.specs.Events.{clean, faulty, inner_events, events_above,
 use Rattle.prolly_entry.proofs.Parts.{as_group}
 use Rattle.prolly_entry.proofs.Steps.{split_step, stage_step}
 use Rattle.prolly_chunk.specs.declared.node.Received.{Received}
-use Rattle.prolly_chunk.specs.declared.node.Received.TheVariants.{Nothing, Single, Several}
+use Rattle.prolly_chunk.specs.declared.node.Received.TheVariants.{Nothing}
 use Rattle.prolly_chunk.specs.Chunk.{empty_chunk, with_child, has_entries}
-use Rattle.prolly_chunk.specs.NodeLevel.{NodeState, received_of, one_more, is_several, children_at, node_level, NodeTakes, NodeEnds}
+use Rattle.prolly_chunk.specs.NodeLevel.{NodeState, received_of, one_more, is_several, children_at, node_level, NodeBegins, NodeTakes, NodeEnds}
 use Rattle.prolly_chunk.proofs.Keys.{same_chunk}
 use Rattle.prolly_chunk.proofs.Groups.{some_if, closed_by_second, in_parts}
 
@@ -163,12 +163,12 @@ module _ {C : Type 0} (cut_of : C → Cut) where
   abbrev pub state : C → Version → Chunk → Received → NodeState C
   state cut version node received = record { cut = cut; version = version; node = node; received = received }
 
-  -- Of no events the level is as it begins.
+  -- The level begins with an empty node.
   pub node_begins : (cut : C) (version : Version) (level : ℕ) (node : Chunk) → node ≡ empty_chunk level →
-      state cut version node Nothing ≡ node_level cut_of cut version level []
+      NodeBegins cut_of cut version level (state cut version node Nothing)
   unfolding split
-  node_begins cut version zero node e = ap (λ n. state cut version n Nothing) e
-  node_begins cut version (suc below) node e = ap (λ n. state cut version n Nothing) e
+  node_begins cut version zero node e = record { state = ap (λ n. state cut version n Nothing) e; events = refl }
+  node_begins cut version (suc below) node e = record { state = ap (λ n. state cut version n Nothing) e; events = refl }
 
   -- What an event is to do to the level, where it is the one behind these events.
   abbrev Goes : C → Version → ℕ → List Chunk → Chunk → NodeState C → Option Chunk → Type 0

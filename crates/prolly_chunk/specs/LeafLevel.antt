@@ -25,6 +25,11 @@ leaf_level cut_of cut pairs = record {
   has_pairs = has_entries pairs;
 }
 
+-- The level begins as the one behind no pairs, of which the leaf stage sends nothing yet.
+pub record LeafBegins {C : Type 0} (cut_of : C → Cut) (cut : C) (level : LeafState C) : Type 0 where
+  pub state : level ≡ leaf_level cut_of cut []
+  pub events : (version : Version) → leaf_events (cut_of cut) version faulty [] ≡ []
+
 -- The level takes a pair, whatever pairs came before, and answers what the leaf stage sends for it.
 pub record LeafTakes {C : Type 0} (cut_of : C → Cut) (old new : LeafState C) (pair : Pair) (closed : Option Chunk) : Type 0 where
   pub state : (cut : C) (pairs : List Pair) → old ≡ leaf_level cut_of cut pairs → new ≡ leaf_level cut_of cut (pairs ++ pair ∷ [])

@@ -46,6 +46,11 @@ node_level cut_of cut version level events = record {
   received = received_of (children_at level events);
 }
 
+-- The level begins as the one behind no events, of which the inner stage sends nothing yet.
+pub record NodeBegins {C : Type 0} (cut_of : C → Cut) (cut : C) (version : Version) (level : ℕ) (begun : NodeState C) : Type 0 where
+  pub state : begun ≡ node_level cut_of cut version level []
+  pub events : inner_events level (cut_of cut) version faulty [] ≡ []
+
 -- The level takes an event, whatever events came before, and answers what the inner stage sends behind the event itself.
 pub record NodeTakes {C : Type 0} (cut_of : C → Cut) (old new : NodeState C) (event : Chunk) (closed : Option Chunk) : Type 0 where
   pub state : (cut : C) (version : Version) (level : ℕ) (events : List Chunk) → old ≡ node_level cut_of cut version level events →

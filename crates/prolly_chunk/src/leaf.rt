@@ -1,6 +1,6 @@
 //! The level of the leaves.
-ghost use Rattle.std.specs.Prelude.{◌≡◌, [], IfOk};
-ghost use Rattle.prolly_chunk.specs.LeafLevel.{leaf_level, LeafTakes, LeafEnds};
+ghost use Rattle.std.specs.Prelude.{IfOk};
+ghost use Rattle.prolly_chunk.specs.LeafLevel.{LeafBegins, LeafTakes, LeafEnds};
 
 use crate::chunk::Chunk;
 use crate::event::ChunkEvent;
@@ -27,7 +27,7 @@ impl<C: Cut> Model for LeafLevel<C> {
 impl<C: Cut> LeafLevel<C> {
     /// The level before the first pair. Takes memory for the first byte of a leaf.
     pub fn new(alloc: Global, cut: C) -> Result<LeafLevel<C>, AllocError>
-        ensures { IfOk result (λ level. level ≡ leaf_level C.cut cut []) }
+        ensures { IfOk result (LeafBegins C.cut cut) }
     {
         let leaf = Chunk::new(alloc, 0)?;
         Ok(LeafLevel {

@@ -1,6 +1,6 @@
 //! A level of nodes.
-ghost use Rattle.std.specs.Prelude.{◌≡◌, ◌≤◌, [], IfOk};
-ghost use Rattle.prolly_chunk.specs.NodeLevel.{node_level, NodeTakes, NodeEnds, one_more, is_several};
+ghost use Rattle.std.specs.Prelude.{◌≡◌, ◌≤◌, IfOk};
+ghost use Rattle.prolly_chunk.specs.NodeLevel.{NodeBegins, NodeTakes, NodeEnds, one_more, is_several};
 
 use crate::chunk::Chunk;
 use crate::event::ChunkEvent;
@@ -63,7 +63,7 @@ impl<C: Cut> NodeLevel<C> {
         cut: C,
     ) -> Result<NodeLevel<C>, AllocError>
         requires { 1 ≤ level }
-        ensures { IfOk result (λ n. n ≡ node_level C.cut cut version level []) }
+        ensures { IfOk result (NodeBegins C.cut cut version level) }
     {
         let node = Chunk::new(alloc, level)?;
         Ok(NodeLevel {

@@ -1,10 +1,14 @@
+ghost use Rattle.std.specs.Prelude.{◌≤◌};
+
 use super::*;
 use prolly_entry::{KeyCut, Pair, Ref, Version};
 use std::alloc::Global;
+use std::process::Abort;
 use std::test::Fail;
 
-/// The leaves of the keys a, b!, c, d! and e, each with the value 1: two that a boundary closes, and
-/// what is left.
+const KEYS: [&[u8]; 5] = [b"a", b"b!", b"c", b"d!", b"e"];
+
+/// The leaves of these keys, each with the value 1: two that a boundary closes, and what is left.
 const FIRST_LEAF: &[u8] = b"\0\0\x01a\0\0\0\x011\0\x02b!\0\0\0\x011";
 
 const SECOND_LEAF: &[u8] = b"\0\0\x01c\0\0\0\x011\0\x02d!\0\0\0\x011";
@@ -27,133 +31,126 @@ const LAST_REFERENCE: Ref = Ref([
     0xcf, 0x45, 0x43, 0x95,
 ]);
 
-/// Takes a key with the value 1.
-fn push(
-    alloc: Global,
-    leaves: &mut LeafLevel<KeyCut>,
-    key: &[u8],
-) -> Result<Option<ChunkEvent>, Fail> {
-    let pair = Pair::new(Vec::from_slice(alloc, key)?, Vec::from_slice(alloc, b"1")?)?;
-    Ok(leaves.push(alloc, &pair)?)
+/// What a level of leaves answers to keys, each with the value 1, and then at the end.
+fn leaf_answers(alloc: Global, keys: &[&[u8]]) -> Result<Vec<Option<ChunkEvent>>, Fail> {
+    let mut leaves = LeafLevel::new(alloc, KeyCut)?;
+    let mut answers = Vec::new(alloc);
+    for key in keys {
+        let pair = Pair::new(Vec::from_slice(alloc, key)?, Vec::from_slice(alloc, b"1")?)?;
+        answers.push(leaves.push(alloc, &pair)?)?;
+    }
+    answers.push(leaves.finish())?;
+    Ok(answers)
 }
 
-/// The events of the three leaves.
-fn leaf_events(alloc: Global) -> Result<Vec<ChunkEvent>, Fail> {
-    let mut leaves = LeafLevel::new(alloc, KeyCut)?;
-    let mut events = Vec::new(alloc);
-    for key in [b"a".as_slice(), b"b!", b"c", b"d!", b"e"] {
-        if let Some(event) = push(alloc, &mut leaves, key)? {
-            events.push(event)?;
+/// What a level of nodes answers to the events among those answers, and then at the end.
+fn node_answers(
+    alloc: Global,
+    version: Version,
+    level: u8,
+    below: &[Option<ChunkEvent>],
+) -> Result<Vec<Option<ChunkEvent>>, Fail>
+    requires { 1 ≤ level }
+{
+    let mut nodes = NodeLevel::new(alloc, version, level, KeyCut)?;
+    let mut answers = Vec::new(alloc);
+    for answer in below {
+        if let Some(event) = answer {
+            answers.push(nodes.push(alloc, event)?)?;
         }
     }
-    if let Some(event) = leaves.finish() {
-        events.push(event)?;
+    answers.push(nodes.finish())?;
+    Ok(answers)
+}
+
+/// The bytes of an answer's chunk, and none where it has no chunk.
+fn bytes_of(answer: &Option<ChunkEvent>) -> &[u8] {
+    match answer {
+        Some(event) => event.bytes(),
+        None => b"",
     }
-    Ok(events)
+}
+
+fn expect_bytes(rt: &impl Abort, answers: &[Option<ChunkEvent>], want: &[&[u8]]) {
+    assert_eq!(rt; answers.len(), want.len());
+    for (answer, want) in answers.iter().zip(want) {
+        assert_eq!(rt; bytes_of(answer), *want);
+    }
 }
 
 #[test]
 fn boundaries_close_leaves(rt: HostRuntime) -> Result<(), Fail> {
-    let alloc = rt.alloc();
-    let mut leaves = LeafLevel::new(alloc, KeyCut)?;
-    assert!(rt; push(alloc, &mut leaves, b"a")?.is_none());
-    let first = push(alloc, &mut leaves, b"b!")?.ok_or("open")?;
-    assert!(rt; push(alloc, &mut leaves, b"c")?.is_none());
-    let second = push(alloc, &mut leaves, b"d!")?.ok_or("open")?;
-    assert!(rt; push(alloc, &mut leaves, b"e")?.is_none());
-    let last = leaves.finish().ok_or("nothing left")?;
-    assert_eq!(rt; first.level(), 0);
-    assert_eq!(rt; first.key(), b"b!".as_slice());
-    assert_eq!(rt; first.count(), 2);
-    assert_eq!(rt; first.reference(), FIRST_REFERENCE);
-    assert_eq!(rt; first.bytes(), FIRST_LEAF);
-    assert_eq!(rt; second.reference(), SECOND_REFERENCE);
-    assert_eq!(rt; second.bytes(), SECOND_LEAF);
-    assert_eq!(rt; last.key(), b"e".as_slice());
-    assert_eq!(rt; last.into_bytes().as_slice(), LAST_LEAF);
+    let answers = leaf_answers(rt.alloc(), &KEYS)?;
+    expect_bytes(
+        &rt,
+        &answers,
+        &[b"", FIRST_LEAF, b"", SECOND_LEAF, b"", LAST_LEAF],
+    );
     Ok(())
 }
 
 #[test]
 fn no_pairs_are_one_leaf(rt: HostRuntime) -> Result<(), Fail> {
-    let leaf = LeafLevel::new(rt.alloc(), KeyCut)?
-        .finish()
-        .ok_or("no leaf")?;
-    assert_eq!(rt; leaf.bytes(), b"\0".as_slice());
-    assert_eq!(rt; leaf.key(), b"".as_slice());
-    assert_eq!(rt; leaf.count(), 0);
+    let answers = leaf_answers(rt.alloc(), &[])?;
+    expect_bytes(&rt, &answers, &[b"\0"]);
     Ok(())
 }
 
 #[test]
-fn nothing_is_left_behind_a_boundary(rt: HostRuntime) -> Result<(), Fail> {
-    let mut leaves = LeafLevel::new(rt.alloc(), KeyCut)?;
-    assert!(rt; push(rt.alloc(), &mut leaves, b"b!")?.is_some());
-    assert!(rt; leaves.finish().is_none());
+fn events_tell_of_their_chunk(rt: HostRuntime) -> Result<(), Fail> {
+    let answers = leaf_answers(rt.alloc(), &KEYS)?;
+    let Some(Some(event)) = answers.get(1) else {
+        return Err("open".into());
+    };
+    assert_eq!(rt; event.level(), 0);
+    assert_eq!(rt; event.key(), b"b!".as_slice());
+    assert_eq!(rt; event.count(), 2);
+    assert_eq!(rt; event.reference(), FIRST_REFERENCE);
     Ok(())
 }
 
 #[test]
 fn second_boundaries_close_nodes(rt: HostRuntime) -> Result<(), Fail> {
     let alloc = rt.alloc();
-    let events = leaf_events(alloc)?;
-    assert_eq!(rt; events.len(), 3);
-    let mut nodes = NodeLevel::new(alloc, Version::One, 1, KeyCut)?;
-    assert!(rt; nodes.push(alloc, &events[0])?.is_none());
-    let node = nodes.push(alloc, &events[1])?.ok_or("open")?;
-    assert!(rt; nodes.push(alloc, &events[2])?.is_none());
-    let last = nodes.finish().ok_or("nothing left")?;
+    let mut node = b"\x01\0\x02b!".to_vec(alloc)?;
+    node.extend_from_slice(&FIRST_REFERENCE.0)?;
+    node.extend_from_slice(b"\0\x02d!")?;
+    node.extend_from_slice(&SECOND_REFERENCE.0)?;
+    let mut last = b"\x01\0\x01e".to_vec(alloc)?;
+    last.extend_from_slice(&LAST_REFERENCE.0)?;
 
-    let mut bytes = b"\x01\0\x02b!".to_vec(alloc)?;
-    bytes.extend_from_slice(&FIRST_REFERENCE.0)?;
-    bytes.extend_from_slice(b"\0\x02d!")?;
-    bytes.extend_from_slice(&SECOND_REFERENCE.0)?;
-    assert_eq!(rt; node.bytes(), bytes.as_slice());
-    assert_eq!(rt; node.level(), 1);
-    assert_eq!(rt; node.key(), b"d!".as_slice());
-    assert_eq!(rt; node.count(), 4);
-
-    let mut bytes = b"\x01\0\x01e".to_vec(alloc)?;
-    bytes.extend_from_slice(&LAST_REFERENCE.0)?;
-    assert_eq!(rt; last.bytes(), bytes.as_slice());
-    assert_eq!(rt; last.count(), 1);
+    let answers = node_answers(alloc, Version::One, 1, &leaf_answers(alloc, &KEYS)?)?;
+    expect_bytes(&rt, &answers, &[b"", &node, b"", &last]);
     Ok(())
 }
 
 #[test]
 fn version_two_counts_in_its_entries(rt: HostRuntime) -> Result<(), Fail> {
     let alloc = rt.alloc();
-    let events = leaf_events(alloc)?;
-    assert_eq!(rt; events.len(), 3);
-    let mut nodes = NodeLevel::new(alloc, Version::Two, 1, KeyCut)?;
-    assert!(rt; nodes.push(alloc, &events[2])?.is_none());
-    let node = nodes.push(alloc, &events[0])?.ok_or("open")?;
-    let bytes = node.bytes();
-    assert_eq!(rt; bytes.len(), 64);
-    assert_eq!(rt; &bytes[24..32], b"\0\0\0\0\0\0\0\x01".as_slice());
-    assert_eq!(rt; &bytes[56..], b"\0\0\0\0\0\0\0\x02".as_slice());
-    assert_eq!(rt; node.count(), 3);
+    let mut last = b"\x01\0\x01e".to_vec(alloc)?;
+    last.extend_from_slice(&LAST_REFERENCE.0)?;
+    last.extend_from_slice(b"\0\0\0\0\0\0\0\x01")?;
+
+    let answers = node_answers(alloc, Version::Two, 1, &leaf_answers(alloc, &KEYS)?)?;
+    let Some(Some(event)) = answers.get(3) else {
+        return Err("nothing left".into());
+    };
+    assert_eq!(rt; event.bytes(), last.as_slice());
     Ok(())
 }
 
 #[test]
 fn a_single_event_needs_no_node(rt: HostRuntime) -> Result<(), Fail> {
     let alloc = rt.alloc();
-    let events = leaf_events(alloc)?;
-    assert_eq!(rt; events.len(), 3);
-    let mut nodes = NodeLevel::new(alloc, Version::One, 1, KeyCut)?;
-    assert!(rt; nodes.push(alloc, &events[0])?.is_none());
-    assert!(rt; nodes.finish().is_none());
+    let answers = node_answers(alloc, Version::One, 1, &leaf_answers(alloc, &[b"a"])?)?;
+    expect_bytes(&rt, &answers, &[b"", b""]);
     Ok(())
 }
 
 #[test]
 fn events_of_other_levels_pass_by(rt: HostRuntime) -> Result<(), Fail> {
     let alloc = rt.alloc();
-    let mut nodes = NodeLevel::new(alloc, Version::One, 2, KeyCut)?;
-    for event in &leaf_events(alloc)? {
-        assert!(rt; nodes.push(alloc, event)?.is_none());
-    }
-    assert!(rt; nodes.finish().is_none());
+    let answers = node_answers(alloc, Version::One, 2, &leaf_answers(alloc, &KEYS)?)?;
+    expect_bytes(&rt, &answers, &[b"", b"", b"", b""]);
     Ok(())
 }

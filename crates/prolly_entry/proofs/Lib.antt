@@ -32,4 +32,3 @@ pub mod Digits
 pub mod Powers
 pub mod Digests
 pub mod Texts
-pub mod Nothing

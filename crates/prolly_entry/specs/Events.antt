@@ -110,11 +110,6 @@ FaultSendsPrefix cut version =
     × ((closing : Closing) (level : ℕ) (prefix more : List Chunk) →
     IsPrefix (inner_events level cut version faulty prefix) (inner_events level cut version closing (prefix ++ more)))
 
--- Law: before anything came, a stage has sent nothing.
-abbrev pub NothingOfNothing : Cut → Version → Type 0
-NothingOfNothing cut version =
-    (leaf_events cut version faulty [] ≡ []) × ((level : ℕ) → inner_events level cut version faulty [] ≡ [])
-
 -- Law: what one more event adds to what a stage has sent, and what a clean end adds.
 abbrev pub StageStep : (Chunk → Bool) → (List Chunk → Chunk) → ℕ → List Chunk → Chunk → Type 0
 StageStep is_boundary event_of below events e =

@@ -1,4 +1,3 @@
-pub mod Slices
 pub mod ScriptReads
 pub mod Written
 pub mod Rises

@@ -1,5 +1,5 @@
 -- The levels of a tree, and its file.
-use Rattle.std.proofs.Common.{◌≡◌, ℕ, suc, ◌+◌, ◌<◌, ◌≤◌, ◌^◌, ◌↔◌, List, [], ◌∷◌, ◌++◌, length, inl, inr, refl, sym, ap, ◌∙◌, subst, arith}
+use Rattle.std.proofs.Common.{◌≡◌, ℕ, suc, ◌<◌, ◌≤◌, ◌^◌, List, [], ◌∷◌, ◌++◌, length, inl, inr, refl, sym, ap, ◌∙◌, subst, arith}
 use Rattle.std.proofs.lemmas.Bool.{cases_lt}
 use Rattle.std.proofs.lemmas.List.{length-append}
 use Rattle.std.specs.List.{flat_map}
@@ -10,7 +10,7 @@ use Rattle.prolly_entry.specs.Cut.{Cut}
 use Rattle.prolly_entry.specs.Reference.{reference_of}
 use Rattle.prolly_entry.specs.Tree.{tree_of, level_count}
 use Rattle.prolly_entry.specs.Chunk.{Chunk, chunk_of, chunks}
-use Rattle.prolly_entry.specs.File.{header, frame, end_record, file, root_reference}
+use Rattle.prolly_entry.specs.File.{header, frame, end_record, root_reference}
 use Rattle.prolly_entry.specs.Events.{clean}
 use Rattle.prolly_entry.specs.Pipeline.{pipeline_events, HasSecond}
 use Rattle.prolly_entry.proofs.Composition.{composition, enough_stages}

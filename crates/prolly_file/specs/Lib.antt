@@ -3,6 +3,7 @@ pub mod Known
 pub mod Source
 pub mod FromRead
 pub mod Sink
+pub mod ToWrite
 pub mod Script
 pub mod Frame
 pub mod Writer

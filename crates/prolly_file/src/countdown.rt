@@ -1,5 +1,5 @@
 //! The call of a script that fails.
-ghost use Rattle.std.specs.Prelude.{◌≡◌, ◌↔◌, Some, IsTrue};
+ghost use Rattle.std.specs.Prelude.{◌≡◌, ◌↔◌, IsTrue};
 ghost use Rattle.prolly_file.specs.Script.{after_call};
 
 /// Counts one call towards the one that fails, and answers whether this is it. It fails once.

@@ -23,4 +23,4 @@ pub use sink::{Sink, SinkFault};
 pub use source::{Source, SourceFault};
 pub use to_write::ToWrite;
 pub use whole::{WholeFault, read_whole};
-pub use writer::{FileWriter, WriteFault};
+pub use writer::{FileWriter, WriteFault, write_whole};

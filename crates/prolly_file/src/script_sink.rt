@@ -1,5 +1,5 @@
 //! A sink in memory that follows a script, for tests.
-ghost use Rattle.std.specs.Prelude.{◌≡◌, ◌≤◌, ◌↔◌, Bool, true, [], length, min, Some, IsErr, IfOk, MatchResult};
+ghost use Rattle.std.specs.Prelude.{◌≡◌, ◌≤◌, ◌↔◌, true, [], length, min, IsErr, IfOk};
 ghost use Rattle.prolly_file.specs.Failures.{CountsFailure};
 ghost use Rattle.prolly_file.specs.Script.{after_call};
 ghost use Rattle.prolly_file.specs.Sink.{Takes, CountsWriteFailure};

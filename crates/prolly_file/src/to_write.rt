@@ -30,11 +30,13 @@ impl<W: Write> ToWrite<W> {
 }
 
 impl<W: Write> Sink for ToWrite<W> {
-    ghost taken = { λ s. known_bytes (W.contents s.writer) };
+    ghost use Rattle.prolly_file.specs.ToWrite.{bytes_taken, tells_bytes, failure_count};
 
-    ghost failures = { λ s. s.failures };
+    ghost taken = { bytes_taken W.contents };
 
-    ghost is_keeping = { λ s. is_some (W.contents s.writer) };
+    ghost failures = { failure_count };
+
+    ghost is_keeping = { tells_bytes W.contents };
 
     fn write(&mut self, buf: &[u8]) -> Result<usize, SinkFault> {
         match self.writer.write(buf) {

@@ -1,5 +1,5 @@
 //! The writer of a chunk file.
-ghost use Rattle.std.specs.Prelude.{◌≡◌, ◌≢◌, ◌↔◌, ◌<◌, true, false, [], ◌++◌, length, IsErr, OnOk, OnErr, IfOk};
+ghost use Rattle.std.specs.Prelude.{◌≡◌, ◌≢◌, ◌↔◌, ◌<◌, true, false, [], ◌++◌, IsErr, OnOk, OnErr, IfOk};
 ghost use Rattle.prolly_entry.specs.declared.version.Version.TheVariants.{One};
 ghost use Rattle.prolly_entry.specs.Events.{greatest_count};
 ghost use Rattle.prolly_entry.specs.File.{header, end_record};
@@ -123,14 +123,25 @@ impl FileWriter {
         ensures faulty { self.has_failed ≡ true → IsErr result }
         ensures alone { self.has_failed ≡ true → sink.new ≡ sink.old }
     {
-        if self.has_failed
-            || write_all(sink, &end_record(root, self.chunks)).is_err()
-            || sink.flush().is_err()
-        {
+        if self.has_failed || write_whole(sink, &end_record(root, self.chunks)).is_err() {
             return Err(WriteFault);
         }
         Ok(self.chunks)
     }
+}
+
+/// Writes all of these bytes, and flushes the sink.
+pub fn write_whole<W: Sink>(sink: &mut W, bytes: &[u8]) -> Result<(), WriteFault>
+    ensures written { W.is_keeping sink.old ≡ true → OnOk result (W.taken sink.new ≡ W.taken sink.old ++ bytes.now) }
+    ensures part { W.is_keeping sink.old ≡ true → OnErr result (TakesPrefix (W.taken sink.old) (W.taken sink.new) bytes.now) }
+    ensures fault { IsErr result ↔ (W.failures sink.new ≢ W.failures sink.old) }
+    ensures failures { CountsFailure (W.failures sink.old) (W.failures sink.new) result }
+    ensures keeping { W.is_keeping sink.old ≡ true → W.is_keeping sink.new ≡ true }
+{
+    if write_all(sink, bytes).is_err() || sink.flush().is_err() {
+        return Err(WriteFault);
+    }
+    Ok(())
 }
 
 /// Writes the frame of a chunk, its start and then its bytes.

@@ -5,7 +5,7 @@ ghost use Rattle.prolly_entry.specs.Pair.{Pair};
 ghost use Rattle.prolly_entry.specs.Cut.{Cut};
 ghost use Rattle.prolly_entry.specs.Tree.{level_count};
 ghost use Rattle.prolly_entry.specs.Chunk.{Chunk};
-ghost use Rattle.prolly_entry.specs.Events.{FaultSendsPrefix, NothingOfNothing, StageStep};
+ghost use Rattle.prolly_entry.specs.Events.{FaultSendsPrefix, StageStep};
 ghost use Rattle.prolly_entry.specs.Pipeline.{StagesMakeTree, EnoughStages, WriterTakesPrefix};
 
 /// The stages, one behind another, make the tree.
@@ -23,11 +23,6 @@ pub fn enough_stages_send_the_file()
 /// What a stage sends at a fault is a prefix of what it sends of a longer input.
 pub fn faults_send_a_prefix()
     ensures { (cut : Cut) (version : Version) → FaultSendsPrefix cut version }
-{}
-
-/// A stage begins with nothing sent.
-pub fn nothing_comes_of_nothing()
-    ensures { (cut : Cut) (version : Version) → NothingOfNothing cut version }
 {}
 
 /// What a stage sends goes on event by event.

@@ -1,4 +1,4 @@
-use Rattle.std.proofs.Common.{rules, arith, sym, ap, ◌∙◌}
+use Rattle.std.proofs.Common.{rules, arith}
 use Rattle.prolly_file.proofs.Rises.{rises_on, falls_there}
 use Rattle.prolly_file.proofs.levels.first_fall.Goals as goal
 

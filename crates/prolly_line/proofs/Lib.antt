@@ -1,0 +1,9 @@
+mod Levels
+mod LineLemmas
+mod LineSteps
+mod Names
+mod Passes
+mod Presence
+mod Shapes
+mod Stops
+mod ValueLemmas

@@ -1,0 +1,207 @@
+-- The subcommands as clap builds them, and what stands in the rows of each where clap takes the words.
+use Rattle.std.proofs.Common.{◌≡◌, List, Some, refl, codes}
+use Rattle.clap.specs.Simple.{App, Shape, built_leaf, inherited, marked_built, with_leaf_noted}
+use Rattle.clap.specs.Walk.{Row}
+use Rattle.clap.proofs.OnLiterals.{clap_on_literals}
+use Rattle.prolly_line.proofs.Levels.{IsLevelOf, level_at, number_at, shape_at, word_at}
+use Rattle.prolly_line.proofs.Passes.{Each, IsSound}
+use Rattle.prolly_line.specs.Accepted.{HasNumber, HasWord, IsAccepted}
+use Rattle.prolly_line.specs.Line.{build_line, check_line, get_line, nth_line, pack_line, program_line, scan_line, scratch_line}
+
+-- a subcommand as it is built under the program's line
+abbrev built_of : App → Shape
+built_of line = built_leaf (inherited (with_leaf_noted (marked_built program_line.top)) line.top)
+
+-- each argument is the one of its id
+abbrev IsSoundShape : Shape → Type 0
+IsSoundShape s = Each (IsSound s.rules) s.rules
+
+-- ---- pack
+
+unfoldable pack_shape : Shape
+pack_shape = built_of pack_line
+
+pack_found : shape_at (codes "pack") ≡ Some pack_shape
+unfolding clap_on_literals pack_shape
+pack_found = refl
+
+pack_sound : IsSoundShape pack_shape
+unfolding clap_on_literals pack_shape
+pack_sound = ((refl, refl), ((refl, refl), tt))
+
+pub record TakesPack (rows : List Row) : Type 0 where
+  pub out : HasWord (codes "out") rows
+
+pub takes_pack : (rows : List Row) → IsAccepted (codes "pack", rows) → TakesPack rows
+unfolding clap_on_literals pack_shape
+takes_pack rows accepted =
+    let level = level_at (codes "pack") pack_shape rows pack_found accepted in
+    record {
+      out = word_at pack_shape rows (codes "out") pack_sound level refl refl;
+    }
+
+-- ---- scratch
+
+unfoldable scratch_shape : Shape
+scratch_shape = built_of scratch_line
+
+scratch_found : shape_at (codes "scratch") ≡ Some scratch_shape
+unfolding clap_on_literals scratch_shape
+scratch_found = refl
+
+scratch_sound : IsSoundShape scratch_shape
+unfolding clap_on_literals scratch_shape
+scratch_sound = ((refl, refl), ((refl, refl), ((refl, refl), ((refl, refl), tt))))
+
+pub record TakesScratch (rows : List Row) : Type 0 where
+  pub bits : HasNumber (codes "bits") 0 24 rows
+  pub format : HasNumber (codes "format") 1 2 rows
+
+pub takes_scratch : (rows : List Row) → IsAccepted (codes "scratch", rows) → TakesScratch rows
+unfolding clap_on_literals scratch_shape
+takes_scratch rows accepted =
+    let level = level_at (codes "scratch") scratch_shape rows scratch_found accepted in
+    record {
+      bits = number_at scratch_shape rows (codes "bits") 0 24 scratch_sound level refl refl;
+      format = number_at scratch_shape rows (codes "format") 1 2 scratch_sound level refl refl;
+    }
+
+-- ---- build
+
+unfoldable build_shape : Shape
+build_shape = built_of build_line
+
+build_found : shape_at (codes "build") ≡ Some build_shape
+unfolding clap_on_literals build_shape
+build_found = refl
+
+build_sound : IsSoundShape build_shape
+unfolding clap_on_literals build_shape
+build_sound = ((refl, refl), ((refl, refl), ((refl, refl), ((refl, refl), ((refl, refl), ((refl, refl), ((refl, refl), ((refl, refl), ((refl, refl), tt)))))))))
+
+pub record TakesBuild (rows : List Row) : Type 0 where
+  pub bits : HasNumber (codes "bits") 0 24 rows
+  pub stages : HasNumber (codes "stages") 1 12 rows
+  pub capacity : HasNumber (codes "capacity") 1 4096 rows
+  pub max_records : HasNumber (codes "max-records") 1 16777216 rows
+  pub batch : HasNumber (codes "batch") 1 1024 rows
+  pub format : HasNumber (codes "format") 1 2 rows
+  pub out : HasWord (codes "out") rows
+
+pub takes_build : (rows : List Row) → IsAccepted (codes "build", rows) → TakesBuild rows
+unfolding clap_on_literals build_shape
+takes_build rows accepted =
+    let level = level_at (codes "build") build_shape rows build_found accepted in
+    record {
+      bits = number_at build_shape rows (codes "bits") 0 24 build_sound level refl refl;
+      stages = number_at build_shape rows (codes "stages") 1 12 build_sound level refl refl;
+      capacity = number_at build_shape rows (codes "capacity") 1 4096 build_sound level refl refl;
+      max_records = number_at build_shape rows (codes "max-records") 1 16777216 build_sound level refl refl;
+      batch = number_at build_shape rows (codes "batch") 1 1024 build_sound level refl refl;
+      format = number_at build_shape rows (codes "format") 1 2 build_sound level refl refl;
+      out = word_at build_shape rows (codes "out") build_sound level refl refl;
+    }
+
+-- ---- check
+
+unfoldable check_shape : Shape
+check_shape = built_of check_line
+
+check_found : shape_at (codes "check") ≡ Some check_shape
+unfolding clap_on_literals check_shape
+check_found = refl
+
+check_sound : IsSoundShape check_shape
+unfolding clap_on_literals check_shape
+check_sound = ((refl, refl), ((refl, refl), tt))
+
+pub record TakesCheck (rows : List Row) : Type 0 where
+  pub file : HasWord (codes "file") rows
+
+pub takes_check : (rows : List Row) → IsAccepted (codes "check", rows) → TakesCheck rows
+unfolding clap_on_literals check_shape
+takes_check rows accepted =
+    let level = level_at (codes "check") check_shape rows check_found accepted in
+    record {
+      file = word_at check_shape rows (codes "file") check_sound level refl refl;
+    }
+
+-- ---- get
+
+unfoldable get_shape : Shape
+get_shape = built_of get_line
+
+get_found : shape_at (codes "get") ≡ Some get_shape
+unfolding clap_on_literals get_shape
+get_found = refl
+
+get_sound : IsSoundShape get_shape
+unfolding clap_on_literals get_shape
+get_sound = ((refl, refl), ((refl, refl), ((refl, refl), tt)))
+
+pub record TakesGet (rows : List Row) : Type 0 where
+  pub file : HasWord (codes "file") rows
+  pub key : HasWord (codes "key") rows
+
+pub takes_get : (rows : List Row) → IsAccepted (codes "get", rows) → TakesGet rows
+unfolding clap_on_literals get_shape
+takes_get rows accepted =
+    let level = level_at (codes "get") get_shape rows get_found accepted in
+    record {
+      file = word_at get_shape rows (codes "file") get_sound level refl refl;
+      key = word_at get_shape rows (codes "key") get_sound level refl refl;
+    }
+
+-- ---- scan
+
+unfoldable scan_shape : Shape
+scan_shape = built_of scan_line
+
+scan_found : shape_at (codes "scan") ≡ Some scan_shape
+unfolding clap_on_literals scan_shape
+scan_found = refl
+
+scan_sound : IsSoundShape scan_shape
+unfolding clap_on_literals scan_shape
+scan_sound = ((refl, refl), ((refl, refl), ((refl, refl), ((refl, refl), tt))))
+
+pub record TakesScan (rows : List Row) : Type 0 where
+  pub file : HasWord (codes "file") rows
+  pub key : HasWord (codes "key") rows
+  pub limit : HasNumber (codes "limit") 0 1000000 rows
+
+pub takes_scan : (rows : List Row) → IsAccepted (codes "scan", rows) → TakesScan rows
+unfolding clap_on_literals scan_shape
+takes_scan rows accepted =
+    let level = level_at (codes "scan") scan_shape rows scan_found accepted in
+    record {
+      file = word_at scan_shape rows (codes "file") scan_sound level refl refl;
+      key = word_at scan_shape rows (codes "key") scan_sound level refl refl;
+      limit = number_at scan_shape rows (codes "limit") 0 1000000 scan_sound level refl refl;
+    }
+
+-- ---- nth
+
+unfoldable nth_shape : Shape
+nth_shape = built_of nth_line
+
+nth_found : shape_at (codes "nth") ≡ Some nth_shape
+unfolding clap_on_literals nth_shape
+nth_found = refl
+
+nth_sound : IsSoundShape nth_shape
+unfolding clap_on_literals nth_shape
+nth_sound = ((refl, refl), ((refl, refl), ((refl, refl), tt)))
+
+pub record TakesNth (rows : List Row) : Type 0 where
+  pub file : HasWord (codes "file") rows
+  pub n : HasNumber (codes "n") 0 4294967295 rows
+
+pub takes_nth : (rows : List Row) → IsAccepted (codes "nth", rows) → TakesNth rows
+unfolding clap_on_literals nth_shape
+takes_nth rows accepted =
+    let level = level_at (codes "nth") nth_shape rows nth_found accepted in
+    record {
+      file = word_at nth_shape rows (codes "file") nth_sound level refl refl;
+      n = number_at nth_shape rows (codes "n") 0 4294967295 nth_sound level refl refl;
+    }

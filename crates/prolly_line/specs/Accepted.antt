@@ -1,0 +1,42 @@
+-- What stands in the rows of a subcommand whose words clap takes, and what is made of them.
+use Rattle.std.specs.Prelude.{◌≡◌, ◌≤◌, ⊤, ℕ, pos, Result, MatchResult, Some, List, []}
+use Rattle.clap.specs.Values.{IsSignedIn}
+use Rattle.clap.specs.Words.{Row, Text, first_of, one_of, without_minus}
+use Rattle.prolly_line.specs.Line.{line_faults, line_given}
+use Rattle.prolly_line.specs.Given.{GivesBadKey, GivesNumber, HasBadKey, HasFields}
+use Rattle.prolly_line.specs.declared.command.Command.{Command}
+use Rattle.prolly_line.specs.declared.command.ParseFault.{ParseFault}
+use Rattle.prolly_line.specs.declared.command.ParseFault.TheVariants.{Memory, Usage, Help, BadKey}
+
+-- clap takes some words that name this subcommand and give it these rows
+abbrev pub IsAccepted : Text × List Row → Type 0
+IsAccepted given = (words : List Text) × (line_faults words ≡ []) × (line_given words ≡ Some given)
+
+-- a numeral from least to most stands under this name
+abbrev pub HasNumber : Text → ℕ → ℕ → List Row → Type 0
+HasNumber name least most rows =
+    (text : Text) × (one_of name rows ≡ Some (without_minus text)) × IsSignedIn (pos least) (pos most) text
+
+-- the number under this name, in each range up to a bound in which the numeral lies
+abbrev pub ReadsNumber : ℕ → Text → List Row → ℕ → Type 0
+ReadsNumber bound name rows n = (least most : ℕ) → most ≤ bound → HasNumber name least most rows → GivesNumber rows name least most n
+
+-- a word stands under this name
+abbrev pub HasWord : Text → List Row → Type 0
+HasWord name rows = (text : Text) × (first_of name rows ≡ Some text)
+
+-- an accepted subcommand is refused in this way
+abbrev pub IsRefusedAt : Text × List Row → ParseFault → Type 0
+IsRefusedAt given Memory = ⊤
+IsRefusedAt given BadKey = HasBadKey given
+IsRefusedAt given _ = ⊥
+
+-- the answer to an accepted subcommand
+abbrev pub Answers : Text × List Row → Result Command ParseFault → Type 0
+Answers given answer = MatchResult answer (λ command. HasFields command given) (IsRefusedAt given)
+
+-- the word for the key is refused in this way
+abbrev pub IsRefusedKey : List Row → ParseFault → Type 0
+IsRefusedKey rows Memory = ⊤
+IsRefusedKey rows BadKey = GivesBadKey rows
+IsRefusedKey rows _ = ⊥

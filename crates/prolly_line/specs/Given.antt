@@ -1,0 +1,100 @@
+-- Which command the words give, and how they are refused.
+use Rattle.std.specs.Prelude.{◌≡◌, ◌≢◌, ◌≤◌, ⊤, ℕ, ◌⊎◌, Ok, Option, Some, List, [], length, map, option_map, string_bytes, codes, unwrap_or}
+use Rattle.hex.specs.Hex.{decode_of}
+use Rattle.std.specs.Str.Parse.{digits_value, without_leading_plus}
+use Rattle.clap.specs.Words.{IsAmong, Row, Text, all_of, first_of, one_of}
+use Rattle.clap.specs.declared.error.kind.ErrorKind.{ErrorKind}
+use Rattle.clap.specs.declared.error.kind.ErrorKind.TheVariants.{DisplayHelp, OutOfMemory}
+use Rattle.prolly_line.specs.Line.{line_faults, line_given}
+use Rattle.prolly_line.specs.declared.command.Command.{Command}
+use Rattle.prolly_line.specs.declared.command.Command.TheVariants.{Pack, Scratch, Build, Check, Get, Scan, Nth}
+use Rattle.prolly_line.specs.declared.command.ParseFault.{ParseFault}
+use Rattle.prolly_line.specs.declared.command.ParseFault.TheVariants.{Memory, Usage, Help, BadKey}
+
+-- ---- what the rows of a subcommand give
+
+-- the number that a text writes in decimal
+abbrev pub decimal_of : Text → ℕ
+decimal_of text = digits_value 10 (without_leading_plus text)
+
+-- the number under a name, where the words or its default give one
+abbrev pub number_given : Text → List Row → Option ℕ
+number_given name rows = option_map decimal_of (one_of name rows)
+
+-- the number under a name, which lies from least to most
+abbrev pub GivesNumber : List Row → Text → ℕ → ℕ → ℕ → Type 0
+GivesNumber rows name least most n = (number_given name rows ≡ Some n) × (least ≤ n) × (n ≤ most)
+
+-- the word under a name, as it stands
+abbrev pub GivesWord : List Row → Text → Text → Type 0
+GivesWord rows name word = first_of name rows ≡ Some word
+
+-- the word under a name, as it stands, or none where the words have none
+abbrev pub GivesOption : List Row → Text → Option Text → Type 0
+GivesOption rows name word = first_of name rows ≡ word
+
+-- all the words under a name, as they stand and in order
+abbrev pub GivesWords : List Row → Text → List Text → Type 0
+GivesWords rows name words = unwrap_or (all_of name rows) [] ≡ words
+
+-- the text is that of a key: hexadecimal, of at most 1,024 bytes
+abbrev pub IsKeyText : Text → List ℕ → Type 0
+IsKeyText text key = (decode_of text ≡ Ok key) × (length key ≤ 1024)
+
+-- the bytes that the word for the key writes
+abbrev pub GivesKey : List Row → List ℕ → Type 0
+GivesKey rows key = (text : Text) × (first_of (codes "key") rows ≡ Some text) × IsKeyText text key
+
+-- the word for the key is no text of a key
+abbrev pub GivesBadKey : List Row → Type 0
+GivesBadKey rows = (text : Text) × (first_of (codes "key") rows ≡ Some text) × ((key : List ℕ) → IsKeyText text key → ⊥)
+
+-- ---- the command
+
+-- the command has the fields that a subcommand, by its name, and its rows give
+abbrev pub HasFields : Command → Text × List Row → Type 0
+HasFields (Pack out) given =
+    (given.0 ≡ codes "pack") × GivesWord given.1 (codes "out") (string_bytes out)
+HasFields (Scratch bits version out) given =
+    (given.0 ≡ codes "scratch") × GivesNumber given.1 (codes "bits") 0 24 bits × GivesNumber given.1 (codes "format") 1 2 version
+    × GivesOption given.1 (codes "out") (option_map string_bytes out)
+HasFields (Build bits stages capacity max_records batch version out files) given =
+    (given.0 ≡ codes "build") × GivesNumber given.1 (codes "bits") 0 24 bits × GivesNumber given.1 (codes "stages") 1 12 stages
+    × GivesNumber given.1 (codes "capacity") 1 4096 capacity × GivesNumber given.1 (codes "max-records") 1 16777216 max_records
+    × GivesNumber given.1 (codes "batch") 1 1024 batch × GivesNumber given.1 (codes "format") 1 2 version
+    × GivesWord given.1 (codes "out") (string_bytes out) × GivesWords given.1 (codes "files") (map string_bytes files.items)
+HasFields (Check file) given =
+    (given.0 ≡ codes "check") × GivesWord given.1 (codes "file") (string_bytes file)
+HasFields (Get file key) given =
+    (given.0 ≡ codes "get") × GivesWord given.1 (codes "file") (string_bytes file) × GivesKey given.1 key.items
+HasFields (Scan file from limit) given =
+    (given.0 ≡ codes "scan") × GivesWord given.1 (codes "file") (string_bytes file) × GivesKey given.1 from.items
+    × GivesNumber given.1 (codes "limit") 0 1000000 limit
+HasFields (Nth file n) given =
+    (given.0 ≡ codes "nth") × GivesWord given.1 (codes "file") (string_bytes file) × GivesNumber given.1 (codes "n") 0 4294967295 n
+
+-- clap takes the words, and the command is what they give
+abbrev pub IsGivenBy : List Text → Command → Type 0
+IsGivenBy words command =
+    (line_faults words ≡ []) × ((given : Text × List Row) × (line_given words ≡ Some given) × HasFields command given)
+
+-- ---- refusals
+
+-- the subcommand takes a key, and its word for the key is no text of one
+abbrev pub HasBadKey : Text × List Row → Type 0
+HasBadKey given = ((given.0 ≡ codes "get") ⊎ (given.0 ≡ codes "scan")) × GivesBadKey given.1
+
+-- the words are refused in this way; memory may run out at any words
+abbrev pub IsRefusedBy : List Text → ParseFault → Type 0
+IsRefusedBy words Memory = ⊤
+IsRefusedBy words (Usage text) = (kind : ErrorKind) × IsAmong kind (line_faults words) × (kind ≢ DisplayHelp)
+IsRefusedBy words (Help text) = IsAmong DisplayHelp (line_faults words)
+IsRefusedBy words BadKey =
+    (line_faults words ≡ []) × ((given : Text × List Row) × (line_given words ≡ Some given) × HasBadKey given)
+
+-- an error of clap's of this kind comes to this fault
+abbrev pub IsRefusalOf : ErrorKind → ParseFault → Type 0
+IsRefusalOf kind Memory = ⊤
+IsRefusalOf kind (Usage text) = (kind ≢ OutOfMemory) × (kind ≢ DisplayHelp)
+IsRefusalOf kind (Help text) = kind ≡ DisplayHelp
+IsRefusalOf kind BadKey = ⊥

@@ -1,0 +1,125 @@
+-- The command line, in the words of clap's model of commands.
+use Rattle.std.specs.Prelude.{ℕ, pos, true, Option, Some, List, [], ◌∷◌, codes}
+use Rattle.clap.specs.Words.{App, Kinds, Row, Rule, Text, fault_of, new_app, new_rule, subcommand_of, with_rule, with_subcommand}
+use Rattle.clap.specs.Lexer.{usize_max}
+use Rattle.clap.specs.Simple.{on_top}
+use Rattle.clap.specs.declared.builder.value_parser.ValueParser.TheVariants.{Signed}
+
+-- ---- arguments
+
+-- `--NAME VALUE`
+abbrev pub option_rule : Text → Rule
+option_rule name = record (new_rule name) { long = Some name; value_names = 1 }
+
+-- `--NAME N`, for a number from least to most, with a default
+abbrev pub number_option : Text → ℕ → ℕ → Text → Rule
+number_option name least most default = record (option_rule name) {
+  parser = Some (Signed (pos least) (pos most));
+  defaults = default ∷ [];
+}
+
+-- a word that has to be there
+abbrev pub word_rule : Text → Rule
+word_rule name = record (new_rule name) { required = true; value_names = 1 }
+
+-- such a word, for a number from least to most
+abbrev pub number_word : Text → ℕ → ℕ → Rule
+number_word name least most = record (word_rule name) { parser = Some (Signed (pos least) (pos most)) }
+
+-- any number of words
+abbrev pub words_rule : Text → Rule
+words_rule name = record (new_rule name) {
+  range = Some (record { start_inclusive = 0; end_inclusive = usize_max });
+  value_names = 1;
+}
+
+abbrev pub bits_option : Rule
+bits_option = number_option (codes "bits") 0 24 (codes "12")
+
+abbrev pub stages_option : Rule
+stages_option = number_option (codes "stages") 1 12 (codes "12")
+
+abbrev pub capacity_option : Rule
+capacity_option = number_option (codes "capacity") 1 4096 (codes "64")
+
+abbrev pub max_records_option : Rule
+max_records_option = number_option (codes "max-records") 1 16777216 (codes "16777216")
+
+abbrev pub batch_option : Rule
+batch_option = number_option (codes "batch") 1 1024 (codes "16")
+
+abbrev pub format_option : Rule
+format_option = number_option (codes "format") 1 2 (codes "1")
+
+abbrev pub out_option : Rule
+out_option = option_rule (codes "out")
+
+abbrev pub out_word : Rule
+out_word = word_rule (codes "out")
+
+abbrev pub file_word : Rule
+file_word = word_rule (codes "file")
+
+abbrev pub key_word : Rule
+key_word = word_rule (codes "key")
+
+abbrev pub limit_word : Rule
+limit_word = number_word (codes "limit") 0 1000000
+
+abbrev pub n_word : Rule
+n_word = number_word (codes "n") 0 4294967295
+
+abbrev pub files_words : Rule
+files_words = words_rule (codes "files")
+
+-- ---- subcommands
+
+-- `pack OUT`
+abbrev pub pack_line : App
+pack_line = with_rule (new_app (codes "pack")) out_word
+
+-- `scratch [--bits Q] [--format V] [--out FILE]`
+abbrev pub scratch_line : App
+scratch_line = with_rule (with_rule (with_rule (new_app (codes "scratch")) bits_option) format_option) out_option
+
+-- `build [--bits Q] [--stages S] [--capacity C] [--max-records M] [--batch B] [--format V] OUT [FILES...]`
+abbrev pub build_line : App
+build_line = with_rule (with_rule (with_rule (with_rule (with_rule (with_rule (with_rule (with_rule
+    (new_app (codes "build")) bits_option) stages_option) capacity_option) max_records_option) batch_option)
+    format_option) out_word) files_words
+
+-- `check FILE`
+abbrev pub check_line : App
+check_line = with_rule (new_app (codes "check")) file_word
+
+-- `get FILE HEXKEY`
+abbrev pub get_line : App
+get_line = with_rule (with_rule (new_app (codes "get")) file_word) key_word
+
+-- `scan FILE HEXKEY LIMIT`
+abbrev pub scan_line : App
+scan_line = with_rule (with_rule (with_rule (new_app (codes "scan")) file_word) key_word) limit_word
+
+-- `nth FILE N`
+abbrev pub nth_line : App
+nth_line = with_rule (with_rule (new_app (codes "nth")) file_word) n_word
+
+-- ---- the whole line
+
+-- what stands above the subcommands: one of them has to be named, by the first word
+abbrev pub bare_line : App
+bare_line = on_top (λ s. record s { no_binary_name = true; subcommand_required = true }) (new_app (codes "prolly"))
+
+-- the words after the program's name, in the order in which one uses the subcommands
+abbrev pub program_line : App
+program_line = with_subcommand (with_subcommand (with_subcommand (with_subcommand (with_subcommand (with_subcommand
+    (with_subcommand bare_line pack_line.top) scratch_line.top) build_line.top) check_line.top) get_line.top)
+    scan_line.top) nth_line.top
+
+-- the kinds of error that clap may give at the words; none where it takes them
+unfoldable pub line_faults : List Text → Kinds
+line_faults words = fault_of program_line words
+
+-- the subcommand that the words name, with what they and the defaults give for it
+unfoldable pub line_given : List Text → Option (Text × List Row)
+line_given words = subcommand_of program_line words

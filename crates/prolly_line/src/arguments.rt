@@ -1,0 +1,164 @@
+//! The options and words of the subcommands, each with the rule that clap reads it by.
+ghost use Rattle.std.specs.Prelude.{◌≡◌, false};
+ghost use Rattle.clap.specs.Words.{rule_of};
+ghost use Rattle.prolly_line.specs.Line.{batch_option, bits_option, capacity_option, file_word, files_words, format_option, key_word, limit_word, max_records_option, n_word, out_option, out_word, stages_option};
+
+use clap::Arg;
+use std::alloc::Global;
+
+/// `--bits Q`
+pub(crate) fn bits_option<'a>(alloc: Global) -> Arg<'a>
+    ensures rule { rule_of result ≡ bits_option }
+    ensures local { result.global ≡ false }
+{
+    Arg::new(alloc, "bits")
+        .long("bits")
+        .value_name("Q")
+        .value_parser(clap::value_parser!(u8).range(0..=24))
+        .default_value("12")
+        .help("Cut by Q bits of a hash: about one entry in 2^Q ends a chunk (0 to 24)")
+}
+
+/// `--stages S`
+pub(crate) fn stages_option<'a>(alloc: Global) -> Arg<'a>
+    ensures rule { rule_of result ≡ stages_option }
+    ensures local { result.global ≡ false }
+{
+    Arg::new(alloc, "stages")
+        .long("stages")
+        .value_name("S")
+        .value_parser(clap::value_parser!(u8).range(1..=12))
+        .default_value("12")
+        .help("Make at most S levels of the tree (1 to 12)")
+}
+
+/// `--capacity C`
+pub(crate) fn capacity_option<'a>(alloc: Global) -> Arg<'a>
+    ensures rule { rule_of result ≡ capacity_option }
+    ensures local { result.global ≡ false }
+{
+    Arg::new(alloc, "capacity")
+        .long("capacity")
+        .value_name("C")
+        .value_parser(clap::value_parser!(u32).range(1..=4096))
+        .default_value("64")
+        .help("Let C messages wait between two threads (1 to 4,096)")
+}
+
+/// `--max-records M`
+pub(crate) fn max_records_option<'a>(alloc: Global) -> Arg<'a>
+    ensures rule { rule_of result ≡ max_records_option }
+    ensures local { result.global ≡ false }
+{
+    Arg::new(alloc, "max-records")
+        .long("max-records")
+        .value_name("M")
+        .value_parser(clap::value_parser!(u32).range(1..=16777216))
+        .default_value("16777216")
+        .help("Refuse a record file of more than M records (1 to 16,777,216)")
+}
+
+/// `--batch B`
+pub(crate) fn batch_option<'a>(alloc: Global) -> Arg<'a>
+    ensures rule { rule_of result ≡ batch_option }
+    ensures local { result.global ≡ false }
+{
+    Arg::new(alloc, "batch")
+        .long("batch")
+        .value_name("B")
+        .value_parser(clap::value_parser!(u32).range(1..=1024))
+        .default_value("16")
+        .help("Put up to B items into a message (1 to 1,024)")
+}
+
+/// `--format V`
+pub(crate) fn format_option<'a>(alloc: Global) -> Arg<'a>
+    ensures rule { rule_of result ≡ format_option }
+    ensures local { result.global ≡ false }
+{
+    Arg::new(alloc, "format")
+        .long("format")
+        .value_name("V")
+        .value_parser(clap::value_parser!(u8).range(1..=2))
+        .default_value("1")
+        .help("Write version V of the chunk file (1 or 2)")
+}
+
+/// `--out FILE`
+pub(crate) fn out_option<'a>(alloc: Global) -> Arg<'a>
+    ensures rule { rule_of result ≡ out_option }
+    ensures local { result.global ≡ false }
+{
+    Arg::new(alloc, "out")
+        .long("out")
+        .value_name("FILE")
+        .help("Write the tree to FILE, a chunk file")
+}
+
+/// `OUT`, the file that a subcommand makes; `what` says for its help what that is.
+pub(crate) fn out_word<'a>(alloc: Global, what: &'a str) -> Arg<'a>
+    ensures rule { rule_of result ≡ out_word }
+    ensures local { result.global ≡ false }
+{
+    Arg::new(alloc, "out")
+        .required(true)
+        .value_name("OUT")
+        .help(what)
+}
+
+/// `FILE`, the chunk file that a subcommand reads.
+pub(crate) fn file_word<'a>(alloc: Global) -> Arg<'a>
+    ensures rule { rule_of result ≡ file_word }
+    ensures local { result.global ≡ false }
+{
+    Arg::new(alloc, "file")
+        .required(true)
+        .value_name("FILE")
+        .help("The chunk file")
+}
+
+/// `HEXKEY`
+pub(crate) fn key_word<'a>(alloc: Global) -> Arg<'a>
+    ensures rule { rule_of result ≡ key_word }
+    ensures local { result.global ≡ false }
+{
+    Arg::new(alloc, "key")
+        .required(true)
+        .value_name("HEXKEY")
+        .help("The key in hexadecimal: two digits a byte, at most 1,024 bytes")
+}
+
+/// `LIMIT`
+pub(crate) fn limit_word<'a>(alloc: Global) -> Arg<'a>
+    ensures rule { rule_of result ≡ limit_word }
+    ensures local { result.global ≡ false }
+{
+    Arg::new(alloc, "limit")
+        .required(true)
+        .value_name("LIMIT")
+        .value_parser(clap::value_parser!(u32).range(0..=1000000))
+        .help("Print at most LIMIT pairs (0 to 1,000,000)")
+}
+
+/// `N`
+pub(crate) fn n_word<'a>(alloc: Global) -> Arg<'a>
+    ensures rule { rule_of result ≡ n_word }
+    ensures local { result.global ≡ false }
+{
+    Arg::new(alloc, "n")
+        .required(true)
+        .value_name("N")
+        .value_parser(clap::value_parser!(u32))
+        .help("The number of the pair, counted from 0 in the order of keys (at most 4,294,967,295)")
+}
+
+/// `FILES`
+pub(crate) fn files_words<'a>(alloc: Global) -> Arg<'a>
+    ensures rule { rule_of result ≡ files_words }
+    ensures local { result.global ≡ false }
+{
+    Arg::new(alloc, "files")
+        .num_args(0..)
+        .value_name("FILES")
+        .help("The record files, at most 16; of several, the last one that has a key wins")
+}

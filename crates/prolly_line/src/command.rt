@@ -1,0 +1,131 @@
+//! What the program is asked to do.
+ghost use Rattle.std.specs.Prelude.{◌≡◌, IfOk, IfErr, map, string_bytes, option_map};
+ghost use Rattle.clap.specs.Words.{found_of, kind_of, rows_of, subcommand_rows_of};
+ghost use Rattle.prolly_line.specs.Given.{IsGivenBy, IsRefusalOf, IsRefusedBy};
+ghost use Rattle.prolly_line.specs.Accepted.{Answers, IsAccepted};
+ghost use Rattle.prolly_line.specs.declared.command.ParseFault.TheVariants.{Memory};
+
+use crate::fields;
+use crate::line::program_line;
+use clap::ArgMatches;
+use clap::error::ErrorKind;
+use std::alloc::{AllocError, Global};
+
+/// What the program is asked to do. File names are the words as they stand.
+#[derive(Drop)]
+pub enum Command {
+    /// Make a record file of the lines of standard input.
+    Pack {
+        out: String,
+    },
+    /// Make the tree of one record file, which comes from standard input.
+    Scratch {
+        bits: u8,
+        version: u8,
+        out: Option<String>,
+    },
+    /// Make the tree of record files, in threads.
+    Build {
+        bits: u8,
+        stages: u8,
+        capacity: u32,
+        max_records: u32,
+        batch: u32,
+        version: u8,
+        out: String,
+        files: Vec<String>,
+    },
+    /// Say whether a file is a lawful chunk file.
+    Check {
+        file: String,
+    },
+    /// Print the value of a key.
+    Get {
+        file: String,
+        key: Vec<u8>,
+    },
+    /// Print pairs in the order of keys, from a key on.
+    Scan {
+        file: String,
+        from: Vec<u8>,
+        limit: u32,
+    },
+    /// Print the pair of a number, counted from 0 in the order of keys.
+    Nth {
+        file: String,
+        n: u64,
+    },
+}
+
+/// Why the words give no command.
+#[derive(Drop)]
+pub enum ParseFault {
+    /// Memory ran out.
+    Memory,
+    /// The words are not what the command line takes; clap's text says why.
+    Usage(String),
+    /// The words ask for help, which is the text.
+    Help(String),
+    /// The word for the key is not hexadecimal, or writes more than 1,024 bytes.
+    BadKey,
+}
+
+impl From<AllocError> for ParseFault {
+    ghost from_gives = { λ _ fault. fault ≡ Memory };
+
+    fn from(_error: AllocError) -> ParseFault {
+        ParseFault::Memory
+    }
+}
+
+/// The command that the words after the program's name give.
+pub fn parse(alloc: Global, words: &[String]) -> Result<Command, ParseFault>
+    ensures given { IfOk result (IsGivenBy (map string_bytes words.now)) }
+    ensures refused { IfErr result (IsRefusedBy (map string_bytes words.now)) }
+{
+    let matches = match program_line(alloc)?.try_get_matches_from(words) {
+        Ok(matches) => matches,
+        Err(error) => return Err(refusal(alloc, &error)),
+    };
+    let (name, given) = subcommand_of(&matches).unwrap();
+    command_of(alloc, name, given)
+}
+
+// What an error of clap's comes to.
+fn refusal(alloc: Global, error: &clap::Error) -> ParseFault
+    ensures { IsRefusalOf (kind_of error.now) result }
+{
+    let Ok(text) = format!(in alloc; "{error}") else {
+        return ParseFault::Memory;
+    };
+    match error.kind() {
+        ErrorKind::OutOfMemory => ParseFault::Memory,
+        ErrorKind::DisplayHelp => ParseFault::Help(text),
+        _ => ParseFault::Usage(text),
+    }
+}
+
+// The subcommand that was met, with its matches.
+fn subcommand_of<'b, 'a>(matches: &'b ArgMatches<'a>) -> Option<(&'a str, &'b ArgMatches<'a>)>
+    ensures { option_map (λ p. (p.0.now, rows_of (found_of p.1.now))) result
+        ≡ subcommand_rows_of matches.now }
+{
+    matches.subcommand()
+}
+
+// The command of a subcommand that clap has accepted.
+fn command_of(alloc: Global, name: &str, given: &ArgMatches<'_>) -> Result<Command, ParseFault>
+    requires { IsAccepted (name.now, rows_of (found_of given.now)) }
+    ensures { Answers (name.now, rows_of (found_of given.now)) result }
+{
+    match name {
+        "pack" => fields::pack(alloc, given),
+        "scratch" => fields::scratch(alloc, given),
+        "build" => fields::build(alloc, given),
+        "check" => fields::check(alloc, given),
+        "get" => fields::get(alloc, given),
+        "scan" => fields::scan(alloc, given),
+        "nth" => fields::nth(alloc, given),
+        _ => unreachable!(),
+    }
+}

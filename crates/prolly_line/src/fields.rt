@@ -1,0 +1,88 @@
+//! The fields of a command, from what clap found for its subcommand. Each function requires that
+//! clap has accepted the words, and so takes what has to be there without a test.
+ghost use Rattle.std.specs.Prelude.{codes};
+ghost use Rattle.clap.specs.Words.{found_of, rows_of};
+ghost use Rattle.prolly_line.specs.Accepted.{Answers, IsAccepted};
+
+use crate::command::{Command, ParseFault};
+use crate::values::{byte_of, key_of, number_of, option_of, text_of, texts_of};
+use clap::ArgMatches;
+use std::alloc::Global;
+
+pub(crate) fn pack(alloc: Global, given: &ArgMatches<'_>) -> Result<Command, ParseFault>
+    requires { IsAccepted (codes "pack", rows_of (found_of given.now)) }
+    ensures { Answers (codes "pack", rows_of (found_of given.now)) result }
+{
+    let out = text_of(alloc, given, "out")?;
+    Ok(Command::Pack { out })
+}
+
+pub(crate) fn scratch(alloc: Global, given: &ArgMatches<'_>) -> Result<Command, ParseFault>
+    requires { IsAccepted (codes "scratch", rows_of (found_of given.now)) }
+    ensures { Answers (codes "scratch", rows_of (found_of given.now)) result }
+{
+    let bits = byte_of(given, "bits");
+    let version = byte_of(given, "format");
+    let out = option_of(alloc, given, "out")?;
+    Ok(Command::Scratch { bits, version, out })
+}
+
+pub(crate) fn build(alloc: Global, given: &ArgMatches<'_>) -> Result<Command, ParseFault>
+    requires { IsAccepted (codes "build", rows_of (found_of given.now)) }
+    ensures { Answers (codes "build", rows_of (found_of given.now)) result }
+{
+    let bits = byte_of(given, "bits");
+    let stages = byte_of(given, "stages");
+    let capacity = number_of(given, "capacity");
+    let max_records = number_of(given, "max-records");
+    let batch = number_of(given, "batch");
+    let version = byte_of(given, "format");
+    let out = text_of(alloc, given, "out")?;
+    let files = texts_of(alloc, given, "files")?;
+    Ok(Command::Build {
+        bits,
+        stages,
+        capacity,
+        max_records,
+        batch,
+        version,
+        out,
+        files,
+    })
+}
+
+pub(crate) fn check(alloc: Global, given: &ArgMatches<'_>) -> Result<Command, ParseFault>
+    requires { IsAccepted (codes "check", rows_of (found_of given.now)) }
+    ensures { Answers (codes "check", rows_of (found_of given.now)) result }
+{
+    let file = text_of(alloc, given, "file")?;
+    Ok(Command::Check { file })
+}
+
+pub(crate) fn get(alloc: Global, given: &ArgMatches<'_>) -> Result<Command, ParseFault>
+    requires { IsAccepted (codes "get", rows_of (found_of given.now)) }
+    ensures { Answers (codes "get", rows_of (found_of given.now)) result }
+{
+    let key = key_of(alloc, given)?;
+    let file = text_of(alloc, given, "file")?;
+    Ok(Command::Get { file, key })
+}
+
+pub(crate) fn scan(alloc: Global, given: &ArgMatches<'_>) -> Result<Command, ParseFault>
+    requires { IsAccepted (codes "scan", rows_of (found_of given.now)) }
+    ensures { Answers (codes "scan", rows_of (found_of given.now)) result }
+{
+    let from = key_of(alloc, given)?;
+    let limit = number_of(given, "limit");
+    let file = text_of(alloc, given, "file")?;
+    Ok(Command::Scan { file, from, limit })
+}
+
+pub(crate) fn nth(alloc: Global, given: &ArgMatches<'_>) -> Result<Command, ParseFault>
+    requires { IsAccepted (codes "nth", rows_of (found_of given.now)) }
+    ensures { Answers (codes "nth", rows_of (found_of given.now)) result }
+{
+    let n = u64::from(number_of(given, "n"));
+    let file = text_of(alloc, given, "file")?;
+    Ok(Command::Nth { file, n })
+}

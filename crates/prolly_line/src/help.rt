@@ -1,0 +1,91 @@
+//! The texts of help that are longer than a line. They are laid out by hand for 80 columns, since
+//! clap does not wrap them.
+
+pub(crate) const PROGRAM: &str = "Makes, checks and reads prolly trees.
+
+A prolly tree is a search tree over sorted keys that is cut into chunks where
+the data itself says so. Its root is a text of 32 characters that is equal
+exactly for equal contents (at equal --bits and --format), however they came to
+be: to compare two trees, compare their roots.
+
+Two kinds of files are used. A record file is a binary file of pairs, a key with
+its value, and removals, a key to be taken away, with strictly rising keys. A
+chunk file holds a whole tree, and so all pairs of a map.
+
+Keys have at most 1,024 bytes, values at most 65,536.";
+
+pub(crate) const PROGRAM_EXAMPLE: &str = "Example, from two lines of text to a look-up:
+  printf '61 31\\n62 32\\n' | prolly pack ab.rec
+  prolly build ab.prl ab.rec
+  prolly check ab.prl
+  prolly get ab.prl 61
+
+`prolly COMMAND --help` says more about a command.";
+
+pub(crate) const PACK: &str = "Makes a record file from lines of text on standard input.
+
+Each line is a record:
+  HEXKEY HEXVALUE   a pair: put the value at the key
+  HEXKEY -          a removal: take the key away
+Keys and values are in hexadecimal, two digits a byte. Keys must rise strictly
+from line to line, compared byte by byte. A key has at most 1,024 bytes, a value
+at most 65,536.
+
+OUT is made before the input is read. After a fault it is left empty or, where
+writing failed, with the first part of the record file.";
+
+pub(crate) const PACK_EXAMPLE: &str = "Example: put 31 at 61, and take 62 away
+  printf '61 31\\n62 -\\n' | prolly pack changes.rec";
+
+pub(crate) const SCRATCH: &str =
+    "Makes the tree of one record file, which it reads from standard input.
+
+Equal contents give equal roots and equal chunk files, whether this command made
+them or `build` did, at equal --bits and --format.
+
+With --out, FILE is made before the input is read. After a fault it is left
+empty or, where writing failed, with the first part of the chunk file.";
+
+pub(crate) const SCRATCH_EXAMPLE: &str = "Example:
+  prolly scratch --out ab.prl < ab.rec";
+
+pub(crate) const BUILD: &str = "Makes one chunk file, OUT, from up to 16 record files.
+
+The files are read side by side, a thread each, and the levels of the tree are
+made in threads too. Where several files have a key the last of them wins: its
+pair replaces the value, its removal takes the key away.
+
+--bits and --format decide what the chunk file holds. --stages and --max-records
+are limits: a tree of more levels, or a file of more records, is refused.
+--capacity and --batch change only how much memory the threads use and how often
+they wait for one another, never the chunk file.";
+
+pub(crate) const BUILD_EXAMPLE: &str = "Example: the records of a day over those of the day before
+  prolly build tuesday.prl monday.rec tuesday.rec";
+
+pub(crate) const CHECK: &str =
+    "Reads a chunk file from end to end and says whether it is lawful: whether it is
+the one chunk file of its contents, to the byte.";
+
+pub(crate) const CHECK_EXAMPLE: &str = "Example:
+  prolly check ab.prl";
+
+pub(crate) const GET: &str = "Prints the value of one key in a chunk file.";
+
+pub(crate) const GET_EXAMPLE: &str = "Example: the value of the key of one byte, 61
+  prolly get ab.prl 61";
+
+pub(crate) const SCAN: &str =
+    "Prints pairs of a chunk file in the order of their keys, from HEXKEY on: the
+first LIMIT pairs whose key is not less than HEXKEY. Keys are compared byte by
+byte, and a key comes before the longer ones that it begins.";
+
+pub(crate) const SCAN_EXAMPLE: &str = "Example: the first ten pairs from the key 61 on
+  prolly scan ab.prl 61 10";
+
+pub(crate) const NTH: &str =
+    "Prints the pair at place N of a chunk file, in the order of keys. The first pair
+is at place 0.";
+
+pub(crate) const NTH_EXAMPLE: &str = "Example: the first pair
+  prolly nth ab.prl 0";

@@ -1,0 +1,18 @@
+//! The command line of the program `prolly`: which words it takes, and which command they give.
+//!
+//! `parse` is all that a program calls. Its clauses speak of `program_line`, the command line as
+//! a definition, and of what clap's proved model makes of the words under it.
+#![tactic(auto)]
+
+mod arguments;
+mod command;
+mod fields;
+mod help;
+mod line;
+mod subcommands;
+mod values;
+
+pub use command::{Command, ParseFault, parse};
+
+#[cfg(test)]
+mod tests;

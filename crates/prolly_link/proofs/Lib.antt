@@ -1,0 +1,3 @@
+pub mod MessageLemmas
+pub mod BatchLemmas
+pub mod NumberLemmas

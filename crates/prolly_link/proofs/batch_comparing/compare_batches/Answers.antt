@@ -1,0 +1,11 @@
+use Rattle.std.specs.Vec.Iter.{into_iter_items, into_iter_len}
+use Rattle.prolly_link.specs.Batches.{IsInHand}
+use Rattle.prolly_link.proofs.BatchLemmas.{given_begins}
+use Rattle.prolly_link.proofs.batch_comparing.compare_batches.Goals as goal
+
+pub returns-clause-prefix : goal.returns-clause-prefix
+returns-clause-prefix g c =
+    let came = c.compare.new.receiver in
+    let hand = c.receiver.inside.hand in
+    let in_hand : IsInHand came (into_iter_items hand) (into_iter_len hand) = rw c.compare.ensures.receiver c.receiver.invariant in
+    given_begins came c.compare.new.sender.items (into_iter_items hand) c.sender.inside.pending.items (into_iter_len hand) in_hand c.compare.ensures.prefix

@@ -1,0 +1,26 @@
+-- Which link an end is of.
+use denote.RawPtr.{Ptr}
+use Rattle.std.specs.declared.alloc.Global.{Global}
+use Rattle.rtrb.specs.Shared.{Names}
+use Rattle.rtrb.specs.declared.AnyItems.{AnyItems}
+use Rattle.rtrb.specs.declared.producer.Producer.{Producer}
+use Rattle.rtrb.specs.declared.consumer.Consumer.{Consumer}
+
+-- one ring: where it lies, and the names of its two views
+pub record RingId : Type 0 where
+  pub words : Ptr
+  pub slots : Ptr
+  pub names : Names
+  pub heap : Global
+
+-- the link of a ring; an end over a list is of none
+pub data LinkId : Type 0 where
+  ring_link : RingId → LinkId
+  no_link : LinkId
+
+module _ {M : Type 0} where
+  abbrev pub producer_link : Producer M Global AnyItems → LinkId
+  producer_link p = ring_link record { words = p.end.words; slots = p.end.slots; names = p.end.names; heap = p.end.heap }
+
+  abbrev pub consumer_link : Consumer M Global AnyItems → LinkId
+  consumer_link c = ring_link record { words = c.end.words; slots = c.end.slots; names = c.end.names; heap = c.end.heap }

@@ -1,0 +1,11 @@
+pub mod Identity
+pub mod Views
+pub mod Messages
+pub mod Receipts
+pub mod Fronts
+pub mod Growth
+pub mod Draining
+pub mod Remaining
+pub mod RemainingLaws
+pub mod Batches
+pub mod BatchDraining

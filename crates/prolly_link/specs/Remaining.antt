@@ -1,0 +1,34 @@
+-- What an end over a list has left: items and then an end, or the end alone again and again.
+use Rattle.std.specs.Prelude.{◌≡◌, Bool, true, false, List, [], ◌++◌}
+use Rattle.prolly_link.specs.Fronts.{before_rest}
+use Rattle.prolly_link.specs.declared.fault.End.{End}
+use Rattle.prolly_link.specs.declared.progress.Progress.{Progress}
+use Rattle.prolly_link.specs.declared.progress.Progress.TheVariants.{Open, Ended}
+
+pub data Remaining (T : Type 0) : Type 0 where
+  Unread : List T → End → Remaining T
+  Read : End → Remaining T
+
+module _ {T : Type 0} where
+  abbrev pub remaining : Bool → List T → End → Remaining T
+  remaining true xs e = Read e
+  remaining false xs e = Unread xs e
+
+  abbrev pub items_left : Remaining T → List T
+  items_left (Unread xs e) = xs
+  items_left (Read e) = []
+
+  abbrev pub last_end : Remaining T → End
+  last_end (Unread xs e) = e
+  last_end (Read e) = e
+
+  abbrev pub progress_of : Remaining T → Progress
+  progress_of (Unread xs e) = Open
+  progress_of (Read e) = Ended e
+
+  -- what was lost at the front
+  abbrev pub front_lost : Remaining T → Remaining T → List T
+  front_lost before after = before_rest (items_left before) (items_left after)
+
+  abbrev pub LostFront : Remaining T → Remaining T → Type 0
+  LostFront before after = (items_left before ≡ front_lost before after ++ items_left after) × (last_end after ≡ last_end before)

@@ -1,0 +1,26 @@
+-- What a list lost at its front, in one stretch after another and in all.
+use Rattle.std.proofs.Common.{◌≡◌, List, [], ◌++◌, refl, sym, ◌∙◌, ap, append_assoc}
+use Rattle.std.proofs.lemmas.List.{append-nil}
+use Rattle.prolly_link.specs.Fronts.{front_is}
+use Rattle.prolly_link.specs.Remaining.{Remaining, Unread, Read, items_left, last_end, progress_of, front_lost, LostFront}
+use Rattle.prolly_link.specs.Receipts.{HasEnded, end_given}
+
+module _ {T : Type 0} where
+  two_fronts : (xs ys zs p q : List T) → xs ≡ p ++ ys → ys ≡ q ++ zs → xs ≡ (p ++ q) ++ zs
+  two_fronts xs ys zs p q e f = e ∙ ap (λ r. p ++ r) f ∙ sym (append_assoc p q zs)
+
+  pub lost_nothing : (a : Remaining T) → LostFront a a × (front_lost a a ≡ [])
+  lost_nothing a =
+      let none = front_is [] (items_left a) (items_left a) refl in
+      ((ap (λ r. r ++ items_left a) (sym none), refl), none)
+
+  pub lost_more : (a b c : Remaining T) → LostFront a b → LostFront b c → LostFront a c × (front_lost a c ≡ front_lost a b ++ front_lost b c)
+  lost_more a b c h k =
+      let whole = two_fronts (items_left a) (items_left b) (items_left c) (front_lost a b) (front_lost b c) h.0 k.0 in
+      let both = front_is (front_lost a b ++ front_lost b c) (items_left c) (items_left a) whole in
+      ((whole ∙ ap (λ r. r ++ items_left c) (sym both), k.1 ∙ h.1), both)
+
+  -- once a list gave its end, all its items were received, and the end was its own
+  pub all_lost : (a b : Remaining T) → LostFront a b → HasEnded (progress_of b) → (front_lost a b ≡ items_left a) × (end_given (progress_of b) ≡ last_end a)
+  all_lost a (Unread xs e) h ended = absurd ended
+  all_lost a (Read e) h ended = (sym (h.0 ∙ append-nil (front_lost a (Read e))), h.1)

@@ -1,0 +1,49 @@
+// What the ring of a batch link carries.
+ghost use Rattle.std.specs.Prelude.{◌≡◌, ◌≤◌, ◌∷◌, length, vec_len};
+ghost use Rattle.std.specs.Vec.Iter.{into_iter_items, into_iter_len};
+
+use std::alloc::Global;
+use std::marker::Model;
+use std::vec::IntoIter;
+
+/// Items that go over a ring together: one at least, and no more than `limit`. Contracts see it as those items.
+#[derive(Drop)]
+pub(crate) struct Batch<T> {
+    items: Vec<T>,
+    limit: usize,
+}
+
+impl<T> Model for Batch<T> {
+    ghost use Rattle.std.specs.Prelude.{◌≤◌, List, vec_len};
+
+    ghost Value = { List T };
+
+    ghost view = { λ b. b.items.items };
+
+    ghost invariant = { λ b. (1 ≤ vec_len b.items) × (vec_len b.items ≤ b.limit) };
+}
+
+impl<T> Batch<T> {
+    pub(crate) fn new(items: Vec<T>, limit: usize) -> Batch<T>
+        requires least { 1 ≤ vec_len items }
+        requires most { vec_len items ≤ limit }
+        ensures { result ≡ items.items }
+    {
+        Batch { items, limit }
+    }
+}
+
+impl<T: Drop> Batch<T> {
+    /// The first item, and the others in their order.
+    pub(crate) fn into_first(self) -> (T, IntoIter<T, Global>)
+        ensures items { self ≡ result.0 ∷ into_iter_items result.1 }
+        ensures counted { into_iter_len result.1 ≡ length (into_iter_items result.1) }
+    {
+        let Batch { items, limit: _ } = self;
+        let mut rest = items.into_iter();
+        let Some(first) = rest.next() else {
+            unreachable!()
+        };
+        (first, rest)
+    }
+}

@@ -1,0 +1,96 @@
+// The end of a batch link that receives.
+ghost use Rattle.std.specs.Prelude.{◌≡◌, ◌++◌};
+ghost use Rattle.prolly_link.specs.Receipts.{given_items, progress_after, GivesAgain};
+
+use crate::batch::Batch;
+use crate::batch_drained::{BatchDrained, EndedBatch, LostBatch};
+use crate::drained::Drained;
+use crate::input::In;
+use crate::next::Next;
+use crate::receiver::Receiver;
+use std::alloc::Global;
+use std::marker::Model;
+use std::sync::Wait;
+use std::vec::IntoIter;
+
+/// The receiving end of a batch link. Contracts see its link, the items that it has given, oldest first, and how far it
+/// has come.
+#[derive(Drop)]
+pub struct BatchReceiver<T> {
+    pub(crate) receiver: Receiver<Batch<T>>,
+    // What is left of the batch that came last.
+    pub(crate) hand: IntoIter<T, Global>,
+}
+
+impl<T> Model for BatchReceiver<T> {
+    ghost use Rattle.std.specs.Vec.Iter.{into_iter_items, into_iter_len};
+    ghost use Rattle.prolly_link.specs.Views.{Receiving};
+
+    ghost Value = { Receiving T };
+
+    ghost use Rattle.prolly_link.specs.Batches.{given_of, IsInHand};
+
+    ghost view = { λ r. given_of r.receiver (into_iter_items r.hand) };
+
+    ghost invariant = { λ r. IsInHand r.receiver (into_iter_items r.hand) (into_iter_len r.hand) };
+}
+
+impl<T: Drop> BatchReceiver<T> {
+    ghost use Rattle.prolly_link.specs.BatchDraining.{IsBatchDrainOf};
+
+    /// The next item, or the end. It waits for a message only where no item is left of the batch in hand.
+    pub fn recv<R: Wait>(&mut self, rt: &R) -> Next<T>
+        ensures link { self.new.link ≡ self.old.link }
+        ensures items { self.new.items ≡ self.old.items ++ given_items result }
+        ensures progress { self.new.progress ≡ progress_after result }
+        ensures again { GivesAgain self.old.progress result }
+    {
+        match self.hand.next() {
+            Some(item) => Next::Item(item),
+            None => match self.receiver.recv(rt) {
+                Next::Item(batch) => {
+                    let (first, rest) = batch.into_first();
+                    self.hand = rest;
+                    Next::Item(first)
+                }
+                Next::End(end) => Next::End(end),
+                Next::Lost => Next::Lost,
+            },
+        }
+    }
+
+    /// Receives until the end, and lets the items go.
+    pub fn drain<R: Wait>(self, rt: &R) -> BatchDrained<T>
+        ensures { IsBatchDrainOf self result }
+    {
+        let BatchReceiver { receiver, hand: _ } = self;
+        match receiver.drain(rt) {
+            Drained::Ended(receiver) => BatchDrained::Ended(EndedBatch { receiver }),
+            Drained::Lost(receiver) => BatchDrained::Lost(LostBatch { receiver }),
+        }
+    }
+}
+
+impl<T: Drop> In<T> for BatchReceiver<T> {
+    ghost use Rattle.prolly_link.specs.Growth.{items_between, Grew, between_nothing, between_more};
+
+    ghost link = { λ r. r.link };
+
+    ghost progress = { λ r. r.progress };
+
+    ghost Follows = { λ a b. Grew a.items b.items };
+
+    ghost received = { λ a b. items_between a.items b.items };
+
+    ghost stays = { λ a. (between_nothing a.items).0 };
+
+    ghost received_none = { λ a. (between_nothing a.items).1 };
+
+    ghost goes_on = { λ a b c h k. (between_more a.items b.items c.items h k).0 };
+
+    ghost received_both = { λ a b c h k. (between_more a.items b.items c.items h k).1 };
+
+    fn recv<R: Wait>(&mut self, rt: &R) -> Next<T> {
+        BatchReceiver::recv(self, rt)
+    }
+}

@@ -1,0 +1,79 @@
+// An end over a list, which gives its items.
+ghost use Rattle.std.specs.Prelude.{◌≡◌};
+ghost use Rattle.prolly_link.specs.Remaining.{Unread};
+
+use crate::fault::End;
+use crate::input::In;
+use crate::next::Next;
+use std::alloc::Global;
+use std::marker::Model;
+use std::sync::Wait;
+use std::vec::IntoIter;
+
+/// An end that gives the items of a list, and then an end. Contracts see what is left of both.
+#[derive(Drop)]
+pub struct ListIn<T> {
+    items: IntoIter<T, Global>,
+    last: End,
+    // Whether the end was given.
+    ended: bool,
+}
+
+impl<T> Model for ListIn<T> {
+    ghost use Rattle.std.specs.Prelude.{◌≡◌, length};
+    ghost use Rattle.std.specs.Vec.Iter.{into_iter_items, into_iter_len};
+    ghost use Rattle.prolly_link.specs.Remaining.{Remaining, remaining};
+
+    ghost Value = { Remaining T };
+
+    ghost view = { λ i. remaining i.ended (into_iter_items i.items) i.last };
+
+    ghost invariant = { λ i. into_iter_len i.items ≡ length (into_iter_items i.items) };
+}
+
+impl<T> ListIn<T> {
+    pub fn new(items: Vec<T>, last: End) -> ListIn<T>
+        ensures { result ≡ Unread items.items last }
+    {
+        ListIn {
+            items: items.into_iter(),
+            last,
+            ended: false,
+        }
+    }
+}
+
+impl<T> In<T> for ListIn<T> {
+    ghost use Rattle.prolly_link.specs.Identity.{no_link};
+    ghost use Rattle.prolly_link.specs.Remaining.{progress_of, LostFront, front_lost};
+    ghost use Rattle.prolly_link.specs.RemainingLaws.{lost_nothing, lost_more};
+
+    ghost link = { λ _. no_link };
+
+    ghost progress = { progress_of };
+
+    ghost Follows = { LostFront };
+
+    ghost received = { front_lost };
+
+    ghost stays = { λ a. (lost_nothing a).0 };
+
+    ghost received_none = { λ a. (lost_nothing a).1 };
+
+    ghost goes_on = { λ a b c h k. (lost_more a b c h k).0 };
+
+    ghost received_both = { λ a b c h k. (lost_more a b c h k).1 };
+
+    fn recv<R: Wait>(&mut self, _rt: &R) -> Next<T> {
+        if self.ended {
+            return Next::End(self.last);
+        }
+        match self.items.next() {
+            Some(item) => Next::Item(item),
+            None => {
+                self.ended = true;
+                Next::End(self.last)
+            }
+        }
+    }
+}

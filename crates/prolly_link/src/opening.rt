@@ -1,0 +1,43 @@
+// The making of a link.
+ghost use Rattle.std.specs.Prelude.{◌≡◌, ◌≤◌, [], IfOk};
+
+use crate::patience::Patience;
+use crate::progress::Progress;
+use crate::receiver::Receiver;
+use crate::sender::Sender;
+use rtrb::RingBuffer;
+use std::alloc::Global;
+
+/// Why there is no link.
+#[derive(Clone, Copy, PartialEq, Eq, Debug)]
+pub enum LinkFault {
+    Memory,
+}
+
+/// The two ends of a new link, with room for `capacity` messages. The end is a message, as an item is.
+pub fn link<T: Send + Drop>(
+    alloc: Global,
+    capacity: usize,
+) -> Result<(Sender<T>, Receiver<T>), LinkFault>
+    requires least { 1 ≤ capacity }
+    requires most { capacity ≤ 4096 }
+    ensures link { IfOk result (λ ends. ends.0.link ≡ ends.1.link) }
+    ensures sent { IfOk result (λ ends. ends.0.items ≡ []) }
+    ensures received { IfOk result (λ ends. ends.1.items ≡ []) }
+    ensures progress { IfOk result (λ ends. ends.1.progress ≡ Progress.Open) }
+{
+    match RingBuffer::new(alloc, capacity) {
+        Ok((producer, consumer)) => Ok((
+            Sender {
+                ring: producer,
+                patience: Patience::new(),
+            },
+            Receiver {
+                ring: consumer,
+                progress: Progress::Open,
+                patience: Patience::new(),
+            },
+        )),
+        Err(_) => Err(LinkFault::Memory),
+    }
+}

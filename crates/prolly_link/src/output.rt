@@ -1,0 +1,40 @@
+// What a worker asks of an end that it sends to.
+ghost use Rattle.std.specs.Prelude.{◌≡◌, List, [], ◌∷◌, ◌++◌, OnOk, IfErr};
+ghost use Rattle.prolly_link.specs.Identity.{LinkId};
+ghost use Rattle.prolly_link.specs.declared.fault.End.{End};
+
+use crate::fault::End;
+use std::sync::Wait;
+
+/// An end that items go into, and then one end.
+pub trait Out<T> {
+    /// What is left of it once the end was sent.
+    type Closed;
+
+    /// The link that it is of.
+    ghost link: { Self → LinkId };
+
+    /// The items sent so far, oldest first.
+    ghost sent: { Self → List T };
+
+    /// The link that a closed one is of.
+    ghost closed_link: { Self.Closed → LinkId };
+
+    /// The items that a closed one sent.
+    ghost all_sent: { Self.Closed → List T };
+
+    /// The end that a closed one sent.
+    ghost end_sent: { Self.Closed → End };
+
+    /// Sends an item, or hands it back for want of memory.
+    fn send<R: Wait>(&mut self, rt: &R, item: T) -> Result<(), T>
+        ensures link { link self.new ≡ link self.old }
+        ensures ok { OnOk result (sent self.new ≡ sent self.old ++ item ∷ []) }
+        ensures err { IfErr result (λ back. (back ≡ item) × (sent self.new ≡ sent self.old)) };
+
+    /// Sends the end.
+    fn close<R: Wait>(self, rt: &R, end: End) -> Self::Closed
+        ensures link { closed_link result ≡ link self }
+        ensures sent { all_sent result ≡ sent self }
+        ensures end { end_sent result ≡ end };
+}

@@ -1,0 +1,107 @@
+// The end of a link that sends.
+ghost use Rattle.std.specs.Prelude.{◌≡◌, [], ◌∷◌, ◌++◌, IsOk};
+
+use crate::fault::End;
+use crate::message::Message;
+use crate::output::Out;
+use crate::patience::Patience;
+use crate::push::push_waiting;
+use rtrb::Producer;
+use std::marker::Model;
+use std::sync::Wait;
+
+/// The sending end of a link. Contracts see its link and the items that it has sent, oldest first.
+#[derive(Drop)]
+pub struct Sender<T> {
+    pub(crate) ring: Producer<Message<T>>,
+    pub(crate) patience: Patience,
+}
+
+impl<T> Model for Sender<T> {
+    ghost use Rattle.std.specs.Prelude.{◌≡◌, true};
+    ghost use Rattle.prolly_link.specs.Views.{Sending};
+
+    ghost Value = { Sending T };
+
+    ghost use Rattle.rtrb.specs.Ring.{sent as pushed};
+    ghost use Rattle.prolly_link.specs.Identity.{producer_link};
+    ghost use Rattle.prolly_link.specs.Messages.{sending_of, is_open};
+
+    ghost view = { λ s. sending_of (producer_link s.ring) (pushed s.ring) };
+
+    ghost invariant = { λ s. is_open (pushed s.ring) ≡ true };
+}
+
+/// The sending end of a link, once it has sent the end. Contracts see that end too.
+#[derive(Drop)]
+pub struct ClosedSender<T> {
+    pub(crate) ring: Producer<Message<T>>,
+}
+
+impl<T> Model for ClosedSender<T> {
+    ghost use Rattle.std.specs.Prelude.{◌≡◌, true};
+    ghost use Rattle.prolly_link.specs.Views.{Whole};
+
+    ghost Value = { Whole T };
+
+    ghost use Rattle.rtrb.specs.Ring.{sent as pushed};
+    ghost use Rattle.prolly_link.specs.Identity.{producer_link};
+    ghost use Rattle.prolly_link.specs.Messages.{whole_of, is_closed};
+
+    ghost view = { λ s. whole_of (producer_link s.ring) (pushed s.ring) };
+
+    ghost invariant = { λ s. is_closed (pushed s.ring) ≡ true };
+}
+
+impl<T> Sender<T> {
+    // Sends an item, waiting for room.
+    pub(crate) fn put<R: Wait>(&mut self, rt: &R, item: T)
+        ensures link { self.new.link ≡ self.old.link }
+        ensures items { self.new.items ≡ self.old.items ++ item ∷ [] }
+    {
+        push_waiting(rt, &self.patience, &mut self.ring, Message::Item(item));
+    }
+
+    /// Sends an item, waiting for room. It takes no memory, and so it never refuses.
+    pub fn send<R: Wait>(&mut self, rt: &R, item: T) -> Result<(), T>
+        ensures never_refused { IsOk result }
+        ensures link { self.new.link ≡ self.old.link }
+        ensures items { self.new.items ≡ self.old.items ++ item ∷ [] }
+    {
+        self.put(rt, item);
+        Ok(())
+    }
+
+    /// Sends the end, waiting for room.
+    pub fn close<R: Wait>(self, rt: &R, end: End) -> ClosedSender<T>
+        ensures link { result.link ≡ self.link }
+        ensures items { result.items ≡ self.items }
+        ensures end { result.end ≡ end }
+    {
+        let Sender { mut ring, patience } = self;
+        push_waiting(rt, &patience, &mut ring, Message::Last(end));
+        ClosedSender { ring }
+    }
+}
+
+impl<T> Out<T> for Sender<T> {
+    type Closed = ClosedSender<T>;
+
+    ghost link = { λ s. s.link };
+
+    ghost sent = { λ s. s.items };
+
+    ghost closed_link = { λ c. c.link };
+
+    ghost all_sent = { λ c. c.items };
+
+    ghost end_sent = { λ c. c.end };
+
+    fn send<R: Wait>(&mut self, rt: &R, item: T) -> Result<(), T> {
+        Sender::send(self, rt, item)
+    }
+
+    fn close<R: Wait>(self, rt: &R, end: End) -> ClosedSender<T> {
+        Sender::close(self, rt, end)
+    }
+}

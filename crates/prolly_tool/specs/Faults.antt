@@ -1,0 +1,68 @@
+-- The line and the status of each fault. (This project's texts.)
+use Rattle.std.specs.Prelude.{ℕ, List, [], ◌∷◌, ◌++◌, codes}
+use Rattle.std.specs.Fmt.{decimal}
+use Rattle.prolly_link.specs.declared.fault.RunFault.{RunFault}
+use Rattle.prolly_link.specs.declared.fault.RunFault.TheVariants as runs
+use Rattle.prolly_tool.specs.declared.pack.PackFault.{PackFault}
+use Rattle.prolly_tool.specs.declared.pack.PackFault.TheVariants as packs
+use Rattle.prolly_tool.specs.declared.fault.Fault.{Fault}
+use Rattle.prolly_tool.specs.declared.fault.Fault.TheVariants.{Run, Pack, InputTooLong, BadKey}
+
+-- What is said of a record of a file.
+abbrev pub record_text : ℕ → ℕ → List ℕ → List ℕ
+record_text file place rest = codes "file " ++ decimal file ++ codes ": record " ++ decimal place ++ rest
+
+abbrev pub run_text : RunFault → List ℕ
+run_text runs.Memory = codes "out of memory"
+run_text (runs.Read file) = codes "file " ++ decimal file ++ codes ": read failed"
+run_text (runs.Truncated file place) = record_text file place (codes " is cut")
+run_text (runs.KeyTooLong file place) = record_text file place (codes ": key too long")
+run_text (runs.ValueTooLong file place) = record_text file place (codes ": value too long")
+run_text (runs.OutOfOrder file place) = record_text file place (codes ": key out of order")
+run_text (runs.TooManyRecords file) = codes "file " ++ decimal file ++ codes ": too many records"
+run_text runs.Write = codes "write failed"
+run_text runs.TooTall = codes "tree too tall"
+run_text runs.NoThread = codes "a thread could not be started"
+run_text runs.Lost = codes "a worker was lost"
+run_text runs.TooManyFiles = codes "too many files"
+
+abbrev pub pack_text : PackFault → List ℕ
+pack_text packs.Memory = codes "out of memory"
+pack_text (packs.BadLine line) = codes "line " ++ decimal line ++ codes ": not a pair in hexadecimal"
+pack_text (packs.KeyTooLong line) = codes "line " ++ decimal line ++ codes ": key too long"
+pack_text (packs.ValueTooLong line) = codes "line " ++ decimal line ++ codes ": value too long"
+
+-- What is said of a fault.
+abbrev pub fault_text : Fault → List ℕ
+fault_text (Run fault) = run_text fault
+fault_text (Pack fault) = pack_text fault
+fault_text InputTooLong = codes "input too long"
+fault_text BadKey = codes "not a key in hexadecimal"
+
+-- 2: usage. 3: the input is at fault. 5: a device is. 6: memory or a thread. 7: the tree is too tall.
+abbrev pub run_status : RunFault → ℕ
+run_status runs.Memory = 6
+run_status (runs.Read file) = 5
+run_status (runs.Truncated file place) = 3
+run_status (runs.KeyTooLong file place) = 3
+run_status (runs.ValueTooLong file place) = 3
+run_status (runs.OutOfOrder file place) = 3
+run_status (runs.TooManyRecords file) = 3
+run_status runs.Write = 5
+run_status runs.TooTall = 7
+run_status runs.NoThread = 6
+run_status runs.Lost = 6
+run_status runs.TooManyFiles = 3
+
+abbrev pub fault_status : Fault → ℕ
+fault_status (Run fault) = run_status fault
+fault_status (Pack packs.Memory) = 6
+fault_status (Pack (packs.BadLine line)) = 3
+fault_status (Pack (packs.KeyTooLong line)) = 3
+fault_status (Pack (packs.ValueTooLong line)) = 3
+fault_status InputTooLong = 5
+fault_status BadKey = 2
+
+-- The line of a fault on standard error: the program's name, the text, a newline.
+abbrev pub fault_line : List ℕ → List ℕ
+fault_line text = codes "prolly: " ++ text ++ 0x0A ∷ []

@@ -1,0 +1,4 @@
+pub mod Lines
+pub mod Pack
+pub mod Faults
+pub mod Answers
