@@ -2,6 +2,9 @@
 //! so that it prints the same each time it is run in the gate.
 #![tactic(auto)]
 
+mod links;
+
+use crate::links::{time_batches, time_link, wait_a_second};
 use anyhow::{Context, Result, bail};
 use prolly_entry::{Pair, Sha512Cut};
 use prolly_file::scratch;
@@ -10,7 +13,8 @@ use std::env;
 use std::io::Print;
 use std::time::{Clock, Instant};
 
-const USAGE: &str = "prolly_bench scratch PAIRS";
+const USAGE: &str =
+    "prolly_bench scratch PAIRS | link ITEMS | batches-of-16 ITEMS | batches-of-64 ITEMS | wait 1";
 
 /// The bits of the cut: about one entry in 4,096 ends a chunk.
 const BITS: u8 = 12;
@@ -25,9 +29,13 @@ fn main(rt: HostRuntime) -> Result<()> {
     let Some(count) = words.next() else {
         bail!("{USAGE}");
     };
-    let count: u32 = count.parse().context("PAIRS is a number")?;
+    let count: u32 = count.parse().context("the count is a number")?;
     match what.as_str() {
         "scratch" => time_scratch(&rt, rt.alloc(), count),
+        "link" => time_link(rt, rt.alloc(), count),
+        "batches-of-16" => time_batches(rt, rt.alloc(), count, 16),
+        "batches-of-64" => time_batches(rt, rt.alloc(), count, 64),
+        "wait" => wait_a_second(rt, rt.alloc()),
         _ => bail!("{USAGE}"),
     }
 }

@@ -8,11 +8,10 @@ use Rattle.std.proofs.lemmas.Bool.{ne_eqb}
 use Rattle.std.proofs.lemmas.Slice.Eq.{bytes_eq-Decides}
 use Rattle.clap.specs.Facts.{parser_of_value}
 use Rattle.clap.specs.Faults.{entered_fault, level_fault}
-use Rattle.clap.specs.Simple.{App, Shape, argument_words, built, entered, label_of, names_of}
-use Rattle.clap.specs.Takes.{value_passes}
+use Rattle.clap.specs.Simple.{Shape, built, entered, label_of, names_of}
 use Rattle.clap.specs.Values.{read_as, reading_of}
 use Rattle.clap.specs.ValueTests.{accepts}
-use Rattle.clap.specs.Walk.{Row, Rule, Text, answers_to, arg_by_id, has_row, is_empty, nothing_held, one_of, first_of, reading_by, rows_after, stop_after}
+use Rattle.clap.specs.Walk.{Row, Rule, Text, answers_to, arg_by_id, has_row, is_empty, nothing_held, one_of, first_of, rows_after, stop_after}
 use Rattle.clap.proofs.OnLiterals.{clap_on_literals}
 use Rattle.clap.proofs.ValueTestLemmas.{accepts-Accepts}
 use Rattle.clap.specs.declared.builder.value_parser.ValueParser.{ValueParser}
@@ -98,10 +97,11 @@ level_at name s rows at accepted =
     let is : level.0 ≡ s = cc in
     subst (λ (x : Shape). IsLevelOf x rows) is level.2
 
--- each use of a subcommand that is accepted has a row under the id
+-- an accepted subcommand has a row under the id: its argument has a default or is required
 abbrev pub is_sure : Shape → Text → Bool
 is_sure s id = list_any (has_default id) s.rules || (list_any (has_required id) s.rules && not s.subcommand_negates_reqs)
 
+-- such an id has a row
 row_there : (s : Shape) (rows : List Row) (id : Text) → IsLevelOf s rows → is_sure s id ≡ true → has_row id rows ≡ true
 row_there s rows id level sure =
     rw level.1 (go (list_any (has_default id) s.rules) refl (list_any (has_required id) s.rules) refl s.subcommand_negates_reqs refl sure)
@@ -117,6 +117,7 @@ row_there s rows id level sure =
 abbrev pub reader_of : Rule → ValueParser × Bool
 reader_of a = (parser_of_value a.parser, wants_value a)
 
+-- the first value under an id that is sure, which passed the parser of its argument
 value_there : (s : Shape) (rows : List Row) (id : Text) (parser : ValueParser) → Each (IsSound s.rules) s.rules → IsLevelOf s rows
     → is_sure s id ≡ true → option_map reader_of (arg_by_id s.rules id) ≡ Some (parser, true)
     → (a : Rule) × (text : Text) × (first_of id rows ≡ Some text) × (one_of id rows ≡ Some (read_as (reading_of parser) text))

@@ -1,5 +1,5 @@
 -- What clap's clauses say of the program's command line.
-use Rattle.std.proofs.Common.{◌≡◌, ◌∙◌, ℕ, Bool, List, [], Option, Some, true, refl, sym, ap, subst, inl, inr, option_map}
+use Rattle.std.proofs.Common.{◌≡◌, ◌∙◌, Bool, List, [], Some, true, refl, sym, ap, subst, inl, inr}
 use Rattle.std.specs.Prelude.{IfErr, IfOk, Result, Ok, Err}
 use Rattle.clap.specs.Words.{App, HasKind, HasMatchesOf, IsAmong, Row, Text, app_of, fault_of, is_simple, is_simple_and_free, kind_of, subcommand_of, subcommand_rows_of}
 use Rattle.clap.specs.declared.builder.command.Command.{Command as ClapCommand}
@@ -15,6 +15,7 @@ use Rattle.prolly_line.specs.declared.command.ParseFault.TheVariants.{Memory, Us
 
 -- ---- clap's model holds of the line
 
+-- clap's model is exact for commands that pass two tests, and the line passes both
 line_is_simple : is_simple program_line ≡ true
 unfolding clap_on_literals
 line_is_simple = refl
@@ -27,18 +28,21 @@ line_is_free = refl
 at_line : (P : App → Type 0) (test : App → Bool) (a b : App) → a ≡ b → test b ≡ true → (test a ≡ true → P a) → P b
 at_line P test a b e passes h = subst P e (h (ap test e ∙ passes))
 
+-- an error of the command's is one of the line's
 error_at : (c : ClapCommand) (words : List Text) (e : Error) → app_of c ≡ program_line
     → (is_simple_and_free (app_of c) ≡ true → HasKind (fault_of (app_of c) words) e) → HasKind (line_faults words) e
 unfolding line_faults
 error_at c words e line kinds =
     at_line (λ a. HasKind (fault_of a words) e) is_simple_and_free (app_of c) program_line line line_is_free kinds
 
+-- words that the command takes are taken by the line
 accepted_at : (c : ClapCommand) (words : List Text) → app_of c ≡ program_line
     → (is_simple_and_free (app_of c) ≡ true → fault_of (app_of c) words ≡ []) → line_faults words ≡ []
 unfolding line_faults
 accepted_at c words line kinds =
     at_line (λ a. fault_of a words ≡ []) is_simple_and_free (app_of c) program_line line line_is_free kinds
 
+-- and give what the command's matches have
 given_at : (c : ClapCommand) (words : List Text) (m : ArgMatches) → app_of c ≡ program_line
     → HasMatchesOf (app_of c) words m → line_given words ≡ subcommand_rows_of m
 unfolding line_given

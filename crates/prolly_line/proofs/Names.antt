@@ -1,5 +1,5 @@
 -- An accepted subcommand is one of the seven.
-use Rattle.std.proofs.Common.{◌≡◌, ◌∙◌, List, [], Some, false, true, refl, sym, ap, subst, codes}
+use Rattle.std.proofs.Common.{◌≡◌, ◌∙◌, List, false, true, refl, sym, subst, codes}
 use Rattle.std.specs.Str.{bytes_eq}
 use Rattle.std.proofs.lemmas.Slice.Eq.{bytes_eq-Decides}
 use Rattle.clap.specs.Simple.{built, label_of, names_of}
@@ -22,6 +22,7 @@ pub record IsStrange (name : Text) : Type 0 where
   pub nth : name ≡ codes "nth" → ⊥
   pub help : name ≡ codes "help" → ⊥
 
+-- no subcommand of the line has such a name
 none_strange : Each (λ s. IsStrange s.name → ⊥) (built program_line).subs
 unfolding clap_on_literals
 none_strange = (
@@ -38,6 +39,7 @@ none_strange = (
   ),
 )
 
+-- clap answers `help` itself, so no words with it are accepted
 not_help : (given : Text × List Row) → IsAccepted given → given.0 ≡ codes "help" → ⊥
 unfolding line_faults clap_on_literals
 not_help given accepted is =
@@ -47,6 +49,7 @@ not_help given accepted is =
     let bad : true ≡ false = sym same ∙ past in
     cc
 
+-- and so an accepted subcommand has the name of one of the seven
 pub not_strange : (name : Text) (rows : List Row) → IsAccepted (name, rows)
     → (name ≡ codes "pack" → ⊥) → (name ≡ codes "scratch" → ⊥) → (name ≡ codes "build" → ⊥) → (name ≡ codes "check" → ⊥)
     → (name ≡ codes "get" → ⊥) → (name ≡ codes "scan" → ⊥) → (name ≡ codes "nth" → ⊥) → ⊥

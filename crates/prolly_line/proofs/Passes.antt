@@ -1,29 +1,28 @@
 -- Where clap takes the words, each value that it gives passed the parser of its argument.
-use Rattle.std.proofs.Common.{◌≡◌, ◌∙◌, ◌<◌, ◌+◌, ◌++◌, ℕ, Bool, List, [], ◌∷◌, length, drop, Option, Some, None, true, false, refl, sym, ap, subst, arith, cond, length-append}
-use Rattle.std.specs.Prelude.{◌&&◌, ◌||◌, ◌==◌, if◌then◌else◌, nat_lt, not, find, fold, is_some, option_and_then, option_map, slice_get, encode_utf8, zero, suc}
-use Rattle.std.specs.List.{list_all, list_any}
+use Rattle.std.proofs.Common.{◌≡◌, ◌∙◌, ◌<◌, ◌++◌, ℕ, Bool, List, [], ◌∷◌, length, drop, Option, Some, None, true, false, refl, sym, ap, subst, arith, cond, length-append}
+use Rattle.std.specs.Prelude.{◌&&◌, ◌||◌, if◌then◌else◌, nat_lt, find, fold, is_some, slice_get, encode_utf8, zero, suc}
+use Rattle.std.specs.List.{list_all}
 use Rattle.std.specs.Option.{option_map_or}
 use Rattle.std.specs.Str.{bytes_eq, chars}
 use Rattle.std.proofs.lemmas.List.Folds.{list_all-append}
 use Rattle.std.proofs.lemmas.Bool.{ne_eqb}
 use Rattle.std.proofs.lemmas.Slice.Eq.{bytes_eq-Decides}
-use Rattle.clap.specs.Facts.{explicit_source, unwrap_or_range}
-use Rattle.clap.specs.Kinds.{Kinds, check_kinds, or_else, range_kinds, value_kinds, values_kinds}
-use Rattle.clap.specs.Values.{is_request, read_as, refused_kind}
+use Rattle.clap.specs.Facts.{unwrap_or_range}
+use Rattle.clap.specs.Kinds.{Kinds, or_else, range_kinds, value_kinds, values_kinds}
+use Rattle.clap.specs.Values.{is_request, refused_kind}
 use Rattle.clap.specs.ValueTests.{accepts}
-use Rattle.clap.specs.Takes.{is_given, value_passes, values_pass}
+use Rattle.clap.specs.Takes.{values_pass}
 use Rattle.clap.specs.Kinds.{request_kinds}
 use Rattle.clap.specs.Simple.{Shape}
 use Rattle.clap.specs.Lexer.{long_of, short_of}
 use Rattle.clap.specs.Faults.{action_fault, bundle_fault, bundle_step_fault, default_fault, defaults_fault, flag_word_fault, flags_fault, given_default_fault, level_fault, long_fault, option_fault, other_fault, positional_fault, react_fault, repeat_fault, set_fault, settle_fault, short_fault, step_fault, stray_fault, turn_fault, use_fault, values_fault, walk_fault, word_fault}
-use Rattle.clap.specs.Walk.{Held, Names, Outcome, Row, Rule, Step, Text, Waiting, Walk, action_of, after_flag, after_step, arg_by_id, arg_by_index, arg_by_long, arg_by_short, at_row, attached_value, bundle, bundle_met, bundle_step, default_rows, done, finished, first_of, flag_met, has_row, idle, is_empty, is_pending, long_met, long_or_other, more_values, most_values, next, nothing_held, one_of, option, option_met, option_word, plain, plain_word, positional, reacted, reading_by, refused, row_text, rows_after, settled, settled_rows, short_met, short_or_plain, subcommand, subcommand_met, subcommand_or_other, takes_several, takes_values, to_positional, trailing, used, used_as, used_by_id, value, values_or_missing, waits, walk, walk_from, walked, walked_from, with_default, with_values, without, word_met}
+use Rattle.clap.specs.Walk.{Held, Names, Outcome, Row, Rule, Step, Text, Waiting, Walk, action_of, after_flag, after_step, arg_by_id, arg_by_index, arg_by_long, arg_by_short, at_row, attached_value, bundle, bundle_met, bundle_step, default_rows, done, flag_met, has_row, idle, is_empty, is_pending, long_met, long_or_other, more_values, most_values, next, nothing_held, option, option_met, option_word, plain, plain_word, positional, reacted, reading_by, refused, rows_after, settled, settled_rows, short_met, short_or_plain, subcommand, subcommand_met, subcommand_or_other, takes_several, takes_values, to_positional, trailing, used, used_as, used_by_id, value, values_or_missing, waits, walk, walk_from, walked, walked_from, with_default, with_values, without, word_met}
 use Rattle.clap.specs.declared.builder.action.ArgAction.{ArgAction}
 use Rattle.clap.specs.declared.builder.action.ArgAction.TheVariants.{Set, Append, SetTrue, SetFalse, Count, Help, HelpShort, HelpLong, Version}
 use Rattle.clap.specs.declared.builder.value_parser.ValueParser.{ValueParser}
 use Rattle.clap.specs.declared.parser.matches.ValueSource.{ValueSource}
 use Rattle.clap.specs.declared.parser.matches.ValueSource.TheVariants.{CommandLine, DefaultValue}
 use Rattle.clap.specs.declared.error.kind.ErrorKind.TheVariants.{TooManyValues}
-use Rattle.clap.specs.declared.builder.value_parser.Reading.{Reading}
 
 -- P holds of each element, by the list's cases
 abbrev pub Each : {X : Type 0} → (X → Type 0) → List X → Type 0
@@ -39,6 +38,7 @@ pub none_in : (a b : Kinds) → or_else a b ≡ [] → (a ≡ []) × (b ≡ [])
 none_in [] b h = (refl, h)
 none_in (k ∷ ks) b h = cc
 
+-- both tests hold
 both : (a b : Bool) → a ≡ true → b ≡ true → (a && b) ≡ true
 both true b ha hb = hb
 both false b ha hb = ha
@@ -51,6 +51,7 @@ accepted i p v h = go (accepts i p v) h
     go true h = refl
     go false h = cc
 
+-- and so do all of a list
 all_accepted : (i : Bool) (p : ValueParser) (vs : List Text) → values_kinds i p vs ≡ [] → list_all (accepts i p) vs ≡ true
 all_accepted i p [] h = refl
 all_accepted i p (v ∷ vs) h =
@@ -76,6 +77,7 @@ abbrev pub HasPassed : List Rule → Row → Type 0
 HasPassed c r = (a : Rule) × (arg_by_id c r.id ≡ Some a) × (values_pass a r.values ≡ true) × (wants_value a ≡ true → 0 < length r.values)
     × (r.reading ≡ reading_by a)
 
+-- what holds of each element holds of the one that is found
 pub found_sound : {X : Type 0} (p : X → Bool) (P : X → Type 0) (xs : List X) (a : X) → Each P xs → find p xs ≡ Some a → P a
 found_sound p P [] a all e = cc
 found_sound p P (x ∷ xs) a all e = go (found_sound p P xs a all.1) (p x) e
@@ -95,6 +97,7 @@ at_each P id change missing (r ∷ rs) step new all = go (at_each P id change mi
     go below true e = Each-append P (change r) rs (step r e all.0) all.1
     go below false e = (all.0, below)
 
+-- nor is anything lost where the row of an id goes
 none_left : (P : Row → Type 0) (id : Text) (rows : List Row) → Each P rows → Each P (without id rows)
 none_left P id rows all = at_each P id (λ _. []) [] rows (λ r e h. tt) tt all
 
@@ -148,6 +151,8 @@ used_passed c again a values rows sound fault all =
     go HelpShort t s f = all
     go HelpLong t s f = all
     go Version t s f = all
+
+-- ---- the walk: what clap takes, step by step, leaves rows whose values passed
 
 settled_passed : (c : List Rule) (again : Bool) (h : Held) → Each (IsSound c) c → settle_fault c again h ≡ [] → Each (HasPassed c) h.rows
     → Each (HasPassed c) (settled c h).rows
@@ -303,6 +308,8 @@ walk_passed s names w [] sound fault all = all
 walk_passed s names w (word ∷ rest) sound fault all =
     let two = none_in (turn_fault s names w word) (walk_fault s names (walked s.rules names w word) rest) fault in
     walk_passed s names (walked s.rules names w word) rest sound two.1 (walked_passed s names w word sound two.0 all)
+
+-- ---- defaults
 
 default_passed : (c : List Rule) (a : Rule) (rows : List Row) → IsSound c a → default_fault rows a ≡ [] → Each (HasPassed c) rows
     → Each (HasPassed c) (with_default rows a)

@@ -1,30 +1,23 @@
 -- Where clap takes the words, an argument with a default and a required one have a value.
-use Rattle.std.proofs.Common.{◌≡◌, ◌∙◌, ◌<◌, ◌+◌, ◌++◌, ℕ, Bool, List, [], ◌∷◌, length, drop, Option, Some, None, true, false, refl, sym, ap, subst, arith, cond, length-append}
-use Rattle.std.specs.Prelude.{◌&&◌, ◌||◌, ◌==◌, if◌then◌else◌, nat_lt, not, find, fold, is_some, option_and_then, option_map, slice_get, encode_utf8, zero, suc}
-use Rattle.std.specs.List.{list_all, list_any}
+use Rattle.std.proofs.Common.{◌≡◌, ◌∙◌, ◌<◌, ◌++◌, Bool, List, [], ◌∷◌, length, Some, true, false, refl, sym, ap, subst, arith, cond}
+use Rattle.std.specs.Prelude.{◌&&◌, ◌||◌, if◌then◌else◌, not, find, fold, option_and_then, option_map, slice_get}
+use Rattle.std.specs.List.{list_any}
 use Rattle.std.specs.Option.{option_map_or}
-use Rattle.std.specs.Str.{bytes_eq, chars}
-use Rattle.std.proofs.lemmas.List.Folds.{list_all-append}
-use Rattle.std.proofs.lemmas.Bool.{ne_eqb}
+use Rattle.std.specs.Str.{bytes_eq}
 use Rattle.std.proofs.lemmas.Slice.Eq.{bytes_eq-Decides}
-use Rattle.clap.specs.Facts.{explicit_source, unwrap_or_range}
-use Rattle.clap.specs.Kinds.{Kinds, check_kinds, or_else, range_kinds, value_kinds, values_kinds}
-use Rattle.clap.specs.Values.{is_request, read_as, refused_kind}
-use Rattle.clap.specs.ValueTests.{accepts}
+use Rattle.clap.specs.Facts.{explicit_source}
+use Rattle.clap.specs.Kinds.{Kinds, check_kinds}
+use Rattle.clap.specs.Values.{read_as}
 use Rattle.clap.specs.Takes.{is_given, value_passes, values_pass}
-use Rattle.clap.specs.Kinds.{request_kinds}
 use Rattle.clap.specs.Simple.{Shape}
-use Rattle.clap.specs.Lexer.{long_of, short_of}
-use Rattle.clap.specs.Faults.{action_fault, bundle_fault, bundle_step_fault, default_fault, defaults_fault, flag_word_fault, flags_fault, given_default_fault, level_fault, long_fault, option_fault, other_fault, positional_fault, react_fault, repeat_fault, set_fault, settle_fault, short_fault, step_fault, stray_fault, turn_fault, use_fault, values_fault, walk_fault, word_fault}
-use Rattle.clap.specs.Walk.{Held, Names, Outcome, Row, Rule, Step, Text, Waiting, Walk, action_of, after_flag, after_step, arg_by_id, arg_by_index, arg_by_long, arg_by_short, at_row, attached_value, bundle, bundle_met, bundle_step, default_rows, done, finished, first_of, flag_met, has_row, idle, is_empty, is_pending, long_met, long_or_other, more_values, most_values, next, nothing_held, one_of, option, option_met, option_word, plain, plain_word, positional, reacted, reading_by, refused, row_text, rows_after, settled, settled_rows, short_met, short_or_plain, subcommand, subcommand_met, subcommand_or_other, takes_several, takes_values, to_positional, trailing, used, used_as, used_by_id, value, values_or_missing, waits, walk, walk_from, walked, walked_from, with_default, with_values, without, word_met}
-use Rattle.clap.specs.declared.builder.action.ArgAction.{ArgAction}
-use Rattle.clap.specs.declared.builder.action.ArgAction.TheVariants.{Set, Append, SetTrue, SetFalse, Count, Help, HelpShort, HelpLong, Version}
-use Rattle.clap.specs.declared.builder.value_parser.ValueParser.{ValueParser}
+use Rattle.clap.specs.Faults.{defaults_fault, level_fault, settle_fault, walk_fault}
+use Rattle.clap.specs.Walk.{Names, Row, Rule, Text, arg_by_id, at_row, default_rows, first_of, has_row, is_empty, more_values, nothing_held, one_of, reading_by, row_text, rows_after, settled, walk, walk_from, with_default, with_values}
 use Rattle.clap.specs.declared.parser.matches.ValueSource.{ValueSource}
-use Rattle.clap.specs.declared.parser.matches.ValueSource.TheVariants.{CommandLine, DefaultValue}
-use Rattle.clap.specs.declared.error.kind.ErrorKind.TheVariants.{TooManyValues}
+use Rattle.clap.specs.declared.parser.matches.ValueSource.TheVariants.{DefaultValue}
 use Rattle.clap.specs.declared.builder.value_parser.Reading.{Reading}
 use Rattle.prolly_line.proofs.Passes.{Each, HasPassed, none_in, wants_value}
+
+-- ---- rows that stay, and rows that are new
 
 or_true : (a b : Bool) → b ≡ true → (a || b) ≡ true
 or_true true b h = refl
@@ -33,6 +26,7 @@ or_true false b h = h
 same_text : (t : Text) → bytes_eq t t ≡ true
 same_text t = (bytes_eq-Decides t t).1 refl
 
+-- a row stays where values join another row, or its own
 row_stays : (id i : Text) (s : ValueSource) (vs : List Text) (missing rows : List Row) → has_row id rows ≡ true
     → has_row id (at_row i (more_values s vs) missing rows) ≡ true
 row_stays id i s vs missing [] h = cc
@@ -45,6 +39,7 @@ row_stays id i s vs missing (r ∷ rs) h = go (row_stays id i s vs missing rs) (
     go below false true e k = rw e refl
     go below false false e k = rw e (below k)
 
+-- values that join the row of an id leave it with a row
 row_new : (id : Text) (s : ValueSource) (vs : List Text) (new : Row) (rows : List Row) → new.id ≡ id
     → has_row id (at_row id (more_values s vs) (new ∷ []) rows) ≡ true
 row_new id s vs new [] e = rw e (rw (same_text id) refl)
@@ -55,6 +50,9 @@ row_new id s vs new (r ∷ rs) e = go (row_new id s vs new rs e) (bytes_eq r.id 
     go below true q = rw q refl
     go below false q = or_true (bytes_eq r.id id) _ below
 
+-- ---- defaults
+
+-- defaults take no row away
 default_stays : (id : Text) (a : Rule) (rows : List Row) → has_row id rows ≡ true → has_row id (with_default rows a) ≡ true
 default_stays id a rows h = go (has_row a.id rows) a.defaults
   where
@@ -63,6 +61,7 @@ default_stays id a rows h = go (has_row a.id rows) a.defaults
     go false [] = h
     go false (v ∷ vs) = row_stays id a.id DefaultValue (v ∷ vs) _ rows h
 
+-- and an argument with a default gets one
 default_new : (id : Text) (a : Rule) (rows : List Row) → a.id ≡ id → is_empty a.defaults ≡ false → has_row id (with_default rows a) ≡ true
 default_new id a rows e some = go (has_row a.id rows) refl a.defaults some
   where
@@ -99,10 +98,13 @@ pub default_present : (s : Shape) (names : Names) (words : List Text) (id : Text
     → has_row id (rows_after s.rules names words) ≡ true
 default_present s names words id h = defaults_new id s.rules (settled s.rules (walk s.rules names nothing_held words).held).rows h
 
+-- ---- required arguments
+
 -- the argument of an id is required
 abbrev pub has_required : Text → Rule → Bool
 has_required id a = bytes_eq a.id id && a.required
 
+-- what was given has a row
 given_row : (id : Text) (rows : List Row) → is_given id rows ≡ true → has_row id rows ≡ true
 given_row id [] h = cc
 given_row id (r ∷ rs) h = go (given_row id rs) (bytes_eq r.id id) h
@@ -113,6 +115,7 @@ given_row id (r ∷ rs) h = go (given_row id rs) (bytes_eq r.id id) h
     go below true k = refl
     go below false k = below k
 
+-- where no required argument is missing, each has a row
 required_row : (id : Text) (xs : List Rule) (rows : List Row) → list_any (has_required id) xs ≡ true
     → list_any (λ a. a.required && not (is_given a.id rows)) xs ≡ false → has_row id rows ≡ true
 required_row id [] rows h none = cc
@@ -129,6 +132,7 @@ required_row id (a ∷ xs) rows h none =
     go below false e true false q k n = cc
     go below false e false g q k n = below k n
 
+-- the last checks of a level that clap takes found nothing missing
 wanted_none : (help sub b : Bool) → check_kinds help sub b ≡ [] → b ≡ false
 wanted_none true sub b h = cc
 wanted_none false true b h = cc

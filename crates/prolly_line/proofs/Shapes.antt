@@ -3,7 +3,7 @@ use Rattle.std.proofs.Common.{◌≡◌, List, Some, refl, codes}
 use Rattle.clap.specs.Simple.{App, Shape, built_leaf, inherited, marked_built, with_leaf_noted}
 use Rattle.clap.specs.Walk.{Row}
 use Rattle.clap.proofs.OnLiterals.{clap_on_literals}
-use Rattle.prolly_line.proofs.Levels.{IsLevelOf, level_at, number_at, shape_at, word_at}
+use Rattle.prolly_line.proofs.Levels.{level_at, number_at, shape_at, word_at}
 use Rattle.prolly_line.proofs.Passes.{Each, IsSound}
 use Rattle.prolly_line.specs.Accepted.{HasNumber, HasWord, IsAccepted}
 use Rattle.prolly_line.specs.Line.{build_line, check_line, get_line, nth_line, pack_line, program_line, scan_line, scratch_line}
@@ -15,6 +15,10 @@ built_of line = built_leaf (inherited (with_leaf_noted (marked_built program_lin
 -- each argument is the one of its id
 abbrev IsSoundShape : Shape → Type 0
 IsSoundShape s = Each (IsSound s.rules) s.rules
+
+-- Each shape below is opaque but for the lemmas that name it on an `unfolding` line, since it is
+-- long when it is computed. `_found`: it is what its name stands for; `_sound`: its arguments have
+-- names of their own; `takes_`: what stands in its rows where clap takes the words.
 
 -- ---- pack
 

@@ -1,12 +1,12 @@
 -- Where clap takes the words, the walk over them did not stop at the subcommand `help`, which clap adds.
-use Rattle.std.proofs.Common.{◌≡◌, ◌∙◌, ℕ, Bool, List, [], ◌∷◌, Option, Some, None, true, false, refl, sym, ap, subst, codes}
+use Rattle.std.proofs.Common.{◌≡◌, ℕ, Bool, List, [], ◌∷◌, Option, Some, None, true, false, refl, ap, subst, codes}
 use Rattle.std.specs.Prelude.{◌&&◌, ◌++◌, if◌then◌else◌, is_some, fold, not}
 use Rattle.std.specs.Str.{bytes_eq}
 use Rattle.clap.specs.Faults.{level_fault, other_fault, step_fault, turn_fault, walk_fault, word_fault}
 use Rattle.clap.specs.Kinds.{Kinds, or_else}
 use Rattle.clap.specs.Lexer.{long_of, short_of}
 use Rattle.clap.specs.Simple.{Shape}
-use Rattle.clap.specs.Walk.{Held, Names, Outcome, Rule, Step, Text, Waiting, Walk, after_flag, after_step, arg_by_id, arg_by_index, arg_by_long, bundle, done, idle, long_met, long_or_other, next, nothing_held, option, option_word, plain, plain_word, positional, refused, short_or_plain, stop_after, subcommand, subcommand_met, subcommand_or_other, to_positional, trailing, value, waits, walk_from, walked, walked_from, word_met}
+use Rattle.clap.specs.Walk.{Held, Names, Outcome, Rule, Step, Text, Waiting, Walk, after_flag, after_step, arg_by_index, arg_by_long, bundle, done, idle, long_met, long_or_other, next, nothing_held, option, plain, plain_word, positional, refused, short_or_plain, stop_after, subcommand, subcommand_met, subcommand_or_other, to_positional, trailing, value, waits, walk_from, walked, walked_from, word_met}
 use Rattle.prolly_line.proofs.Passes.{none_in}
 
 -- the subcommand that a step enters
@@ -18,6 +18,7 @@ entered_by _ = None
 abbrev IsPastHelp : Option (Text × List Text) → Type 0
 IsPastHelp stop = (p : Text × List Text) → stop ≡ Some p → bytes_eq p.0 (codes "help") ≡ false
 
+-- a word that is no flag, and one that is, enter no subcommand
 plain_enters_none : (c : List Rule) (waiting : Waiting) (word : Text) (h : Held) → entered_by (plain_word c waiting word h).1 ≡ None
 plain_enters_none c idle word h = refl
 plain_enters_none c positional word h = refl
@@ -77,6 +78,7 @@ step_stops c word w h value p going e = go (arg_by_index c w.position) e
     go None e = cc
     go (Some a) e = cc
 
+-- the walk stays past `help` by one word, and by all
 walked_past_help : (s : Shape) (names : Names) (w : Walk) (word : Text) → s.disable_help_subcommand ≡ false → turn_fault s names w word ≡ []
     → IsPastHelp w.stopped → IsPastHelp (walked s.rules names w word).stopped
 unfolding walked

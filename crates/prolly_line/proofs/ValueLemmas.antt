@@ -1,11 +1,11 @@
 -- What the getters of clap's matches give, by the rows of the subcommand.
 use Rattle.std.proofs.Common.{◌<◌, ◌≤◌, ◌^◌, ◌≡◌, ◌∙◌, ℕ, List, Option, Some, None, refl, sym, ap, subst, arith, option_map}
-use Rattle.std.specs.Prelude.{Result, Ok, Err}
+use Rattle.std.specs.Prelude.{Result, Ok}
 use Rattle.std.specs.Borrow.{Bor}
 use Rattle.std.specs.Str.Parse.{ParsesUnsigned}
 use Rattle.std.proofs.lemmas.Int.{ints}
 use Rattle.clap.specs.Matches.{ReadsOne, first_value}
-use Rattle.clap.specs.Words.{Row, Text, first_of, one_of, one_text, rows_of, without_minus}
+use Rattle.clap.specs.Words.{Row, Text, first_of, one_text, rows_of, without_minus}
 use Rattle.clap.specs.declared.parser.matches.Found.{Found}
 use Rattle.clap.proofs.CallerReads.{signed_reads}
 use Rattle.clap.proofs.WalkLemmas.{first_value-rows, one_text-rows}

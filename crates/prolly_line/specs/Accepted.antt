@@ -1,12 +1,17 @@
 -- What stands in the rows of a subcommand whose words clap takes, and what is made of them.
 use Rattle.std.specs.Prelude.{◌≡◌, ◌≤◌, ⊤, ℕ, pos, Result, MatchResult, Some, List, []}
 use Rattle.clap.specs.Values.{IsSignedIn}
-use Rattle.clap.specs.Words.{Row, Text, first_of, one_of, without_minus}
+use Rattle.clap.specs.Words.{Row, Text, first_of, found_of, one_of, rows_of, without_minus}
+use Rattle.clap.specs.declared.parser.matches.ArgMatches.{ArgMatches}
 use Rattle.prolly_line.specs.Line.{line_faults, line_given}
 use Rattle.prolly_line.specs.Given.{GivesBadKey, GivesNumber, HasBadKey, HasFields}
 use Rattle.prolly_line.specs.declared.command.Command.{Command}
 use Rattle.prolly_line.specs.declared.command.ParseFault.{ParseFault}
-use Rattle.prolly_line.specs.declared.command.ParseFault.TheVariants.{Memory, Usage, Help, BadKey}
+use Rattle.prolly_line.specs.declared.command.ParseFault.TheVariants.{Memory, BadKey}
+
+-- the rows that the matches of a subcommand hold
+abbrev pub rows_in : ArgMatches → List Row
+rows_in matches = rows_of (found_of matches)
 
 -- clap takes some words that name this subcommand and give it these rows
 abbrev pub IsAccepted : Text × List Row → Type 0
@@ -19,7 +24,9 @@ HasNumber name least most rows =
 
 -- the number under this name, in each range up to a bound in which the numeral lies
 abbrev pub ReadsNumber : ℕ → Text → List Row → ℕ → Type 0
-ReadsNumber bound name rows n = (least most : ℕ) → most ≤ bound → HasNumber name least most rows → GivesNumber rows name least most n
+ReadsNumber bound name rows n =
+    (least most : ℕ) → most ≤ bound → HasNumber name least most rows
+    → GivesNumber rows name least most n
 
 -- a word stands under this name
 abbrev pub HasWord : Text → List Row → Type 0

@@ -47,7 +47,8 @@ GivesKey rows key = (text : Text) × (first_of (codes "key") rows ≡ Some text)
 
 -- the word for the key is no text of a key
 abbrev pub GivesBadKey : List Row → Type 0
-GivesBadKey rows = (text : Text) × (first_of (codes "key") rows ≡ Some text) × ((key : List ℕ) → IsKeyText text key → ⊥)
+GivesBadKey rows =
+    (text : Text) × (first_of (codes "key") rows ≡ Some text) × ((key : List ℕ) → IsKeyText text key → ⊥)
 
 -- ---- the command
 
@@ -56,27 +57,41 @@ abbrev pub HasFields : Command → Text × List Row → Type 0
 HasFields (Pack out) given =
     (given.0 ≡ codes "pack") × GivesWord given.1 (codes "out") (string_bytes out)
 HasFields (Scratch bits version out) given =
-    (given.0 ≡ codes "scratch") × GivesNumber given.1 (codes "bits") 0 24 bits × GivesNumber given.1 (codes "format") 1 2 version
+    (given.0 ≡ codes "scratch")
+    × GivesNumber given.1 (codes "bits") 0 24 bits
+    × GivesNumber given.1 (codes "format") 1 2 version
     × GivesOption given.1 (codes "out") (option_map string_bytes out)
 HasFields (Build bits stages capacity max_records batch version out files) given =
-    (given.0 ≡ codes "build") × GivesNumber given.1 (codes "bits") 0 24 bits × GivesNumber given.1 (codes "stages") 1 12 stages
-    × GivesNumber given.1 (codes "capacity") 1 4096 capacity × GivesNumber given.1 (codes "max-records") 1 16777216 max_records
-    × GivesNumber given.1 (codes "batch") 1 1024 batch × GivesNumber given.1 (codes "format") 1 2 version
-    × GivesWord given.1 (codes "out") (string_bytes out) × GivesWords given.1 (codes "files") (map string_bytes files.items)
+    (given.0 ≡ codes "build")
+    × GivesNumber given.1 (codes "bits") 0 24 bits
+    × GivesNumber given.1 (codes "stages") 1 12 stages
+    × GivesNumber given.1 (codes "capacity") 1 4096 capacity
+    × GivesNumber given.1 (codes "max-records") 1 16777216 max_records
+    × GivesNumber given.1 (codes "batch") 1 1024 batch
+    × GivesNumber given.1 (codes "format") 1 2 version
+    × GivesWord given.1 (codes "out") (string_bytes out)
+    × GivesWords given.1 (codes "files") (map string_bytes files.items)
 HasFields (Check file) given =
     (given.0 ≡ codes "check") × GivesWord given.1 (codes "file") (string_bytes file)
 HasFields (Get file key) given =
-    (given.0 ≡ codes "get") × GivesWord given.1 (codes "file") (string_bytes file) × GivesKey given.1 key.items
+    (given.0 ≡ codes "get")
+    × GivesWord given.1 (codes "file") (string_bytes file)
+    × GivesKey given.1 key.items
 HasFields (Scan file from limit) given =
-    (given.0 ≡ codes "scan") × GivesWord given.1 (codes "file") (string_bytes file) × GivesKey given.1 from.items
+    (given.0 ≡ codes "scan")
+    × GivesWord given.1 (codes "file") (string_bytes file)
+    × GivesKey given.1 from.items
     × GivesNumber given.1 (codes "limit") 0 1000000 limit
 HasFields (Nth file n) given =
-    (given.0 ≡ codes "nth") × GivesWord given.1 (codes "file") (string_bytes file) × GivesNumber given.1 (codes "n") 0 4294967295 n
+    (given.0 ≡ codes "nth")
+    × GivesWord given.1 (codes "file") (string_bytes file)
+    × GivesNumber given.1 (codes "n") 0 4294967295 n
 
 -- clap takes the words, and the command is what they give
 abbrev pub IsGivenBy : List Text → Command → Type 0
 IsGivenBy words command =
-    (line_faults words ≡ []) × ((given : Text × List Row) × (line_given words ≡ Some given) × HasFields command given)
+    (line_faults words ≡ [])
+    × ((given : Text × List Row) × (line_given words ≡ Some given) × HasFields command given)
 
 -- ---- refusals
 
@@ -90,7 +105,8 @@ IsRefusedBy words Memory = ⊤
 IsRefusedBy words (Usage text) = (kind : ErrorKind) × IsAmong kind (line_faults words) × (kind ≢ DisplayHelp)
 IsRefusedBy words (Help text) = IsAmong DisplayHelp (line_faults words)
 IsRefusedBy words BadKey =
-    (line_faults words ≡ []) × ((given : Text × List Row) × (line_given words ≡ Some given) × HasBadKey given)
+    (line_faults words ≡ [])
+    × ((given : Text × List Row) × (line_given words ≡ Some given) × HasBadKey given)
 
 -- an error of clap's of this kind comes to this fault
 abbrev pub IsRefusalOf : ErrorKind → ParseFault → Type 0

@@ -1,7 +1,10 @@
 //! The options and words of the subcommands, each with the rule that clap reads it by.
 ghost use Rattle.std.specs.Prelude.{◌≡◌, false};
 ghost use Rattle.clap.specs.Words.{rule_of};
-ghost use Rattle.prolly_line.specs.Line.{batch_option, bits_option, capacity_option, file_word, files_words, format_option, key_word, limit_word, max_records_option, n_word, out_option, out_word, stages_option};
+ghost use Rattle.prolly_line.specs.Line.{batch_option, bits_option, capacity_option, file_word};
+ghost use Rattle.prolly_line.specs.Line.{files_words, format_option, key_word, limit_word};
+ghost use Rattle.prolly_line.specs.Line.{max_records_option, n_word, out_option, out_word};
+ghost use Rattle.prolly_line.specs.Line.{stages_option};
 
 use clap::Arg;
 use std::alloc::Global;
@@ -149,7 +152,7 @@ pub(crate) fn n_word<'a>(alloc: Global) -> Arg<'a>
         .required(true)
         .value_name("N")
         .value_parser(clap::value_parser!(u32))
-        .help("The number of the pair, counted from 0 in the order of keys (at most 4,294,967,295)")
+        .help("The place of the pair in the order of keys, counted from 0 (to 4,294,967,295)")
 }
 
 /// `FILES`

@@ -1,8 +1,8 @@
 //! What the program is asked to do.
 ghost use Rattle.std.specs.Prelude.{◌≡◌, IfOk, IfErr, map, string_bytes, option_map};
-ghost use Rattle.clap.specs.Words.{found_of, kind_of, rows_of, subcommand_rows_of};
+ghost use Rattle.clap.specs.Words.{kind_of, subcommand_rows_of};
 ghost use Rattle.prolly_line.specs.Given.{IsGivenBy, IsRefusalOf, IsRefusedBy};
-ghost use Rattle.prolly_line.specs.Accepted.{Answers, IsAccepted};
+ghost use Rattle.prolly_line.specs.Accepted.{Answers, IsAccepted, rows_in};
 ghost use Rattle.prolly_line.specs.declared.command.ParseFault.TheVariants.{Memory};
 
 use crate::fields;
@@ -107,7 +107,7 @@ fn refusal(alloc: Global, error: &clap::Error) -> ParseFault
 
 // The subcommand that was met, with its matches.
 fn subcommand_of<'b, 'a>(matches: &'b ArgMatches<'a>) -> Option<(&'a str, &'b ArgMatches<'a>)>
-    ensures { option_map (λ p. (p.0.now, rows_of (found_of p.1.now))) result
+    ensures { option_map (λ p. (p.0.now, rows_in p.1.now)) result
         ≡ subcommand_rows_of matches.now }
 {
     matches.subcommand()
@@ -115,8 +115,8 @@ fn subcommand_of<'b, 'a>(matches: &'b ArgMatches<'a>) -> Option<(&'a str, &'b Ar
 
 // The command of a subcommand that clap has accepted.
 fn command_of(alloc: Global, name: &str, given: &ArgMatches<'_>) -> Result<Command, ParseFault>
-    requires { IsAccepted (name.now, rows_of (found_of given.now)) }
-    ensures { Answers (name.now, rows_of (found_of given.now)) result }
+    requires { IsAccepted (name.now, rows_in given.now) }
+    ensures { Answers (name.now, rows_in given.now) result }
 {
     match name {
         "pack" => fields::pack(alloc, given),

@@ -1,25 +1,26 @@
 //! The fields of a command, from what clap found for its subcommand. Each function requires that
 //! clap has accepted the words, and so takes what has to be there without a test.
 ghost use Rattle.std.specs.Prelude.{codes};
-ghost use Rattle.clap.specs.Words.{found_of, rows_of};
-ghost use Rattle.prolly_line.specs.Accepted.{Answers, IsAccepted};
+ghost use Rattle.prolly_line.specs.Accepted.{Answers, IsAccepted, rows_in};
 
 use crate::command::{Command, ParseFault};
 use crate::values::{byte_of, key_of, number_of, option_of, text_of, texts_of};
 use clap::ArgMatches;
 use std::alloc::Global;
 
+/// `pack OUT`
 pub(crate) fn pack(alloc: Global, given: &ArgMatches<'_>) -> Result<Command, ParseFault>
-    requires { IsAccepted (codes "pack", rows_of (found_of given.now)) }
-    ensures { Answers (codes "pack", rows_of (found_of given.now)) result }
+    requires { IsAccepted (codes "pack", rows_in given.now) }
+    ensures { Answers (codes "pack", rows_in given.now) result }
 {
     let out = text_of(alloc, given, "out")?;
     Ok(Command::Pack { out })
 }
 
+/// `scratch [--bits Q] [--format V] [--out FILE]`
 pub(crate) fn scratch(alloc: Global, given: &ArgMatches<'_>) -> Result<Command, ParseFault>
-    requires { IsAccepted (codes "scratch", rows_of (found_of given.now)) }
-    ensures { Answers (codes "scratch", rows_of (found_of given.now)) result }
+    requires { IsAccepted (codes "scratch", rows_in given.now) }
+    ensures { Answers (codes "scratch", rows_in given.now) result }
 {
     let bits = byte_of(given, "bits");
     let version = byte_of(given, "format");
@@ -27,9 +28,11 @@ pub(crate) fn scratch(alloc: Global, given: &ArgMatches<'_>) -> Result<Command, 
     Ok(Command::Scratch { bits, version, out })
 }
 
+/// `build [--bits Q] [--stages S] [--capacity C] [--max-records M] [--batch B] [--format V] OUT
+/// [FILES...]`
 pub(crate) fn build(alloc: Global, given: &ArgMatches<'_>) -> Result<Command, ParseFault>
-    requires { IsAccepted (codes "build", rows_of (found_of given.now)) }
-    ensures { Answers (codes "build", rows_of (found_of given.now)) result }
+    requires { IsAccepted (codes "build", rows_in given.now) }
+    ensures { Answers (codes "build", rows_in given.now) result }
 {
     let bits = byte_of(given, "bits");
     let stages = byte_of(given, "stages");
@@ -51,26 +54,29 @@ pub(crate) fn build(alloc: Global, given: &ArgMatches<'_>) -> Result<Command, Pa
     })
 }
 
+/// `check FILE`
 pub(crate) fn check(alloc: Global, given: &ArgMatches<'_>) -> Result<Command, ParseFault>
-    requires { IsAccepted (codes "check", rows_of (found_of given.now)) }
-    ensures { Answers (codes "check", rows_of (found_of given.now)) result }
+    requires { IsAccepted (codes "check", rows_in given.now) }
+    ensures { Answers (codes "check", rows_in given.now) result }
 {
     let file = text_of(alloc, given, "file")?;
     Ok(Command::Check { file })
 }
 
+/// `get FILE HEXKEY`
 pub(crate) fn get(alloc: Global, given: &ArgMatches<'_>) -> Result<Command, ParseFault>
-    requires { IsAccepted (codes "get", rows_of (found_of given.now)) }
-    ensures { Answers (codes "get", rows_of (found_of given.now)) result }
+    requires { IsAccepted (codes "get", rows_in given.now) }
+    ensures { Answers (codes "get", rows_in given.now) result }
 {
     let key = key_of(alloc, given)?;
     let file = text_of(alloc, given, "file")?;
     Ok(Command::Get { file, key })
 }
 
+/// `scan FILE HEXKEY LIMIT`
 pub(crate) fn scan(alloc: Global, given: &ArgMatches<'_>) -> Result<Command, ParseFault>
-    requires { IsAccepted (codes "scan", rows_of (found_of given.now)) }
-    ensures { Answers (codes "scan", rows_of (found_of given.now)) result }
+    requires { IsAccepted (codes "scan", rows_in given.now) }
+    ensures { Answers (codes "scan", rows_in given.now) result }
 {
     let from = key_of(alloc, given)?;
     let limit = number_of(given, "limit");
@@ -78,9 +84,10 @@ pub(crate) fn scan(alloc: Global, given: &ArgMatches<'_>) -> Result<Command, Par
     Ok(Command::Scan { file, from, limit })
 }
 
+/// `nth FILE N`
 pub(crate) fn nth(alloc: Global, given: &ArgMatches<'_>) -> Result<Command, ParseFault>
-    requires { IsAccepted (codes "nth", rows_of (found_of given.now)) }
-    ensures { Answers (codes "nth", rows_of (found_of given.now)) result }
+    requires { IsAccepted (codes "nth", rows_in given.now) }
+    ensures { Answers (codes "nth", rows_in given.now) result }
 {
     let n = u64::from(number_of(given, "n"));
     let file = text_of(alloc, given, "file")?;

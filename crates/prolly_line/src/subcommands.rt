@@ -2,7 +2,8 @@
 ghost use Rattle.std.specs.Prelude.{◌≡◌, IfOk, false};
 ghost use Rattle.clap.specs.Words.{app_of, new_app};
 ghost use Rattle.clap.specs.declared.builder.command.Command.TheViews.{out-Command as fields_of};
-ghost use Rattle.prolly_line.specs.Line.{build_line, check_line, get_line, nth_line, pack_line, scan_line, scratch_line};
+ghost use Rattle.prolly_line.specs.Line.{build_line, check_line, get_line, nth_line, pack_line};
+ghost use Rattle.prolly_line.specs.Line.{scan_line, scratch_line};
 
 use crate::{arguments, help};
 use clap::Command;

@@ -1,8 +1,9 @@
 //! The values of one option or word, from what clap found.
-ghost use Rattle.std.specs.Prelude.{◌≡◌, ◌⊎◌, Some, IfOk, IfErr, [], ℕ, List, map, string_bytes, option_map, codes, unwrap_or};
-ghost use Rattle.clap.specs.Words.{all_of, first_of, found_of, rows_of};
+ghost use Rattle.std.specs.Prelude.{◌≡◌, ◌⊎◌, Some, IfOk, IfErr, ℕ, List, map, string_bytes};
+ghost use Rattle.std.specs.Prelude.{option_map, codes};
+ghost use Rattle.clap.specs.Words.{first_of};
 ghost use Rattle.prolly_line.specs.Given.{GivesKey, GivesOption, GivesWord, GivesWords, IsKeyText};
-ghost use Rattle.prolly_line.specs.Accepted.{HasNumber, HasWord, IsRefusedKey, ReadsNumber};
+ghost use Rattle.prolly_line.specs.Accepted.{HasNumber, HasWord, IsRefusedKey, ReadsNumber, rows_in};
 ghost use Rattle.prolly_line.specs.declared.command.ParseFault.TheVariants.{BadKey, Memory};
 
 use crate::command::ParseFault;
@@ -15,24 +16,24 @@ const KEY_LIMIT: usize = 1024;
 
 /// A number of 8 bits.
 pub(crate) fn byte_of(given: &ArgMatches<'_>, name: &str) -> u8
-    requires { HasNumber name.now 0 255 (rows_of (found_of given.now)) }
-    ensures { ReadsNumber 255 name.now (rows_of (found_of given.now)) result }
+    requires { HasNumber name.now 0 255 (rows_in given.now) }
+    ensures { ReadsNumber 255 name.now (rows_in given.now) result }
 {
     given.get_one::<u8>(name).unwrap()
 }
 
 /// A number of 32 bits.
 pub(crate) fn number_of(given: &ArgMatches<'_>, name: &str) -> u32
-    requires { HasNumber name.now 0 4294967295 (rows_of (found_of given.now)) }
-    ensures { ReadsNumber 4294967295 name.now (rows_of (found_of given.now)) result }
+    requires { HasNumber name.now 0 4294967295 (rows_in given.now) }
+    ensures { ReadsNumber 4294967295 name.now (rows_in given.now) result }
 {
     given.get_one::<u32>(name).unwrap()
 }
 
 // A word that has to be there.
 fn word_of<'a>(given: &ArgMatches<'a>, name: &str) -> &'a str
-    requires { HasWord name.now (rows_of (found_of given.now)) }
-    ensures { first_of name.now (rows_of (found_of given.now)) ≡ Some result.now }
+    requires { HasWord name.now (rows_in given.now) }
+    ensures { first_of name.now (rows_in given.now) ≡ Some result.now }
 {
     given.get_str(name).unwrap()
 }
@@ -43,8 +44,8 @@ pub(crate) fn text_of(
     given: &ArgMatches<'_>,
     name: &str,
 ) -> Result<String, AllocError>
-    requires { HasWord name.now (rows_of (found_of given.now)) }
-    ensures { IfOk result (λ text. GivesWord (rows_of (found_of given.now)) name.now (string_bytes text)) }
+    requires { HasWord name.now (rows_in given.now) }
+    ensures { IfOk result (λ text. GivesWord (rows_in given.now) name.now (string_bytes text)) }
 {
     String::from_str(alloc, word_of(given, name))
 }
@@ -55,7 +56,8 @@ pub(crate) fn option_of(
     given: &ArgMatches<'_>,
     name: &str,
 ) -> Result<Option<String>, AllocError>
-    ensures { IfOk result (λ text. GivesOption (rows_of (found_of given.now)) name.now (option_map string_bytes text)) }
+    ensures { IfOk result (λ text.
+        GivesOption (rows_in given.now) name.now (option_map string_bytes text)) }
 {
     match given.get_str(name) {
         None => Ok(None),
@@ -69,7 +71,8 @@ pub(crate) fn texts_of(
     given: &ArgMatches<'_>,
     name: &str,
 ) -> Result<Vec<String>, AllocError>
-    ensures { IfOk result (λ texts. GivesWords (rows_of (found_of given.now)) name.now (map string_bytes texts.items)) }
+    ensures { IfOk result (λ texts.
+        GivesWords (rows_in given.now) name.now (map string_bytes texts.items)) }
 {
     match given.get_strs(name) {
         None => Ok(Vec::new(alloc)),
@@ -79,7 +82,8 @@ pub(crate) fn texts_of(
 
 // Copies of words.
 fn copies_of(alloc: Global, words: &[&str]) -> Result<Vec<String>, AllocError>
-    ensures { IfOk result (λ copies. map string_bytes copies.items ≡ map (λ w. w.now) words.now) }
+    ensures { IfOk result (λ copies.
+        map string_bytes copies.items ≡ map (λ word. word.now) words.now) }
 {
     let mut copies = Vec::new(alloc);
     for word in words {
@@ -90,9 +94,9 @@ fn copies_of(alloc: Global, words: &[&str]) -> Result<Vec<String>, AllocError>
 
 /// The key of a subcommand that takes one.
 pub(crate) fn key_of(alloc: Global, given: &ArgMatches<'_>) -> Result<Vec<u8>, ParseFault>
-    requires { HasWord (codes "key") (rows_of (found_of given.now)) }
-    ensures key { IfOk result (λ key. GivesKey (rows_of (found_of given.now)) key.items) }
-    ensures refused { IfErr result (IsRefusedKey (rows_of (found_of given.now))) }
+    requires { HasWord (codes "key") (rows_in given.now) }
+    ensures key { IfOk result (λ key. GivesKey (rows_in given.now) key.items) }
+    ensures refused { IfErr result (IsRefusedKey (rows_in given.now)) }
 {
     decoded(alloc, word_of(given, "key"))
 }
@@ -100,7 +104,8 @@ pub(crate) fn key_of(alloc: Global, given: &ArgMatches<'_>) -> Result<Vec<u8>, P
 // The key that a text in hexadecimal writes.
 fn decoded(alloc: Global, text: &str) -> Result<Vec<u8>, ParseFault>
     ensures key { IfOk result (λ key. IsKeyText text.now key.items) }
-    ensures refused { IfErr result (λ fault. (fault ≡ Memory) ⊎ ((fault ≡ BadKey) × ((key : List ℕ) → IsKeyText text.now key → ⊥))) }
+    ensures refused { IfErr result (λ fault. (fault ≡ Memory)
+        ⊎ ((fault ≡ BadKey) × ((key : List ℕ) → IsKeyText text.now key → ⊥))) }
 {
     match hex::decode(alloc, text) {
         Ok(key) if key.len() <= KEY_LIMIT => Ok(key),

@@ -1,3 +1,5 @@
 pub mod MessageLemmas
+pub mod AgreementLemmas
 pub mod BatchLemmas
+pub mod HandLemmas
 pub mod NumberLemmas

@@ -1,11 +1,10 @@
 -- One more message, and the whole of a closed list.
 use Rattle.std.proofs.Common.{◌≡◌, true, false, List, [], ◌∷◌, ◌++◌, refl, ap, sym, ◌∙◌}
-use Rattle.prolly_link.specs.Messages.{items_in, is_open, is_closed, end_in, whole_of, is_before_end, Agrees}
+use Rattle.std.proofs.lemmas.List.{append-nil}
+use Rattle.prolly_link.specs.Messages.{items_in, is_open, is_closed, end_in, whole_of}
 use Rattle.prolly_link.specs.declared.fault.End.{End}
 use Rattle.prolly_link.specs.Identity.{LinkId}
 use Rattle.prolly_link.specs.declared.message.Message.{Message}
-use Rattle.prolly_link.specs.declared.progress.Progress.{Progress}
-use Rattle.prolly_link.specs.declared.progress.Progress.TheVariants.{Open, Ended, Lost}
 use Rattle.prolly_link.specs.declared.message.Message.TheVariants.{Item, Last}
 
 module _ {T : Type 0} where
@@ -62,21 +61,5 @@ module _ {T : Type 0} where
   pub same_whole : (l m : LinkId) (ms ns : List (Message T)) → l ≡ m → ms ≡ ns → whole_of l ms ≡ whole_of m ns
   same_whole l m ms ns e f = ap (λ k. whole_of k ms) e ∙ ap (whole_of m) f
 
-  -- one more item, or an end, of a receiver that was open
-  pub agrees_item : (p : Progress) (ms all : List (Message T)) (x : T) → p ≡ Open → is_open ms ≡ is_before_end p → all ≡ ms ++ Item x ∷ [] → Agrees p all
-  agrees_item Open ms all x is o e = record {
-    open_is = ap is_open e ∙ is_open-item ms x ∙ o;
-    closed_is = ap is_closed e ∙ is_closed-item ms x;
-    end_is = refl;
-  }
-  agrees_item (Ended d) ms all x is o e = cc
-  agrees_item Lost ms all x is o e = cc
-
-  pub agrees_last : (p : Progress) (ms all : List (Message T)) (d : End) → p ≡ Open → is_open ms ≡ is_before_end p → all ≡ ms ++ Last d ∷ [] → Agrees (Ended d) all
-  agrees_last Open ms all d is o e = record {
-    open_is = ap is_open e ∙ is_open-last ms d;
-    closed_is = ap is_closed e ∙ is_closed-last ms d o;
-    end_is = ap Ended (ap end_in e ∙ end_in-last ms d o);
-  }
-  agrees_last (Ended c) ms all d is o e = cc
-  agrees_last Lost ms all d is o e = cc
+-- what one more message changes
+pub ruleset messages = (items_in-item, items_in-last, is_open-item, is_closed-last, end_in-last, append-nil)

@@ -1,6 +1,7 @@
 pub mod Identity
 pub mod Views
 pub mod Messages
+pub mod Agreement
 pub mod Receipts
 pub mod Fronts
 pub mod Growth
@@ -8,4 +9,6 @@ pub mod Draining
 pub mod Remaining
 pub mod RemainingLaws
 pub mod Batches
+pub mod OpenBatches
+pub mod Hands
 pub mod BatchDraining

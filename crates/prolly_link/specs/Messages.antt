@@ -1,13 +1,11 @@
 -- The messages of a link: items, and then at most one end.
-use Rattle.std.specs.Prelude.{◌≡◌, Bool, true, false, List, [], ◌∷◌}
+use Rattle.std.specs.Prelude.{Bool, true, false, List, [], ◌∷◌}
 use Rattle.prolly_link.specs.Identity.{LinkId}
 use Rattle.prolly_link.specs.Views.{Sending, Whole}
 use Rattle.prolly_link.specs.declared.fault.End.{End}
 use Rattle.prolly_link.specs.declared.fault.End.TheVariants.{Clean}
 use Rattle.prolly_link.specs.declared.message.Message.{Message}
 use Rattle.prolly_link.specs.declared.message.Message.TheVariants.{Item, Last}
-use Rattle.prolly_link.specs.declared.progress.Progress.{Progress}
-use Rattle.prolly_link.specs.declared.progress.Progress.TheVariants.{Open, Ended, Lost}
 
 module _ {T : Type 0} where
   -- the items among the messages
@@ -42,26 +40,3 @@ module _ {T : Type 0} where
   -- what a contract sees of an end whose last message is an end
   abbrev pub whole_of : LinkId → List (Message T) → Whole T
   whole_of l ms = record { link = l; items = items_in ms; end = end_in ms }
-
--- whether a receiver that has come this far has popped no end
-abbrev pub is_before_end : Progress → Bool
-is_before_end Open = true
-is_before_end (Ended e) = false
-is_before_end Lost = true
-
-abbrev pub is_ended : Progress → Bool
-is_ended Open = false
-is_ended (Ended e) = true
-is_ended Lost = false
-
--- the progress, with this end in the place of its end
-abbrev pub with_end : Progress → End → Progress
-with_end Open e = Open
-with_end (Ended d) e = Ended e
-with_end Lost e = Lost
-
--- a receiver that popped these messages has come this far
-pub record Agrees {T : Type 0} (p : Progress) (ms : List (Message T)) : Type 0 where
-  pub open_is : is_open ms ≡ is_before_end p
-  pub closed_is : is_closed ms ≡ is_ended p
-  pub end_is : with_end p (end_in ms) ≡ p

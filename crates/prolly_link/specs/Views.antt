@@ -4,12 +4,12 @@ use Rattle.prolly_link.specs.Identity.{LinkId}
 use Rattle.prolly_link.specs.declared.fault.End.{End}
 use Rattle.prolly_link.specs.declared.progress.Progress.{Progress}
 
--- an end without an end: its items, oldest first
+-- the items that went through an end of a link, oldest first, with no end after them
 pub record Sending (T : Type 0) : Type 0 where
   pub link : LinkId
   pub items : List T
 
--- an end that receives, and how far it has come
+-- the items that a receiver gave, and how far it has come
 pub record Receiving (T : Type 0) : Type 0 where
   pub link : LinkId
   pub items : List T
@@ -21,7 +21,7 @@ pub record Whole (T : Type 0) : Type 0 where
   pub items : List T
   pub end : End
 
--- an end that sends batches, and for how many items it has taken room
+-- the items that were given to a sender of batches, and for how many more it has taken room
 pub record Batching (T : Type 0) : Type 0 where
   pub link : LinkId
   pub items : List T

@@ -2,8 +2,8 @@
 ghost use Rattle.std.specs.Prelude.{◌≡◌};
 
 use crate::batch::Batch;
+use crate::batch_closed::ClosedBatch;
 use crate::batch_drained::EndedBatch;
-use crate::batch_sender::ClosedBatch;
 use crate::meeting::{Met, meet};
 use std::marker::Model;
 

@@ -28,7 +28,7 @@ impl<T> Model for BatchReceiver<T> {
 
     ghost Value = { Receiving T };
 
-    ghost use Rattle.prolly_link.specs.Batches.{given_of, IsInHand};
+    ghost use Rattle.prolly_link.specs.Hands.{given_of, IsInHand};
 
     ghost view = { λ r. given_of r.receiver (into_iter_items r.hand) };
 

@@ -3,16 +3,17 @@ ghost use Rattle.std.specs.Prelude.{◌≡◌, ◌<◌, ◌≤◌, ◌+◌, [], 
 ghost use Rattle.prolly_link.specs.Batches.{items_of};
 
 use crate::batch::Batch;
+use crate::batch_closed::ClosedBatch;
 use crate::fault::End;
 use crate::output::Out;
-use crate::sender::{ClosedSender, Sender};
+use crate::sender::Sender;
 use std::alloc::{AllocError, Global};
 use std::marker::Model;
 use std::mem;
 use std::sync::Wait;
 
 /// The sending end of a batch link. Contracts see its link, the items that were given to `send`, oldest first, and for
-/// how many more it has room that it took before.
+/// how many more it has taken room.
 #[derive(Drop)]
 pub struct BatchSender<T> {
     pub(crate) sender: Sender<Batch<T>>,
@@ -28,27 +29,11 @@ impl<T> Model for BatchSender<T> {
 
     ghost Value = { Batching T };
 
-    ghost use Rattle.prolly_link.specs.Batches.{batching_of, room_of, IsOpenBatch};
+    ghost use Rattle.prolly_link.specs.OpenBatches.{batching_of, room_of, IsOpenBatch};
 
     ghost view = { λ s. batching_of s.sender s.pending.items (room_of s.size (vec_capacity s.pending) (vec_len s.pending)) };
 
     ghost invariant = { λ s. IsOpenBatch s.size (vec_capacity s.pending) (vec_len s.pending) };
-}
-
-/// The sending end of a batch link, once it has sent the end. Contracts see its link, all items and the end.
-#[derive(Drop)]
-pub struct ClosedBatch<T> {
-    pub(crate) sender: ClosedSender<Batch<T>>,
-}
-
-impl<T> Model for ClosedBatch<T> {
-    ghost use Rattle.prolly_link.specs.Views.{Whole};
-
-    ghost Value = { Whole T };
-
-    ghost use Rattle.prolly_link.specs.Batches.{unbatched};
-
-    ghost view = { λ s. unbatched s.sender };
 }
 
 // Takes the room of a batch, unless it was taken before.
@@ -65,6 +50,7 @@ fn take_room<T>(batch: &mut Vec<T>, size: usize) -> Result<(), AllocError>
 }
 
 // Sends a batch where it has items.
+#[tactic(auto, using(crate::proofs::BatchLemmas::items_of_push))]
 fn send_items<T: Drop, R: Wait>(rt: &R, sender: &mut Sender<Batch<T>>, items: Vec<T>, size: usize)
     requires { vec_len items ≤ size }
     ensures link { sender.new.link ≡ sender.old.link }

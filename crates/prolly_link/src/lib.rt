@@ -1,13 +1,20 @@
 //! Links between workers: items go from one sender to one receiver, in order, and then one end.
+//!
+//! `link` carries items one by one over a bounded ring, and `batch_link` in batches. A worker is written over the traits
+//! `In` and `Out`, which `ListIn` and `ListOut` meet too, so that it can be run over lists in one thread. Contracts see an
+//! end as its link and the items that went through it. Where both ends have come back to one thread, `meet` and
+//! `meet_batches` show that what was received is what was sent.
 #![tactic(auto)]
 
 mod batch;
+mod batch_closed;
 mod batch_comparing;
 mod batch_drained;
 mod batch_meeting;
 mod batch_opening;
 mod batch_receiver;
 mod batch_sender;
+mod closed;
 mod comparing;
 mod drained;
 mod fault;
@@ -29,12 +36,14 @@ mod sender;
 #[cfg(test)]
 mod tests;
 
+pub use batch_closed::ClosedBatch;
 pub use batch_comparing::compare_batches;
 pub use batch_drained::{BatchDrained, EndedBatch, LostBatch};
 pub use batch_meeting::{MetBatch, meet_batches};
 pub use batch_opening::batch_link;
 pub use batch_receiver::BatchReceiver;
-pub use batch_sender::{BatchSender, ClosedBatch};
+pub use batch_sender::BatchSender;
+pub use closed::ClosedSender;
 pub use comparing::compare;
 pub use drained::{Drained, EndedReceiver, LostReceiver};
 pub use fault::{End, RunFault};
@@ -48,4 +57,4 @@ pub use output::Out;
 pub use progress::Progress;
 pub use receiver::Receiver;
 pub use rest::receive_rest;
-pub use sender::{ClosedSender, Sender};
+pub use sender::Sender;

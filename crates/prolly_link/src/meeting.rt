@@ -1,8 +1,8 @@
 // The meeting of the two ends of a link, in one thread again.
 ghost use Rattle.std.specs.Prelude.{◌≡◌};
 
+use crate::closed::ClosedSender;
 use crate::drained::EndedReceiver;
-use crate::sender::ClosedSender;
 use std::marker::Model;
 
 /// The two ends of a link, of which one received all that the other sent. Contracts see the link, its items and its end.

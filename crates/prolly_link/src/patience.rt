@@ -17,7 +17,7 @@ const LONGEST_NAP_MICROS: u64 = 1000;
 // Enough of them to come from the first nap to the longest.
 const MOST_DOUBLINGS: u32 = 10;
 
-/// What an end waits on. A short wait costs no call of the system, and a long one next to no time of the processor.
+/// What an end waits on. It does not sleep in a short wait, and a long one takes next to no time of the processor.
 #[derive(Drop)]
 pub(crate) struct Patience {
     // No other thread has the word: a wake-up would need a shared one, which every send would then have to look at.

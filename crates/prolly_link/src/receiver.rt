@@ -29,7 +29,8 @@ impl<T> Model for Receiver<T> {
 
     ghost use Rattle.rtrb.specs.Ring.{received as popped};
     ghost use Rattle.prolly_link.specs.Identity.{consumer_link};
-    ghost use Rattle.prolly_link.specs.Messages.{items_in, Agrees};
+    ghost use Rattle.prolly_link.specs.Messages.{items_in};
+    ghost use Rattle.prolly_link.specs.Agreement.{Agrees};
 
     ghost view = { λ r. record { link = consumer_link r.ring; items = items_in (popped r.ring); progress = r.progress } };
 
@@ -40,6 +41,7 @@ impl<T> Receiver<T> {
     ghost use Rattle.prolly_link.specs.Draining.{IsDrainOf};
 
     /// The next item, or the end, waiting for a message. An end, or `Lost`, is given again and again.
+    #[tactic(auto, using(crate::proofs::MessageLemmas::messages))]
     pub fn recv<R: Wait>(&mut self, rt: &R) -> Next<T>
         ensures link { self.new.link ≡ self.old.link }
         ensures items { self.new.items ≡ self.old.items ++ given_items result }

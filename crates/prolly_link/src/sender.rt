@@ -1,6 +1,7 @@
 // The end of a link that sends.
 ghost use Rattle.std.specs.Prelude.{◌≡◌, [], ◌∷◌, ◌++◌, IsOk};
 
+use crate::closed::ClosedSender;
 use crate::fault::End;
 use crate::message::Message;
 use crate::output::Out;
@@ -32,29 +33,9 @@ impl<T> Model for Sender<T> {
     ghost invariant = { λ s. is_open (pushed s.ring) ≡ true };
 }
 
-/// The sending end of a link, once it has sent the end. Contracts see that end too.
-#[derive(Drop)]
-pub struct ClosedSender<T> {
-    pub(crate) ring: Producer<Message<T>>,
-}
-
-impl<T> Model for ClosedSender<T> {
-    ghost use Rattle.std.specs.Prelude.{◌≡◌, true};
-    ghost use Rattle.prolly_link.specs.Views.{Whole};
-
-    ghost Value = { Whole T };
-
-    ghost use Rattle.rtrb.specs.Ring.{sent as pushed};
-    ghost use Rattle.prolly_link.specs.Identity.{producer_link};
-    ghost use Rattle.prolly_link.specs.Messages.{whole_of, is_closed};
-
-    ghost view = { λ s. whole_of (producer_link s.ring) (pushed s.ring) };
-
-    ghost invariant = { λ s. is_closed (pushed s.ring) ≡ true };
-}
-
 impl<T> Sender<T> {
     // Sends an item, waiting for room.
+    #[tactic(auto, using(crate::proofs::MessageLemmas::messages))]
     pub(crate) fn put<R: Wait>(&mut self, rt: &R, item: T)
         ensures link { self.new.link ≡ self.old.link }
         ensures items { self.new.items ≡ self.old.items ++ item ∷ [] }
@@ -73,6 +54,7 @@ impl<T> Sender<T> {
     }
 
     /// Sends the end, waiting for room.
+    #[tactic(auto, using(crate::proofs::MessageLemmas::messages))]
     pub fn close<R: Wait>(self, rt: &R, end: End) -> ClosedSender<T>
         ensures link { result.link ≡ self.link }
         ensures items { result.items ≡ self.items }

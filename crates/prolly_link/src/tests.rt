@@ -2,6 +2,8 @@ use super::*;
 use between::{copy_into_batches, copy_list, copy_out_of_batches};
 use copies::{Copies, copy_all};
 use std::test::Fail;
+use std::thread;
+use std::time::Duration;
 
 mod across;
 mod between;
@@ -96,6 +98,27 @@ fn a_thousand_numbers_go_across(rt: HostRuntime) -> Result<(), Fail> {
         assert_eq!(rt; plain.get(i as usize).copied(), Some(i));
         assert_eq!(rt; in_batches.get(i as usize).copied(), Some(i));
     }
+    Ok(())
+}
+
+// The receiver comes to its longest naps before the sender begins.
+#[test]
+fn a_long_wait_ends(rt: HostRuntime) -> Result<(), Fail> {
+    let Ok((sender, mut receiver)) = link(rt.alloc(), 1) else {
+        return no_memory(&rt);
+    };
+    let late = thread::spawn(&rt, move || {
+        thread::sleep(&rt, Duration::from_millis(20));
+        let mut sender = sender;
+        drop(sender.send(&rt, 7u32));
+        drop(sender.close(&rt, End::Clean));
+    });
+    let Ok(late) = late else {
+        return no_memory(&rt);
+    };
+    assert_eq!(rt; receiver.recv(&rt), Next::Item(7));
+    assert_eq!(rt; receiver.recv(&rt), Next::End(End::Clean));
+    late.join(&rt);
     Ok(())
 }
 

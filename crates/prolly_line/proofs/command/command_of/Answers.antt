@@ -1,8 +1,8 @@
-use Rattle.clap.specs.Words.{found_of, rows_of}
 use Rattle.prolly_line.proofs.Names.{not_strange}
+use Rattle.prolly_line.specs.Accepted.{rows_in}
 use Rattle.prolly_line.proofs.command.command_of.Goals as goal
 
 pub unreachable-requires : goal.unreachable-requires
 unreachable-requires c =
-    not_strange c.args.name.now (rows_of (found_of c.args.given.now)) c.requires c.in_default.not-pack c.in_default.not-scratch
+    not_strange c.args.name.now (rows_in c.args.given.now) c.requires c.in_default.not-pack c.in_default.not-scratch
     c.in_default.not-build c.in_default.not-check c.in_default.not-get c.in_default.not-scan c.in_default.not-nth

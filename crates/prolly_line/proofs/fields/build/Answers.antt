@@ -1,45 +1,45 @@
 use Rattle.std.proofs.Common.{arith, codes, refl}
-use Rattle.clap.specs.Words.{found_of, rows_of}
 use Rattle.prolly_line.proofs.Shapes.{takes_build}
 use Rattle.prolly_line.proofs.ValueLemmas.{HasNumber-wider}
+use Rattle.prolly_line.specs.Accepted.{rows_in}
 use Rattle.prolly_line.proofs.fields.build.Goals as goal
 
 pub byte_of-bits-requires : goal.byte_of-bits-requires
 byte_of-bits-requires c =
-    HasNumber-wider (codes "bits") (rows_of (found_of c.args.given.now)) 0 24 0 255 (omega arith) (omega arith)
-    (takes_build (rows_of (found_of c.args.given.now)) c.requires).bits
+    HasNumber-wider (codes "bits") (rows_in c.args.given.now) 0 24 0 255 (omega arith) (omega arith)
+    (takes_build (rows_in c.args.given.now) c.requires).bits
 
 pub byte_of-stages-requires : goal.byte_of-stages-requires
 byte_of-stages-requires c =
-    HasNumber-wider (codes "stages") (rows_of (found_of c.args.given.now)) 1 12 0 255 (omega arith) (omega arith)
-    (takes_build (rows_of (found_of c.args.given.now)) c.requires).stages
+    HasNumber-wider (codes "stages") (rows_in c.args.given.now) 1 12 0 255 (omega arith) (omega arith)
+    (takes_build (rows_in c.args.given.now) c.requires).stages
 
 pub number_of-capacity-requires : goal.number_of-capacity-requires
 number_of-capacity-requires c =
-    HasNumber-wider (codes "capacity") (rows_of (found_of c.args.given.now)) 1 4096 0 4294967295 (omega arith) (omega arith)
-    (takes_build (rows_of (found_of c.args.given.now)) c.requires).capacity
+    HasNumber-wider (codes "capacity") (rows_in c.args.given.now) 1 4096 0 4294967295 (omega arith) (omega arith)
+    (takes_build (rows_in c.args.given.now) c.requires).capacity
 
 pub number_of-max_records-requires : goal.number_of-max_records-requires
 number_of-max_records-requires c =
-    HasNumber-wider (codes "max-records") (rows_of (found_of c.args.given.now)) 1 16777216 0 4294967295 (omega arith) (omega arith)
-    (takes_build (rows_of (found_of c.args.given.now)) c.requires).max_records
+    HasNumber-wider (codes "max-records") (rows_in c.args.given.now) 1 16777216 0 4294967295 (omega arith) (omega arith)
+    (takes_build (rows_in c.args.given.now) c.requires).max_records
 
 pub number_of-batch-requires : goal.number_of-batch-requires
 number_of-batch-requires c =
-    HasNumber-wider (codes "batch") (rows_of (found_of c.args.given.now)) 1 1024 0 4294967295 (omega arith) (omega arith)
-    (takes_build (rows_of (found_of c.args.given.now)) c.requires).batch
+    HasNumber-wider (codes "batch") (rows_in c.args.given.now) 1 1024 0 4294967295 (omega arith) (omega arith)
+    (takes_build (rows_in c.args.given.now) c.requires).batch
 
 pub byte_of-version-requires : goal.byte_of-version-requires
 byte_of-version-requires c =
-    HasNumber-wider (codes "format") (rows_of (found_of c.args.given.now)) 1 2 0 255 (omega arith) (omega arith)
-    (takes_build (rows_of (found_of c.args.given.now)) c.requires).format
+    HasNumber-wider (codes "format") (rows_in c.args.given.now) 1 2 0 255 (omega arith) (omega arith)
+    (takes_build (rows_in c.args.given.now) c.requires).format
 
 pub text_of-requires : goal.text_of-requires
-text_of-requires c = (takes_build (rows_of (found_of c.args.given.now)) c.requires).out
+text_of-requires c = (takes_build (rows_in c.args.given.now) c.requires).out
 
 pub returns : goal.returns
 returns c =
-    let takes = takes_build (rows_of (found_of c.args.given.now)) c.requires in (
+    let takes = takes_build (rows_in c.args.given.now) c.requires in (
       refl,
       c.byte_of-bits.ensures 0 24 (omega arith) takes.bits,
       c.byte_of-stages.ensures 1 12 (omega arith) takes.stages,

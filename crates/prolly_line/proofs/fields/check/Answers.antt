@@ -1,6 +1,6 @@
-use Rattle.clap.specs.Words.{found_of, rows_of}
 use Rattle.prolly_line.proofs.Shapes.{takes_check}
+use Rattle.prolly_line.specs.Accepted.{rows_in}
 use Rattle.prolly_line.proofs.fields.check.Goals as goal
 
 pub text_of-requires : goal.text_of-requires
-text_of-requires c = (takes_check (rows_of (found_of c.args.given.now)) c.requires).file
+text_of-requires c = (takes_check (rows_in c.args.given.now) c.requires).file

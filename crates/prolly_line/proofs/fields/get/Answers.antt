@@ -1,9 +1,9 @@
-use Rattle.clap.specs.Words.{found_of, rows_of}
 use Rattle.prolly_line.proofs.Shapes.{takes_get}
+use Rattle.prolly_line.specs.Accepted.{rows_in}
 use Rattle.prolly_line.proofs.fields.get.Goals as goal
 
 pub key_of-requires : goal.key_of-requires
-key_of-requires c = (takes_get (rows_of (found_of c.args.given.now)) c.requires).key
+key_of-requires c = (takes_get (rows_in c.args.given.now) c.requires).key
 
 pub text_of-requires : goal.text_of-requires
-text_of-requires c = (takes_get (rows_of (found_of c.args.given.now)) c.requires).file
+text_of-requires c = (takes_get (rows_in c.args.given.now) c.requires).file

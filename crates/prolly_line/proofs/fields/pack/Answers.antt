@@ -1,6 +1,6 @@
-use Rattle.clap.specs.Words.{found_of, rows_of}
 use Rattle.prolly_line.proofs.Shapes.{takes_pack}
+use Rattle.prolly_line.specs.Accepted.{rows_in}
 use Rattle.prolly_line.proofs.fields.pack.Goals as goal
 
 pub text_of-requires : goal.text_of-requires
-text_of-requires c = (takes_pack (rows_of (found_of c.args.given.now)) c.requires).out
+text_of-requires c = (takes_pack (rows_in c.args.given.now) c.requires).out

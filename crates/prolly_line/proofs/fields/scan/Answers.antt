@@ -1,23 +1,23 @@
 use Rattle.std.proofs.Common.{arith, codes, refl}
-use Rattle.clap.specs.Words.{found_of, rows_of}
 use Rattle.prolly_line.proofs.Shapes.{takes_scan}
 use Rattle.prolly_line.proofs.ValueLemmas.{HasNumber-wider}
+use Rattle.prolly_line.specs.Accepted.{rows_in}
 use Rattle.prolly_line.proofs.fields.scan.Goals as goal
 
 pub key_of-requires : goal.key_of-requires
-key_of-requires c = (takes_scan (rows_of (found_of c.args.given.now)) c.requires).key
+key_of-requires c = (takes_scan (rows_in c.args.given.now) c.requires).key
 
 pub number_of-limit-requires : goal.number_of-limit-requires
 number_of-limit-requires c =
-    HasNumber-wider (codes "limit") (rows_of (found_of c.args.given.now)) 0 1000000 0 4294967295 (omega arith) (omega arith)
-    (takes_scan (rows_of (found_of c.args.given.now)) c.requires).limit
+    HasNumber-wider (codes "limit") (rows_in c.args.given.now) 0 1000000 0 4294967295 (omega arith) (omega arith)
+    (takes_scan (rows_in c.args.given.now) c.requires).limit
 
 pub text_of-requires : goal.text_of-requires
-text_of-requires c = (takes_scan (rows_of (found_of c.args.given.now)) c.requires).file
+text_of-requires c = (takes_scan (rows_in c.args.given.now) c.requires).file
 
 pub returns : goal.returns
 returns c =
-    let takes = takes_scan (rows_of (found_of c.args.given.now)) c.requires in (
+    let takes = takes_scan (rows_in c.args.given.now) c.requires in (
       refl,
       c.in_ok-file.ensures,
       c.in_ok-from.ensures.key,

@@ -1,5 +1,4 @@
 -- One argument more at each step.
-use Rattle.std.proofs.Common.{codes}
 use Rattle.std.proofs.lemmas.Result.{IfOk-weaker}
 use Rattle.prolly_line.specs.Line.{batch_option, bits_option, capacity_option, files_words, format_option, max_records_option, out_word, stages_option}
 use Rattle.prolly_line.proofs.LineSteps.{added, stays_local}

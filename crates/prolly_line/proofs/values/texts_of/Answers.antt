@@ -1,7 +1,7 @@
-use Rattle.std.proofs.Common.{List, [], ap, map, string_bytes, sym, ◌∙◌}
+use Rattle.std.proofs.Common.{[], ap, map, string_bytes, sym, ◌∙◌}
 use Rattle.std.specs.Prelude.{unwrap_or}
 use Rattle.std.proofs.lemmas.Result.{IfOk-weaker}
-use Rattle.clap.specs.Words.{Text, found_of}
+use Rattle.clap.specs.Words.{found_of}
 use Rattle.clap.proofs.WalkLemmas.{raw_values-rows}
 use Rattle.prolly_line.proofs.values.texts_of.Goals as goal
 

@@ -1,6 +1,6 @@
 use Rattle.std.specs.Vec.Iter.{into_iter_items, into_iter_len}
-use Rattle.prolly_link.specs.Batches.{IsInHand}
-use Rattle.prolly_link.proofs.BatchLemmas.{given_begins}
+use Rattle.prolly_link.specs.Hands.{IsInHand}
+use Rattle.prolly_link.proofs.HandLemmas.{given_begins}
 use Rattle.prolly_link.proofs.batch_comparing.compare_batches.Goals as goal
 
 pub returns-clause-prefix : goal.returns-clause-prefix

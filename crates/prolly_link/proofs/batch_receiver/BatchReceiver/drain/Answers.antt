@@ -1,6 +1,6 @@
 use Rattle.std.specs.Vec.Iter.{into_iter_items, into_iter_len}
 use Rattle.prolly_link.specs.declared.progress.Progress.TheVariants.{Ended, Lost}
-use Rattle.prolly_link.proofs.BatchLemmas.{drained_batches}
+use Rattle.prolly_link.proofs.HandLemmas.{drained_batches}
 use Rattle.prolly_link.proofs.batch_receiver.BatchReceiver.drain.Goals as goal
 
 pub returns-in-Ended : goal.returns-in-Ended

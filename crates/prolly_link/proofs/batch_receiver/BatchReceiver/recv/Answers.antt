@@ -1,6 +1,6 @@
 use Rattle.std.specs.Vec.Iter.{into_iter_items, into_iter_len}
 use Rattle.std.proofs.Common.{◌∙◌, ap, ◌++◌, ◌∷◌, []}
-use Rattle.prolly_link.proofs.BatchLemmas.{hand_after, batch_in_hand, first_given}
+use Rattle.prolly_link.proofs.HandLemmas.{hand_after, batch_in_hand, first_given}
 use Rattle.prolly_link.proofs.batch_receiver.BatchReceiver.recv.Goals as goal
 
 pub invariant_of-self : goal.invariant_of-self

@@ -1,0 +1,95 @@
+//! What a link between two threads costs.
+ghost use Rattle.std.specs.Prelude.{◌≤◌};
+
+use anyhow::{Result, bail};
+use prolly_link::{End, In, Next, Out, batch_link, link};
+use std::alloc::Global;
+use std::io::Print;
+use std::sync::Wait;
+use std::thread;
+use std::thread::Threads;
+use std::time::{Clock, Duration, Instant};
+
+/// How many messages a link holds.
+const CAPACITY: usize = 64;
+
+/// Times so many items over a plain link.
+pub fn time_link<R: Print + Clock + Threads + Wait + Copy + Send + 'static>(
+    rt: R,
+    alloc: Global,
+    count: u32,
+) -> Result<()> {
+    let Ok((sender, mut receiver)) = link::<u64>(alloc, CAPACITY) else {
+        bail!("out of memory");
+    };
+    let start = Instant::now(&rt)?;
+    let Ok(child) = thread::spawn(&rt, move || send_all(&rt, sender, count)) else {
+        bail!("no thread");
+    };
+    let sum = receive_all(&rt, &mut receiver);
+    let _closed = child.join(&rt);
+    let nanos = start.elapsed(&rt)?.as_nanos() / u128::from(count.max(1));
+    println!(&rt; "link: {nanos} ns an item, {count} items, sum {sum}")?;
+    Ok(())
+}
+
+/// Times so many items over a link in batches.
+pub fn time_batches<R: Print + Clock + Threads + Wait + Copy + Send + 'static>(
+    rt: R,
+    alloc: Global,
+    count: u32,
+    batch: usize,
+) -> Result<()>
+    requires { (1 ≤ batch) × (batch ≤ 1024) }
+{
+    let Ok((sender, mut receiver)) = batch_link::<u64>(alloc, CAPACITY, batch) else {
+        bail!("out of memory");
+    };
+    let start = Instant::now(&rt)?;
+    let Ok(child) = thread::spawn(&rt, move || send_all(&rt, sender, count)) else {
+        bail!("no thread");
+    };
+    let sum = receive_all(&rt, &mut receiver);
+    let _closed = child.join(&rt);
+    let nanos = start.elapsed(&rt)?.as_nanos() / u128::from(count.max(1));
+    println!(&rt; "batches of {batch}: {nanos} ns an item, {count} items, sum {sum}")?;
+    Ok(())
+}
+
+fn send_all<O: Out<u64>, R: Wait>(rt: &R, mut out: O, count: u32) -> O::Closed {
+    for number in 0..count {
+        let _ = out.send(rt, u64::from(number));
+    }
+    out.close(rt, End::Clean)
+}
+
+fn receive_all<I: In<u64>, R: Wait>(rt: &R, input: &mut I) -> u64 {
+    let mut sum = 0u64;
+    for _ in rt.forever() {
+        match input.recv(rt) {
+            Next::Item(number) => sum = sum.wrapping_add(number),
+            Next::End(_) | Next::Lost => return sum,
+        }
+    }
+    sum
+}
+
+/// Receives from a sender that sleeps for a second, to be run under `time`: what it costs is what
+/// waiting costs.
+pub fn wait_a_second<R: Clock + Threads + Wait + Copy + Send + 'static>(
+    rt: R,
+    alloc: Global,
+) -> Result<()> {
+    let Ok((sender, mut receiver)) = link::<u64>(alloc, 4) else {
+        bail!("out of memory");
+    };
+    let Ok(child) = thread::spawn(&rt, move || {
+        let _ = thread::sleep(&rt, Duration::from_secs(1));
+        sender.close(&rt, End::Clean)
+    }) else {
+        bail!("no thread");
+    };
+    let _none = receive_all(&rt, &mut receiver);
+    let _closed = child.join(&rt);
+    Ok(())
+}
