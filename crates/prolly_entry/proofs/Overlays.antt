@@ -8,8 +8,9 @@ use Rattle.std.proofs.lemmas.Bool.{false≢true}
 use Rattle.std.proofs.lemmas.List.Concat.{flat_map-append}
 use Rattle.std.specs.List.{flat_map}
 use Rattle.prolly_entry.specs.Record.{Record, keys_of}
+use Rattle.prolly_entry.specs.Pair.{Pair}
 use Rattle.prolly_entry.specs.Keys.{key_order, KeyBelow, Rising, RisingFrom}
-use Rattle.prolly_entry.specs.Overlay.{change_of, or_else, last_change_of, with_record_by, with_record, with_records, raw_overlay, pairs_put, OneRawOverlay, DivisionKeepsOverlay, AllRising, OverlayStep, NotBelow, rest_after}
+use Rattle.prolly_entry.specs.Overlay.{change_of, or_else, last_change_of, with_record_by, with_record, with_records, raw_overlay, pairs_put, pairs_of_change, OverlayIsMap, OneRawOverlay, DivisionKeepsOverlay, AllRising, OverlayStep, NotBelow, rest_after}
 use Rattle.std.specs.List.{AllByRecursion}
 use Rattle.std.proofs.Common.{is_lt, map}
 
@@ -321,3 +322,29 @@ merge_step lists key value h k e =
         ∙ sym (ap (λ b. cond b (Some value) (change_of (raw_overlay (map (rest_after key) lists)) q)) f)
     go q false f = sym (last_found_rests key q lists f) ∙ sym (found_raw (map (rest_after key) lists) q (rising_rests key lists h))
         ∙ sym (ap (λ b. cond b (Some value) (change_of (raw_overlay (map (rest_after key) lists)) q)) f)
+
+-- ---- the pairs of an overlay
+
+abbrev keys_put : List Pair → List (List ℕ)
+keys_put pairs = map (λ p. p.key) pairs
+
+from_change : (x key : List ℕ) (value : Option (List ℕ)) (ps : List Pair) → KeyBelow x key → RisingFrom x (keys_put ps) → RisingFrom key (keys_put ps) →
+    RisingFrom x (keys_put (pairs_of_change key value ++ ps))
+from_change x key None ps h k l = k
+from_change x key (Some value) ps h k l = (h, l)
+
+put_from : (x : List ℕ) (rs : List Record) → AllAbove x rs → IsRising rs → RisingFrom x (keys_put (pairs_put rs))
+put_from x [] h k = tt
+put_from x (r ∷ rs) h k = from_change x r.key r.value (pairs_put rs) h.0 (put_from x rs h.1 k.1) (put_from r.key rs k.0 k.1)
+
+rising_change : (key : List ℕ) (value : Option (List ℕ)) (ps : List Pair) → Rising (keys_put ps) → RisingFrom key (keys_put ps) →
+    Rising (keys_put (pairs_of_change key value ++ ps))
+rising_change key None ps h k = h
+rising_change key (Some value) ps h k = k
+
+put_rising : (rs : List Record) → IsRising rs → Rising (keys_put (pairs_put rs))
+put_rising [] h = tt
+put_rising (r ∷ rs) h = rising_change r.key r.value (pairs_put rs) (put_rising rs h.1) (put_from r.key rs h.0 h.1)
+
+pub overlay_rises : OverlayIsMap
+overlay_rises lists = put_rising (raw_overlay lists) (rising_raw lists)

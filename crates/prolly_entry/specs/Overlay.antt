@@ -69,6 +69,10 @@ pairs_put records = flat_map (λ r. pairs_of_change r.key r.value) records
 abbrev pub overlay : List (List Record) → List Pair
 overlay lists = pairs_put (raw_overlay lists)
 
+-- Law: the overlay is a map, whatever the lists.
+abbrev pub OverlayIsMap : Type 0
+OverlayIsMap = (lists : List (List Record)) → Rising (map (λ p. p.key) (overlay lists))
+
 -- Law: the overlay stays the same where one of the lists is divided into two.
 abbrev pub DivisionKeepsOverlay : Type 0
 DivisionKeepsOverlay = (before after : List (List Record)) (x y : List Record) → Rising (keys_of (x ++ y)) →

@@ -7,9 +7,10 @@ use Rattle.clap.specs.declared.error.Error.{Error}
 use Rattle.clap.specs.declared.parser.matches.ArgMatches.{ArgMatches}
 use Rattle.clap.proofs.OnLiterals.{clap_on_literals}
 use Rattle.prolly_line.specs.Accepted.{Answers, IsRefusedAt}
-use Rattle.prolly_line.specs.Given.{IsGivenBy, IsRefusalOf, IsRefusedBy}
+use Rattle.prolly_line.specs.Given.{HasFields, IsGivenBy, IsRefusalOf, IsRefusedBy, IsWithinLimits}
 use Rattle.prolly_line.specs.Line.{line_faults, line_given, program_line}
 use Rattle.prolly_line.specs.declared.command.Command.{Command}
+use Rattle.prolly_line.specs.declared.command.Command.TheVariants.{Pack, Scratch, Build, Check, Get, Scan, Nth}
 use Rattle.prolly_line.specs.declared.command.ParseFault.{ParseFault}
 use Rattle.prolly_line.specs.declared.command.ParseFault.TheVariants.{Memory, Usage, Help, BadKey}
 
@@ -79,3 +80,18 @@ answers_words words given (Err fault) entered refused = (tt, go fault refused)
     go (Usage text) r = absurd r
     go (Help text) r = absurd r
     go BadKey r = (entered.0, (given, entered.1, r))
+
+-- the fields that an accepted subcommand gives are within the limits
+pub limits_kept : (given : Text × List Row) (answer : Result Command ParseFault) → Answers given answer → IfOk answer IsWithinLimits
+limits_kept given (Ok command) fields = go command fields
+  where
+    go : (command : Command) → HasFields command given → IsWithinLimits command
+    go (Pack out) h = tt
+    go (Scratch bits version out) h = (h.1.2, h.2.1, h.2.2)
+    go (Build bits stages capacity max_records batch version out files) h =
+        (h.1.2, h.2.1, h.2.2, h.3.1, h.3.2, h.4.1, h.4.2, h.5.1, h.5.2, h.6.1, h.6.2)
+    go (Check file) h = tt
+    go (Get file key) h = h.2.2.1
+    go (Scan file from limit) h = (h.2.2.1, h.3.2)
+    go (Nth file n) h = h.2.2
+limits_kept given (Err fault) refused = tt

@@ -93,6 +93,22 @@ IsGivenBy words command =
     (line_faults words ≡ [])
     × ((given : Text × List Row) × (line_given words ≡ Some given) × HasFields command given)
 
+-- the numbers of the command, and the length of its key, are within their limits
+abbrev pub IsWithinLimits : Command → Type 0
+IsWithinLimits (Pack out) = ⊤
+IsWithinLimits (Scratch bits version out) = (bits ≤ 24) × (1 ≤ version) × (version ≤ 2)
+IsWithinLimits (Build bits stages capacity max_records batch version out files) =
+    (bits ≤ 24)
+    × (1 ≤ stages) × (stages ≤ 12)
+    × (1 ≤ capacity) × (capacity ≤ 4096)
+    × (1 ≤ max_records) × (max_records ≤ 16777216)
+    × (1 ≤ batch) × (batch ≤ 1024)
+    × (1 ≤ version) × (version ≤ 2)
+IsWithinLimits (Check file) = ⊤
+IsWithinLimits (Get file key) = length key.items ≤ 1024
+IsWithinLimits (Scan file from limit) = (length from.items ≤ 1024) × (limit ≤ 1000000)
+IsWithinLimits (Nth file n) = n ≤ 4294967295
+
 -- ---- refusals
 
 -- the subcommand takes a key, and its word for the key is no text of one

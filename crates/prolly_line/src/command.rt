@@ -1,7 +1,7 @@
 //! What the program is asked to do.
 ghost use Rattle.std.specs.Prelude.{◌≡◌, IfOk, IfErr, map, string_bytes, option_map};
 ghost use Rattle.clap.specs.Words.{kind_of, subcommand_rows_of};
-ghost use Rattle.prolly_line.specs.Given.{IsGivenBy, IsRefusalOf, IsRefusedBy};
+ghost use Rattle.prolly_line.specs.Given.{IsGivenBy, IsRefusalOf, IsRefusedBy, IsWithinLimits};
 ghost use Rattle.prolly_line.specs.Accepted.{Answers, IsAccepted, rows_in};
 ghost use Rattle.prolly_line.specs.declared.command.ParseFault.TheVariants.{Memory};
 
@@ -81,6 +81,7 @@ impl From<AllocError> for ParseFault {
 /// The command that the words after the program's name give.
 pub fn parse(alloc: Global, words: &[String]) -> Result<Command, ParseFault>
     ensures given { IfOk result (IsGivenBy (map string_bytes words.now)) }
+    ensures limits { IfOk result IsWithinLimits }
     ensures refused { IfErr result (IsRefusedBy (map string_bytes words.now)) }
 {
     let matches = match program_line(alloc)?.try_get_matches_from(words) {

@@ -1,10 +1,15 @@
 //! Overlays of lists of records, and merging them.
-ghost use Rattle.prolly_entry.specs.Overlay.{OneRawOverlay, DivisionKeepsOverlay, OverlayStep};
+ghost use Rattle.prolly_entry.specs.Overlay.{OneRawOverlay, OverlayIsMap, DivisionKeepsOverlay, OverlayStep};
 ghost use Rattle.prolly_entry.specs.Merge.{NeighboursMergeFirst};
 
 /// Lists with rising keys have one overlay.
 pub fn lists_have_one_overlay()
     ensures { OneRawOverlay }
+{}
+
+/// An overlay is a map.
+pub fn overlays_are_maps()
+    ensures { OverlayIsMap }
 {}
 
 /// To divide a list leaves the overlay as it was.

@@ -1,5 +1,5 @@
 use Rattle.std.proofs.Common.{ap, map, option_map, string_bytes, sym, ◌∙◌}
-use Rattle.prolly_line.proofs.LineLemmas.{answers_words, entered_at, refused_by}
+use Rattle.prolly_line.proofs.LineLemmas.{answers_words, entered_at, limits_kept, refused_by}
 use Rattle.prolly_line.specs.Accepted.{rows_in}
 use Rattle.prolly_line.proofs.command.parse.Goals as goal
 
@@ -24,3 +24,6 @@ returns-clause-refused c =
     let entered = entered_at c.in_ok-program_line.field-0 (map string_bytes c.args.words.now) c.in-Ok.matches _ c.in_ok-program_line.ensures.line
     c.in-Ok.ensures.kinds c.in-Ok.ensures.matches (sym c.subcommand_of.ensures ∙ ap (option_map (λ p. (p.0.now, rows_in p.1.now))) c.unwrap.ensures) in
     (answers_words (map string_bytes c.args.words.now) _ c.command_of.result entered c.command_of.ensures).1
+
+pub returns-clause-limits : goal.returns-clause-limits
+returns-clause-limits c = limits_kept _ c.command_of.result c.command_of.ensures
