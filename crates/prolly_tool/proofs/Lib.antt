@@ -1,2 +1,4 @@
 pub mod LineLemmas
 pub mod PackSteps
+pub mod Rises
+pub mod Answering

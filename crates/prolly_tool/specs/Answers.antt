@@ -1,7 +1,11 @@
 -- What the program prints.
-use Rattle.std.specs.Prelude.{◌≡◌, ℕ, List, [], ◌∷◌, ◌++◌}
+use Rattle.std.specs.Prelude.{◌≡◌, ℕ, List, [], ◌∷◌, ◌++◌, codes, string_bytes}
+use Rattle.prolly_line.specs.declared.command.ParseFault.{ParseFault}
+use Rattle.prolly_line.specs.declared.command.ParseFault.TheVariants.{Memory, Usage, Help, BadKey as BadKeyWord}
+use Rattle.prolly_link.specs.declared.fault.RunFault.TheVariants.{Memory as OutOfMemory}
 use Rattle.prolly_tool.specs.declared.answer.Answer.{Answer}
 use Rattle.prolly_tool.specs.declared.fault.Fault.{Fault}
+use Rattle.prolly_tool.specs.declared.fault.Fault.TheVariants.{Run, BadKey}
 use Rattle.prolly_tool.specs.Faults.{fault_text, fault_status, fault_line}
 
 -- The answer has this status, and these bytes for standard output and standard error.
@@ -17,3 +21,15 @@ ShowsLine answer text = Shows answer 0 (text ++ 0x0A ∷ []) []
 -- Not done: nothing on standard output, and the fault's line on standard error.
 abbrev pub ShowsFault : Answer → Fault → Type 0
 ShowsFault answer fault = Shows answer (fault_status fault) [] (fault_line (fault_text fault))
+
+-- The line of a file that can't be opened or made.
+abbrev pub unopened_text : List ℕ → List ℕ
+unopened_text name = codes "cannot open " ++ name
+
+-- The words give no command. What clap says of them is shown as it words it: help that was asked for on standard output, and what
+-- is wrong with the words on standard error.
+abbrev pub ShowsRefusal : Answer → ParseFault → Type 0
+ShowsRefusal answer Memory = ShowsFault answer (Run OutOfMemory)
+ShowsRefusal answer BadKeyWord = ShowsFault answer BadKey
+ShowsRefusal answer (Usage text) = Shows answer 2 [] (string_bytes text)
+ShowsRefusal answer (Help text) = Shows answer 0 (string_bytes text) []

@@ -6,7 +6,7 @@ use Rattle.prolly_link.specs.declared.fault.RunFault.TheVariants as runs
 use Rattle.prolly_tool.specs.declared.pack.PackFault.{PackFault}
 use Rattle.prolly_tool.specs.declared.pack.PackFault.TheVariants as packs
 use Rattle.prolly_tool.specs.declared.fault.Fault.{Fault}
-use Rattle.prolly_tool.specs.declared.fault.Fault.TheVariants.{Run, Pack, InputTooLong, BadKey}
+use Rattle.prolly_tool.specs.declared.fault.Fault.TheVariants.{Run, Pack, InputTooLong, BadKey, NotUnicode, NotInThisBuild}
 
 -- What is said of a record of a file.
 abbrev pub record_text : ℕ → ℕ → List ℕ → List ℕ
@@ -38,6 +38,8 @@ fault_text (Run fault) = run_text fault
 fault_text (Pack fault) = pack_text fault
 fault_text InputTooLong = codes "input too long"
 fault_text BadKey = codes "not a key in hexadecimal"
+fault_text NotUnicode = codes "a word is not UTF-8"
+fault_text NotInThisBuild = codes "not in this build"
 
 -- 2: usage. 3: the input is at fault. 5: a device is. 6: memory or a thread. 7: the tree is too tall.
 abbrev pub run_status : RunFault → ℕ
@@ -62,6 +64,8 @@ fault_status (Pack (packs.KeyTooLong line)) = 3
 fault_status (Pack (packs.ValueTooLong line)) = 3
 fault_status InputTooLong = 5
 fault_status BadKey = 2
+fault_status NotUnicode = 2
+fault_status NotInThisBuild = 2
 
 -- The line of a fault on standard error: the program's name, the text, a newline.
 abbrev pub fault_line : List ℕ → List ℕ

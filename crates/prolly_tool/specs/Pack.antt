@@ -1,5 +1,6 @@
 -- What packing a text comes to.
-use Rattle.std.specs.Prelude.{◌≡◌, ℕ, Ok, List, ◌∷◌, ◌++◌, length}
+use Rattle.std.specs.Prelude.{◌≡◌, ℕ, ◌≤◌, Ok, List, [], ◌∷◌, ◌++◌, length}
+use Rattle.std.specs.Fmt.{decimal}
 use Rattle.std.specs.List.{flat_map, AllZip}
 use Rattle.hex.specs.Hex.{decode_of}
 use Rattle.prolly_entry.specs.declared.pair.EntryFault.{EntryFault}
@@ -10,6 +11,9 @@ use Rattle.prolly_tool.specs.declared.pack.PackFault.{PackFault}
 use Rattle.prolly_tool.specs.declared.pack.PackFault.TheVariants.{Memory, BadLine, KeyTooLong, ValueTooLong}
 use Rattle.prolly_tool.specs.declared.line.LineFlaw.{LineFlaw}
 use Rattle.prolly_tool.specs.declared.line.LineFlaw.TheVariants as flaws
+use Rattle.prolly_tool.specs.declared.fault.Fault.{Fault}
+use Rattle.prolly_tool.specs.declared.fault.Fault.TheVariants.{Pack}
+use Rattle.prolly_tool.specs.Input.{IsInputFault}
 use Rattle.prolly_tool.specs.Lines.{lines_of, IsLineOf, IsBadLine, HasLongKey, HasLongValue}
 
 -- The line stands for the lawful record.
@@ -78,3 +82,17 @@ pub record IsLineFault (line : List ℕ) (number : ℕ) (fault : PackFault) : Ty
   pub flaw : LineFlaw
   pub wrong : IsWrongLine line flaw
   pub is : fault ≡ fault_at flaw number
+
+-- ---- the command
+
+-- The text is short enough to be read whole, it is packed into this record file, and the line is the number of its records.
+pub record PacksTo (text file line : List ℕ) : Type 0 where
+  pub within : length text ≤ 1073741824
+  pub count : ℕ
+  pub packs : Packs text [] file count
+  pub line_is : line ≡ decimal count
+
+-- The text is not packed: it can't be read, or one of its lines is at fault.
+abbrev pub IsPackingFault : List ℕ → Type 0 → Fault → Type 0
+IsPackingFault text has_failed (Pack fault) = IsPackFault text fault
+IsPackingFault text has_failed fault = IsInputFault text has_failed fault

@@ -1,13 +1,17 @@
 //! What the program prints.
-ghost use Rattle.std.specs.Prelude.{◌≡◌, [], ◌∷◌, ◌++◌, IfOk, OnOk};
+ghost use Rattle.std.specs.Prelude.{◌≡◌, [], IfOk, OnOk, ◌∷◌, ◌++◌};
+ghost use Rattle.prolly_tool.specs.Answers.{Shows, ShowsLine, ShowsFault, ShowsRefusal, unopened_text};
+ghost use Rattle.prolly_tool.specs.Faults.{fault_line};
 
 use crate::fault::Fault;
+use prolly_line::ParseFault;
+use prolly_link::RunFault;
 use std::alloc::{AllocError, Global};
 
 /// What the program prints, and the status with which it ends.
 #[derive(Debug, Drop)]
 pub struct Answer {
-    /// 0 where the command is done; what else is said in the manual of the program.
+    /// 0 where the command is done, and else the status of its fault.
     pub status: u8,
     /// For standard output; empty where the command is not done.
     pub out: Vec<u8>,
@@ -16,14 +20,13 @@ pub struct Answer {
 }
 
 impl Answer {
-    ghost use Rattle.prolly_tool.specs.Answers.{ShowsLine, ShowsFault};
-
     /// The answer of a command that is done: one line.
     pub fn of_line(alloc: Global, text: &[u8]) -> Result<Answer, AllocError>
         ensures { IfOk result (λ answer. ShowsLine answer text.now) }
     {
         let mut out = Vec::new(alloc);
-        append_line(&mut out, b"", text)?;
+        out.extend_from_slice(text)?;
+        out.extend_from_slice(b"\n")?;
         Ok(Answer {
             status: 0,
             out,
@@ -35,22 +38,44 @@ impl Answer {
     pub fn of_fault(alloc: Global, fault: Fault) -> Result<Answer, AllocError>
         ensures { IfOk result (λ answer. ShowsFault answer fault) }
     {
-        let text = fault.text(alloc)?;
-        let mut err = Vec::new(alloc);
-        append_line(&mut err, b"prolly: ", text.as_bytes())?;
+        let line = format!(in alloc; "prolly: {fault}\n")?;
         Ok(Answer {
             status: fault.status(),
             out: Vec::new(alloc),
-            err,
+            err: line.into_bytes(),
         })
     }
-}
 
-/// Appends a line of two parts.
-fn append_line(line: &mut Vec<u8>, front: &[u8], text: &[u8]) -> Result<(), AllocError>
-    ensures { OnOk result (line.new.items ≡ line.old.items ++ (front.now ++ text.now ++ 0x0A ∷ [])) }
-{
-    line.extend_from_slice(front)?;
-    line.extend_from_slice(text)?;
-    line.extend_from_slice(b"\n")
+    /// The answer of a command whose file can't be opened or made: a line that names it, and the
+    /// status of a device's fault.
+    pub fn of_unopened(alloc: Global, name: &str) -> Result<Answer, AllocError>
+        ensures { IfOk result (λ answer. Shows answer 5 [] (fault_line (unopened_text name.now))) }
+    {
+        let line = format!(in alloc; "prolly: cannot open {name}\n")?;
+        Ok(Answer {
+            status: 5,
+            out: Vec::new(alloc),
+            err: line.into_bytes(),
+        })
+    }
+
+    /// The answer to words that give no command: help as it was asked for, or what is wrong with them.
+    pub fn of_refusal(alloc: Global, refusal: ParseFault) -> Result<Answer, AllocError>
+        ensures { IfOk result (λ answer. ShowsRefusal answer refusal) }
+    {
+        match refusal {
+            ParseFault::Memory => Answer::of_fault(alloc, Fault::Run(RunFault::Memory)),
+            ParseFault::BadKey => Answer::of_fault(alloc, Fault::BadKey),
+            ParseFault::Usage(text) => Ok(Answer {
+                status: 2,
+                out: Vec::new(alloc),
+                err: text.into_bytes(),
+            }),
+            ParseFault::Help(text) => Ok(Answer {
+                status: 0,
+                out: text.into_bytes(),
+                err: Vec::new(alloc),
+            }),
+        }
+    }
 }

@@ -1,13 +1,15 @@
 //! The faults of commands, each with its line and its status.
-ghost use Rattle.std.specs.Prelude.{◌≡◌, IfOk, string_bytes};
-ghost use Rattle.prolly_tool.specs.Faults.{run_text, record_text, pack_text, fault_text, run_status, fault_status};
+ghost use Rattle.std.specs.Prelude.{◌≡◌, Some};
+ghost use Rattle.prolly_tool.specs.Faults.{fault_text, run_status, fault_status};
 
 use crate::pack::PackFault;
 use prolly_link::RunFault;
-use std::alloc::{AllocError, Global};
+use std::fmt;
+use std::fmt::{Display, Formatter};
+use thiserror::Error;
 
-/// Why a command is not done.
-#[derive(Clone, Copy, Debug, PartialEq, Eq)]
+/// Why a command is not done. Its text is one line, without the program's name and the newline.
+#[derive(Clone, Copy, Debug, PartialEq, Eq, Error)]
 pub enum Fault {
     /// A run over record files has no answer. One record file from standard input is file 0.
     Run(RunFault),
@@ -17,6 +19,10 @@ pub enum Fault {
     InputTooLong,
     /// The word for a key is no key in hexadecimal.
     BadKey,
+    /// A word of the command line is not UTF-8.
+    NotUnicode,
+    /// The command is not in this build.
+    NotInThisBuild,
 }
 
 impl Fault {
@@ -29,19 +35,7 @@ impl Fault {
             Fault::Pack(PackFault::Memory) => 6,
             Fault::Pack(_) => 3,
             Fault::InputTooLong => 5,
-            Fault::BadKey => 2,
-        }
-    }
-
-    /// What is said of it, without the program's name and the newline.
-    pub fn text(self, alloc: Global) -> Result<String, AllocError>
-        ensures { IfOk result (λ text. string_bytes text ≡ fault_text self) }
-    {
-        match self {
-            Fault::Run(fault) => run_text(alloc, fault),
-            Fault::Pack(fault) => pack_text(alloc, fault),
-            Fault::InputTooLong => String::from_str(alloc, "input too long"),
-            Fault::BadKey => String::from_str(alloc, "not a key in hexadecimal"),
+            Fault::BadKey | Fault::NotUnicode | Fault::NotInThisBuild => 2,
         }
     }
 }
@@ -62,51 +56,65 @@ fn run_status(fault: RunFault) -> u8
     }
 }
 
-fn run_text(alloc: Global, fault: RunFault) -> Result<String, AllocError>
-    ensures { IfOk result (λ text. string_bytes text ≡ run_text fault) }
-{
-    match fault {
-        RunFault::Memory => String::from_str(alloc, "out of memory"),
-        RunFault::Read { file } => format!(in alloc; "file {file}: read failed"),
-        RunFault::Truncated { file, place } => record_text(alloc, file, place, " is cut"),
-        RunFault::KeyTooLong { file, place } => record_text(alloc, file, place, ": key too long"),
-        RunFault::ValueTooLong { file, place } => record_text(
-            alloc,
-            file,
-            place,
-            ": value too long",
-        ),
-        RunFault::OutOfOrder { file, place } => record_text(
-            alloc,
-            file,
-            place,
-            ": key out of order",
-        ),
-        RunFault::TooManyRecords { file } => format!(in alloc; "file {file}: too many records"),
-        RunFault::Write => String::from_str(alloc, "write failed"),
-        RunFault::TooTall => String::from_str(alloc, "tree too tall"),
-        RunFault::NoThread => String::from_str(alloc, "a thread could not be started"),
-        RunFault::Lost => String::from_str(alloc, "a worker was lost"),
-        RunFault::TooManyFiles => String::from_str(alloc, "too many files"),
+impl Display for Fault {
+    ghost output = { λ fault. Some (fault_text fault) };
+
+    fn fmt<W: fmt::Write>(&self, f: &mut Formatter<W>) -> fmt::Result {
+        match self {
+            Fault::Run(fault) => RunText(*fault).fmt(f),
+            Fault::Pack(fault) => fault.fmt(f),
+            Fault::InputTooLong => write!(f, "input too long"),
+            Fault::BadKey => write!(f, "not a key in hexadecimal"),
+            Fault::NotUnicode => write!(f, "a word is not UTF-8"),
+            Fault::NotInThisBuild => write!(f, "not in this build"),
+        }
     }
 }
 
-/// What is said of a record of a file.
-fn record_text(alloc: Global, file: u32, place: u32, what: &str) -> Result<String, AllocError>
-    ensures { IfOk result (λ text. string_bytes text ≡ record_text file place what.now) }
-{
-    format!(in alloc; "file {file}: record {place}{what}")
+/// A fault of a run, to be shown.
+#[derive(Clone, Copy)]
+struct RunText(RunFault);
+
+impl Display for RunText {
+    ghost use Rattle.prolly_tool.specs.Faults.{run_text};
+
+    ghost output = { λ shown. Some (run_text shown.0) };
+
+    fn fmt<W: fmt::Write>(&self, f: &mut Formatter<W>) -> fmt::Result {
+        match self.0 {
+            RunFault::Memory => write!(f, "out of memory"),
+            RunFault::Read { file } => write!(f, "file {file}: read failed"),
+            RunFault::Truncated { file, place } => RecordText(file, place, " is cut").fmt(f),
+            RunFault::KeyTooLong { file, place } => {
+                RecordText(file, place, ": key too long").fmt(f)
+            }
+            RunFault::ValueTooLong { file, place } => {
+                RecordText(file, place, ": value too long").fmt(f)
+            }
+            RunFault::OutOfOrder { file, place } => {
+                RecordText(file, place, ": key out of order").fmt(f)
+            }
+            RunFault::TooManyRecords { file } => write!(f, "file {file}: too many records"),
+            RunFault::Write => write!(f, "write failed"),
+            RunFault::TooTall => write!(f, "tree too tall"),
+            RunFault::NoThread => write!(f, "a thread could not be started"),
+            RunFault::Lost => write!(f, "a worker was lost"),
+            RunFault::TooManyFiles => write!(f, "too many files"),
+        }
+    }
 }
 
-fn pack_text(alloc: Global, fault: PackFault) -> Result<String, AllocError>
-    ensures { IfOk result (λ text. string_bytes text ≡ pack_text fault) }
-{
-    match fault {
-        PackFault::Memory => String::from_str(alloc, "out of memory"),
-        PackFault::BadLine { line } => {
-            format!(in alloc; "line {line}: not a pair in hexadecimal")
-        }
-        PackFault::KeyTooLong { line } => format!(in alloc; "line {line}: key too long"),
-        PackFault::ValueTooLong { line } => format!(in alloc; "line {line}: value too long"),
+/// What is said of a record, to be shown: the numbers of its file and of it, and then the text.
+#[derive(Clone, Copy)]
+struct RecordText<'a>(u32, u32, &'a str);
+
+impl Display for RecordText<'_> {
+    ghost use Rattle.prolly_tool.specs.Faults.{record_text};
+
+    ghost output = { λ shown. Some (record_text shown.0 shown.1 shown.2.now) };
+
+    fn fmt<W: fmt::Write>(&self, f: &mut Formatter<W>) -> fmt::Result {
+        let RecordText(file, place, text) = *self;
+        write!(f, "file {file}: record {place}{text}")
     }
 }

@@ -5,23 +5,37 @@ ghost use Rattle.prolly_tool.specs.Pack.{Packs, PacksLine, IsPackFault, IsLineFa
 use crate::line::{LineFlaw, record_of, split_line};
 use prolly_entry::append_record;
 use std::alloc::Global;
+use std::fmt;
+use std::fmt::{Display, Formatter};
 use thiserror::Error;
 
 /// Why a text is not packed. Lines are numbered from 0.
 #[derive(Clone, Copy, Debug, PartialEq, Eq, Error)]
 pub enum PackFault {
     /// Memory was refused.
-    #[error("out of memory")]
     Memory,
     /// The line is not a key and a value, or a key and a dash, in hexadecimal with one space between them.
-    #[error("line {line}: not a pair in hexadecimal")]
     BadLine { line: u64 },
     /// The key has more than 1,024 bytes.
-    #[error("line {line}: key too long")]
     KeyTooLong { line: u64 },
     /// The value has more than 65,536 bytes.
-    #[error("line {line}: value too long")]
     ValueTooLong { line: u64 },
+}
+
+impl Display for PackFault {
+    ghost use Rattle.std.specs.Prelude.{Some};
+    ghost use Rattle.prolly_tool.specs.Faults.{pack_text};
+
+    ghost output = { λ fault. Some (pack_text fault) };
+
+    fn fmt<W: fmt::Write>(&self, f: &mut Formatter<W>) -> fmt::Result {
+        match self {
+            PackFault::Memory => write!(f, "out of memory"),
+            PackFault::BadLine { line } => write!(f, "line {line}: not a pair in hexadecimal"),
+            PackFault::KeyTooLong { line } => write!(f, "line {line}: key too long"),
+            PackFault::ValueTooLong { line } => write!(f, "line {line}: value too long"),
+        }
+    }
 }
 
 /// Appends the spellings of the records that the lines of a text stand for, and answers their number.

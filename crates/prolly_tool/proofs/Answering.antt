@@ -1,0 +1,20 @@
+-- What a command answers where writing its file fails.
+use Rattle.std.proofs.Common.{List, ℕ, ◌⊎◌, inl, inr, Result, Ok, Err}
+use Rattle.std.specs.Prelude.{IfOk, OnErr}
+use Rattle.prolly_link.specs.declared.fault.RunFault.TheVariants.{Write}
+use Rattle.prolly_tool.specs.declared.answer.Answer.{Answer}
+use Rattle.prolly_tool.specs.declared.fault.Fault.{Fault}
+use Rattle.prolly_tool.specs.declared.fault.Fault.TheVariants.{Run}
+use Rattle.prolly_tool.specs.Answers.{ShowsFault}
+use Rattle.prolly_tool.specs.Outputs.{IsAnswer, IsCutShort}
+
+pub short_answer : {E : Type 0} (makes : List ℕ → List ℕ → Type 0) (at_fault : Fault → Type 0) (took_all took_part : List ℕ → Type 0) (untouched : Type 0)
+    (result : Result Answer E) → IsCutShort makes took_part → IfOk result (λ answer. ShowsFault answer (Run Write)) →
+    IfOk result (IsAnswer makes at_fault took_all took_part untouched)
+short_answer makes at_fault took_all took_part untouched (Ok answer) short shows = inr (inl (short, shows))
+short_answer makes at_fault took_all took_part untouched (Err e) short shows = tt
+
+pub short_refused : {E : Type 0} (makes : List ℕ → List ℕ → Type 0) (took_part : List ℕ → Type 0) (untouched : Type 0)
+    (result : Result Answer E) → IsCutShort makes took_part → OnErr result (untouched ⊎ IsCutShort makes took_part)
+short_refused makes took_part untouched (Ok answer) short = tt
+short_refused makes took_part untouched (Err e) short = inr short

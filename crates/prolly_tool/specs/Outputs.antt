@@ -1,0 +1,64 @@
+-- What a command that makes a file does to the sink that it is lent, and what it answers.
+use Rattle.std.specs.Prelude.{◌≡◌, ◌≢◌, ℕ, ◌⊎◌, Bool, true, List, ◌++◌, Option, Some, None}
+use Rattle.prolly_file.specs.Sink.{TakesPrefix}
+use Rattle.prolly_link.specs.declared.fault.RunFault.TheVariants.{Write}
+use Rattle.prolly_tool.specs.declared.answer.Answer.{Answer}
+use Rattle.prolly_tool.specs.declared.fault.Fault.{Fault}
+use Rattle.prolly_tool.specs.declared.fault.Fault.TheVariants.{Run}
+use Rattle.prolly_tool.specs.Answers.{ShowsLine, ShowsFault}
+
+-- ---- sinks
+
+-- The sink took all of these bytes, and no call of it failed.
+pub record TookAll {W : Type 0} (taken : W → List ℕ) (is_keeping : W → Bool) (failures : W → ℕ) (bytes : List ℕ) (old new : W) : Type 0 where
+  pub unfailed : failures new ≡ failures old
+  pub took : is_keeping old ≡ true → taken new ≡ taken old ++ bytes
+
+-- A call of the sink failed, and it took a prefix of these bytes.
+pub record TookPart {W : Type 0} (taken : W → List ℕ) (is_keeping : W → Bool) (failures : W → ℕ) (bytes : List ℕ) (old new : W) : Type 0 where
+  pub failed : failures new ≢ failures old
+  pub took : is_keeping old ≡ true → TakesPrefix (taken old) (taken new) bytes
+
+-- This happened to the sink, if there is one.
+abbrev pub IfSink : {W : Type 0} → (W → W → Type 0) → Option W → Option W → Type 0
+IfSink happened None None = Unit {0}
+IfSink happened None (Some new) = ⊥
+IfSink happened (Some old) None = ⊥
+IfSink happened (Some old) (Some new) = happened old new
+
+-- There is a sink, and this happened to it.
+abbrev pub OfSink : {W : Type 0} → (W → W → Type 0) → Option W → Option W → Type 0
+OfSink happened None new = ⊥
+OfSink happened (Some old) None = ⊥
+OfSink happened (Some old) (Some new) = happened old new
+
+-- ---- answers
+
+-- Done: there is a file, which was written, and its line is shown.
+pub record IsDone (makes : List ℕ → List ℕ → Type 0) (written : List ℕ → Type 0) (answer : Answer) : Type 0 where
+  pub file : List ℕ
+  pub line : List ℕ
+  pub made : makes file line
+  pub is_written : written file
+  pub shows : ShowsLine answer line
+
+-- There is a file, and writing it failed.
+pub record IsCutShort (makes : List ℕ → List ℕ → Type 0) (written : List ℕ → Type 0) : Type 0 where
+  pub file : List ℕ
+  pub line : List ℕ
+  pub made : makes file line
+  pub is_written : written file
+
+-- There is no file.
+pub record IsRefused (at_fault : Fault → Type 0) (answer : Answer) : Type 0 where
+  pub fault : Fault
+  pub is : at_fault fault
+  pub shows : ShowsFault answer fault
+
+-- The answer of a command of which `makes` says which file and line it makes, and `at_fault` for which fault it makes none. Of the
+-- sink, `took_all` says that it took all of a file, `took_part` that it failed after a part of one, `untouched` that it is as it was.
+abbrev pub IsAnswer : (List ℕ → List ℕ → Type 0) → (Fault → Type 0) → (List ℕ → Type 0) → (List ℕ → Type 0) → Type 0 → Answer → Type 0
+IsAnswer makes at_fault took_all took_part untouched answer =
+    IsDone makes took_all answer
+    ⊎ (IsCutShort makes took_part × ShowsFault answer (Run Write))
+    ⊎ (IsRefused at_fault answer × untouched)

@@ -1,0 +1,25 @@
+//! Standard input, which the commands read whole.
+ghost use Rattle.std.specs.Prelude.{◌≡◌, ◌≢◌, ◌≤◌, true, length, IfOk, IfErr};
+ghost use Rattle.prolly_tool.specs.Input.{IsInputFault};
+
+use crate::fault::Fault;
+use prolly_file::{Source, WholeFault, read_whole};
+use prolly_link::RunFault;
+use std::alloc::Global;
+
+/// How many bytes a command reads at most.
+const INPUT_LIMIT: u32 = 1_073_741_824;
+
+/// All bytes that a source has left.
+pub(crate) fn input_of<S: Source>(alloc: Global, source: &mut S) -> Result<Vec<u8>, Fault>
+    ensures whole { S.is_honest source.old ≡ true → IfOk result (λ bytes. bytes.items ≡ S.left source.old) }
+    ensures within { IfOk result (λ bytes. length bytes.items ≤ 1073741824) }
+    ensures fault { S.is_honest source.old ≡ true → IfErr result (λ fault. IsInputFault (S.left source.old) (S.failures source.new ≢ S.failures source.old) fault) }
+{
+    match read_whole(alloc, source, INPUT_LIMIT) {
+        Ok(bytes) => Ok(bytes),
+        Err(WholeFault::Memory) => Err(Fault::Run(RunFault::Memory)),
+        Err(WholeFault::Read) => Err(Fault::Run(RunFault::Read { file: 0 })),
+        Err(WholeFault::TooLong) => Err(Fault::InputTooLong),
+    }
+}

@@ -1,0 +1,118 @@
+//! The command `pack`: a record file out of text.
+ghost use Rattle.std.specs.Prelude.{◌≡◌, ◌≢◌, ◌≤◌, ◌⊎◌, true, [], length, IfOk, IfErr, OnOk, OnErr};
+ghost use Rattle.prolly_tool.specs.Outputs.{TookAll, TookPart, IsAnswer, IsCutShort};
+ghost use Rattle.prolly_tool.specs.Pack.{Packs, PacksTo, IsPackingFault};
+
+use crate::answer::Answer;
+use crate::fault::Fault;
+use crate::input::input_of;
+use crate::pack::pack_lines;
+use prolly_file::{Sink, Source, WriteFault, write_whole};
+use prolly_link::RunFault;
+use std::alloc::{AllocError, Global};
+
+/// A record file, and the number of its records.
+#[derive(Drop)]
+struct Packed {
+    file: Vec<u8>,
+    count: u64,
+}
+
+/// What `pack` answers: it reads lines of text from the source, writes the records that they stand for
+/// to the sink, and shows their number. Whether keys rise is not tested.
+///
+/// The sink is written to only once all else is done. An `Err` is want of memory for the answer's own
+/// text; the sink is then as it was, or it failed.
+///
+/// Takes time linear in the text, and holds the text and the record file in memory.
+pub fn answer_pack<S: Source, W: Sink>(
+    alloc: Global,
+    source: &mut S,
+    sink: &mut W,
+) -> Result<Answer, AllocError>
+    ensures ok { S.is_honest source.old ≡ true → IfOk result (IsAnswer
+        (PacksTo (S.left source.old))
+        (IsPackingFault (S.left source.old) (S.failures source.new ≢ S.failures source.old))
+        (λ file. TookAll W.taken W.is_keeping W.failures file sink.old sink.new)
+        (λ file. TookPart W.taken W.is_keeping W.failures file sink.old sink.new)
+        (sink.new ≡ sink.old)) }
+    ensures err { S.is_honest source.old ≡ true → OnErr result ((sink.new ≡ sink.old) ⊎ IsCutShort
+        (PacksTo (S.left source.old))
+        (λ file. TookPart W.taken W.is_keeping W.failures file sink.old sink.new)) }
+{
+    let packed = match packed_of(alloc, source) {
+        Ok(packed) => packed,
+        Err(fault) => return Answer::of_fault(alloc, fault),
+    };
+    let count = packed.count;
+    let line = format!(in alloc; "{count}")?;
+    let done = Answer::of_line(alloc, line.as_bytes())?;
+    match write_whole(sink, &packed.file) {
+        Ok(()) => Ok(done),
+        Err(WriteFault) => Answer::of_fault(alloc, Fault::Run(RunFault::Write)),
+    }
+}
+
+/// The record file of the lines that a source has left.
+fn packed_of<S: Source>(alloc: Global, source: &mut S) -> Result<Packed, Fault>
+    ensures within { S.is_honest source.old ≡ true → OnOk result (length (S.left source.old) ≤ 1073741824) }
+    ensures ok { S.is_honest source.old ≡ true → IfOk result (λ packed. Packs (S.left source.old) [] packed.file.items packed.count) }
+    ensures err { S.is_honest source.old ≡ true → IfErr result (λ fault. IsPackingFault (S.left source.old) (S.failures source.new ≢ S.failures source.old) fault) }
+{
+    let text = match input_of(alloc, source) {
+        Ok(text) => text,
+        Err(fault) => return Err(fault),
+    };
+    let mut file = Vec::new(alloc);
+    match pack_lines(alloc, &text, &mut file) {
+        Ok(count) => Ok(Packed { file, count }),
+        Err(fault) => Err(Fault::Pack(fault)),
+    }
+}
+
+#[cfg(test)]
+mod tests {
+    use super::*;
+    use prolly_file::{FromRead, ScriptSink};
+    use std::test::Fail;
+
+    #[test]
+    fn packs_or_tells_the_fault(rt: HostRuntime) -> Result<(), Fail> {
+        let alloc = rt.alloc();
+        for (text, fail_at, status, out, err, taken) in [
+            (
+                b"".as_slice(),
+                None,
+                0,
+                b"0\n".as_slice(),
+                b"".as_slice(),
+                b"".as_slice(),
+            ),
+            (b"61 -\n", None, 0, b"1\n", b"", b"\0\x01a\xFF\xFF\xFF\xFF"),
+            (
+                b"61 -\n\n",
+                None,
+                3,
+                b"",
+                b"prolly: line 1: not a pair in hexadecimal\n",
+                b"",
+            ),
+            (
+                b"61 -\n",
+                Some(2),
+                5,
+                b"",
+                b"prolly: write failed\n",
+                b"\0\x01a",
+            ),
+        ] {
+            let mut sink = ScriptSink::new(alloc, 3, fail_at);
+            let answer = answer_pack(alloc, &mut FromRead::new(text), &mut sink)?;
+            assert_eq!(rt; answer.status, status);
+            assert_eq!(rt; answer.out.as_slice(), out);
+            assert_eq!(rt; answer.err.as_slice(), err);
+            assert_eq!(rt; sink.taken(), taken);
+        }
+        Ok(())
+    }
+}

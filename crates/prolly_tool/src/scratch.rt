@@ -1,0 +1,200 @@
+//! The command `scratch`: the chunk file of one record file, in one thread.
+ghost use Rattle.std.specs.Prelude.{◌≡◌, ◌≢◌, ◌≤◌, ◌⊎◌, true, IfOk, IfErr, OnErr, OnOk};
+ghost use Rattle.prolly_file.specs.Scratch.{keys_in};
+ghost use Rattle.prolly_entry.specs.Keys.{Rising};
+ghost use Rattle.prolly_tool.specs.Outputs.{TookAll, TookPart, IfSink, OfSink, IsAnswer, IsCutShort};
+ghost use Rattle.prolly_tool.specs.Scratch.{HoldsPairs, MakesFile, Scratches, IsRecordsFault, IsScratchFault, run_fault};
+
+use crate::answer::Answer;
+use crate::fault::Fault;
+use crate::input::input_of;
+use prolly_entry::{Pair, RecordFault, Ref, Sha512Cut, Version, records};
+use prolly_file::{ScratchFault, Sink, Source, WriteFault, scratch_as, write_whole};
+use prolly_link::RunFault;
+use std::alloc::{AllocError, Global};
+
+/// How many records a record file has at most.
+const RECORD_LIMIT: u32 = 16_777_216;
+
+/// How many levels a tree has at most. No map that fits into memory has as many.
+const LEVEL_LIMIT: u8 = 255;
+
+/// A chunk file, and its root's reference.
+#[derive(Drop)]
+struct Tree {
+    file: Vec<u8>,
+    root: Ref,
+}
+
+/// What `scratch` answers: it reads one record file from the source, makes the chunk file of its pairs,
+/// writes it to the sink, if there is one, and shows the text of its root.
+///
+/// The sink is written to only once all else is done. The faults of the record file are told as those
+/// of file 0. An `Err` is want of memory for the answer's own text; the sink is then as it was, or it
+/// failed.
+///
+/// Takes time linear in the input, which is dropped before the tree is made. The pairs and then the
+/// tree are held in memory: see docs/measurements.md.
+pub fn answer_scratch<S: Source, W: Sink>(
+    alloc: Global,
+    source: &mut S,
+    bits: u8,
+    version: Version,
+    sink: &mut Option<W>,
+) -> Result<Answer, AllocError>
+    requires { bits ≤ 24 }
+    ensures ok { S.is_honest source.old ≡ true → IfOk result (IsAnswer
+        (Scratches bits version (S.left source.old))
+        (IsScratchFault bits version (S.left source.old) (S.failures source.new ≢ S.failures source.old))
+        (λ file. IfSink (TookAll W.taken W.is_keeping W.failures file) sink.old sink.new)
+        (λ file. OfSink (TookPart W.taken W.is_keeping W.failures file) sink.old sink.new)
+        (sink.new ≡ sink.old)) }
+    ensures err { S.is_honest source.old ≡ true → OnErr result ((sink.new ≡ sink.old) ⊎ IsCutShort
+        (Scratches bits version (S.left source.old))
+        (λ file. OfSink (TookPart W.taken W.is_keeping W.failures file) sink.old sink.new)) }
+{
+    let tree = match tree_of(alloc, source, bits, version) {
+        Ok(tree) => tree,
+        Err(fault) => return Answer::of_fault(alloc, fault),
+    };
+    let done = Answer::of_line(alloc, &tree.root.to_text())?;
+    match write_to(sink, &tree.file) {
+        Ok(()) => Ok(done),
+        Err(WriteFault) => Answer::of_fault(alloc, Fault::Run(RunFault::Write)),
+    }
+}
+
+/// The chunk file of the record file that a source has left.
+fn tree_of<S: Source>(
+    alloc: Global,
+    source: &mut S,
+    bits: u8,
+    version: Version,
+) -> Result<Tree, Fault>
+    requires { bits ≤ 24 }
+    ensures ok { S.is_honest source.old ≡ true → IfOk result (λ tree. MakesFile bits version (S.left source.old) tree.file.items tree.root.0) }
+    ensures err { S.is_honest source.old ≡ true → IfErr result (λ fault. IsScratchFault bits version (S.left source.old) (S.failures source.new ≢ S.failures source.old) fault) }
+{
+    let pairs = match pairs_of(alloc, source) {
+        Ok(pairs) => pairs,
+        Err(fault) => return Err(fault),
+    };
+    let cut = Sha512Cut::new(bits).unwrap();
+    let mut file = Vec::new(alloc);
+    match scratch_as(alloc, cut, version, &pairs, LEVEL_LIMIT, &mut file) {
+        Ok(root) => Ok(Tree { file, root }),
+        Err(ScratchFault::Memory) => Err(Fault::Run(RunFault::Memory)),
+        Err(ScratchFault::TooTall) => Err(Fault::Run(RunFault::TooTall)),
+        Err(ScratchFault::OutOfOrder { .. }) => unreachable!(),
+    }
+}
+
+/// The pairs of the record file that a source has left.
+fn pairs_of<S: Source>(alloc: Global, source: &mut S) -> Result<Vec<Pair>, Fault>
+    ensures rising { IfOk result (λ pairs. Rising (keys_in pairs.items)) }
+    ensures ok { S.is_honest source.old ≡ true → IfOk result (λ pairs. HoldsPairs (S.left source.old) pairs.items) }
+    ensures err { S.is_honest source.old ≡ true → IfErr result (λ fault. IsRecordsFault (S.left source.old) (S.failures source.new ≢ S.failures source.old) fault) }
+{
+    let input = match input_of(alloc, source) {
+        Ok(input) => input,
+        Err(fault) => return Err(fault),
+    };
+    match records(alloc, &input, RECORD_LIMIT) {
+        Ok(pairs) => Ok(pairs),
+        Err(fault) => Err(Fault::Run(run_fault(fault))),
+    }
+}
+
+/// The fault of file 0 that a record fault is.
+fn run_fault(fault: RecordFault) -> RunFault
+    ensures { result ≡ run_fault fault }
+{
+    match fault {
+        RecordFault::Memory => RunFault::Memory,
+        RecordFault::Truncated { place } => RunFault::Truncated { file: 0, place },
+        RecordFault::KeyTooLong { place } => RunFault::KeyTooLong { file: 0, place },
+        RecordFault::ValueTooLong { place } => RunFault::ValueTooLong { file: 0, place },
+        RecordFault::OutOfOrder { place } => RunFault::OutOfOrder { file: 0, place },
+        RecordFault::TooManyRecords => RunFault::TooManyRecords { file: 0 },
+    }
+}
+
+/// Writes bytes to the sink, if there is one.
+fn write_to<W: Sink>(sink: &mut Option<W>, bytes: &[u8]) -> Result<(), WriteFault>
+    ensures ok { OnOk result (IfSink (TookAll W.taken W.is_keeping W.failures bytes.now) sink.old sink.new) }
+    ensures err { OnErr result (OfSink (TookPart W.taken W.is_keeping W.failures bytes.now) sink.old sink.new) }
+{
+    match sink {
+        None => Ok(()),
+        Some(sink) => write_whole(sink, bytes),
+    }
+}
+
+#[cfg(test)]
+mod tests {
+    use super::*;
+    use prolly_file::{FromRead, ScriptSink, ScriptSource};
+    use std::test::Fail;
+
+    /// The chunk file of the empty map, cut by 0 bits.
+    const EMPTY_FILE: &[u8] =
+        b"PRLY\x01\0C\0\0\0\0\0\0\0\x01\0E\xB8\x24\x4D\x02\x89\x81\xD6\x93\xAF\x7B\x45\x6A\xF8\xEF\xA4\xCA\xD6\x3D\x28\x2E\0\0\0\0\0\0\0\x01";
+
+    #[test]
+    fn shows_the_root_and_writes_the_file(rt: HostRuntime) -> Result<(), Fail> {
+        let alloc = rt.alloc();
+        let mut source = FromRead::new(b"".as_slice());
+        let mut sink = Some(ScriptSink::new(alloc, 4, None));
+        let answer = answer_scratch(alloc, &mut source, 0, Version::One, &mut sink)?;
+        assert_eq!(rt; answer.status, 0);
+        assert_eq!(rt;
+            answer.out.as_slice(),
+            b"n0i4q0k9g7b97brr8llfhrt4pbb3qa1e\n".as_slice()
+        );
+        assert!(rt; answer.err.is_empty());
+        let sink = sink.ok_or("no sink")?;
+        assert_eq!(rt; sink.taken(), EMPTY_FILE);
+        Ok(())
+    }
+
+    #[test]
+    fn tells_the_fault_and_writes_nothing(rt: HostRuntime) -> Result<(), Fail> {
+        let alloc = rt.alloc();
+        let twice = b"\0\x01a\0\0\0\x011\0\x01a\0\0\0\x012".to_vec(alloc)?;
+        let mut sink = Some(ScriptSink::new(alloc, 4, None));
+        for (mut source, status, line) in [
+            (
+                ScriptSource::new(twice, 4, None),
+                3,
+                b"prolly: file 0: record 1: key out of order\n".as_slice(),
+            ),
+            (
+                ScriptSource::new(b"abc".to_vec(alloc)?, 1, Some(2)),
+                5,
+                b"prolly: file 0: read failed\n",
+            ),
+        ] {
+            let answer = answer_scratch(alloc, &mut source, 0, Version::One, &mut sink)?;
+            assert_eq!(rt; answer.status, status);
+            assert!(rt; answer.out.is_empty());
+            assert_eq!(rt; answer.err.as_slice(), line);
+        }
+        let sink = sink.ok_or("no sink")?;
+        assert!(rt; sink.taken().is_empty());
+        Ok(())
+    }
+
+    #[test]
+    fn tells_that_writing_failed(rt: HostRuntime) -> Result<(), Fail> {
+        let alloc = rt.alloc();
+        let mut source = FromRead::new(b"".as_slice());
+        let mut sink = Some(ScriptSink::new(alloc, 1, Some(3)));
+        let answer = answer_scratch(alloc, &mut source, 0, Version::One, &mut sink)?;
+        assert_eq!(rt; answer.status, 5);
+        assert!(rt; answer.out.is_empty());
+        assert_eq!(rt; answer.err.as_slice(), b"prolly: write failed\n".as_slice());
+        let sink = sink.ok_or("no sink")?;
+        assert_eq!(rt; sink.taken(), b"PR".as_slice());
+        Ok(())
+    }
+}
