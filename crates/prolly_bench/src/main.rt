@@ -2,8 +2,10 @@
 //! so that it prints the same each time it is run in the gate.
 #![tactic(auto)]
 
+mod hashes;
 mod links;
 
+use crate::hashes::time_hashes;
 use crate::links::{time_batches, time_link, wait_a_second};
 use anyhow::{Context, Result, bail};
 use prolly_entry::{Pair, Sha512Cut};
@@ -14,7 +16,7 @@ use std::io::Print;
 use std::time::{Clock, Instant};
 
 const USAGE: &str =
-    "prolly_bench scratch PAIRS | link ITEMS | batches-of-16 ITEMS | batches-of-64 ITEMS | wait 1";
+    "prolly_bench hash PAIRS | scratch PAIRS | link ITEMS | batches-of-16 ITEMS | batches-of-64 ITEMS | wait 1";
 
 /// The bits of the cut: about one entry in 4,096 ends a chunk.
 const BITS: u8 = 12;
@@ -31,6 +33,7 @@ fn main(rt: HostRuntime) -> Result<()> {
     };
     let count: u32 = count.parse().context("the count is a number")?;
     match what.as_str() {
+        "hash" => time_hashes(&rt, count),
         "scratch" => time_scratch(&rt, rt.alloc(), count),
         "link" => time_link(rt, rt.alloc(), count),
         "batches-of-16" => time_batches(rt, rt.alloc(), count, 16),

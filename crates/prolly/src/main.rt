@@ -1,0 +1,50 @@
+//! The program `prolly`: it reads its words, opens and makes the files that they name, and prints the
+//! answer. What it says, and the status with which it ends, are those of `prolly_tool`.
+#![tactic(auto)]
+
+mod commands;
+mod words;
+
+use crate::commands::answer_of;
+use crate::words::read_words;
+use prolly_link::RunFault;
+use prolly_tool::{Answer, Fault, parse};
+use std::alloc::AllocError;
+use std::io::Write;
+use std::process::ExitCode;
+
+fn main(rt: HostRuntime) -> ExitCode {
+    match answer(&rt) {
+        Ok(answer) => ExitCode::from(print(&rt, &answer)),
+        Err(AllocError) => ExitCode::from(report(&rt, RunFault::Memory)),
+    }
+}
+
+/// Does what the words say.
+fn answer(rt: &HostRuntime) -> Result<Answer, AllocError> {
+    let words = match read_words(rt) {
+        Ok(words) => words,
+        Err(fault) => return Answer::of_fault(rt.alloc(), fault),
+    };
+    match parse(rt.alloc(), &words) {
+        Ok(command) => answer_of(rt, command),
+        Err(refusal) => Answer::of_refusal(rt.alloc(), refusal),
+    }
+}
+
+/// Prints the answer, and gives the status to end with. Where standard error fails there is no one to
+/// tell; the status tells.
+fn print(rt: &HostRuntime, answer: &Answer) -> u8 {
+    let _ = rt.stderr().write_all(&answer.err);
+    match rt.stdout().write_all(&answer.out) {
+        Ok(()) => answer.status,
+        Err(_) => report(rt, RunFault::Write),
+    }
+}
+
+/// Prints the line of a fault, which takes no memory, and gives its status.
+fn report(rt: &HostRuntime, fault: RunFault) -> u8 {
+    let fault = Fault::Run(fault);
+    let _ = eprintln!(rt; "prolly: {fault}");
+    fault.status()
+}

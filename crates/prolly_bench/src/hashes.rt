@@ -1,0 +1,46 @@
+//! The hashes alone that a tree takes, to compare with.
+use anyhow::Result;
+use sha2::{Digest, Sha512};
+use std::io::Print;
+use std::time::{Clock, Instant};
+
+/// How many entries a chunk has: as many as one is cut by 12 bits of a hash on average.
+const CHUNK_ENTRIES: u32 = 4_096;
+
+/// Times what the format asks to be hashed of so many pairs of 38 bytes: each entry by itself, and the
+/// bytes of each leaf. The nodes above are left out; they are less than a thousandth.
+pub fn time_hashes<R: Print + Clock>(rt: &R, count: u32) -> Result<()> {
+    let start = Instant::now(rt)?;
+    let sum = hash_all(count);
+    let millis = start.elapsed(rt)?.as_millis();
+    println!(rt; "hash {count} pairs: {millis} ms, sum {sum}")?;
+    Ok(())
+}
+
+/// Hashes all, and gives a sum of bytes of the hashes, so that no hash is left out.
+fn hash_all(count: u32) -> u32 {
+    let mut sum = 0u32;
+    let mut chunk = Sha512::new();
+    chunk.update(&[0]);
+    for number in 0..count {
+        let entry = numbered_entry(number);
+        sum = sum.wrapping_add(u32::from(Sha512::digest(&entry)[0]));
+        chunk.update(&entry);
+        if number % CHUNK_ENTRIES == CHUNK_ENTRIES - 1 {
+            sum = sum.wrapping_add(u32::from(chunk.finalize()[0]));
+            chunk = Sha512::new();
+            chunk.update(&[0]);
+        }
+    }
+    sum.wrapping_add(u32::from(chunk.finalize()[0]))
+}
+
+/// The spelling of a pair of a key of 16 bytes and a value of 16 bytes.
+fn numbered_entry(number: u32) -> [u8; 38] {
+    let mut entry = [0; 38];
+    entry[1] = 16;
+    entry[2..6].copy_from_slice(&number.to_be_bytes());
+    entry[21] = 16;
+    entry[22..38].copy_from_slice(&[0x5A; 16]);
+    entry
+}
