@@ -1,19 +1,30 @@
-.PHONY: test check bench
+.PHONY: test check prolly demo install bench
 
-# The gate: every proof from nothing, the must-fail edits, the tests and the programs.
+PREFIX ?= /usr/local
+PROGRAM = crates/prolly/out/prolly
+
+# The gate: every proof from nothing, the must-fail edits, the tests of the crates, the programs, and then the program as a
+# user runs it.
 test:
 	rt ci
+	tests/run.py $(PROGRAM)
 
 # The proofs alone, over what earlier runs kept.
 check:
 	rt all check
 
-# How long the parts take. The first line builds the program.
-bench:
+# Proves and builds the program, and runs it once: the root of the empty map.
+prolly:
+	cd crates/prolly && rt run
+
+# From a text to a root.
+demo: prolly
+	demo/run $(PROGRAM)
+
+install: prolly
+	install -D -m 755 $(PROGRAM) $(DESTDIR)$(PREFIX)/bin/prolly
+
+# How long the program and its parts take.
+bench: prolly
 	cd crates/prolly_bench && rt run
-	crates/prolly_bench/out/prolly_bench scratch 100000
-	crates/prolly_bench/out/prolly_bench scratch 1000000
-	crates/prolly_bench/out/prolly_bench link 1000000
-	crates/prolly_bench/out/prolly_bench batches-of-16 1000000
-	crates/prolly_bench/out/prolly_bench batches-of-64 1000000
-	bash -c 'time crates/prolly_bench/out/prolly_bench wait 1'
+	bench/run.py $(PROGRAM) crates/prolly_bench/out/prolly_bench

@@ -27,9 +27,12 @@ pub(crate) const PACK: &str = "Makes a record file from lines of text on standar
 Each line is a record:
   HEXKEY HEXVALUE   a pair: put the value at the key
   HEXKEY -          a removal: take the key away
-Keys and values are in hexadecimal, two digits a byte. Keys must rise strictly
-from line to line, compared byte by byte. A key has at most 1,024 bytes, a value
-at most 65,536.
+Keys and values are in hexadecimal, two digits a byte, with one space between
+them. A key has at most 1,024 bytes, a value at most 65,536. Keys are to rise
+strictly from line to line, compared byte by byte; that is not tested here, but
+`scratch` and `build` refuse a record file whose keys do not rise.
+
+Prints the number of records.
 
 OUT is made before the input is read. After a fault it is left empty or, where
 writing failed, with the first part of the record file.";
@@ -38,7 +41,8 @@ pub(crate) const PACK_EXAMPLE: &str = "Example: put 31 at 61, and take 62 away
   printf '61 31\\n62 -\\n' | prolly pack changes.rec";
 
 pub(crate) const SCRATCH: &str =
-    "Makes the tree of one record file, which it reads from standard input.
+    "Makes the tree of one record file, which it reads from standard input, and
+prints the text of its root.
 
 Equal contents give equal roots and equal chunk files, whether this command made
 them or `build` did, at equal --bits and --format.
@@ -55,6 +59,8 @@ The files are read side by side, a thread each, and the levels of the tree are
 made in threads too. Where several files have a key the last of them wins: its
 pair replaces the value, its removal takes the key away.
 
+Prints the text of the root and the numbers of chunks, pairs and levels.
+
 --bits and --format decide what the chunk file holds. --stages and --max-records
 are limits: a tree of more levels, or a file of more records, is refused.
 --capacity and --batch change only how much memory the threads use and how often
@@ -65,12 +71,16 @@ pub(crate) const BUILD_EXAMPLE: &str = "Example: the records of a day over those
 
 pub(crate) const CHECK: &str =
     "Reads a chunk file from end to end and says whether it is lawful: whether it is
-the one chunk file of its contents, to the byte.";
+the one chunk file of its contents, to the byte.
+
+Prints `ok`, the text of the root, the number of --bits and that of chunks.";
 
 pub(crate) const CHECK_EXAMPLE: &str = "Example:
   prolly check ab.prl";
 
-pub(crate) const GET: &str = "Prints the value of one key in a chunk file.";
+pub(crate) const GET: &str =
+    "Prints the value of one key in a chunk file, in hexadecimal. Where the file does
+not have the key, nothing is printed and the exit status is 1.";
 
 pub(crate) const GET_EXAMPLE: &str = "Example: the value of the key of one byte, 61
   prolly get ab.prl 61";
@@ -78,14 +88,19 @@ pub(crate) const GET_EXAMPLE: &str = "Example: the value of the key of one byte,
 pub(crate) const SCAN: &str =
     "Prints pairs of a chunk file in the order of their keys, from HEXKEY on: the
 first LIMIT pairs whose key is not less than HEXKEY. Keys are compared byte by
-byte, and a key comes before the longer ones that it begins.";
+byte, and a key comes before the longer ones that it begins.
+
+Each pair is a line, HEXKEY HEXVALUE.";
 
 pub(crate) const SCAN_EXAMPLE: &str = "Example: the first ten pairs from the key 61 on
   prolly scan ab.prl 61 10";
 
 pub(crate) const NTH: &str =
     "Prints the pair at place N of a chunk file, in the order of keys. The first pair
-is at place 0.";
+is at place 0. The file has to be of --format 2, whose nodes count their pairs.
+
+The pair is a line, HEXKEY HEXVALUE. Where there is none, nothing is printed and
+the exit status is 1.";
 
 pub(crate) const NTH_EXAMPLE: &str = "Example: the first pair
   prolly nth ab.prl 0";

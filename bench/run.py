@@ -1,0 +1,81 @@
+#!/usr/bin/env python3
+"""How long the program takes: `bench/run.py PROGRAM PARTS`.
+
+PARTS is the program that times the parts. Machines are noisy, so what is compared runs in turn, several
+times, and the medians are compared. Peaks are those of the processes, as the system tells them.
+"""
+
+import os
+import re
+import statistics
+import subprocess
+import sys
+import tempfile
+import time
+from pathlib import Path
+
+RECORDS = 1_000_000
+TURNS = 9
+
+
+def main():
+    """Runs all."""
+    program, parts = (str(Path(name).resolve()) for name in sys.argv[1:3])
+    with tempfile.TemporaryDirectory() as folder:
+        os.chdir(folder)
+        write_records(RECORDS)
+        compare_scratch(program, parts)
+    for words in (["scratch", "100000"], ["scratch", "1000000"]):
+        print(output(parts, *words))
+    for kind in ("link", "batches-of-16", "batches-of-64"):
+        print(output(parts, kind, "1000000"))
+    _, seconds, _ = measured([parts, "wait", "1"], subprocess.DEVNULL)
+    print(f"a receiver that waits for a second: {seconds:.2f} s of processor time")
+
+
+def write_records(count):
+    """A record file of pairs of 38 bytes whose keys rise."""
+    with open("records", "wb") as file:
+        for number in range(count):
+            file.write(b"\0\x10" + number.to_bytes(16, "big") + b"\0\0\0\x10" + b"\x5a" * 16)
+
+
+def compare_scratch(program, parts):
+    """`prolly scratch` beside the hashes alone that its tree takes."""
+    hashing, building, peaks = [], [], []
+    for _ in range(TURNS):
+        hashing.append(int(re.search(r"(\d+) ms", output(parts, "hash", str(RECORDS)))[1]) / 1000)
+        with open("records", "rb") as records:
+            seconds, _, peak = measured([program, "scratch", "--out", "tree"], records)
+        building.append(seconds)
+        peaks.append(peak)
+    size = os.path.getsize("records")
+    ratio = statistics.median(building) / statistics.median(hashing)
+    print(f"{RECORDS} records of 38 bytes, {TURNS} turns, medians and (least to most):")
+    print(f"  hashes alone    {spread(hashing)}")
+    print(f"  prolly scratch  {spread(building)}, {ratio:.2f} times as long")
+    print(f"  its peak memory {max(peaks) / 1e6:.0f} MB, {max(peaks) / size:.1f} times the input")
+
+
+def spread(seconds):
+    """A median with its spread."""
+    return f"{statistics.median(seconds):.2f} s ({min(seconds):.2f} to {max(seconds):.2f})"
+
+
+def output(*command):
+    """What a program prints."""
+    return subprocess.run(command, check=True, capture_output=True, text=True).stdout.strip()
+
+
+def measured(command, stdin):
+    """A run's seconds, its seconds of processor time, and its peak memory in bytes."""
+    start = time.monotonic()
+    child = subprocess.Popen(command, stdin=stdin, stdout=subprocess.DEVNULL)
+    _, status, usage = os.wait4(child.pid, 0)
+    if status != 0:
+        sys.exit(f"{command} failed")
+    return time.monotonic() - start, usage.ru_utime + usage.ru_stime, usage.ru_maxrss * 1024
+
+
+if __name__ == "__main__":
+    main()

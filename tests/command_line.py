@@ -1,0 +1,135 @@
+"""The words of the command line: help, usage, and what becomes of each subcommand."""
+
+from pathlib import Path
+
+from harness import Case
+
+TEXTS = Path(__file__).parent / "texts"
+
+COMMANDS = ["pack", "scratch", "build", "check", "get", "scan", "nth"]
+
+ABSENT = b"prolly: not in this build\n"
+
+
+def helped(words, text):
+    """A run that prints a text of help."""
+    return Case(f"help: {' '.join(words)}", words, out=(TEXTS / text).read_bytes())
+
+
+def misused(words, text):
+    """A run that prints what is wrong with its words."""
+    shown = " ".join(word if len(word) < 40 else "LONG" for word in words)
+    return Case(f"usage: {shown}", words, status=2, err=text.encode())
+
+
+def wrong(words, text, usage=None):
+    """The same, in the form of most of these texts."""
+    usage = f"Usage: prolly {usage}\n\n" if usage else ""
+    return misused(words, f"error: {text}\n\n{usage}For more information, try '--help'.\n")
+
+
+def bad_number(words, word, option, why):
+    """The same, for a number."""
+    return wrong(words, f"invalid value '{word}' for '{option}': {why}")
+
+
+def missing(words, names, usage):
+    """The same, for words that are missing."""
+    lines = "".join(f"\n  <{name}>" for name in names)
+    return wrong(words, f"the following required arguments were not provided:{lines}", usage)
+
+
+def absent(*words):
+    """A command that is taken, and is not there yet."""
+    return Case(f"taken: {' '.join(words)[:60]}", list(words), status=2, err=ABSENT)
+
+
+def bad_key(*words):
+    """A word for a key that is none."""
+    return Case(f"key: {' '.join(words)[:60]}", list(words), status=2, err=b"prolly: not a key in hexadecimal\n")
+
+
+def cases(_):
+    """All cases."""
+    return help_cases() + usage_cases() + number_cases() + key_cases() + absent_cases()
+
+
+def help_cases():
+    """Help is printed to standard output, and is no fault."""
+    return (
+        [helped(["--help"], "prolly.txt"), helped(["-h"], "prolly-short.txt"), helped(["help"], "prolly.txt")]
+        + [helped([command, "--help"], f"{command}.txt") for command in COMMANDS]
+        + [helped([command, "-h"], f"{command}-short.txt") for command in COMMANDS]
+        + [helped(["help", "scratch"], "scratch.txt")]
+        + [Case("help: nobody reads it", ["--help"], status=5, err=b"prolly: write failed\n", stdout="unread")]
+    )
+
+
+def usage_cases():
+    """Words that are missing, unknown or too many."""
+    none = (
+        "error: 'prolly' requires a subcommand but one was not provided\n"
+        "  [subcommands: pack, scratch, build, check, get, scan, nth, help]\n\n"
+        "Usage: prolly <COMMAND>\n\nFor more information, try '--help'.\n"
+    )
+    return [
+        misused([], none),
+        wrong(["plant"], "unrecognized subcommand 'plant'", "<COMMAND>"),
+        wrong(["--version"], "unexpected argument '--version' found", "<COMMAND>"),
+        wrong(["scratch", "--deep"], "unexpected argument '--deep' found", "scratch [OPTIONS]"),
+        wrong(["scratch", "file"], "unexpected argument 'file' found", "scratch [OPTIONS]"),
+        wrong(["scratch", "--bits"], "a value is required for '--bits <Q>' but none was supplied"),
+        wrong(["scratch", "--bits", "1", "--bits", "2"], "the argument '--bits <Q>' cannot be used multiple times", "scratch [OPTIONS]"),
+        missing(["pack"], ["OUT"], "pack <OUT>"),
+        wrong(["pack", "a", "b"], "unexpected argument 'b' found", "pack <OUT>"),
+        missing(["build"], ["OUT"], "build <OUT> [FILES]..."),
+        missing(["check"], ["FILE"], "check <FILE>"),
+        missing(["get"], ["FILE", "HEXKEY"], "get <FILE> <HEXKEY>"),
+        missing(["get", "f"], ["HEXKEY"], "get <FILE> <HEXKEY>"),
+        missing(["scan", "f", "61"], ["LIMIT"], "scan <FILE> <HEXKEY> <LIMIT>"),
+        missing(["nth", "f"], ["N"], "nth <FILE> <N>"),
+        Case("usage: a word that is no text", [b"check", b"\xff"], status=2, err=b"prolly: a word is not UTF-8\n"),
+    ]
+
+
+def number_cases():
+    """Numbers outside their ranges."""
+    return [
+        bad_number(["scratch", "--bits", "25"], "25", "--bits <Q>", "25 is not in 0..=24"),
+        bad_number(["scratch", "--bits", "x"], "x", "--bits <Q>", "invalid digit found in string"),
+        bad_number(["scratch", "--bits", ""], "", "--bits <Q>", "cannot parse integer from empty string"),
+        bad_number(["scratch", "--format", "0"], "0", "--format <V>", "0 is not in 1..=2"),
+        bad_number(["scratch", "--format", "3"], "3", "--format <V>", "3 is not in 1..=2"),
+        bad_number(["build", "--stages", "0", "o"], "0", "--stages <S>", "0 is not in 1..=12"),
+        bad_number(["build", "--stages", "13", "o"], "13", "--stages <S>", "13 is not in 1..=12"),
+        bad_number(["build", "--capacity", "4097", "o"], "4097", "--capacity <C>", "4097 is not in 1..=4096"),
+        bad_number(["build", "--max-records", "16777217", "o"], "16777217", "--max-records <M>", "16777217 is not in 1..=16777216"),
+        bad_number(["build", "--batch", "1025", "o"], "1025", "--batch <B>", "1025 is not in 1..=1024"),
+        bad_number(["scan", "f", "61", "1000001"], "1000001", "<LIMIT>", "1000001 is not in 0..=1000000"),
+        bad_number(["nth", "f", "4294967296"], "4294967296", "<N>", "4294967296 is not in 0..=4294967295"),
+    ]
+
+
+def key_cases():
+    """Words for keys."""
+    return [
+        bad_key("get", "f", "6"),
+        bad_key("get", "f", "6g"),
+        bad_key("get", "f", "61" * 1025),
+        bad_key("scan", "f", "6", "1"),
+        # What else is wrong with the words is told first.
+        bad_number(["scan", "f", "6", "x"], "x", "<LIMIT>", "invalid digit found in string"),
+    ]
+
+
+def absent_cases():
+    """Commands whose words are taken."""
+    return [
+        absent("build", "o"),
+        absent("build", "--bits", "24", "--stages", "12", "--capacity", "4096", "--max-records", "16777216", "--batch", "1024", "--format", "2", "o", "a", "b"),
+        absent("check", "f"),
+        absent("get", "f", ""),
+        absent("get", "f", "61" * 1024),
+        absent("scan", "f", "6A", "1000000"),
+        absent("nth", "f", "4294967295"),
+    ]

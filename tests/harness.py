@@ -1,0 +1,133 @@
+"""Runs the program as a user does, and compares all that it leaves behind."""
+
+import os
+import resource
+import subprocess
+import tempfile
+from dataclasses import dataclass, field
+from pathlib import Path
+
+FOLDER = object()
+"""Stands among a case's files for a folder without files."""
+
+
+@dataclass
+class Case:
+    """One run: its words, what it reads, and all that is wanted of it."""
+
+    name: str
+    words: list
+    input: object = b""
+    """Bytes for standard input, a path to read them from, or None where it is closed."""
+    status: int = 0
+    out: bytes = b""
+    err: bytes = b""
+    before: dict = field(default_factory=dict)
+    """The files that lie in the folder before the run."""
+    after: dict = field(default_factory=dict)
+    """The files that it makes or changes. All others are as before."""
+    stdout: str = "read"
+    """`read`, `closed`, `full` (a full device) or `unread` (a pipe that nobody reads)."""
+    stderr: str = "read"
+    """`read` or `closed`."""
+    memory: int = None
+    """How many bytes of memory the program may have."""
+
+
+def run(program, case):
+    """Runs a case in a folder of its own, and gives the differences, a line each."""
+    with tempfile.TemporaryDirectory() as name:
+        folder = Path(name)
+        lay_out(folder, case.before)
+        status, out, err = start(program, case, folder)
+        differences = []
+        if status != case.status:
+            differences.append(f"status {status}, wanted {case.status}")
+        if out != case.out:
+            differences.append(f"standard output {shown(out)}, wanted {shown(case.out)}")
+        if err != case.err:
+            differences.append(f"standard error {shown(err)}, wanted {shown(case.err)}")
+        differences += file_differences(folder, {**case.before, **case.after})
+        return differences
+
+
+def start(program, case, folder):
+    """Runs the program, and gives its status and what it printed."""
+    stdin = open_input(case.input)
+    stdout, finish = open_output(case.stdout)
+    try:
+        done = subprocess.run(
+            [program, *case.words],
+            cwd=folder,
+            stdin=stdin,
+            stdout=stdout,
+            stderr=subprocess.PIPE,
+            input=case.input if stdin is None and case.input is not None else None,
+            preexec_fn=lambda: limit(case),
+            check=False,
+        )
+    finally:
+        finish()
+        if stdin is not None:
+            os.close(stdin)
+    return done.returncode, done.stdout or b"", done.stderr or b""
+
+
+def open_input(source):
+    """A file, or a folder, to read from; none where bytes are given, or where the input is closed."""
+    return os.open(source, os.O_RDONLY) if isinstance(source, Path) else None
+
+
+def open_output(kind):
+    """What standard output goes to, and what is to be done after the run."""
+    if kind == "full":
+        file = open("/dev/full", "wb")
+        return file, file.close
+    if kind == "unread":
+        reader, writer = os.pipe()
+        os.close(reader)
+        return writer, lambda: os.close(writer)
+    return subprocess.PIPE, lambda: None
+
+
+def limit(case):
+    """Closes what the program is to find closed, and takes the memory that it is not to have."""
+    if case.input is None:
+        os.close(0)
+    if case.stdout == "closed":
+        os.close(1)
+    if case.stderr == "closed":
+        os.close(2)
+    if case.memory is not None:
+        resource.setrlimit(resource.RLIMIT_AS, (case.memory, case.memory))
+
+
+def lay_out(folder, files):
+    """Writes the files that a run finds."""
+    for name, content in files.items():
+        if content is FOLDER:
+            (folder / name).mkdir()
+        else:
+            (folder / name).write_bytes(content)
+
+
+def file_differences(folder, wanted):
+    """How the files differ from those that are wanted."""
+    differences = []
+    found = {path.name for path in folder.iterdir()}
+    for name in sorted(found - wanted.keys()):
+        differences.append(f"{name} was left behind")
+    for name in sorted(wanted.keys() - found):
+        differences.append(f"{name} is not there")
+    for name in sorted(found & wanted.keys()):
+        if wanted[name] is FOLDER:
+            continue
+        content = (folder / name).read_bytes()
+        if content != wanted[name]:
+            differences.append(f"{name} holds {shown(content)}, wanted {shown(wanted[name])}")
+    return differences
+
+
+def shown(content):
+    """The start of some bytes, for a line of a report."""
+    return f"{content[:300]!r} of {len(content)} bytes"
