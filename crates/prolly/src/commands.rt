@@ -37,12 +37,7 @@ fn pack(rt: &HostRuntime, out: &str) -> Result<Answer, AllocError> {
 }
 
 /// `scratch [--bits Q] [--format V] [--out FILE]`
-fn scratch(
-    rt: &HostRuntime,
-    bits: u8,
-    version: u8,
-    out: Option<&str>,
-) -> Result<Answer, AllocError>
+fn scratch(rt: &HostRuntime, bits: u8, version: u8, out: Option<&str>) -> Result<Answer, AllocError>
     requires bits { bits ≤ 24 }
     requires version { (1 ≤ version) × (version ≤ 2) }
 {
