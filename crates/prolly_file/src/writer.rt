@@ -182,11 +182,11 @@ mod tests {
     use std::alloc::{AllocError, Global};
     use std::test::Fail;
 
-    const L1: [u8; 9] = *b"\0\0\x01a\0\0\0\x011";
+    const FIRST_LEAF: [u8; 9] = *b"\0\0\x01a\0\0\0\x011";
 
-    const L2: [u8; 9] = *b"\0\0\x01b\0\0\0\x011";
+    const SECOND_LEAF: [u8; 9] = *b"\0\0\x01b\0\0\0\x011";
 
-    const L3: [u8; 9] = *b"\0\0\x01c\0\0\0\x011";
+    const THIRD_LEAF: [u8; 9] = *b"\0\0\x01c\0\0\0\x011";
 
     /// Parts, one after another.
     fn joined(alloc: Global, parts: &[&[u8]]) -> Result<Vec<u8>, AllocError> {
@@ -200,55 +200,70 @@ mod tests {
     /// The chunks of the file of the keys a, b and c, and the bytes of that file, which are 234.
     #[derive(Drop)]
     struct Sample {
-        n1: Vec<u8>,
-        n2: Vec<u8>,
-        m: Vec<u8>,
+        first_node: Vec<u8>,
+        last_node: Vec<u8>,
+        root: Vec<u8>,
         file: Vec<u8>,
     }
 
     fn make_sample(alloc: Global) -> Result<Sample, AllocError> {
-        let n1 = joined(
+        let first_node = joined(
             alloc,
-            &[b"\x01\0\x01a", &Ref::of(&L1).0, b"\0\x01b", &Ref::of(&L2).0],
+            &[
+                b"\x01\0\x01a",
+                &Ref::of(&FIRST_LEAF).0,
+                b"\0\x01b",
+                &Ref::of(&SECOND_LEAF).0,
+            ],
         )?;
-        let n2 = joined(alloc, &[b"\x01\0\x01c", &Ref::of(&L3).0])?;
-        let m = joined(
+        let last_node = joined(alloc, &[b"\x01\0\x01c", &Ref::of(&THIRD_LEAF).0])?;
+        let root = joined(
             alloc,
-            &[b"\x02\0\x01b", &Ref::of(&n1).0, b"\0\x01c", &Ref::of(&n2).0],
+            &[
+                b"\x02\0\x01b",
+                &Ref::of(&first_node).0,
+                b"\0\x01c",
+                &Ref::of(&last_node).0,
+            ],
         )?;
         let file = joined(
             alloc,
             &[
                 b"PRLY\x01\0",
                 b"C\0\0\0\0\0\0\0\x09",
-                &L1,
+                &FIRST_LEAF,
                 b"C\0\0\0\0\0\0\0\x09",
-                &L2,
+                &SECOND_LEAF,
                 b"C\0\0\0\0\0\0\0\x2F",
-                &n1,
+                &first_node,
                 b"C\0\0\0\0\0\0\0\x09",
-                &L3,
+                &THIRD_LEAF,
                 b"C\0\0\0\0\0\0\0\x18",
-                &n2,
+                &last_node,
                 b"C\0\0\0\0\0\0\0\x2F",
-                &m,
+                &root,
                 b"E",
-                &Ref::of(&m).0,
+                &Ref::of(&root).0,
                 b"\0\0\0\0\0\0\0\x06",
             ],
         )?;
-        Ok(Sample { n1, n2, m, file })
+        Ok(Sample {
+            first_node,
+            last_node,
+            root,
+            file,
+        })
     }
 
     fn write<W: Sink>(sample: &Sample, sink: &mut W) -> Result<u64, WriteFault> {
         let mut writer = FileWriter::begin(sink, 0)?;
-        writer.chunk(sink, &L1)?;
-        writer.chunk(sink, &L2)?;
-        writer.chunk(sink, &sample.n1)?;
-        writer.chunk(sink, &L3)?;
-        writer.chunk(sink, &sample.n2)?;
-        writer.chunk(sink, &sample.m)?;
-        writer.end(sink, &Ref::of(&sample.m))
+        writer.chunk(sink, &FIRST_LEAF)?;
+        writer.chunk(sink, &SECOND_LEAF)?;
+        writer.chunk(sink, &sample.first_node)?;
+        writer.chunk(sink, &THIRD_LEAF)?;
+        writer.chunk(sink, &sample.last_node)?;
+        writer.chunk(sink, &sample.root)?;
+        writer.end(sink, &Ref::of(&sample.root))
     }
 
     #[test]

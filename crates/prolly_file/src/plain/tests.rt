@@ -100,16 +100,19 @@ fn small_maps_have_these_files(rt: HostRuntime) -> Result<(), Fail> {
     assert_eq!(rt; one.len(), 53);
     assert_eq!(rt; one, file_of(alloc, 1, 0, &[A])?);
 
-    let n1 = node_of(alloc, 1, &[(b"a", A), (b"b", B)], &[])?;
+    let first_node = node_of(alloc, 1, &[(b"a", A), (b"b", B)], &[])?;
     let two = made(alloc, cut, Version::One, &[b"a", b"b"])?;
     assert_eq!(rt; two.len(), 127);
-    assert_eq!(rt; two, file_of(alloc, 1, 0, &[A, B, &n1])?);
+    assert_eq!(rt; two, file_of(alloc, 1, 0, &[A, B, &first_node])?);
 
-    let n2 = node_of(alloc, 1, &[(b"c", C)], &[])?;
-    let m = node_of(alloc, 2, &[(b"b", &n1), (b"c", &n2)], &[])?;
+    let last_node = node_of(alloc, 1, &[(b"c", C)], &[])?;
+    let root = node_of(alloc, 2, &[(b"b", &first_node), (b"c", &last_node)], &[])?;
     let three = made(alloc, cut, Version::One, &[b"a", b"b", b"c"])?;
     assert_eq!(rt; three.len(), 234);
-    assert_eq!(rt; three, file_of(alloc, 1, 0, &[A, B, &n1, C, &n2, &m])?);
+    assert_eq!(rt;
+        three,
+        file_of(alloc, 1, 0, &[A, B, &first_node, C, &last_node, &root])?
+    );
     Ok(())
 }
 
@@ -122,16 +125,24 @@ fn version_two_counts(rt: HostRuntime) -> Result<(), Fail> {
         file_of(alloc, 2, 0, &[A])?
     );
 
-    let n1 = node_of(alloc, 1, &[(b"a", A), (b"b", B)], &[1, 1])?;
+    let first_node = node_of(alloc, 1, &[(b"a", A), (b"b", B)], &[1, 1])?;
     let two = made(alloc, cut, Version::Two, &[b"a", b"b"])?;
     assert_eq!(rt; two.len(), 143);
-    assert_eq!(rt; two, file_of(alloc, 2, 0, &[A, B, &n1])?);
+    assert_eq!(rt; two, file_of(alloc, 2, 0, &[A, B, &first_node])?);
 
-    let n2 = node_of(alloc, 1, &[(b"c", C)], &[1])?;
-    let m = node_of(alloc, 2, &[(b"b", &n1), (b"c", &n2)], &[2, 1])?;
+    let last_node = node_of(alloc, 1, &[(b"c", C)], &[1])?;
+    let root = node_of(
+        alloc,
+        2,
+        &[(b"b", &first_node), (b"c", &last_node)],
+        &[2, 1],
+    )?;
     let three = made(alloc, cut, Version::Two, &[b"a", b"b", b"c"])?;
     assert_eq!(rt; three.len(), 274);
-    assert_eq!(rt; three, file_of(alloc, 2, 0, &[A, B, &n1, C, &n2, &m])?);
+    assert_eq!(rt;
+        three,
+        file_of(alloc, 2, 0, &[A, B, &first_node, C, &last_node, &root])?
+    );
     Ok(())
 }
 
