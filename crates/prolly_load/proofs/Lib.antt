@@ -1,0 +1,4 @@
+pub mod PartLemmas
+pub mod FillLemmas
+pub mod UnderWay
+pub mod LoadEnds

@@ -1,0 +1,13 @@
+//! Loading a record file: its records go into a link, and the link is closed with how the file ends.
+#![tactic(auto)]
+
+mod buffer;
+mod fault;
+mod loader;
+mod sending;
+mod span;
+mod taking;
+#[cfg(test)]
+mod tests;
+
+pub use loader::{Loaded, load};

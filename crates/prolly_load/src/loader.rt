@@ -1,0 +1,56 @@
+//! Loading a record file.
+ghost use Rattle.std.specs.Prelude.{◌≡◌, ◌≢◌, ◌↔◌, true};
+ghost use Rattle.prolly_link.specs.declared.fault.End.TheVariants.{Fault};
+ghost use Rattle.prolly_link.specs.declared.fault.RunFault.TheVariants.{Read};
+ghost use Rattle.prolly_load.specs.Loading.{IsLoaded};
+
+use crate::sending::send_records;
+use prolly_entry::Record;
+use prolly_file::Source;
+use prolly_link::Out;
+use std::alloc::Global;
+use std::sync::Wait;
+
+/// What a loader gives back.
+#[derive(Drop)]
+pub struct Loaded<S, C> {
+    /// The source, as the reads left it.
+    pub source: S,
+    /// The output, closed.
+    pub out: C,
+}
+
+/// Loads a record file: sends the good records of what the source has left, at most `limit`, and closes
+/// the output with how the file ends. A fault names the file by this number, and a record by its place
+/// among the file's records, counted from 0.
+///
+/// It stops where the source has no more bytes, and at the first flaw, failed read or refused memory. What
+/// was sent stays sent. The source is not read while the bytes at hand decide a record or a flaw, so a
+/// flaw is told even where a further read would fail.
+///
+/// Takes time linear in the bytes, and copies each record's bytes once. Holds one buffer of 130 KiB,
+/// however long the file is, and offers each read 64 KiB or more.
+pub fn load<R: Wait, S: Source, O: Out<Record>>(
+    rt: &R,
+    alloc: Global,
+    file: u32,
+    mut source: S,
+    limit: u32,
+    mut out: O,
+) -> Loaded<S, O::Closed>
+    ensures link { O.closed_link result.out ≡ O.link out }
+    ensures loaded { IsLoaded file limit (S.is_honest source) (S.left source) (S.left result.source) (O.sent out) (O.all_sent result.out) (O.end_sent result.out) }
+
+    // A failed read is told, and nothing else is told as one.
+    ensures read { (O.end_sent result.out ≡ Fault (Read file)) ↔ (S.failures result.source ≢ S.failures source) }
+    ensures unfailed { O.end_sent result.out ≢ Fault (Read file) → S.failures result.source ≡ S.failures source }
+    ensures never { S.is_steady source ≡ true → S.failures result.source ≡ S.failures source }
+    ensures honest { S.is_honest source ≡ true → S.is_honest result.source ≡ true }
+    ensures steady { S.is_steady source ≡ true → S.is_steady result.source ≡ true }
+{
+    let end = send_records(rt, alloc, file, &mut source, limit, &mut out);
+    Loaded {
+        source,
+        out: out.close(rt, end),
+    }
+}

@@ -1,0 +1,57 @@
+//! Sending the records of a source.
+ghost use Rattle.std.specs.Prelude.{◌≡◌, ◌≢◌, ◌↔◌, true};
+ghost use Rattle.prolly_load.specs.Loading.{IsLoaded};
+
+use crate::buffer::Buffer;
+use crate::fault::fault_of;
+use crate::taking::{Taken, take_record};
+use prolly_entry::{Flaw, Record};
+use prolly_file::Source;
+use prolly_link::{End, Out, RunFault};
+use std::alloc::Global;
+use std::sync::Wait;
+
+/// Sends the good records of what the source has left, and answers the end that follows them.
+pub(crate) fn send_records<R: Wait, S: Source, O: Out<Record>>(
+    rt: &R,
+    alloc: Global,
+    file: u32,
+    source: &mut S,
+    limit: u32,
+    out: &mut O,
+) -> End
+    ensures link { O.link out.new ≡ O.link out.old }
+    ensures loaded { IsLoaded file limit (S.is_honest source.old) (S.left source.old) (S.left source.new) (O.sent out.old) (O.sent out.new) result }
+    ensures read { (result ≡ End.Fault (RunFault.Read file)) ↔ (S.failures source.new ≢ S.failures source.old) }
+    ensures unfailed { result ≢ End.Fault (RunFault.Read file) → S.failures source.new ≡ S.failures source.old }
+    ensures never { S.is_steady source.old ≡ true → S.failures source.new ≡ S.failures source.old }
+    ensures honest { S.is_honest source.old ≡ true → S.is_honest source.new ≡ true }
+    ensures steady { S.is_steady source.old ≡ true → S.is_steady source.new ≡ true }
+{
+    let Ok(mut buffer) = Buffer::new(alloc) else {
+        return End::Fault(RunFault::Memory);
+    };
+    let mut count = 0;
+    loop {
+        match take_record(alloc, &mut buffer, limit, count) {
+            Ok(Taken::Record(record)) => {
+                if let Err(_) = out.send(rt, record) {
+                    return End::Fault(RunFault::Memory);
+                }
+                count += 1;
+            }
+            Ok(Taken::Nothing) => match buffer.fill(source) {
+                Ok(0) => {
+                    if buffer.unparsed().is_empty() {
+                        return End::Clean;
+                    }
+                    return End::Fault(fault_of(file, count, Flaw::Truncated));
+                }
+                Ok(_) => {}
+                Err(_) => return End::Fault(RunFault::Read { file }),
+            },
+            Ok(Taken::Flawed(flaw)) => return End::Fault(fault_of(file, count, flaw)),
+            Err(_) => return End::Fault(RunFault::Memory),
+        }
+    }
+}

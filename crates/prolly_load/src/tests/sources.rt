@@ -1,0 +1,63 @@
+//! Sources that are no files.
+ghost use Rattle.std.specs.Prelude.{◌≤◌};
+
+use prolly_file::{ScriptSource, Source, SourceFault};
+
+/// A source that gives zeros for ever.
+#[derive(Drop)]
+pub(super) struct Zeros;
+
+impl Source for Zeros {
+    ghost use Rattle.std.specs.Prelude.{[], true, false};
+
+    ghost left = { λ _. [] };
+
+    ghost failures = { λ _. 0 };
+
+    ghost is_honest = { λ _. false };
+
+    ghost is_steady = { λ _. true };
+
+    fn read(&mut self, buf: &mut [u8]) -> Result<usize, SourceFault> {
+        buf.fill(0);
+        Ok(buf.len())
+    }
+}
+
+/// A scripted source that remembers the least room that a read had.
+#[derive(Drop)]
+pub(super) struct Watched {
+    script: ScriptSource,
+    least_room: usize,
+}
+
+impl Watched {
+    pub(super) fn new(script: ScriptSource) -> Watched {
+        Watched {
+            script,
+            least_room: usize::MAX,
+        }
+    }
+
+    /// The least room that a read had.
+    pub(super) fn least_room(&self) -> usize {
+        self.least_room
+    }
+}
+
+impl Source for Watched {
+    ghost use Rattle.std.specs.Prelude.{true, not, is_some};
+
+    ghost left = { λ s. s.script.left };
+
+    ghost failures = { λ s. s.script.failures };
+
+    ghost is_honest = { λ _. true };
+
+    ghost is_steady = { λ s. not (is_some s.script.until_failure) };
+
+    fn read(&mut self, buf: &mut [u8]) -> Result<usize, SourceFault> {
+        self.least_room = self.least_room.min(buf.len());
+        self.script.read(buf)
+    }
+}
