@@ -1,0 +1,12 @@
+pub mod Equal
+pub mod EachLemmas
+pub mod MergeSteps
+pub mod Places
+pub mod Steps
+pub mod Finishes
+pub mod Turns
+pub mod Counts
+pub mod Choices
+pub mod Peeks
+pub mod Rounds
+pub mod Openings

@@ -1,0 +1,10 @@
+use Rattle.std.proofs.Common.{◌≡◌}
+use Rattle.prolly_merge.specs.Each.{EachUpto}
+use Rattle.prolly_merge.specs.PeekedInputs.{peeked_of}
+use Rattle.prolly_merge.specs.Steps.{MovesOn}
+use Rattle.prolly_merge.proofs.round.skip_key.Given as goal
+
+abbrev pub invariant-loop-i : goal.invariant-loop-i
+invariant-loop-i g l =
+    EachUpto (MovesOn g.I.In.link g.I.In.progress g.I.In.Follows g.I.In.received l.sent.key) (λ old new. new ≡ old) l.i
+    (peeked_of l.initial.inputs l.initial.heads) (peeked_of l.inputs l.heads)

@@ -1,0 +1,9 @@
+pub mod Each
+pub mod Inputs
+pub mod Sent
+pub mod Heads
+pub mod Places
+pub mod PeekedInputs
+pub mod Steps
+pub mod Turns
+pub mod Choices

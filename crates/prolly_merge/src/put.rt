@@ -1,0 +1,32 @@
+// What a merger sends of a record.
+ghost use Rattle.std.specs.Prelude.{◌≡◌, ◌+◌, ◌++◌, OnOk, OnErr, IfOk, length, min};
+ghost use Rattle.prolly_entry.specs.Overlay.{pairs_of_change};
+
+use prolly_entry::{Pair, Record};
+use prolly_link::Out;
+use std::alloc::{AllocError, Global};
+use std::sync::Wait;
+
+/// Sends the pair that a record puts; a removal puts none. Gives the count of pairs with it.
+pub(crate) fn send_put<O: Out<Pair>, R: Wait>(
+    rt: &R,
+    alloc: Global,
+    out: &mut O,
+    merged: Record,
+    pairs: u64,
+) -> Result<u64, AllocError>
+    ensures link { O.link out.new ≡ O.link out.old }
+    ensures sent { OnOk result (O.sent out.new ≡ O.sent out.old ++ pairs_of_change merged.key merged.value) }
+    ensures count { IfOk result (λ n.
+        n ≡ min (pairs + length (pairs_of_change merged.key merged.value)) 0xFFFF_FFFF_FFFF_FFFF) }
+    ensures refused { OnErr result (O.sent out.new ≡ O.sent out.old) }
+{
+    let Some(value) = merged.value() else {
+        return Ok(pairs);
+    };
+    let pair = Pair::copy_of(alloc, merged.key(), value)?;
+    match out.send(rt, pair) {
+        Ok(()) => Ok(pairs.saturating_add(1)),
+        Err(_) => Err(AllocError),
+    }
+}
