@@ -1,0 +1,5 @@
+use Rattle.prolly_stage.proofs.Joins.{stage_follows}
+use Rattle.prolly_stage.proofs.laws.stages_follow.Goals as goal
+
+pub returns : goal.returns
+returns c = stage_follows

@@ -1,0 +1,3 @@
+pub mod Gated
+pub mod Sends
+pub mod Workers

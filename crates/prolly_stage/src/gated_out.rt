@@ -1,0 +1,42 @@
+//! Sending through a gate. This stands apart from the fields of `Gated`, so that items leave only by
+//! `send_next`, which requires that the gate was asked.
+ghost use Rattle.std.specs.Prelude.{◌≡◌, ◌∷◌, [], ◌++◌, OnOk, IfErr};
+ghost use Rattle.prolly_stage.specs.Gated.{one_more};
+
+use crate::gate::Gate;
+use crate::gated::Gated;
+use prolly_link::{End, Out};
+use std::sync::Wait;
+
+impl<'a, T, G: Gate, O: Out<T>> Out<T> for Gated<'a, G, O> {
+    type Closed = O::Closed;
+
+    ghost link = { λ g. O.link g.out };
+
+    ghost sent = { λ g. O.sent g.out };
+
+    ghost closed_link = { O.closed_link };
+
+    ghost all_sent = { O.all_sent };
+
+    ghost end_sent = { O.end_sent };
+
+    /// Asks the gate, and then sends.
+    fn send<R: Wait>(&mut self, rt: &R, item: T) -> Result<(), T>
+        ensures link { O.link self.new.out ≡ O.link self.old.out }
+        ensures ok { OnOk result (O.sent self.new.out ≡ O.sent self.old.out ++ item ∷ []) }
+        ensures err { IfErr result (λ back. (back ≡ item) × (O.sent self.new.out ≡ O.sent self.old.out)) }
+        ensures asked { G.HasOpened self.old.gate self.old.worker self.old.next }
+        ensures worker { self.new.worker ≡ self.old.worker }
+        ensures gate { self.new.gate ≡ self.old.gate }
+        ensures next { self.new.next ≡ one_more self.old.next }
+    {
+        self.ask(rt);
+        self.send_next(rt, item)
+    }
+
+    /// Sends the end. The gate is not asked, since an end is no item.
+    fn close<R: Wait>(self, rt: &R, end: End) -> O::Closed {
+        self.into_out().close(rt, end)
+    }
+}

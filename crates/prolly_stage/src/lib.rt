@@ -1,0 +1,28 @@
+//! The stages of the pipeline: each makes the chunks of one level of the tree, and passes on those of
+//! the levels below.
+//!
+//! A stage is written over the traits of a link's ends, so it runs over links between threads and over
+//! lists in one thread alike. What it makes of its input is `prolly_chunk`'s; here it is received and
+//! sent.
+#![tactic(auto)]
+
+mod ask;
+mod gate;
+mod gated;
+mod gated_out;
+mod inner;
+pub mod laws;
+mod leaf;
+mod sending;
+mod staged;
+#[cfg(test)]
+mod tests;
+mod worker;
+
+pub use gate::{Gate, OpenGate};
+pub use gated::Gated;
+pub use inner::{inner_stage, inner_stage_as};
+pub use leaf::leaf_stage;
+pub use prolly_chunk::ChunkEvent;
+pub use staged::Staged;
+pub use worker::Worker;

@@ -1,0 +1,35 @@
+//! What a stage gives back.
+ghost use Rattle.std.specs.Prelude.{◌≡◌};
+ghost use Rattle.prolly_link.specs.Receipts.{HasEnded};
+ghost use Rattle.prolly_link.specs.declared.fault.End.TheVariants.{Fault};
+ghost use Rattle.prolly_link.specs.declared.fault.RunFault.TheVariants.{Memory};
+
+use prolly_chunk::ChunkEvent;
+use prolly_link::{End, In, Out, RunFault, receive_rest};
+use std::sync::Wait;
+
+/// The ends that a stage was given: the input has ended, and the output is closed.
+pub struct Staged<I, O: Out<ChunkEvent>> {
+    pub input: I,
+    pub out: O::Closed,
+}
+
+/// Gives up for want of memory: closes the output, and then receives the input to its end, so that its
+/// sender does not wait for room for good.
+pub(crate) fn give_up<T: Drop, I: In<T>, O: Out<ChunkEvent>, R: Wait>(
+    rt: &R,
+    input: I,
+    out: O,
+) -> Staged<I, O>
+    ensures input_link { I.link result.input ≡ I.link input }
+    ensures follows { I.Follows input result.input }
+    ensures ended { HasEnded (I.progress result.input) }
+    ensures out_link { O.closed_link result.out ≡ O.link out }
+    ensures sent { O.all_sent result.out ≡ O.sent out }
+    ensures end { O.end_sent result.out ≡ Fault Memory }
+{
+    let out = out.close(rt, End::Fault(RunFault::Memory));
+    let mut input = input;
+    receive_rest(rt, &mut input);
+    Staged { input, out }
+}
