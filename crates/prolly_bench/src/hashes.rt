@@ -1,4 +1,5 @@
 //! The hashes alone that a tree takes, to compare with.
+use crate::samples::numbered_entry;
 use anyhow::Result;
 use sha2::{Digest, Sha512};
 use std::io::Print;
@@ -18,7 +19,7 @@ pub fn time_hashes<R: Print + Clock>(rt: &R, count: u32) -> Result<()> {
 }
 
 /// Hashes all, and gives a sum of bytes of the hashes, so that no hash is left out.
-fn hash_all(count: u32) -> u32 {
+pub fn hash_all(count: u32) -> u32 {
     let mut sum = 0u32;
     let mut chunk = Sha512::new();
     chunk.update(&[0]);
@@ -35,12 +36,11 @@ fn hash_all(count: u32) -> u32 {
     sum.wrapping_add(u32::from(chunk.finalize()[0]))
 }
 
-/// The spelling of a pair of a key of 16 bytes and a value of 16 bytes.
-fn numbered_entry(number: u32) -> [u8; 38] {
-    let mut entry = [0; 38];
-    entry[1] = 16;
-    entry[2..6].copy_from_slice(&number.to_be_bytes());
-    entry[21] = 16;
-    entry[22..38].copy_from_slice(&[0x5A; 16]);
-    entry
+/// Hashes each entry by itself, and gives a sum of bytes of the hashes.
+pub fn hash_entries(count: u32) -> u32 {
+    let mut sum = 0u32;
+    for number in 0..count {
+        sum = sum.wrapping_add(u32::from(Sha512::digest(&numbered_entry(number))[0]));
+    }
+    sum
 }

@@ -4,11 +4,16 @@
 
 mod hashes;
 mod links;
+mod samples;
+mod watched;
+mod workers;
 
 use crate::hashes::time_hashes;
 use crate::links::{time_batches, time_link, wait_a_second};
+use crate::samples::numbered_pairs;
+use crate::workers::{time_leaves, time_load, time_merge};
 use anyhow::{Context, Result, bail};
-use prolly_entry::{Pair, Sha512Cut};
+use prolly_entry::Sha512Cut;
 use prolly_file::scratch;
 use std::alloc::Global;
 use std::env;
@@ -16,7 +21,7 @@ use std::io::Print;
 use std::time::{Clock, Instant};
 
 const USAGE: &str =
-    "prolly_bench hash PAIRS | scratch PAIRS | link ITEMS | batches-of-16 ITEMS | batches-of-64 ITEMS | wait 1";
+    "prolly_bench hash PAIRS | scratch PAIRS | load RECORDS FILE | merge-of-2 RECORDS | merge-of-16 RECORDS | leaves PARTS | link ITEMS | batches-of-16 ITEMS | batches-of-64 ITEMS | wait 1";
 
 /// The bits of the cut: about one entry in 4,096 ends a chunk.
 const BITS: u8 = 12;
@@ -35,6 +40,13 @@ fn main(rt: HostRuntime) -> Result<()> {
     match what.as_str() {
         "hash" => time_hashes(&rt, count),
         "scratch" => time_scratch(&rt, rt.alloc(), count),
+        "load" => match words.next() {
+            Some(name) => time_load(&rt, rt.alloc(), &name, count),
+            None => bail!("{USAGE}"),
+        },
+        "merge-of-2" => time_merge(&rt, rt.alloc(), 2, count),
+        "merge-of-16" => time_merge(&rt, rt.alloc(), 16, count),
+        "leaves" => time_leaves(&rt, rt.alloc(), count),
         "link" => time_link(rt, rt.alloc(), count),
         "batches-of-16" => time_batches(rt, rt.alloc(), count, 16),
         "batches-of-64" => time_batches(rt, rt.alloc(), count, 64),
@@ -57,18 +69,4 @@ fn time_scratch<R: Print + Clock>(rt: &R, alloc: Global, count: u32) -> Result<(
     let millis = start.elapsed(rt)?.as_millis();
     println!(rt; "scratch {count} pairs: {millis} ms, {} bytes", out.len())?;
     Ok(())
-}
-
-/// Pairs of a key of 16 bytes and a value of 16 bytes, whose keys rise.
-fn numbered_pairs(alloc: Global, count: u32) -> Result<Vec<Pair>> {
-    let mut pairs = Vec::new(alloc);
-    for number in 0..count {
-        let mut key = [0; 16];
-        key[..4].copy_from_slice(&number.to_be_bytes());
-        let pair = Pair::copy_of(alloc, &key, &[0x5A; 16])?;
-        if pairs.push(pair).is_err() {
-            bail!("out of memory");
-        }
-    }
-    Ok(pairs)
 }

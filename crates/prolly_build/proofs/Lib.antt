@@ -1,0 +1,5 @@
+pub mod Tops
+pub mod WritingSteps
+pub mod ForkSteps
+pub mod RanSteps
+pub mod FirstOnes

@@ -1,0 +1,110 @@
+-- How the writer's state goes on.
+use Rattle.std.proofs.Common.{◌≡◌, ◌≢◌, ℕ, suc, ◌≤◌, Bool, true, false, List, [], ◌∷◌, ◌++◌, refl, sym, ap, ◌∙◌, subst, arith, append_assoc}
+use Rattle.prolly_entry.specs.Chunk.{Chunk}
+use Rattle.prolly_entry.specs.File.{frame}
+use Rattle.prolly_entry.specs.Events.{has_level}
+use Rattle.prolly_entry.specs.Pipeline.{before_second}
+use Rattle.prolly_entry.specs.Prefix.{IsPrefix}
+use Rattle.prolly_entry.proofs.Prefixes.{count, count_true, count_false}
+use Rattle.prolly_entry.proofs.Writers.{within_is_prefix}
+use Rattle.prolly_file.specs.Sink.{TakesPrefix}
+use Rattle.prolly_build.specs.declared.writer.Begun.{Begun}
+use Rattle.prolly_build.specs.declared.writer.Written.{Written}
+use Rattle.prolly_build.specs.Writing.{Sunk, frames_of, tops_counted, IsWhole, IsTall, IsFailed, HasWritten}
+use Rattle.prolly_build.proofs.Tops.{one_more, second_all, second_last, second_stays, frames_front, frames_more}
+
+-- too tall a tree stays so
+pub tall_stays : {head : List ℕ} {level : ℕ} {events : List Chunk} {old new : Sunk} (e : Chunk) → IsTall head level events old new →
+    IsTall head level (events ++ e ∷ []) old new
+tall_stays {head} {level} {events} {old} e h = let more = one_more level events e in let two = h.second in record {
+  second = omega (arith, more, two);
+  unfailed = h.unfailed;
+  taken_is = λ k. h.taken_is k ∙ ap (λ cs. old.taken ++ frames_of head cs) (sym (second_stays level events (e ∷ []) h.second));
+  keeps = h.keeps;
+}
+
+prefix_on : {old new wanted : List ℕ} (more : List ℕ) → TakesPrefix old new wanted → IsPrefix wanted more → TakesPrefix old new more
+prefix_on {wanted} more h k = record {
+  part = h.part;
+  grown = h.grown;
+  is_prefix = (h.is_prefix.0 ++ k.0, k.1 ∙ (ap (λ (z : List ℕ). z ++ k.0) h.is_prefix.1 ∙ append_assoc h.part h.is_prefix.0 k.0));
+}
+
+-- so does a failed file
+pub failed_stays : {head : List ℕ} {level : ℕ} {events : List Chunk} {old new : Sunk} (e : Chunk) → IsFailed head level events old new →
+    IsFailed head level (events ++ e ∷ []) old new
+failed_stays {head} {level} {events} e h = record {
+  failed = h.failed;
+  taken_is = λ k. prefix_on _ (h.taken_is k) (frames_front head _ _ (within_is_prefix (suc level) events (events ++ e ∷ []) (e ∷ [], refl)).0);
+  keeps = h.keeps;
+}
+
+-- the second event of the last stage's level
+pub tall_now : {head : List ℕ} {level : ℕ} {events : List Chunk} {old new : Sunk} {begun : Begun} (e : Chunk) → IsWhole head level events old new begun →
+    begun.has_top ≡ true → has_level level e ≡ true → IsTall head level (events ++ e ∷ []) old new
+tall_now {head} {level} {events} {old} e h top t =
+    let one : count level events ≡ 1 = h.few ∙ ap tops_counted top in
+    let more = one_more level events e in
+    let its : count level (e ∷ []) ≡ suc (count level []) = count_true level e [] t in record {
+      second = omega (arith, one, more, its);
+      unfailed = h.unfailed;
+      taken_is = λ k. h.taken_is k ∙ ap (λ cs. old.taken ++ frames_of head cs) (sym (second_last level events e one t));
+      keeps = h.keeps;
+    }
+
+-- no second one of the last stage's level is there with one event more
+abbrev pub IsFew : ℕ → List Chunk → Bool → Bool → Chunk → Type 0
+IsFew level events has_top is_top e = (has_level level e ≡ is_top) × (is_top ≡ true → has_top ≡ false)
+
+few_more : (level : ℕ) (events : List Chunk) (has_top is_top both : Bool) (e : Chunk) → count level events ≡ tops_counted has_top →
+    IsFew level events has_top is_top e → (has_top ≡ true → both ≡ true) → (is_top ≡ true → both ≡ true) →
+    (has_top ≡ false → is_top ≡ false → both ≡ false) → count level (events ++ e ∷ []) ≡ tops_counted both
+few_more level events true true both e h k l m n = absurd (let f : true ≡ false = k.1 refl in apart f)
+  where
+    apart : true ≡ false → ⊥
+    apart f = cc
+few_more level events false true both e h k l m n =
+    let more = one_more level events e in let its = count_true level e [] k.0 in
+    let b : tops_counted both ≡ 1 = ap tops_counted (m refl) in omega (arith, h, more, its, b)
+few_more level events true false both e h k l m n =
+    let more = one_more level events e in let its = count_false level e [] k.0 in
+    let b : tops_counted both ≡ 1 = ap tops_counted (l refl) in omega (arith, h, more, its, b)
+few_more level events false false both e h k l m n =
+    let more = one_more level events e in let its = count_false level e [] k.0 in
+    let b : tops_counted both ≡ 0 = ap tops_counted (n refl refl) in omega (arith, h, more, its, b)
+
+one_at_most : (b : Bool) → tops_counted b ≤ 1
+one_at_most true = omega arith
+one_at_most false = omega arith
+
+part_behind : (old mid new before wanted : List ℕ) → mid ≡ old ++ before → TakesPrefix mid new wanted → TakesPrefix old new (before ++ wanted)
+part_behind old mid new before wanted e h = record {
+  part = before ++ h.part;
+  grown = h.grown ∙ (ap (λ (z : List ℕ). z ++ h.part) e ∙ append_assoc old before h.part);
+  is_prefix = (h.is_prefix.0, ap (λ (z : List ℕ). before ++ z) h.is_prefix.1 ∙ sym (append_assoc before h.part h.is_prefix.0));
+}
+
+-- a frame fails
+pub failed_now : {head : List ℕ} {level : ℕ} {events : List Chunk} {old mid new : Sunk} {begun : Begun} (e : Chunk) (is_top : Bool) →
+    IsWhole head level events old mid begun → IsFew level events begun.has_top is_top e →
+    (mid.is_keeping ≡ true → TakesPrefix mid.taken new.taken (frame e)) → new.failures ≢ mid.failures → (mid.is_keeping ≡ true → new.is_keeping ≡ true) →
+    IsFailed head level (events ++ e ∷ []) old new
+failed_now {head} {level} {events} {old} {mid} {new} {begun} e is_top h few part failed keeps = record {
+  failed = λ f. failed (f ∙ sym h.unfailed);
+  taken_is = λ k. subst (TakesPrefix old.taken new.taken) all (part_behind old.taken mid.taken new.taken (frames_of head events) (frame e) (h.taken_is k) (part (h.keeps k)));
+  keeps = λ k. keeps (h.keeps k);
+}
+  where
+    low : (b c : Bool) → count level events ≡ tops_counted b → IsFew level events b c e → count level (events ++ e ∷ []) ≤ 1
+    low true true h k = absurd (let f : true ≡ false = k.1 refl in cc)
+    low true false h k = let more = one_more level events e in let its = count_false level e [] k.0 in omega (arith, h, more, its)
+    low false true h k = let more = one_more level events e in let its = count_true level e [] k.0 in omega (arith, h, more, its)
+    low false false h k = let more = one_more level events e in let its = count_false level e [] k.0 in omega (arith, h, more, its)
+
+    all : frames_of head events ++ frame e ≡ frames_of head (before_second level (events ++ e ∷ []))
+    all = sym (frames_more head events e) ∙ ap (frames_of head) (sym (second_all level (events ++ e ∷ []) (low begun.has_top is_top h.few few)))
+
+-- the same events
+pub written_of : (head : List ℕ) (level : ℕ) (es more : List Chunk) (old new : Sunk) (written : Written) → more ≡ es → HasWritten head level es old new written →
+    HasWritten head level more old new written
+written_of head level es more old new written e h = subst (λ (cs : List Chunk). HasWritten head level cs old new written) (sym e) h

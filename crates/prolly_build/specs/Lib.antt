@@ -1,0 +1,5 @@
+pub mod Settings
+pub mod Writing
+pub mod Forks
+pub mod Workers
+pub mod Ran

@@ -1,0 +1,27 @@
+-- What the workers of a build give back.
+use Rattle.std.specs.Prelude.{◌≡◌, ◌≢◌, ◌↔◌, ℕ, Bool, List, []}
+use Rattle.prolly_entry.specs.Chunk.{Chunk}
+use Rattle.prolly_entry.specs.Events.{Closing}
+use Rattle.prolly_link.specs.Views.{Receiving, Batching, Whole}
+use Rattle.prolly_link.specs.Receipts.{HasEnded, end_given}
+use Rattle.prolly_link.specs.declared.fault.End.TheVariants.{Fault}
+use Rattle.prolly_link.specs.declared.fault.RunFault.TheVariants.{Read}
+use Rattle.prolly_entry.specs.Record.{Record}
+use Rattle.prolly_load.specs.Loading.{IsLoaded}
+use Rattle.prolly_stage.specs.Sends.{Sends}
+
+-- The stage's input has ended, and what the stage makes of it was sent, on the links that it was given.
+pub record IsStaged {A : Type 0} (stage : Closing → List A → List Chunk) (input : Receiving A) (out : Batching Chunk) (ended : Receiving A) (closed : Whole Chunk) : Type 0 where
+  pub reads : ended.link ≡ input.link
+  pub has_ended : HasEnded ended.progress
+  pub writes : closed.link ≡ out.link
+  pub sends : Sends stage ended.items (end_given ended.progress) [] closed.items closed.end
+
+-- The source was loaded into the output, whose link is kept: what was sent and the end are what the bytes come to, and the end tells a
+-- failed read exactly where a read failed.
+pub record IsLoadedFrom {S : Type 0} (is_honest : S → Bool) (left : S → List ℕ) (failures : S → ℕ) (file limit : ℕ) (source : S) (out : Batching Record)
+    (source' : S) (closed : Whole Record) : Type 0 where
+  pub writes : closed.link ≡ out.link
+  pub loaded : IsLoaded file limit (is_honest source) (left source) (left source') [] closed.items closed.end
+  pub read : (closed.end ≡ Fault (Read file)) ↔ (failures source' ≢ failures source)
+  pub unfailed : closed.end ≢ Fault (Read file) → failures source' ≡ failures source

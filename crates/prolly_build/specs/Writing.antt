@@ -1,0 +1,91 @@
+-- What the writer of a pipeline has written of the events that it received.
+use Rattle.std.specs.Prelude.{◌≡◌, ◌≢◌, ◌≤◌, ◌+◌, ◌⊎◌, ℕ, min, Bool, true, false, List, [], ◌∷◌, ◌++◌, length, Option, Some, None}
+use Rattle.std.specs.List.{flat_map, filter}
+use Rattle.prolly_entry.specs.Chunk.{Chunk}
+use Rattle.prolly_entry.specs.File.{frame, end_record}
+use Rattle.prolly_entry.specs.Events.{has_level, greatest_count}
+use Rattle.prolly_entry.specs.Pipeline.{before_second, HasSecond}
+use Rattle.prolly_entry.specs.Reference.{reference_of}
+use Rattle.prolly_file.specs.Sink.{TakesPrefix}
+use Rattle.prolly_link.specs.declared.fault.End.{End}
+use Rattle.prolly_link.specs.declared.fault.End.TheVariants.{Clean, Fault}
+use Rattle.prolly_link.specs.declared.fault.RunFault.{RunFault}
+use Rattle.prolly_link.specs.declared.fault.RunFault.TheVariants.{Write, TooTall as TooTall_fault}
+use Rattle.prolly_build.specs.declared.report.Report.{Report}
+use Rattle.prolly_build.specs.declared.writer.Begun.{Begun}
+use Rattle.prolly_build.specs.declared.writer.Top.{Top}
+use Rattle.prolly_build.specs.declared.writer.Written.{Written}
+use Rattle.prolly_build.specs.declared.writer.Written.TheVariants.{Whole, TooTall, Failed}
+
+-- What a contract sees of a sink: whether it keeps what it took, what it took, and its failures.
+pub record Sunk : Type 0 where
+  pub is_keeping : Bool
+  pub taken : List ℕ
+  pub failures : ℕ
+
+-- The header and a frame for each chunk.
+abbrev pub frames_of : List ℕ → List Chunk → List ℕ
+frames_of head chunks = head ++ flat_map frame chunks
+
+-- How many of the events have the level: none, or one.
+abbrev pub tops_counted : Bool → ℕ
+tops_counted true = 1
+tops_counted false = 0
+
+-- The reference and the level of the last event, if there is one.
+abbrev pub IsTopOf : List Chunk → Option Top → Type 0
+IsTopOf events None = events ≡ []
+IsTopOf events (Some top) =
+    (before : List Chunk) × (last : Chunk) × (events ≡ before ++ last ∷ []) × (top.root.0 ≡ reference_of last.bytes) × (top.level ≡ last.level)
+
+-- All events are written, of which at most one is of the last stage's level.
+pub record IsWhole (head : List ℕ) (level : ℕ) (events : List Chunk) (old new : Sunk) (begun : Begun) : Type 0 where
+  pub few : length (filter (has_level level) events) ≡ tops_counted begun.has_top
+  pub unfailed : new.failures ≡ old.failures
+  pub taken_is : old.is_keeping ≡ true → new.taken ≡ old.taken ++ frames_of head events
+  pub keeps : old.is_keeping ≡ true → new.is_keeping ≡ true
+  pub count_is : begun.file.chunks ≡ min greatest_count (length events)
+  pub goes_on : begun.file.has_failed ≡ false
+  pub top_is : IsTopOf events begun.top
+
+-- The events up to, and without, the second one of the last stage's level are written.
+pub record IsTall (head : List ℕ) (level : ℕ) (events : List Chunk) (old new : Sunk) : Type 0 where
+  pub second : HasSecond level events
+  pub unfailed : new.failures ≡ old.failures
+  pub taken_is : old.is_keeping ≡ true → new.taken ≡ old.taken ++ frames_of head (before_second level events)
+  pub keeps : old.is_keeping ≡ true → new.is_keeping ≡ true
+
+-- A write failed, and what was taken is a prefix of what was to be written.
+pub record IsFailed (head : List ℕ) (level : ℕ) (events : List Chunk) (old new : Sunk) : Type 0 where
+  pub failed : new.failures ≢ old.failures
+  pub taken_is : old.is_keeping ≡ true → TakesPrefix old.taken new.taken (frames_of head (before_second level events))
+  pub keeps : old.is_keeping ≡ true → new.is_keeping ≡ true
+
+-- The writer behind a last stage of this level, once it has received these events.
+abbrev pub HasWritten : List ℕ → ℕ → List Chunk → Sunk → Sunk → Written → Type 0
+HasWritten head level events old new (Whole begun) = IsWhole head level events old new begun
+HasWritten head level events old new TooTall = IsTall head level events old new
+HasWritten head level events old new Failed = IsFailed head level events old new
+
+-- ---- the end
+
+-- All events are written, and then the end record, and the report is that of the last event.
+pub record HasEnded (head : List ℕ) (level : ℕ) (events : List Chunk) (old new : Sunk) (pairs : ℕ) (report : Report) : Type 0 where
+  pub before : List Chunk
+  pub root : Chunk
+  pub whole : events ≡ before ++ root ∷ []
+  pub few : length (filter (has_level level) events) ≤ 1
+  pub unfailed : new.failures ≡ old.failures
+  pub taken_is : old.is_keeping ≡ true → new.taken ≡ old.taken ++ (frames_of head events ++ end_record (reference_of root.bytes) (length events))
+  pub root_is : report.root.0 ≡ reference_of root.bytes
+  pub chunks_are : report.chunks ≡ length events
+  pub pairs_are : report.pairs ≡ pairs
+  pub levels_are : report.levels ≡ min 255 (root.level + 1)
+
+-- Why nothing was made: the fault that came with the last link's end, which leaves the sink alone; or, at a clean end, a call of the
+-- sink that failed, or a second event of the last stage's level, at which nothing more was written.
+abbrev pub IsEndFault : List ℕ → ℕ → List Chunk → Sunk → Sunk → Sunk → End → RunFault → Type 0
+IsEndFault head level events old before after (Fault fault) answer = (answer ≡ fault) × (after ≡ before)
+IsEndFault head level events old before after Clean answer =
+    ((answer ≡ Write) × (after.failures ≢ old.failures))
+    ⊎ ((answer ≡ TooTall_fault) × HasSecond level events × (after ≡ before))

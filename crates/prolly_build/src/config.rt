@@ -1,0 +1,170 @@
+//! What a build is set to.
+ghost use Rattle.std.specs.Prelude.{◌≡◌, ◌≢◌, ◌<◌, ◌≤◌, ◌-◌, IfOk, IfErr};
+ghost use Rattle.prolly_entry.specs.Version.{version_byte};
+ghost use Rattle.prolly_build.specs.Settings.{first_settings, IsOutside, IsConfigFault};
+ghost use Rattle.prolly_build.specs.declared.config.ConfigFault.TheVariants.{BadBatch, BadVersion};
+
+use prolly_entry::Version;
+use std::marker::Model;
+use thiserror::Error;
+
+/// Which number is outside its range.
+#[derive(Clone, Copy, Debug, PartialEq, Eq, Error)]
+pub enum ConfigFault {
+    /// Bits are 0 to 24.
+    #[error("bits are 0 to 24")]
+    BadBits,
+    /// Stages are 1 to 12.
+    #[error("stages are 1 to 12")]
+    BadStages,
+    /// A capacity is 1 to 4,096.
+    #[error("a capacity is 1 to 4,096")]
+    BadCapacity,
+    /// The records of a file are at most 1 to 16,777,216.
+    #[error("the records of a file are at most 1 to 16,777,216")]
+    BadMaxRecords,
+    /// A batch is 1 to 1,024.
+    #[error("a batch is 1 to 1,024")]
+    BadBatch,
+    /// A version is 1 or 2.
+    #[error("a version is 1 or 2")]
+    BadVersion,
+}
+
+/// What a build is set to. Bits and version decide what the chunk file holds; stages and the greatest
+/// number of records are limits; capacity and batch change only memory and time: a link holds at most
+/// their product of items, and larger batches cost less an item.
+#[derive(Clone, Copy, Debug, PartialEq, Eq)]
+pub struct Config {
+    bits: u8,
+    stages: u8,
+    capacity: u32,
+    max_records: u32,
+    batch: u32,
+    version: Version,
+}
+
+impl Model for Config {
+    ghost use Rattle.prolly_build.specs.Settings.{Settings, AreLawful};
+
+    ghost Value = { Settings };
+
+    ghost view = { λ c. record { bits = c.bits; stages = c.stages; capacity = c.capacity; max_records = c.max_records; batch = c.batch; version = c.version } };
+
+    ghost invariant = { λ c. AreLawful (record { bits = c.bits; stages = c.stages; capacity = c.capacity; max_records = c.max_records; batch = c.batch; version = c.version }) };
+
+    ghost inverse = { λ s. record { bits = s.bits; stages = s.stages; capacity = s.capacity; max_records = s.max_records; batch = s.batch; version = s.version } };
+}
+
+impl Config {
+    /// The bits of the cut (0 to 24), the greatest number of levels (1 to 12), how many messages a link
+    /// holds (1 to 4,096) and how many records a file has at most (1 to 16,777,216). The first number
+    /// that is outside its range is told. Each message has one item, and the version is One.
+    pub fn new(bits: u8, stages: u8, capacity: u32, max_records: u32) -> Result<Config, ConfigFault>
+        ensures ok { IfOk result (λ config. config ≡ first_settings bits stages capacity max_records) }
+        ensures err { IfErr result (IsConfigFault bits stages capacity max_records) }
+    {
+        if bits > 24 {
+            return Err(ConfigFault::BadBits);
+        }
+        if !(1..=12).contains(&stages) {
+            return Err(ConfigFault::BadStages);
+        }
+        if !(1..=4_096).contains(&capacity) {
+            return Err(ConfigFault::BadCapacity);
+        }
+        if !(1..=16_777_216).contains(&max_records) {
+            return Err(ConfigFault::BadMaxRecords);
+        }
+        Ok(Config {
+            bits,
+            stages,
+            capacity,
+            max_records,
+            batch: 1,
+            version: Version::One,
+        })
+    }
+
+    /// The same with messages of at most so many items (1 to 1,024).
+    pub fn with_batch(self, batch: u32) -> Result<Config, ConfigFault>
+        ensures ok { IfOk result (λ config. config ≡ record self { batch = batch }) }
+        ensures err { IfErr result (λ fault. (fault ≡ BadBatch) × IsOutside 1024 batch) }
+    {
+        if !(1..=1_024).contains(&batch) {
+            return Err(ConfigFault::BadBatch);
+        }
+        Ok(Config { batch, ..self })
+    }
+
+    /// The same with the version of the chunk file that a byte stands for (1 or 2).
+    pub fn with_version(self, version: u8) -> Result<Config, ConfigFault>
+        ensures ok { IfOk result (λ config. (config ≡ record self { version = config.version }) × (version_byte config.version ≡ version)) }
+        ensures err { IfErr result (λ fault. (fault ≡ BadVersion) × (version ≢ 1) × (version ≢ 2)) }
+    {
+        match Version::of(version) {
+            Some(version) => Ok(Config { version, ..self }),
+            None => Err(ConfigFault::BadVersion),
+        }
+    }
+
+    /// The bits of the cut.
+    pub(crate) fn bits(&self) -> u8
+        ensures value { result ≡ self.now.bits }
+        ensures range { self.now.bits ≤ 24 }
+    {
+        self.bits
+    }
+
+    /// The version of the chunk file.
+    pub(crate) fn version(&self) -> Version
+        ensures { result ≡ self.now.version }
+    {
+        self.version
+    }
+
+    /// The level of the last stage.
+    pub(crate) fn last_level(&self) -> u8
+        ensures { result ≡ self.now.stages - 1 }
+    {
+        self.stages - 1
+    }
+
+    /// How many records a file has at most.
+    pub(crate) fn max_records(&self) -> u32
+        ensures { result ≡ self.now.max_records }
+    {
+        self.max_records
+    }
+}
+
+#[cfg(test)]
+mod tests {
+    use super::*;
+
+    #[test]
+    fn numbers_have_ranges(rt: HostRuntime) {
+        for (bits, stages, capacity, max_records, fault) in [
+            (25, 0, 0, 0, Some(ConfigFault::BadBits)),
+            (24, 13, 1, 1, Some(ConfigFault::BadStages)),
+            (0, 1, 4_097, 1, Some(ConfigFault::BadCapacity)),
+            (0, 1, 1, 0, Some(ConfigFault::BadMaxRecords)),
+            (0, 12, 4_096, 16_777_216, None),
+        ] {
+            let config = Config::new(bits, stages, capacity, max_records);
+            assert_eq!(rt; config.err(), fault);
+        }
+    }
+
+    #[test]
+    fn batches_and_versions_have_ranges(rt: HostRuntime) {
+        let Ok(config) = Config::new(0, 1, 1, 1) else {
+            return;
+        };
+        assert_eq!(rt; config.with_batch(0).err(), Some(ConfigFault::BadBatch));
+        assert_eq!(rt; config.with_batch(1_025).err(), Some(ConfigFault::BadBatch));
+        assert_eq!(rt; config.with_batch(1_024).err(), None);
+        assert_eq!(rt; config.with_version(3).err(), Some(ConfigFault::BadVersion));
+        assert_eq!(rt; config.with_version(2).err(), None);
+    }
+}

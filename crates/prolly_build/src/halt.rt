@@ -1,0 +1,29 @@
+//! What is done where a worker can't start.
+ghost use Rattle.std.specs.Prelude.{◌≡◌};
+
+use prolly_link::{BatchReceiver, BatchSender, End, RunFault};
+use std::sync::Wait;
+
+/// Why the workers were not all met.
+#[derive(Clone, Copy, Debug, PartialEq, Eq)]
+pub(crate) enum Halt {
+    /// One could not be started.
+    NoThread,
+    /// A link lost its sender.
+    Lost,
+}
+
+/// Receives the last link to its end, and writes nothing.
+pub(crate) fn refuse<T: Drop, R: Wait>(rt: &R, last: BatchReceiver<T>) -> Halt
+    ensures { result ≡ Halt.NoThread }
+{
+    let _ = last.drain(rt);
+    Halt::NoThread
+}
+
+/// Closes the outputs of workers that were not started.
+pub(crate) fn close_all<T: Drop, R: Wait>(rt: &R, outs: Vec<BatchSender<T>>) {
+    for out in outs {
+        let _ = out.close(rt, End::Fault(RunFault::NoThread));
+    }
+}

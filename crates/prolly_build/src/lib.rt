@@ -1,0 +1,21 @@
+//! The pipelined build: record files to one chunk file, by threads that pass items through links.
+#![tactic(auto)]
+
+mod config;
+mod ending;
+mod forks;
+mod fronts;
+mod halt;
+mod links;
+mod load_all;
+mod loaders;
+mod permit;
+mod report;
+mod site;
+mod stages;
+mod writer;
+mod writing;
+
+pub use config::{Config, ConfigFault};
+pub use permit::{AllStart, Permit};
+pub use report::Report;

@@ -1,0 +1,54 @@
+//! The links of a build, before the workers have them and after they have given them back.
+ghost use Rattle.std.specs.Prelude.{◌≡◌, ◌≤◌, [], IsTrue};
+ghost use Rattle.prolly_link.specs.Receipts.{HasEnded};
+ghost use Rattle.prolly_link.specs.declared.progress.Progress.TheVariants.{Open, Ended};
+
+use prolly_link::{
+    BatchDrained, BatchReceiver, BatchSender, ClosedBatch, LinkFault, batch_link, meet_batches,
+};
+use std::alloc::Global;
+use std::sync::Wait;
+
+/// Both ends of a link over which nothing went yet.
+#[derive(Drop)]
+pub(crate) struct NewLink<T> {
+    pub sender: BatchSender<T>,
+    pub receiver: BatchReceiver<T>,
+    ghost paired: { sender.link ≡ receiver.link },
+    ghost unsent: { sender.items ≡ [] },
+    ghost unreceived: { (receiver.items ≡ []) × (receiver.progress ≡ Open) },
+}
+
+/// A new link, with room for so many messages of at most so many items.
+pub(crate) fn new_link<T: Send + Drop>(
+    alloc: Global,
+    capacity: usize,
+    batch: usize,
+) -> Result<NewLink<T>, LinkFault>
+    requires capacity { (1 ≤ capacity) × (capacity ≤ 4096) }
+    requires batch { (1 ≤ batch) × (batch ≤ 1024) }
+{
+    match batch_link(alloc, capacity, batch) {
+        Ok((sender, receiver)) => Ok(NewLink { sender, receiver }),
+        Err(fault) => Err(fault),
+    }
+}
+
+/// Meets the ends of a link: what was received is what was sent. `false` where the receiver has lost
+/// its sender.
+pub(crate) fn has_met<T: Drop, R: Wait>(
+    rt: &R,
+    sender: ClosedBatch<T>,
+    receiver: BatchReceiver<T>,
+) -> bool
+    requires { sender.link ≡ receiver.link }
+    ensures { IsTrue result → HasEnded receiver.progress → (receiver.items ≡ sender.items) × (receiver.progress ≡ Ended sender.end) }
+{
+    match receiver.drain(rt) {
+        BatchDrained::Ended(ended) => {
+            let _met = meet_batches(sender, ended);
+            true
+        }
+        BatchDrained::Lost(_) => false,
+    }
+}

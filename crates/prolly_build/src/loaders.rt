@@ -1,0 +1,78 @@
+//! The loaders, each in a thread of its own.
+ghost use Rattle.std.specs.Prelude.{◌≡◌, [], IfSome};
+ghost use Rattle.prolly_build.specs.Workers.{IsLoadedFrom};
+
+use prolly_entry::Record;
+use prolly_file::Source;
+use prolly_link::{BatchSender, ClosedBatch};
+use prolly_load::{Loaded, load};
+use prolly_stage::{Gate, Gated, Worker};
+use std::alloc::Global;
+use std::snapshot::Snapshot;
+use std::sync::Wait;
+use std::thread::{Promise, PromisedHandle, Scope};
+
+/// What a loader promises.
+#[derive(Drop)]
+pub(crate) struct LoadPromise<S> {
+    pub file: u32,
+    pub limit: u32,
+    pub source: Snapshot<S>,
+    pub out: Snapshot<BatchSender<Record>>,
+}
+
+impl<S: Source> Promise<Loaded<S, ClosedBatch<Record>>> for LoadPromise<S> {
+    ghost use Rattle.prolly_build.specs.Workers.{IsLoadedFrom};
+
+    ghost kept_by = { λ p loaded. IsLoadedFrom S.is_honest S.left S.failures p.file p.limit p.source.value p.out.value loaded.source loaded.out };
+}
+
+/// A loader, on the thread that it is called on.
+fn run_loader<R: Wait, G: Gate, S: Source>(
+    rt: &R,
+    alloc: Global,
+    gate: &G,
+    file: u32,
+    limit: u32,
+    source: S,
+    out: BatchSender<Record>,
+) -> Loaded<S, ClosedBatch<Record>>
+    requires { out.items ≡ [] }
+    ensures { IsLoadedFrom S.is_honest S.left S.failures file limit source out result.source result.out }
+{
+    let out = Gated::new(out, Worker::Loader(file), gate);
+    load(rt, alloc, file, source, limit, out)
+}
+
+/// Starts a loader. `None` where no thread can be had; its source and its output are then dropped.
+pub(crate) fn start_loader<'s, E, R: Wait + Sync, G: Gate, S: Source + Send + Drop + 's>(
+    scope: &'s Scope<'s, E>,
+    rt: &'s R,
+    alloc: Global,
+    gate: &'s G,
+    file: u32,
+    limit: u32,
+    source: S,
+    out: BatchSender<Record>,
+) -> Option<PromisedHandle<Loaded<S, ClosedBatch<Record>>, LoadPromise<S>>>
+    requires { out.items ≡ [] }
+    ensures file { IfSome result (λ handle. (handle.promise.file ≡ file) × (handle.promise.limit ≡ limit)) }
+    ensures source { IfSome result (λ handle. handle.promise.source.value ≡ source) }
+    ensures out { IfSome result (λ handle. handle.promise.out.value ≡ out) }
+{
+    let promise = LoadPromise {
+        file,
+        limit,
+        source: Snapshot::of(&source),
+        out: Snapshot::of(&out),
+    };
+    scope
+        .spawn_with(
+            promise,
+            move || -> Loaded<S, ClosedBatch<Record>>
+                requires { out.items ≡ [] }
+                ensures { IsLoadedFrom S.is_honest S.left S.failures file limit source out result.source result.out }
+            { run_loader(rt, alloc, gate, file, limit, source, out) },
+        )
+        .ok()
+}

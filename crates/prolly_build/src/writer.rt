@@ -1,0 +1,128 @@
+//! The writer at the end of a pipeline: it writes the chunks that the last stage sends.
+ghost use Rattle.std.specs.Prelude.{◌≡◌, ◌≤◌, ℕ, List, [], ◌∷◌, ◌++◌};
+ghost use Rattle.prolly_entry.specs.Chunk.{Chunk};
+ghost use Rattle.prolly_entry.specs.File.{header};
+ghost use Rattle.prolly_link.specs.Receipts.{HasEnded, end_given};
+ghost use Rattle.prolly_build.specs.Writing.{Sunk, HasWritten};
+
+use prolly_chunk::ChunkEvent;
+use prolly_entry::{Ref, Version};
+use prolly_file::{FileWriter, Sink};
+use prolly_link::{End, In, Next, RunFault};
+use std::sync::Wait;
+
+/// The reference and the level of a chunk.
+#[derive(Clone, Copy, Debug, PartialEq, Eq)]
+pub(crate) struct Top {
+    pub root: Ref,
+    pub level: u8,
+}
+
+/// A file of which all chunks so far are written.
+#[derive(Drop)]
+pub(crate) struct Begun {
+    pub file: FileWriter,
+    /// Whether one of the chunks is of the last stage's level.
+    pub has_top: bool,
+    /// The last chunk.
+    pub top: Option<Top>,
+}
+
+/// How far the writer came.
+#[derive(Drop)]
+pub(crate) enum Written {
+    /// All chunks are written.
+    Whole(Begun),
+    /// A second chunk of the last stage's level came. It is not written, nor what is behind it.
+    TooTall,
+    /// A write failed, after which nothing is written.
+    Failed,
+}
+
+impl Written {
+    /// Writes the header.
+    pub(crate) fn begin<W: Sink>(sink: &mut W, version: Version, bits: u8) -> Written
+        ensures { (level : ℕ) → HasWritten (header version bits) level []
+            (record { is_keeping = W.is_keeping sink.old; taken = W.taken sink.old; failures = W.failures sink.old })
+            (record { is_keeping = W.is_keeping sink.new; taken = W.taken sink.new; failures = W.failures sink.new }) result }
+    {
+        match FileWriter::begin_as(sink, version, bits) {
+            Ok(file) => Written::Whole(Begun {
+                file,
+                has_top: false,
+                top: None,
+            }),
+            Err(_) => Written::Failed,
+        }
+    }
+
+    /// Writes the chunk of an event, unless a second one of the last stage's level came, or a write
+    /// failed.
+    pub(crate) fn push<W: Sink>(self, sink: &mut W, last_level: u8, event: &ChunkEvent) -> Written
+        ensures { (head : List ℕ) (events : List Chunk) (old : Sunk) →
+            HasWritten head last_level events old (record { is_keeping = W.is_keeping sink.old; taken = W.taken sink.old; failures = W.failures sink.old }) self →
+            HasWritten head last_level (events ++ event.now ∷ []) old (record { is_keeping = W.is_keeping sink.new; taken = W.taken sink.new; failures = W.failures sink.new }) result }
+    {
+        match self {
+            Written::Whole(begun) => begun.push(sink, last_level, event),
+            Written::TooTall => Written::TooTall,
+            Written::Failed => Written::Failed,
+        }
+    }
+}
+
+impl Begun {
+    fn push<W: Sink>(self, sink: &mut W, last_level: u8, event: &ChunkEvent) -> Written
+        ensures { (head : List ℕ) (events : List Chunk) (old : Sunk) →
+            HasWritten head last_level events old (record { is_keeping = W.is_keeping sink.old; taken = W.taken sink.old; failures = W.failures sink.old }) (Written.Whole self) →
+            HasWritten head last_level (events ++ event.now ∷ []) old (record { is_keeping = W.is_keeping sink.new; taken = W.taken sink.new; failures = W.failures sink.new }) result }
+    {
+        let is_top = event.level() == last_level;
+        if is_top && self.has_top {
+            return Written::TooTall;
+        }
+        let Begun {
+            mut file,
+            has_top,
+            top: _,
+        } = self;
+        match file.chunk(sink, event.bytes()) {
+            Ok(()) => Written::Whole(Begun {
+                file,
+                has_top: has_top || is_top,
+                top: Some(Top {
+                    root: event.reference(),
+                    level: event.level(),
+                }),
+            }),
+            Err(_) => Written::Failed,
+        }
+    }
+}
+
+/// Receives to the end, and writes.
+pub(crate) fn write_events<I: In<ChunkEvent>, W: Sink, R: Wait>(
+    rt: &R,
+    input: &mut I,
+    sink: &mut W,
+    last_level: u8,
+    begun: Written,
+) -> (Written, End)
+    ensures link { I.link input.new ≡ I.link input.old }
+    ensures follows { I.Follows input.old input.new }
+    ensures ended { HasEnded (I.progress input.new) }
+    ensures end { result.1 ≡ end_given (I.progress input.new) }
+    ensures written { (head : List ℕ) (old : Sunk) →
+        HasWritten head last_level [] old (record { is_keeping = W.is_keeping sink.old; taken = W.taken sink.old; failures = W.failures sink.old }) begun →
+        HasWritten head last_level (I.received input.old input.new) old (record { is_keeping = W.is_keeping sink.new; taken = W.taken sink.new; failures = W.failures sink.new }) result.0 }
+{
+    let mut written = begun;
+    for _ in rt.forever() {
+        match input.recv(rt) {
+            Next::Item(event) => written = written.push(sink, last_level, &event),
+            Next::End(end) => return (written, end),
+            Next::Lost => return (written, End::Fault(RunFault::Lost)),
+        }
+    }
+    unreachable!()
+}
