@@ -25,6 +25,9 @@ def main():
         os.chdir(folder)
         write_records(RECORDS)
         compare_scratch(program, parts)
+        compare_worker(parts, "load", str(RECORDS), "records")
+    for words in (["merge-of-2", str(RECORDS)], ["merge-of-16", str(RECORDS)], ["leaves", "100"]):
+        compare_worker(parts, *words)
     for words in (["scratch", "100000"], ["scratch", "1000000"]):
         print(output(parts, *words))
     for kind in ("link", "batches-of-16", "batches-of-64"):
@@ -55,6 +58,17 @@ def compare_scratch(program, parts):
     print(f"  hashes alone    {spread(hashing)}")
     print(f"  prolly scratch  {spread(building)}, {ratio:.2f} times as long")
     print(f"  its peak memory {max(peaks) / 1e6:.0f} MB, {max(peaks) / size:.1f} times the input")
+
+
+def compare_worker(parts, *words):
+    """A worker of a build, over lists in one thread, beside the hashes that the part of the tree takes."""
+    lines = [output(parts, *words) for _ in range(TURNS)]
+    working = [int(re.search(r": (\d+) ms", line)[1]) / 1000 for line in lines]
+    hashing = [int(re.search(r"hash (\d+) ms", line)[1]) / 1000 for line in lines]
+    ratio = statistics.median(working) / statistics.median(hashing)
+    print(f"{lines[0].split(':')[0]}: {spread(working)}, hashes alone {spread(hashing)}, {ratio:.2f} of it")
+    for note in set(re.findall(r"least read but the last \d+ bytes", lines[0])):
+        print(f"  {note}")
 
 
 def spread(seconds):
