@@ -108,14 +108,15 @@ impl Chunk {
         self.bytes.len() >= 2
     }
 
-    /// Its event. A chunk without entries, of the same level, takes its place. An `Err` leaves the chunk
-    /// as it was.
+    /// Its event. A chunk without entries, of the same level, takes its place, with room for as many
+    /// bytes, since the chunks of a level are of like sizes. An `Err` leaves the chunk as it was.
     pub(crate) fn take_event(&mut self, alloc: Global) -> Result<ChunkEvent, AllocError>
         ensures event { IfOk result (λ event. event ≡ self.old) }
         ensures begun { OnOk result (self.new ≡ empty_chunk self.old.level) }
         ensures err { OnErr result (self.new ≡ self.old) }
     {
-        let next = Chunk::new(alloc, self.level)?;
+        let mut next = Chunk::new(alloc, self.level)?;
+        next.bytes.try_reserve_exact(self.bytes.len())?;
         Ok(ChunkEvent::new(mem::replace(self, next)))
     }
 
