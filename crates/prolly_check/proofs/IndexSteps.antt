@@ -1,0 +1,133 @@
+-- An index, made chunk by chunk.
+use Rattle.std.proofs.Common.{◌≡◌, ℕ, zero, suc, ◌+◌, ◌<◌, ◌≤◌, Bool, true, false, ◌||◌, cond, List, [], ◌∷◌, ◌++◌, length, take, drop, get_or, Option, Some, None, inl, inr, refl, sym, ap, ◌∙◌, subst, arith}
+use Rattle.std.specs.Prelude.{is_some}
+use Rattle.std.specs.Ordering.{nat_cmp, is_eq}
+use Rattle.std.specs.Cmp.Lexicographic.{slice_cmp}
+use Rattle.std.specs.Str.{bytes_eq}
+use Rattle.std.specs.List.{list_any}
+use Rattle.std.specs.BTreeMap.{BTreeMap}
+use Rattle.std.proofs.lemmas.Slice.Eq.{bytes_eq-Decides}
+use Rattle.std.proofs.lemmas.Bool.{cond-true, cond-false, false≢true}
+use Rattle.std.proofs.lemmas.List.{take_more}
+use Rattle.prolly_entry.specs.declared.reference.Ref.{Ref}
+use Rattle.prolly_entry.specs.Reference.{reference_of}
+use Rattle.prolly_entry.specs.Chunk.{IsIn}
+use Rattle.prolly_entry.proofs.Overlays.{order_same, order_self, eq_true}
+use Rattle.prolly_check.specs.declared.fault.CheckFault.TheVariants.{Collision}
+use Rattle.prolly_check.specs.Judged.{reuse}
+use Rattle.prolly_check.specs.Index.{number_of, HasAt, IsIndex}
+
+same_bool : (a b : Bool) → (a ≡ true → b ≡ true) → (b ≡ true → a ≡ true) → a ≡ b
+same_bool true true f g = refl
+same_bool true false f g = absurd (false≢true (f refl))
+same_bool false true f g = absurd (false≢true (g refl))
+same_bool false false f g = refl
+
+-- to be equal in order is to be the same
+eq_is : (a b : List ℕ) → is_eq (slice_cmp nat_cmp a b) ≡ bytes_eq a b
+eq_is a b = same_bool (is_eq (slice_cmp nat_cmp a b)) (bytes_eq a b)
+    (λ e. (bytes_eq-Decides a b).1 (order_same a b (eq_true (slice_cmp nat_cmp a b) e)))
+    (λ e. ap is_eq (ap (slice_cmp nat_cmp a) (sym ((bytes_eq-Decides a b).0 e)) ∙ order_self a))
+
+-- the first n chunks are in the index
+pub record IndexBegun (index : BTreeMap Ref ℕ) (chunks : List (List ℕ)) (n : ℕ) : Type 0 where
+  pub before : List (List ℕ)
+  pub same : reuse [] 0 chunks ≡ reuse before n (drop n chunks)
+  pub known : (reference : List ℕ) → list_any (λ d. bytes_eq (reference_of d) reference) before ≡ is_some (number_of index reference)
+  pub right : (reference : List ℕ) (number : ℕ) → number_of index reference ≡ Some number → HasAt chunks number reference
+  pub held : (chunk : List ℕ) → IsIn chunk (take n chunks) → IsIn chunk before
+
+none_some : {A : Type 0} {x : A} → ◌≡◌ {A = Option A} None (Some x) → ⊥
+none_some e = cc
+
+pub index_begins : (index : BTreeMap Ref ℕ) (chunks : List (List ℕ)) → index.entries ≡ [] → IndexBegun index chunks 0
+index_begins index chunks e =
+    let nothing : (reference : List ℕ) → number_of index reference ≡ None = λ reference. rw e refl in record {
+      before = [];
+      same = refl;
+      known = λ reference. sym (ap is_some (nothing reference));
+      right = λ reference number f. absurd (none_some (sym (nothing reference) ∙ f));
+      held = λ chunk h. h;
+    }
+
+-- the next chunk
+next_is : (chunks : List (List ℕ)) (n : ℕ) → n < length chunks → drop n chunks ≡ get_or chunks n [] ∷ drop (n + 1) chunks
+next_is [] n h = absurd (omega arith)
+next_is (c ∷ chunks) zero h = refl
+next_is (c ∷ chunks) (suc n) h =
+    let h' : suc n < suc (length chunks) = h in
+    let f : suc n + 1 ≡ suc (n + 1) = omega arith in
+    rw f (next_is chunks n (omega arith))
+
+in_last : (chunk : List ℕ) (xs : List (List ℕ)) (x : List ℕ) (ys : List (List ℕ)) → ((c : List ℕ) → IsIn c xs → IsIn c ys) → IsIn chunk (xs ++ x ∷ []) → IsIn chunk (x ∷ ys)
+in_last chunk [] x ys f (inl e) = inl e
+in_last chunk [] x ys f (inr h) = absurd h
+in_last chunk (y ∷ xs) x ys f (inl e) = inr (f chunk (inl e))
+in_last chunk (y ∷ xs) x ys f (inr h) = in_last chunk xs x ys (λ c i. f c (inr i)) h
+
+some_of : (b : Bool) (n : ℕ) (o : Option ℕ) → is_some (cond b (Some n) o) ≡ (b || is_some o)
+some_of true n o = refl
+some_of false n o = refl
+
+pub index_goes_on : (index index' : BTreeMap Ref ℕ) (chunks : List (List ℕ)) (n : ℕ) (key : Ref) (chunk : List ℕ) → n < length chunks → chunk ≡ get_or chunks n [] → key.0 ≡ reference_of chunk →
+    IndexBegun index chunks n → number_of index key.0 ≡ None →
+    ((q : Ref) → number_of index' q.0 ≡ cond (is_eq (slice_cmp nat_cmp key.0 q.0)) (Some n) (number_of index q.0)) → IndexBegun index' chunks (n + 1)
+index_goes_on index index' chunks n key chunk h e k b none new =
+    let at : (reference : List ℕ) → number_of index' reference ≡ cond (bytes_eq (reference_of chunk) reference) (Some n) (number_of index reference) =
+    λ reference. new (record { 0 = reference }) ∙ ap (λ t. cond t (Some n) (number_of index reference)) (eq_is key.0 reference ∙ ap (λ r. bytes_eq r reference) k) in
+    let unknown : list_any (λ d. bytes_eq (reference_of d) (reference_of chunk)) b.before ≡ false = b.known (reference_of chunk) ∙ ap (λ r. is_some (number_of index r)) (sym k) ∙ ap is_some none in
+    let f : suc n ≡ n + 1 = omega arith in
+    record {
+      before = chunk ∷ b.before;
+      same = b.same ∙ ap (reuse b.before n) (next_is chunks n h ∙ ap (λ c. c ∷ drop (n + 1) chunks) (sym e))
+          ∙ cond-false (list_any (λ d. bytes_eq (reference_of d) (reference_of chunk)) b.before) (Some (Collision n)) (reuse (chunk ∷ b.before) (suc n) (drop (n + 1) chunks)) unknown
+          ∙ ap (λ m. reuse (chunk ∷ b.before) m (drop (n + 1) chunks)) f;
+      known = λ reference. ap (λ t. bytes_eq (reference_of chunk) reference || t) (b.known reference)
+          ∙ sym (ap is_some (at reference) ∙ some_of (bytes_eq (reference_of chunk) reference) n (number_of index reference));
+      right = λ reference number g. found reference number (bytes_eq (reference_of chunk) reference) refl (sym (at reference) ∙ g);
+      held = λ c i. in_last c (take n chunks) chunk b.before b.held
+          (subst (IsIn c) (take_more chunks n [] h ∙ ap (λ x. take n chunks ++ x ∷ []) (sym e)) i);
+    }
+  where
+    found : (reference : List ℕ) (number : ℕ) (t : Bool) → bytes_eq (reference_of chunk) reference ≡ t → cond t (Some n) (number_of index reference) ≡ Some number → HasAt chunks number reference
+    found reference number true same g =
+        let m : n ≡ number = cc in
+        subst (λ i. HasAt chunks i reference) m (record { within = h; is = ap reference_of (sym e) ∙ (bytes_eq-Decides (reference_of chunk) reference).0 same })
+    found reference number false same g = b.right reference number g
+
+pub index_ends : (index : BTreeMap Ref ℕ) (chunks : List (List ℕ)) (n : ℕ) → length chunks ≤ n → IndexBegun index chunks n → IsIndex index chunks × (reuse [] 0 chunks ≡ None)
+index_ends index chunks n h b = (
+  record {
+    right = b.right;
+    whole = λ chunk i. sym (b.known (reference_of chunk)) ∙ is_known chunk b.before (b.held chunk (subst (IsIn chunk) (sym (take_whole chunks n h)) i));
+  },
+  b.same ∙ ap (reuse b.before n) (drop_whole chunks n h),
+)
+  where
+    is_known : (chunk : List ℕ) (cs : List (List ℕ)) → IsIn chunk cs → list_any (λ d. bytes_eq (reference_of d) (reference_of chunk)) cs ≡ true
+    is_known chunk [] i = absurd i
+    is_known chunk (c ∷ cs) (inl e) = ap (λ t. t || list_any (λ d. bytes_eq (reference_of d) (reference_of chunk)) cs) ((bytes_eq-Decides (reference_of c) (reference_of chunk)).1 (ap reference_of (sym e)))
+    is_known chunk (c ∷ cs) (inr i) = or_true (bytes_eq (reference_of c) (reference_of chunk)) (list_any (λ d. bytes_eq (reference_of d) (reference_of chunk)) cs) (is_known chunk cs i)
+      where
+        or_true : (a b : Bool) → b ≡ true → (a || b) ≡ true
+        or_true true b e = refl
+        or_true false b e = e
+
+    take_whole : (cs : List (List ℕ)) (n : ℕ) → length cs ≤ n → take n cs ≡ cs
+    take_whole [] zero h = refl
+    take_whole [] (suc n) h = refl
+    take_whole (c ∷ cs) zero h = absurd (let h' : suc (length cs) ≤ 0 = h in omega arith)
+    take_whole (c ∷ cs) (suc n) h = let h' : suc (length cs) ≤ suc n = h in ap (λ x. c ∷ x) (take_whole cs n (omega arith))
+
+    drop_whole : (cs : List (List ℕ)) (n : ℕ) → length cs ≤ n → drop n cs ≡ []
+    drop_whole [] zero h = refl
+    drop_whole [] (suc n) h = refl
+    drop_whole (c ∷ cs) zero h = absurd (let h' : suc (length cs) ≤ 0 = h in omega arith)
+    drop_whole (c ∷ cs) (suc n) h = let h' : suc (length cs) ≤ suc n = h in drop_whole cs n (omega arith)
+
+pub index_collides : (index : BTreeMap Ref ℕ) (chunks : List (List ℕ)) (n : ℕ) (key : Ref) (chunk : List ℕ) (number : ℕ) → n < length chunks → chunk ≡ get_or chunks n [] → key.0 ≡ reference_of chunk →
+    IndexBegun index chunks n → number_of index key.0 ≡ Some number → reuse [] 0 chunks ≡ Some (Collision n)
+index_collides index chunks n key chunk number h e k b some =
+    b.same ∙ ap (reuse b.before n) (next_is chunks n h ∙ ap (λ c. c ∷ drop (n + 1) chunks) (sym e))
+    ∙ cond-true (list_any (λ d. bytes_eq (reference_of d) (reference_of chunk)) b.before) (Some (Collision n)) (reuse (chunk ∷ b.before) (suc n) (drop (n + 1) chunks))
+    (b.known (reference_of chunk) ∙ ap (λ r. is_some (number_of index r)) (sym k) ∙ ap is_some some)

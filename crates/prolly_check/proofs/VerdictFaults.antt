@@ -1,0 +1,117 @@
+-- A verdict is never want of memory, a failed read, or that there are too many bytes.
+use Rattle.std.proofs.Common.{◌≡◌, ℕ, suc, Bool, true, false, not, ◌==◌, nat_lt, cond, List, [], ◌∷◌, ◌++◌, length, Option, Some, None, Result, Ok, Err, sym, subst}
+use Rattle.std.specs.Prelude.{slice_index}
+use Rattle.std.specs.Str.{bytes_eq}
+use Rattle.std.specs.List.{list_any}
+use Rattle.prolly_entry.specs.declared.version.Version.{Version}
+use Rattle.prolly_entry.specs.Pair.{Pair}
+use Rattle.prolly_entry.specs.Reference.{reference_of}
+use Rattle.prolly_entry.specs.Overlay.{or_else}
+use Rattle.prolly_check.specs.declared.fault.CheckFault.{CheckFault}
+use Rattle.prolly_check.specs.declared.fault.CheckFault.TheVariants as faults
+use Rattle.prolly_check.specs.Content.{Content}
+use Rattle.prolly_check.specs.Check.{IsRefusal}
+use Rattle.prolly_check.specs.Header.{header_tests, header_fault, version_of}
+use Rattle.prolly_check.specs.Frames.{ending_of}
+use Rattle.prolly_check.specs.Entries.{IsRead}
+use Rattle.prolly_check.specs.Judged.{is_rising, order_fault, difference, end_fault, reuse, chunk_bytes, ending_for, or_content}
+use Rattle.prolly_check.specs.Refusal.{UnlessMemory}
+use Rattle.prolly_check.specs.Verdict.{ReadVerdict, EndVerdict, HeaderVerdict, IsVerdict}
+use Rattle.prolly_entry.proofs.Parts.{flat}
+
+abbrev pub OfBytes : CheckFault → Type 0
+OfBytes faults.Memory = ⊥
+OfBytes faults.Read = ⊥
+OfBytes faults.TooLong = ⊥
+OfBytes fault = Unit {0}
+
+abbrev AnyOfBytes : Option CheckFault → Type 0
+AnyOfBytes None = Unit {0}
+AnyOfBytes (Some fault) = OfBytes fault
+
+abbrev ErrOfBytes : {A : Type 0} → Result A CheckFault → Type 0
+ErrOfBytes (Ok x) = Unit {0}
+ErrOfBytes (Err fault) = OfBytes fault
+
+either : (b : Bool) (x y : Option CheckFault) → AnyOfBytes x → AnyOfBytes y → AnyOfBytes (cond b x y)
+either true x y h k = h
+either false x y h k = k
+
+either_result : {A : Type 0} (b : Bool) (x y : Result A CheckFault) → ErrOfBytes x → ErrOfBytes y → ErrOfBytes (cond b x y)
+either_result true x y h k = h
+either_result false x y h k = k
+
+then : (a b : Option CheckFault) → AnyOfBytes a → AnyOfBytes b → AnyOfBytes (or_else a b)
+then None b h k = k
+then (Some fault) b h k = h
+
+of_header : (tests : List (ℕ → Bool)) (bytes : List ℕ) → AnyOfBytes (header_fault tests bytes)
+of_header [] bytes = tt
+of_header (test ∷ tests) [] = tt
+of_header (test ∷ tests) (b ∷ bytes) = either (test b) (header_fault tests bytes) (Some faults.BadHeader) (of_header tests bytes) tt
+
+of_ending : (number : ℕ) (bytes : List ℕ) → ErrOfBytes (ending_of number bytes)
+of_ending number [] = tt
+of_ending number (b ∷ rest) =
+    either_result (b == 0x43) (Err faults.Truncated) _ tt
+    (either_result (not (b == 0x45)) (Err (faults.BadFrame number)) _ tt
+    (either_result (nat_lt (length rest) 28) (Err faults.Truncated) _ tt (either_result (nat_lt 28 (length rest)) (Err faults.Trailing) (Ok rest) tt tt)))
+
+of_order : (before : List Pair) (number : ℕ) (lists : List (List Pair)) → AnyOfBytes (order_fault before number lists)
+of_order before number [] = tt
+of_order before number (ps ∷ lists) = either (is_rising (before ++ ps)) (order_fault (before ++ ps) (suc number) lists) (Some (faults.KeysOutOfOrder number)) (of_order (before ++ ps) (suc number) lists) tt
+
+of_difference : (number : ℕ) (cs ds : List (List ℕ)) → AnyOfBytes (difference number cs ds)
+of_difference number [] [] = tt
+of_difference number [] (d ∷ ds) = tt
+of_difference number (c ∷ cs) [] = tt
+of_difference number (c ∷ cs) (d ∷ ds) = either (bytes_eq c d) (difference (suc number) cs ds) (Some (faults.NotCanonical number)) (of_difference (suc number) cs ds) tt
+
+of_reuse : (before : List (List ℕ)) (number : ℕ) (cs : List (List ℕ)) → AnyOfBytes (reuse before number cs)
+of_reuse before number [] = tt
+of_reuse before number (c ∷ cs) =
+    either (list_any (λ d. bytes_eq (reference_of d) (reference_of c)) before) (Some (faults.Collision number)) (reuse (c ∷ before) (suc number) cs) tt (of_reuse (c ∷ before) (suc number) cs)
+
+of_content : (content : Content) (fault : Option CheckFault) → AnyOfBytes fault → ErrOfBytes (or_content content fault)
+of_content content None h = tt
+of_content content (Some fault) h = h
+
+of_read : (version : Version) (bits : ℕ) (cs : List (List ℕ)) (ending : List ℕ) (read : Result (List (List Pair)) CheckFault) (verdict : Result Content CheckFault) →
+    IsRead version cs read → ReadVerdict version bits cs ending read verdict → ErrOfBytes verdict
+of_read version bits cs ending (Ok lists) verdict is so =
+    let pairs = flat lists in
+    let a = order_fault [] 0 lists in
+    let b = difference 0 (chunk_bytes version bits pairs) cs in
+    let c = end_fault ending (ending_for version bits pairs) in
+    subst ErrOfBytes (sym so) (of_content (record { version = version; bits = bits; pairs = pairs }) (or_else a (or_else b (or_else c (reuse [] 0 cs))))
+    (then a (or_else b (or_else c (reuse [] 0 cs))) (of_order [] 0 lists)
+    (then b (or_else c (reuse [] 0 cs)) (of_difference 0 (chunk_bytes version bits pairs) cs)
+    (then c (reuse [] 0 cs) (either (bytes_eq ending (ending_for version bits pairs)) None (Some faults.BadEnd) tt tt) (of_reuse [] 0 cs)))))
+of_read version bits cs ending (Err fault) verdict is so = subst ErrOfBytes (sym so) (subst OfBytes (sym is.is) tt)
+
+of_end : (version : Version) (bits : ℕ) (cs : List (List ℕ)) (ending : Result (List ℕ) CheckFault) (verdict : Result Content CheckFault) → ErrOfBytes ending →
+    EndVerdict version bits cs ending verdict → ErrOfBytes verdict
+of_end version bits cs (Ok ending) verdict h so = of_read version bits cs ending so.read verdict so.is so.so
+of_end version bits cs (Err fault) verdict h so = subst ErrOfBytes (sym so) h
+
+pub verdict_of_bytes : (bytes : List ℕ) (fault : CheckFault) → IsVerdict bytes (Err fault) → OfBytes fault
+verdict_of_bytes bytes fault v = go (header_fault header_tests bytes) (of_header header_tests bytes) v
+  where
+    go : (o : Option CheckFault) → AnyOfBytes o → HeaderVerdict o bytes (Err fault) → OfBytes fault
+    go (Some f) h v = subst ErrOfBytes (sym v) h
+    go None h v = of_end (version_of (slice_index bytes 4)) (slice_index bytes 5) v.chunks v.ending (Err fault) (subst ErrOfBytes v.is.is (of_ending (length v.chunks) v.is.tail)) v.so
+
+-- a refusal of the bytes that were read
+pub refusal : (read bytes : List ℕ) (max_bytes : ℕ) (fault : CheckFault) → read ≡ bytes → UnlessMemory (λ fault. IsVerdict read (Err fault)) fault → IsRefusal bytes max_bytes fault
+refusal read bytes max_bytes faults.Memory e h = tt
+refusal read bytes max_bytes faults.Read e h = tt
+refusal read bytes max_bytes faults.TooLong e h = absurd (verdict_of_bytes read faults.TooLong h)
+refusal read bytes max_bytes faults.BadHeader e h = subst (λ b. IsVerdict b (Err faults.BadHeader)) e h
+refusal read bytes max_bytes (faults.BadFrame n) e h = subst (λ b. IsVerdict b (Err (faults.BadFrame n))) e h
+refusal read bytes max_bytes faults.Truncated e h = subst (λ b. IsVerdict b (Err faults.Truncated)) e h
+refusal read bytes max_bytes faults.Trailing e h = subst (λ b. IsVerdict b (Err faults.Trailing)) e h
+refusal read bytes max_bytes (faults.BadChunk n) e h = subst (λ b. IsVerdict b (Err (faults.BadChunk n))) e h
+refusal read bytes max_bytes (faults.KeysOutOfOrder n) e h = subst (λ b. IsVerdict b (Err (faults.KeysOutOfOrder n))) e h
+refusal read bytes max_bytes (faults.NotCanonical n) e h = subst (λ b. IsVerdict b (Err (faults.NotCanonical n))) e h
+refusal read bytes max_bytes faults.BadEnd e h = subst (λ b. IsVerdict b (Err faults.BadEnd)) e h
+refusal read bytes max_bytes (faults.Collision n) e h = subst (λ b. IsVerdict b (Err (faults.Collision n))) e h

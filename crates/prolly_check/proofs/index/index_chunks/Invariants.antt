@@ -1,0 +1,6 @@
+use Rattle.prolly_check.specs.Spans.{chunks_in}
+use Rattle.prolly_check.proofs.IndexSteps.{IndexBegun}
+use Rattle.prolly_check.proofs.index.index_chunks.Given as goal
+
+abbrev pub invariant-loop-number : goal.invariant-loop-number
+invariant-loop-number l = IndexBegun l.index (chunks_in l.bytes l.spans) l.number

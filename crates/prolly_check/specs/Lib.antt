@@ -1,0 +1,15 @@
+pub mod Content
+pub mod Header
+pub mod Frames
+pub mod Spans
+pub mod Entries
+pub mod Refusal
+pub mod Pairs
+pub mod Judged
+pub mod Canonical
+pub mod Verdict
+pub mod Index
+pub mod Checked
+pub mod Check
+pub mod Root
+pub mod Descent

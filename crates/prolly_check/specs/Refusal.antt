@@ -1,0 +1,16 @@
+-- Refusals of the checker.
+use Rattle.prolly_file.specs.declared.whole.WholeFault.{WholeFault}
+use Rattle.prolly_file.specs.declared.whole.WholeFault.TheVariants as whole
+use Rattle.prolly_check.specs.declared.fault.CheckFault.{CheckFault}
+use Rattle.prolly_check.specs.declared.fault.CheckFault.TheVariants.{Memory, Read, TooLong}
+
+-- The fault is want of memory, or it is such a one.
+abbrev pub UnlessMemory : (CheckFault → Type 0) → CheckFault → Type 0
+UnlessMemory P Memory = Unit {0}
+UnlessMemory P fault = P fault
+
+-- The fault of reading the bytes, as one of checking.
+abbrev pub fault_of : WholeFault → CheckFault
+fault_of whole.Memory = Memory
+fault_of whole.Read = Read
+fault_of whole.TooLong = TooLong

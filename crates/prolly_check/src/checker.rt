@@ -1,0 +1,43 @@
+//! The checker.
+ghost use Rattle.std.specs.Prelude.{◌≡◌, ◌≢◌, ◌↔◌, ◌⊎◌, ◌≤◌, true, length, IfOk, IfErr, IsErrOf};
+ghost use Rattle.prolly_check.specs.Check.{IsRefusal};
+ghost use Rattle.prolly_check.specs.Checked.{IsFile};
+ghost use Rattle.prolly_check.specs.Content.{Content};
+ghost use Rattle.prolly_check.specs.Verdict.{IsFileOf};
+
+use crate::fault::CheckFault;
+use crate::tree::Tree;
+use prolly_file::{Source, read_whole};
+use std::alloc::Global;
+
+/// Reads a source to its end, and accepts its bytes exactly where they are the file of a map, of a
+/// version and a number of bits from 0 to 24, no two of whose chunks have one reference.
+///
+/// Answers the first fault in this order: the source failed or has more than `max_bytes` bytes; the
+/// header; the frames and the end record; the entries of each chunk; the order of the keys; the chunks
+/// and the end record against those of the file of the same pairs; the references.
+///
+/// Takes time linear in the bytes, but for the ordering of the references, and hashes each entry once
+/// and each chunk twice. Holds the bytes, their pairs and the file of these pairs at the same time.
+pub fn check<S: Source>(alloc: Global, source: &mut S, max_bytes: u32) -> Result<Tree, CheckFault>
+    // What is accepted are the bytes of the source, and they are the file of a map.
+    ensures same { S.is_honest source.old ≡ true → IfOk result (λ tree. tree ≡ S.left source.old) }
+    ensures accepted { IfOk result (λ tree. IsFile tree) }
+
+    // No file of a map is refused, but for want of memory or a failed read.
+    ensures files { S.is_honest source.old ≡ true → (content : Content) → IsFileOf (S.left source.old) content →
+        length (S.left source.old) ≤ max_bytes →
+        IfErr result (λ fault. (fault ≡ CheckFault.Memory) ⊎ (fault ≡ CheckFault.Read)) }
+
+    // Other bytes are refused by their first fault.
+    ensures refused { S.is_honest source.old ≡ true → IfErr result (IsRefusal (S.left source.old) max_bytes) }
+    ensures read { IsErrOf result CheckFault.Read → S.failures source.new ≢ S.failures source.old }
+    ensures honest { S.is_honest source.old ≡ true → S.is_honest source.new ≡ true }
+    ensures steady { S.is_steady source.old ≡ true → S.is_steady source.new ≡ true }
+{
+    let bytes = match read_whole(alloc, source, max_bytes) {
+        Ok(bytes) => bytes,
+        Err(fault) => return Err(CheckFault::from(fault)),
+    };
+    Tree::of(alloc, bytes)
+}

@@ -1,0 +1,64 @@
+//! The header of a chunk file.
+ghost use Rattle.std.specs.Prelude.{◌≡◌, ◌<◌, ◌≤◌, None, Some, length, slice_index, IfOk, IfErr};
+ghost use Rattle.prolly_check.specs.Header.{header_tests, header_fault, test_at, version_of};
+
+use crate::fault::CheckFault;
+use prolly_entry::{BITS_LIMIT, Version};
+
+/// The size of a header.
+pub(crate) const HEADER_SIZE: usize = 6;
+
+/// What a header says.
+#[derive(Clone, Copy, Debug)]
+pub(crate) struct Header {
+    pub(crate) version: Version,
+    pub(crate) bits: u8,
+}
+
+/// The header that begins the bytes.
+pub(crate) fn read_header(bytes: &[u8]) -> Result<Header, CheckFault>
+    ensures found { IfOk result (λ r. header_fault header_tests bytes.now ≡ None) }
+    ensures version { IfOk result (λ r. r.version ≡ version_of (slice_index bytes.now 4)) }
+    ensures bits { IfOk result (λ r. r.bits ≡ slice_index bytes.now 5) }
+    ensures room { IfOk result (λ r. HEADER_SIZE ≤ length bytes.now) }
+    ensures err { IfErr result (λ fault. header_fault header_tests bytes.now ≡ Some fault) }
+{
+    for place in 0..HEADER_SIZE {
+        if place >= bytes.len() {
+            return Err(CheckFault::Truncated);
+        }
+        if !may_stand(place, bytes[place]) {
+            return Err(CheckFault::BadHeader);
+        }
+    }
+    Ok(Header {
+        version: version_of(bytes[4]),
+        bits: bytes[5],
+    })
+}
+
+/// Whether the byte may stand at the place.
+fn may_stand(place: usize, byte: u8) -> bool
+    requires { place < 6 }
+    ensures { result ≡ test_at place byte }
+{
+    match place {
+        0 => byte == b'P',
+        1 => byte == b'R',
+        2 => byte == b'L',
+        3 => byte == b'Y',
+        4 => byte == 1 || byte == 2,
+        _ => byte <= BITS_LIMIT,
+    }
+}
+
+/// The version that a byte which may stand in a header stands for.
+fn version_of(byte: u8) -> Version
+    ensures { result ≡ version_of byte }
+{
+    if byte == 1 {
+        Version::One
+    } else {
+        Version::Two
+    }
+}

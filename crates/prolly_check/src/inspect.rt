@@ -1,0 +1,45 @@
+//! The steps of the checker, in the order in which their faults are named.
+ghost use Rattle.std.specs.Prelude.{◌≡◌, Err, IfOk, IfErr};
+ghost use Rattle.prolly_check.specs.Checked.{IsChecked};
+ghost use Rattle.prolly_check.specs.Refusal.{UnlessMemory};
+ghost use Rattle.prolly_check.specs.Verdict.{IsVerdict};
+
+use crate::canonical::test_canonical;
+use crate::ending::test_ending;
+use crate::fault::CheckFault;
+use crate::frames::{Span, find_frames};
+use crate::header::read_header;
+use crate::index::{Index, index_chunks};
+use crate::pairs::read_pairs;
+use prolly_entry::{Sha512Cut, Version};
+use std::alloc::Global;
+
+/// Where the chunks of a file lie, and how they are found.
+#[derive(Drop)]
+pub(crate) struct Layout {
+    pub(crate) version: Version,
+    pub(crate) spans: Vec<Span>,
+    pub(crate) index: Index,
+}
+
+/// Checks the bytes of a file.
+pub(crate) fn inspect(alloc: Global, bytes: &[u8]) -> Result<Layout, CheckFault>
+    ensures ok { IfOk result (λ layout. IsChecked bytes.now layout.version layout.spans.items layout.index) }
+    ensures err { IfErr result (UnlessMemory (λ fault. IsVerdict bytes.now (Err fault))) }
+{
+    let header = read_header(bytes)?;
+    let frames = find_frames(alloc, bytes)?;
+    test_ending(&bytes[frames.end..], frames.spans.len())?;
+    let pairs = read_pairs(alloc, header.version, bytes, &frames.spans)?;
+    let cut = match Sha512Cut::new(header.bits) {
+        Some(cut) => cut,
+        None => unreachable!(),
+    };
+    test_canonical(alloc, cut, header.version, bytes, &frames, pairs)?;
+    let index = index_chunks(alloc, bytes, &frames.spans)?;
+    Ok(Layout {
+        version: header.version,
+        spans: frames.spans,
+        index,
+    })
+}

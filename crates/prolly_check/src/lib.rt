@@ -1,0 +1,24 @@
+//! The checker of chunk files, and look-ups in what it accepted.
+#![tactic(auto)]
+
+mod canonical;
+mod checker;
+mod ending;
+mod fault;
+mod find;
+mod frames;
+mod header;
+mod index;
+mod inspect;
+pub mod laws;
+mod leaf;
+mod node;
+mod pairs;
+mod tree;
+
+pub use checker::check;
+pub use fault::CheckFault;
+pub use tree::Tree;
+
+#[cfg(test)]
+mod tests;

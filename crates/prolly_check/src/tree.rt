@@ -1,0 +1,124 @@
+//! A chunk file that was checked.
+ghost use Rattle.std.specs.Prelude.{◌≡◌, ◌^◌, ◌<◌, length, IfOk, IfErr, Err};
+ghost use Rattle.std.specs.Option.{option_copied};
+ghost use Rattle.prolly_entry.specs.Chunk.{chunks};
+ghost use Rattle.prolly_entry.specs.Cut.{sha512_cut};
+ghost use Rattle.prolly_entry.specs.File.{root_reference};
+ghost use Rattle.prolly_entry.specs.LookUp.{find};
+ghost use Rattle.prolly_check.specs.Checked.{IsChecked, IsFile};
+ghost use Rattle.prolly_check.specs.Content.{Content};
+ghost use Rattle.prolly_check.specs.Refusal.{UnlessMemory};
+ghost use Rattle.prolly_check.specs.Root.{root_bytes};
+ghost use Rattle.prolly_check.specs.Verdict.{IsVerdict, IsFileOf};
+
+use crate::fault::CheckFault;
+use crate::find::find_value;
+use crate::frames::{Span, chunk_at};
+use crate::index::Index;
+use crate::inspect::{Layout, inspect};
+use prolly_entry::{Ref, Version};
+use std::alloc::Global;
+use std::marker::Model;
+
+/// The tree of a chunk file that was checked, in memory.
+#[derive(Drop)]
+pub struct Tree {
+    bytes: Vec<u8>,
+    version: Version,
+    spans: Vec<Span>,
+    index: Index,
+}
+
+// A tree is seen as the bytes of its file. They decide the version, the number of bits and the map.
+impl Model for Tree {
+    ghost use Rattle.std.specs.Prelude.{ℕ, List};
+
+    ghost Value = { List ℕ };
+
+    ghost use Rattle.prolly_check.specs.Checked.{IsChecked};
+
+    ghost view = { λ tree. tree.bytes.items };
+
+    ghost invariant = { λ tree. IsChecked tree.bytes.items tree.version tree.spans.items tree.index };
+}
+
+impl Tree {
+    /// The tree of the bytes of a file.
+    pub(crate) fn of(alloc: Global, bytes: Vec<u8>) -> Result<Tree, CheckFault>
+        ensures same { IfOk result (λ tree. tree ≡ bytes.items) }
+        ensures file { IfOk result (λ tree. IsFile tree) }
+        ensures err { IfErr result (UnlessMemory (λ fault. IsVerdict bytes.items (Err fault))) }
+    {
+        let Layout {
+            version,
+            spans,
+            index,
+        } = inspect(alloc, &bytes)?;
+        Ok(Tree {
+            bytes,
+            version,
+            spans,
+            index,
+        })
+    }
+
+    /// The reference of the root. Hashes the root's chunk.
+    pub fn root(&self) -> Ref
+        ensures { (content : Content) → IsFileOf self.now content →
+            result.0 ≡ root_reference (sha512_cut content.bits) content.version content.pairs }
+    {
+        Ref::of(root_chunk(&self.bytes, self.version, &self.spans, &self.index))
+    }
+
+    /// The number of bits by which the entries were cut, from 0 to 24.
+    pub fn bits(&self) -> u8
+        ensures { (content : Content) → IsFileOf self.now content → result ≡ content.bits }
+    {
+        bits_of(&self.bytes, self.version, &self.spans, &self.index)
+    }
+
+    /// The number of chunks.
+    pub fn chunks(&self) -> u64
+        ensures { (content : Content) → IsFileOf self.now content →
+            result ≡ length (chunks (sha512_cut content.bits) content.version content.pairs) }
+    {
+        self.spans.len() as u64
+    }
+
+    /// The value of the key, or none, found by references from the root. Takes no memory, and reads one
+    /// chunk a level.
+    pub fn get(&self, key: &[u8]) -> Option<&[u8]>
+        ensures { (content : Content) → IsFileOf self.now content → option_copied result ≡ find content.pairs key.now }
+    {
+        find_value(&self.bytes, self.version, &self.spans, &self.index, key)
+    }
+
+    /// The version of the file.
+    pub fn version(&self) -> Version
+        ensures { (content : Content) → IsFileOf self.now content → result ≡ content.version }
+    {
+        self.version
+    }
+}
+
+/// The chunk of the root, which is the last one.
+pub(crate) fn root_chunk<'a>(
+    bytes: &'a [u8],
+    version: Version,
+    spans: &[Span],
+    index: &Index,
+) -> &'a [u8]
+    requires checked { IsChecked bytes.now version spans.now index.now }
+    requires short { length bytes.now < 2 ^ 64 }
+    ensures { (content : Content) → IsFileOf bytes.now content → result.now ≡ root_bytes content }
+{
+    chunk_at(bytes, spans[spans.len() - 1])
+}
+
+/// The last byte of the header.
+fn bits_of(bytes: &[u8], version: Version, spans: &[Span], index: &Index) -> u8
+    requires { IsChecked bytes.now version spans.now index.now }
+    ensures { (content : Content) → IsFileOf bytes.now content → result ≡ content.bits }
+{
+    bytes[5]
+}
