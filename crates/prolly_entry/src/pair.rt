@@ -50,6 +50,15 @@ impl Pair {
         Ok(Pair { key, value })
     }
 
+    // The pair of parts that are known to be short enough.
+    pub(crate) fn from_parts(key: Vec<u8>, value: Vec<u8>) -> Pair
+        requires key { vec_len key ≤ 1024 }
+        requires value { vec_len value ≤ 65536 }
+        ensures { result ≡ record { key = key.items; value = value.items } }
+    {
+        Pair { key, value }
+    }
+
     /// A pair of copies of these bytes. Takes memory for the two copies.
     pub fn copy_of(alloc: Global, key: &[u8], value: &[u8]) -> Result<Pair, AllocError>
         requires key { length key.now ≤ 1024 }

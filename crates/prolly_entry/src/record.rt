@@ -27,7 +27,7 @@ impl Model for Record {
 
 impl Record {
     ghost use Rattle.std.specs.Prelude.{◌≤◌, ◌<◌, ◌↔◌, length, vec_len, None, Some, Err, IfOk};
-    ghost use Rattle.std.specs.Option.{option_copied};
+    ghost use Rattle.std.specs.Option.{option_copied, option_map};
     ghost use Rattle.prolly_entry.specs.Record.{IsChange};
 
     /// The record that puts a pair.
@@ -76,5 +76,16 @@ impl Record {
         ensures short { IsChange self.now.value }
     {
         self.value.as_deref()
+    }
+
+    /// The pair that is put; none where the key is removed. Takes no memory.
+    pub fn into_pair(self) -> Option<Pair>
+        ensures { result ≡ option_map (λ value. record { key = self.key; value = value }) self.value }
+    {
+        let Record { key, value } = self;
+        match value {
+            Some(value) => Some(Pair::from_parts(key, value)),
+            None => None,
+        }
     }
 }

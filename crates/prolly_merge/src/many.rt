@@ -32,7 +32,6 @@ pub struct Merged<I, O: Out<Pair>> {
 // Sends pairs until the merger stops, or memory is refused. Gives the number of pairs sent, and the end.
 fn send_many<I: In<Record>, O: Out<Pair>, R: Wait>(
     rt: &R,
-    alloc: Global,
     inputs: &mut [I],
     heads: &mut [Head],
     out: &mut O,
@@ -49,7 +48,7 @@ fn send_many<I: In<Record>, O: Out<Pair>, R: Wait>(
     let mut pairs = 0u64;
     for _ in rt.forever() {
         match next_of_many(rt, inputs, heads) {
-            Step::Send(record) => match send_put(rt, alloc, out, record, pairs) {
+            Step::Send(record) => match send_put(rt, out, record, pairs) {
                 Ok(count) => pairs = count,
                 Err(_) => return (pairs, End::Fault(RunFault::Memory)),
             },
@@ -79,7 +78,7 @@ fn merge_all<I: In<Record>, O: Out<Pair>, R: Wait>(
         return (0, out);
     };
     let mut out = out;
-    let (pairs, end) = send_many(rt, alloc, inputs, &mut heads, &mut out);
+    let (pairs, end) = send_many(rt, inputs, &mut heads, &mut out);
     let out = out.close(rt, end);
     finish_all(rt, inputs, &heads);
     (pairs, out)
@@ -90,8 +89,8 @@ fn merge_all<I: In<Record>, O: Out<Pair>, R: Wait>(
 ///
 /// It closes with `Clean` where all inputs do. Otherwise it sends every pair up to the last key of the input that ended with a
 /// fault, and closes with that fault; where several did, with that of the least last key, of equal ones the first. It closes
-/// with `Fault(Memory)` where memory was refused: for the heads, one for each input, before anything is received, or for a
-/// pair. All inputs are received to their ends. All this is promised of inputs whose keys rise; of others it is known only that
+/// with `Fault(Memory)` where memory was refused: for the heads, one for each input, before anything is received, or by the
+/// output. All inputs are received to their ends. All this is promised of inputs whose keys rise; of others it is known only that
 /// they have ended, and how many pairs were sent.
 ///
 /// Takes one comparison of keys an input for each record, and one more for those before it where inputs share its key.

@@ -4,13 +4,12 @@ ghost use Rattle.prolly_entry.specs.Overlay.{pairs_of_change};
 
 use prolly_entry::{Pair, Record};
 use prolly_link::Out;
-use std::alloc::{AllocError, Global};
+use std::alloc::AllocError;
 use std::sync::Wait;
 
 /// Sends the pair that a record puts; a removal puts none. Gives the count of pairs with it.
 pub(crate) fn send_put<O: Out<Pair>, R: Wait>(
     rt: &R,
-    alloc: Global,
     out: &mut O,
     merged: Record,
     pairs: u64,
@@ -21,10 +20,9 @@ pub(crate) fn send_put<O: Out<Pair>, R: Wait>(
         n ≡ min (pairs + length (pairs_of_change merged.key merged.value)) 0xFFFF_FFFF_FFFF_FFFF) }
     ensures refused { OnErr result (O.sent out.new ≡ O.sent out.old) }
 {
-    let Some(value) = merged.value() else {
+    let Some(pair) = merged.into_pair() else {
         return Ok(pairs);
     };
-    let pair = Pair::copy_of(alloc, merged.key(), value)?;
     match out.send(rt, pair) {
         Ok(()) => Ok(pairs.saturating_add(1)),
         Err(_) => Err(AllocError),
