@@ -3,3 +3,5 @@ pub mod WritingSteps
 pub mod ForkSteps
 pub mod RanSteps
 pub mod FirstOnes
+pub mod MergingSteps
+pub mod FeedingSteps

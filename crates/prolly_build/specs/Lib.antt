@@ -3,3 +3,5 @@ pub mod Writing
 pub mod Forks
 pub mod Workers
 pub mod Ran
+pub mod Merging
+pub mod Feeding

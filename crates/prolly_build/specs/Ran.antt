@@ -5,6 +5,7 @@ use Rattle.prolly_entry.specs.Record.{Record}
 use Rattle.prolly_entry.specs.File.{header}
 use Rattle.prolly_link.specs.Views.{Receiving, Batching, Whole}
 use Rattle.prolly_link.specs.Receipts.{HasEnded, end_given}
+use Rattle.prolly_link.specs.declared.progress.Progress.TheVariants.{Open}
 use Rattle.prolly_build.specs.Settings.{Settings}
 use Rattle.prolly_build.specs.Writing.{Sunk, HasWritten}
 use Rattle.prolly_build.specs.Workers.{IsLoadedFrom}
@@ -27,3 +28,7 @@ AreLoaded is_honest left failures limit file _ _ _ _ = ⊥
 -- Nothing was sent yet.
 abbrev pub IsUnsent : {T : Type 0} → Batching T → Type 0
 IsUnsent out = out.items ≡ []
+
+-- Nothing was received yet.
+abbrev pub IsUnread : {T : Type 0} → Receiving T → Type 0
+IsUnread r = (r.items ≡ []) × (r.progress ≡ Open)

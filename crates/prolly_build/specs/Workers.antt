@@ -1,5 +1,5 @@
 -- What the workers of a build give back.
-use Rattle.std.specs.Prelude.{◌≡◌, ◌≢◌, ◌↔◌, ℕ, Bool, List, []}
+use Rattle.std.specs.Prelude.{◌≡◌, ◌≢◌, ◌↔◌, ℕ, Bool, true, List, []}
 use Rattle.prolly_entry.specs.Chunk.{Chunk}
 use Rattle.prolly_entry.specs.Events.{Closing}
 use Rattle.prolly_link.specs.Views.{Receiving, Batching, Whole}
@@ -18,10 +18,11 @@ pub record IsStaged {A : Type 0} (stage : Closing → List A → List Chunk) (in
   pub sends : Sends stage ended.items (end_given ended.progress) [] closed.items closed.end
 
 -- The source was loaded into the output, whose link is kept: what was sent and the end are what the bytes come to, and the end tells a
--- failed read exactly where a read failed.
+-- failed read exactly where a read failed. An honest source stays honest.
 pub record IsLoadedFrom {S : Type 0} (is_honest : S → Bool) (left : S → List ℕ) (failures : S → ℕ) (file limit : ℕ) (source : S) (out : Batching Record)
     (source' : S) (closed : Whole Record) : Type 0 where
   pub writes : closed.link ≡ out.link
   pub loaded : IsLoaded file limit (is_honest source) (left source) (left source') [] closed.items closed.end
   pub read : (closed.end ≡ Fault (Read file)) ↔ (failures source' ≢ failures source)
   pub unfailed : closed.end ≢ Fault (Read file) → failures source' ≡ failures source
+  pub honest : is_honest source ≡ true → is_honest source' ≡ true
