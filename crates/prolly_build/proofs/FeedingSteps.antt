@@ -1,5 +1,5 @@
 -- How the records of the files reach the last merger.
-use Rattle.std.proofs.Common.{◌≡◌, ℕ, zero, suc, ◌+◌, Bool, List, [], ◌∷◌, map, refl, ap, sym, subst, ◌∙◌}
+use Rattle.std.proofs.Common.{◌≡◌, ℕ, zero, suc, ◌+◌, Bool, List, [], ◌∷◌, All, map, refl, ap, sym, subst, ◌∙◌}
 use Rattle.prolly_entry.specs.Merge.{Input}
 use Rattle.prolly_entry.specs.Record.{Record}
 use Rattle.prolly_link.specs.Views.{Receiving, Batching, Whole}
@@ -7,10 +7,11 @@ use Rattle.prolly_link.specs.Receipts.{HasEnded, end_given}
 use Rattle.prolly_link.specs.declared.fault.RunFault.{RunFault}
 use Rattle.prolly_link.specs.declared.progress.Progress.TheVariants.{Ended}
 use Rattle.prolly_merge.specs.Inputs.{input_of}
-use Rattle.prolly_build.specs.Feeding.{IsFed, IsJoint, Joined}
+use Rattle.prolly_build.specs.Feeding.{IsFed}
 use Rattle.prolly_build.specs.Forks.{IsForked}
-use Rattle.prolly_build.specs.Merging.{IsMergedTwo, MergesTwo, received_input, sent_input}
+use Rattle.prolly_build.specs.Merging.{MergesTwo, received_input, sent_input}
 use Rattle.prolly_build.specs.Ran.{AreLoaded}
+use Rattle.prolly_build.proofs.FirstOnes.{all_first, all_rest}
 use Rattle.prolly_build.proofs.ForkSteps.{forked_map, forked_maps}
 
 -- what was received over a link that was met is what was sent
@@ -77,3 +78,15 @@ pub merges_met : (left right : Receiving Record) (left_sent right_sent closed : 
 merges_met left right left_sent right_sent closed merges left_met right_met =
     subst (λ (i : Input RunFault). MergesTwo i (sent_input right_sent) closed.items closed.end) (met_input left left_sent left_met.0 left_met.1)
     (subst (λ (i : Input RunFault). MergesTwo (received_input left) i closed.items closed.end) (met_input right right_sent right_met.0 right_met.1) merges)
+
+-- links that were met one by one
+pub all_met : (rs : List (Receiving Record)) (cs : List (Whole Record)) (r : Receiving Record) (c : Whole Record) (rs' : List (Receiving Record)) (cs' : List (Whole Record)) →
+    rs ≡ r ∷ rs' → cs ≡ c ∷ cs' → (HasEnded r.progress → (r.items ≡ c.items) × (r.progress ≡ Ended c.end)) →
+    (All (λ x. HasEnded x.progress) rs' → map received_input rs' ≡ map sent_input cs') →
+    All (λ x. HasEnded x.progress) rs → map received_input rs ≡ map sent_input cs
+all_met rs cs r c rs' cs' rs_is cs_is here there all =
+    let ended : HasEnded r.progress = all_first (λ (x : Receiving Record). HasEnded x.progress) rs r rs' rs_is all in
+    let first = met_input r c (here ended).0 (here ended).1 in
+    let rest = there (all_rest (λ (x : Receiving Record). HasEnded x.progress) rs r rs' rs_is all) in
+    let whole : map received_input (r ∷ rs') ≡ map sent_input (c ∷ cs') = cc (first, rest) in
+    ap (λ (xs : List (Receiving Record)). map received_input xs) rs_is ∙ (whole ∙ sym (ap (λ (xs : List (Whole Record)). map sent_input xs) cs_is))

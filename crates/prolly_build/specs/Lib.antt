@@ -5,3 +5,4 @@ pub mod Workers
 pub mod Ran
 pub mod Merging
 pub mod Feeding
+pub mod Gathering

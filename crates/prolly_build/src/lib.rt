@@ -5,6 +5,7 @@ mod config;
 mod ending;
 mod forks;
 mod fronts;
+mod gathering;
 mod halt;
 mod links;
 mod load_all;

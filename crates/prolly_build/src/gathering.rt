@@ -1,0 +1,136 @@
+//! The last merger, and all workers below it.
+ghost use Rattle.std.specs.Prelude.{◌≡◌, ◌+◌, ◌<◌, ◌≤◌, [], All, map, vec_len, vec_capacity, IsTrue, IfOk, IfErr};
+ghost use Rattle.prolly_link.specs.Receipts.{HasEnded};
+ghost use Rattle.prolly_build.specs.Writing.{Sunk};
+ghost use Rattle.prolly_build.specs.Ran.{IsWritten, IsUnsent, IsUnread};
+ghost use Rattle.prolly_build.specs.Merging.{received_input, sent_input};
+ghost use Rattle.prolly_build.specs.Gathering.{IsGathered};
+ghost use Rattle.prolly_build.specs.declared.halt.Halt.TheVariants.{NoThread};
+
+use crate::fronts::pop_first;
+use crate::halt::{Halt, close_all, refuse};
+use crate::links::has_met;
+use crate::merge_tree::{Fork, merge_tree};
+use crate::mergers::{LastEnds, start_last};
+use crate::permit::Permit;
+use crate::site::Site;
+use crate::writing::Wrote;
+use prolly_chunk::ChunkEvent;
+use prolly_entry::{Pair, Record};
+use prolly_file::{Sink, Source};
+use prolly_link::{BatchReceiver, BatchSender, ClosedBatch, End, RunFault};
+use prolly_stage::{Gate, Worker};
+use std::sync::Wait;
+use std::thread::Threads;
+
+/// The links below the last merger, and the room for the closed ends of those into it.
+#[derive(Drop)]
+pub(crate) struct Feed {
+    /// How many files there are.
+    pub files: usize,
+    /// The links into the lower mergers.
+    pub forks: Vec<Fork>,
+    /// Both ends of the links into the last merger, apart.
+    pub outs: Vec<BatchSender<Record>>,
+    pub inputs: Vec<BatchReceiver<Record>>,
+    /// Where the closed ends of `outs` come back.
+    pub closed: Vec<ClosedBatch<Record>>,
+    ghost each: { vec_len outs + vec_len forks ≡ files },
+    ghost two: { 0 < vec_len forks → 2 ≤ vec_len outs },
+    ghost room: { (closed.items ≡ []) × (files ≤ vec_capacity closed) × (files ≤ vec_capacity outs) },
+    ghost unsent: { All IsUnsent outs.items },
+    ghost unread: { All IsUnread inputs.items },
+    ghost paired: { map (λ o. o.link) outs.items ≡ map (λ r. r.link) inputs.items },
+}
+
+/// What the workers up to the last merger gave back: its closed output, how many pairs it sent, and what
+/// the writer gave.
+#[derive(Drop)]
+pub(crate) struct Gathered {
+    pub out: ClosedBatch<Pair>,
+    pub pairs: u64,
+    pub wrote: Wrote,
+}
+
+/// Meets the ends of each link. `false` where a receiver has lost its sender.
+fn all_have_met<R: Wait>(
+    rt: &R,
+    closed: Vec<ClosedBatch<Record>>,
+    inputs: Vec<BatchReceiver<Record>>,
+) -> bool
+    requires { map (λ c. c.link) closed.items ≡ map (λ r. r.link) inputs.items }
+    ensures { IsTrue result → All (λ r. HasEnded r.progress) inputs.items → map received_input inputs.items ≡ map sent_input closed.items }
+{
+    let mut closed = closed;
+    let mut inputs = inputs;
+    match (pop_first(&mut closed), pop_first(&mut inputs)) {
+        (Some(sender), Some(receiver)) => {
+            let first = has_met(rt, sender, receiver);
+            let others = all_have_met(rt, closed, inputs);
+            first && others
+        }
+        _ => true,
+    }
+}
+
+/// Starts the last merger, then all workers below it, writes, joins them, and meets their links.
+pub(crate) fn gather<
+    's,
+    E,
+    R: Wait + Threads + Sync,
+    G: Gate,
+    P: Permit,
+    S: Source + Send + Drop + 's,
+    W: Sink,
+>(
+    site: &Site<'s, '_, E, R, G, P>,
+    feed: Feed,
+    out: BatchSender<Pair>,
+    sources: &mut Vec<S>,
+    last: BatchReceiver<ChunkEvent>,
+    sink: &mut W,
+) -> Result<Gathered, Halt>
+    requires files { (feed.files ≡ vec_len sources.old) × (vec_len sources.old ≤ 16) }
+    requires unsent { out.items ≡ [] }
+    requires unread { last.items ≡ [] }
+    ensures link { IfOk result (λ gathered. gathered.out.link ≡ out.link) }
+    ensures written { IfOk result (λ gathered. IsWritten site.now.config last
+        (record { is_keeping = W.is_keeping sink.old; taken = W.taken sink.old; failures = W.failures sink.old })
+        (record { is_keeping = W.is_keeping sink.new; taken = W.taken sink.new; failures = W.failures sink.new }) gathered.wrote) }
+    ensures gathered { IfOk result (λ gathered. IsGathered S.is_honest S.left S.failures site.now.config.max_records
+        sources.old.items sources.new.items gathered.out.items gathered.out.end gathered.pairs) }
+    ensures refused { IfErr result (λ halt. halt ≡ NoThread → sink.new ≡ sink.old) }
+{
+    let Feed {
+        files: _,
+        forks,
+        outs,
+        inputs,
+        closed,
+    } = feed;
+    let number = forks.len() as u32;
+    if !site.permit.may_start(Worker::Merger(number)) {
+        let _ = out.close(site.rt, End::Fault(RunFault::NoThread));
+        close_all(site.rt, outs);
+        return Err(refuse(site.rt, last));
+    }
+    let Some(handle) = start_last(
+        site.scope, site.rt, site.alloc, site.gate, number, inputs, out,
+    ) else {
+        close_all(site.rt, outs);
+        return Err(refuse(site.rt, last));
+    };
+    let mut closed = closed;
+    let wrote = merge_tree(site, forks, outs, sources, &mut closed, last, sink);
+    let LastEnds { inputs, out, pairs } = handle.join(site.rt);
+    match wrote {
+        Ok(wrote) => {
+            if all_have_met(site.rt, closed, inputs) {
+                Ok(Gathered { out, pairs, wrote })
+            } else {
+                Err(Halt::Lost)
+            }
+        }
+        Err(halt) => Err(halt),
+    }
+}
