@@ -5,3 +5,4 @@ pub mod RanSteps
 pub mod FirstOnes
 pub mod MergingSteps
 pub mod FeedingSteps
+pub mod StagingSteps

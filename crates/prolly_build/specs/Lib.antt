@@ -6,3 +6,4 @@ pub mod Ran
 pub mod Merging
 pub mod Feeding
 pub mod Gathering
+pub mod Staging

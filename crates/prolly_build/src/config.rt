@@ -4,7 +4,7 @@ ghost use Rattle.prolly_entry.specs.Version.{version_byte};
 ghost use Rattle.prolly_build.specs.Settings.{first_settings, IsOutside, IsConfigFault};
 ghost use Rattle.prolly_build.specs.declared.config.ConfigFault.TheVariants.{BadBatch, BadVersion};
 
-use prolly_entry::Version;
+use prolly_entry::{Sha512Cut, Version};
 use std::marker::Model;
 use thiserror::Error;
 
@@ -135,6 +135,27 @@ impl Config {
         ensures { result ≡ self.now.max_records }
     {
         self.max_records
+    }
+
+    /// The cut of its bits.
+    pub(crate) fn cut(&self) -> Sha512Cut
+        ensures { result ≡ self.now.bits }
+    {
+        Sha512Cut::new(self.bits).unwrap()
+    }
+
+    /// How many messages a link holds.
+    pub(crate) fn capacity(&self) -> usize
+        ensures { (1 ≤ result) × (result ≤ 4096) }
+    {
+        self.capacity as usize
+    }
+
+    /// How many items a message has at most.
+    pub(crate) fn batch(&self) -> usize
+        ensures { (1 ≤ result) × (result ≤ 1024) }
+    {
+        self.batch as usize
     }
 }
 

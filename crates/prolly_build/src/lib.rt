@@ -17,6 +17,7 @@ mod place;
 mod report;
 mod site;
 mod stages;
+mod tower;
 mod writer;
 mod writing;
 

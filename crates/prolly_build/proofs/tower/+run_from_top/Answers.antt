@@ -1,0 +1,13 @@
+use Rattle.std.proofs.Common.{◌∙◌, vec_len, arith}
+use Rattle.prolly_build.proofs.StagingSteps.{nodes_staged}
+use Rattle.prolly_build.proofs.tower.+run_from_top.Goals as goal
+
+pub returns-then-has_met-clause-staged : goal.returns-then-has_met-clause-staged
+returns-then-has_met-clause-staged g t c =
+    nodes_staged g.S.Source.is_honest g.S.Source.left g.S.Source.failures c.args.site.now.config _ _ _
+    (vec_len c.pop.new.self) c.in-Some-start_nodes.handle.promise.level (vec_len c.args.events) _ _
+    (c.in-Some-start_nodes.ensures.level ∙ (omega (arith, c.len.ensures)))
+    (omega (arith, c.in-Some.ensures.cases))
+    (c.in-Some-start_nodes.ensures.cut.0 ∙ c.cut-cut.ensures) (c.in-Some-start_nodes.ensures.cut.1 ∙ c.version-version.ensures)
+    _ _ c.join-input.result.input c.join-input.result.out c.in-Ok.ran.out c.in-Ok.ensures.staged c.join-input.ensures
+    (c.has_met.ensures c.if-has_met.true c.join-input.ensures.has_ended)

@@ -1,0 +1,19 @@
+use Rattle.std.proofs.Common.{ap, ◌∙◌, sym}
+use Rattle.prolly_build.proofs.StagingSteps.{leaves_staged}
+use Rattle.prolly_build.proofs.tower.run_from_leaves.Goals as goal
+
+pub has_met-requires : goal.has_met-requires
+has_met-requires g c =
+    let stage = c.join-input.ensures c.args.site.now.config.version in
+    c.in-Ok.ensures.link ∙ (c.args.pairs.paired ∙ sym (stage.reads ∙ ap (λ r. r.link) c.in-Some.ensures.input))
+
+pub returns-then-has_met-clause-link : goal.returns-then-has_met-clause-link
+returns-then-has_met-clause-link g c =
+    let stage = c.join-input.ensures c.args.site.now.config.version in
+    stage.writes ∙ ap (λ o. o.link) c.in-Some.ensures.out
+
+pub returns-then-has_met-clause-staged : goal.returns-then-has_met-clause-staged
+returns-then-has_met-clause-staged g c =
+    let stage = c.join-input.ensures c.args.site.now.config.version in
+    leaves_staged g.S.Source.is_honest g.S.Source.left g.S.Source.failures c.args.site.now.config _ _ _ _ (c.in-Some.ensures.cut ∙ c.cut-cut.ensures)
+    _ _ c.join-input.result.input c.join-input.result.out c.in-Ok.gathered.out c.in-Ok.ensures.gathered stage (c.has_met.ensures c.if-has_met.true stage.has_ended)

@@ -1,0 +1,156 @@
+//! The stages, one above the other, and all workers below them.
+ghost use Rattle.std.specs.Prelude.{◌≡◌, ◌<◌, ◌≤◌, [], vec_len, IfOk, IfErr};
+ghost use Rattle.prolly_build.specs.Writing.{Sunk};
+ghost use Rattle.prolly_build.specs.Ran.{IsWritten};
+ghost use Rattle.prolly_build.specs.Staging.{HasStaged};
+ghost use Rattle.prolly_build.specs.declared.halt.Halt.TheVariants.{NoThread};
+
+use crate::gathering::{Feed, Gathered, gather};
+use crate::halt::{Halt, refuse};
+use crate::links::{NewLink, has_met};
+use crate::permit::Permit;
+use crate::site::Site;
+use crate::stages::{StageEnds, start_leaves, start_nodes};
+use crate::writing::Wrote;
+use prolly_chunk::ChunkEvent;
+use prolly_entry::Pair;
+use prolly_file::{Sink, Source};
+use prolly_link::{BatchReceiver, BatchSender, ClosedBatch, End, RunFault};
+use prolly_stage::{Gate, Worker};
+use std::sync::Wait;
+use std::thread::Threads;
+
+/// What the workers up to a stage gave back: its closed output, how many pairs the last merger sent, and
+/// what the writer gave.
+#[derive(Drop)]
+pub(crate) struct Ran {
+    pub out: ClosedBatch<ChunkEvent>,
+    pub pairs: u64,
+    pub wrote: Wrote,
+}
+
+/// Starts the stage of the leaves, then all workers below it, writes, joins it, and meets the link into it.
+fn run_from_leaves<
+    's,
+    E,
+    R: Wait + Threads + Sync,
+    G: Gate,
+    P: Permit,
+    S: Source + Send + Drop + 's,
+    W: Sink,
+>(
+    site: &Site<'s, '_, E, R, G, P>,
+    pairs: NewLink<Pair>,
+    feed: Feed,
+    out: BatchSender<ChunkEvent>,
+    sources: &mut Vec<S>,
+    last: BatchReceiver<ChunkEvent>,
+    sink: &mut W,
+) -> Result<Ran, Halt>
+    requires files { (feed.files ≡ vec_len sources.old) × (vec_len sources.old ≤ 16) }
+    requires unsent { out.items ≡ [] }
+    requires unread { last.items ≡ [] }
+    ensures link { IfOk result (λ ran. ran.out.link ≡ out.link) }
+    ensures written { IfOk result (λ ran. IsWritten site.now.config last
+        (record { is_keeping = W.is_keeping sink.old; taken = W.taken sink.old; failures = W.failures sink.old })
+        (record { is_keeping = W.is_keeping sink.new; taken = W.taken sink.new; failures = W.failures sink.new }) ran.wrote) }
+    ensures staged { IfOk result (λ ran. HasStaged S.is_honest S.left S.failures site.now.config 0 sources.old.items sources.new.items ran.out.items ran.out.end ran.pairs) }
+    ensures refused { IfErr result (λ halt. halt ≡ NoThread → sink.new ≡ sink.old) }
+{
+    let NewLink { sender, receiver } = pairs;
+    if !site.permit.may_start(Worker::Stage(0)) {
+        let _ = out.close(site.rt, End::Fault(RunFault::NoThread));
+        return Err(refuse(site.rt, last));
+    }
+    let cut = site.config.cut();
+    let Some(handle) = start_leaves(
+        site.scope, site.rt, site.alloc, site.gate, cut, receiver, out,
+    ) else {
+        return Err(refuse(site.rt, last));
+    };
+    let gathered = gather(site, feed, sender, sources, last, sink);
+    let StageEnds { input, out } = handle.join(site.rt);
+    match gathered {
+        Ok(gathered) => {
+            let Gathered {
+                out: sent,
+                pairs,
+                wrote,
+            } = gathered;
+            if has_met(site.rt, sent, input) {
+                Ok(Ran { out, pairs, wrote })
+            } else {
+                Err(Halt::Lost)
+            }
+        }
+        Err(halt) => Err(halt),
+    }
+}
+
+/// Starts a stage of nodes for each link, the highest one first, then all workers below them, writes, joins
+/// the stages, and meets the links into them. The output is that of the highest stage, whose level is the
+/// number of the links.
+pub(crate) fn run_from_top<
+    's,
+    E,
+    R: Wait + Threads + Sync,
+    G: Gate,
+    P: Permit,
+    S: Source + Send + Drop + 's,
+    W: Sink,
+>(
+    site: &Site<'s, '_, E, R, G, P>,
+    events: Vec<NewLink<ChunkEvent>>,
+    pairs: NewLink<Pair>,
+    feed: Feed,
+    out: BatchSender<ChunkEvent>,
+    sources: &mut Vec<S>,
+    last: BatchReceiver<ChunkEvent>,
+    sink: &mut W,
+) -> Result<Ran, Halt>
+    requires levels { vec_len events < 12 }
+    requires files { (feed.files ≡ vec_len sources.old) × (vec_len sources.old ≤ 16) }
+    requires unsent { out.items ≡ [] }
+    requires unread { last.items ≡ [] }
+    ensures link { IfOk result (λ ran. ran.out.link ≡ out.link) }
+    ensures written { IfOk result (λ ran. IsWritten site.now.config last
+        (record { is_keeping = W.is_keeping sink.old; taken = W.taken sink.old; failures = W.failures sink.old })
+        (record { is_keeping = W.is_keeping sink.new; taken = W.taken sink.new; failures = W.failures sink.new }) ran.wrote) }
+    ensures staged { IfOk result (λ ran. HasStaged S.is_honest S.left S.failures site.now.config (vec_len events) sources.old.items sources.new.items ran.out.items ran.out.end ran.pairs) }
+    ensures refused { IfErr result (λ halt. halt ≡ NoThread → sink.new ≡ sink.old) }
+{
+    let mut events = events;
+    let Some(link) = events.pop() else {
+        return run_from_leaves(site, pairs, feed, out, sources, last, sink);
+    };
+    let level = events.len() as u8 + 1;
+    let NewLink { sender, receiver } = link;
+    if !site.permit.may_start(Worker::Stage(u32::from(level))) {
+        let _ = out.close(site.rt, End::Fault(RunFault::NoThread));
+        return Err(refuse(site.rt, last));
+    }
+    let cut = site.config.cut();
+    let version = site.config.version();
+    let Some(handle) = start_nodes(
+        site.scope, site.rt, site.alloc, site.gate, level, cut, version, receiver, out,
+    ) else {
+        return Err(refuse(site.rt, last));
+    };
+    let ran = run_from_top(site, events, pairs, feed, sender, sources, last, sink);
+    let StageEnds { input, out } = handle.join(site.rt);
+    match ran {
+        Ok(ran) => {
+            let Ran {
+                out: sent,
+                pairs,
+                wrote,
+            } = ran;
+            if has_met(site.rt, sent, input) {
+                Ok(Ran { out, pairs, wrote })
+            } else {
+                Err(Halt::Lost)
+            }
+        }
+        Err(halt) => Err(halt),
+    }
+}
