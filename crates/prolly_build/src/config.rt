@@ -125,7 +125,8 @@ impl Config {
 
     /// The level of the last stage.
     pub(crate) fn last_level(&self) -> u8
-        ensures { result ≡ self.now.stages - 1 }
+        ensures value { result ≡ self.now.stages - 1 }
+        ensures range { (1 ≤ self.now.stages) × (self.now.stages ≤ 12) }
     {
         self.stages - 1
     }

@@ -15,6 +15,7 @@ mod mergers;
 mod permit;
 mod place;
 mod report;
+mod rings;
 mod site;
 mod stages;
 mod tower;

@@ -1,12 +1,13 @@
 //! The links of a build, before the workers have them and after they have given them back.
-ghost use Rattle.std.specs.Prelude.{◌≡◌, ◌≤◌, [], IsTrue};
+ghost use Rattle.std.specs.Prelude.{◌≡◌, [], IsTrue};
 ghost use Rattle.prolly_link.specs.Receipts.{HasEnded};
 ghost use Rattle.prolly_link.specs.declared.progress.Progress.TheVariants.{Open, Ended};
 
+use crate::config::Config;
 use prolly_link::{
     BatchDrained, BatchReceiver, BatchSender, ClosedBatch, LinkFault, batch_link, meet_batches,
 };
-use std::alloc::Global;
+use std::alloc::{AllocError, Global};
 use std::sync::Wait;
 
 /// Both ends of a link over which nothing went yet.
@@ -19,18 +20,14 @@ pub(crate) struct NewLink<T> {
     ghost unreceived: { (receiver.items ≡ []) × (receiver.progress ≡ Open) },
 }
 
-/// A new link, with room for so many messages of at most so many items.
+/// A new link, with room for as many messages, and messages of as many items, as the build is set to.
 pub(crate) fn new_link<T: Send + Drop>(
     alloc: Global,
-    capacity: usize,
-    batch: usize,
-) -> Result<NewLink<T>, LinkFault>
-    requires capacity { (1 ≤ capacity) × (capacity ≤ 4096) }
-    requires batch { (1 ≤ batch) × (batch ≤ 1024) }
-{
-    match batch_link(alloc, capacity, batch) {
+    config: &Config,
+) -> Result<NewLink<T>, AllocError> {
+    match batch_link(alloc, config.capacity(), config.batch()) {
         Ok((sender, receiver)) => Ok(NewLink { sender, receiver }),
-        Err(fault) => Err(fault),
+        Err(LinkFault::Memory) => Err(AllocError),
     }
 }
 
