@@ -94,7 +94,7 @@ filter_above t x (r ∷ m) h = go (t r.key) (filter_above t x m h.1)
     go true k = (h.0, k)
     go false k = k
 
-filter_rising : (t : List ℕ → Bool) (m : List Record) → IsRising m → IsRising (filter (λ r. t r.key) m)
+pub filter_rising : (t : List ℕ → Bool) (m : List Record) → IsRising m → IsRising (filter (λ r. t r.key) m)
 filter_rising t [] h = tt
 filter_rising t (r ∷ m) h = go (t r.key) (filter_rising t m h.1)
   where

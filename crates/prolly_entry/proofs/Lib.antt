@@ -11,6 +11,7 @@ pub mod Spellings
 pub mod Sizes
 pub mod Overlays
 pub mod Joins
+pub mod MergedParts
 pub mod Steps
 pub mod Orders
 pub mod Roots

@@ -14,6 +14,7 @@ pub mod NextRecord
 pub mod Overlay
 pub mod RecordList
 pub mod Merge
+pub mod MergedParts
 pub mod LookUp
 pub mod Split
 pub mod Tree

@@ -1,6 +1,7 @@
 //! Overlays of lists of records, and merging them.
 ghost use Rattle.prolly_entry.specs.Overlay.{OneRawOverlay, OverlayIsMap, DivisionKeepsOverlay, OverlayStep};
 ghost use Rattle.prolly_entry.specs.Merge.{NeighboursMergeFirst};
+ghost use Rattle.prolly_entry.specs.MergedParts.{MergedPartRises, OverlayIsSmall};
 
 /// Lists with rising keys have one overlay.
 pub fn lists_have_one_overlay()
@@ -25,4 +26,14 @@ pub fn neighbours_merge_first<Fault>()
 /// An overlay goes on key by key.
 pub fn overlays_go_on()
     ensures { OverlayStep }
+{}
+
+/// Merged parts rise, whatever the inputs.
+pub fn merged_parts_rise<Fault>()
+    ensures { MergedPartRises Fault }
+{}
+
+/// An overlay has at most as many pairs as its lists have records.
+pub fn overlays_are_small()
+    ensures { OverlayIsSmall }
 {}
