@@ -6,3 +6,5 @@ pub mod FirstOnes
 pub mod MergingSteps
 pub mod FeedingSteps
 pub mod StagingSteps
+pub mod Mergings
+pub mod Loads

@@ -7,3 +7,4 @@ pub mod Merging
 pub mod Feeding
 pub mod Gathering
 pub mod Staging
+pub mod Built

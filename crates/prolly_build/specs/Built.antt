@@ -1,0 +1,66 @@
+-- What a build has made of its sources.
+use Rattle.std.specs.Prelude.{◌≡◌, ◌≤◌, ℕ, Bool, true, List, [], ◌∷◌, ◌++◌, length, None}
+use Rattle.prolly_entry.specs.Chunk.{chunks}
+use Rattle.prolly_entry.specs.Cut.{sha512_cut}
+use Rattle.prolly_entry.specs.File.{file, root_reference}
+use Rattle.prolly_entry.specs.Overlay.{overlay}
+use Rattle.prolly_entry.specs.Pair.{Pair}
+use Rattle.prolly_entry.specs.Reading.{IsReading}
+use Rattle.prolly_entry.specs.Record.{Record}
+use Rattle.prolly_entry.specs.Tree.{level_count}
+use Rattle.prolly_link.specs.declared.fault.RunFault.{RunFault}
+use Rattle.prolly_link.specs.declared.fault.RunFault.TheVariants as faults
+use Rattle.prolly_build.specs.declared.report.Report.{Report}
+use Rattle.prolly_build.specs.Settings.{Settings}
+use Rattle.prolly_build.specs.Writing.{Sunk}
+
+module _ {S : Type 0} (is_honest : S → Bool) (left : S → List ℕ) (failures : S → ℕ) where
+  -- No read of the source failed, and the bytes that it had left are these records, one after another, and nothing else.
+  pub record IsRead (limit : ℕ) (before after : S) (good : List Record) : Type 0 where
+    pub reading : is_honest before ≡ true → IsReading (left before) limit good None
+    pub unfailed : failures after ≡ failures before
+
+  -- So it is with each source, in its place.
+  abbrev pub AreRead : ℕ → List S → List S → List (List Record) → Type 0
+  AreRead limit [] [] [] = Unit {0}
+  AreRead limit (s ∷ ss) (t ∷ ts) (g ∷ gs) = IsRead limit s t g × AreRead limit ss ts gs
+  AreRead limit _ _ _ = ⊥
+
+  -- The source is there as its loader left it: behind some bytes that it handed out are those that it has left.
+  pub record IsKept (before after : S) : Type 0 where
+    pub honest : is_honest before ≡ true → is_honest after ≡ true
+    pub handed : List ℕ
+    pub rest : is_honest before ≡ true → left before ≡ handed ++ left after
+
+  -- The sources are there, each in its place.
+  abbrev pub AreKept : List S → List S → Type 0
+  AreKept [] [] = Unit {0}
+  AreKept (s ∷ ss) (t ∷ ts) = IsKept s t × AreKept ss ts
+  AreKept _ _ = ⊥
+
+  -- The sink took the chunk file of a map, and the report is that of its tree, which has no more levels than there are stages.
+  pub record IsFileOf (settings : Settings) (m : List Pair) (old new : Sunk) (report : Report) : Type 0 where
+    pub stages : level_count (sha512_cut settings.bits) settings.version m ≤ settings.stages
+    pub taken : old.is_keeping ≡ true → new.taken ≡ old.taken ++ file (sha512_cut settings.bits) settings.version m
+    pub unfailed : new.failures ≡ old.failures
+    pub root : report.root.0 ≡ root_reference (sha512_cut settings.bits) settings.version m
+    pub chunks_are : report.chunks ≡ length (chunks (sha512_cut settings.bits) settings.version m)
+    pub pairs : report.pairs ≡ length m
+    pub levels : report.levels ≡ level_count (sha512_cut settings.bits) settings.version m
+
+  -- The sources were read, each to its end, and the file of the overlay of their records was made.
+  pub record IsBuilt (settings : Settings) (before after : List S) (old new : Sunk) (report : Report) : Type 0 where
+    pub goods : List (List Record)
+    pub read : AreRead settings.max_records before after goods
+    pub made : IsFileOf settings (overlay goods) old new report
+
+-- A fault of a record file, or want of memory.
+abbrev pub IsInputFault : RunFault → Type 0
+IsInputFault faults.Memory = Unit {0}
+IsInputFault (faults.Read f) = Unit {0}
+IsInputFault (faults.Truncated f place) = Unit {0}
+IsInputFault (faults.KeyTooLong f place) = Unit {0}
+IsInputFault (faults.ValueTooLong f place) = Unit {0}
+IsInputFault (faults.OutOfOrder f place) = Unit {0}
+IsInputFault (faults.TooManyRecords f) = Unit {0}
+IsInputFault _ = ⊥
