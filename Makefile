@@ -15,7 +15,7 @@ check:
 
 # Proves and builds the program, and runs it once: the root of the empty map.
 prolly:
-	cd crates/prolly && rt run
+	cd crates/prolly && rt run -- scratch --bits 0 < stdin
 
 # From a text to a root.
 demo: prolly

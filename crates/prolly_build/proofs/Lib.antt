@@ -8,3 +8,4 @@ pub mod FeedingSteps
 pub mod StagingSteps
 pub mod Mergings
 pub mod Loads
+pub mod Makings

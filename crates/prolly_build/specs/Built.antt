@@ -1,18 +1,41 @@
 -- What a build has made of its sources.
-use Rattle.std.specs.Prelude.{◌≡◌, ◌≤◌, ℕ, Bool, true, List, [], ◌∷◌, ◌++◌, length, None}
-use Rattle.prolly_entry.specs.Chunk.{chunks}
+use Rattle.std.specs.Prelude.{◌≡◌, ◌≤◌, ℕ, Bool, true, List, [], ◌∷◌, ◌++◌, length, None, ◌-◌}
+use Rattle.prolly_entry.specs.Chunk.{Chunk, chunks}
 use Rattle.prolly_entry.specs.Cut.{sha512_cut}
 use Rattle.prolly_entry.specs.File.{file, root_reference}
+use Rattle.prolly_entry.specs.Events.{clean}
 use Rattle.prolly_entry.specs.Overlay.{overlay}
 use Rattle.prolly_entry.specs.Pair.{Pair}
+use Rattle.prolly_entry.specs.Pipeline.{pipeline_events}
 use Rattle.prolly_entry.specs.Reading.{IsReading}
 use Rattle.prolly_entry.specs.Record.{Record}
 use Rattle.prolly_entry.specs.Tree.{level_count}
+use Rattle.prolly_link.specs.declared.fault.End.{End}
+use Rattle.prolly_link.specs.declared.fault.End.TheVariants.{Clean, Fault}
 use Rattle.prolly_link.specs.declared.fault.RunFault.{RunFault}
 use Rattle.prolly_link.specs.declared.fault.RunFault.TheVariants as faults
 use Rattle.prolly_build.specs.declared.report.Report.{Report}
 use Rattle.prolly_build.specs.Settings.{Settings}
 use Rattle.prolly_build.specs.Writing.{Sunk}
+
+-- The sink took the chunk file of a map, and the report is that of its tree, which has no more levels than there are stages.
+pub record IsFileOf (settings : Settings) (m : List Pair) (old new : Sunk) (report : Report) : Type 0 where
+  pub stages : level_count (sha512_cut settings.bits) settings.version m ≤ settings.stages
+  pub taken : old.is_keeping ≡ true → new.taken ≡ old.taken ++ file (sha512_cut settings.bits) settings.version m
+  pub unfailed : new.failures ≡ old.failures
+  pub root : report.root.0 ≡ root_reference (sha512_cut settings.bits) settings.version m
+  pub chunks_are : report.chunks ≡ length (chunks (sha512_cut settings.bits) settings.version m)
+  pub pairs : report.pairs ≡ length m
+  pub levels : report.levels ≡ level_count (sha512_cut settings.bits) settings.version m
+
+-- What the stages sent, where it ended clean: what they make of a map, which is small, and whose pairs were counted.
+pub record IsCleanRun (settings : Settings) (m : List Pair) (events : List Chunk) (count : ℕ) : Type 0 where
+  pub few : length m ≤ 268435456
+  pub sent : events ≡ pipeline_events (settings.stages - 1) (sha512_cut settings.bits) settings.version clean m
+  pub counted : count ≡ length m
+
+abbrev pub IsRunOf : Settings → List Pair → List Chunk → End → ℕ → Type 0
+IsRunOf settings m events end count = end ≡ Clean → IsCleanRun settings m events count
 
 module _ {S : Type 0} (is_honest : S → Bool) (left : S → List ℕ) (failures : S → ℕ) where
   -- No read of the source failed, and the bytes that it had left are these records, one after another, and nothing else.
@@ -38,16 +61,6 @@ module _ {S : Type 0} (is_honest : S → Bool) (left : S → List ℕ) (failures
   AreKept (s ∷ ss) (t ∷ ts) = IsKept s t × AreKept ss ts
   AreKept _ _ = ⊥
 
-  -- The sink took the chunk file of a map, and the report is that of its tree, which has no more levels than there are stages.
-  pub record IsFileOf (settings : Settings) (m : List Pair) (old new : Sunk) (report : Report) : Type 0 where
-    pub stages : level_count (sha512_cut settings.bits) settings.version m ≤ settings.stages
-    pub taken : old.is_keeping ≡ true → new.taken ≡ old.taken ++ file (sha512_cut settings.bits) settings.version m
-    pub unfailed : new.failures ≡ old.failures
-    pub root : report.root.0 ≡ root_reference (sha512_cut settings.bits) settings.version m
-    pub chunks_are : report.chunks ≡ length (chunks (sha512_cut settings.bits) settings.version m)
-    pub pairs : report.pairs ≡ length m
-    pub levels : report.levels ≡ level_count (sha512_cut settings.bits) settings.version m
-
   -- The sources were read, each to its end, and the file of the overlay of their records was made.
   pub record IsBuilt (settings : Settings) (before after : List S) (old new : Sunk) (report : Report) : Type 0 where
     pub goods : List (List Record)
@@ -64,3 +77,14 @@ IsInputFault (faults.ValueTooLong f place) = Unit {0}
 IsInputFault (faults.OutOfOrder f place) = Unit {0}
 IsInputFault (faults.TooManyRecords f) = Unit {0}
 IsInputFault _ = ⊥
+
+-- An end that the workers of a build may send.
+abbrev pub IsInputEnd : End → Type 0
+IsInputEnd Clean = Unit {0}
+IsInputEnd (Fault fault) = IsInputFault fault
+
+-- A fault of a build that started nothing.
+abbrev pub IsStartFault : RunFault → Type 0
+IsStartFault faults.NoThread = Unit {0}
+IsStartFault faults.TooManyFiles = Unit {0}
+IsStartFault _ = ⊥

@@ -1,7 +1,7 @@
 //! What a build is set to.
 ghost use Rattle.std.specs.Prelude.{◌≡◌, ◌≢◌, ◌<◌, ◌≤◌, ◌-◌, IfOk, IfErr};
 ghost use Rattle.prolly_entry.specs.Version.{version_byte};
-ghost use Rattle.prolly_build.specs.Settings.{first_settings, IsOutside, IsConfigFault};
+ghost use Rattle.prolly_build.specs.Settings.{AreLawful, first_settings, IsOutside, IsConfigFault};
 ghost use Rattle.prolly_build.specs.declared.config.ConfigFault.TheVariants.{BadBatch, BadVersion};
 
 use prolly_entry::{Sha512Cut, Version};
@@ -150,6 +150,13 @@ impl Config {
         ensures { (1 ≤ result) × (result ≤ 4096) }
     {
         self.capacity as usize
+    }
+
+    /// Does nothing: that its numbers are within their ranges is known of every value.
+    pub(crate) fn know_ranges(&self)
+        ensures { AreLawful self.now }
+    {
+        let _ = &self.bits;
     }
 
     /// How many items a message has at most.

@@ -3,6 +3,7 @@
 
 mod config;
 mod ending;
+mod finishing;
 mod forks;
 mod fronts;
 mod gathering;

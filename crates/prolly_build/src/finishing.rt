@@ -1,0 +1,48 @@
+//! What a build does once its workers have been joined.
+ghost use Rattle.std.specs.Prelude.{◌≡◌, ◌-◌, ℕ, List, IfOk, IfErr};
+ghost use Rattle.prolly_entry.specs.File.{header};
+ghost use Rattle.prolly_entry.specs.Pair.{Pair as PairValue};
+ghost use Rattle.prolly_link.specs.Receipts.{HasEnded, end_given};
+ghost use Rattle.prolly_build.specs.Settings.{AreLawful};
+ghost use Rattle.prolly_build.specs.Writing.{Sunk, HasWritten};
+ghost use Rattle.prolly_build.specs.Built.{IsRunOf, IsFileOf, IsInputEnd, IsStartFault};
+
+use crate::config::Config;
+use crate::ending::end_build;
+use crate::links::has_met;
+use crate::report::Report;
+use crate::tower::Ran;
+use crate::writing::Wrote;
+use prolly_file::Sink;
+use prolly_link::RunFault;
+use std::sync::Wait;
+
+/// Meets the last link, and then ends the file.
+pub(crate) fn finish<R: Wait, W: Sink>(
+    rt: &R,
+    config: Config,
+    ran: Ran,
+    sink: &mut W,
+) -> Result<Report, RunFault>
+    requires lawful { AreLawful config }
+    requires link { ran.out.link ≡ ran.wrote.last.link }
+    requires ended { HasEnded ran.wrote.last.progress }
+    requires end { ran.wrote.end ≡ end_given ran.wrote.last.progress }
+    requires run { (m : List PairValue) × IsRunOf config m ran.out.items ran.out.end ran.pairs }
+    requires faults { IsInputEnd ran.out.end }
+    requires written { (old : Sunk) × HasWritten (header config.version config.bits) (config.stages - 1) ran.wrote.last.items old
+        (record { is_keeping = W.is_keeping sink.old; taken = W.taken sink.old; failures = W.failures sink.old }) ran.wrote.written }
+    ensures ok { (m : List PairValue) (old : Sunk) → IsRunOf config m ran.out.items ran.out.end ran.pairs →
+        HasWritten (header config.version config.bits) (config.stages - 1) ran.wrote.last.items old
+        (record { is_keeping = W.is_keeping sink.old; taken = W.taken sink.old; failures = W.failures sink.old }) ran.wrote.written →
+        IfOk result (IsFileOf config m old (record { is_keeping = W.is_keeping sink.new; taken = W.taken sink.new; failures = W.failures sink.new })) }
+    ensures err { IfErr result (λ fault. IsStartFault fault → ⊥) }
+{
+    let Ran { out, pairs, wrote } = ran;
+    let Wrote { last, end, written } = wrote;
+    if has_met(rt, out, last) {
+        end_build(sink, written, end, pairs)
+    } else {
+        Err(RunFault::Lost)
+    }
+}
