@@ -9,3 +9,4 @@ pub mod StagingSteps
 pub mod Mergings
 pub mod Loads
 pub mod Makings
+pub mod Runs

@@ -155,3 +155,8 @@ module _ {S : Type 0} (is_honest : S → Bool) (left : S → List ℕ) (failures
       let rest = all_few (file + 1) ss os ts cs h.1 small in
       let both = length-append c.items (flat_map (λ records. records) (lists_of (map sent_input cs))) in
       omega (arith, one, rest, both, small)
+
+-- sources that nobody read are there
+pub same_kept : {S : Type 0} (is_honest : S → Bool) (left : S → List ℕ) (failures : S → ℕ) (ss : List S) → AreKept is_honest left failures ss ss
+same_kept is_honest left failures [] = tt
+same_kept is_honest left failures (s ∷ ss) = (record { honest = λ h. h; handed = []; rest = λ h. refl }, same_kept is_honest left failures ss)

@@ -154,6 +154,12 @@ module _ {A E : Type 0} where
   if_ok (Ok x) P P' Q f q p = f q x p
   if_ok (Err e) P P' Q f q p = tt
 
-  pub if_err : (r : Result A E) (P P' : E → Type 0) → ((e : E) → P e → P' e) → IfErr r P → IfErr r P'
-  if_err (Ok x) P P' f p = tt
-  if_err (Err e) P P' f p = f e p
+  pub if_ok_any : (r : Result A E) {Q : Type 0} → Q → OnOk r Q
+  if_ok_any (Ok x) q = q
+  if_ok_any (Err e) q = tt
+
+  pub at_ok : (r : Result A E) (P : A → Type 0) (x : A) → r ≡ Ok x → IfOk r P → P x
+  at_ok r P x is h = subst (λ s. IfOk s P) is h
+
+  pub at_err : (r : Result A E) (P : E → Type 0) (e : E) → r ≡ Err e → IfErr r P → P e
+  at_err r P e is h = subst (λ s. IfErr s P) is h

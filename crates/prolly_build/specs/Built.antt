@@ -1,5 +1,5 @@
 -- What a build has made of its sources.
-use Rattle.std.specs.Prelude.{◌≡◌, ◌≤◌, ℕ, Bool, true, List, [], ◌∷◌, ◌++◌, length, None, ◌-◌}
+use Rattle.std.specs.Prelude.{◌≡◌, ◌≢◌, ◌≤◌, ℕ, Bool, true, List, [], ◌∷◌, ◌++◌, length, None, ◌-◌}
 use Rattle.prolly_entry.specs.Chunk.{Chunk, chunks}
 use Rattle.prolly_entry.specs.Cut.{sha512_cut}
 use Rattle.prolly_entry.specs.File.{file, root_reference}
@@ -88,3 +88,14 @@ abbrev pub IsStartFault : RunFault → Type 0
 IsStartFault faults.NoThread = Unit {0}
 IsStartFault faults.TooManyFiles = Unit {0}
 IsStartFault _ = ⊥
+
+-- What is known after a fault: where no worker ran to its end for want of a thread, and where there were too many files, that the sink is
+-- as it was; and after every fault but want of a thread and a lost worker, that the sources are there.
+pub record IsAnswer (untouched kept : Type 0) (fault : RunFault) : Type 0 where
+  pub sink : IsStartFault fault → untouched
+  pub sources : fault ≢ faults.NoThread → fault ≢ faults.Lost → kept
+
+-- So it is where the workers were started, which rules out that there were too many files.
+pub record IsRefusal (untouched kept : Type 0) (fault : RunFault) : Type 0 where
+  pub answer : IsAnswer untouched kept fault
+  pub started : fault ≢ faults.TooManyFiles

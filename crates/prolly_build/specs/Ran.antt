@@ -6,6 +6,10 @@ use Rattle.prolly_entry.specs.File.{header}
 use Rattle.prolly_link.specs.Views.{Receiving, Batching, Whole}
 use Rattle.prolly_link.specs.Receipts.{HasEnded, end_given}
 use Rattle.prolly_link.specs.declared.progress.Progress.TheVariants.{Open}
+use Rattle.prolly_link.specs.declared.fault.RunFault.{RunFault}
+use Rattle.prolly_link.specs.declared.fault.RunFault.TheVariants.{NoThread as NoThread_fault, Lost as Lost_fault}
+use Rattle.prolly_build.specs.declared.halt.Halt.{Halt}
+use Rattle.prolly_build.specs.declared.halt.Halt.TheVariants.{NoThread, Lost}
 use Rattle.prolly_build.specs.Settings.{Settings}
 use Rattle.prolly_build.specs.Writing.{Sunk, HasWritten}
 use Rattle.prolly_build.specs.Workers.{IsLoadedFrom}
@@ -32,3 +36,8 @@ IsUnsent out = out.items ≡ []
 -- Nothing was received yet.
 abbrev pub IsUnread : {T : Type 0} → Receiving T → Type 0
 IsUnread r = (r.items ≡ []) × (r.progress ≡ Open)
+
+-- The fault that a halt becomes.
+abbrev pub IsHaltFault : Halt → RunFault → Type 0
+IsHaltFault NoThread fault = fault ≡ NoThread_fault
+IsHaltFault Lost fault = fault ≡ Lost_fault

@@ -1,5 +1,6 @@
 //! What is done where a worker can't start.
 ghost use Rattle.std.specs.Prelude.{◌≡◌};
+ghost use Rattle.prolly_build.specs.Ran.{IsHaltFault};
 
 use prolly_link::{BatchReceiver, BatchSender, End, RunFault};
 use std::sync::Wait;
@@ -11,6 +12,18 @@ pub(crate) enum Halt {
     NoThread,
     /// A link lost its sender.
     Lost,
+}
+
+impl Halt {
+    /// What the build answers then.
+    pub(crate) fn fault(self) -> RunFault
+        ensures { IsHaltFault self result }
+    {
+        match self {
+            Halt::NoThread => RunFault::NoThread,
+            Halt::Lost => RunFault::Lost,
+        }
+    }
 }
 
 /// Receives the last link to its end, and writes nothing.

@@ -2,6 +2,7 @@
 #![tactic(auto)]
 
 mod config;
+mod driver;
 mod ending;
 mod finishing;
 mod forks;
@@ -24,5 +25,6 @@ mod writer;
 mod writing;
 
 pub use config::{Config, ConfigFault};
+pub use driver::{FILES_LIMIT, build, build_with};
 pub use permit::{AllStart, Permit};
 pub use report::Report;

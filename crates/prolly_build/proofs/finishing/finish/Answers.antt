@@ -1,11 +1,12 @@
 use Rattle.std.proofs.Common.{◌≡◌, ◌-◌, ap, sym, subst, ◌∙◌, List}
+use Rattle.std.proofs.lemmas.Result.{on_ok_weaker, IfErr-weaker}
 use Rattle.prolly_entry.specs.Chunk.{Chunk}
 use Rattle.prolly_entry.specs.File.{header}
 use Rattle.prolly_link.specs.Receipts.{end_given}
 use Rattle.prolly_link.specs.declared.fault.End.TheVariants.{Clean}
 use Rattle.prolly_build.specs.Built.{IsInputEnd}
 use Rattle.prolly_build.specs.Writing.{Sunk, HasWritten}
-use Rattle.prolly_build.proofs.Makings.{few_written, some_written, file_made, no_start_fault, if_ok, if_err}
+use Rattle.prolly_build.proofs.Makings.{few_written, some_written, file_made, no_start_fault, if_ok}
 use Rattle.prolly_build.proofs.finishing.finish.Goals as goal
 
 pub end_build-requires-clause-few : goal.end_build-requires-clause-few
@@ -48,6 +49,11 @@ returns-then-has_met-clause-err g c =
     let head = header c.args.config.version c.args.config.bits in
     let level = c.args.config.stages - 1 in
     let input : IsInputEnd c.args.ran.wrote.end = subst IsInputEnd (sym (c.requires.end ∙ ap end_given met.1)) c.requires.faults in
-    if_err c.end_build.result _ _
+    IfErr-weaker c.end_build.result _ _
     (λ fault h. no_start_fault head level c.args.ran.wrote.last.items c.requires.written.0 _ _ c.args.ran.wrote.end fault input h)
     (c.end_build.ensures.err head level c.args.ran.wrote.last.items c.requires.written.0 c.requires.written.1)
+
+pub returns-then-has_met-clause-clean : goal.returns-then-has_met-clause-clean
+returns-then-has_met-clause-clean g c =
+    let met = c.has_met.ensures c.if-has_met.true c.requires.ended in
+    on_ok_weaker c.end_build.result (λ clean. sym (c.requires.end ∙ ap end_given met.1) ∙ clean) c.end_build.ensures.clean

@@ -1,0 +1,157 @@
+-- What the workers of a build sent, seen from the sources.
+use Rattle.std.proofs.Common.{◌≡◌, ◌≤◌, ◌+◌, ◌-◌, ℕ, Bool, List, [], map, length, inl, inr, refl, ap, sym, subst, ◌∙◌, arith}
+use Rattle.prolly_entry.specs.Chunk.{Chunk}
+use Rattle.prolly_entry.specs.Cut.{sha512_cut}
+use Rattle.prolly_entry.specs.Events.{Closing, clean}
+use Rattle.prolly_entry.specs.Merge.{merged_part}
+use Rattle.prolly_entry.specs.Overlay.{overlay}
+use Rattle.prolly_entry.specs.Pair.{Pair}
+use Rattle.prolly_entry.specs.Pipeline.{pipeline_events}
+use Rattle.prolly_entry.specs.Record.{Record}
+use Rattle.prolly_entry.proofs.MergedParts.{overlay_is_small}
+use Rattle.prolly_link.specs.declared.fault.End.{End}
+use Rattle.prolly_link.specs.declared.fault.End.TheVariants.{Clean, Fault}
+use Rattle.prolly_link.specs.declared.fault.RunFault.{RunFault}
+use Rattle.prolly_link.specs.declared.fault.RunFault.TheVariants.{Memory, NoThread, Lost, TooManyFiles}
+use Rattle.prolly_build.specs.declared.halt.Halt.{Halt}
+use Rattle.prolly_build.specs.declared.halt.Halt.TheVariants.{NoThread as NoThread_halt, Lost as Lost_halt}
+use Rattle.prolly_build.specs.Ran.{IsHaltFault}
+use Rattle.prolly_merge.specs.Inputs.{fault_of, lists_of}
+use Rattle.prolly_merge.specs.Sent.{Counts}
+use Rattle.prolly_stage.specs.Sends.{Sends, closing_of}
+use Rattle.prolly_build.specs.Built.{AreRead, AreKept, IsBuilt, IsFileOf, IsRunOf, IsInputFault, IsInputEnd, IsStartFault, IsRefusal}
+use Rattle.prolly_build.specs.declared.report.Report.{Report}
+use Rattle.prolly_build.specs.Writing.{Sunk}
+use Rattle.prolly_build.specs.Gathering.{IsGathered}
+use Rattle.prolly_build.specs.Merging.{MergesAll, sent_input}
+use Rattle.prolly_build.specs.Settings.{Settings, AreLawful}
+use Rattle.prolly_build.specs.Staging.{HasStaged}
+use Rattle.prolly_build.proofs.Loads.{all_rise, all_only, all_kept, all_read, all_few}
+use Rattle.prolly_build.proofs.Mergings.{IfFault, clean_pairs, joined_rises, joined_only, rises_all, sends_only}
+
+-- an end whose fault is one of the input's
+input_end : (end : End) → IfFault IsInputFault (fault_of end) → IsInputEnd end
+input_end Clean h = tt
+input_end (Fault f) h = h
+
+module _ {S : Type 0} (is_honest : S → Bool) (left : S → List ℕ) (failures : S → ℕ) (settings : Settings) (before after : List S) (count : ℕ) where
+  -- what the last stage sent, by what the loaders sent
+  pub record IsSourceRun (events : List Chunk) (end : End) : Type 0 where
+    pub goods : List (List Record)
+    pub kept : AreKept is_honest left failures before after
+    pub input : IsInputEnd end
+    pub read : end ≡ Clean → AreRead is_honest left failures settings.max_records before after goods
+    pub run : IsRunOf settings (overlay goods) events end count
+
+  -- the end of the pairs is one that workers may send
+  pairs_input : (pairs : List Pair) (end : End) → IsGathered is_honest left failures settings.max_records before after pairs end count → IsInputEnd end
+  pairs_input pairs end h =
+      let rises = all_rise is_honest left failures settings.max_records 0 before h.loader_outs after h.files h.loaded in
+      let only = all_only is_honest left failures settings.max_records 0 before h.loader_outs after h.files h.loaded in
+      let inputs_rise = joined_rises h.mergers (map sent_input h.files) h.inputs h.joined rises in
+      input_end end
+      (sends_only IsInputFault tt h.inputs (merged_part h.inputs) pairs end (h.merges (rises_all h.inputs inputs_rise))
+      (joined_only IsInputFault tt h.mergers (map sent_input h.files) h.inputs h.joined rises only))
+
+  -- the pairs of a clean end are the overlay of the files, and few
+  record ArePairs (goods : List (List Record)) (pairs : List Pair) : Type 0 where
+    read : AreRead is_honest left failures settings.max_records before after goods
+    pairs_are : pairs ≡ overlay goods
+    few : length (overlay goods) ≤ 268435456
+    counted : count ≡ length (overlay goods)
+
+  clean_gathered : AreLawful settings → length before ≤ 16 → (pairs : List Pair) (end : End) (h : IsGathered is_honest left failures settings.max_records before after pairs end count) →
+      end ≡ Clean → ArePairs (lists_of (map sent_input h.files)) pairs
+  clean_gathered lawful sixteen pairs end h end_is =
+      let rises = all_rise is_honest left failures settings.max_records 0 before h.loader_outs after h.files h.loaded in
+      let merges : MergesAll h.inputs pairs Clean = subst (λ (e : End). MergesAll h.inputs pairs e) end_is h.merges in
+      let p = clean_pairs h.mergers (map sent_input h.files) h.inputs pairs h.joined rises merges in
+      let small = overlay_is_small (lists_of (map sent_input h.files)) in
+      let all = all_few is_honest left failures settings.max_records 0 before h.loader_outs after h.files h.loaded lawful.max_records.1 in
+      let few : length (overlay (lists_of (map sent_input h.files))) ≤ 268435456 = omega (arith, small, all, sixteen) in
+      let n : length pairs ≡ length (overlay (lists_of (map sent_input h.files))) = ap (λ (ps : List Pair). length ps) p.1 in
+      record {
+        read = all_read is_honest left failures settings.max_records 0 before h.loader_outs after h.files h.loaded p.0;
+        pairs_are = p.1;
+        few = few;
+        counted = counted pairs (overlay (lists_of (map sent_input h.files))) h.counts n few;
+      }
+    where
+      counted : (ps m : List Pair) → Counts [] ps count → length ps ≡ length m → length m ≤ 268435456 → count ≡ length m
+      counted ps m c n few =
+          let k : length ps ≡ length c.0 = ap (λ (qs : List Pair). length qs) c.1 in
+          let l = c.2 in
+          omega (arith, k, l, n, few)
+
+  pub source_run : AreLawful settings → length before ≤ 16 → (events : List Chunk) (end : End) →
+      HasStaged is_honest left failures settings (settings.stages - 1) before after events end count → IsSourceRun events end
+  source_run lawful sixteen events end h = record {
+    goods = lists_of (map sent_input h.gathered.files);
+    kept = all_kept is_honest left failures settings.max_records 0 before h.gathered.loader_outs after h.gathered.files h.gathered.loaded;
+    input = input_of_end h.staged;
+    read = λ e. (clean_gathered lawful sixteen h.pairs h.pairs_end h.gathered (pairs_clean e h.staged).0).read;
+    run = λ e.
+        let c = pairs_clean e h.staged in
+        let g = clean_gathered lawful sixteen h.pairs h.pairs_end h.gathered c.0 in
+        record {
+          few = g.few;
+          sent = c.1 ∙ ap (λ (m : List Pair). stage clean m) g.pairs_are;
+          counted = g.counted;
+        };
+  }
+    where
+      stage : Closing → List Pair → List Chunk
+      stage = pipeline_events (settings.stages - 1) (sha512_cut settings.bits) settings.version
+
+      input_of_end : Sends stage h.pairs h.pairs_end [] events end → IsInputEnd end
+      input_of_end (inl s) = subst IsInputEnd (sym s.1) (pairs_input h.pairs h.pairs_end h.gathered)
+      input_of_end (inr s) = subst IsInputEnd (sym s.0) tt
+
+      pairs_clean : end ≡ Clean → Sends stage h.pairs h.pairs_end [] events end → (h.pairs_end ≡ Clean) × (events ≡ stage clean h.pairs)
+      pairs_clean e (inl s) =
+          let is : h.pairs_end ≡ Clean = sym s.1 ∙ e in
+          (is, s.0 ∙ ap (λ (x : End). stage (closing_of x) h.pairs) is)
+      pairs_clean e (inr s) = absurd (apart (sym s.0 ∙ e))
+        where
+          apart : Fault Memory ≡ Clean → ⊥
+          apart x = cc
+
+-- the same over sources that were lent, where the level is one less than the number of stages
+pub lent_run : {S : Type 0} (is_honest : S → Bool) (left : S → List ℕ) (failures : S → ℕ) (settings : Settings) (level : ℕ) (before lent after : List S) (count : ℕ) →
+    AreLawful settings → length before ≤ 16 → level + 1 ≡ settings.stages → lent ≡ before → (events : List Chunk) (end : End) →
+    HasStaged is_honest left failures settings level lent after events end count → IsSourceRun is_honest left failures settings before after count events end
+lent_run {S} is_honest left failures settings level before lent after count lawful sixteen levels same events end h =
+    let below : level ≡ settings.stages - 1 = omega (arith, levels) in
+    source_run is_honest left failures settings before after count lawful sixteen events end
+    (subst (λ (l : ℕ). HasStaged is_honest left failures settings l before after events end count) below
+    (subst (λ (ss : List S). HasStaged is_honest left failures settings level ss after events end count) same h))
+
+-- the file of what the sources hold
+pub built : {S : Type 0} {is_honest : S → Bool} {left : S → List ℕ} {failures : S → ℕ} {settings : Settings} {before after : List S} {old new : Sunk} {report : Report} →
+    (goods : List (List Record)) → AreRead is_honest left failures settings.max_records before after goods → IsFileOf settings (overlay goods) old new report →
+    IsBuilt is_honest left failures settings before after old new report
+built goods read made = record { goods = goods; read = read; made = made }
+
+-- a fault of a finished build is none that starts nothing
+pub finished_refusal : {untouched kept : Type 0} (fault : RunFault) → (IsStartFault fault → ⊥) → kept → IsRefusal untouched kept fault
+finished_refusal fault h k = record {
+  answer = record { sink = λ s. absurd (h s); sources = λ a b. k };
+  started = λ e. h (subst IsStartFault (sym e) tt);
+}
+
+no_thread_is_no_count : NoThread ≡ TooManyFiles → ⊥
+no_thread_is_no_count e = cc
+
+lost_is_no_count : Lost ≡ TooManyFiles → ⊥
+lost_is_no_count e = cc
+
+-- where the workers were halted for want of a thread, the sink is as it was
+pub halted_refusal : {untouched kept : Type 0} (halt : Halt) (fault : RunFault) → IsHaltFault halt fault → (halt ≡ NoThread_halt → untouched) → IsRefusal untouched kept fault
+halted_refusal {untouched} {kept} NoThread_halt fault is h = subst (λ f. IsRefusal untouched kept f) (sym is) (record {
+  answer = record { sink = λ s. h refl; sources = λ a b. absurd (a refl) };
+  started = no_thread_is_no_count;
+})
+halted_refusal {untouched} {kept} Lost_halt fault is h = subst (λ f. IsRefusal untouched kept f) (sym is) (record {
+  answer = record { sink = λ s. absurd s; sources = λ a b. absurd (b refl) };
+  started = lost_is_no_count;
+})

@@ -1,0 +1,196 @@
+//! The pipelined build.
+ghost use Rattle.std.specs.Prelude.{◌≡◌, ◌+◌, ◌<◌, ◌≤◌, ◌↔◌, [], Err, vec_len, IfOk, IfErr, OnOk};
+ghost use Rattle.prolly_link.specs.declared.fault.RunFault.TheVariants.{TooManyFiles};
+ghost use Rattle.prolly_build.specs.Settings.{AreLawful};
+ghost use Rattle.prolly_build.specs.Writing.{Sunk};
+ghost use Rattle.prolly_build.specs.Ran.{IsWritten};
+ghost use Rattle.prolly_build.specs.Staging.{HasStaged};
+ghost use Rattle.prolly_build.specs.declared.halt.Halt.TheVariants.{NoThread};
+ghost use Rattle.prolly_build.specs.Built.{IsBuilt, AreKept, IsAnswer, IsRefusal};
+
+use crate::config::Config;
+use crate::finishing::finish;
+use crate::halt::Halt;
+use crate::links::NewLink;
+use crate::permit::{AllStart, Permit};
+use crate::report::Report;
+use crate::rings::Rings;
+use crate::site::Site;
+use crate::tower::{Ran, run_from_top};
+use prolly_file::{Sink, Source};
+use prolly_link::RunFault;
+use prolly_stage::Gate;
+use std::alloc::Global;
+use std::sync::Wait;
+use std::thread::{Scope, Threads};
+use std::{mem, thread};
+
+/// The greatest number of record files that a build takes.
+pub const FILES_LIMIT: usize = 16;
+
+/// Runs all workers in this scope, and the writer on this thread.
+fn run_in<
+    's,
+    E,
+    R: Wait + Threads + Sync,
+    S: Source + Send + Drop + 's,
+    W: Sink,
+    G: Gate,
+    P: Permit,
+>(
+    scope: &'s Scope<'s, E>,
+    rt: &'s R,
+    alloc: Global,
+    config: Config,
+    rings: Rings,
+    sources: &mut Vec<S>,
+    sink: &mut W,
+    gate: &'s G,
+    permit: &P,
+) -> Result<Ran, Halt>
+    requires levels { vec_len rings.events < 12 }
+    requires files { (rings.feed.files ≡ vec_len sources.old) × (vec_len sources.old ≤ 16) }
+    ensures link { IfOk result (λ ran. ran.out.link ≡ ran.wrote.last.link) }
+    ensures written { IfOk result (λ ran. IsWritten config rings.last.receiver
+        (record { is_keeping = W.is_keeping sink.old; taken = W.taken sink.old; failures = W.failures sink.old })
+        (record { is_keeping = W.is_keeping sink.new; taken = W.taken sink.new; failures = W.failures sink.new }) ran.wrote) }
+    ensures staged { IfOk result (λ ran. HasStaged S.is_honest S.left S.failures config (vec_len rings.events) sources.old.items sources.new.items ran.out.items ran.out.end ran.pairs) }
+    ensures refused { IfErr result (λ halt. halt ≡ NoThread → sink.new ≡ sink.old) }
+{
+    let Rings {
+        last,
+        events,
+        pairs,
+        feed,
+    } = rings;
+    let NewLink {
+        sender: out,
+        receiver: last,
+    } = last;
+    let site = Site {
+        scope,
+        rt,
+        alloc,
+        gate,
+        permit,
+        config,
+    };
+    run_from_top(&site, events, pairs, feed, out, sources, last, sink)
+}
+
+/// Runs all workers over these links, and the writer on this thread, until all of them have ended; then ends
+/// the file.
+fn run_workers<R: Wait + Threads + Sync, S: Source + Send + Drop, W: Sink, G: Gate, P: Permit>(
+    rt: &R,
+    alloc: Global,
+    config: Config,
+    rings: Rings,
+    sources: &mut Vec<S>,
+    sink: &mut W,
+    gate: &G,
+    permit: &P,
+) -> Result<Report, RunFault>
+    requires lawful { AreLawful config }
+    requires levels { vec_len rings.events + 1 ≡ config.stages }
+    requires files { (rings.feed.files ≡ vec_len sources.old) × (vec_len sources.old ≤ 16) }
+    ensures ok { IfOk result (IsBuilt S.is_honest S.left S.failures config sources.old.items sources.new.items
+        (record { is_keeping = W.is_keeping sink.old; taken = W.taken sink.old; failures = W.failures sink.old })
+        (record { is_keeping = W.is_keeping sink.new; taken = W.taken sink.new; failures = W.failures sink.new })) }
+    ensures kept { OnOk result (AreKept S.is_honest S.left S.failures sources.old.items sources.new.items) }
+    ensures err { IfErr result (IsRefusal (sink.new ≡ sink.old) (AreKept S.is_honest S.left S.failures sources.old.items sources.new.items)) }
+{
+    let mut lent = mem::replace(sources, Vec::new(alloc));
+    let (ran, back, sink) = thread::scope(
+        thread::scope_env(),
+        rt,
+        move |scope| -> (Result<Ran, Halt>, Vec<S>, &mut W)
+            requires { (vec_len rings.events < 12) × (rings.feed.files ≡ vec_len lent) × (vec_len lent ≤ 16) }
+            ensures link { IfOk result.0 (λ ran. ran.out.link ≡ ran.wrote.last.link) }
+            ensures written { IfOk result.0 (λ ran. IsWritten config rings.last.receiver
+                (record { is_keeping = W.is_keeping sink.entry.now; taken = W.taken sink.entry.now; failures = W.failures sink.entry.now })
+                (record { is_keeping = W.is_keeping result.2.now; taken = W.taken result.2.now; failures = W.failures result.2.now }) ran.wrote) }
+            ensures staged { IfOk result.0 (λ ran. HasStaged S.is_honest S.left S.failures config (vec_len rings.events) lent.items result.1.items ran.out.items ran.out.end ran.pairs) }
+            ensures refused { IfErr result.0 (λ halt. halt ≡ NoThread → result.2.now ≡ sink.entry.now) }
+            ensures same { result.2.ghost_name ≡ sink.entry.ghost_name }
+        {
+            let ran = run_in(
+                scope, rt, alloc, config, rings, &mut lent, &mut *sink, gate, permit,
+            );
+            (ran, lent, sink)
+        },
+    );
+    *sources = back;
+    match ran {
+        Ok(ran) => finish(rt, config, ran, sink),
+        Err(halt) => Err(halt.fault()),
+    }
+}
+
+/// Builds the chunk file of the overlay of record files: each file is read and checked in a thread of its
+/// own, the files are merged by a tree of threads, and each level of the tree of chunks is cut in a thread of
+/// its own, while this thread writes the chunks as they come. A later file wins a key, and a removal takes
+/// the key of earlier files away. Source number i is file i.
+///
+/// The answer is the first of these that holds:
+///
+/// - `TooManyFiles`, for more than 16 sources, and `Memory`, where the links can't be made: nothing was
+///   started, and nothing is written.
+/// - `NoThread`, where a worker may not start or no thread can be had for it. Those that run have ended, and
+///   nothing is written.
+/// - A fault of a record file: of all files that have one, that of the file whose last good key is least, of
+///   equal ones the first. `Memory`, where a worker was refused memory. `Lost`, where a worker was lost.
+/// - `Write`, where the sink failed.
+/// - `TooTall`, where the tree has more levels than there are stages.
+///
+/// After a fault the sink holds the beginning of a file, with no end record. After every answer but
+/// `NoThread` and `Lost` the sources are there in their order, each as its loader left it; after those two
+/// some may be gone.
+///
+/// Before a worker of `gate` sends an item, the gate is asked; before a worker is started, the permit is.
+///
+/// Takes the hash of each pair and of each chunk, in two threads that work at once, and the memory of the
+/// links: as many items as capacity and batch allow for each, whatever the files have.
+pub fn build_with<R: Wait + Threads + Sync, S: Source + Send + Drop, W: Sink, G: Gate, P: Permit>(
+    rt: &R,
+    alloc: Global,
+    config: &Config,
+    sources: &mut Vec<S>,
+    sink: &mut W,
+    gate: &G,
+    permit: &P,
+) -> Result<Report, RunFault>
+    ensures too_many { (result ≡ Err TooManyFiles) ↔ (16 < vec_len sources.old) }
+    ensures ok { IfOk result (IsBuilt S.is_honest S.left S.failures config.now sources.old.items sources.new.items
+        (record { is_keeping = W.is_keeping sink.old; taken = W.taken sink.old; failures = W.failures sink.old })
+        (record { is_keeping = W.is_keeping sink.new; taken = W.taken sink.new; failures = W.failures sink.new })) }
+    ensures kept { OnOk result (AreKept S.is_honest S.left S.failures sources.old.items sources.new.items) }
+    ensures err { IfErr result (λ fault. IsAnswer (sink.new ≡ sink.old) (AreKept S.is_honest S.left S.failures sources.old.items sources.new.items) fault) }
+{
+    if sources.len() > FILES_LIMIT {
+        return Err(RunFault::TooManyFiles);
+    }
+    let Ok(rings) = Rings::new(alloc, config, sources.len()) else {
+        return Err(RunFault::Memory);
+    };
+    config.know_ranges();
+    run_workers(rt, alloc, *config, rings, sources, sink, gate, permit)
+}
+
+/// The same, where all workers may start.
+pub fn build<R: Wait + Threads + Sync, S: Source + Send + Drop, W: Sink, G: Gate>(
+    rt: &R,
+    alloc: Global,
+    config: &Config,
+    sources: &mut Vec<S>,
+    sink: &mut W,
+    gate: &G,
+) -> Result<Report, RunFault>
+    ensures too_many { (result ≡ Err TooManyFiles) ↔ (16 < vec_len sources.old) }
+    ensures ok { IfOk result (IsBuilt S.is_honest S.left S.failures config.now sources.old.items sources.new.items
+        (record { is_keeping = W.is_keeping sink.old; taken = W.taken sink.old; failures = W.failures sink.old })
+        (record { is_keeping = W.is_keeping sink.new; taken = W.taken sink.new; failures = W.failures sink.new })) }
+    ensures kept { OnOk result (AreKept S.is_honest S.left S.failures sources.old.items sources.new.items) }
+    ensures err { IfErr result (λ fault. IsAnswer (sink.new ≡ sink.old) (AreKept S.is_honest S.left S.failures sources.old.items sources.new.items) fault) }
+{
+    build_with(rt, alloc, config, sources, sink, gate, &AllStart)
+}
