@@ -3,24 +3,46 @@
 ghost use Rattle.std.specs.Prelude.{◌≤◌};
 ghost use Rattle.prolly_line.specs.Given.{IsWithinLimits};
 
+use prolly_build::build;
 use prolly_entry::Version;
-use prolly_file::{FromRead, ToWrite};
-use prolly_tool::{Answer, Command, Fault, answer_pack, answer_scratch};
+use prolly_file::{FromRead, Sink, ToWrite};
+use prolly_link::RunFault;
+use prolly_stage::OpenGate;
+use prolly_tool::{Answer, Command, Config, Fault, answer_build, answer_pack, answer_scratch};
 use std::alloc::AllocError;
 use std::fs;
+use std::io::BufWriter;
+use std::sync::Wait;
+use std::thread::Threads;
 
-/// Does a command.
-pub fn answer_of(rt: &HostRuntime, command: Command) -> Result<Answer, AllocError>
+/// Does a command. Threads are started, and waited for, by `threads`.
+pub fn answer_of<T: Wait + Threads + Sync>(
+    rt: &HostRuntime,
+    threads: &T,
+    command: Command,
+) -> Result<Answer, AllocError>
     requires { IsWithinLimits command }
 {
     match command {
         Command::Pack { out } => pack(rt, &out),
         Command::Scratch { bits, version, out } => scratch(rt, bits, version, out.as_deref()),
-        Command::Build { .. }
-        | Command::Check { .. }
-        | Command::Get { .. }
-        | Command::Scan { .. }
-        | Command::Nth { .. } => Answer::of_fault(rt.alloc(), Fault::NotInThisBuild),
+        Command::Build {
+            bits,
+            stages,
+            capacity,
+            max_records,
+            batch,
+            version,
+            out,
+            files,
+        } => {
+            let config = Config::new(bits, stages, capacity, max_records).unwrap();
+            let config = config.with_batch(batch).unwrap();
+            let config = config.with_version(version).unwrap();
+            build_from(rt, threads, &config, &out, &files)
+        }
+        Command::Check { .. } | Command::Get { .. } | Command::Scan { .. } | Command::Nth { .. } =>
+            Answer::of_fault(rt.alloc(), Fault::NotInThisBuild),
     }
 }
 
@@ -56,4 +78,46 @@ fn scratch(rt: &HostRuntime, bits: u8, version: u8, out: Option<&str>) -> Result
         version,
         &mut sink,
     )
+}
+
+/// How many bytes are written to a chunk file at once.
+const OUTPUT_BYTES: usize = 65_536;
+
+/// `build [--bits Q] [--stages S] [--capacity C] [--max-records M] [--batch B] [--format V] OUT [FILES...]`
+fn build_from<T: Wait + Threads + Sync>(
+    rt: &HostRuntime,
+    threads: &T,
+    config: &Config,
+    out: &str,
+    files: &[String],
+) -> Result<Answer, AllocError> {
+    let mut sources = Vec::with_capacity(rt.alloc(), files.len())?;
+    for name in files {
+        match fs::open(rt, name.as_str()) {
+            Ok(file) => sources.push(FromRead::new(file))?,
+            Err(_) => return Answer::of_unopened(rt.alloc(), name),
+        }
+    }
+    let Ok(file) = fs::create(rt, out) else {
+        return Answer::of_unopened(rt.alloc(), out);
+    };
+    let Ok(writer) = BufWriter::with_capacity(rt.alloc(), OUTPUT_BYTES, file) else {
+        return Err(AllocError);
+    };
+    let mut sink = ToWrite::new(writer);
+    let built = build(
+        threads,
+        rt.alloc(),
+        config,
+        &mut sources,
+        &mut sink,
+        &OpenGate,
+    );
+    // What was written is in the file also after a fault. That a tree was made is told only once all of it
+    // is there.
+    let built = match (built, sink.flush()) {
+        (Ok(_), Err(_)) => Err(RunFault::Write),
+        (built, _) => built,
+    };
+    answer_build(rt.alloc(), &built)
 }

@@ -12,22 +12,24 @@ use prolly_tool::{Answer, Fault, parse};
 use std::alloc::AllocError;
 use std::io::Write;
 use std::process::ExitCode;
+use std::sync::Wait;
+use std::thread::Threads;
 
 fn main(rt: HostRuntime) -> ExitCode {
-    match answer(&rt) {
+    match answer(&rt, &rt) {
         Ok(answer) => ExitCode::from(print(&rt, &answer)),
         Err(AllocError) => ExitCode::from(report(&rt, RunFault::Memory)),
     }
 }
 
-/// Does what the words say.
-fn answer(rt: &HostRuntime) -> Result<Answer, AllocError> {
+/// Does what the words say. Threads are started, and waited for, by `threads`.
+fn answer<T: Wait + Threads + Sync>(rt: &HostRuntime, threads: &T) -> Result<Answer, AllocError> {
     let words = match read_words(rt) {
         Ok(words) => words,
         Err(fault) => return Answer::of_fault(rt.alloc(), fault),
     };
     match parse(rt.alloc(), &words) {
-        Ok(command) => answer_of(rt, command),
+        Ok(command) => answer_of(rt, threads, command),
         Err(refusal) => Answer::of_refusal(rt.alloc(), refusal),
     }
 }

@@ -5,3 +5,4 @@ pub mod Scratch
 pub mod Pack
 pub mod Faults
 pub mod Answers
+pub mod Build

@@ -1,0 +1,44 @@
+//! What the command `build` prints.
+ghost use Rattle.std.specs.Prelude.{◌≡◌, ◌++◌, ◌∷◌, IfOk, OnOk};
+ghost use Rattle.std.specs.Fmt.{decimal};
+ghost use Rattle.prolly_tool.specs.Build.{report_text, ShowsBuild};
+
+use crate::answer::Answer;
+use crate::fault::Fault;
+use prolly_build::Report;
+use prolly_link::RunFault;
+use std::alloc::{AllocError, Global};
+
+/// What `build` answers: one line with the text of the root and the numbers of chunks, pairs and levels, or
+/// the line of the fault. An `Err` is want of memory for that text.
+pub fn answer_build(alloc: Global, built: &Result<Report, RunFault>) -> Result<Answer, AllocError>
+    ensures { IfOk result (λ answer. ShowsBuild answer built.now) }
+{
+    match built {
+        Ok(report) => {
+            let line = line_of(alloc, report)?;
+            Answer::of_line(alloc, &line)
+        }
+        Err(fault) => Answer::of_fault(alloc, Fault::Run(*fault)),
+    }
+}
+
+fn line_of(alloc: Global, report: &Report) -> Result<Vec<u8>, AllocError>
+    ensures { IfOk result (λ line. line.items ≡ report_text report.now) }
+{
+    let mut line = Vec::new(alloc);
+    line.extend_from_slice(&report.root.to_text())?;
+    append_number(alloc, &mut line, report.chunks)?;
+    append_number(alloc, &mut line, report.pairs)?;
+    append_number(alloc, &mut line, u64::from(report.levels))?;
+    Ok(line)
+}
+
+/// A space, and the number in decimal.
+fn append_number(alloc: Global, line: &mut Vec<u8>, number: u64) -> Result<(), AllocError>
+    ensures { OnOk result (line.new.items ≡ line.old.items ++ 0x20 ∷ decimal number) }
+{
+    let text = format!(in alloc; " {number}")?;
+    line.extend_from_slice(text.as_bytes())?;
+    Ok(())
+}
