@@ -125,8 +125,6 @@ def key_cases():
 def absent_cases():
     """Commands whose words are taken."""
     return [
-        absent("build", "o"),
-        absent("build", "--bits", "24", "--stages", "12", "--capacity", "4096", "--max-records", "16777216", "--batch", "1024", "--format", "2", "o", "a", "b"),
         absent("check", "f"),
         absent("get", "f", ""),
         absent("get", "f", "61" * 1024),
