@@ -61,6 +61,9 @@ pair replaces the value, its removal takes the key away.
 
 Prints the text of the root and the numbers of chunks, pairs and levels.
 
+OUT is made once all files are open, before any is read. After a fault it holds
+no more than the first part of a chunk file, which `check` calls truncated.
+
 --bits and --format decide what the chunk file holds. --stages and --max-records
 are limits: a tree of more levels, or a file of more records, is refused.
 --capacity and --batch change only how much memory the threads use and how often
