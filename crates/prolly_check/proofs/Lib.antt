@@ -17,3 +17,7 @@ pub mod Descents
 pub mod FindSteps
 pub mod ChildSteps
 pub mod GetSteps
+pub mod References
+pub mod FewPairs
+pub mod CountSteps
+pub mod NthSteps

@@ -13,3 +13,4 @@ pub mod Checked
 pub mod Check
 pub mod Root
 pub mod Descent
+pub mod Counted

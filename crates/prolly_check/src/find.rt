@@ -63,7 +63,7 @@ fn child_for(version: Version, entries: &[u8], key: &[u8]) -> Option<Ref>
 }
 
 /// The reference in a child entry that begins the bytes.
-fn reference_in(version: Version, bytes: &[u8], child: ChildAt) -> Ref
+pub(crate) fn reference_in(version: Version, bytes: &[u8], child: ChildAt) -> Ref
     requires { IsChildAt version bytes.now child }
     ensures { result.0 ≡ reference_at bytes.now child }
 {

@@ -13,12 +13,13 @@ mod inspect;
 pub mod laws;
 mod leaf;
 mod node;
+mod nth;
 mod pairs;
 mod tree;
 
 pub use checker::check;
 pub use fault::CheckFault;
-pub use tree::Tree;
+pub use tree::{NoCounts, Tree};
 
 #[cfg(test)]
 mod tests;
