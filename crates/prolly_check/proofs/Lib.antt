@@ -21,3 +21,6 @@ pub mod References
 pub mod FewPairs
 pub mod CountSteps
 pub mod NthSteps
+pub mod Scans
+pub mod ScanSteps
+pub mod StartSteps

@@ -14,3 +14,4 @@ pub mod Check
 pub mod Root
 pub mod Descent
 pub mod Counted
+pub mod Scanned

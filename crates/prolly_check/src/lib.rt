@@ -15,6 +15,7 @@ mod leaf;
 mod node;
 mod nth;
 mod pairs;
+mod scan;
 mod tree;
 
 pub use checker::check;

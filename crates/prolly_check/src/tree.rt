@@ -4,7 +4,7 @@ ghost use Rattle.std.specs.Option.{option_copied};
 ghost use Rattle.prolly_entry.specs.Chunk.{chunks};
 ghost use Rattle.prolly_entry.specs.Cut.{sha512_cut};
 ghost use Rattle.prolly_entry.specs.File.{root_reference};
-ghost use Rattle.prolly_entry.specs.LookUp.{find, nth};
+ghost use Rattle.prolly_entry.specs.LookUp.{find, nth, scan};
 ghost use Rattle.prolly_check.specs.Checked.{IsChecked, IsFile};
 ghost use Rattle.prolly_check.specs.Content.{Content};
 ghost use Rattle.prolly_check.specs.Counted.{pair_of};
@@ -18,8 +18,9 @@ use crate::frames::{Span, chunk_at};
 use crate::index::Index;
 use crate::inspect::{Layout, inspect};
 use crate::nth::find_nth;
-use prolly_entry::{Ref, Version};
-use std::alloc::Global;
+use crate::scan::scan_pairs;
+use prolly_entry::{Pair, Ref, Version};
+use std::alloc::{AllocError, Global};
 use std::marker::Model;
 
 /// A file of version One says nothing of how many pairs are below a child.
@@ -97,6 +98,24 @@ impl Tree {
         ensures { (content : Content) → IsFileOf self.now content → option_copied result ≡ find content.pairs key.now }
     {
         find_value(&self.bytes, self.version, &self.spans, &self.index, key)
+    }
+
+    /// The first pairs in the order of the keys whose key is not less than `from`, at most `limit` of them.
+    ///
+    /// Takes memory for copies of these pairs, and reads one chunk a level and then the chunks up to the
+    /// last of them.
+    pub fn scan(&self, alloc: Global, from: &[u8], limit: u32) -> Result<Vec<Pair>, AllocError>
+        ensures { IfOk result (λ pairs. (content : Content) → IsFileOf self.now content → pairs.items ≡ scan content.pairs from.now limit) }
+    {
+        scan_pairs(
+            alloc,
+            &self.bytes,
+            self.version,
+            &self.spans,
+            &self.index,
+            from,
+            limit as usize,
+        )
     }
 
     /// The key and the value of the pair of this number, counted from 0 in the order of the keys, or none
