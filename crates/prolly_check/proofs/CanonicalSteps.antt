@@ -79,7 +79,7 @@ beyond (suc n) (x ∷ xs) ys h =
     let e : suc n - suc (length xs) ≡ n - length xs = omega arith in
     rw e (ap (λ zs. x ∷ zs) (beyond n xs ys (omega arith)))
 
-false_is : (b : Bool) → (b ≡ true → ⊥) → b ≡ false
+pub false_is : (b : Bool) → (b ≡ true → ⊥) → b ≡ false
 false_is true h = absurd (h refl)
 false_is false h = refl
 
@@ -140,7 +140,7 @@ differs_here number (c ∷ cs) (d ∷ ds) (suc n) h k e =
     let h' : suc n < suc (length cs) = h in let k' : suc n < suc (length ds) = k in
     differs_here number cs ds n (omega arith) (omega arith) e
 
-nothing_left : (cs : List (List ℕ)) (n : ℕ) → length cs ≤ n → drop n cs ≡ []
+pub nothing_left : (cs : List (List ℕ)) (n : ℕ) → length cs ≤ n → drop n cs ≡ []
 nothing_left [] zero h = refl
 nothing_left [] (suc n) h = refl
 nothing_left (c ∷ cs) zero h = absurd (let h' : suc (length cs) ≤ 0 = h in omega arith)

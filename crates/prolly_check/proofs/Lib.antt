@@ -24,3 +24,5 @@ pub mod NthSteps
 pub mod Scans
 pub mod ScanSteps
 pub mod StartSteps
+pub mod Rebuilds
+pub mod RebuildSteps

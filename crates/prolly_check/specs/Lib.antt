@@ -15,3 +15,4 @@ pub mod Root
 pub mod Descent
 pub mod Counted
 pub mod Scanned
+pub mod Rebuilt

@@ -15,6 +15,8 @@ mod leaf;
 mod node;
 mod nth;
 mod pairs;
+mod passing;
+mod rebuild;
 mod scan;
 mod tree;
 
