@@ -134,7 +134,7 @@ order_clean before number (ps ∷ lists) h =
 
 -- ---- the one file and the references
 
-difference_same : (number : ℕ) (cs : List (List ℕ)) → difference number cs cs ≡ None
+pub difference_same : (number : ℕ) (cs : List (List ℕ)) → difference number cs cs ≡ None
 difference_same number [] = refl
 difference_same number (c ∷ cs) = cond-true (bytes_eq c c) (difference (suc number) cs cs) (Some (NotCanonical number)) ((bytes_eq-Decides c c).1 refl) ∙ difference_same (suc number) cs
 

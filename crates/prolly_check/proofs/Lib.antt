@@ -26,3 +26,4 @@ pub mod ScanSteps
 pub mod StartSteps
 pub mod Rebuilds
 pub mod RebuildSteps
+pub mod FinishSteps

@@ -22,11 +22,11 @@ use Rattle.prolly_check.proofs.Acceptance.{bytes_in, bytes_append}
 use Rattle.prolly_check.proofs.CanonicalSteps.{false_is}
 
 -- what is sent of more events goes on
-record GoesOn (cut : Cut) (version : Version) (level count : ℕ) (events more : List Chunk) : Type 0 where
-  rest : List Chunk
-  is : sent_through cut version level count (events ++ more) ≡ sent_through cut version level count events ++ rest
+pub record GoesOn (cut : Cut) (version : Version) (level count : ℕ) (events more : List Chunk) : Type 0 where
+  pub rest : List Chunk
+  pub is : sent_through cut version level count (events ++ more) ≡ sent_through cut version level count events ++ rest
 
-sent_goes_on : (cut : Cut) (version : Version) (level count : ℕ) (events more : List Chunk) → GoesOn cut version level count events more
+pub sent_goes_on : (cut : Cut) (version : Version) (level count : ℕ) (events more : List Chunk) → GoesOn cut version level count events more
 sent_goes_on cut version level zero events more = record { rest = more; is = refl }
 sent_goes_on cut version level (suc count) events more =
     let p = (fault_is_prefix cut version).1 faulty level events more in

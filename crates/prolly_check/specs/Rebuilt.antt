@@ -3,7 +3,9 @@ use Rattle.std.specs.Prelude.{◌≡◌, ℕ, zero, suc, ◌+◌, ◌<◌, List,
 use Rattle.prolly_entry.specs.declared.version.Version.{Version}
 use Rattle.prolly_entry.specs.Cut.{Cut, sha512_cut}
 use Rattle.prolly_entry.specs.Chunk.{Chunk}
-use Rattle.prolly_entry.specs.Events.{faulty, leaf_events, inner_events}
+use Rattle.prolly_entry.specs.Events.{clean, faulty, leaf_events, inner_events}
+use Rattle.prolly_entry.specs.Pipeline.{pipeline_events}
+use Rattle.std.specs.Option.{option_to_list}
 use Rattle.prolly_entry.specs.Pair.{Pair}
 use Rattle.prolly_chunk.specs.LeafLevel.{LeafState, leaf_level}
 use Rattle.prolly_chunk.specs.NodeLevel.{NodeState, node_level, NodeBegins, NodeTakes}
@@ -95,3 +97,35 @@ pub record IsBehind (bits : ℕ) (version : Version) (chunks : List (List ℕ)) 
 -- What is sent of the pairs differs from the chunks of a file.
 abbrev pub DifferBy : ℕ → Version → List (List ℕ) → List Pair → CheckFault → Type 0
 DifferBy bits version chunks pairs fault = DifferAs chunks (sent_of bits version pairs) fault
+
+-- ---- The end.
+
+-- Where there is a last chunk, it passed the levels.
+pub record MaybePassed (chunks : List (List ℕ)) (old new : List (NodeState ℕ)) (last : Option Chunk) (number next : ℕ) (bits : ℕ) (version : Version) (level : ℕ) (events : List Chunk) : Type 0 where
+  pub behind : AreBehind bits version level new (events ++ option_to_list last)
+  pub first : AreFirst chunks next (sent_through (sha512_cut bits) version level (length new) (events ++ option_to_list last))
+
+pub record MaybePasses (chunks : List (List ℕ)) (old new : List (NodeState ℕ)) (last : Option Chunk) (number next : ℕ) : Type 0 where
+  pub size : length new ≡ length old
+  pub so : (bits : ℕ) (version : Version) (level : ℕ) (events : List Chunk) → AreBehind bits version level old events →
+      AreFirst chunks number (sent_through (sha512_cut bits) version level (length old) events) → MaybePassed chunks old new last number next bits version level events
+
+abbrev pub MaybeFault : List (List ℕ) → List (NodeState ℕ) → Option Chunk → ℕ → CheckFault → Type 0
+MaybeFault chunks old last number fault = (bits : ℕ) (version : Version) (level : ℕ) (events : List Chunk) → AreBehind bits version level old events →
+    AreFirst chunks number (sent_through (sha512_cut bits) version level (length old) events) →
+    DifferAs chunks (sent_through (sha512_cut bits) version level (length old) (events ++ option_to_list last)) fault
+
+-- The levels up to this one have ended, and those above it took what they sent.
+pub record IsEnding (bits : ℕ) (version : Version) (chunks : List (List ℕ)) (pairs : List Pair) (nodes : List (NodeState ℕ)) (number : ℕ) : Type 0 where
+  pub level : ℕ
+  pub count : level + length nodes ≡ node_levels
+  pub behind : AreBehind bits version (suc level) nodes (pipeline_events level (sha512_cut bits) version clean pairs)
+  pub first : AreFirst chunks number (sent_through (sha512_cut bits) version (suc level) (length nodes) (pipeline_events level (sha512_cut bits) version clean pairs))
+
+-- All that the last level sends of the pairs begins the chunks of a file, so many.
+abbrev pub EndsAt : ℕ → Version → List (List ℕ) → List Pair → ℕ → Type 0
+EndsAt bits version chunks pairs number = AreFirst chunks number (pipeline_events node_levels (sha512_cut bits) version clean pairs)
+
+-- It differs from the chunks of a file.
+abbrev pub FaultAtEnd : ℕ → Version → List (List ℕ) → List Pair → CheckFault → Type 0
+FaultAtEnd bits version chunks pairs fault = DifferAs chunks (pipeline_events node_levels (sha512_cut bits) version clean pairs) fault

@@ -6,6 +6,7 @@ mod checker;
 mod ending;
 mod fault;
 mod find;
+mod finish;
 mod frames;
 mod header;
 mod index;

@@ -6,11 +6,12 @@ ghost use Rattle.prolly_entry.specs.Spelling.{pair_spelling};
 ghost use Rattle.prolly_entry.specs.declared.version.Version.{Version};
 ghost use Rattle.prolly_check.specs.Entries.{Holds, AllHold};
 ghost use Rattle.prolly_check.specs.Judged.{difference, chunk_bytes};
-ghost use Rattle.prolly_check.specs.Rebuilt.{IsBehind, DifferBy, AreUnused, node_levels};
+ghost use Rattle.prolly_check.specs.Rebuilt.{IsBehind, DifferBy, AreUnused, EndsAt, FaultAtEnd, node_levels};
 ghost use Rattle.prolly_check.specs.Refusal.{UnlessMemory};
 ghost use Rattle.prolly_check.specs.Spans.{IsWithin, chunks_in};
 
 use crate::fault::CheckFault;
+use crate::finish::{finish_nodes, pass_last};
 use crate::frames::{Span, chunk_at};
 use crate::passing::pass;
 use prolly_chunk::{LeafLevel, NodeLevel};
@@ -183,6 +184,67 @@ fn add_chunks(
             Ok(()) => {}
             Err(fault) => return Err(fault),
         }
+    }
+    Ok(())
+}
+
+/// Closes what is left open, and answers how many chunks there are in all.
+fn finish(
+    alloc: Global,
+    rebuild: Rebuild,
+    bytes: &[u8],
+    spans: &[Span],
+) -> Result<usize, CheckFault>
+    requires within { AllByRecursion (IsWithin bytes.now) spans.now }
+    requires number { rebuild.number ≤ length spans.now }
+    ensures ok { IfOk result (λ count. (bits : ℕ) (version : Version) (pairs : List PairValue) → IsBehind bits version (chunks_in bytes.now spans.now) pairs rebuild.leaf rebuild.nodes.items rebuild.number →
+        EndsAt bits version (chunks_in bytes.now spans.now) pairs count) }
+    ensures count { IfOk result (λ count. count ≤ length spans.now) }
+    ensures err { IfErr result (UnlessMemory (λ fault. (bits : ℕ) (version : Version) (pairs : List PairValue) → IsBehind bits version (chunks_in bytes.now spans.now) pairs rebuild.leaf rebuild.nodes.items rebuild.number →
+        FaultAtEnd bits version (chunks_in bytes.now spans.now) pairs fault)) }
+{
+    let Rebuild {
+        leaf,
+        mut nodes,
+        number,
+    } = rebuild;
+    let last = leaf.finish();
+    match pass_last(alloc, &mut nodes, last, bytes, spans, number) {
+        Ok(next) => finish_nodes(alloc, nodes, bytes, spans, next),
+        Err(fault) => Err(fault),
+    }
+}
+
+/// Tests that the chunks of a file are those of the pairs that they hold.
+///
+/// Holds one open chunk a level beside the file.
+pub(crate) fn test_rebuilt(
+    alloc: Global,
+    cut: Sha512Cut,
+    version: Version,
+    bytes: &[u8],
+    spans: &[Span],
+) -> Result<(), CheckFault>
+    requires within { AllByRecursion (IsWithin bytes.now) spans.now }
+    ensures ok { OnOk result ((lists : List (List PairValue)) → AllHold version (chunks_in bytes.now spans.now) lists → length (flat_map (λ pairs. pairs) lists) < 2 ^ 64 →
+        difference 0 (chunk_bytes version cut (flat_map (λ pairs. pairs) lists)) (chunks_in bytes.now spans.now) ≡ None) }
+    ensures err { IfErr result (UnlessMemory (λ fault. (lists : List (List PairValue)) → AllHold version (chunks_in bytes.now spans.now) lists → length (flat_map (λ pairs. pairs) lists) < 2 ^ 64 →
+        difference 0 (chunk_bytes version cut (flat_map (λ pairs. pairs) lists)) (chunks_in bytes.now spans.now) ≡ Some fault)) }
+{
+    let mut rebuild = match begin(alloc, cut, version) {
+        Ok(rebuild) => rebuild,
+        Err(_) => return Err(CheckFault::Memory),
+    };
+    match add_chunks(alloc, &mut rebuild, bytes, spans) {
+        Ok(()) => {}
+        Err(fault) => return Err(fault),
+    }
+    let count = match finish(alloc, rebuild, bytes, spans) {
+        Ok(count) => count,
+        Err(fault) => return Err(fault),
+    };
+    if count < spans.len() {
+        return Err(CheckFault::NotCanonical { chunk: count });
     }
     Ok(())
 }
