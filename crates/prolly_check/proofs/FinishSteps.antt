@@ -1,9 +1,9 @@
 -- The end of the rebuilt chunks.
-use Rattle.std.proofs.Common.{◌≡◌, ℕ, zero, suc, ◌+◌, ◌^◌, ◌<◌, ◌≤◌, List, [], ◌∷◌, ◌++◌, length, take, drop, get_or, map, Option, Some, None, refl, sym, ap, ◌∙◌, subst, arith, append_assoc, append-nil}
+use Rattle.std.proofs.Common.{◌≡◌, ℕ, zero, suc, ◌+◌, ◌^◌, ◌<◌, ◌≤◌, List, [], ◌∷◌, ◌++◌, length, take, drop, get_or, Option, Some, None, refl, sym, ap, ◌∙◌, subst, arith, append_assoc, append-nil}
 use Rattle.std.specs.Option.{option_to_list}
 use Rattle.std.specs.Str.{bytes_eq}
 use Rattle.std.proofs.lemmas.Bool.{cond-true}
-use Rattle.std.proofs.lemmas.List.{take_at, take_all}
+use Rattle.std.proofs.lemmas.List.{take_all}
 use Rattle.std.proofs.lemmas.Slice.Eq.{bytes_eq-Decides}
 use Rattle.prolly_entry.specs.declared.version.Version.{Version}
 use Rattle.prolly_entry.specs.Cut.{Cut, sha512_cut}
@@ -21,8 +21,8 @@ use Rattle.prolly_check.specs.declared.fault.CheckFault.TheVariants as faults
 use Rattle.prolly_check.proofs.Acceptance.{bytes_in, difference_same}
 use Rattle.prolly_check.specs.declared.fault.CheckFault.{CheckFault}
 use Rattle.prolly_check.specs.Judged.{difference, chunk_bytes}
-use Rattle.prolly_check.specs.Rebuilt.{node_levels, sent_through, sent_of, IsBehind, AreBehind, AreFirst, DifferAs, DifferBy, PassesOn, FaultPassing, MaybePasses, MaybePassed, MaybeFault, IsEnding, EndsAt, FaultAtEnd}
-use Rattle.prolly_check.proofs.Rebuilds.{GoesOn, sent_goes_on, differ_more}
+use Rattle.prolly_check.specs.Rebuilt.{node_levels, sent_through, sent_of, IsBehind, AreBehind, AreFirst, DifferAs, DifferBy, PassesOn, FaultPassing, MaybePasses, MaybeFault, IsEnding, EndsAt, FaultAtEnd}
+use Rattle.prolly_check.proofs.Rebuilds.{sent_goes_on, differ_more}
 
 -- ---- a last chunk
 
@@ -72,7 +72,7 @@ module _ (bits : ℕ) (version : Version) (pairs : List Pair) where
       let inner = inner_events (suc level) (sha512_cut bits) version faulty below in
       let p = (fault_is_prefix (sha512_cut bits) version).1 clean (suc level) below [] in
       let more : pipeline_events (suc level) (sha512_cut bits) version clean pairs ≡ inner ++ p.0 =
-          ap (inner_events (suc level) (sha512_cut bits) version clean) (sym (append-nil below)) ∙ p.1 in
+      ap (inner_events (suc level) (sha512_cut bits) version clean) (sym (append-nil below)) ∙ p.1 in
       let g = sent_goes_on (sha512_cut bits) version (suc (suc level)) count inner p.0 in
       let b = begins (suc level) count in
       let e : level + suc count ≡ suc level + count = omega arith in
@@ -96,7 +96,7 @@ module _ (bits : ℕ) (version : Version) (pairs : List Pair) where
     differ_by_at_end fault h =
         let p = (fault_is_prefix (sha512_cut bits) version).0 clean pairs [] in
         let more : leaf_events (sha512_cut bits) version clean pairs ≡ leaf_events (sha512_cut bits) version faulty pairs ++ p.0 =
-            ap (leaf_events (sha512_cut bits) version clean) (sym (append-nil pairs)) ∙ p.1 in
+        ap (leaf_events (sha512_cut bits) version clean) (sym (append-nil pairs)) ∙ p.1 in
         let g = sent_goes_on (sha512_cut bits) version 1 node_levels (leaf_events (sha512_cut bits) version faulty pairs) p.0 in
         let e : 0 + node_levels ≡ node_levels = omega arith in
         differ_at_end 0 node_levels fault e
@@ -141,10 +141,6 @@ module _ (bits : ℕ) (version : Version) (pairs : List Pair) where
 pub taken_out : {A : Type 0} (old new : List A) (first : A) → 0 < length old → first ≡ get_or old 0 first → new ≡ take 0 old ++ drop (0 + 1) old → old ≡ first ∷ new
 taken_out [] new first some v e = absurd (omega arith)
 taken_out (x ∷ xs) new first some v e = ap (λ y. y ∷ xs) (sym v) ∙ ap (λ ys. first ∷ ys) (sym e)
-
--- the others were written as a whole
-pub others_written : {A : Type 0} (old new : List A) (n : ℕ) → n ≡ length old → length new ≡ length old → take n (new ++ drop (length new) old) ≡ new
-others_written old new n e f = take_at new (drop (length new) old) n (f ∙ sym e)
 
 pub no_more : {A : Type 0} (xs : List A) → length xs ≤ 0 → xs ≡ []
 no_more [] h = refl

@@ -27,3 +27,4 @@ pub mod StartSteps
 pub mod Rebuilds
 pub mod RebuildSteps
 pub mod FinishSteps
+pub mod CanonicalEnd

@@ -1,9 +1,9 @@
 -- Rebuilding the chunks of pairs.
-use Rattle.std.proofs.Common.{◌≡◌, ℕ, zero, suc, ◌+◌, ◌<◌, ◌≤◌, List, [], ◌∷◌, ◌++◌, length, take, drop, get_or, map, Option, Some, None, refl, sym, ap, ◌∙◌, subst, arith, append_assoc, append-nil}
+use Rattle.std.proofs.Common.{◌≡◌, ℕ, zero, suc, ◌+◌, ◌<◌, ◌≤◌, List, [], ◌∷◌, ◌++◌, length, take, drop, get_or, Option, Some, None, refl, sym, ap, ◌∙◌, subst, arith, append_assoc, append-nil}
 use Rattle.prolly_entry.specs.declared.version.Version.{Version}
-use Rattle.prolly_entry.specs.Cut.{Cut, sha512_cut}
+use Rattle.prolly_entry.specs.Cut.{sha512_cut}
 use Rattle.prolly_entry.specs.Chunk.{Chunk}
-use Rattle.prolly_entry.specs.Events.{faulty, leaf_events, inner_events}
+use Rattle.prolly_entry.specs.Events.{faulty, leaf_events}
 use Rattle.prolly_entry.specs.Front.{IsPairAt, NoPairAt}
 use Rattle.prolly_entry.specs.Pair.{Pair, IsPair}
 use Rattle.prolly_entry.specs.Spelling.{pair_spelling}
@@ -21,7 +21,7 @@ use Rattle.prolly_entry.proofs.Prefixes.{fault_is_prefix}
 use Rattle.prolly_chunk.specs.LeafLevel.{LeafState, LeafBegins, LeafTakes}
 use Rattle.prolly_chunk.specs.NodeLevel.{NodeState, NodeBegins}
 use Rattle.prolly_check.specs.declared.fault.CheckFault.{CheckFault}
-use Rattle.prolly_check.specs.Rebuilt.{node_levels, sent_through, sent_of, AreBehind, AreFirst, AreUnused, IsBehind, DifferAs, DifferBy, PassedOn, PassesOn, FaultPassing}
+use Rattle.prolly_check.specs.Rebuilt.{node_levels, sent_through, sent_of, AreBehind, AreFirst, AreUnused, IsBehind, DifferAs, DifferBy, PassesOn, FaultPassing}
 use Rattle.prolly_check.proofs.Rebuilds.{sent_differs_more}
 use Rattle.std.specs.Option.{option_to_list}
 use Rattle.std.proofs.lemmas.List.{take_at, drop-drop}
@@ -46,7 +46,7 @@ pub begun : (bits : ℕ) (version : Version) (chunks : List (List ℕ)) (leaf : 
 begun bits version chunks leaf nodes b u e =
     let none : leaf_events (sha512_cut bits) version faulty [] ≡ [] = b.events version in
     let sent : sent_of bits version [] ≡ [] =
-        ap (sent_through (sha512_cut bits) version 1 node_levels) none ∙ ap (λ n. sent_through (sha512_cut bits) version 1 n []) (sym e) ∙ unused_sent bits version 1 nodes u in
+    ap (sent_through (sha512_cut bits) version 1 node_levels) none ∙ ap (λ n. sent_through (sha512_cut bits) version 1 n []) (sym e) ∙ unused_sent bits version 1 nodes u in
     record {
       leaf_is = b.state;
       nodes_are = subst (AreBehind bits version 1 nodes) (sym none) (unused_behind bits version 1 nodes u);
@@ -64,7 +64,7 @@ module _ (chunks : List (List ℕ)) (pair : Pair) (leaf leaf' : LeafState ℕ) (
   pub added_none : closed ≡ None → IsBehind bits version chunks (pairs ++ pair ∷ []) leaf' nodes number
   added_none none =
       let same : leaf_events (sha512_cut bits) version faulty (pairs ++ pair ∷ []) ≡ leaf_events (sha512_cut bits) version faulty pairs =
-          sends ∙ ap (λ c. leaf_events (sha512_cut bits) version faulty pairs ++ option_to_list c) none ∙ append-nil (leaf_events (sha512_cut bits) version faulty pairs) in
+      sends ∙ ap (λ c. leaf_events (sha512_cut bits) version faulty pairs ++ option_to_list c) none ∙ append-nil (leaf_events (sha512_cut bits) version faulty pairs) in
       record {
         leaf_is = takes.state bits pairs b.leaf_is;
         nodes_are = subst (AreBehind bits version 1 nodes) (sym same) b.nodes_are;
@@ -80,7 +80,7 @@ module _ (chunks : List (List ℕ)) (pair : Pair) (leaf leaf' : LeafState ℕ) (
     added_some nodes' next passed =
         let q = passed [] nodes refl refl in
         let a = q.so bits version 1 (leaf_events (sha512_cut bits) version faulty pairs) b.nodes_are
-            (subst (λ n. AreFirst chunks number (sent_through (sha512_cut bits) version 1 n (leaf_events (sha512_cut bits) version faulty pairs))) (sym b.count) b.first) in
+        (subst (λ n. AreFirst chunks number (sent_through (sha512_cut bits) version 1 n (leaf_events (sha512_cut bits) version faulty pairs))) (sym b.count) b.first) in
         let same : q.above ≡ nodes' = sym q.is in
         record {
           leaf_is = takes.state bits pairs b.leaf_is;
@@ -93,7 +93,7 @@ module _ (chunks : List (List ℕ)) (pair : Pair) (leaf leaf' : LeafState ℕ) (
     pub added_fault : (fault : CheckFault) → FaultPassing chunks nodes 0 event number fault → DifferBy bits version chunks (pairs ++ pair ∷ []) fault
     added_fault fault h =
         let d = h [] nodes refl refl bits version 1 (leaf_events (sha512_cut bits) version faulty pairs) b.nodes_are
-            (subst (λ n. AreFirst chunks number (sent_through (sha512_cut bits) version 1 n (leaf_events (sha512_cut bits) version faulty pairs))) (sym b.count) b.first) in
+        (subst (λ n. AreFirst chunks number (sent_through (sha512_cut bits) version 1 n (leaf_events (sha512_cut bits) version faulty pairs))) (sym b.count) b.first) in
         subst (λ es. DifferAs chunks (sent_through (sha512_cut bits) version 1 node_levels es) fault) (sym sends_one)
         (subst (λ n. DifferAs chunks (sent_through (sha512_cut bits) version 1 n (leaf_events (sha512_cut bits) version faulty pairs ++ event ∷ [])) fault) b.count d)
 
@@ -156,7 +156,7 @@ module _ (chunks : List (List ℕ)) (entries : List ℕ) (leaf : LeafState ℕ) 
       let l = all bits version pairs held b lawful spelled in
       let f = first_is entries bytes place len p l.rest e h at l.left l.lawful in
       let whole : ((pairs ++ l.done) ++ p ∷ []) ++ f.more ≡ pairs ++ held =
-          append_assoc (pairs ++ l.done) (p ∷ []) f.more ∙ append_assoc pairs l.done (p ∷ f.more) ∙ ap (λ ps. pairs ++ ps) (ap (λ ps. l.done ++ ps) (sym f.is) ∙ sym l.is) in
+      append_assoc (pairs ++ l.done) (p ∷ []) f.more ∙ append_assoc pairs l.done (p ∷ f.more) ∙ ap (λ ps. pairs ++ ps) (ap (λ ps. l.done ++ ps) (sym f.is) ∙ sym l.is) in
       subst (λ ps. DifferBy bits version chunks ps fault) whole
       (differ_by_more bits version chunks ((pairs ++ l.done) ++ p ∷ []) f.more fault (subst (λ r. DifferBy bits version chunks ((pairs ++ l.done) ++ r ∷ []) fault) copy (differs bits version (pairs ++ l.done) l.behind)))
 
@@ -253,8 +253,8 @@ module _ (bytes : List ℕ) (spans : List Span) (leaf : LeafState ℕ) (nodes : 
       let l = all bits version pairs lists b hold in
       let f = here version l.rest l.hold in
       let whole : ((pairs ++ l.done) ++ f.held) ++ flat f.more ≡ pairs ++ flat lists =
-          append_assoc (pairs ++ l.done) f.held (flat f.more) ∙ append_assoc pairs l.done (f.held ++ flat f.more)
-          ∙ ap (λ ps. pairs ++ ps) (ap (λ ls. l.done ++ flat ls) (sym f.is) ∙ sym l.is) in
+      append_assoc (pairs ++ l.done) f.held (flat f.more) ∙ append_assoc pairs l.done (f.held ++ flat f.more)
+      ∙ ap (λ ps. pairs ++ ps) (ap (λ ls. l.done ++ flat ls) (sym f.is) ∙ sym l.is) in
       subst (λ ps. DifferBy bits version (chunks_in bytes spans) ps fault) whole
       (differ_by_more bits version (chunks_in bytes spans) ((pairs ++ l.done) ++ f.held) (flat f.more) fault (differs bits version (pairs ++ l.done) f.held l.behind f.holds))
 

@@ -1,5 +1,5 @@
 -- Events that pass levels of nodes, and the chunks of a file.
-use Rattle.std.proofs.Common.{◌≡◌, ℕ, zero, suc, ◌+◌, ◌<◌, ◌≤◌, List, [], ◌∷◌, ◌++◌, length, take, map, get_or, Option, Some, None, refl, sym, ap, ◌∙◌, subst, arith, append_assoc, append-nil}
+use Rattle.std.proofs.Common.{◌≡◌, ℕ, zero, suc, ◌+◌, ◌<◌, ◌≤◌, List, [], ◌∷◌, ◌++◌, length, take, get_or, Option, Some, None, refl, sym, ap, ◌∙◌, subst, arith, append_assoc, append-nil}
 use Rattle.std.specs.Prelude.{slice_set}
 use Rattle.std.proofs.Math.Seq.{set-append_seam}
 use Rattle.std.proofs.lemmas.Bool.{cond-true, cond-false}
@@ -11,9 +11,8 @@ use Rattle.prolly_entry.specs.declared.version.Version.{Version}
 use Rattle.prolly_entry.specs.Cut.{Cut, sha512_cut}
 use Rattle.prolly_entry.specs.Chunk.{Chunk}
 use Rattle.prolly_entry.specs.Events.{faulty, inner_events}
-use Rattle.prolly_entry.specs.Prefix.{IsPrefix}
 use Rattle.prolly_entry.proofs.Prefixes.{fault_is_prefix}
-use Rattle.prolly_chunk.specs.NodeLevel.{NodeState, node_level, NodeTakes}
+use Rattle.prolly_chunk.specs.NodeLevel.{NodeState, NodeTakes}
 use Rattle.prolly_check.specs.declared.fault.CheckFault.{CheckFault}
 use Rattle.prolly_check.specs.declared.fault.CheckFault.TheVariants as faults
 use Rattle.prolly_check.specs.Judged.{difference}
@@ -89,23 +88,12 @@ nothing_after : (before after old : List (NodeState ℕ)) (place : ℕ) → old 
 nothing_after before [] old place e f h = refl
 nothing_after before (s ∷ after) old place e f h = absurd (omega (arith, ap length e, length-append before (s ∷ after)))
 
-pub passed_top : (chunks : List (List ℕ)) (old : List (NodeState ℕ)) (place : ℕ) (event : Chunk) (number next : ℕ) → length old ≤ place → MovesOn chunks number next event.bytes →
-    (before after : List (NodeState ℕ)) → old ≡ before ++ after → length before ≡ place → PassedOn chunks before after old event number next
-passed_top chunks old place event number next h m before after e f =
-    let none = nothing_after before after old place e f h in
-    subst (λ a. PassedOn chunks before a old event number next) (sym none) (record {
-      above = [];
-      is = e ∙ ap (λ a. before ++ a) none;
-      size = refl;
-      so = λ bits version level events behind first. (tt, first_more chunks number next events event m first);
-    })
-
 pub fault_top : (chunks : List (List ℕ)) (old : List (NodeState ℕ)) (place : ℕ) (event : Chunk) (number : ℕ) (fault : CheckFault) → length old ≤ place → number ≤ length chunks → FaultHere chunks number event.bytes fault →
     FaultPassing chunks old place event number fault
 fault_top chunks old place event number fault h within m before after e f bits version level events =
     let none = nothing_after before after old place e f h in
     subst (λ a. AreBehind bits version level a events → AreFirst chunks number (sent_through (sha512_cut bits) version level (length a) events) →
-        DifferAs chunks (sent_through (sha512_cut bits) version level (length a) (events ++ event ∷ [])) fault) (sym none)
+    DifferAs chunks (sent_through (sha512_cut bits) version level (length a) (events ++ event ∷ [])) fault) (sym none)
     (λ behind first. differ_here chunks number events event fault within m first)
 
 -- through a level, and then those above it
@@ -136,8 +124,8 @@ module _ (chunks : List (List ℕ)) (old mid : List (NodeState ℕ)) (place : �
       let inner = inner_events level (sha512_cut bits) version faulty in
       let k = known before after p bits version level events behind in
       let d : DifferAs chunks (sent_through (sha512_cut bits) version (suc level) (length p.above) (inner events ++ event ∷ [])) fault =
-          h (before ++ p.took.state ∷ []) p.above (p.took.is ∙ sym (append_assoc before (p.took.state ∷ []) p.above)) (omega (arith, f, length-append before (p.took.state ∷ [])))
-          bits version (suc level) (inner events) k.1 (subst (λ a. AreFirst chunks number (sent_through (sha512_cut bits) version level (length a) events)) p.is first) in
+      h (before ++ p.took.state ∷ []) p.above (p.took.is ∙ sym (append_assoc before (p.took.state ∷ []) p.above)) (omega (arith, f, length-append before (p.took.state ∷ [])))
+      bits version (suc level) (inner events) k.1 (subst (λ a. AreFirst chunks number (sent_through (sha512_cut bits) version level (length a) events)) p.is first) in
       subst (λ a. DifferAs chunks (sent_through (sha512_cut bits) version level (length a) (events ++ event ∷ [])) fault) (sym p.is)
       (subst (λ es. DifferAs chunks (sent_through (sha512_cut bits) version (suc level) (length p.above) es) fault) (sym (sends before after p bits version level events behind))
       (sent_differs_more chunks (sha512_cut bits) version (suc level) (length p.above) (inner events ++ event ∷ []) (option_to_list closed) fault d))
@@ -161,11 +149,10 @@ module _ (chunks : List (List ℕ)) (old mid : List (NodeState ℕ)) (place : �
               let k = known before after p bits version level events behind in
               let a = q.so bits version (suc level) (inner events) k.1 (subst (λ a. AreFirst chunks number (sent_through (sha512_cut bits) version level (length a) events)) p.is first) in
               let sent : inner (events ++ event ∷ []) ≡ inner events ++ event ∷ [] =
-                  sends before after p bits version level events behind ∙ ap (λ c. (inner events ++ event ∷ []) ++ option_to_list c) none ∙ append-nil (inner events ++ event ∷ []) in
-              (
+              sends before after p bits version level events behind ∙ ap (λ c. (inner events ++ event ∷ []) ++ option_to_list c) none ∙ append-nil (inner events ++ event ∷ []) in (
                 (p.took.takes.state bits version level events k.0, subst (AreBehind bits version (suc level) q.above) (sym sent) a.0),
                 subst (λ b. AreFirst chunks next (sent_through (sha512_cut bits) version level (length b) (events ++ event ∷ []))) (sym p.is)
-                (subst (λ es. AreFirst chunks next (sent_through (sha512_cut bits) version (suc level) (length p.above) es)) (sym sent) a.1),
+                    (subst (λ es. AreFirst chunks next (sent_through (sha512_cut bits) version (suc level) (length p.above) es)) (sym sent) a.1),
               );
         }
 
@@ -184,7 +171,7 @@ module _ (chunks : List (List ℕ)) (old mid : List (NodeState ℕ)) (place : �
           let k = known before after p bits version level events b in
           let a = q.so bits version (suc level) (inner events) k.1 (subst (λ a. AreFirst chunks number (sent_through (sha512_cut bits) version level (length a) events)) p.is first) in
           let d = h (before ++ p.took.state ∷ []) q.above q.is (omega (arith, f, length-append before (p.took.state ∷ []))) bits version (suc level) (inner events ++ event ∷ []) a.0
-              (subst (λ n. AreFirst chunks next (sent_through (sha512_cut bits) version (suc level) n (inner events ++ event ∷ []))) (sym q.size) a.1) in
+          (subst (λ n. AreFirst chunks next (sent_through (sha512_cut bits) version (suc level) n (inner events ++ event ∷ []))) (sym q.size) a.1) in
           subst (λ a. DifferAs chunks (sent_through (sha512_cut bits) version level (length a) (events ++ event ∷ [])) fault) (sym p.is)
           (subst (λ es. DifferAs chunks (sent_through (sha512_cut bits) version (suc level) (length p.above) es) fault) (sym (sends_two before after p bits version level events b))
           (subst (λ n. DifferAs chunks (sent_through (sha512_cut bits) version (suc level) n ((inner events ++ event ∷ []) ++ behind ∷ [])) fault) q.size d))
@@ -203,13 +190,12 @@ module _ (chunks : List (List ℕ)) (old mid : List (NodeState ℕ)) (place : �
                 let k = known before after p bits version level events b in
                 let a = q.so bits version (suc level) (inner events) k.1 (subst (λ a. AreFirst chunks number (sent_through (sha512_cut bits) version level (length a) events)) p.is first) in
                 let c = r.so bits version (suc level) (inner events ++ event ∷ []) a.0
-                    (subst (λ n. AreFirst chunks next (sent_through (sha512_cut bits) version (suc level) n (inner events ++ event ∷ []))) (sym q.size) a.1) in
-                let sent = sends_two before after p bits version level events b in
-                (
+                (subst (λ n. AreFirst chunks next (sent_through (sha512_cut bits) version (suc level) n (inner events ++ event ∷ []))) (sym q.size) a.1) in
+                let sent = sends_two before after p bits version level events b in (
                   (p.took.takes.state bits version level events k.0, subst (AreBehind bits version (suc level) r.above) (sym sent) c.0),
                   subst (λ b. AreFirst chunks last (sent_through (sha512_cut bits) version level (length b) (events ++ event ∷ []))) (sym p.is)
-                  (subst (λ es. AreFirst chunks last (sent_through (sha512_cut bits) version (suc level) (length p.above) es)) (sym sent)
-                  (subst (λ n. AreFirst chunks last (sent_through (sha512_cut bits) version (suc level) n ((inner events ++ event ∷ []) ++ behind ∷ []))) q.size c.1)),
+                      (subst (λ es. AreFirst chunks last (sent_through (sha512_cut bits) version (suc level) (length p.above) es)) (sym sent)
+                      (subst (λ n. AreFirst chunks last (sent_through (sha512_cut bits) version (suc level) n ((inner events ++ event ∷ []) ++ behind ∷ []))) q.size c.1)),
                 );
           }
 

@@ -1,4 +1,4 @@
-use Rattle.std.proofs.Common.{sym, subst, arith}
+use Rattle.std.proofs.Common.{subst, arith}
 use Rattle.std.proofs.lemmas.Result.{IfOk-weaker, IfErr-weaker}
 use Rattle.prolly_check.specs.Rebuilt.{FaultHere, FaultPassing}
 use Rattle.prolly_check.specs.Spans.{chunks_in}

@@ -25,10 +25,10 @@ pub returns-clause-err : goal.returns-clause-err
 returns-clause-err c =
     let chunks = chunks_in c.args.bytes.now c.args.spans.now in
     let Wrong : CheckFault → Type 0 = λ fault. (bits : ℕ) (version : Version) (pairs held : List Pair) →
-        IsBehind bits version chunks pairs c.args.rebuild.now.leaf c.args.rebuild.now.nodes.items c.args.rebuild.now.number → Holds version c.args.chunk.now held → DifferBy bits version chunks (pairs ++ held) fault in
+    IsBehind bits version chunks pairs c.args.rebuild.now.leaf c.args.rebuild.now.nodes.items c.args.rebuild.now.number → Holds version c.args.chunk.now held → DifferBy bits version chunks (pairs ++ held) fault in
     let WrongLeaf : CheckFault → Type 0 = λ fault. (bits : ℕ) (version : Version) (pairs leaf : List Pair) →
-        IsBehind bits version chunks pairs c.args.rebuild.now.leaf c.args.rebuild.now.nodes.items c.args.rebuild.now.number → AllByRecursion IsPair leaf →
-        take (length c.args.chunk.now - 1) (drop 1 c.args.chunk.now) ≡ flat_map pair_spelling leaf → DifferBy bits version chunks (pairs ++ leaf) fault in
+    IsBehind bits version chunks pairs c.args.rebuild.now.leaf c.args.rebuild.now.nodes.items c.args.rebuild.now.number → AllByRecursion IsPair leaf →
+    take (length c.args.chunk.now - 1) (drop 1 c.args.chunk.now) ≡ flat_map pair_spelling leaf → DifferBy bits version chunks (pairs ++ leaf) fault in
     IfErr-weaker c.add_leaf.result (UnlessMemory WrongLeaf) (UnlessMemory Wrong) (λ fault refused. still_refused WrongLeaf Wrong
     (λ fault h bits version pairs held b holds.
     let leaf = chunk_leaf version held c.args.chunk.now c.if-chunk-ne0.false holds in

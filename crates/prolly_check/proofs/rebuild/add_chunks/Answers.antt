@@ -29,9 +29,9 @@ returns-in-Err-clause-err c =
     let chunks = chunks_in c.args.bytes.now c.args.spans.now in
     still_refused
     (λ fault. (bits : ℕ) (version : Version) (pairs held : List Pair) → IsBehind bits version chunks pairs c.loop-span.rebuild.leaf c.loop-span.rebuild.nodes.items c.loop-span.rebuild.number →
-        Holds version c.chunk_at.result.now held → DifferBy bits version chunks (pairs ++ held) fault)
+    Holds version c.chunk_at.result.now held → DifferBy bits version chunks (pairs ++ held) fault)
     (λ fault. (bits : ℕ) (version : Version) (pairs : List Pair) (lists : List (List Pair)) → IsBehind bits version chunks pairs c.args.rebuild.now.leaf c.args.rebuild.now.nodes.items c.args.rebuild.now.number →
-        AllHold version chunks lists → DifferBy bits version chunks (pairs ++ flat lists) fault)
+    AllHold version chunks lists → DifferBy bits version chunks (pairs ++ flat lists) fault)
     (λ fault h. chunks_fault c.args.bytes.now c.args.spans.now c.args.rebuild.now.leaf c.args.rebuild.now.nodes.items c.args.rebuild.now.number c.loop-span.rebuild.leaf c.loop-span.rebuild.nodes.items c.loop-span.rebuild.number
     c.loop-span.span-index c.loop-span.invariant.all (record { start = 0; len = 0 }) c.chunk_at.result.now (omega arith) c.chunk_at.ensures fault h)
     c.in-Err.fault c.in-Err.ensures.err

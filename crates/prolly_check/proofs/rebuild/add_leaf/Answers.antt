@@ -1,4 +1,4 @@
-use Rattle.std.proofs.Common.{ℕ, List, ◌≡◌, ◌++◌, ◌∷◌, [], arith, subst, sym, ap}
+use Rattle.std.proofs.Common.{ℕ, List, ◌≡◌, ◌++◌, ◌∷◌, [], arith}
 use Rattle.std.specs.List.{flat_map, AllByRecursion}
 use Rattle.prolly_entry.specs.Pair.{Pair, IsPair}
 use Rattle.prolly_entry.specs.Spelling.{pair_spelling}
@@ -8,7 +8,7 @@ use Rattle.prolly_check.specs.Rebuilt.{IsBehind, DifferBy}
 use Rattle.prolly_check.specs.Spans.{chunks_in}
 use Rattle.prolly_check.proofs.EntrySteps.{no_pair}
 use Rattle.prolly_check.proofs.PairSteps.{still_refused}
-use Rattle.prolly_check.proofs.RebuildSteps.{LeafRebuilt, leaf_rebuild_begins, leaf_rebuild_goes_on, leaf_rebuild_fault, leaf_rebuild_ends, leaf_rebuild_stops}
+use Rattle.prolly_check.proofs.RebuildSteps.{leaf_rebuild_goes_on, leaf_rebuild_fault, leaf_rebuild_ends, leaf_rebuild_stops}
 use Rattle.prolly_check.proofs.rebuild.add_leaf.Goals as goal
 
 pub returns-in-Err-add_pair-clause-err : goal.returns-in-Err-add_pair-clause-err
@@ -17,7 +17,7 @@ returns-in-Err-add_pair-clause-err c =
     still_refused
     (λ fault. (bits : ℕ) (version : Version) (pairs : List Pair) → IsBehind bits version chunks pairs c.loop-place.rebuild.leaf c.loop-place.rebuild.nodes.items c.loop-place.rebuild.number → DifferBy bits version chunks (pairs ++ c.in-Ok.pair ∷ []) fault)
     (λ fault. (bits : ℕ) (version : Version) (pairs leaf : List Pair) → IsBehind bits version chunks pairs c.args.rebuild.now.leaf c.args.rebuild.now.nodes.items c.args.rebuild.now.number → AllByRecursion IsPair leaf →
-        c.args.entries.now ≡ flat_map pair_spelling leaf → DifferBy bits version chunks (pairs ++ leaf) fault)
+    c.args.entries.now ≡ flat_map pair_spelling leaf → DifferBy bits version chunks (pairs ++ leaf) fault)
     (λ fault h. leaf_rebuild_fault (chunks_in c.args.bytes.now c.args.spans.now) c.args.entries.now c.args.rebuild.now.leaf c.args.rebuild.now.nodes.items c.args.rebuild.now.number c.loop-place.rebuild.leaf c.loop-place.rebuild.nodes.items c.loop-place.rebuild.number
     c.loop-place.place c.loop-place.invariant.all
     _ c.in-Pair.len _ c.in-Ok.pair fault (rest_is c.args.entries.now c.loop-place.place) (omega arith) c.in-Pair.ensures.is.0 c.in-Ok.ensures h)

@@ -14,7 +14,7 @@ returns-in-Ok-pass-clause-ok c = λ bits version pairs b.
     let old = c.args.rebuild.now.nodes.items in
     let new = c.pass.new.levels in
     let passed : PassesOn chunks old new 0 c.in-Some.leaf c.args.rebuild.now.number c.in-Ok-pass.number =
-        subst (λ ns. PassesOn chunks ns new 0 c.in-Some.leaf c.args.rebuild.now.number c.in-Ok-pass.number) c.deref_mut.ensures.value c.in-Ok-pass.ensures.ok in
+    subst (λ ns. PassesOn chunks ns new 0 c.in-Some.leaf c.args.rebuild.now.number c.in-Ok-pass.number) c.deref_mut.ensures.value c.in-Ok-pass.ensures.ok in
     subst (λ ns. IsBehind bits version chunks (pairs ++ c.args.pair.now ∷ []) c.push.new.self ns c.in-Ok-pass.number)
     (sym (written old new c.args.rebuild.now.nodes.len c.args.rebuild.now.nodes.ok.0 (same_size chunks old new c.in-Some.leaf c.args.rebuild.now.number c.in-Ok-pass.number passed)))
     (added_some chunks c.args.pair.now c.args.rebuild.now.leaf c.push.new.self c.in-Ok.closed c.in-Ok.ensures old c.args.rebuild.now.number bits version pairs b c.in-Some.leaf c.in-Some.is new c.in-Ok-pass.number passed)

@@ -1,12 +1,10 @@
-use Rattle.std.proofs.Common.{ℕ, List, subst, sym}
-use Rattle.std.proofs.lemmas.Result.{IfOk-weaker, IfErr-weaker}
+use Rattle.std.proofs.Common.{ℕ, List, subst}
 use Rattle.prolly_entry.specs.Pair.{Pair}
 use Rattle.prolly_entry.specs.declared.version.Version.{Version}
-use Rattle.prolly_check.specs.Rebuilt.{IsBehind, IsEnding, EndsAt, FaultAtEnd, MaybePasses, MaybeFault}
+use Rattle.prolly_check.specs.Rebuilt.{IsBehind, FaultAtEnd, MaybeFault}
 use Rattle.prolly_check.specs.Refusal.{UnlessMemory}
 use Rattle.prolly_check.specs.Spans.{chunks_in}
-use Rattle.prolly_check.specs.declared.fault.CheckFault.{CheckFault}
-use Rattle.prolly_check.proofs.FinishSteps.{nodes_end, leaf_end_fault, others_written}
+use Rattle.prolly_check.proofs.FinishSteps.{leaf_end_fault}
 use Rattle.prolly_check.proofs.PairSteps.{still_refused}
 use Rattle.prolly_check.proofs.rebuild.finish.Goals as goal
 
@@ -19,4 +17,3 @@ returns-in-Err-clause-err c =
     (λ fault h bits version pairs b. leaf_end_fault bits version chunks pairs c.args.rebuild.leaf nodes c.args.rebuild.number c.finish-last.result c.finish-last.ensures b fault h)
     c.in-Err.fault
     (subst (λ ns. UnlessMemory (MaybeFault chunks ns c.finish-last.result c.args.rebuild.number) c.in-Err.fault) c.deref_mut.ensures.value c.in-Err.ensures.err)
-

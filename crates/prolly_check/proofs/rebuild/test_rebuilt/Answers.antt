@@ -17,7 +17,7 @@ returns-in-Err-add_chunks-clause-err c =
     let rebuild = c.in-Ok.rebuild in
     still_refused
     (λ fault. (bits : ℕ) (version : Version) (pairs : List Pair) (lists : List (List Pair)) → IsBehind bits version chunks pairs rebuild.leaf rebuild.nodes.items rebuild.number → AllHold version chunks lists →
-        DifferBy bits version chunks (pairs ++ flat lists) fault)
+    DifferBy bits version chunks (pairs ++ flat lists) fault)
     (λ fault. (lists : List (List Pair)) → AllHold c.args.version chunks lists → length (flat lists) < 2 ^ 64 → difference 0 (chunk_bytes c.args.version c.args.cut (flat lists)) chunks ≡ Some fault)
     (λ fault h lists hold few. verdict_fault c.args.cut c.args.version chunks (flat lists) few fault
     (differ_by_at_end c.args.cut c.args.version (flat lists) chunks fault (h c.args.cut c.args.version [] lists (c.in-Ok.ensures.behind chunks) hold)))
