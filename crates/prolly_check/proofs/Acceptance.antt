@@ -24,7 +24,7 @@ use Rattle.prolly_check.specs.declared.fault.CheckFault.{CheckFault}
 use Rattle.prolly_check.specs.declared.fault.CheckFault.TheVariants.{BadHeader, Truncated, Trailing, BadEnd, KeysOutOfOrder, NotCanonical, Collision}
 use Rattle.prolly_check.specs.Content.{Content}
 use Rattle.prolly_check.specs.Frames.{ending_of, IsSmall, IsFramed}
-use Rattle.prolly_check.specs.Entries.{Child, IsChild, entry_of, AllHold}
+use Rattle.prolly_check.specs.Entries.{Child, IsChild, entry_of, Holds, AllHold}
 use Rattle.prolly_check.specs.Judged.{is_rising, order_fault, difference, end_fault, reuse, chunk_bytes, ending_for, or_content, judged}
 use Rattle.prolly_check.specs.Verdict.{FramesVerdict, HeaderVerdict, IsVerdict, AllApart, IsFileOf, AcceptsFiles}
 use Rattle.prolly_entry.proofs.Parts.{flat}
@@ -35,25 +35,25 @@ use Rattle.prolly_check.proofs.Verdicts.{and_both, frames_bytes, Other, accepted
 
 -- ---- the pairs that each chunk holds
 
-own_lists : (level : ℕ) → Tree level → List (List Pair)
+pub own_lists : (level : ℕ) → Tree level → List (List Pair)
 own_lists zero leaf = leaf ∷ []
 own_lists (suc level) ts = flat_map (own_lists level) ts ++ [] ∷ []
 
-flat_all : (level : ℕ) → ((t : Tree level) → flat (own_lists level t) ≡ pairs_below level t) → (ts : List (Tree level)) → flat (flat_map (own_lists level) ts) ≡ flat_map (pairs_below level) ts
+pub flat_all : (level : ℕ) → ((t : Tree level) → flat (own_lists level t) ≡ pairs_below level t) → (ts : List (Tree level)) → flat (flat_map (own_lists level) ts) ≡ flat_map (pairs_below level) ts
 flat_all level h [] = refl
 flat_all level h (t ∷ ts) = flat_map-append (λ g. g) (own_lists level t) (flat_map (own_lists level) ts)
     ∙ ap (λ a. a ++ flat (flat_map (own_lists level) ts)) (h t) ∙ ap (λ b. pairs_below level t ++ b) (flat_all level h ts)
 
-own_flat : (level : ℕ) (t : Tree level) → flat (own_lists level t) ≡ pairs_below level t
+pub own_flat : (level : ℕ) (t : Tree level) → flat (own_lists level t) ≡ pairs_below level t
 unfolding own_lists
 own_flat zero t = append-nil t
 own_flat (suc level) ts = flat_map-append (λ g. g) (flat_map (own_lists level) ts) ([] ∷ [])
     ∙ append-nil (flat (flat_map (own_lists level) ts)) ∙ flat_all level (own_flat level) ts
 
-abbrev bytes_in : List Chunk → List (List ℕ)
+abbrev pub bytes_in : List Chunk → List (List ℕ)
 bytes_in cs = map (λ c. c.bytes) cs
 
-bytes_append : (cs ds : List Chunk) → bytes_in (cs ++ ds) ≡ bytes_in cs ++ bytes_in ds
+pub bytes_append : (cs ds : List Chunk) → bytes_in (cs ++ ds) ≡ bytes_in cs ++ bytes_in ds
 bytes_append [] ds = refl
 bytes_append (c ∷ cs) ds = ap (λ x. c.bytes ∷ x) (bytes_append cs ds)
 
@@ -82,10 +82,10 @@ module _ (version : Version) where
     all_children level ts (all_back IsPair (pairs_below level t) (flat_map (pairs_below level) ts) h),
   )
 
-  abbrev PostHolds : (level : ℕ) → Tree level → Type 0
+  abbrev pub PostHolds : (level : ℕ) → Tree level → Type 0
   PostHolds level t = AllHold version (bytes_in (post_order version level t)) (own_lists level t)
 
-  hold_all : (level : ℕ) → ((t : Tree level) → AllByRecursion IsPair (pairs_below level t) → PostHolds level t) →
+  pub hold_all : (level : ℕ) → ((t : Tree level) → AllByRecursion IsPair (pairs_below level t) → PostHolds level t) →
       (ts : List (Tree level)) → AllByRecursion IsPair (flat_map (pairs_below level) ts) → AllHold version (bytes_in (flat_map (post_order version level) ts)) (flat_map (own_lists level) ts)
   hold_all level h [] k = tt
   hold_all level h (t ∷ ts) k = subst (λ cs. AllHold version cs (flat_map (own_lists level) (t ∷ ts))) (sym (bytes_append (post_order version level t) (flat_map (post_order version level) ts)))
@@ -93,13 +93,17 @@ module _ (version : Version) where
       (h t (all_front IsPair (pairs_below level t) (flat_map (pairs_below level) ts) k))
       (hold_all level h ts (all_back IsPair (pairs_below level t) (flat_map (pairs_below level) ts) k)))
 
-  hold_post : (level : ℕ) (t : Tree level) → AllByRecursion IsPair (pairs_below level t) → PostHolds level t
+  -- a node has no pairs itself
+  pub holds_node : (level : ℕ) (ts : List (Tree level)) → AllByRecursion IsPair (flat_map (pairs_below level) ts) → Holds version (bytes_of version (suc level) ts) []
+  holds_node level ts k = record { children = map (child_of level) ts; is = entries_are level ts; lawful = all_children level ts k; none = refl }
+
+  pub hold_post : (level : ℕ) (t : Tree level) → AllByRecursion IsPair (pairs_below level t) → PostHolds level t
   unfolding own_lists
   hold_post zero t k = (record { is = refl; lawful = k }, tt)
   hold_post (suc level) ts k = subst (λ cs. AllHold version cs (flat_map (own_lists level) ts ++ [] ∷ [])) (sym (bytes_append (flat_map (post_order version level) ts) (chunk_of version (suc level) ts ∷ [])))
       (hold_append (bytes_in (flat_map (post_order version level) ts)) (bytes_of version (suc level) ts ∷ []) (flat_map (own_lists level) ts) ([] ∷ [])
       (hold_all level (hold_post level) ts k)
-      (record { children = map (child_of level) ts; is = entries_are level ts; lawful = all_children level ts k; none = refl }, tt))
+      (holds_node level ts k, tt))
 
 -- ---- the keys
 
@@ -130,7 +134,7 @@ order_clean before number (ps ∷ lists) h =
 
 -- ---- the one file and the references
 
-difference_same : (number : ℕ) (cs : List (List ℕ)) → difference number cs cs ≡ None
+pub difference_same : (number : ℕ) (cs : List (List ℕ)) → difference number cs cs ≡ None
 difference_same number [] = refl
 difference_same number (c ∷ cs) = cond-true (bytes_eq c c) (difference (suc number) cs cs) (Some (NotCanonical number)) ((bytes_eq-Decides c c).1 refl) ∙ difference_same (suc number) cs
 

@@ -1,7 +1,6 @@
 -- The tests against the file of the pairs.
-use Rattle.std.proofs.Common.{◌≡◌, ℕ, zero, suc, ◌+◌, ◌-◌, ◌^◌, ◌<◌, ◌≤◌, Bool, true, false, not, nat_lt, List, [], ◌∷◌, ◌++◌, length, map, take, drop, get_or, Option, Some, None, refl, sym, ap, ◌∙◌, subst, arith, append_assoc, append-nil, inl, inr}
+use Rattle.std.proofs.Common.{◌≡◌, ℕ, zero, suc, ◌+◌, ◌-◌, ◌<◌, ◌≤◌, Bool, true, false, not, nat_lt, List, [], ◌∷◌, ◌++◌, length, map, take, drop, get_or, Option, Some, None, refl, sym, ap, ◌∙◌, subst, arith, append_assoc, append-nil, inl, inr}
 use Rattle.std.specs.Str.{bytes_eq}
-use Rattle.std.specs.List.{flat_map}
 use Rattle.std.proofs.lemmas.Slice.Eq.{bytes_eq-Decides}
 use Rattle.std.proofs.lemmas.Bool.{cond-true, cond-false, false≢true, cases_lt}
 use Rattle.std.proofs.lemmas.Bool.Decides.{nat_tests}
@@ -9,28 +8,19 @@ use Rattle.std.proofs.lemmas.List.{length-append, take-append-drop}
 use Rattle.prolly_entry.specs.declared.version.Version.{Version}
 use Rattle.prolly_entry.specs.Keys.{Rising}
 use Rattle.prolly_entry.specs.Pair.{Pair}
-use Rattle.prolly_entry.specs.Cut.{sha512_cut}
-use Rattle.prolly_entry.specs.Chunk.{chunks}
-use Rattle.prolly_entry.specs.File.{header, frame}
 use Rattle.prolly_entry.specs.Overlay.{or_else}
-use Rattle.prolly_entry.specs.Tree.{level_count}
-use Rattle.prolly_entry.specs.Cut.{Cut}
-use Rattle.prolly_entry.proofs.Levels.{few_levels}
 use Rattle.prolly_entry.proofs.Parts.{flat}
-use Rattle.prolly_file.specs.Frame.{framed}
 use Rattle.prolly_file.specs.Scratch.{keys_in, FallsAt}
 use Rattle.prolly_check.specs.declared.fault.CheckFault.{CheckFault}
 use Rattle.prolly_check.specs.declared.fault.CheckFault.TheVariants as faults
 use Rattle.prolly_check.specs.declared.frames.Span.{Span}
 use Rattle.prolly_check.specs.Refusal.{UnlessMemory}
-use Rattle.prolly_check.specs.Frames.{has_no_frame}
-use Rattle.prolly_check.specs.Spans.{chunk_in, chunks_in, FramesTo}
+use Rattle.prolly_check.specs.Spans.{chunk_in, chunks_in}
 use Rattle.prolly_check.specs.Pairs.{ends_of}
 use Rattle.prolly_check.specs.Judged.{is_rising, order_fault, difference, end_fault, chunk_bytes, ending_for}
-use Rattle.prolly_check.specs.Canonical.{AreLists, first_behind, canonical_fault, WantsFile}
-use Rattle.prolly_check.proofs.Verdicts.{rising_ok, frames_bytes, not_false}
-use Rattle.prolly_check.proofs.Acceptance.{rising_front, rising_test, order_clean, all_small}
-use Rattle.prolly_check.proofs.OneVerdict.{framed_one}
+use Rattle.prolly_check.specs.Canonical.{AreLists, first_behind, canonical_fault}
+use Rattle.prolly_check.proofs.Verdicts.{rising_ok, not_false}
+use Rattle.prolly_check.proofs.Acceptance.{rising_front, rising_test, order_clean}
 
 -- ---- the chunk of a pair
 
@@ -79,7 +69,7 @@ beyond (suc n) (x ∷ xs) ys h =
     let e : suc n - suc (length xs) ≡ n - length xs = omega arith in
     rw e (ap (λ zs. x ∷ zs) (beyond n xs ys (omega arith)))
 
-false_is : (b : Bool) → (b ≡ true → ⊥) → b ≡ false
+pub false_is : (b : Bool) → (b ≡ true → ⊥) → b ≡ false
 false_is true h = absurd (h refl)
 false_is false h = refl
 
@@ -140,7 +130,7 @@ differs_here number (c ∷ cs) (d ∷ ds) (suc n) h k e =
     let h' : suc n < suc (length cs) = h in let k' : suc n < suc (length ds) = k in
     differs_here number cs ds n (omega arith) (omega arith) e
 
-nothing_left : (cs : List (List ℕ)) (n : ℕ) → length cs ≤ n → drop n cs ≡ []
+pub nothing_left : (cs : List (List ℕ)) (n : ℕ) → length cs ≤ n → drop n cs ≡ []
 nothing_left [] zero h = refl
 nothing_left [] (suc n) h = refl
 nothing_left (c ∷ cs) zero h = absurd (let h' : suc (length cs) ≤ 0 = h in omega arith)
@@ -173,29 +163,6 @@ pub chunk_there : (bytes : List ℕ) (spans : List Span) (n : ℕ) (other : Span
 chunk_there bytes [] n other h = absurd (omega arith)
 chunk_there bytes (s ∷ spans) zero other h = refl
 chunk_there bytes (s ∷ spans) (suc n) other h = let h' : suc n < suc (length spans) = h in chunk_there bytes spans n other (omega arith)
-
--- ---- the file that is wanted
-
--- a file has more bytes than its header
-pub file_room : (version : Version) (bits : ℕ) (pairs : List Pair) (wanted : List ℕ) → WantsFile version bits pairs wanted → 6 ≤ length wanted
-file_room version bits pairs wanted w =
-    omega (arith, ap length w.is, length-append (header version bits) (flat_map frame (chunks (sha512_cut bits) version pairs) ++ 0x45 ∷ ending_for version bits pairs))
-
-pub record FoundFile (version : Version) (bits : ℕ) (pairs : List Pair) (wanted : List ℕ) (spans : List Span) (place : ℕ) : Type 0 where
-  pub chunks_are : chunks_in wanted spans ≡ chunk_bytes version bits pairs
-  pub ending_is : drop place wanted ≡ 0x45 ∷ ending_for version bits pairs
-
-pub file_found : (version : Version) (bits : ℕ) (pairs : List Pair) (wanted : List ℕ) (spans : List Span) (place : ℕ) → length wanted < 2 ^ 64 → WantsFile version bits pairs wanted →
-    FramesTo wanted spans place → has_no_frame (drop place wanted) ≡ true → FoundFile version bits pairs wanted spans place
-file_found version bits pairs wanted spans place short w f none =
-    let cs = chunk_bytes version bits pairs in
-    let tail = 0x45 ∷ ending_for version bits pairs in
-    let rest : drop 6 wanted ≡ flat_map framed cs ++ tail = ap (drop 6) w.is ∙ ap (λ x. x ++ tail) (frames_bytes (chunks (sha512_cut bits) version pairs)) in
-    let size : length wanted ≡ 6 + length (flat_map framed cs ++ tail) =
-    ap length w.is ∙ length-append (header version bits) (flat_map frame (chunks (sha512_cut bits) version pairs) ++ tail)
-    ∙ ap (λ x. 6 + length (x ++ tail)) (frames_bytes (chunks (sha512_cut bits) version pairs)) in
-    let s = framed_one (chunks_in wanted spans) cs (drop place wanted) tail f.small (all_small cs tail (omega arith)) none refl (sym f.spelled ∙ rest) in
-    record { chunks_are = s.chunks; ending_is = s.tail }
 
 -- ---- all of it
 
@@ -246,10 +213,6 @@ end_same version bits cs ending pairs wanted found want e d f g same =
     ∙ cond-true (bytes_eq ending (ending_for version bits pairs)) None (Some faults.BadEnd)
     ((bytes_eq-Decides ending (ending_for version bits pairs)).1 (tail_same ending (ending_for version bits pairs) (sym f ∙ same ∙ g)))
 
--- no list that lies in memory has a tree of more than 255 levels
-pub not_tall : (cut : Cut) (version : Version) (pairs : List Pair) → length pairs < 2 ^ 64 → 255 < level_count cut version pairs → ⊥
-not_tall cut version pairs h k = let few : level_count cut version pairs ≤ 65 = few_levels cut version pairs 64 (omega arith) in omega arith
-
 -- what `!=` of bytes says
 pub unequal : (x y : List ℕ) → true ≡ not (bytes_eq x y) → x ≡ y → ⊥
 unequal x y e f = false≢true (sym (e ∙ ap not ((bytes_eq-Decides x y).1 f)))
@@ -271,37 +234,3 @@ named P (faults.KeysOutOfOrder n) h = h
 named P (faults.NotCanonical n) h = h
 named P faults.BadEnd h = h
 named P (faults.Collision n) h = h
-
--- ---- what the code finds, in the words of the verdict
-
-module _ (version : Version) (bits : ℕ) (bytes : List ℕ) (spans : List Span) (place : ℕ) (pairs : List Pair) (ends : List ℕ) (wanted : List ℕ) (others : List Span) (end : ℕ)
-    (short : length wanted < 2 ^ 64) (file : WantsFile version bits pairs wanted) (frames : FramesTo wanted others end) (all : has_no_frame (drop end wanted) ≡ true) where
-  abbrev pub Fault : Option CheckFault → Type 0
-  Fault o = (lists : List (List Pair)) (ending : List ℕ) → AreLists lists pairs ends → drop place bytes ≡ 0x45 ∷ ending → canonical_fault version bits (chunks_in bytes spans) ending lists ≡ o
-
-  pub chunks_named : (fault : CheckFault) → difference 0 (chunks_in wanted others) (chunks_in bytes spans) ≡ Some fault → UnlessMemory (λ f. Fault (Some f)) fault
-  chunks_named fault d = named (λ f. Fault (Some f)) fault (λ lists ending a e.
-      let f = file_found version bits pairs wanted others end short file frames all in
-      then_chunks version bits (chunks_in bytes spans) ending lists pairs ends a file.rising
-      ∙ chunks_first version bits (chunks_in bytes spans) ending pairs (chunks_in wanted others) fault f.chunks_are d)
-
-  pub end_named : (fault : CheckFault) → difference 0 (chunks_in wanted others) (chunks_in bytes spans) ≡ None →
-      (fault ≡ faults.BadEnd) × (drop place bytes ≡ drop end wanted → ⊥) → UnlessMemory (λ f. Fault (Some f)) fault
-  end_named fault d h = named (λ f. Fault (Some f)) fault (λ lists ending a e.
-      let f = file_found version bits pairs wanted others end short file frames all in
-      then_chunks version bits (chunks_in bytes spans) ending lists pairs ends a file.rising
-      ∙ end_differs version bits (chunks_in bytes spans) ending pairs (chunks_in wanted others) (drop place bytes) (drop end wanted) f.chunks_are d e f.ending_is h.1
-      ∙ ap Some (sym h.0))
-
-  pub none_named : difference 0 (chunks_in wanted others) (chunks_in bytes spans) ≡ None → drop place bytes ≡ drop end wanted → Fault None
-  none_named d h lists ending a e =
-      let f = file_found version bits pairs wanted others end short file frames all in
-      then_chunks version bits (chunks_in bytes spans) ending lists pairs ends a file.rising
-      ∙ end_same version bits (chunks_in bytes spans) ending pairs (chunks_in wanted others) (drop place bytes) (drop end wanted) f.chunks_are d e f.ending_is h
-
--- the same chunks, read through other names
-pub read_as : (wanted wanted' : List ℕ) (others others' spans spans' : List Span) (bytes : List ℕ) (o : Option CheckFault) → wanted ≡ wanted' → others ≡ others' → spans ≡ spans' →
-    difference 0 (chunks_in wanted others) (chunks_in bytes spans) ≡ o → difference 0 (chunks_in wanted' others') (chunks_in bytes spans') ≡ o
-read_as wanted wanted' others others' spans spans' bytes o e f g h =
-    ap (λ w. difference 0 (chunks_in w others') (chunks_in bytes spans')) (sym e) ∙ ap (λ s. difference 0 (chunks_in wanted s) (chunks_in bytes spans')) (sym f)
-    ∙ ap (λ s. difference 0 (chunks_in wanted others) (chunks_in bytes s)) (sym g) ∙ h

@@ -14,7 +14,7 @@ use Rattle.prolly_check.specs.Content.{Content}
 use Rattle.prolly_check.specs.Header.{header_tests, header_fault, version_of}
 use Rattle.prolly_check.specs.Frames.{has_no_frame, ending_of, IsFramed}
 use Rattle.prolly_check.specs.Spans.{chunks_in, FramesTo}
-use Rattle.prolly_check.specs.Entries.{IsBad}
+use Rattle.prolly_check.specs.Entries.{AllHold, IsBad}
 use Rattle.prolly_check.specs.Pairs.{HasPairs}
 use Rattle.prolly_check.specs.Judged.{order_fault, difference, end_fault, reuse, chunk_bytes, ending_for, or_content, judged}
 use Rattle.prolly_check.specs.Canonical.{AreLists, canonical_fault}
@@ -150,7 +150,7 @@ has_pairs bytes version spans spans' pairs ends e h = subst (λ s. HasPairs vers
 
 -- what the test against the pairs' file says of each division of the pairs
 abbrev pub Says : List ℕ → Version → ℕ → List Span → ℕ → List Pair → List ℕ → Option CheckFault → Type 0
-Says bytes version bits spans place pairs ends o = (lists : List (List Pair)) (ending : List ℕ) → AreLists lists pairs ends → drop place bytes ≡ 0x45 ∷ ending →
+Says bytes version bits spans place pairs ends o = (lists : List (List Pair)) (ending : List ℕ) → AllHold version (chunks_in bytes spans) lists → AreLists lists pairs ends → drop place bytes ≡ 0x45 ∷ ending →
     canonical_fault version bits (chunks_in bytes spans) ending lists ≡ o
 
 pub at_canonical : (bytes : List ℕ) (version : Version) (bits bits' : ℕ) (spans : List Span) (place : ℕ) (b : Begun bytes version bits spans place)
@@ -160,7 +160,7 @@ at_canonical bytes version bits bits' spans place b ended pairs ends has fault e
     let ending = drop 1 (drop place bytes) in
     still_refused (λ fault. Says bytes version bits spans place pairs ends (Some fault)) (λ fault. IsVerdict bytes (Err fault))
     (λ f says. refused_canonical bytes version bits spans place b.header b.version_is b.bits_are b.frames b.all ending ended pairs ends has f
-    (says has.lists ending (record { are = has.are; ends_are = has.ends_are }) (ending_ok (length spans) (drop place bytes) ending ended)))
+    (says has.lists ending has.hold (record { are = has.are; ends_are = has.ends_are }) (ending_ok (length spans) (drop place bytes) ending ended)))
     fault (subst (λ q. UnlessMemory (λ fault. Says bytes version q spans place pairs ends (Some fault)) fault) e h)
 
 is_canonical : (bytes : List ℕ) (version : Version) (bits bits' : ℕ) (spans : List Span) (place : ℕ) (ended : ending_of (length spans) (drop place bytes) ≡ Ok (drop 1 (drop place bytes)))
@@ -168,7 +168,7 @@ is_canonical : (bytes : List ℕ) (version : Version) (bits bits' : ℕ) (spans 
     canonical_fault version bits (chunks_in bytes spans) (drop 1 (drop place bytes)) has.lists ≡ None
 is_canonical bytes version bits bits' spans place ended pairs ends has e says =
     let ending = drop 1 (drop place bytes) in
-    subst (λ q. Says bytes version q spans place pairs ends None) e says has.lists ending (record { are = has.are; ends_are = has.ends_are }) (ending_ok (length spans) (drop place bytes) ending ended)
+    subst (λ q. Says bytes version q spans place pairs ends None) e says has.lists ending has.hold (record { are = has.are; ends_are = has.ends_are }) (ending_ok (length spans) (drop place bytes) ending ended)
 
 pub at_references : (bytes : List ℕ) (version : Version) (bits bits' : ℕ) (spans : List Span) (place : ℕ) (b : Begun bytes version bits spans place)
     (ended : ending_of (length spans) (drop place bytes) ≡ Ok (drop 1 (drop place bytes))) (pairs : List Pair) (ends : List ℕ) → HasPairs version (chunks_in bytes spans) pairs ends →

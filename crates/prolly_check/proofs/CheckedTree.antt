@@ -6,7 +6,8 @@ use Rattle.std.proofs.lemmas.List.{length-append}
 use Rattle.prolly_entry.specs.declared.version.Version.{Version}
 use Rattle.prolly_entry.specs.declared.reference.Ref.{Ref}
 use Rattle.prolly_entry.specs.Cut.{sha512_cut}
-use Rattle.prolly_entry.specs.Tree.{Tree, tree_of}
+use Rattle.prolly_entry.specs.Pair.{Pair}
+use Rattle.prolly_entry.specs.Tree.{Tree, bytes_of, tree_of}
 use Rattle.prolly_entry.specs.Chunk.{Chunk, chunk_of, chunks, post_order}
 use Rattle.prolly_check.specs.declared.fault.CheckFault.{CheckFault}
 use Rattle.prolly_check.specs.declared.fault.CheckFault.TheVariants as faults
@@ -47,7 +48,7 @@ checked_as bytes version spans index content short t f = subst (IsCheckedAs byte
 
 -- ---- the number of chunks, and the last one
 
-count_map : (cs : List Chunk) → length (map (λ c. c.bytes) cs) ≡ length cs
+pub count_map : (cs : List Chunk) → length (map (λ c. c.bytes) cs) ≡ length cs
 count_map [] = refl
 count_map (c ∷ cs) = ap suc (count_map cs)
 
@@ -69,6 +70,21 @@ last_bytes (b ∷ before) c =
     let more : 0 < length (before ++ c ∷ []) = omega (arith, length-append before (c ∷ [])) in
     let e : suc (length (before ++ c ∷ [])) - 1 ≡ suc (length (before ++ c ∷ []) - 1) = omega arith in
     rw e (last_bytes before c)
+
+-- the chunks of a map are some, and the last is the root's
+pub chunks_some : (version : Version) (bits : ℕ) (pairs : List Pair) → 0 < length (chunk_bytes version bits pairs)
+chunks_some version bits pairs =
+    let tree = tree_of (sha512_cut bits) version pairs in
+    let l = last_is version tree.level tree.tree in
+    omega (arith, count_map (chunks (sha512_cut bits) version pairs), ap length l.is, length-append l.before (chunk_of version tree.level tree.tree ∷ []))
+
+pub chunks_last : (version : Version) (bits : ℕ) (pairs : List Pair) → get_or (chunk_bytes version bits pairs) (length (chunk_bytes version bits pairs) - 1) []
+    ≡ bytes_of version (tree_of (sha512_cut bits) version pairs).level (tree_of (sha512_cut bits) version pairs).tree
+chunks_last version bits pairs =
+    let tree = tree_of (sha512_cut bits) version pairs in
+    let l = last_is version tree.level tree.tree in
+    ap (λ n. get_or (chunk_bytes version bits pairs) (n - 1) []) (count_map (chunks (sha512_cut bits) version pairs))
+    ∙ ap (λ cs. get_or (map (λ c. c.bytes) cs) (length cs - 1) []) l.is ∙ last_bytes l.before (chunk_of version tree.level tree.tree)
 
 pub some_chunk : (bytes : List ℕ) (version : Version) (spans : List Span) (index : BTreeMap Ref ℕ) (content : Content) → IsCheckedAs bytes version spans index content → 0 < length spans
 some_chunk bytes version spans index content t =

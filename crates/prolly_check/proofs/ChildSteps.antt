@@ -8,8 +8,9 @@ use Rattle.prolly_entry.specs.declared.version.Version.{Version}
 use Rattle.prolly_entry.specs.declared.child.ChildAt.{ChildAt}
 use Rattle.prolly_entry.specs.Keys.{key_order, KeyBelow}
 use Rattle.prolly_entry.specs.Pair.{IsPair}
-use Rattle.prolly_entry.specs.ChildAt.{key_at, reference_at, IsChildAt, NoChildAt}
+use Rattle.prolly_entry.specs.ChildAt.{key_at, reference_at, count_at, IsChildAt, NoChildAt}
 use Rattle.prolly_entry.specs.Reference.{reference_of}
+use Rattle.prolly_entry.specs.Spelling.{count_spelling}
 use Rattle.prolly_entry.specs.Tree.{Tree, pairs_below, greatest_key, pair_count, bytes_of, child_entry}
 use Rattle.prolly_entry.proofs.Groups.{all_front, all_back, all_append}
 use Rattle.prolly_entry.proofs.Roots.{last_key_short, reference_length}
@@ -34,21 +35,22 @@ pub goes_by : (version : Version) (entries key : List ℕ) → AllGoingBy versio
 goes_by version entries key level children lawful e = record { before = []; rest = children; is = refl; left = e; lawful = lawful; below = tt }
 
 -- the child there is the first of the rest
-record ChildIs (version : Version) (entries : List ℕ) (place : ℕ) (bytes : List ℕ) (at : ChildAt) (level : ℕ) (rest : List (Tree level)) : Type 0 where
-  child : Tree level
-  more : List (Tree level)
-  is : rest ≡ child ∷ more
-  key : key_at bytes at ≡ greatest_key level child
-  named : reference_at bytes at ≡ reference_of (bytes_of version level child)
-  left : drop at.len bytes ≡ flat_map (child_entry version level) more
+pub record ChildIs (version : Version) (entries : List ℕ) (place : ℕ) (bytes : List ℕ) (at : ChildAt) (level : ℕ) (rest : List (Tree level)) : Type 0 where
+  pub child : Tree level
+  pub more : List (Tree level)
+  pub is : rest ≡ child ∷ more
+  pub key : key_at bytes at ≡ greatest_key level child
+  pub named : reference_at bytes at ≡ reference_of (bytes_of version level child)
+  pub counted : count_spelling version (count_at bytes at) ≡ count_spelling version (pair_count level child)
+  pub left : drop at.len bytes ≡ flat_map (child_entry version level) more
 
-child_is : (version : Version) (entries bytes : List ℕ) (place : ℕ) (at : ChildAt) (level : ℕ) (rest : List (Tree level)) → bytes ≡ drop place entries → place < length entries → IsChildAt version bytes at →
+pub child_is : (version : Version) (entries bytes : List ℕ) (place : ℕ) (at : ChildAt) (level : ℕ) (rest : List (Tree level)) → bytes ≡ drop place entries → place < length entries → IsChildAt version bytes at →
     drop place entries ≡ flat_map (child_entry version level) rest → AllByRecursion IsPair (flat_map (pairs_below level) rest) → ChildIs version entries place bytes at level rest
 child_is version entries bytes place at level [] e h c left lawful = absurd (some_left entries place h left)
 child_is version entries bytes place at level (t ∷ more) e h c left lawful =
     let f = first_entry version level t more (child_at bytes at) (drop at.len bytes) (record { key = c.key; reference = c.reference })
     (all_front IsPair (pairs_below level t) (flat_map (pairs_below level) more) lawful) (sym c.spelled ∙ e ∙ left) in
-    record { child = t; more = more; is = refl; key = f.0; named = f.1; left = f.3 }
+    record { child = t; more = more; is = refl; key = f.0; named = f.1; counted = f.2; left = f.3 }
 
 is_less : (o : Ordering) → is_lt o ≡ true → o ≡ Less
 is_less Less h = refl

@@ -39,12 +39,12 @@ node_full : (level : ℕ) (t : Tree level) → Full level t → NodeFull level t
 node_full zero t h = tt
 node_full (suc level) ts h = all_node level (node_full level) ts h.1
 
-in_bytes : (c : Chunk) (cs : List Chunk) → IsIn c cs → IsIn c.bytes (map (λ c. c.bytes) cs)
+pub in_bytes : (c : Chunk) (cs : List Chunk) → IsIn c cs → IsIn c.bytes (map (λ c. c.bytes) cs)
 in_bytes c [] h = h
 in_bytes c (d ∷ cs) (inl e) = inl (ap (λ x. x.bytes) e)
 in_bytes c (d ∷ cs) (inr h) = inr (in_bytes c cs h)
 
-root_full : (version : Version) (bits : ℕ) (m : List Pair) → NodeFull (tree_of (sha512_cut bits) version m).level (tree_of (sha512_cut bits) version m).tree
+pub root_full : (version : Version) (bits : ℕ) (m : List Pair) → NodeFull (tree_of (sha512_cut bits) version m).level (tree_of (sha512_cut bits) version m).tree
 unfolding split grow
 root_full version bits [] = tt
 root_full version bits (p ∷ m) = node_full (tree_of (sha512_cut bits) version (p ∷ m)).level (tree_of (sha512_cut bits) version (p ∷ m)).tree (tree_full (sha512_cut bits) version p m)

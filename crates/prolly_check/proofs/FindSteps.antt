@@ -27,13 +27,13 @@ pub looks : (entries key : List ℕ) → AllLooking entries key 0
 looks entries key pairs lawful e = record { rest = pairs; left = e; lawful = lawful; same = refl }
 
 -- the pair there is the first of the rest
-record FirstIs (entries : List ℕ) (place len : ℕ) (p : Pair) (rest : List Pair) : Type 0 where
-  more : List Pair
-  is : rest ≡ p ∷ more
-  left : drop len (drop place entries) ≡ flat_map pair_spelling more
-  lawful : AllByRecursion IsPair more
+pub record FirstIs (entries : List ℕ) (place len : ℕ) (p : Pair) (rest : List Pair) : Type 0 where
+  pub more : List Pair
+  pub is : rest ≡ p ∷ more
+  pub left : drop len (drop place entries) ≡ flat_map pair_spelling more
+  pub lawful : AllByRecursion IsPair more
 
-first_is : (entries bytes : List ℕ) (place len : ℕ) (p : Pair) (rest : List Pair) → bytes ≡ drop place entries → place < length entries → IsPairAt bytes p len →
+pub first_is : (entries bytes : List ℕ) (place len : ℕ) (p : Pair) (rest : List Pair) → bytes ≡ drop place entries → place < length entries → IsPairAt bytes p len →
     drop place entries ≡ flat_map pair_spelling rest → AllByRecursion IsPair rest → FirstIs entries place len p rest
 first_is entries bytes place len p [] e h at left lawful = absurd (some_left entries place h left)
 first_is entries bytes place len p (q ∷ more) e h at left lawful =

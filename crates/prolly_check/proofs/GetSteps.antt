@@ -35,11 +35,11 @@ Stands content key chunk = StandsAt content.version (chunk_bytes content.version
 pub begins : (content : Content) (bytes key chunk : List ℕ) → IsFileOf bytes content → chunk ≡ root_bytes content → Stands content key chunk
 begins content bytes key chunk f e = subst (Stands content key) (sym e) (stands_at_root content.version content.bits content.pairs key f.lawful f.rising)
 
-head_is : (version : Version) (level : ℕ) (t : Tree level) → slice_index (bytes_of version level t) 0 ≡ level
+pub head_is : (version : Version) (level : ℕ) (t : Tree level) → slice_index (bytes_of version level t) 0 ≡ level
 head_is version zero t = refl
 head_is version (suc level) t = refl
 
-some_bytes : (version : Version) (level : ℕ) (t : Tree level) → 0 < length (bytes_of version level t)
+pub some_bytes : (version : Version) (level : ℕ) (t : Tree level) → 0 < length (bytes_of version level t)
 some_bytes version zero t = omega arith
 some_bytes version (suc level) t = omega arith
 
@@ -104,7 +104,7 @@ goes_on content bytes key chunk reference f s e h = go s.level s.tree s.is s.has
           );
         }
 
-is_there : (cs : List (List ℕ)) (n : ℕ) → n < length cs → IsIn (get_or cs n []) cs
+pub is_there : (cs : List (List ℕ)) (n : ℕ) → n < length cs → IsIn (get_or cs n []) cs
 is_there [] n h = absurd (omega arith)
 is_there (c ∷ cs) zero h = inl refl
 is_there (c ∷ cs) (suc n) h = let h' : suc n < suc (length cs) = h in inr (is_there cs n (omega arith))

@@ -17,3 +17,14 @@ pub mod Descents
 pub mod FindSteps
 pub mod ChildSteps
 pub mod GetSteps
+pub mod References
+pub mod FewPairs
+pub mod CountSteps
+pub mod NthSteps
+pub mod Scans
+pub mod ScanSteps
+pub mod StartSteps
+pub mod Rebuilds
+pub mod RebuildSteps
+pub mod FinishSteps
+pub mod CanonicalEnd

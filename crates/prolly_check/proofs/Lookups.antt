@@ -20,7 +20,7 @@ use Rattle.prolly_entry.proofs.Distinct.{Above, Rises, rises, rises_front, rises
 
 -- ---- references
 
-apart_from : (c d : List ℕ) (cs : List (List ℕ)) → AllByRecursion (λ d. reference_of c ≡ reference_of d → ⊥) cs → IsIn d cs → reference_of c ≡ reference_of d → ⊥
+pub apart_from : (c d : List ℕ) (cs : List (List ℕ)) → AllByRecursion (λ d. reference_of c ≡ reference_of d → ⊥) cs → IsIn d cs → reference_of c ≡ reference_of d → ⊥
 apart_from c d [] h k e = k
 apart_from c d (x ∷ cs) h (inl f) e = h.0 (e ∙ ap reference_of f)
 apart_from c d (x ∷ cs) h (inr k) e = apart_from c d cs h.1 k e

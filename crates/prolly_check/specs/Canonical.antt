@@ -1,11 +1,10 @@
 -- The one file that pairs have.
-use Rattle.std.specs.Prelude.{◌≡◌, ℕ, suc, nat_lt, List, [], ◌∷◌, Option, if◌then◌else◌, map}
+use Rattle.std.specs.Prelude.{◌≡◌, ℕ, suc, ◌-◌, nat_lt, List, [], ◌∷◌, ◌++◌, length, get_or, Option, if◌then◌else◌}
+use Rattle.std.specs.Int.{w64, to_be_bytes}
 use Rattle.std.specs.List.{flat_map}
 use Rattle.prolly_entry.specs.declared.version.Version.{Version}
-use Rattle.prolly_entry.specs.Keys.{Rising}
 use Rattle.prolly_entry.specs.Pair.{Pair}
-use Rattle.prolly_entry.specs.Cut.{sha512_cut}
-use Rattle.prolly_entry.specs.File.{file}
+use Rattle.prolly_entry.specs.Reference.{reference_of}
 use Rattle.prolly_entry.specs.Overlay.{or_else}
 use Rattle.prolly_check.specs.declared.fault.CheckFault.{CheckFault}
 use Rattle.prolly_check.specs.Pairs.{ends_of}
@@ -28,7 +27,6 @@ canonical_fault version bits chunks ending lists =
     or_else (order_fault [] 0 lists)
     (or_else (difference 0 (chunk_bytes version bits pairs) chunks) (end_fault ending (ending_for version bits pairs)))
 
--- The keys rise, and the bytes are the file of the pairs.
-pub record WantsFile (version : Version) (bits : ℕ) (pairs : List Pair) (wanted : List ℕ) : Type 0 where
-  pub rising : Rising (map (λ p. p.key) pairs)
-  pub is : wanted ≡ file (sha512_cut bits) version pairs
+-- What follows the letter E in a file with these chunks: the last chunk's reference and their number.
+abbrev pub ending_of_chunks : List (List ℕ) → List ℕ
+ending_of_chunks chunks = reference_of (get_or chunks (length chunks - 1) []) ++ to_be_bytes w64 (length chunks)

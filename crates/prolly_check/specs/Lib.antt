@@ -13,3 +13,6 @@ pub mod Checked
 pub mod Check
 pub mod Root
 pub mod Descent
+pub mod Counted
+pub mod Scanned
+pub mod Rebuilt

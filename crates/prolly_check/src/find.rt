@@ -42,7 +42,7 @@ pub(crate) fn value_in<'a>(entries: &'a [u8], key: &[u8]) -> Option<&'a [u8]>
 }
 
 /// The reference of the first child of a node whose greatest key is not below the key.
-fn child_for(version: Version, entries: &[u8], key: &[u8]) -> Option<Ref>
+pub(crate) fn child_for(version: Version, entries: &[u8], key: &[u8]) -> Option<Ref>
     ensures some { IfSome result (λ reference. Leads version entries.now key.now reference.0) }
     ensures none { IfNone result (LeadsNowhere version entries.now key.now) }
 {
@@ -63,7 +63,7 @@ fn child_for(version: Version, entries: &[u8], key: &[u8]) -> Option<Ref>
 }
 
 /// The reference in a child entry that begins the bytes.
-fn reference_in(version: Version, bytes: &[u8], child: ChildAt) -> Ref
+pub(crate) fn reference_in(version: Version, bytes: &[u8], child: ChildAt) -> Ref
     requires { IsChildAt version bytes.now child }
     ensures { result.0 ≡ reference_at bytes.now child }
 {

@@ -6,6 +6,7 @@ mod checker;
 mod ending;
 mod fault;
 mod find;
+mod finish;
 mod frames;
 mod header;
 mod index;
@@ -13,12 +14,16 @@ mod inspect;
 pub mod laws;
 mod leaf;
 mod node;
+mod nth;
 mod pairs;
+mod passing;
+mod rebuild;
+mod scan;
 mod tree;
 
 pub use checker::check;
 pub use fault::CheckFault;
-pub use tree::Tree;
+pub use tree::{NoCounts, Tree};
 
 #[cfg(test)]
 mod tests;

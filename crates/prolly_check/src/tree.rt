@@ -1,12 +1,13 @@
 //! A chunk file that was checked.
-ghost use Rattle.std.specs.Prelude.{◌≡◌, ◌^◌, ◌<◌, length, IfOk, IfErr, Err};
+ghost use Rattle.std.specs.Prelude.{◌≡◌, ◌↔◌, ◌^◌, ◌<◌, length, IfOk, IfErr, IsErr, Err};
 ghost use Rattle.std.specs.Option.{option_copied};
 ghost use Rattle.prolly_entry.specs.Chunk.{chunks};
 ghost use Rattle.prolly_entry.specs.Cut.{sha512_cut};
 ghost use Rattle.prolly_entry.specs.File.{root_reference};
-ghost use Rattle.prolly_entry.specs.LookUp.{find};
+ghost use Rattle.prolly_entry.specs.LookUp.{find, nth, scan};
 ghost use Rattle.prolly_check.specs.Checked.{IsChecked, IsFile};
 ghost use Rattle.prolly_check.specs.Content.{Content};
+ghost use Rattle.prolly_check.specs.Counted.{pair_of};
 ghost use Rattle.prolly_check.specs.Refusal.{UnlessMemory};
 ghost use Rattle.prolly_check.specs.Root.{root_bytes};
 ghost use Rattle.prolly_check.specs.Verdict.{IsVerdict, IsFileOf};
@@ -16,9 +17,15 @@ use crate::find::find_value;
 use crate::frames::{Span, chunk_at};
 use crate::index::Index;
 use crate::inspect::{Layout, inspect};
-use prolly_entry::{Ref, Version};
-use std::alloc::Global;
+use crate::nth::find_nth;
+use crate::scan::scan_pairs;
+use prolly_entry::{Pair, Ref, Version};
+use std::alloc::{AllocError, Global};
 use std::marker::Model;
+
+/// A file of version One says nothing of how many pairs are below a child.
+#[derive(Clone, Copy, Debug, PartialEq, Eq)]
+pub struct NoCounts;
 
 /// The tree of a chunk file that was checked, in memory.
 #[derive(Drop)]
@@ -91,6 +98,39 @@ impl Tree {
         ensures { (content : Content) → IsFileOf self.now content → option_copied result ≡ find content.pairs key.now }
     {
         find_value(&self.bytes, self.version, &self.spans, &self.index, key)
+    }
+
+    /// The first pairs in the order of the keys whose key is not less than `from`, at most `limit` of them.
+    ///
+    /// Takes memory for copies of these pairs, and reads one chunk a level and then the chunks up to the
+    /// last of them.
+    pub fn scan(&self, alloc: Global, from: &[u8], limit: u32) -> Result<Vec<Pair>, AllocError>
+        ensures { IfOk result (λ pairs. (content : Content) → IsFileOf self.now content → pairs.items ≡ scan content.pairs from.now limit) }
+    {
+        scan_pairs(
+            alloc,
+            &self.bytes,
+            self.version,
+            &self.spans,
+            &self.index,
+            from,
+            limit as usize,
+        )
+    }
+
+    /// The key and the value of the pair of this number, counted from 0 in the order of the keys, or none
+    /// where there are no more than so many pairs. Takes no memory, and reads one chunk a level.
+    ///
+    /// It is found by the counts of the pairs below each child, from the root. The nodes of version One
+    /// have none: there the answer is an error, whatever the number.
+    pub fn nth(&self, n: u64) -> Result<Option<(&[u8], &[u8])>, NoCounts>
+        ensures found { IfOk result (λ found. (content : Content) → IsFileOf self.now content → pair_of found ≡ nth content.pairs n) }
+        ensures uncounted { (content : Content) → IsFileOf self.now content → IsErr result ↔ (content.version ≡ Version.One) }
+    {
+        match self.version {
+            Version::One => Err(NoCounts),
+            Version::Two => Ok(find_nth(&self.bytes, &self.spans, &self.index, n)),
+        }
     }
 
     /// The version of the file.

@@ -1,0 +1,272 @@
+-- Rebuilding the chunks of pairs.
+use Rattle.std.proofs.Common.{◌≡◌, ℕ, zero, suc, ◌+◌, ◌<◌, ◌≤◌, List, [], ◌∷◌, ◌++◌, length, take, drop, get_or, Option, Some, None, refl, sym, ap, ◌∙◌, subst, arith, append_assoc, append-nil}
+use Rattle.prolly_entry.specs.declared.version.Version.{Version}
+use Rattle.prolly_entry.specs.Cut.{sha512_cut}
+use Rattle.prolly_entry.specs.Chunk.{Chunk}
+use Rattle.prolly_entry.specs.Events.{faulty, leaf_events}
+use Rattle.prolly_entry.specs.Front.{IsPairAt, NoPairAt}
+use Rattle.prolly_entry.specs.Pair.{Pair, IsPair}
+use Rattle.prolly_entry.specs.Spelling.{pair_spelling}
+use Rattle.prolly_check.specs.Entries.{IsLeaf, Holds, AllHold}
+use Rattle.prolly_check.specs.Spans.{chunk_in, chunks_in}
+use Rattle.prolly_check.specs.declared.frames.Span.{Span}
+use Rattle.prolly_check.proofs.CanonicalSteps.{count_in, chunk_there, nothing_left}
+use Rattle.prolly_entry.proofs.Parts.{flat}
+use Rattle.std.proofs.Math.Seq.{drop-cons}
+use Rattle.prolly_check.proofs.EntrySteps.{past_end, some_left}
+use Rattle.prolly_check.proofs.FindSteps.{first_is}
+use Rattle.std.specs.Prelude.{slice_index}
+use Rattle.std.specs.List.{flat_map, AllByRecursion}
+use Rattle.prolly_entry.proofs.Prefixes.{fault_is_prefix}
+use Rattle.prolly_chunk.specs.LeafLevel.{LeafState, LeafBegins, LeafTakes}
+use Rattle.prolly_chunk.specs.NodeLevel.{NodeState, NodeBegins}
+use Rattle.prolly_check.specs.declared.fault.CheckFault.{CheckFault}
+use Rattle.prolly_check.specs.Rebuilt.{node_levels, sent_through, sent_of, AreBehind, AreFirst, AreUnused, IsBehind, DifferAs, DifferBy, PassesOn, FaultPassing}
+use Rattle.prolly_check.proofs.Rebuilds.{sent_differs_more}
+use Rattle.std.specs.Option.{option_to_list}
+use Rattle.std.proofs.lemmas.List.{take_at, drop-drop}
+
+-- levels that took nothing are those behind no chunks, and send none
+pub unused_behind : (bits : ℕ) (version : Version) (level : ℕ) (states : List (NodeState ℕ)) → AreUnused bits version level states → AreBehind bits version level states []
+unused_behind bits version level [] h = tt
+unused_behind bits version level (s ∷ states) h = (h.0.state, subst (AreBehind bits version (suc level) states) (sym h.0.events) (unused_behind bits version (suc level) states h.1))
+
+pub unused_sent : (bits : ℕ) (version : Version) (level : ℕ) (states : List (NodeState ℕ)) → AreUnused bits version level states → sent_through (sha512_cut bits) version level (length states) [] ≡ []
+unused_sent bits version level [] h = refl
+unused_sent bits version level (s ∷ states) h =
+    ap (sent_through (sha512_cut bits) version (suc level) (length states)) h.0.events ∙ unused_sent bits version (suc level) states h.1
+
+pub unused_more : (bits : ℕ) (version : Version) (level next : ℕ) (states : List (NodeState ℕ)) (s : NodeState ℕ) → next ≡ level + length states → AreUnused bits version level states →
+    NodeBegins sha512_cut bits version next s → AreUnused bits version level (states ++ s ∷ [])
+unused_more bits version level next [] s e h b = let f : next ≡ level = omega arith in (subst (λ n. NodeBegins sha512_cut bits version n s) f b, tt)
+unused_more bits version level next (t ∷ states) s e h b = (h.0, unused_more bits version (suc level) next states s (omega arith) h.1 b)
+
+pub begun : (bits : ℕ) (version : Version) (chunks : List (List ℕ)) (leaf : LeafState ℕ) (nodes : List (NodeState ℕ)) → LeafBegins sha512_cut bits leaf → AreUnused bits version 1 nodes → length nodes ≡ node_levels →
+    IsBehind bits version chunks [] leaf nodes 0
+begun bits version chunks leaf nodes b u e =
+    let none : leaf_events (sha512_cut bits) version faulty [] ≡ [] = b.events version in
+    let sent : sent_of bits version [] ≡ [] =
+    ap (sent_through (sha512_cut bits) version 1 node_levels) none ∙ ap (λ n. sent_through (sha512_cut bits) version 1 n []) (sym e) ∙ unused_sent bits version 1 nodes u in
+    record {
+      leaf_is = b.state;
+      nodes_are = subst (AreBehind bits version 1 nodes) (sym none) (unused_behind bits version 1 nodes u);
+      count = e;
+      first = subst (AreFirst chunks 0) (sym sent) (record { are = refl; count = refl });
+    }
+
+-- ---- one more pair
+
+module _ (chunks : List (List ℕ)) (pair : Pair) (leaf leaf' : LeafState ℕ) (closed : Option Chunk) (takes : LeafTakes sha512_cut leaf leaf' pair closed) (nodes : List (NodeState ℕ)) (number : ℕ)
+    (bits : ℕ) (version : Version) (pairs : List Pair) (b : IsBehind bits version chunks pairs leaf nodes number) where
+  sends : leaf_events (sha512_cut bits) version faulty (pairs ++ pair ∷ []) ≡ leaf_events (sha512_cut bits) version faulty pairs ++ option_to_list closed
+  sends = takes.events bits version pairs b.leaf_is
+
+  pub added_none : closed ≡ None → IsBehind bits version chunks (pairs ++ pair ∷ []) leaf' nodes number
+  added_none none =
+      let same : leaf_events (sha512_cut bits) version faulty (pairs ++ pair ∷ []) ≡ leaf_events (sha512_cut bits) version faulty pairs =
+      sends ∙ ap (λ c. leaf_events (sha512_cut bits) version faulty pairs ++ option_to_list c) none ∙ append-nil (leaf_events (sha512_cut bits) version faulty pairs) in
+      record {
+        leaf_is = takes.state bits pairs b.leaf_is;
+        nodes_are = subst (AreBehind bits version 1 nodes) (sym same) b.nodes_are;
+        count = b.count;
+        first = subst (λ es. AreFirst chunks number (sent_through (sha512_cut bits) version 1 node_levels es)) (sym same) b.first;
+      }
+
+  module _ (event : Chunk) (some : closed ≡ Some event) where
+    sends_one : leaf_events (sha512_cut bits) version faulty (pairs ++ pair ∷ []) ≡ leaf_events (sha512_cut bits) version faulty pairs ++ event ∷ []
+    sends_one = sends ∙ ap (λ c. leaf_events (sha512_cut bits) version faulty pairs ++ option_to_list c) some
+
+    pub added_some : (nodes' : List (NodeState ℕ)) (next : ℕ) → PassesOn chunks nodes nodes' 0 event number next → IsBehind bits version chunks (pairs ++ pair ∷ []) leaf' nodes' next
+    added_some nodes' next passed =
+        let q = passed [] nodes refl refl in
+        let a = q.so bits version 1 (leaf_events (sha512_cut bits) version faulty pairs) b.nodes_are
+        (subst (λ n. AreFirst chunks number (sent_through (sha512_cut bits) version 1 n (leaf_events (sha512_cut bits) version faulty pairs))) (sym b.count) b.first) in
+        let same : q.above ≡ nodes' = sym q.is in
+        record {
+          leaf_is = takes.state bits pairs b.leaf_is;
+          nodes_are = subst (λ es. AreBehind bits version 1 nodes' es) (sym sends_one) (subst (λ ns. AreBehind bits version 1 ns (leaf_events (sha512_cut bits) version faulty pairs ++ event ∷ [])) same a.0);
+          count = ap length (sym same) ∙ q.size ∙ b.count;
+          first = subst (λ es. AreFirst chunks next (sent_through (sha512_cut bits) version 1 node_levels es)) (sym sends_one)
+              (subst (λ n. AreFirst chunks next (sent_through (sha512_cut bits) version 1 n (leaf_events (sha512_cut bits) version faulty pairs ++ event ∷ []))) b.count a.1);
+        }
+
+    pub added_fault : (fault : CheckFault) → FaultPassing chunks nodes 0 event number fault → DifferBy bits version chunks (pairs ++ pair ∷ []) fault
+    added_fault fault h =
+        let d = h [] nodes refl refl bits version 1 (leaf_events (sha512_cut bits) version faulty pairs) b.nodes_are
+        (subst (λ n. AreFirst chunks number (sent_through (sha512_cut bits) version 1 n (leaf_events (sha512_cut bits) version faulty pairs))) (sym b.count) b.first) in
+        subst (λ es. DifferAs chunks (sent_through (sha512_cut bits) version 1 node_levels es) fault) (sym sends_one)
+        (subst (λ n. DifferAs chunks (sent_through (sha512_cut bits) version 1 n (leaf_events (sha512_cut bits) version faulty pairs ++ event ∷ [])) fault) b.count d)
+
+-- a difference stays one when more pairs come
+pub differ_by_more : (bits : ℕ) (version : Version) (chunks : List (List ℕ)) (pairs more : List Pair) (fault : CheckFault) → DifferBy bits version chunks pairs fault → DifferBy bits version chunks (pairs ++ more) fault
+differ_by_more bits version chunks pairs more fault h =
+    let p = (fault_is_prefix (sha512_cut bits) version).0 faulty pairs more in
+    subst (λ es. DifferAs chunks (sent_through (sha512_cut bits) version 1 node_levels es) fault) (sym p.1)
+    (sent_differs_more chunks (sha512_cut bits) version 1 node_levels (leaf_events (sha512_cut bits) version faulty pairs) p.0 fault h)
+
+-- a slice that was written as a whole
+pub written : {A : Type 0} (old new : List A) (n : ℕ) → n ≡ length old → length new ≡ length old → take n (new ++ drop (length new) old) ≡ new
+written old new n e f = take_at new (drop (length new) old) n (f ∙ sym e)
+
+pub same_size : (chunks : List (List ℕ)) (nodes nodes' : List (NodeState ℕ)) (event : Chunk) (number next : ℕ) → PassesOn chunks nodes nodes' 0 event number next → length nodes' ≡ length nodes
+same_size chunks nodes nodes' event number next passed = let q = passed [] nodes refl refl in ap length q.is ∙ q.size
+
+-- ---- the pairs of a leaf
+
+-- of the pairs of a leaf, the rest is left at the place, and those before it were taken
+pub record Rebuilding (bits : ℕ) (version : Version) (chunks : List (List ℕ)) (entries : List ℕ) (pairs held : List Pair) (leaf : LeafState ℕ) (nodes : List (NodeState ℕ)) (number place : ℕ) : Type 0 where
+  pub done : List Pair
+  pub rest : List Pair
+  pub is : held ≡ done ++ rest
+  pub left : drop place entries ≡ flat_map pair_spelling rest
+  pub lawful : AllByRecursion IsPair rest
+  pub behind : IsBehind bits version chunks (pairs ++ done) leaf nodes number
+
+-- whatever pairs came before and the entries are
+abbrev pub LeafRebuilt : List (List ℕ) → List ℕ → LeafState ℕ → List (NodeState ℕ) → ℕ → LeafState ℕ → List (NodeState ℕ) → ℕ → ℕ → Type 0
+LeafRebuilt chunks entries leaf nodes number leaf' nodes' number' place = (bits : ℕ) (version : Version) (pairs held : List Pair) → IsBehind bits version chunks pairs leaf nodes number →
+    AllByRecursion IsPair held → entries ≡ flat_map pair_spelling held → Rebuilding bits version chunks entries pairs held leaf' nodes' number' place
+
+pub leaf_rebuild_begins : (chunks : List (List ℕ)) (entries : List ℕ) (leaf : LeafState ℕ) (nodes : List (NodeState ℕ)) (number : ℕ) → LeafRebuilt chunks entries leaf nodes number leaf nodes number 0
+leaf_rebuild_begins chunks entries leaf nodes number bits version pairs held b lawful e =
+    record { done = []; rest = held; is = refl; left = e; lawful = lawful; behind = subst (λ ps. IsBehind bits version chunks ps leaf nodes number) (sym (append-nil pairs)) b }
+
+module _ (chunks : List (List ℕ)) (entries : List ℕ) (leaf : LeafState ℕ) (nodes : List (NodeState ℕ)) (number : ℕ) (leaf' : LeafState ℕ) (nodes' : List (NodeState ℕ)) (number' place : ℕ)
+    (all : LeafRebuilt chunks entries leaf nodes number leaf' nodes' number' place) where
+  pub leaf_rebuild_goes_on : (bytes : List ℕ) (len : ℕ) (p q : Pair) (leaf'' : LeafState ℕ) (nodes'' : List (NodeState ℕ)) (number'' : ℕ) → bytes ≡ drop place entries → place < length entries → IsPairAt bytes p len → q ≡ p →
+      ((bits : ℕ) (version : Version) (pairs : List Pair) → IsBehind bits version chunks pairs leaf' nodes' number' → IsBehind bits version chunks (pairs ++ q ∷ []) leaf'' nodes'' number'') →
+      LeafRebuilt chunks entries leaf nodes number leaf'' nodes'' number'' (place + len)
+  leaf_rebuild_goes_on bytes len p q leaf'' nodes'' number'' e h at copy added bits version pairs held b lawful spelled =
+      let l = all bits version pairs held b lawful spelled in
+      let f = first_is entries bytes place len p l.rest e h at l.left l.lawful in
+      record {
+        done = l.done ++ p ∷ [];
+        rest = f.more;
+        is = l.is ∙ ap (λ ps. l.done ++ ps) f.is ∙ sym (append_assoc l.done (p ∷ []) f.more);
+        left = sym (drop-drop len place entries) ∙ f.left;
+        lawful = f.lawful;
+        behind = subst (λ ps. IsBehind bits version chunks ps leaf'' nodes'' number'') (ap (λ r. (pairs ++ l.done) ++ r ∷ []) copy ∙ append_assoc pairs l.done (p ∷ [])) (added bits version (pairs ++ l.done) l.behind);
+      }
+
+  pub leaf_rebuild_fault : (bytes : List ℕ) (len : ℕ) (p q : Pair) (fault : CheckFault) → bytes ≡ drop place entries → place < length entries → IsPairAt bytes p len → q ≡ p →
+      ((bits : ℕ) (version : Version) (pairs : List Pair) → IsBehind bits version chunks pairs leaf' nodes' number' → DifferBy bits version chunks (pairs ++ q ∷ []) fault) →
+      (bits : ℕ) (version : Version) (pairs held : List Pair) → IsBehind bits version chunks pairs leaf nodes number → AllByRecursion IsPair held → entries ≡ flat_map pair_spelling held →
+      DifferBy bits version chunks (pairs ++ held) fault
+  leaf_rebuild_fault bytes len p q fault e h at copy differs bits version pairs held b lawful spelled =
+      let l = all bits version pairs held b lawful spelled in
+      let f = first_is entries bytes place len p l.rest e h at l.left l.lawful in
+      let whole : ((pairs ++ l.done) ++ p ∷ []) ++ f.more ≡ pairs ++ held =
+      append_assoc (pairs ++ l.done) (p ∷ []) f.more ∙ append_assoc pairs l.done (p ∷ f.more) ∙ ap (λ ps. pairs ++ ps) (ap (λ ps. l.done ++ ps) (sym f.is) ∙ sym l.is) in
+      subst (λ ps. DifferBy bits version chunks ps fault) whole
+      (differ_by_more bits version chunks ((pairs ++ l.done) ++ p ∷ []) f.more fault (subst (λ r. DifferBy bits version chunks ((pairs ++ l.done) ++ r ∷ []) fault) copy (differs bits version (pairs ++ l.done) l.behind)))
+
+  cons_nil : {x : ℕ} {xs : List ℕ} → ◌≡◌ {A = List ℕ} (x ∷ xs) [] → ⊥
+  cons_nil e = cc
+
+  pub leaf_rebuild_ends : length entries ≤ place → (bits : ℕ) (version : Version) (pairs held : List Pair) → IsBehind bits version chunks pairs leaf nodes number → AllByRecursion IsPair held → entries ≡ flat_map pair_spelling held →
+      IsBehind bits version chunks (pairs ++ held) leaf' nodes' number'
+  leaf_rebuild_ends h bits version pairs held b lawful spelled =
+      let l = all bits version pairs held b lawful spelled in
+      let none = no_rest l.rest (sym l.left ∙ past_end entries place h) in
+      subst (λ ps. IsBehind bits version chunks ps leaf' nodes' number') (ap (λ ps. pairs ++ ps) (sym (l.is ∙ ap (λ ps. l.done ++ ps) none ∙ append-nil l.done))) l.behind
+    where
+      no_rest : (rest : List Pair) → flat_map pair_spelling rest ≡ [] → rest ≡ []
+      no_rest [] e = refl
+      no_rest (p ∷ rest) e = absurd (cons_nil e)
+
+  -- no other bytes than pairs are there
+  pub leaf_rebuild_stops : (bytes : List ℕ) → bytes ≡ drop place entries → place < length entries → NoPairAt bytes →
+      (bits : ℕ) (version : Version) (pairs held : List Pair) → IsBehind bits version chunks pairs leaf nodes number → AllByRecursion IsPair held → entries ≡ flat_map pair_spelling held → ⊥
+  leaf_rebuild_stops bytes e h none bits version pairs held b lawful spelled =
+      let l = all bits version pairs held b lawful spelled in go l.rest l.left l.lawful
+    where
+      go : (rest : List Pair) → drop place entries ≡ flat_map pair_spelling rest → AllByRecursion IsPair rest → ⊥
+      go [] f g = some_left entries place h f
+      go (q ∷ more) f g = none q (flat_map pair_spelling more) g.0 (e ∙ f)
+
+-- ---- the pairs of a chunk
+
+module _ (version : Version) (held : List Pair) where
+  pub chunk_leaf : (chunk : List ℕ) → slice_index chunk 0 ≡ 0 → Holds version chunk held → IsLeaf (drop 1 chunk) held
+  chunk_leaf [] e h = absurd h
+  chunk_leaf (zero ∷ entries) e h = h
+  chunk_leaf (suc level ∷ entries) e h = absurd (let f : suc level ≡ 0 = e in omega arith)
+
+-- ---- the pairs of all chunks
+
+-- of the lists that the chunks hold, the rest is held from the number on, and the pairs of those before it were taken
+pub record ListsTaken (bits : ℕ) (version : Version) (chunks : List (List ℕ)) (pairs : List Pair) (lists : List (List Pair)) (leaf : LeafState ℕ) (nodes : List (NodeState ℕ)) (number place : ℕ) : Type 0 where
+  pub done : List Pair
+  pub rest : List (List Pair)
+  pub is : flat lists ≡ done ++ flat rest
+  pub hold : AllHold version (drop place chunks) rest
+  pub behind : IsBehind bits version chunks (pairs ++ done) leaf nodes number
+
+abbrev pub ChunksTaken : List (List ℕ) → LeafState ℕ → List (NodeState ℕ) → ℕ → LeafState ℕ → List (NodeState ℕ) → ℕ → ℕ → Type 0
+ChunksTaken chunks leaf nodes number leaf' nodes' number' place = (bits : ℕ) (version : Version) (pairs : List Pair) (lists : List (List Pair)) → IsBehind bits version chunks pairs leaf nodes number →
+    AllHold version chunks lists → ListsTaken bits version chunks pairs lists leaf' nodes' number' place
+
+pub chunks_begin : (chunks : List (List ℕ)) (leaf : LeafState ℕ) (nodes : List (NodeState ℕ)) (number : ℕ) → ChunksTaken chunks leaf nodes number leaf nodes number 0
+chunks_begin chunks leaf nodes number bits version pairs lists b hold =
+    record { done = []; rest = lists; is = refl; hold = hold; behind = subst (λ ps. IsBehind bits version chunks ps leaf nodes number) (sym (append-nil pairs)) b }
+
+-- the first of the rest is that of the chunk
+record FirstHeld (version : Version) (chunk : List ℕ) (after : List (List ℕ)) (rest : List (List Pair)) : Type 0 where
+  held : List Pair
+  more : List (List Pair)
+  is : rest ≡ held ∷ more
+  holds : Holds version chunk held
+  hold : AllHold version after more
+
+first_held : (version : Version) (chunk : List ℕ) (after : List (List ℕ)) (rest : List (List Pair)) → AllHold version (chunk ∷ after) rest → FirstHeld version chunk after rest
+first_held version chunk after [] h = absurd h
+first_held version chunk after (held ∷ more) h = record { held = held; more = more; is = refl; holds = h.0; hold = h.1 }
+
+module _ (bytes : List ℕ) (spans : List Span) (leaf : LeafState ℕ) (nodes : List (NodeState ℕ)) (number : ℕ) (leaf' : LeafState ℕ) (nodes' : List (NodeState ℕ)) (number' place : ℕ)
+    (all : ChunksTaken (chunks_in bytes spans) leaf nodes number leaf' nodes' number' place) (other : Span) (chunk : List ℕ) (within : place < length spans) (is : chunk ≡ chunk_in bytes (get_or spans place other)) where
+  here : (version : Version) (rest : List (List Pair)) → AllHold version (drop place (chunks_in bytes spans)) rest → FirstHeld version chunk (drop (suc place) (chunks_in bytes spans)) rest
+  here version rest hold = first_held version chunk (drop (suc place) (chunks_in bytes spans)) rest (subst (λ cs. AllHold version cs rest)
+      (drop-cons (chunks_in bytes spans) place [] (omega (arith, count_in bytes spans))
+      ∙ ap (λ c. c ∷ drop (suc place) (chunks_in bytes spans)) (sym (is ∙ chunk_there bytes spans place other within))) hold)
+
+  pub chunks_go_on : (leaf'' : LeafState ℕ) (nodes'' : List (NodeState ℕ)) (number'' : ℕ) →
+      ((bits : ℕ) (version : Version) (pairs held : List Pair) → IsBehind bits version (chunks_in bytes spans) pairs leaf' nodes' number' → Holds version chunk held →
+      IsBehind bits version (chunks_in bytes spans) (pairs ++ held) leaf'' nodes'' number'') → ChunksTaken (chunks_in bytes spans) leaf nodes number leaf'' nodes'' number'' (place + 1)
+  chunks_go_on leaf'' nodes'' number'' added bits version pairs lists b hold =
+      let l = all bits version pairs lists b hold in
+      let f = here version l.rest l.hold in
+      let next : place + 1 ≡ suc place = omega arith in
+      record {
+        done = l.done ++ f.held;
+        rest = f.more;
+        is = l.is ∙ ap (λ ls. l.done ++ flat ls) f.is ∙ sym (append_assoc l.done f.held (flat f.more));
+        hold = rw next f.hold;
+        behind = subst (λ ps. IsBehind bits version (chunks_in bytes spans) ps leaf'' nodes'' number'') (append_assoc pairs l.done f.held) (added bits version (pairs ++ l.done) f.held l.behind f.holds);
+      }
+
+  pub chunks_fault : (fault : CheckFault) →
+      ((bits : ℕ) (version : Version) (pairs held : List Pair) → IsBehind bits version (chunks_in bytes spans) pairs leaf' nodes' number' → Holds version chunk held →
+      DifferBy bits version (chunks_in bytes spans) (pairs ++ held) fault) →
+      (bits : ℕ) (version : Version) (pairs : List Pair) (lists : List (List Pair)) → IsBehind bits version (chunks_in bytes spans) pairs leaf nodes number → AllHold version (chunks_in bytes spans) lists →
+      DifferBy bits version (chunks_in bytes spans) (pairs ++ flat lists) fault
+  chunks_fault fault differs bits version pairs lists b hold =
+      let l = all bits version pairs lists b hold in
+      let f = here version l.rest l.hold in
+      let whole : ((pairs ++ l.done) ++ f.held) ++ flat f.more ≡ pairs ++ flat lists =
+      append_assoc (pairs ++ l.done) f.held (flat f.more) ∙ append_assoc pairs l.done (f.held ++ flat f.more)
+      ∙ ap (λ ps. pairs ++ ps) (ap (λ ls. l.done ++ flat ls) (sym f.is) ∙ sym l.is) in
+      subst (λ ps. DifferBy bits version (chunks_in bytes spans) ps fault) whole
+      (differ_by_more bits version (chunks_in bytes spans) ((pairs ++ l.done) ++ f.held) (flat f.more) fault (differs bits version (pairs ++ l.done) f.held l.behind f.holds))
+
+pub chunks_end : (chunks : List (List ℕ)) (leaf : LeafState ℕ) (nodes : List (NodeState ℕ)) (number : ℕ) (leaf' : LeafState ℕ) (nodes' : List (NodeState ℕ)) (number' place : ℕ) →
+    length chunks ≤ place → ChunksTaken chunks leaf nodes number leaf' nodes' number' place →
+    (bits : ℕ) (version : Version) (pairs : List Pair) (lists : List (List Pair)) → IsBehind bits version chunks pairs leaf nodes number → AllHold version chunks lists →
+    IsBehind bits version chunks (pairs ++ flat lists) leaf' nodes' number'
+chunks_end chunks leaf nodes number leaf' nodes' number' place h all bits version pairs lists b hold =
+    let l = all bits version pairs lists b hold in
+    let none = no_lists l.rest (subst (λ cs. AllHold version cs l.rest) (nothing_left chunks place h) l.hold) in
+    subst (λ ps. IsBehind bits version chunks ps leaf' nodes' number') (ap (λ ps. pairs ++ ps) (sym (l.is ∙ ap (λ ls. l.done ++ flat ls) none ∙ append-nil l.done))) l.behind
+  where
+    no_lists : (rest : List (List Pair)) → AllHold version [] rest → rest ≡ []
+    no_lists [] h = refl
+    no_lists (l ∷ rest) h = absurd h

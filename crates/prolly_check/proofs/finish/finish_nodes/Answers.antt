@@ -1,0 +1,44 @@
+use Rattle.std.proofs.Common.{ℕ, List, ◌≡◌, ◌∷◌, sym, ◌∙◌, subst, arith}
+use Rattle.prolly_entry.specs.Pair.{Pair}
+use Rattle.prolly_entry.specs.declared.version.Version.{Version}
+use Rattle.prolly_check.specs.Rebuilt.{IsEnding, FaultAtEnd, MaybePasses, MaybeFault}
+use Rattle.prolly_check.specs.Refusal.{UnlessMemory}
+use Rattle.prolly_check.specs.Spans.{chunks_in}
+use Rattle.prolly_check.proofs.FinishSteps.{ending_goes_on, ending_fault, ending_ends, taken_out, no_more}
+use Rattle.prolly_check.proofs.PairSteps.{still_refused}
+use Rattle.prolly_check.proofs.RebuildSteps.{written}
+use Rattle.prolly_check.proofs.finish.finish_nodes.Goals as goal
+
+pub returns-in-Err-clause-err : goal.returns-in-Err-clause-err
+returns-in-Err-clause-err c =
+    let chunks = chunks_in c.args.bytes.now c.args.spans.now in
+    let rest = c.remove.new.self.items in
+    let out : c.loop-alloc.nodes.items ≡ c.remove.result ∷ rest =
+    taken_out c.loop-alloc.nodes.items rest c.remove.result (omega (arith, c.len.ensures ∙ c.loop-alloc.nodes.ok.0)) c.remove.ensures.value c.remove.ensures.items in
+    still_refused (MaybeFault chunks rest c.finish-last.result c.loop-alloc.number)
+    (λ fault. (bits : ℕ) (version : Version) (pairs : List Pair) → IsEnding bits version chunks pairs c.args.nodes.items c.args.number → FaultAtEnd bits version chunks pairs fault)
+    (λ fault h bits version pairs b. ending_fault bits version pairs chunks c.remove.result rest c.finish-last.result c.finish-last.ensures c.loop-alloc.number
+    (subst (λ ns. IsEnding bits version chunks pairs ns c.loop-alloc.number) out (c.loop-alloc.invariant.all bits version pairs b)) fault h)
+    c.in-Err.fault
+    (subst (λ ns. UnlessMemory (MaybeFault chunks ns c.finish-last.result c.loop-alloc.number) c.in-Err.fault) c.deref_mut.ensures.value c.in-Err.ensures.err)
+
+pub loop-alloc-preserved : goal.loop-alloc-preserved
+loop-alloc-preserved c =
+    let chunks = chunks_in c.args.bytes.now c.args.spans.now in
+    let rest = c.remove.new.self.items in
+    let new = c.pass_last.new.levels in
+    let out : c.loop-alloc.nodes.items ≡ c.remove.result ∷ rest =
+    taken_out c.loop-alloc.nodes.items rest c.remove.result (omega (arith, c.len.ensures ∙ c.loop-alloc.nodes.ok.0)) c.remove.ensures.value c.remove.ensures.items in
+    let passed : MaybePasses chunks rest new c.finish-last.result c.loop-alloc.number c.in-Ok.next =
+    subst (λ ns. MaybePasses chunks ns new c.finish-last.result c.loop-alloc.number c.in-Ok.next) c.deref_mut.ensures.value c.in-Ok.ensures.ok in record {
+      number = c.in-Ok.ensures.next;
+      all = λ bits version pairs b. subst (λ ns. IsEnding bits version chunks pairs ns c.in-Ok.next) (sym (written rest new c.remove.new.self.len c.remove.new.self.ok.0 passed.size))
+          (ending_goes_on bits version pairs chunks c.remove.result rest c.finish-last.result c.finish-last.ensures c.loop-alloc.number
+          (subst (λ ns. IsEnding bits version chunks pairs ns c.loop-alloc.number) out (c.loop-alloc.invariant.all bits version pairs b)) new c.in-Ok.next passed);
+    }
+
+pub returns-clause-ok : goal.returns-clause-ok
+returns-clause-ok c = λ bits version pairs b.
+    let chunks = chunks_in c.args.bytes.now c.args.spans.now in
+    ending_ends bits version pairs chunks c.loop-alloc.number
+    (subst (λ ns. IsEnding bits version chunks pairs ns c.loop-alloc.number) (no_more c.loop-alloc.nodes.items (omega (arith, c.len.ensures ∙ c.loop-alloc.nodes.ok.0))) (c.loop-alloc.invariant.all bits version pairs b))

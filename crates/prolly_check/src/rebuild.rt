@@ -1,0 +1,250 @@
+//! Rebuilding the chunks of pairs that come one by one.
+ghost use Rattle.std.specs.Prelude.{◌≡◌, [], ◌∷◌, ◌++◌, ◌<◌, ◌≤◌, ◌^◌, ℕ, None, Some, List, length, OnOk, IfOk, IfErr, MatchOption};
+ghost use Rattle.std.specs.List.{flat_map, AllByRecursion};
+ghost use Rattle.prolly_entry.specs.Pair.{Pair as PairValue, IsPair};
+ghost use Rattle.prolly_entry.specs.Spelling.{pair_spelling};
+ghost use Rattle.prolly_entry.specs.declared.version.Version.{Version};
+ghost use Rattle.prolly_check.specs.Entries.{Holds, AllHold};
+ghost use Rattle.prolly_check.specs.Judged.{difference, chunk_bytes};
+ghost use Rattle.prolly_check.specs.Rebuilt.{IsBehind, DifferBy, AreUnused, EndsAt, FaultAtEnd, node_levels};
+ghost use Rattle.prolly_check.specs.Refusal.{UnlessMemory};
+ghost use Rattle.prolly_check.specs.Spans.{IsWithin, chunks_in};
+
+use crate::fault::CheckFault;
+use crate::finish::{finish_nodes, pass_last};
+use crate::frames::{Span, chunk_at};
+use crate::passing::pass;
+use prolly_chunk::{LeafLevel, NodeLevel};
+use prolly_entry::{Front, Pair, Sha512Cut, Version, front_pair};
+use std::alloc::{AllocError, Global};
+
+/// The number of levels of nodes. A tree of fewer than 2^64 pairs has no more.
+const NODE_LEVELS: u8 = 64;
+
+/// What is rebuilt so far of the chunks of pairs: the open chunk of each level, and how many chunks were
+/// closed and found in a file.
+#[derive(Drop)]
+struct Rebuild {
+    leaf: LeafLevel<Sha512Cut>,
+    nodes: Vec<NodeLevel<Sha512Cut>>,
+    number: usize,
+}
+
+/// All levels of nodes, before the first chunk.
+fn new_nodes(
+    alloc: Global,
+    cut: Sha512Cut,
+    version: Version,
+) -> Result<Vec<NodeLevel<Sha512Cut>>, AllocError>
+    ensures unused { IfOk result (λ nodes. AreUnused cut version 1 nodes.items) }
+    ensures count { IfOk result (λ nodes. length nodes.items ≡ node_levels) }
+{
+    let mut nodes = Vec::new(alloc);
+    for level in 0..NODE_LEVELS {
+        nodes.push(NodeLevel::new(alloc, version, level + 1, cut)?)?;
+    }
+    Ok(nodes)
+}
+
+/// The beginning, before the first pair.
+fn begin(alloc: Global, cut: Sha512Cut, version: Version) -> Result<Rebuild, AllocError>
+    ensures behind { IfOk result (λ rebuild. (chunks : List (List ℕ)) → IsBehind cut version chunks [] rebuild.leaf rebuild.nodes.items rebuild.number) }
+    ensures number { IfOk result (λ rebuild. rebuild.number ≡ 0) }
+{
+    Ok(Rebuild {
+        leaf: LeafLevel::new(alloc, cut)?,
+        nodes: new_nodes(alloc, cut, version)?,
+        number: 0,
+    })
+}
+
+/// Takes a pair, and compares the chunks that it closes.
+fn add_pair(
+    alloc: Global,
+    rebuild: &mut Rebuild,
+    pair: &Pair,
+    bytes: &[u8],
+    spans: &[Span],
+) -> Result<(), CheckFault>
+    requires within { AllByRecursion (IsWithin bytes.now) spans.now }
+    requires number { rebuild.old.number ≤ length spans.now }
+    ensures ok { OnOk result ((bits : ℕ) (version : Version) (pairs : List PairValue) → IsBehind bits version (chunks_in bytes.now spans.now) pairs rebuild.old.leaf rebuild.old.nodes.items rebuild.old.number →
+        IsBehind bits version (chunks_in bytes.now spans.now) (pairs ++ pair.now ∷ []) rebuild.new.leaf rebuild.new.nodes.items rebuild.new.number) }
+    ensures number { OnOk result (rebuild.new.number ≤ length spans.now) }
+    ensures err { IfErr result (UnlessMemory (λ fault. (bits : ℕ) (version : Version) (pairs : List PairValue) → IsBehind bits version (chunks_in bytes.now spans.now) pairs rebuild.old.leaf rebuild.old.nodes.items rebuild.old.number →
+        DifferBy bits version (chunks_in bytes.now spans.now) (pairs ++ pair.now ∷ []) fault)) }
+{
+    let closed = match rebuild.leaf.push(alloc, pair) {
+        Ok(closed) => closed,
+        Err(_) => return Err(CheckFault::Memory),
+    };
+    match closed {
+        None => Ok(()),
+        Some(leaf) => match pass(
+            alloc,
+            &mut rebuild.nodes,
+            0,
+            &leaf,
+            bytes,
+            spans,
+            rebuild.number,
+        ) {
+            Ok(number) => {
+                rebuild.number = number;
+                Ok(())
+            }
+            Err(fault) => Err(fault),
+        },
+    }
+}
+
+/// Takes the pairs of a leaf's entries.
+fn add_leaf(
+    alloc: Global,
+    rebuild: &mut Rebuild,
+    entries: &[u8],
+    bytes: &[u8],
+    spans: &[Span],
+) -> Result<(), CheckFault>
+    requires within { AllByRecursion (IsWithin bytes.now) spans.now }
+    requires number { rebuild.old.number ≤ length spans.now }
+    ensures ok { OnOk result ((bits : ℕ) (version : Version) (pairs leaf : List PairValue) → IsBehind bits version (chunks_in bytes.now spans.now) pairs rebuild.old.leaf rebuild.old.nodes.items rebuild.old.number →
+        AllByRecursion IsPair leaf → entries.now ≡ flat_map pair_spelling leaf →
+        IsBehind bits version (chunks_in bytes.now spans.now) (pairs ++ leaf) rebuild.new.leaf rebuild.new.nodes.items rebuild.new.number) }
+    ensures number { OnOk result (rebuild.new.number ≤ length spans.now) }
+    ensures err { IfErr result (UnlessMemory (λ fault. (bits : ℕ) (version : Version) (pairs leaf : List PairValue) → IsBehind bits version (chunks_in bytes.now spans.now) pairs rebuild.old.leaf rebuild.old.nodes.items rebuild.old.number →
+        AllByRecursion IsPair leaf → entries.now ≡ flat_map pair_spelling leaf → DifferBy bits version (chunks_in bytes.now spans.now) (pairs ++ leaf) fault)) }
+{
+    let mut place = 0;
+    while place < entries.len() {
+        let rest = &entries[place..];
+        match front_pair(rest) {
+            Front::Pair {
+                key_end,
+                value_start,
+                len,
+            } => {
+                let pair = match Pair::copy_of(alloc, &rest[2..key_end], &rest[value_start..len]) {
+                    Ok(pair) => pair,
+                    Err(_) => return Err(CheckFault::Memory),
+                };
+                match add_pair(alloc, rebuild, &pair, bytes, spans) {
+                    Ok(()) => place += len,
+                    Err(fault) => return Err(fault),
+                }
+            }
+            _ => return Ok(()),
+        }
+    }
+    Ok(())
+}
+
+/// Takes the pairs of a chunk. A node has none.
+fn add_chunk(
+    alloc: Global,
+    rebuild: &mut Rebuild,
+    chunk: &[u8],
+    bytes: &[u8],
+    spans: &[Span],
+) -> Result<(), CheckFault>
+    requires within { AllByRecursion (IsWithin bytes.now) spans.now }
+    requires number { rebuild.old.number ≤ length spans.now }
+    ensures ok { OnOk result ((bits : ℕ) (version : Version) (pairs held : List PairValue) → IsBehind bits version (chunks_in bytes.now spans.now) pairs rebuild.old.leaf rebuild.old.nodes.items rebuild.old.number →
+        Holds version chunk.now held → IsBehind bits version (chunks_in bytes.now spans.now) (pairs ++ held) rebuild.new.leaf rebuild.new.nodes.items rebuild.new.number) }
+    ensures number { OnOk result (rebuild.new.number ≤ length spans.now) }
+    ensures err { IfErr result (UnlessMemory (λ fault. (bits : ℕ) (version : Version) (pairs held : List PairValue) → IsBehind bits version (chunks_in bytes.now spans.now) pairs rebuild.old.leaf rebuild.old.nodes.items rebuild.old.number →
+        Holds version chunk.now held → DifferBy bits version (chunks_in bytes.now spans.now) (pairs ++ held) fault)) }
+{
+    if chunk.len() == 0 {
+        return Ok(());
+    }
+    if chunk[0] != 0 {
+        return Ok(());
+    }
+    add_leaf(alloc, rebuild, &chunk[1..], bytes, spans)
+}
+
+/// Takes the pairs of all chunks of a file.
+fn add_chunks(
+    alloc: Global,
+    rebuild: &mut Rebuild,
+    bytes: &[u8],
+    spans: &[Span],
+) -> Result<(), CheckFault>
+    requires within { AllByRecursion (IsWithin bytes.now) spans.now }
+    requires number { rebuild.old.number ≤ length spans.now }
+    ensures ok { OnOk result ((bits : ℕ) (version : Version) (pairs : List PairValue) (lists : List (List PairValue)) → IsBehind bits version (chunks_in bytes.now spans.now) pairs rebuild.old.leaf rebuild.old.nodes.items rebuild.old.number →
+        AllHold version (chunks_in bytes.now spans.now) lists → IsBehind bits version (chunks_in bytes.now spans.now) (pairs ++ flat_map (λ pairs. pairs) lists) rebuild.new.leaf rebuild.new.nodes.items rebuild.new.number) }
+    ensures number { OnOk result (rebuild.new.number ≤ length spans.now) }
+    ensures err { IfErr result (UnlessMemory (λ fault. (bits : ℕ) (version : Version) (pairs : List PairValue) (lists : List (List PairValue)) → IsBehind bits version (chunks_in bytes.now spans.now) pairs rebuild.old.leaf rebuild.old.nodes.items rebuild.old.number →
+        AllHold version (chunks_in bytes.now spans.now) lists → DifferBy bits version (chunks_in bytes.now spans.now) (pairs ++ flat_map (λ pairs. pairs) lists) fault)) }
+{
+    for span in spans {
+        match add_chunk(alloc, rebuild, chunk_at(bytes, *span), bytes, spans) {
+            Ok(()) => {}
+            Err(fault) => return Err(fault),
+        }
+    }
+    Ok(())
+}
+
+/// Closes what is left open, and answers how many chunks there are in all.
+fn finish(
+    alloc: Global,
+    rebuild: Rebuild,
+    bytes: &[u8],
+    spans: &[Span],
+) -> Result<usize, CheckFault>
+    requires within { AllByRecursion (IsWithin bytes.now) spans.now }
+    requires number { rebuild.number ≤ length spans.now }
+    ensures ok { IfOk result (λ count. (bits : ℕ) (version : Version) (pairs : List PairValue) → IsBehind bits version (chunks_in bytes.now spans.now) pairs rebuild.leaf rebuild.nodes.items rebuild.number →
+        EndsAt bits version (chunks_in bytes.now spans.now) pairs count) }
+    ensures count { IfOk result (λ count. count ≤ length spans.now) }
+    ensures err { IfErr result (UnlessMemory (λ fault. (bits : ℕ) (version : Version) (pairs : List PairValue) → IsBehind bits version (chunks_in bytes.now spans.now) pairs rebuild.leaf rebuild.nodes.items rebuild.number →
+        FaultAtEnd bits version (chunks_in bytes.now spans.now) pairs fault)) }
+{
+    let Rebuild {
+        leaf,
+        mut nodes,
+        number,
+    } = rebuild;
+    let last = leaf.finish();
+    match pass_last(alloc, &mut nodes, last, bytes, spans, number) {
+        Ok(next) => finish_nodes(alloc, nodes, bytes, spans, next),
+        Err(fault) => Err(fault),
+    }
+}
+
+/// Tests that the chunks of a file are those of the pairs that they hold.
+///
+/// Holds one open chunk a level beside the file.
+pub(crate) fn test_rebuilt(
+    alloc: Global,
+    cut: Sha512Cut,
+    version: Version,
+    bytes: &[u8],
+    spans: &[Span],
+) -> Result<(), CheckFault>
+    requires within { AllByRecursion (IsWithin bytes.now) spans.now }
+    ensures ok { OnOk result ((lists : List (List PairValue)) → AllHold version (chunks_in bytes.now spans.now) lists → length (flat_map (λ pairs. pairs) lists) < 2 ^ 64 →
+        difference 0 (chunk_bytes version cut (flat_map (λ pairs. pairs) lists)) (chunks_in bytes.now spans.now) ≡ None) }
+    ensures err { IfErr result (UnlessMemory (λ fault. (lists : List (List PairValue)) → AllHold version (chunks_in bytes.now spans.now) lists → length (flat_map (λ pairs. pairs) lists) < 2 ^ 64 →
+        difference 0 (chunk_bytes version cut (flat_map (λ pairs. pairs) lists)) (chunks_in bytes.now spans.now) ≡ Some fault)) }
+{
+    let mut rebuild = match begin(alloc, cut, version) {
+        Ok(rebuild) => rebuild,
+        Err(_) => return Err(CheckFault::Memory),
+    };
+    match add_chunks(alloc, &mut rebuild, bytes, spans) {
+        Ok(()) => {}
+        Err(fault) => return Err(fault),
+    }
+    let count = match finish(alloc, rebuild, bytes, spans) {
+        Ok(count) => count,
+        Err(fault) => return Err(fault),
+    };
+    if count < spans.len() {
+        return Err(CheckFault::NotCanonical { chunk: count });
+    }
+    Ok(())
+}
