@@ -8,7 +8,10 @@ use prolly_entry::Version;
 use prolly_file::{FromRead, Sink, ToWrite};
 use prolly_link::RunFault;
 use prolly_stage::OpenGate;
-use prolly_tool::{Answer, Command, Config, Fault, answer_build, answer_pack, answer_scratch};
+use prolly_tool::{
+    Answer, Command, Config, answer_build, answer_check, answer_get, answer_nth, answer_pack,
+    answer_scan, answer_scratch,
+};
 use std::alloc::AllocError;
 use std::fs;
 use std::io::BufWriter;

@@ -18,6 +18,10 @@ pub record Shows (answer : Answer) (status : ℕ) (out err : List ℕ) : Type 0 
 abbrev pub ShowsLine : Answer → List ℕ → Type 0
 ShowsLine answer text = Shows answer 0 (text ++ 0x0A ∷ []) []
 
+-- Nothing was found: no line, and status 1.
+abbrev pub ShowsNothing : Answer → Type 0
+ShowsNothing answer = Shows answer 1 [] []
+
 -- Not done: nothing on standard output, and the fault's line on standard error.
 abbrev pub ShowsFault : Answer → Fault → Type 0
 ShowsFault answer fault = Shows answer (fault_status fault) [] (fault_line (fault_text fault))

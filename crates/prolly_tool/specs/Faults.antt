@@ -3,10 +3,12 @@ use Rattle.std.specs.Prelude.{ℕ, List, [], ◌∷◌, ◌++◌, codes}
 use Rattle.std.specs.Fmt.{decimal}
 use Rattle.prolly_link.specs.declared.fault.RunFault.{RunFault}
 use Rattle.prolly_link.specs.declared.fault.RunFault.TheVariants as runs
+use Rattle.prolly_check.specs.declared.fault.CheckFault.{CheckFault}
+use Rattle.prolly_check.specs.declared.fault.CheckFault.TheVariants as checks
 use Rattle.prolly_tool.specs.declared.pack.PackFault.{PackFault}
 use Rattle.prolly_tool.specs.declared.pack.PackFault.TheVariants as packs
 use Rattle.prolly_tool.specs.declared.fault.Fault.{Fault}
-use Rattle.prolly_tool.specs.declared.fault.Fault.TheVariants.{Run, Pack, InputTooLong, BadKey, NotUnicode, NotInThisBuild}
+use Rattle.prolly_tool.specs.declared.fault.Fault.TheVariants.{Run, Pack, Check, NoCounts, InputTooLong, BadKey, NotUnicode}
 
 -- What is said of a record of a file.
 abbrev pub record_text : ℕ → ℕ → List ℕ → List ℕ
@@ -32,16 +34,31 @@ pack_text (packs.BadLine line) = codes "line " ++ decimal line ++ codes ": not a
 pack_text (packs.KeyTooLong line) = codes "line " ++ decimal line ++ codes ": key too long"
 pack_text (packs.ValueTooLong line) = codes "line " ++ decimal line ++ codes ": value too long"
 
+abbrev pub check_fault_text : CheckFault → List ℕ
+check_fault_text checks.Memory = codes "out of memory"
+check_fault_text checks.Read = codes "chunk file: read failed"
+check_fault_text checks.TooLong = codes "chunk file: too long"
+check_fault_text checks.BadHeader = codes "chunk file: bad header"
+check_fault_text (checks.BadFrame chunk) = codes "chunk file: bad frame " ++ decimal chunk
+check_fault_text checks.Truncated = codes "chunk file: truncated"
+check_fault_text checks.Trailing = codes "chunk file: bytes after the end"
+check_fault_text (checks.BadChunk chunk) = codes "chunk file: bad chunk " ++ decimal chunk
+check_fault_text (checks.KeysOutOfOrder chunk) = codes "chunk file: keys out of order in chunk " ++ decimal chunk
+check_fault_text (checks.NotCanonical chunk) = codes "chunk file: chunk " ++ decimal chunk ++ codes " is not canonical"
+check_fault_text checks.BadEnd = codes "chunk file: bad end record"
+check_fault_text (checks.Collision chunk) = codes "chunk file: reference of chunk " ++ decimal chunk ++ codes " is used twice"
+
 -- What is said of a fault.
 abbrev pub fault_text : Fault → List ℕ
 fault_text (Run fault) = run_text fault
 fault_text (Pack fault) = pack_text fault
+fault_text (Check fault) = check_fault_text fault
+fault_text NoCounts = codes "chunk file: no counts"
 fault_text InputTooLong = codes "input too long"
 fault_text BadKey = codes "not a key in hexadecimal"
 fault_text NotUnicode = codes "a word is not UTF-8"
-fault_text NotInThisBuild = codes "not in this build"
 
--- 2: usage. 3: the input is at fault. 5: a device is. 6: memory or a thread. 7: the tree is too tall.
+-- 2: usage. 3: the input is at fault. 4: a chunk file is. 5: a device is. 6: memory or a thread. 7: the tree is too tall.
 abbrev pub run_status : RunFault → ℕ
 run_status runs.Memory = 6
 run_status (runs.Read file) = 5
@@ -62,10 +79,22 @@ fault_status (Pack packs.Memory) = 6
 fault_status (Pack (packs.BadLine line)) = 3
 fault_status (Pack (packs.KeyTooLong line)) = 3
 fault_status (Pack (packs.ValueTooLong line)) = 3
+fault_status (Check checks.Memory) = 6
+fault_status (Check checks.Read) = 5
+fault_status (Check checks.TooLong) = 4
+fault_status (Check checks.BadHeader) = 4
+fault_status (Check (checks.BadFrame chunk)) = 4
+fault_status (Check checks.Truncated) = 4
+fault_status (Check checks.Trailing) = 4
+fault_status (Check (checks.BadChunk chunk)) = 4
+fault_status (Check (checks.KeysOutOfOrder chunk)) = 4
+fault_status (Check (checks.NotCanonical chunk)) = 4
+fault_status (Check checks.BadEnd) = 4
+fault_status (Check (checks.Collision chunk)) = 4
+fault_status NoCounts = 4
 fault_status InputTooLong = 5
 fault_status BadKey = 2
 fault_status NotUnicode = 2
-fault_status NotInThisBuild = 2
 
 -- The line of a fault on standard error: the program's name, the text, a newline.
 abbrev pub fault_line : List ℕ → List ℕ

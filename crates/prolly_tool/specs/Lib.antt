@@ -6,3 +6,4 @@ pub mod Pack
 pub mod Faults
 pub mod Answers
 pub mod Build
+pub mod LookUps

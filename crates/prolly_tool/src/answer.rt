@@ -1,6 +1,6 @@
 //! What the program prints.
 ghost use Rattle.std.specs.Prelude.{◌≡◌, [], IfOk, OnOk, ◌∷◌, ◌++◌};
-ghost use Rattle.prolly_tool.specs.Answers.{Shows, ShowsLine, ShowsFault, ShowsRefusal, unopened_text};
+ghost use Rattle.prolly_tool.specs.Answers.{Shows, ShowsNothing, ShowsLine, ShowsFault, ShowsRefusal, unopened_text};
 ghost use Rattle.prolly_tool.specs.Faults.{fault_line};
 
 use crate::fault::Fault;
@@ -11,7 +11,7 @@ use std::alloc::{AllocError, Global};
 /// What the program prints, and the status with which it ends.
 #[derive(Debug, Drop)]
 pub struct Answer {
-    /// 0 where the command is done, and else the status of its fault.
+    /// 0 where the command is done, 1 where it found nothing, and else the status of its fault.
     pub status: u8,
     /// For standard output; empty where the command is not done.
     pub out: Vec<u8>,
@@ -32,6 +32,17 @@ impl Answer {
             out,
             err: Vec::new(alloc),
         })
+    }
+
+    /// The answer of a look-up that found nothing: no line, and a status of its own.
+    pub fn of_nothing(alloc: Global) -> Answer
+        ensures { ShowsNothing result }
+    {
+        Answer {
+            status: 1,
+            out: Vec::new(alloc),
+            err: Vec::new(alloc),
+        }
     }
 
     /// The answer of a command that is not done: the fault's line on standard error.

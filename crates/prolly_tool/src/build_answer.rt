@@ -1,10 +1,10 @@
 //! What the command `build` prints.
-ghost use Rattle.std.specs.Prelude.{◌≡◌, ◌++◌, ◌∷◌, IfOk, OnOk};
-ghost use Rattle.std.specs.Fmt.{decimal};
+ghost use Rattle.std.specs.Prelude.{◌≡◌, IfOk};
 ghost use Rattle.prolly_tool.specs.Build.{report_text, ShowsBuild};
 
 use crate::answer::Answer;
 use crate::fault::Fault;
+use crate::line_parts::append_number;
 use prolly_build::Report;
 use prolly_link::RunFault;
 use std::alloc::{AllocError, Global};
@@ -32,13 +32,4 @@ fn line_of(alloc: Global, report: &Report) -> Result<Vec<u8>, AllocError>
     append_number(alloc, &mut line, report.pairs)?;
     append_number(alloc, &mut line, u64::from(report.levels))?;
     Ok(line)
-}
-
-/// A space, and the number in decimal.
-fn append_number(alloc: Global, line: &mut Vec<u8>, number: u64) -> Result<(), AllocError>
-    ensures { OnOk result (line.new.items ≡ line.old.items ++ 0x20 ∷ decimal number) }
-{
-    let text = format!(in alloc; " {number}")?;
-    line.extend_from_slice(text.as_bytes())?;
-    Ok(())
 }

@@ -3,6 +3,7 @@ ghost use Rattle.std.specs.Prelude.{◌≡◌, Some};
 ghost use Rattle.prolly_tool.specs.Faults.{fault_text, run_status, fault_status};
 
 use crate::pack::PackFault;
+use prolly_check::CheckFault;
 use prolly_link::RunFault;
 use std::fmt;
 use std::fmt::{Display, Formatter};
@@ -15,14 +16,16 @@ pub enum Fault {
     Run(RunFault),
     /// A text is not packed.
     Pack(PackFault),
+    /// A file is no lawful chunk file.
+    Check(CheckFault),
+    /// A chunk file of version One has no counts, by which a pair is found by its number.
+    NoCounts,
     /// Standard input is longer than the program reads.
     InputTooLong,
     /// The word for a key is no key in hexadecimal.
     BadKey,
     /// A word of the command line is not UTF-8.
     NotUnicode,
-    /// The command is not in this build.
-    NotInThisBuild,
 }
 
 impl Fault {
@@ -34,8 +37,11 @@ impl Fault {
             Fault::Run(fault) => run_status(fault),
             Fault::Pack(PackFault::Memory) => 6,
             Fault::Pack(_) => 3,
+            Fault::Check(CheckFault::Memory) => 6,
+            Fault::Check(CheckFault::Read) => 5,
+            Fault::Check(_) | Fault::NoCounts => 4,
             Fault::InputTooLong => 5,
-            Fault::BadKey | Fault::NotUnicode | Fault::NotInThisBuild => 2,
+            Fault::BadKey | Fault::NotUnicode => 2,
         }
     }
 }
@@ -63,10 +69,11 @@ impl Display for Fault {
         match self {
             Fault::Run(fault) => RunText(*fault).fmt(f),
             Fault::Pack(fault) => fault.fmt(f),
+            Fault::Check(fault) => CheckText(*fault).fmt(f),
+            Fault::NoCounts => write!(f, "chunk file: no counts"),
             Fault::InputTooLong => write!(f, "input too long"),
             Fault::BadKey => write!(f, "not a key in hexadecimal"),
             Fault::NotUnicode => write!(f, "a word is not UTF-8"),
-            Fault::NotInThisBuild => write!(f, "not in this build"),
         }
     }
 }
@@ -116,5 +123,38 @@ impl Display for RecordText<'_> {
     fn fmt<W: fmt::Write>(&self, f: &mut Formatter<W>) -> fmt::Result {
         let RecordText(file, place, text) = *self;
         write!(f, "file {file}: record {place}{text}")
+    }
+}
+
+/// Why a file is no lawful chunk file, to be shown.
+#[derive(Clone, Copy)]
+struct CheckText(CheckFault);
+
+impl Display for CheckText {
+    ghost use Rattle.prolly_tool.specs.Faults.{check_fault_text};
+
+    ghost output = { λ shown. Some (check_fault_text shown.0) };
+
+    fn fmt<W: fmt::Write>(&self, f: &mut Formatter<W>) -> fmt::Result {
+        match self.0 {
+            CheckFault::Memory => write!(f, "out of memory"),
+            CheckFault::Read => write!(f, "chunk file: read failed"),
+            CheckFault::TooLong => write!(f, "chunk file: too long"),
+            CheckFault::BadHeader => write!(f, "chunk file: bad header"),
+            CheckFault::BadFrame { chunk } => write!(f, "chunk file: bad frame {chunk}"),
+            CheckFault::Truncated => write!(f, "chunk file: truncated"),
+            CheckFault::Trailing => write!(f, "chunk file: bytes after the end"),
+            CheckFault::BadChunk { chunk } => write!(f, "chunk file: bad chunk {chunk}"),
+            CheckFault::KeysOutOfOrder { chunk } => {
+                write!(f, "chunk file: keys out of order in chunk {chunk}")
+            }
+            CheckFault::NotCanonical { chunk } => {
+                write!(f, "chunk file: chunk {chunk} is not canonical")
+            }
+            CheckFault::BadEnd => write!(f, "chunk file: bad end record"),
+            CheckFault::Collision { chunk } => {
+                write!(f, "chunk file: reference of chunk {chunk} is used twice")
+            }
+        }
     }
 }

@@ -1,4 +1,4 @@
-//! Standard input, which the commands read whole.
+//! Standard input, which commands read whole.
 ghost use Rattle.std.specs.Prelude.{◌≡◌, ◌≢◌, ◌≤◌, true, length, IfOk, IfErr};
 ghost use Rattle.prolly_tool.specs.Input.{IsInputFault};
 
@@ -8,7 +8,7 @@ use prolly_link::RunFault;
 use std::alloc::Global;
 
 /// How many bytes a command reads at most.
-const INPUT_LIMIT: u32 = 1_073_741_824;
+pub(crate) const INPUT_LIMIT: u32 = 1_073_741_824;
 
 /// All bytes that a source has left.
 pub(crate) fn input_of<S: Source>(alloc: Global, source: &mut S) -> Result<Vec<u8>, Fault>

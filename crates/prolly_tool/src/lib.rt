@@ -3,18 +3,27 @@
 
 mod answer;
 mod build_answer;
+mod check_answer;
 mod fault;
+mod get_answer;
 mod input;
 mod line;
+mod line_parts;
+mod nth_answer;
 mod pack;
 mod pack_answer;
+mod scan_answer;
 mod scratch;
 
 pub use answer::Answer;
 pub use build_answer::answer_build;
+pub use check_answer::answer_check;
 pub use fault::Fault;
+pub use get_answer::answer_get;
+pub use nth_answer::answer_nth;
 pub use pack::{PackFault, pack_lines};
 pub use pack_answer::answer_pack;
 pub use prolly_build::{Config, ConfigFault, Report};
 pub use prolly_line::{Command, ParseFault, parse};
+pub use scan_answer::answer_scan;
 pub use scratch::answer_scratch;

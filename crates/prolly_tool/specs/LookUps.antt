@@ -1,0 +1,82 @@
+-- What the commands that read a chunk file print.
+use Rattle.std.specs.Prelude.{◌≡◌, ◌⊎◌, ℕ, List, [], ◌∷◌, ◌++◌, length, Option, Some, None, codes}
+use Rattle.std.specs.Fmt.{decimal}
+use Rattle.std.specs.List.{flat_map}
+use Rattle.hex.specs.Hex.{encode_lower}
+use Rattle.prolly_check.specs.Check.{IsRefusal}
+use Rattle.prolly_check.specs.Content.{Content}
+use Rattle.prolly_check.specs.Verdict.{IsFileOf}
+use Rattle.prolly_check.specs.declared.fault.CheckFault.{CheckFault}
+use Rattle.prolly_check.specs.declared.fault.CheckFault.TheVariants.{Read}
+use Rattle.prolly_entry.specs.declared.version.Version.{Version}
+use Rattle.prolly_entry.specs.declared.version.Version.TheVariants.{One, Two}
+use Rattle.prolly_entry.specs.Chunk.{chunks}
+use Rattle.prolly_entry.specs.Cut.{sha512_cut}
+use Rattle.prolly_entry.specs.File.{root_reference}
+use Rattle.prolly_entry.specs.LookUp.{find, nth, scan}
+use Rattle.prolly_entry.specs.Pair.{Pair}
+use Rattle.prolly_entry.specs.Reference.{reference_text}
+use Rattle.prolly_tool.specs.Answers.{Shows, ShowsLine, ShowsNothing, ShowsFault}
+use Rattle.prolly_tool.specs.declared.answer.Answer.{Answer}
+use Rattle.prolly_tool.specs.declared.fault.Fault.TheVariants.{Check, NoCounts}
+
+-- How many bytes a chunk file has at most that a command reads.
+abbrev pub file_limit : ℕ
+file_limit = 1073741824
+
+-- The line of a file that is lawful: `ok`, the text of the root, the numbers of bits and of chunks.
+abbrev pub check_text : Content → List ℕ
+check_text content =
+    codes "ok " ++ reference_text (root_reference (sha512_cut content.bits) content.version content.pairs)
+    ++ 0x20 ∷ decimal content.bits ++ 0x20 ∷ decimal (length (chunks (sha512_cut content.bits) content.version content.pairs))
+
+-- A key and its value in hexadecimal.
+abbrev pub pair_text : Pair → List ℕ
+pair_text p = encode_lower p.key ++ 0x20 ∷ encode_lower p.value
+
+abbrev pub ShowsValue : Answer → Option (List ℕ) → Type 0
+ShowsValue answer None = ShowsNothing answer
+ShowsValue answer (Some value) = ShowsLine answer (encode_lower value)
+
+abbrev pub ShowsPair : Answer → Option Pair → Type 0
+ShowsPair answer None = ShowsNothing answer
+ShowsPair answer (Some p) = ShowsLine answer (pair_text p)
+
+-- A line for each pair.
+abbrev pub ShowsPairs : Answer → List Pair → Type 0
+ShowsPairs answer pairs = Shows answer 0 (flat_map (λ p. pair_text p ++ 0x0A ∷ []) pairs) []
+
+-- The files of version One have no counts.
+abbrev pub ShowsNth : Answer → Version → Option Pair → Type 0
+ShowsNth answer One found = ShowsFault answer NoCounts
+ShowsNth answer Two found = ShowsPair answer found
+
+-- What is shown of a lawful file's content, by the command.
+abbrev pub ShowsCheck : Answer → Content → Type 0
+ShowsCheck answer content = ShowsLine answer (check_text content)
+
+abbrev pub ShowsGet : List ℕ → Answer → Content → Type 0
+ShowsGet key answer content = ShowsValue answer (find content.pairs key)
+
+abbrev pub ShowsScan : List ℕ → ℕ → Answer → Content → Type 0
+ShowsScan from limit answer content = ShowsPairs answer (scan content.pairs from limit)
+
+abbrev pub ShowsPlace : ℕ → Answer → Content → Type 0
+ShowsPlace n answer content = ShowsNth answer content.version (nth content.pairs n)
+
+-- The bytes are the file of this content, of which this is shown.
+pub record IsLookedUp (bytes : List ℕ) (shows : Content → Type 0) : Type 0 where
+  pub content : Content
+  pub is : IsFileOf bytes content
+  pub shown : shows content
+
+-- The bytes were refused, or could not be read.
+pub record IsNoFile (bytes : List ℕ) (failed : Type 0) (answer : Answer) : Type 0 where
+  pub fault : CheckFault
+  pub is : IsRefusal bytes file_limit fault
+  pub read : fault ≡ Read → failed
+  pub shows : ShowsFault answer (Check fault)
+
+-- The answer of a command of which `shows` says what it shows of a content.
+abbrev pub IsLookUp : List ℕ → Type 0 → (Answer → Content → Type 0) → Answer → Type 0
+IsLookUp bytes failed shows answer = IsLookedUp bytes (shows answer) ⊎ IsNoFile bytes failed answer

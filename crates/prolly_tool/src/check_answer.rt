@@ -1,0 +1,41 @@
+//! The command `check`: whether a file is a lawful chunk file.
+ghost use Rattle.std.specs.Prelude.{◌≡◌, ◌≢◌, true, IfOk};
+ghost use Rattle.prolly_check.specs.Content.{Content};
+ghost use Rattle.prolly_check.specs.Verdict.{IsFileOf};
+ghost use Rattle.prolly_tool.specs.LookUps.{IsLookUp, ShowsCheck, check_text};
+
+use crate::answer::Answer;
+use crate::fault::Fault;
+use crate::input::INPUT_LIMIT;
+use crate::line_parts::append_number;
+use prolly_check::{Tree, check};
+use prolly_file::Source;
+use std::alloc::{AllocError, Global};
+
+/// What `check` answers: `ok`, the text of the root, and the numbers of bits and chunks, where the bytes of
+/// the source are the one chunk file of what they say; else the line of the first fault. At most
+/// 1,073,741,824 bytes are read. An `Err` is want of memory for the answer's own text.
+///
+/// Takes time linear in the file, but for an index of the references. The file and its chunks' places are
+/// held in memory.
+pub fn answer_check<S: Source>(alloc: Global, source: &mut S) -> Result<Answer, AllocError>
+    ensures { S.is_honest source.old ≡ true → IfOk result (IsLookUp (S.left source.old) (S.failures source.new ≢ S.failures source.old) ShowsCheck) }
+{
+    let tree = match check(alloc, source, INPUT_LIMIT) {
+        Ok(tree) => tree,
+        Err(fault) => return Answer::of_fault(alloc, Fault::Check(fault)),
+    };
+    let line = line_of(alloc, &tree)?;
+    Answer::of_line(alloc, &line)
+}
+
+fn line_of(alloc: Global, tree: &Tree) -> Result<Vec<u8>, AllocError>
+    ensures { IfOk result (λ line. (content : Content) → IsFileOf tree.now content → line.items ≡ check_text content) }
+{
+    let mut line = Vec::new(alloc);
+    line.extend_from_slice(b"ok ")?;
+    line.extend_from_slice(&tree.root().to_text())?;
+    append_number(alloc, &mut line, u64::from(tree.bits()))?;
+    append_number(alloc, &mut line, tree.chunks())?;
+    Ok(line)
+}

@@ -1,0 +1,34 @@
+//! The command `nth`: a pair by its number.
+ghost use Rattle.std.specs.Prelude.{◌≡◌, ◌≢◌, true, IfOk};
+ghost use Rattle.prolly_tool.specs.LookUps.{IsLookUp, ShowsPlace};
+
+use crate::answer::Answer;
+use crate::fault::Fault;
+use crate::input::INPUT_LIMIT;
+use crate::line_parts::append_pair;
+use prolly_check::{NoCounts, check};
+use prolly_file::Source;
+use std::alloc::{AllocError, Global};
+
+/// What `nth` answers: the pair of this number, counted from 0 in the order of keys, as key and value in
+/// hexadecimal; nothing, with status 1, where there is none; a fault's line where the file is of version One,
+/// which has no counts, or is one that `check` refuses. An `Err` is want of memory for the answer's own text.
+///
+/// The file is checked first, as by `check`; the look-up itself skips by the counts of the pairs below.
+pub fn answer_nth<S: Source>(alloc: Global, source: &mut S, n: u64) -> Result<Answer, AllocError>
+    ensures { S.is_honest source.old ≡ true → IfOk result (IsLookUp (S.left source.old) (S.failures source.new ≢ S.failures source.old) (ShowsPlace n)) }
+{
+    let tree = match check(alloc, source, INPUT_LIMIT) {
+        Ok(tree) => tree,
+        Err(fault) => return Answer::of_fault(alloc, Fault::Check(fault)),
+    };
+    match tree.nth(n) {
+        Ok(Some((key, value))) => {
+            let mut line = Vec::new(alloc);
+            append_pair(alloc, &mut line, key, value)?;
+            Answer::of_line(alloc, &line)
+        }
+        Ok(None) => Ok(Answer::of_nothing(alloc)),
+        Err(NoCounts) => Answer::of_fault(alloc, Fault::NoCounts),
+    }
+}

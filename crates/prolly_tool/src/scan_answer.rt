@@ -1,0 +1,51 @@
+//! The command `scan`: pairs from a key on.
+ghost use Rattle.std.specs.Prelude.{◌≡◌, ◌≢◌, true, IfOk, OnOk, ◌++◌, ◌∷◌, []};
+ghost use Rattle.std.specs.List.{flat_map};
+ghost use Rattle.prolly_tool.specs.LookUps.{IsLookUp, ShowsScan, pair_text};
+
+use crate::answer::Answer;
+use crate::fault::Fault;
+use crate::input::INPUT_LIMIT;
+use crate::line_parts::append_pair;
+use prolly_check::check;
+use prolly_entry::Pair;
+use prolly_file::Source;
+use std::alloc::{AllocError, Global};
+
+/// What `scan` answers: a line of key and value in hexadecimal for each of the first `limit` pairs whose key is
+/// not less than `from`; or the line of the fault of a file that `check` refuses. An `Err` is want of memory
+/// for the pairs or for the answer's own text.
+///
+/// The file is checked first, as by `check`; the look-up itself stops at its limit.
+pub fn answer_scan<S: Source>(
+    alloc: Global,
+    source: &mut S,
+    from: &[u8],
+    limit: u32,
+) -> Result<Answer, AllocError>
+    ensures { S.is_honest source.old ≡ true → IfOk result (IsLookUp (S.left source.old) (S.failures source.new ≢ S.failures source.old) (ShowsScan from.now limit)) }
+{
+    let tree = match check(alloc, source, INPUT_LIMIT) {
+        Ok(tree) => tree,
+        Err(fault) => return Answer::of_fault(alloc, Fault::Check(fault)),
+    };
+    let pairs = tree.scan(alloc, from, limit)?;
+    let out = lines_of(alloc, &pairs)?;
+    Ok(Answer {
+        status: 0,
+        out,
+        err: Vec::new(alloc),
+    })
+}
+
+/// A line for each pair.
+fn lines_of(alloc: Global, pairs: &[Pair]) -> Result<Vec<u8>, AllocError>
+    ensures { IfOk result (λ lines. lines.items ≡ flat_map (λ p. pair_text p ++ 0x0A ∷ []) pairs.now) }
+{
+    let mut lines = Vec::new(alloc);
+    for pair in pairs {
+        append_pair(alloc, &mut lines, pair.key(), pair.value())?;
+        lines.extend_from_slice(b"\n")?;
+    }
+    Ok(lines)
+}
