@@ -44,8 +44,22 @@ pub fn answer_of<T: Wait + Threads + Sync>(
             let config = config.with_version(version).unwrap();
             build_from(rt, threads, &config, &out, &files)
         }
-        Command::Check { .. } | Command::Get { .. } | Command::Scan { .. } | Command::Nth { .. } =>
-            Answer::of_fault(rt.alloc(), Fault::NotInThisBuild),
+        Command::Check { file } => match fs::open(rt, &file) {
+            Ok(opened) => answer_check(rt.alloc(), &mut FromRead::new(opened)),
+            Err(_) => Answer::of_unopened(rt.alloc(), &file),
+        },
+        Command::Get { file, key } => match fs::open(rt, &file) {
+            Ok(opened) => answer_get(rt.alloc(), &mut FromRead::new(opened), &key),
+            Err(_) => Answer::of_unopened(rt.alloc(), &file),
+        },
+        Command::Scan { file, from, limit } => match fs::open(rt, &file) {
+            Ok(opened) => answer_scan(rt.alloc(), &mut FromRead::new(opened), &from, limit),
+            Err(_) => Answer::of_unopened(rt.alloc(), &file),
+        },
+        Command::Nth { file, n } => match fs::open(rt, &file) {
+            Ok(opened) => answer_nth(rt.alloc(), &mut FromRead::new(opened), n),
+            Err(_) => Answer::of_unopened(rt.alloc(), &file),
+        },
     }
 }
 
