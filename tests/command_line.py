@@ -8,8 +8,6 @@ TEXTS = Path(__file__).parent / "texts"
 
 COMMANDS = ["pack", "scratch", "build", "check", "get", "scan", "nth"]
 
-ABSENT = b"prolly: not in this build\n"
-
 
 def helped(words, text):
     """A run that prints a text of help."""
@@ -39,11 +37,6 @@ def missing(words, names, usage):
     return wrong(words, f"the following required arguments were not provided:{lines}", usage)
 
 
-def absent(*words):
-    """A command that is taken, and is not there yet."""
-    return Case(f"taken: {' '.join(words)[:60]}", list(words), status=2, err=ABSENT)
-
-
 def bad_key(*words):
     """A word for a key that is none."""
     return Case(f"key: {' '.join(words)[:60]}", list(words), status=2, err=b"prolly: not a key in hexadecimal\n")
@@ -51,7 +44,7 @@ def bad_key(*words):
 
 def cases(_):
     """All cases."""
-    return help_cases() + usage_cases() + number_cases() + key_cases() + absent_cases()
+    return help_cases() + usage_cases() + number_cases() + key_cases()
 
 
 def help_cases():
@@ -119,15 +112,4 @@ def key_cases():
         bad_key("scan", "f", "6", "1"),
         # What else is wrong with the words is told first.
         bad_number(["scan", "f", "6", "x"], "x", "<LIMIT>", "invalid digit found in string"),
-    ]
-
-
-def absent_cases():
-    """Commands whose words are taken."""
-    return [
-        absent("check", "f"),
-        absent("get", "f", ""),
-        absent("get", "f", "61" * 1024),
-        absent("scan", "f", "6A", "1000000"),
-        absent("nth", "f", "4294967295"),
     ]

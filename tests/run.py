@@ -10,6 +10,7 @@ import tempfile
 from pathlib import Path
 
 import command_line
+import look_ups
 import build
 import pack
 import scratch
@@ -28,7 +29,7 @@ def main():
     assert chunk_file([], 0) == scratch.EMPTY_FILE
     failed = 0
     with tempfile.TemporaryDirectory() as folder:
-        all_cases = [case for part in (command_line, pack, scratch, build) for case in part.cases(Path(folder))]
+        all_cases = [case for part in (command_line, pack, scratch, build, look_ups) for case in part.cases(Path(folder))]
         for case in all_cases:
             differences = run(program, case)
             failed += bool(differences)
