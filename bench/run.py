@@ -24,7 +24,7 @@ def main():
     with tempfile.TemporaryDirectory() as folder:
         os.chdir(folder)
         write_records(RECORDS)
-        compare_scratch(program, parts)
+        compare_commands(program, parts)
         compare_worker(parts, "load", str(RECORDS), "records")
     for words in (["merge-of-2", str(RECORDS)], ["merge-of-16", str(RECORDS)], ["leaves", "100"]):
         compare_worker(parts, *words)
@@ -43,21 +43,32 @@ def write_records(count):
             file.write(b"\0\x10" + number.to_bytes(16, "big") + b"\0\0\0\x10" + b"\x5a" * 16)
 
 
-def compare_scratch(program, parts):
-    """`prolly scratch` beside the hashes alone that its tree takes."""
-    hashing, building, peaks = [], [], []
+def compare_commands(program, parts):
+    """`scratch`, `build`, `check` and `get` beside the hashes alone that the tree takes."""
+    key = (RECORDS // 2).to_bytes(16, "big").hex()
+    commands = {
+        "scratch": ["scratch", "--out", "tree"],
+        "build": ["build", "tree", "records"],
+        "check": ["check", "tree"],
+        "get": ["get", "tree", key],
+    }
+    hashing, times, peaks = [], {name: [] for name in commands}, {name: 0 for name in commands}
     for _ in range(TURNS):
         hashing.append(int(re.search(r"(\d+) ms", output(parts, "hash", str(RECORDS)))[1]) / 1000)
-        with open("records", "rb") as records:
-            seconds, _, peak = measured([program, "scratch", "--out", "tree"], records)
-        building.append(seconds)
-        peaks.append(peak)
-    size = os.path.getsize("records")
-    ratio = statistics.median(building) / statistics.median(hashing)
+        for name, words in commands.items():
+            with open("records", "rb") as records:
+                seconds, _, peak = measured([program, *words], records)
+            times[name].append(seconds)
+            peaks[name] = max(peaks[name], peak)
     print(f"{RECORDS} records of 38 bytes, {TURNS} turns, medians and (least to most):")
     print(f"  hashes alone    {spread(hashing)}")
-    print(f"  prolly scratch  {spread(building)}, {ratio:.2f} times as long")
-    print(f"  its peak memory {max(peaks) / 1e6:.0f} MB, {max(peaks) / size:.1f} times the input")
+    for name in commands:
+        of_hashes = statistics.median(times[name]) / statistics.median(hashing)
+        of_scratch = statistics.median(times[name]) / statistics.median(times["scratch"])
+        print(
+            f"  prolly {name:8} {spread(times[name])}, {of_hashes:.2f} times the hashes, {of_scratch:.2f} times scratch;"
+            f" peak memory {peaks[name] / 1e6:.0f} MB, {peaks[name] / os.path.getsize('records'):.1f} times the records"
+        )
 
 
 def compare_worker(parts, *words):
