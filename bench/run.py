@@ -23,8 +23,9 @@ def main():
     program, parts = (str(Path(name).resolve()) for name in sys.argv[1:3])
     with tempfile.TemporaryDirectory() as folder:
         os.chdir(folder)
-        write_records(RECORDS)
+        write_records("records", range(RECORDS))
         compare_commands(program, parts)
+        show_memory(program)
         compare_worker(parts, "load", str(RECORDS), "records")
     for words in (["merge-of-2", str(RECORDS)], ["merge-of-16", str(RECORDS)], ["leaves", "100"]):
         compare_worker(parts, *words)
@@ -36,11 +37,19 @@ def main():
     print(f"a receiver that waits for a second: {seconds:.2f} s of processor time")
 
 
-def write_records(count):
-    """A record file of pairs of 38 bytes whose keys rise."""
-    with open("records", "wb") as file:
-        for number in range(count):
+def write_records(name, numbers):
+    """A record file of pairs of 38 bytes whose keys are these numbers."""
+    with open(name, "wb") as file:
+        for number in numbers:
             file.write(b"\0\x10" + number.to_bytes(16, "big") + b"\0\0\0\x10" + b"\x5a" * 16)
+
+
+def write_parts(count):
+    """The same records in so many files, each with every so manieth record. Gives the files' names."""
+    names = [f"{place} of {count}" for place in range(count)]
+    for place, name in enumerate(names):
+        write_records(name, range(place, RECORDS, count))
+    return names
 
 
 def compare_commands(program, parts):
@@ -48,6 +57,8 @@ def compare_commands(program, parts):
     key = (RECORDS // 2).to_bytes(16, "big").hex()
     commands = {
         "scratch": ["scratch", "--out", "tree"],
+        "build of 4": ["build", "tree", *write_parts(4)],
+        "build of 16": ["build", "tree", *write_parts(16)],
         "build": ["build", "tree", "records"],
         "check": ["check", "tree"],
         "get": ["get", "tree", key],
@@ -61,14 +72,22 @@ def compare_commands(program, parts):
             times[name].append(seconds)
             peaks[name] = max(peaks[name], peak)
     print(f"{RECORDS} records of 38 bytes, {TURNS} turns, medians and (least to most):")
-    print(f"  hashes alone    {spread(hashing)}")
+    print(f"  hashes alone       {spread(hashing)}")
     for name in commands:
         of_hashes = statistics.median(times[name]) / statistics.median(hashing)
         of_scratch = statistics.median(times[name]) / statistics.median(times["scratch"])
         print(
-            f"  prolly {name:8} {spread(times[name])}, {of_hashes:.2f} times the hashes, {of_scratch:.2f} times scratch;"
+            f"  prolly {name:11} {spread(times[name])}, {of_hashes:.2f} times the hashes, {of_scratch:.2f} times scratch;"
             f" peak memory {peaks[name] / 1e6:.0f} MB, {peaks[name] / os.path.getsize('records'):.1f} times the records"
         )
+
+
+def show_memory(program):
+    """The memory of a build of four times as many records."""
+    write_records("many", range(4 * RECORDS))
+    seconds, _, peak = measured([program, "build", "tree", "many"], subprocess.DEVNULL)
+    os.remove("many")
+    print(f"prolly build of {4 * RECORDS} records: {seconds:.2f} s, peak memory {peak / 1e6:.0f} MB")
 
 
 def compare_worker(parts, *words):
