@@ -1,5 +1,5 @@
 use super::*;
-use prolly_entry::{Pair, Sha512Cut, Version};
+use prolly_entry::Pair;
 use prolly_file::{ScriptSink, ScriptSource, scratch_as};
 use prolly_stage::Gate;
 use std::alloc::Global;
@@ -46,15 +46,14 @@ fn sources_of(alloc: Global, files: &[&[u8]]) -> Result<Vec<ScriptSource>, Fail>
 }
 
 /// The chunk file of a map, spelled like that, by the builder that works in one thread.
-fn file_of(alloc: Global, version: Version, map: &[u8]) -> Result<Vec<u8>, Fail> {
-    let cut = Sha512Cut::new(0).ok_or("bits")?;
+fn file_of(alloc: Global, config: &Config, map: &[u8]) -> Result<Vec<u8>, Fail> {
     let mut pairs = Vec::new(alloc);
     for pair in map.chunks_exact(2) {
         let (key, value) = pair.split_at(1);
         pairs.push(Pair::new(Vec::from_slice(alloc, key)?, Vec::from_slice(alloc, value)?)?)?;
     }
     let mut file = Vec::new(alloc);
-    let built = scratch_as(alloc, cut, version, &pairs, 12, &mut file);
+    let built = scratch_as(alloc, config.cut(), config.version(), &pairs, 12, &mut file);
     built.ok().ok_or("no file")?;
     Ok(file)
 }
@@ -73,6 +72,6 @@ fn expect_map<R: Wait + Threads + Sync + Abort, G: Gate>(
     let built = build(rt, alloc, config, &mut sources, &mut sink, gate);
     assert_eq!(rt; built.err(), None);
     assert_eq!(rt; sources.len(), files.len());
-    assert_eq!(rt; sink.taken(), file_of(alloc, Version::One, map)?.as_slice());
+    assert_eq!(rt; sink.taken(), file_of(alloc, config, map)?.as_slice());
     Ok(built.ok().ok_or("no report")?)
 }

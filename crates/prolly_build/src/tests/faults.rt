@@ -19,7 +19,7 @@ fn expect_fault<R: Wait + Threads + Sync + Abort>(
     let mut sink = sink;
     let built = build(rt, alloc, config, &mut sources, &mut sink, &OpenGate);
     assert_eq!(rt; built.err(), Some(fault));
-    let mut begun = file_of(alloc, Version::One, map)?;
+    let mut begun = file_of(alloc, config, map)?;
     begun.truncate(taken);
     assert_eq!(rt; sink.taken(), begun.as_slice(), "{fault:?}");
     Ok(())
