@@ -115,7 +115,7 @@ fn writes_fail(rt: HostRuntime) -> Result<(), Fail> {
         expect_fault(
             &rt,
             rt.alloc(),
-            &settings(12)?,
+            &settings(3)?,
             sources,
             sink,
             RunFault::Write,
