@@ -151,9 +151,13 @@ def faults():
     ]
 
 
+def cut_behind(*keys):
+    """A record file of these keys, in which a further record is cut."""
+    return records([(key, b"1") for key in keys]) + b"\0"
+
+
 def named_faults():
     """Which fault is named where several files have one."""
-    fault_at = lambda *keys: records([(key, b"1") for key in keys]) + b"\0"
     good = records([(b"1", b"1"), (b"2", b"1"), (b"7", b"1")])
     out_of_order = records([(b"5", b"1"), (b"3", b"1")])
     return [
@@ -171,7 +175,7 @@ def named_faults():
         ),
         refused(
             "of two faults that behind the lesser key",
-            [fault_at(b"c"), fault_at(b"a", b"b")],
+            [cut_behind(b"c"), cut_behind(b"a", b"b")],
             b"file 1: record 2 is cut",
             begun_file([(b"a", b"1"), (b"b", b"1")], 0),
         ),
@@ -183,7 +187,7 @@ def named_faults():
         ),
         refused(
             "the fault of the last of 16 files",
-            [records(FIVE)] * 15 + [fault_at(b"b")],
+            [records(FIVE)] * 15 + [cut_behind(b"b")],
             b"file 15: record 1 is cut",
             begun_file(FIVE[:2], 0),
         ),
@@ -195,7 +199,7 @@ def named_faults():
         ),
         refused(
             "a fault through lower mergers",
-            [records(FIVE[:1]), records(FIVE[1:2]), fault_at(b"c"), records(FIVE[3:])],
+            [records(FIVE[:1]), records(FIVE[1:2]), cut_behind(b"c"), records(FIVE[3:])],
             b"file 2: record 1 is cut",
             begun_file([(b"a", b"1"), (b"b", b"1"), (b"c", b"1")], 0),
         ),

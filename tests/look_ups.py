@@ -53,6 +53,11 @@ def assembled(chunks, root, bits=0, version=1, count=None):
     return header(bits, version) + b"".join(frame(chunk) for chunk in chunks) + b"E" + root + number.to_bytes(8, "big")
 
 
+def leaf(*pairs):
+    """A chunk of pairs, whether or not they are to be cut there."""
+    return b"\0" + b"".join(record(key, value) for key, value in pairs)
+
+
 def cases(folder):
     """All cases; files too large for a case's text are made in the folder."""
     return lawful() + damaged() + unread() + gets() + scans() + places() + large(folder)
@@ -81,7 +86,6 @@ def damaged():
     good = chunk_file(ABC, 0)
     parts = [part.chunk for part in tree(ABC, 0, 1).trees()]
     root = reference(parts[-1])
-    leaf = lambda *pairs: b"\0" + b"".join(record(key, value) for key, value in pairs)
     two = leaf(*ABC[:2])
     turned = leaf(ABC[1], ABC[0])
     swapped = [parts[0], parts[2], parts[1], *parts[3:]]

@@ -146,10 +146,11 @@ fn run_workers<R: Wait + Threads + Sync, S: Source + Send + Drop, W: Sink, G: Ga
 /// `NoThread` and `Lost` the sources are there in their order, each as its loader left it; after those two
 /// some may be gone.
 ///
-/// Before a worker of `gate` sends an item, the gate is asked; before a worker is started, the permit is.
+/// Before a worker sends an item `gate` is asked, and before a worker is started `permit`.
 ///
-/// Takes the hash of each pair and of each chunk, in two threads that work at once, and the memory of the
-/// links: as many items as capacity and batch allow for each, whatever the files have.
+/// Takes the hash of each entry and of each chunk: those of the pairs and the leaves in one thread, those of
+/// each level of nodes in a thread of its own. Takes the memory of the links, as many items as capacity and
+/// batch allow for each, and of one buffer a file, whatever the files have.
 pub fn build_with<R: Wait + Threads + Sync, S: Source + Send + Drop, W: Sink, G: Gate, P: Permit>(
     rt: &R,
     alloc: Global,
