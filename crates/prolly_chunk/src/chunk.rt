@@ -70,7 +70,7 @@ impl Chunk {
         self.key_start = start + KEY_OFFSET;
         self.key_length = pair.key().len();
         self.count = self.count.saturating_add(1);
-        Ok(cut.is_boundary(&self.bytes[start..]))
+        Ok(cut.is_boundary_pair(pair, &self.bytes[start..]))
     }
 
     /// Adds the child that an event stands for, and says whether its entry is a boundary. An `Err`

@@ -40,14 +40,14 @@ value_spelled bytes h e =
 pub found_key : (key rest : List ℕ) → length key ≤ 1024 → key_length (key_spelling key ++ rest) ≡ length key
 found_key key rest h = from_be_bytes-to_be_bytes_2 (length key) (omega arith)
 
-after_two : (key rest : List ℕ) (n : ℕ) → n ≡ length key → drop (2 + n) (key_spelling key ++ rest) ≡ rest
+pub after_two : (key rest : List ℕ) (n : ℕ) → n ≡ length key → drop (2 + n) (key_spelling key ++ rest) ≡ rest
 after_two key rest n e = sym (drop-drop n 2 (key_spelling key ++ rest)) ∙ (ap (λ k. drop k (key ++ rest)) e ∙ drop_seam key rest)
   where
     drop_seam : (xs ys : List ℕ) → drop (length xs) (xs ++ ys) ≡ ys
     drop_seam [] ys = refl
     drop_seam (x ∷ xs) ys = drop_seam xs ys
 
-key_there : (key rest : List ℕ) (n : ℕ) → n ≡ length key → take n (drop 2 (key_spelling key ++ rest)) ≡ key
+pub key_there : (key rest : List ℕ) (n : ℕ) → n ≡ length key → take n (drop 2 (key_spelling key ++ rest)) ≡ key
 key_there key rest n e = ap (λ k. take k (key ++ rest)) e ∙ take-append_seam key rest
 
 spelled_after : (r : Record) (more : List ℕ) → record_spelling r ++ more ≡ key_spelling r.key ++ (change_spelling r.value ++ more)

@@ -22,6 +22,7 @@ pub mod Levels
 pub mod Computed
 pub mod FrontCases
 pub mod FrontBytes
+pub mod Copies
 pub mod NextFlaws
 pub mod Endings
 pub mod Readings

@@ -43,7 +43,7 @@ value_apart a b x y h k e =
     let n = apart (to_be_bytes w32 (length a)) (to_be_bytes w32 (length b)) (a ++ x) (b ++ y) refl e in
     apart a b x y (four_bytes (length a) (length b) (omega arith) (omega arith) n.front) n.rest
 
-same_pair : (key key' value value' : List ℕ) → key ≡ key' → value ≡ value' →
+pub same_pair : (key key' value value' : List ℕ) → key ≡ key' → value ≡ value' →
     ◌≡◌ {A = Pair} (record { key = key; value = value }) (record { key = key'; value = value' })
 same_pair key key' value value' e f = cc
 

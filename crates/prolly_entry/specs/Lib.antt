@@ -1,6 +1,7 @@
 pub mod Keys
 pub mod Pair
 pub mod Record
+pub mod Change
 pub mod Position
 pub mod Version
 pub mod Spelling
@@ -8,6 +9,7 @@ pub mod ChildAt
 pub mod Byte
 pub mod Reference
 pub mod Cut
+pub mod Storage
 pub mod Reading
 pub mod Front
 pub mod NextRecord

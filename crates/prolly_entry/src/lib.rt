@@ -2,6 +2,8 @@
 //! of everything that the crates above build, write and check.
 #![tactic(auto)]
 
+mod appending;
+mod boundary;
 mod child;
 mod cut;
 mod flaw;

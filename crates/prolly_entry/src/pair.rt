@@ -1,7 +1,10 @@
 //! Pairs of a key and a value.
 ghost use Rattle.std.specs.Prelude.{◌≡◌};
 
+use crate::appending::append_parts;
+use crate::boundary::boundary_number;
 use crate::limits::{KEY_LIMIT, VALUE_LIMIT};
+use crate::numbers::{four_bytes, two_bytes};
 use std::alloc::{AllocError, Global};
 use std::marker::Model;
 
@@ -15,25 +18,47 @@ pub enum EntryFault {
 }
 
 /// A key of at most 1,024 bytes and the value at it, of at most 65,536 bytes. Either may be empty.
+///
+/// It may carry its boundary number, by which a [`Sha512Cut`](crate::Sha512Cut) decides whether it ends a
+/// chunk. So that hash can be taken by a thread that has time for it. Nothing else tells such a pair from
+/// one that carries none.
 #[derive(Debug, Drop)]
 pub struct Pair {
-    key: Vec<u8>,
-    value: Vec<u8>,
+    storage: Storage,
+    boundary_number: Option<u32>,
 }
 
+/// How a pair is kept.
+#[derive(Debug, Drop)]
+enum Storage {
+    /// As it was given.
+    Apart { key: Vec<u8>, value: Vec<u8> },
+    /// As its spelling, one block of memory for both parts. The key is the bytes `2..key_end`, and the
+    /// value begins four bytes behind it.
+    Spelled { spelling: Vec<u8>, key_end: usize },
+}
+
+/// How many bytes of a spelling lie before the key.
+const KEY_START: usize = 2;
+
+/// How many bytes of a spelling lie between the key and the value.
+const VALUE_LENGTH_BYTES: usize = 4;
+
 impl Model for Pair {
-    ghost use Rattle.std.specs.Prelude.{◌≤◌, vec_len};
     ghost use Rattle.prolly_entry.specs.Pair.{Pair as PairValue};
+    ghost use Rattle.prolly_entry.specs.Storage.{pair_in, IsStored, IsCarried};
 
     ghost Value = { PairValue };
 
-    ghost view = { λ p. record { key = p.key.items; value = p.value.items } };
+    ghost view = { λ p. pair_in p.storage };
 
-    ghost invariant = { λ p. (vec_len p.key ≤ 1024) × (vec_len p.value ≤ 65536) };
+    ghost invariant = { λ p. IsStored p.storage × IsCarried (pair_in p.storage) p.boundary_number };
 }
 
 impl Pair {
-    ghost use Rattle.std.specs.Prelude.{◌≤◌, ◌<◌, ◌↔◌, length, vec_len, Err, IfOk};
+    ghost use Rattle.std.specs.Prelude.{◌≤◌, ◌<◌, ◌↔◌, length, vec_len, Err, IfOk, IfSome};
+    ghost use Rattle.prolly_entry.specs.Spelling.{pair_spelling};
+    ghost use Rattle.prolly_entry.specs.Storage.{IsCarried};
 
     /// A pair of these bytes. A key that is too long is told before a value that is.
     pub fn new(key: Vec<u8>, value: Vec<u8>) -> Result<Pair, EntryFault>
@@ -47,27 +72,59 @@ impl Pair {
         if value.len() > VALUE_LIMIT {
             return Err(EntryFault::ValueTooLong);
         }
-        Ok(Pair { key, value })
+        Ok(Pair {
+            storage: Storage::Apart { key, value },
+            boundary_number: None,
+        })
     }
 
-    // The pair of parts that are known to be short enough.
-    pub(crate) fn from_parts(key: Vec<u8>, value: Vec<u8>) -> Pair
-        requires key { vec_len key ≤ 1024 }
-        requires value { vec_len value ≤ 65536 }
-        ensures { result ≡ record { key = key.items; value = value.items } }
-    {
-        Pair { key, value }
-    }
-
-    /// A pair of copies of these bytes. Takes memory for the two copies.
+    /// A pair of copies of these bytes. Takes one block of memory.
     pub fn copy_of(alloc: Global, key: &[u8], value: &[u8]) -> Result<Pair, AllocError>
         requires key { length key.now ≤ 1024 }
         requires value { length value.now ≤ 65536 }
         ensures { IfOk result (λ p. p ≡ record { key = key.now; value = value.now }) }
     {
-        let key = Vec::from_slice(alloc, key)?;
-        let value = Vec::from_slice(alloc, value)?;
-        Ok(Pair { key, value })
+        let key_length = two_bytes(key.len() as u16);
+        let value_length = four_bytes(value.len() as u32);
+        let mut spelling = Vec::new(alloc);
+        append_parts(&mut spelling, &key_length, key, &value_length, value)?;
+        let key_end = KEY_START + key.len();
+        Ok(Pair {
+            storage: Storage::Spelled { spelling, key_end },
+            boundary_number: None,
+        })
+    }
+
+    /// The same pair, which carries its boundary number from now on if it is a copy
+    /// ([`Pair::copy_of`]). Takes one hash of its spelling, and no memory.
+    pub fn with_boundary_number(self) -> Pair
+        ensures { result ≡ self }
+    {
+        let boundary_number = match &self.storage {
+            Storage::Apart { .. } => None,
+            Storage::Spelled { spelling, .. } => Some(boundary_number(spelling)),
+        };
+        Pair {
+            boundary_number,
+            ..self
+        }
+    }
+
+    // The boundary number, where it is carried.
+    pub(crate) fn boundary_number(&self) -> Option<u32>
+        ensures { IsCarried self.now result }
+    {
+        self.boundary_number
+    }
+
+    // The spelling, where it is at hand.
+    pub(crate) fn spelling(&self) -> Option<&[u8]>
+        ensures { IfSome result (λ spelling. spelling.now ≡ pair_spelling self.now) }
+    {
+        match &self.storage {
+            Storage::Apart { .. } => None,
+            Storage::Spelled { spelling, .. } => Some(spelling),
+        }
     }
 
     /// The key.
@@ -75,7 +132,10 @@ impl Pair {
         ensures key { result.now ≡ self.now.key }
         ensures short { length self.now.key ≤ 1024 }
     {
-        &self.key
+        match &self.storage {
+            Storage::Apart { key, .. } => key,
+            Storage::Spelled { spelling, key_end } => &spelling[KEY_START..*key_end],
+        }
     }
 
     /// The value.
@@ -83,16 +143,9 @@ impl Pair {
         ensures value { result.now ≡ self.now.value }
         ensures short { length self.now.value ≤ 65536 }
     {
-        &self.value
-    }
-
-    /// The key and the value. Takes no memory.
-    pub fn into_parts(self) -> (Vec<u8>, Vec<u8>)
-        ensures key { result.0.items ≡ self.key }
-        ensures value { result.1.items ≡ self.value }
-        ensures short { (vec_len result.0 ≤ 1024) × (vec_len result.1 ≤ 65536) }
-    {
-        let Pair { key, value } = self;
-        (key, value)
+        match &self.storage {
+            Storage::Apart { value, .. } => value,
+            Storage::Spelled { spelling, key_end } => &spelling[*key_end + VALUE_LENGTH_BYTES..],
+        }
     }
 }

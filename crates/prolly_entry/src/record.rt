@@ -9,20 +9,25 @@ use std::marker::Model;
 /// A record puts a value at its key, or removes the key.
 #[derive(Debug, Drop)]
 pub struct Record {
-    key: Vec<u8>,
-    value: Option<Vec<u8>>,
+    change: Change,
+}
+
+#[derive(Debug, Drop)]
+enum Change {
+    Put(Pair),
+    // The key, of at most 1,024 bytes.
+    Remove(Vec<u8>),
 }
 
 impl Model for Record {
-    ghost use Rattle.std.specs.Prelude.{◌≤◌, vec_len};
-    ghost use Rattle.prolly_entry.specs.Record.{Record as RecordValue, IsChange};
-    ghost use Rattle.std.specs.Option.{option_map};
+    ghost use Rattle.prolly_entry.specs.Record.{Record as RecordValue};
+    ghost use Rattle.prolly_entry.specs.Change.{record_of, HasShortKey};
 
     ghost Value = { RecordValue };
 
-    ghost view = { λ r. record { key = r.key.items; value = option_map (λ v. v.items) r.value } };
+    ghost view = { λ r. record_of r.change };
 
-    ghost invariant = { λ r. (vec_len r.key ≤ 1024) × IsChange (option_map (λ v. v.items) r.value) };
+    ghost invariant = { λ r. HasShortKey r.change };
 }
 
 impl Record {
@@ -34,10 +39,8 @@ impl Record {
     pub fn put(pair: Pair) -> Record
         ensures { result ≡ record { key = pair.key; value = Some pair.value } }
     {
-        let (key, value) = pair.into_parts();
         Record {
-            key,
-            value: Some(value),
+            change: Change::Put(pair),
         }
     }
 
@@ -50,7 +53,9 @@ impl Record {
         if key.len() > KEY_LIMIT {
             return Err(EntryFault::KeyTooLong);
         }
-        Ok(Record { key, value: None })
+        Ok(Record {
+            change: Change::Remove(key),
+        })
     }
 
     /// The record that removes a copy of this key. Takes memory for the copy.
@@ -59,7 +64,9 @@ impl Record {
         ensures { IfOk result (λ r. r ≡ record { key = key.now; value = None }) }
     {
         let key = Vec::from_slice(alloc, key)?;
-        Ok(Record { key, value: None })
+        Ok(Record {
+            change: Change::Remove(key),
+        })
     }
 
     /// The key.
@@ -67,7 +74,10 @@ impl Record {
         ensures key { result.now ≡ self.now.key }
         ensures short { length self.now.key ≤ 1024 }
     {
-        &self.key
+        match &self.change {
+            Change::Put(pair) => pair.key(),
+            Change::Remove(key) => key,
+        }
     }
 
     /// The value that is put; none where the key is removed.
@@ -75,17 +85,19 @@ impl Record {
         ensures value { option_copied result ≡ self.now.value }
         ensures short { IsChange self.now.value }
     {
-        self.value.as_deref()
+        match &self.change {
+            Change::Put(pair) => Some(pair.value()),
+            Change::Remove(_) => None,
+        }
     }
 
     /// The pair that is put; none where the key is removed. Takes no memory.
     pub fn into_pair(self) -> Option<Pair>
         ensures { result ≡ option_map (λ value. record { key = self.key; value = value }) self.value }
     {
-        let Record { key, value } = self;
-        match value {
-            Some(value) => Some(Pair::from_parts(key, value)),
-            None => None,
+        match self.change {
+            Change::Put(pair) => Some(pair),
+            Change::Remove(_) => None,
         }
     }
 }

@@ -1,8 +1,9 @@
 //! Spelling pairs, records and child entries as bytes.
-ghost use Rattle.std.specs.Prelude.{◌≡◌, ◌+◌, ◌^◌, ◌<◌, ◌≤◌, ◌++◌, length, OnOk, OnErr};
+ghost use Rattle.std.specs.Prelude.{◌≡◌, ◌≤◌, ◌++◌, length, OnOk, OnErr};
 ghost use Rattle.prolly_entry.specs.declared.version.Version.TheVariants.{One};
 ghost use Rattle.prolly_entry.specs.Spelling.{pair_spelling, record_spelling, child_spelling};
 
+use crate::appending::append_parts;
 use crate::numbers::{eight_bytes, four_bytes, two_bytes};
 use crate::pair::Pair;
 use crate::record::Record;
@@ -20,6 +21,9 @@ pub fn append_pair(out: &mut Vec<u8>, pair: &Pair) -> Result<(), AllocError>
     ensures ok { OnOk result (out.new.items ≡ out.old.items ++ pair_spelling pair.now) }
     ensures err { OnErr result (out.new.items ≡ out.old.items) }
 {
+    if let Some(spelling) = pair.spelling() {
+        return out.extend_from_slice(spelling);
+    }
     let key = pair.key();
     let value = pair.value();
     let key_length = two_bytes(key.len() as u16);
@@ -72,19 +76,6 @@ pub fn append_child_as(
         Version::One => append_parts(out, &key_length, key, &reference.0, &[]),
         Version::Two => append_parts(out, &key_length, key, &reference.0, &eight_bytes(count)),
     }
-}
-
-/// Appends four parts, or none of them: the room for all is made first.
-fn append_parts(out: &mut Vec<u8>, a: &[u8], b: &[u8], c: &[u8], d: &[u8]) -> Result<(), AllocError>
-    requires { length a.now + length b.now + length c.now + length d.now < 2 ^ 64 }
-    ensures ok { OnOk result (out.new.items ≡ out.old.items ++ ((a.now ++ b.now) ++ (c.now ++ d.now))) }
-    ensures err { OnErr result (out.new.items ≡ out.old.items) }
-{
-    out.reserve(a.len() + b.len() + c.len() + d.len())?;
-    out.extend_from_slice(a)?;
-    out.extend_from_slice(b)?;
-    out.extend_from_slice(c)?;
-    out.extend_from_slice(d)
 }
 
 #[cfg(test)]

@@ -82,7 +82,36 @@ fn inputs_have_faults(rt: HostRuntime) -> Result<(), Fail> {
     Ok(())
 }
 
-// A read gives a byte, so the reads before the failed one gave a record for eight of them.
+// Where a read would fail, it is the second one.
+#[test]
+fn files_are_cut_and_second_reads_fail(rt: HostRuntime) -> Result<(), Fail> {
+    let cut = RunFault::Truncated { file: 0, place: 0 };
+    let long = RunFault::KeyTooLong { file: 0, place: 1 };
+    for (file, step, fail_at, fault, taken) in [
+        (b"\0".as_slice(), 4_096, None, cut, 6),
+        (b"\0\x01", 4_096, None, cut, 6),
+        (b"\0\x01a\0\0", 4_096, None, cut, 6),
+        (b"\0\x01a\0\0\0\x021", 4_096, None, cut, 6),
+        (
+            b"\0\x01a\0\0\0\x011\0\x01b\0\0\0\x011",
+            8,
+            Some(2),
+            RunFault::Read { file: 0 },
+            24,
+        ),
+        (b"\0\x01a\0\0\0\x011\x04\x01", 10, Some(2), long, 24),
+    ] {
+        let source = ScriptSource::new(file.to_vec(rt.alloc())?, step, fail_at);
+        let sources = vec![in rt.alloc(); source]?;
+        let sink = ScriptSink::new(rt.alloc(), 65_536, None);
+        let config = settings(12)?;
+        expect_fault(&rt, rt.alloc(), &config, sources, sink, fault, b"a1b1", taken)?;
+    }
+    Ok(())
+}
+
+// A read gives a byte, so the reads before the failed one gave a record for eight of them. The 26th would
+// come after the end of the file.
 #[test]
 fn reads_fail(rt: HostRuntime) -> Result<(), Fail> {
     let fault = RunFault::Read { file: 0 };
@@ -103,6 +132,13 @@ fn reads_fail(rt: HostRuntime) -> Result<(), Fail> {
             )?;
         }
     }
+    let file = records(rt.alloc(), b"a1b1c1")?;
+    let mut sources = vec![in rt.alloc(); ScriptSource::new(file, 1, Some(26))]?;
+    let mut sink = ScriptSink::new(rt.alloc(), 65_536, None);
+    let config = settings(12)?;
+    let built = build(&rt, rt.alloc(), &config, &mut sources, &mut sink, &OpenGate);
+    assert_eq!(rt; built.err(), None);
+    assert_eq!(rt; sink.taken(), file_of(rt.alloc(), &config, b"a1b1c1")?.as_slice());
     Ok(())
 }
 
