@@ -15,16 +15,16 @@ use Rattle.prolly_check.specs.Header.{header_tests, header_fault, version_of}
 use Rattle.prolly_check.specs.Frames.{has_no_frame, ending_of, IsFramed}
 use Rattle.prolly_check.specs.Spans.{chunks_in, FramesTo}
 use Rattle.prolly_check.specs.Entries.{AllHold, IsBad}
-use Rattle.prolly_check.specs.Pairs.{HasPairs}
+use Rattle.prolly_check.specs.Whole.{AreWhole}
 use Rattle.prolly_check.specs.Judged.{order_fault, difference, end_fault, reuse, chunk_bytes, ending_for, or_content, judged}
-use Rattle.prolly_check.specs.Canonical.{AreLists, canonical_fault}
+use Rattle.prolly_check.specs.Canonical.{canonical_fault}
 use Rattle.prolly_check.specs.Index.{IsIndex}
 use Rattle.prolly_check.specs.Checked.{IsChecked}
 use Rattle.prolly_check.specs.Verdict.{FramesVerdict, HeaderVerdict, IsVerdict}
 use Rattle.prolly_check.proofs.Verdicts.{header_ok, ending_ok, difference_ok, none_left, accepted_is_file}
 use Rattle.prolly_check.specs.Refusal.{UnlessMemory}
-use Rattle.prolly_check.proofs.PairSteps.{still_refused}
-use Rattle.prolly_check.proofs.CanonicalSteps.{count_in, named}
+use Rattle.prolly_check.proofs.Refusals.{named, still_refused}
+use Rattle.prolly_check.proofs.CanonicalSteps.{count_in}
 
 pub refused_header : (bytes : List ℕ) (fault : CheckFault) → header_fault header_tests bytes ≡ Some fault → IsVerdict bytes (Err fault)
 refused_header bytes fault e = subst (λ o. HeaderVerdict o bytes (Err fault)) (sym e) refl
@@ -67,45 +67,42 @@ module _ (bytes : List ℕ) (version : Version) (bits : ℕ) (spans : List Span)
     pub tail_is : drop place bytes ≡ 0x45 ∷ ending
     tail_is = ending_ok (length spans) (drop place bytes) ending ended
 
-    module _ (pairs : List Pair) (ends : List ℕ) (has : HasPairs version cs pairs ends) where
-      pub lists_are : AreLists has.lists pairs ends
-      lists_are = record { are = has.are; ends_are = has.ends_are }
-
-      judged_so : (verdict : Result Content CheckFault) → verdict ≡ judged version bits cs ending has.lists → IsVerdict bytes verdict
+    module _ (whole : AreWhole version cs) where
+      judged_so : (verdict : Result Content CheckFault) → verdict ≡ judged version bits cs ending whole.lists → IsVerdict bytes verdict
       judged_so verdict e = verdict_so verdict (record {
         chunks = cs;
         ending = Ok ending;
         is = framed_so (Ok ending) ended;
-        so = record { read = Ok has.lists; is = has.hold; so = e };
+        so = record { read = Ok whole.lists; is = whole.hold; so = e };
       })
 
       abbrev it : Content
-      it = record { version = version; bits = bits; pairs = flat has.lists }
+      it = record { version = version; bits = bits; pairs = flat whole.lists }
 
       -- the faults of the file, and then those of the references
-      in_order : judged version bits cs ending has.lists ≡ or_content it (or_else (canonical_fault version bits cs ending has.lists) (reuse [] 0 cs))
+      in_order : judged version bits cs ending whole.lists ≡ or_content it (or_else (canonical_fault version bits cs ending whole.lists) (reuse [] 0 cs))
       in_order =
-          let a = order_fault [] 0 has.lists in
-          let b = difference 0 (chunk_bytes version bits (flat has.lists)) cs in
-          let c = end_fault ending (ending_for version bits (flat has.lists)) in
+          let a = order_fault [] 0 whole.lists in
+          let b = difference 0 (chunk_bytes version bits (flat whole.lists)) cs in
+          let c = end_fault ending (ending_for version bits (flat whole.lists)) in
           ap (λ o. or_content it (or_else a o)) (sym (or_assoc b c (reuse [] 0 cs))) ∙ ap (or_content it) (sym (or_assoc a (or_else b c) (reuse [] 0 cs)))
 
-      pub refused_canonical : (fault : CheckFault) → canonical_fault version bits cs ending has.lists ≡ Some fault → IsVerdict bytes (Err fault)
+      pub refused_canonical : (fault : CheckFault) → canonical_fault version bits cs ending whole.lists ≡ Some fault → IsVerdict bytes (Err fault)
       refused_canonical fault e = judged_so (Err fault) (sym (in_order ∙ ap (λ o. or_content it (or_else o (reuse [] 0 cs))) e))
 
-      module _ (canonical : canonical_fault version bits cs ending has.lists ≡ None) where
+      module _ (canonical : canonical_fault version bits cs ending whole.lists ≡ None) where
         pub refused_reuse : (fault : CheckFault) → reuse [] 0 cs ≡ Some fault → IsVerdict bytes (Err fault)
         refused_reuse fault e = judged_so (Err fault) (sym (in_order ∙ ap (λ o. or_content it (or_else o (reuse [] 0 cs))) canonical ∙ ap (or_content it) e))
 
         pub checked : (index : BTreeMap Ref ℕ) → reuse [] 0 cs ≡ None → IsIndex index cs → IsChecked bytes version spans index
         checked index e indexed =
-            let s = none_left (order_fault [] 0 has.lists) (or_else (difference 0 (chunk_bytes version bits (flat has.lists)) cs) (end_fault ending (ending_for version bits (flat has.lists)))) canonical in
-            let d = none_left (difference 0 (chunk_bytes version bits (flat has.lists)) cs) (end_fault ending (ending_for version bits (flat has.lists))) s.1 in
+            let s = none_left (order_fault [] 0 whole.lists) (or_else (difference 0 (chunk_bytes version bits (flat whole.lists)) cs) (end_fault ending (ending_for version bits (flat whole.lists)))) canonical in
+            let d = none_left (difference 0 (chunk_bytes version bits (flat whole.lists)) cs) (end_fault ending (ending_for version bits (flat whole.lists))) s.1 in
             record {
               content = it;
               is = accepted_is_file bytes it (judged_so (Ok it) (sym (in_order ∙ ap (λ o. or_content it (or_else o (reuse [] 0 cs))) canonical ∙ ap (or_content it) e)));
               version_is = refl;
-              chunks_are = sym (difference_ok 0 (chunk_bytes version bits (flat has.lists)) cs d.0);
+              chunks_are = sym (difference_ok 0 (chunk_bytes version bits (flat whole.lists)) cs d.0);
               within = frames.within;
               indexed = indexed;
             }
@@ -138,53 +135,38 @@ has_ended bytes spans place rest number e f h =
 
 pub at_read : (bytes : List ℕ) (version : Version) (bits : ℕ) (spans : List Span) (place : ℕ) (b : Begun bytes version bits spans place) →
     ending_of (length spans) (drop place bytes) ≡ Ok (drop 1 (drop place bytes)) → (spans' : List Span) (fault : CheckFault) → spans' ≡ spans →
-    UnlessMemory (IsBad version (chunks_in bytes spans')) fault → Refused bytes fault
+    IsBad version (chunks_in bytes spans') fault → Refused bytes fault
 at_read bytes version bits spans place b ended spans' fault e h =
-    still_refused (IsBad version (chunks_in bytes spans)) (λ fault. IsVerdict bytes (Err fault))
-    (refused_read bytes version bits spans place b.header b.version_is b.bits_are b.frames b.all (drop 1 (drop place bytes)) ended)
-    fault (subst (λ s. UnlessMemory (IsBad version (chunks_in bytes s)) fault) e h)
+    named (λ fault. IsVerdict bytes (Err fault)) fault
+    (refused_read bytes version bits spans place b.header b.version_is b.bits_are b.frames b.all (drop 1 (drop place bytes)) ended fault
+    (subst (λ s. IsBad version (chunks_in bytes s) fault) e h))
 
-pub has_pairs : (bytes : List ℕ) (version : Version) (spans spans' : List Span) (pairs : List Pair) (ends : List ℕ) → spans' ≡ spans → HasPairs version (chunks_in bytes spans') pairs ends →
-    HasPairs version (chunks_in bytes spans) pairs ends
-has_pairs bytes version spans spans' pairs ends e h = subst (λ s. HasPairs version (chunks_in bytes s) pairs ends) e h
+pub whole_as : (bytes : List ℕ) (version : Version) (spans spans' : List Span) → spans' ≡ spans → AreWhole version (chunks_in bytes spans') → AreWhole version (chunks_in bytes spans)
+whole_as bytes version spans spans' e h = subst (λ s. AreWhole version (chunks_in bytes s)) e h
 
--- what the test against the pairs' file says of each division of the pairs
-abbrev pub Says : List ℕ → Version → ℕ → List Span → ℕ → List Pair → List ℕ → Option CheckFault → Type 0
-Says bytes version bits spans place pairs ends o = (lists : List (List Pair)) (ending : List ℕ) → AllHold version (chunks_in bytes spans) lists → AreLists lists pairs ends → drop place bytes ≡ 0x45 ∷ ending →
+-- what the test against the pairs' file says of the lists that the chunks hold
+abbrev pub Says : List ℕ → Version → ℕ → List Span → ℕ → Option CheckFault → Type 0
+Says bytes version bits spans place o = (lists : List (List Pair)) (ending : List ℕ) → AllHold version (chunks_in bytes spans) lists → drop place bytes ≡ 0x45 ∷ ending →
     canonical_fault version bits (chunks_in bytes spans) ending lists ≡ o
 
-pub at_canonical : (bytes : List ℕ) (version : Version) (bits bits' : ℕ) (spans : List Span) (place : ℕ) (b : Begun bytes version bits spans place)
-    (ended : ending_of (length spans) (drop place bytes) ≡ Ok (drop 1 (drop place bytes))) (pairs : List Pair) (ends : List ℕ) → HasPairs version (chunks_in bytes spans) pairs ends →
-    (fault : CheckFault) → bits' ≡ bits → UnlessMemory (λ fault. Says bytes version bits' spans place pairs ends (Some fault)) fault → Refused bytes fault
-at_canonical bytes version bits bits' spans place b ended pairs ends has fault e h =
-    let ending = drop 1 (drop place bytes) in
-    still_refused (λ fault. Says bytes version bits spans place pairs ends (Some fault)) (λ fault. IsVerdict bytes (Err fault))
-    (λ f says. refused_canonical bytes version bits spans place b.header b.version_is b.bits_are b.frames b.all ending ended pairs ends has f
-    (says has.lists ending has.hold (record { are = has.are; ends_are = has.ends_are }) (ending_ok (length spans) (drop place bytes) ending ended)))
-    fault (subst (λ q. UnlessMemory (λ fault. Says bytes version q spans place pairs ends (Some fault)) fault) e h)
+module _ (bytes : List ℕ) (version : Version) (bits bits' : ℕ) (spans : List Span) (place : ℕ) (b : Begun bytes version bits spans place)
+    (ended : ending_of (length spans) (drop place bytes) ≡ Ok (drop 1 (drop place bytes))) (whole : AreWhole version (chunks_in bytes spans)) (same : bits' ≡ bits) where
+  says : (o : Option CheckFault) → Says bytes version bits' spans place o → canonical_fault version bits (chunks_in bytes spans) (drop 1 (drop place bytes)) whole.lists ≡ o
+  says o h = subst (λ q. Says bytes version q spans place o) same h whole.lists (drop 1 (drop place bytes)) whole.hold (ending_ok (length spans) (drop place bytes) (drop 1 (drop place bytes)) ended)
 
-is_canonical : (bytes : List ℕ) (version : Version) (bits bits' : ℕ) (spans : List Span) (place : ℕ) (ended : ending_of (length spans) (drop place bytes) ≡ Ok (drop 1 (drop place bytes)))
-    (pairs : List Pair) (ends : List ℕ) (has : HasPairs version (chunks_in bytes spans) pairs ends) → bits' ≡ bits → Says bytes version bits' spans place pairs ends None →
-    canonical_fault version bits (chunks_in bytes spans) (drop 1 (drop place bytes)) has.lists ≡ None
-is_canonical bytes version bits bits' spans place ended pairs ends has e says =
-    let ending = drop 1 (drop place bytes) in
-    subst (λ q. Says bytes version q spans place pairs ends None) e says has.lists ending has.hold (record { are = has.are; ends_are = has.ends_are }) (ending_ok (length spans) (drop place bytes) ending ended)
+  pub at_canonical : (fault : CheckFault) → UnlessMemory (λ fault. Says bytes version bits' spans place (Some fault)) fault → Refused bytes fault
+  at_canonical fault h =
+      still_refused (λ fault. Says bytes version bits' spans place (Some fault)) (λ fault. IsVerdict bytes (Err fault))
+      (λ f h. refused_canonical bytes version bits spans place b.header b.version_is b.bits_are b.frames b.all (drop 1 (drop place bytes)) ended whole f (says (Some f) h)) fault h
 
-pub at_references : (bytes : List ℕ) (version : Version) (bits bits' : ℕ) (spans : List Span) (place : ℕ) (b : Begun bytes version bits spans place)
-    (ended : ending_of (length spans) (drop place bytes) ≡ Ok (drop 1 (drop place bytes))) (pairs : List Pair) (ends : List ℕ) → HasPairs version (chunks_in bytes spans) pairs ends →
-    bits' ≡ bits → Says bytes version bits' spans place pairs ends None → (spans' : List Span) (fault : CheckFault) → spans' ≡ spans →
-    UnlessMemory (λ fault. reuse [] 0 (chunks_in bytes spans') ≡ Some fault) fault → Refused bytes fault
-at_references bytes version bits bits' spans place b ended pairs ends has e says spans' fault f h =
-    still_refused (λ fault. reuse [] 0 (chunks_in bytes spans) ≡ Some fault) (λ fault. IsVerdict bytes (Err fault))
-    (refused_reuse bytes version bits spans place b.header b.version_is b.bits_are b.frames b.all (drop 1 (drop place bytes)) ended pairs ends has
-    (is_canonical bytes version bits bits' spans place ended pairs ends has e says))
-    fault (subst (λ s. UnlessMemory (λ fault. reuse [] 0 (chunks_in bytes s) ≡ Some fault) fault) f h)
+  module _ (canonical : Says bytes version bits' spans place None) (spans' : List Span) (e : spans' ≡ spans) where
+    pub at_references : (fault : CheckFault) → UnlessMemory (λ fault. reuse [] 0 (chunks_in bytes spans') ≡ Some fault) fault → Refused bytes fault
+    at_references fault h =
+        still_refused (λ fault. reuse [] 0 (chunks_in bytes spans) ≡ Some fault) (λ fault. IsVerdict bytes (Err fault))
+        (refused_reuse bytes version bits spans place b.header b.version_is b.bits_are b.frames b.all (drop 1 (drop place bytes)) ended whole (says None canonical))
+        fault (subst (λ s. UnlessMemory (λ fault. reuse [] 0 (chunks_in bytes s) ≡ Some fault) fault) e h)
 
-pub at_end : (bytes : List ℕ) (version : Version) (bits bits' : ℕ) (spans : List Span) (place : ℕ) (b : Begun bytes version bits spans place)
-    (ended : ending_of (length spans) (drop place bytes) ≡ Ok (drop 1 (drop place bytes))) (pairs : List Pair) (ends : List ℕ) → HasPairs version (chunks_in bytes spans) pairs ends →
-    bits' ≡ bits → Says bytes version bits' spans place pairs ends None → (spans' : List Span) (index : BTreeMap Ref ℕ) → spans' ≡ spans →
-    reuse [] 0 (chunks_in bytes spans') ≡ None → IsIndex index (chunks_in bytes spans') → IsChecked bytes version spans index
-at_end bytes version bits bits' spans place b ended pairs ends has e says spans' index f apart indexed =
-    checked bytes version bits spans place b.header b.version_is b.bits_are b.frames b.all (drop 1 (drop place bytes)) ended pairs ends has
-    (is_canonical bytes version bits bits' spans place ended pairs ends has e says) index
-    (subst (λ s. reuse [] 0 (chunks_in bytes s) ≡ None) f apart) (subst (λ s. IsIndex index (chunks_in bytes s)) f indexed)
+    pub at_end : (index : BTreeMap Ref ℕ) → reuse [] 0 (chunks_in bytes spans') ≡ None → IsIndex index (chunks_in bytes spans') → IsChecked bytes version spans index
+    at_end index apart indexed =
+        checked bytes version bits spans place b.header b.version_is b.bits_are b.frames b.all (drop 1 (drop place bytes)) ended whole (says None canonical) index
+        (subst (λ s. reuse [] 0 (chunks_in bytes s) ≡ None) e apart) (subst (λ s. IsIndex index (chunks_in bytes s)) e indexed)

@@ -13,7 +13,6 @@ use Rattle.prolly_entry.specs.Front.{IsPairAt, NoPairAt, IsFrontPair}
 use Rattle.prolly_entry.specs.ChildAt.{key_at, reference_at, count_at, IsChildAt, NoChildAt}
 use Rattle.prolly_entry.proofs.Groups.{all_append}
 use Rattle.prolly_check.specs.Entries.{Child, IsChild, entry_of, IsLeaf, IsNode}
-use Rattle.prolly_check.specs.Pairs.{AddsLeaf}
 use Rattle.prolly_check.proofs.CheckSteps.{no_leaf, no_node}
 
 -- nothing is left behind the last byte
@@ -40,19 +39,14 @@ entry_more spelling done a entries place len e f =
 -- ---- leaves
 
 -- up to the place, these pairs were read
-pub record LeafBegun (entries : List ℕ) (old new : List Pair) (place : ℕ) : Type 0 where
+pub record LeafBegun (entries : List ℕ) (place : ℕ) : Type 0 where
   pub done : List Pair
   pub reached : place ≤ length entries
   pub spelled : entries ≡ flat_map pair_spelling done ++ drop place entries
   pub lawful : AllByRecursion IsPair done
-  pub grown : new ≡ old ++ done
 
-pub leaf_begins : (entries : List ℕ) (old : List Pair) → LeafBegun entries old old 0
-leaf_begins entries old = record { done = []; reached = omega arith; spelled = refl; lawful = tt; grown = sym (append-nil old) }
-
-pub leaf_goes_on : (entries rest : List ℕ) (old new : List Pair) (place len : ℕ) (p : Pair) → rest ≡ drop place entries → LeafBegun entries old new place → IsPairAt rest p len →
-    LeafBegun entries old (new ++ p ∷ []) (place + len)
-leaf_goes_on entries rest old new place len p e b there =
+pub leaf_goes_on : (entries rest : List ℕ) (place len : ℕ) (p : Pair) → rest ≡ drop place entries → LeafBegun entries place → IsPairAt rest p len → LeafBegun entries (place + len)
+leaf_goes_on entries rest place len p e b there =
     let at : IsPairAt (drop place entries) p len = subst (λ r. IsPairAt r p len) e there in
     let within : len ≤ length (drop place entries) = at.within in
     let reached : place ≤ length entries = b.reached in record {
@@ -60,19 +54,11 @@ leaf_goes_on entries rest old new place len p e b there =
       reached = omega (arith, length-drop place entries);
       spelled = entry_more pair_spelling b.done p entries place len b.spelled at.spelled;
       lawful = all_append IsPair b.done (p ∷ []) b.lawful (at.lawful, tt);
-      grown = ap (λ ps. ps ++ p ∷ []) b.grown ∙ append_assoc old b.done (p ∷ []);
     }
 
-pub leaf_ends : (entries : List ℕ) (old new : List Pair) (place : ℕ) → LeafBegun entries old new place → length entries ≤ place → AddsLeaf entries old new
-leaf_ends entries old new place b h = record {
-  added = b.done;
-  grown = b.grown;
-  is = record { is = b.spelled ∙ ap (λ x. flat_map pair_spelling b.done ++ x) (past_end entries place h) ∙ append-nil (flat_map pair_spelling b.done); lawful = b.lawful };
-}
-
-pub leaf_stops : (entries rest : List ℕ) (old new : List Pair) (place : ℕ) → rest ≡ drop place entries → LeafBegun entries old new place → place < length entries → NoPairAt rest →
+pub leaf_stops : (entries rest : List ℕ) (place : ℕ) → rest ≡ drop place entries → LeafBegun entries place → place < length entries → NoPairAt rest →
     (pairs : List Pair) → IsLeaf entries pairs → ⊥
-leaf_stops entries rest old new place e b h none pairs leaf =
+leaf_stops entries rest place e b h none pairs leaf =
     no_leaf b.done pairs (drop place entries) b.lawful (some_left entries place h) (subst NoPairAt e none) (subst (λ x. IsLeaf x pairs) b.spelled leaf)
 
 -- a pair has bytes

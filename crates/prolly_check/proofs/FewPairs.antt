@@ -1,5 +1,6 @@
 -- A file has no more pairs than bytes.
-use Rattle.std.proofs.Common.{◌≡◌, ℕ, zero, suc, ◌+◌, ◌≤◌, List, [], ◌∷◌, ◌++◌, length, ap, ◌∙◌, arith, append-nil}
+use Rattle.std.proofs.Common.{◌≡◌, ℕ, zero, suc, ◌+◌, ◌≤◌, List, [], ◌∷◌, ◌++◌, length, drop, ap, ◌∙◌, arith, append-nil, length-drop}
+use Rattle.std.specs.Int.{w64, to_be_bytes}
 use Rattle.std.specs.List.{flat_map}
 use Rattle.std.proofs.lemmas.List.{length-append}
 use Rattle.std.proofs.lemmas.List.Concat.{flat_map-append}
@@ -10,8 +11,13 @@ use Rattle.prolly_entry.specs.Spelling.{pair_spelling}
 use Rattle.prolly_entry.specs.Tree.{Tree, pairs_below, pair_count, tree_of}
 use Rattle.prolly_entry.specs.Chunk.{chunk_of, chunks, post_order}
 use Rattle.prolly_entry.specs.File.{header, frame, end_record, root_reference}
+use Rattle.prolly_entry.proofs.Parts.{flat}
 use Rattle.prolly_entry.proofs.Sizes.{pairs_are}
+use Rattle.prolly_file.specs.Frame.{framed}
+use Rattle.prolly_check.specs.declared.frames.Span.{Span}
 use Rattle.prolly_check.specs.Content.{Content}
+use Rattle.prolly_check.specs.Entries.{Holds, AllHold}
+use Rattle.prolly_check.specs.Spans.{chunks_in, FramesTo}
 use Rattle.prolly_check.specs.Verdict.{IsFileOf}
 
 each_has_bytes : (pairs : List Pair) → length pairs ≤ length (flat_map pair_spelling pairs)
@@ -58,4 +64,35 @@ few_pairs bytes content f =
     let ending = end_record (root_reference cut content.version content.pairs) (length (chunks cut content.version content.pairs)) in
     let size = ap length f.is ∙ length-append (header content.version content.bits) (frames ++ ending) in
     let rest = length-append frames ending in
+    omega arith
+
+-- ---- the same of chunks, whose pairs may be in any order
+
+few_in_one : (version : Version) (chunk : List ℕ) (held : List Pair) → Holds version chunk held → length held ≤ length chunk
+few_in_one version [] held h = absurd h
+few_in_one version (zero ∷ entries) held h =
+    let few = each_has_bytes held in
+    let size = ap length h.is in
+    omega arith
+few_in_one version (suc level ∷ entries) held h = let none = ap length h.none in omega arith
+
+few_in_frames : (version : Version) (cs : List (List ℕ)) (lists : List (List Pair)) → AllHold version cs lists → length (flat lists) ≤ length (flat_map framed cs)
+few_in_frames version [] [] h = omega arith
+few_in_frames version [] (held ∷ lists) h = absurd h
+few_in_frames version (c ∷ cs) [] h = absurd h
+few_in_frames version (c ∷ cs) (held ∷ lists) h =
+    let here = few_in_one version c held h.0 in
+    let more = few_in_frames version cs lists h.1 in
+    let pairs = length-append held (flat lists) in
+    let frames = length-append (framed c) (flat_map framed cs) in
+    let frame = length-append (0x43 ∷ to_be_bytes w64 (length c)) c in
+    omega arith
+
+pub few_held : (version : Version) (bytes : List ℕ) (spans : List Span) (place : ℕ) (lists : List (List Pair)) → FramesTo bytes spans place → AllHold version (chunks_in bytes spans) lists →
+    length (flat lists) ≤ length bytes
+few_held version bytes spans place lists frames hold =
+    let few = few_in_frames version (chunks_in bytes spans) lists hold in
+    let size = ap length frames.spelled in
+    let parts = length-append (flat_map framed (chunks_in bytes spans)) (drop place bytes) in
+    let behind = length-drop 6 bytes in
     omega arith

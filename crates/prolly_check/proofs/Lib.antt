@@ -6,8 +6,11 @@ pub mod HeaderBytes
 pub mod FrameBytes
 pub mod EndBytes
 pub mod EntrySteps
-pub mod PairSteps
+pub mod Refusals
+pub mod WholeSteps
 pub mod CanonicalSteps
+pub mod HeldSteps
+pub mod OrderSteps
 pub mod IndexSteps
 pub mod CheckedFile
 pub mod CheckedTree

@@ -1,5 +1,5 @@
 -- Rebuilding the chunks of pairs.
-use Rattle.std.proofs.Common.{◌≡◌, ℕ, zero, suc, ◌+◌, ◌<◌, ◌≤◌, List, [], ◌∷◌, ◌++◌, length, take, drop, get_or, Option, Some, None, refl, sym, ap, ◌∙◌, subst, arith, append_assoc, append-nil}
+use Rattle.std.proofs.Common.{◌≡◌, ℕ, suc, ◌+◌, ◌<◌, ◌≤◌, List, [], ◌∷◌, ◌++◌, length, take, drop, get_or, Option, Some, None, refl, sym, ap, ◌∙◌, subst, arith, append_assoc, append-nil}
 use Rattle.prolly_entry.specs.declared.version.Version.{Version}
 use Rattle.prolly_entry.specs.Cut.{sha512_cut}
 use Rattle.prolly_entry.specs.Chunk.{Chunk}
@@ -7,15 +7,14 @@ use Rattle.prolly_entry.specs.Events.{faulty, leaf_events}
 use Rattle.prolly_entry.specs.Front.{IsPairAt, NoPairAt}
 use Rattle.prolly_entry.specs.Pair.{Pair, IsPair}
 use Rattle.prolly_entry.specs.Spelling.{pair_spelling}
-use Rattle.prolly_check.specs.Entries.{IsLeaf, Holds, AllHold}
+use Rattle.prolly_check.specs.Entries.{Holds, AllHold}
 use Rattle.prolly_check.specs.Spans.{chunk_in, chunks_in}
 use Rattle.prolly_check.specs.declared.frames.Span.{Span}
-use Rattle.prolly_check.proofs.CanonicalSteps.{count_in, chunk_there, nothing_left}
+use Rattle.prolly_check.proofs.CanonicalSteps.{nothing_left}
+use Rattle.prolly_check.proofs.HeldSteps.{held_at, none_held}
 use Rattle.prolly_entry.proofs.Parts.{flat}
-use Rattle.std.proofs.Math.Seq.{drop-cons}
 use Rattle.prolly_check.proofs.EntrySteps.{past_end, some_left}
 use Rattle.prolly_check.proofs.FindSteps.{first_is}
-use Rattle.std.specs.Prelude.{slice_index}
 use Rattle.std.specs.List.{flat_map, AllByRecursion}
 use Rattle.prolly_entry.proofs.Prefixes.{fault_is_prefix}
 use Rattle.prolly_chunk.specs.LeafLevel.{LeafState, LeafBegins, LeafTakes}
@@ -184,14 +183,6 @@ module _ (chunks : List (List ℕ)) (entries : List ℕ) (leaf : LeafState ℕ) 
       go [] f g = some_left entries place h f
       go (q ∷ more) f g = none q (flat_map pair_spelling more) g.0 (e ∙ f)
 
--- ---- the pairs of a chunk
-
-module _ (version : Version) (held : List Pair) where
-  pub chunk_leaf : (chunk : List ℕ) → slice_index chunk 0 ≡ 0 → Holds version chunk held → IsLeaf (drop 1 chunk) held
-  chunk_leaf [] e h = absurd h
-  chunk_leaf (zero ∷ entries) e h = h
-  chunk_leaf (suc level ∷ entries) e h = absurd (let f : suc level ≡ 0 = e in omega arith)
-
 -- ---- the pairs of all chunks
 
 -- of the lists that the chunks hold, the rest is held from the number on, and the pairs of those before it were taken
@@ -210,37 +201,19 @@ pub chunks_begin : (chunks : List (List ℕ)) (leaf : LeafState ℕ) (nodes : Li
 chunks_begin chunks leaf nodes number bits version pairs lists b hold =
     record { done = []; rest = lists; is = refl; hold = hold; behind = subst (λ ps. IsBehind bits version chunks ps leaf nodes number) (sym (append-nil pairs)) b }
 
--- the first of the rest is that of the chunk
-record FirstHeld (version : Version) (chunk : List ℕ) (after : List (List ℕ)) (rest : List (List Pair)) : Type 0 where
-  held : List Pair
-  more : List (List Pair)
-  is : rest ≡ held ∷ more
-  holds : Holds version chunk held
-  hold : AllHold version after more
-
-first_held : (version : Version) (chunk : List ℕ) (after : List (List ℕ)) (rest : List (List Pair)) → AllHold version (chunk ∷ after) rest → FirstHeld version chunk after rest
-first_held version chunk after [] h = absurd h
-first_held version chunk after (held ∷ more) h = record { held = held; more = more; is = refl; holds = h.0; hold = h.1 }
-
 module _ (bytes : List ℕ) (spans : List Span) (leaf : LeafState ℕ) (nodes : List (NodeState ℕ)) (number : ℕ) (leaf' : LeafState ℕ) (nodes' : List (NodeState ℕ)) (number' place : ℕ)
     (all : ChunksTaken (chunks_in bytes spans) leaf nodes number leaf' nodes' number' place) (other : Span) (chunk : List ℕ) (within : place < length spans) (is : chunk ≡ chunk_in bytes (get_or spans place other)) where
-  here : (version : Version) (rest : List (List Pair)) → AllHold version (drop place (chunks_in bytes spans)) rest → FirstHeld version chunk (drop (suc place) (chunks_in bytes spans)) rest
-  here version rest hold = first_held version chunk (drop (suc place) (chunks_in bytes spans)) rest (subst (λ cs. AllHold version cs rest)
-      (drop-cons (chunks_in bytes spans) place [] (omega (arith, count_in bytes spans))
-      ∙ ap (λ c. c ∷ drop (suc place) (chunks_in bytes spans)) (sym (is ∙ chunk_there bytes spans place other within))) hold)
-
   pub chunks_go_on : (leaf'' : LeafState ℕ) (nodes'' : List (NodeState ℕ)) (number'' : ℕ) →
       ((bits : ℕ) (version : Version) (pairs held : List Pair) → IsBehind bits version (chunks_in bytes spans) pairs leaf' nodes' number' → Holds version chunk held →
       IsBehind bits version (chunks_in bytes spans) (pairs ++ held) leaf'' nodes'' number'') → ChunksTaken (chunks_in bytes spans) leaf nodes number leaf'' nodes'' number'' (place + 1)
   chunks_go_on leaf'' nodes'' number'' added bits version pairs lists b hold =
       let l = all bits version pairs lists b hold in
-      let f = here version l.rest l.hold in
-      let next : place + 1 ≡ suc place = omega arith in
+      let f = held_at bytes spans place other chunk within is version l.rest l.hold in
       record {
         done = l.done ++ f.held;
         rest = f.more;
         is = l.is ∙ ap (λ ls. l.done ++ flat ls) f.is ∙ sym (append_assoc l.done f.held (flat f.more));
-        hold = rw next f.hold;
+        hold = f.hold;
         behind = subst (λ ps. IsBehind bits version (chunks_in bytes spans) ps leaf'' nodes'' number'') (append_assoc pairs l.done f.held) (added bits version (pairs ++ l.done) f.held l.behind f.holds);
       }
 
@@ -251,7 +224,7 @@ module _ (bytes : List ℕ) (spans : List Span) (leaf : LeafState ℕ) (nodes : 
       DifferBy bits version (chunks_in bytes spans) (pairs ++ flat lists) fault
   chunks_fault fault differs bits version pairs lists b hold =
       let l = all bits version pairs lists b hold in
-      let f = here version l.rest l.hold in
+      let f = held_at bytes spans place other chunk within is version l.rest l.hold in
       let whole : ((pairs ++ l.done) ++ f.held) ++ flat f.more ≡ pairs ++ flat lists =
       append_assoc (pairs ++ l.done) f.held (flat f.more) ∙ append_assoc pairs l.done (f.held ++ flat f.more)
       ∙ ap (λ ps. pairs ++ ps) (ap (λ ls. l.done ++ flat ls) (sym f.is) ∙ sym l.is) in
@@ -264,9 +237,5 @@ pub chunks_end : (chunks : List (List ℕ)) (leaf : LeafState ℕ) (nodes : List
     IsBehind bits version chunks (pairs ++ flat lists) leaf' nodes' number'
 chunks_end chunks leaf nodes number leaf' nodes' number' place h all bits version pairs lists b hold =
     let l = all bits version pairs lists b hold in
-    let none = no_lists l.rest (subst (λ cs. AllHold version cs l.rest) (nothing_left chunks place h) l.hold) in
+    let none = none_held version l.rest (subst (λ cs. AllHold version cs l.rest) (nothing_left chunks place h) l.hold) in
     subst (λ ps. IsBehind bits version chunks ps leaf' nodes' number') (ap (λ ps. pairs ++ ps) (sym (l.is ∙ ap (λ ls. l.done ++ flat ls) none ∙ append-nil l.done))) l.behind
-  where
-    no_lists : (rest : List (List Pair)) → AllHold version [] rest → rest ≡ []
-    no_lists [] h = refl
-    no_lists (l ∷ rest) h = absurd h

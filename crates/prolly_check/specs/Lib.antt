@@ -4,7 +4,8 @@ pub mod Frames
 pub mod Spans
 pub mod Entries
 pub mod Refusal
-pub mod Pairs
+pub mod Whole
+pub mod Order
 pub mod Judged
 pub mod Canonical
 pub mod Verdict

@@ -1,22 +1,19 @@
 //! The chunks against those of the file of the same pairs.
-ghost use Rattle.std.specs.Prelude.{◌≡◌, ℕ, [], ◌∷◌, ◌<◌, ◌^◌, None, Some, List, length, drop, OnOk, IfSome, IfNone, IfErr};
+ghost use Rattle.std.specs.Prelude.{◌≡◌, ℕ, ◌∷◌, ◌<◌, ◌^◌, None, Some, List, length, drop, OnOk, IfErr};
 ghost use Rattle.std.specs.List.{AllByRecursion};
 ghost use Rattle.prolly_entry.specs.File.{end_record};
-ghost use Rattle.prolly_entry.specs.Keys.{Rising};
 ghost use Rattle.prolly_entry.specs.Pair.{Pair as PairValue};
-ghost use Rattle.prolly_file.specs.Scratch.{FallsAt, keys_in};
-ghost use Rattle.prolly_check.specs.Canonical.{AreLists, canonical_fault, ending_of_chunks, first_behind};
+ghost use Rattle.prolly_check.specs.Canonical.{canonical_fault, ending_of_chunks};
 ghost use Rattle.prolly_check.specs.Entries.{AllHold};
-ghost use Rattle.prolly_check.specs.Judged.{order_fault};
-ghost use Rattle.prolly_check.specs.Pairs.{HasPairs};
 ghost use Rattle.prolly_check.specs.Refusal.{UnlessMemory};
 ghost use Rattle.prolly_check.specs.Spans.{FramesTo, IsWithin, chunks_in};
+ghost use Rattle.prolly_check.specs.Whole.{AreWhole};
 
 use crate::fault::CheckFault;
 use crate::frames::{Frames, Span, chunk_at};
-use crate::pairs::Pairs;
+use crate::order::test_order;
 use crate::rebuild::test_rebuilt;
-use prolly_entry::{Pair, Ref, Sha512Cut, Version, key_order};
+use prolly_entry::{Ref, Sha512Cut, Version};
 use std::alloc::Global;
 
 /// Tests that the keys rise, and that the chunks and the end record are those of the file of the pairs.
@@ -26,16 +23,16 @@ pub(crate) fn test_canonical(
     version: Version,
     bytes: &[u8],
     frames: &Frames,
-    pairs: Pairs,
 ) -> Result<(), CheckFault>
     requires frames { FramesTo bytes.now frames.now.spans.items frames.now.end }
-    requires pairs { HasPairs version (chunks_in bytes.now frames.now.spans.items) pairs.all.items pairs.ends.items }
-    ensures ok { OnOk result ((lists : List (List PairValue)) (ending : List ℕ) → AllHold version (chunks_in bytes.now frames.now.spans.items) lists → AreLists lists pairs.all.items pairs.ends.items → drop frames.now.end bytes.now ≡ 0x45 ∷ ending →
+    requires whole { AreWhole version (chunks_in bytes.now frames.now.spans.items) }
+    requires short { length bytes.now < 2 ^ 64 }
+    ensures ok { OnOk result ((lists : List (List PairValue)) (ending : List ℕ) → AllHold version (chunks_in bytes.now frames.now.spans.items) lists → drop frames.now.end bytes.now ≡ 0x45 ∷ ending →
         canonical_fault version cut (chunks_in bytes.now frames.now.spans.items) ending lists ≡ None) }
-    ensures err { IfErr result (UnlessMemory (λ fault. (lists : List (List PairValue)) (ending : List ℕ) → AllHold version (chunks_in bytes.now frames.now.spans.items) lists → AreLists lists pairs.all.items pairs.ends.items → drop frames.now.end bytes.now ≡ 0x45 ∷ ending →
+    ensures err { IfErr result (UnlessMemory (λ fault. (lists : List (List PairValue)) (ending : List ℕ) → AllHold version (chunks_in bytes.now frames.now.spans.items) lists → drop frames.now.end bytes.now ≡ 0x45 ∷ ending →
         canonical_fault version cut (chunks_in bytes.now frames.now.spans.items) ending lists ≡ Some fault)) }
 {
-    match test_order(pairs) {
+    match test_order(bytes, &frames.spans) {
         Ok(()) => {}
         Err(fault) => return Err(fault),
     }
@@ -44,33 +41,6 @@ pub(crate) fn test_canonical(
         Err(fault) => return Err(fault),
     }
     test_end(&bytes[frames.end..], bytes, &frames.spans)
-}
-
-/// Tests that the keys rise. Lets the pairs go.
-fn test_order(pairs: Pairs) -> Result<(), CheckFault>
-    ensures ok { OnOk result (Rising (keys_in pairs.all.items)) }
-    ensures few { length pairs.all.items < 2 ^ 64 }
-    ensures err { IfErr result (UnlessMemory (λ fault. (lists : List (List PairValue)) → AreLists lists pairs.all.items pairs.ends.items → order_fault [] 0 lists ≡ Some fault)) }
-{
-    match first_fall(&pairs.all) {
-        None => Ok(()),
-        Some(pair) => Err(CheckFault::KeysOutOfOrder {
-            chunk: chunk_with(&pairs.ends, pair),
-        }),
-    }
-}
-
-/// The place of the first pair whose key is not greater than the one before.
-fn first_fall(pairs: &[Pair]) -> Option<usize>
-    ensures some { IfSome result (FallsAt pairs.now) }
-    ensures none { IfNone result (Rising (keys_in pairs.now)) }
-{
-    for place in 1..pairs.len() {
-        if !key_order(pairs[place - 1].key(), pairs[place].key()).is_lt() {
-            return Some(place);
-        }
-    }
-    None
 }
 
 /// What a file with this root and so many chunks ends with.
@@ -95,16 +65,4 @@ fn test_end(found: &[u8], bytes: &[u8], spans: &[Span]) -> Result<(), CheckFault
         return Err(CheckFault::BadEnd);
     }
     Ok(())
-}
-
-/// The chunk of a pair: the first whose pairs end behind it.
-fn chunk_with(ends: &[usize], pair: usize) -> usize
-    ensures { result ≡ first_behind pair 0 ends.now }
-{
-    for (chunk, end) in ends.iter().enumerate() {
-        if pair < *end {
-            return chunk;
-        }
-    }
-    ends.len()
 }

@@ -1,5 +1,5 @@
 //! The steps of the checker, in the order in which their faults are named.
-ghost use Rattle.std.specs.Prelude.{◌≡◌, Err, IfOk, IfErr};
+ghost use Rattle.std.specs.Prelude.{◌<◌, ◌^◌, length, Err, IfOk, IfErr};
 ghost use Rattle.prolly_check.specs.Checked.{IsChecked};
 ghost use Rattle.prolly_check.specs.Refusal.{UnlessMemory};
 ghost use Rattle.prolly_check.specs.Verdict.{IsVerdict};
@@ -10,7 +10,7 @@ use crate::fault::CheckFault;
 use crate::frames::{Span, find_frames};
 use crate::header::read_header;
 use crate::index::{Index, index_chunks};
-use crate::pairs::read_pairs;
+use crate::whole::test_chunks;
 use prolly_entry::{Sha512Cut, Version};
 use std::alloc::Global;
 
@@ -24,18 +24,19 @@ pub(crate) struct Layout {
 
 /// Checks the bytes of a file.
 pub(crate) fn inspect(alloc: Global, bytes: &[u8]) -> Result<Layout, CheckFault>
+    requires { length bytes.now < 2 ^ 64 }
     ensures ok { IfOk result (λ layout. IsChecked bytes.now layout.version layout.spans.items layout.index) }
     ensures err { IfErr result (UnlessMemory (λ fault. IsVerdict bytes.now (Err fault))) }
 {
     let header = read_header(bytes)?;
     let frames = find_frames(alloc, bytes)?;
     test_ending(&bytes[frames.end..], frames.spans.len())?;
-    let pairs = read_pairs(alloc, header.version, bytes, &frames.spans)?;
+    test_chunks(header.version, bytes, &frames.spans)?;
     let cut = match Sha512Cut::new(header.bits) {
         Some(cut) => cut,
         None => unreachable!(),
     };
-    test_canonical(alloc, cut, header.version, bytes, &frames, pairs)?;
+    test_canonical(alloc, cut, header.version, bytes, &frames)?;
     let index = index_chunks(alloc, bytes, &frames.spans)?;
     Ok(Layout {
         version: header.version,

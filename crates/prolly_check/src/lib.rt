@@ -15,11 +15,12 @@ pub mod laws;
 mod leaf;
 mod node;
 mod nth;
-mod pairs;
+mod order;
 mod passing;
 mod rebuild;
 mod scan;
 mod tree;
+mod whole;
 
 pub use checker::check;
 pub use fault::CheckFault;

@@ -5,7 +5,7 @@ use Rattle.prolly_check.specs.Rebuilt.{IsEnding, FaultAtEnd, MaybePasses, MaybeF
 use Rattle.prolly_check.specs.Refusal.{UnlessMemory}
 use Rattle.prolly_check.specs.Spans.{chunks_in}
 use Rattle.prolly_check.proofs.FinishSteps.{ending_goes_on, ending_fault, ending_ends, taken_out, no_more}
-use Rattle.prolly_check.proofs.PairSteps.{still_refused}
+use Rattle.prolly_check.proofs.Refusals.{still_refused}
 use Rattle.prolly_check.proofs.RebuildSteps.{written}
 use Rattle.prolly_check.proofs.finish.finish_nodes.Goals as goal
 

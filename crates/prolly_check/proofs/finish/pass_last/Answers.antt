@@ -4,7 +4,7 @@ use Rattle.prolly_check.specs.Rebuilt.{PassesOn, FaultPassing, MaybePasses, Mayb
 use Rattle.prolly_check.specs.Refusal.{UnlessMemory}
 use Rattle.prolly_check.specs.Spans.{chunks_in}
 use Rattle.prolly_check.proofs.FinishSteps.{maybe_some, maybe_fault}
-use Rattle.prolly_check.proofs.PairSteps.{still_refused}
+use Rattle.prolly_check.proofs.Refusals.{still_refused}
 use Rattle.prolly_check.proofs.finish.pass_last.Goals as goal
 
 pub returns-in-Some-clause-ok : goal.returns-in-Some-clause-ok

@@ -1,7 +1,7 @@
 use Rattle.std.proofs.Common.{◌∙◌}
 use Rattle.std.proofs.lemmas.Result.{err_from_is_err_and}
 use Rattle.prolly_entry.proofs.RecordSteps.{rest_is}
-use Rattle.prolly_check.proofs.CheckedFile.{at_ending, has_ended, at_read, has_pairs, at_canonical, at_references, at_end}
+use Rattle.prolly_check.proofs.CheckedFile.{at_ending, has_ended, at_read, whole_as, at_canonical, at_references, at_end}
 use Rattle.prolly_check.proofs.inspect.inspect.Goals as goal
 
 pub returns-in_err-test_ending-clause-err : goal.returns-in_err-test_ending-clause-err
@@ -12,14 +12,14 @@ returns-in_err-test_ending-clause-err c =
     (record { header = c.in_ok-header.ensures.found; version_is = c.in_ok-header.ensures.version; bits_are = c.in_ok-header.ensures.bits; frames = c.in_ok-frames.ensures.frames; all = c.in_ok-frames.ensures.all })
     _ c.len.result c.in_err-test_ending.field-0.0 (rest_is c.args.bytes.now c.in_ok-frames.frames.end) (c.len.ensures ∙ c.in_ok-frames.frames.spans.ok.0) c.in_err-test_ending.ensures.err)
 
-pub returns-in_err-pairs-clause-err : goal.returns-in_err-pairs-clause-err
-returns-in_err-pairs-clause-err c =
-    let p = err_from_is_err_and c.from_residual-in_err-pairs.result c.from_residual-in_err-pairs.ensures.1 in
+pub returns-in_err-test_chunks-clause-err : goal.returns-in_err-test_chunks-clause-err
+returns-in_err-test_chunks-clause-err c =
+    let p = err_from_is_err_and c.from_residual-in_err-test_chunks.result c.from_residual-in_err-test_chunks.ensures.1 in
     rw (p.1, p.2)
     (at_read c.args.bytes.now c.in_ok-header.header.version c.in_ok-header.header.bits c.in_ok-frames.frames.spans.items c.in_ok-frames.frames.end
     (record { header = c.in_ok-header.ensures.found; version_is = c.in_ok-header.ensures.version; bits_are = c.in_ok-header.ensures.bits; frames = c.in_ok-frames.ensures.frames; all = c.in_ok-frames.ensures.all })
     (has_ended c.args.bytes.now c.in_ok-frames.frames.spans.items c.in_ok-frames.frames.end _ c.len.result (rest_is c.args.bytes.now c.in_ok-frames.frames.end) (c.len.ensures ∙ c.in_ok-frames.frames.spans.ok.0) c.in_ok-test_ending.ensures.found)
-    _ c.in_err-pairs.field-0.0 c.deref.ensures.value c.in_err-pairs.ensures.err)
+    _ c.in_err-test_chunks.field-0.0 c.deref.ensures.value c.in_err-test_chunks.ensures.err)
 
 pub returns-in_err-test_canonical-clause-err : goal.returns-in_err-test_canonical-clause-err
 returns-in_err-test_canonical-clause-err c =
@@ -28,7 +28,8 @@ returns-in_err-test_canonical-clause-err c =
     (at_canonical c.args.bytes.now c.in_ok-header.header.version c.in_ok-header.header.bits c.in-Some.cut c.in_ok-frames.frames.spans.items c.in_ok-frames.frames.end
     (record { header = c.in_ok-header.ensures.found; version_is = c.in_ok-header.ensures.version; bits_are = c.in_ok-header.ensures.bits; frames = c.in_ok-frames.ensures.frames; all = c.in_ok-frames.ensures.all })
     (has_ended c.args.bytes.now c.in_ok-frames.frames.spans.items c.in_ok-frames.frames.end _ c.len.result (rest_is c.args.bytes.now c.in_ok-frames.frames.end) (c.len.ensures ∙ c.in_ok-frames.frames.spans.ok.0) c.in_ok-test_ending.ensures.found)
-    c.in_ok-pairs.pairs.all.items c.in_ok-pairs.pairs.ends.items (has_pairs c.args.bytes.now c.in_ok-header.header.version c.in_ok-frames.frames.spans.items _ c.in_ok-pairs.pairs.all.items c.in_ok-pairs.pairs.ends.items c.deref.ensures.value c.in_ok-pairs.ensures.ok) c.in_err-test_canonical.field-0.0 c.in-Some.ensures.some.0 c.in_err-test_canonical.ensures.err)
+    (whole_as c.args.bytes.now c.in_ok-header.header.version c.in_ok-frames.frames.spans.items _ c.deref.ensures.value c.in_ok-test_chunks.ensures.ok)
+    c.in-Some.ensures.some.0 c.in_err-test_canonical.field-0.0 c.in_err-test_canonical.ensures.err)
 
 pub returns-in_err-index-clause-err : goal.returns-in_err-index-clause-err
 returns-in_err-index-clause-err c =
@@ -37,11 +38,13 @@ returns-in_err-index-clause-err c =
     (at_references c.args.bytes.now c.in_ok-header.header.version c.in_ok-header.header.bits c.in-Some.cut c.in_ok-frames.frames.spans.items c.in_ok-frames.frames.end
     (record { header = c.in_ok-header.ensures.found; version_is = c.in_ok-header.ensures.version; bits_are = c.in_ok-header.ensures.bits; frames = c.in_ok-frames.ensures.frames; all = c.in_ok-frames.ensures.all })
     (has_ended c.args.bytes.now c.in_ok-frames.frames.spans.items c.in_ok-frames.frames.end _ c.len.result (rest_is c.args.bytes.now c.in_ok-frames.frames.end) (c.len.ensures ∙ c.in_ok-frames.frames.spans.ok.0) c.in_ok-test_ending.ensures.found)
-    c.in_ok-pairs.pairs.all.items c.in_ok-pairs.pairs.ends.items (has_pairs c.args.bytes.now c.in_ok-header.header.version c.in_ok-frames.frames.spans.items _ c.in_ok-pairs.pairs.all.items c.in_ok-pairs.pairs.ends.items c.deref.ensures.value c.in_ok-pairs.ensures.ok) c.in-Some.ensures.some.0 c.in_ok-test_canonical.ensures.ok _ c.in_err-index.field-0.0 c.deref-2.ensures.value c.in_err-index.ensures.err)
+    (whole_as c.args.bytes.now c.in_ok-header.header.version c.in_ok-frames.frames.spans.items _ c.deref.ensures.value c.in_ok-test_chunks.ensures.ok)
+    c.in-Some.ensures.some.0 c.in_ok-test_canonical.ensures.ok _ c.deref-2.ensures.value c.in_err-index.field-0.0 c.in_err-index.ensures.err)
 
 pub returns-clause-ok : goal.returns-clause-ok
 returns-clause-ok c =
     at_end c.args.bytes.now c.in_ok-header.header.version c.in_ok-header.header.bits c.in-Some.cut c.in_ok-frames.frames.spans.items c.in_ok-frames.frames.end
     (record { header = c.in_ok-header.ensures.found; version_is = c.in_ok-header.ensures.version; bits_are = c.in_ok-header.ensures.bits; frames = c.in_ok-frames.ensures.frames; all = c.in_ok-frames.ensures.all })
     (has_ended c.args.bytes.now c.in_ok-frames.frames.spans.items c.in_ok-frames.frames.end _ c.len.result (rest_is c.args.bytes.now c.in_ok-frames.frames.end) (c.len.ensures ∙ c.in_ok-frames.frames.spans.ok.0) c.in_ok-test_ending.ensures.found)
-    c.in_ok-pairs.pairs.all.items c.in_ok-pairs.pairs.ends.items (has_pairs c.args.bytes.now c.in_ok-header.header.version c.in_ok-frames.frames.spans.items _ c.in_ok-pairs.pairs.all.items c.in_ok-pairs.pairs.ends.items c.deref.ensures.value c.in_ok-pairs.ensures.ok) c.in-Some.ensures.some.0 c.in_ok-test_canonical.ensures.ok _ c.in_ok-index.index c.deref-2.ensures.value c.in_ok-index.ensures.apart c.in_ok-index.ensures.index
+    (whole_as c.args.bytes.now c.in_ok-header.header.version c.in_ok-frames.frames.spans.items _ c.deref.ensures.value c.in_ok-test_chunks.ensures.ok)
+    c.in-Some.ensures.some.0 c.in_ok-test_canonical.ensures.ok _ c.deref-2.ensures.value c.in_ok-index.index c.in_ok-index.ensures.apart c.in_ok-index.ensures.index

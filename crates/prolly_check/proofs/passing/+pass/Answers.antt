@@ -2,8 +2,8 @@ use Rattle.std.proofs.Common.{subst, arith}
 use Rattle.std.proofs.lemmas.Result.{IfOk-weaker, IfErr-weaker}
 use Rattle.prolly_check.specs.Rebuilt.{FaultHere, FaultPassing}
 use Rattle.prolly_check.specs.Spans.{chunks_in}
-use Rattle.prolly_check.proofs.CanonicalSteps.{count_in, named}
-use Rattle.prolly_check.proofs.PairSteps.{still_refused}
+use Rattle.prolly_check.proofs.CanonicalSteps.{count_in}
+use Rattle.prolly_check.proofs.Refusals.{named, still_refused}
 use Rattle.prolly_check.proofs.Rebuilds.{fault_top, fault_first, fault_second, passed_once, passed_twice}
 use Rattle.prolly_check.proofs.passing.+pass.Goals as goal
 

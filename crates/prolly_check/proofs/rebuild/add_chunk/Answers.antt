@@ -10,8 +10,8 @@ use Rattle.prolly_check.specs.Rebuilt.{IsBehind, DifferBy}
 use Rattle.prolly_check.specs.Refusal.{UnlessMemory}
 use Rattle.prolly_check.specs.declared.fault.CheckFault.{CheckFault}
 use Rattle.prolly_check.specs.Spans.{chunks_in}
-use Rattle.prolly_check.proofs.PairSteps.{still_refused}
-use Rattle.prolly_check.proofs.RebuildSteps.{chunk_leaf}
+use Rattle.prolly_check.proofs.Refusals.{still_refused}
+use Rattle.prolly_check.proofs.HeldSteps.{chunk_leaf}
 use Rattle.prolly_check.proofs.rebuild.add_chunk.Goals as goal
 
 pub returns-clause-ok : goal.returns-clause-ok

@@ -6,7 +6,7 @@ use Rattle.prolly_check.specs.Entries.{Holds, AllHold}
 use Rattle.prolly_check.specs.Rebuilt.{IsBehind, DifferBy}
 use Rattle.prolly_check.specs.Spans.{chunks_in}
 use Rattle.prolly_check.proofs.CanonicalSteps.{count_in}
-use Rattle.prolly_check.proofs.PairSteps.{still_refused}
+use Rattle.prolly_check.proofs.Refusals.{still_refused}
 use Rattle.prolly_check.proofs.RebuildSteps.{chunks_begin, chunks_go_on, chunks_fault, chunks_end}
 use Rattle.prolly_check.proofs.rebuild.add_chunks.Goals as goal
 

@@ -7,7 +7,7 @@ use Rattle.prolly_entry.proofs.RecordSteps.{rest_is}
 use Rattle.prolly_check.specs.Rebuilt.{IsBehind, DifferBy}
 use Rattle.prolly_check.specs.Spans.{chunks_in}
 use Rattle.prolly_check.proofs.EntrySteps.{no_pair}
-use Rattle.prolly_check.proofs.PairSteps.{still_refused}
+use Rattle.prolly_check.proofs.Refusals.{still_refused}
 use Rattle.prolly_check.proofs.RebuildSteps.{leaf_rebuild_goes_on, leaf_rebuild_fault, leaf_rebuild_ends, leaf_rebuild_stops}
 use Rattle.prolly_check.proofs.rebuild.add_leaf.Goals as goal
 

@@ -4,7 +4,7 @@ use Rattle.prolly_entry.specs.declared.version.Version.{Version}
 use Rattle.prolly_check.specs.Rebuilt.{IsBehind, DifferBy, PassesOn, FaultPassing}
 use Rattle.prolly_check.specs.Refusal.{UnlessMemory}
 use Rattle.prolly_check.specs.Spans.{chunks_in}
-use Rattle.prolly_check.proofs.PairSteps.{still_refused}
+use Rattle.prolly_check.proofs.Refusals.{still_refused}
 use Rattle.prolly_check.proofs.RebuildSteps.{added_some, added_fault, written, same_size}
 use Rattle.prolly_check.proofs.rebuild.add_pair.Goals as goal
 

@@ -5,7 +5,7 @@ use Rattle.prolly_check.specs.Rebuilt.{IsBehind, FaultAtEnd, MaybeFault}
 use Rattle.prolly_check.specs.Refusal.{UnlessMemory}
 use Rattle.prolly_check.specs.Spans.{chunks_in}
 use Rattle.prolly_check.proofs.FinishSteps.{leaf_end_fault}
-use Rattle.prolly_check.proofs.PairSteps.{still_refused}
+use Rattle.prolly_check.proofs.Refusals.{still_refused}
 use Rattle.prolly_check.proofs.rebuild.finish.Goals as goal
 
 pub returns-in-Err-clause-err : goal.returns-in-Err-clause-err

@@ -8,7 +8,7 @@ use Rattle.prolly_check.specs.Rebuilt.{IsBehind, DifferBy, FaultAtEnd}
 use Rattle.prolly_check.specs.Spans.{chunks_in}
 use Rattle.prolly_check.proofs.CanonicalSteps.{count_in}
 use Rattle.prolly_check.proofs.FinishSteps.{differ_by_at_end, verdict_fault, verdict_short, verdict_none}
-use Rattle.prolly_check.proofs.PairSteps.{still_refused}
+use Rattle.prolly_check.proofs.Refusals.{still_refused}
 use Rattle.prolly_check.proofs.rebuild.test_rebuilt.Goals as goal
 
 pub returns-in-Err-add_chunks-clause-err : goal.returns-in-Err-add_chunks-clause-err

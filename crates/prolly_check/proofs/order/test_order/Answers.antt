@@ -1,0 +1,18 @@
+use Rattle.std.proofs.Common.{arith}
+use Rattle.std.specs.Option.{option_copied}
+use Rattle.prolly_check.specs.Spans.{chunks_in}
+use Rattle.prolly_check.proofs.OrderSteps.{order_begins, order_goes_on, order_falls}
+use Rattle.prolly_check.proofs.order.test_order.Goals as goal
+
+pub loop-number-init : goal.loop-number-init
+loop-number-init c = order_begins (chunks_in c.args.bytes.now c.args.spans.now)
+
+pub returns-in-Err-clause-err : goal.returns-in-Err-clause-err
+returns-in-Err-clause-err c =
+    order_falls c.args.bytes.now c.args.spans.now (option_copied c.loop-number.last) c.loop-number.number c.loop-number.invariant
+    _ c.chunk_at.result.now (omega arith) c.chunk_at.ensures c.in-Err.ensures.err
+
+pub loop-number-preserved : goal.loop-number-preserved
+loop-number-preserved c =
+    order_goes_on c.args.bytes.now c.args.spans.now (option_copied c.loop-number.last) c.loop-number.number c.loop-number.invariant
+    _ c.chunk_at.result.now (omega arith) c.chunk_at.ensures (option_copied c.in-Ok.key) c.in-Ok.ensures.ok
