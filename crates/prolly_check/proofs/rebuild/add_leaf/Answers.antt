@@ -23,6 +23,14 @@ returns-in-Err-add_pair-clause-err c =
     _ c.in-Pair.len _ c.in-Ok.pair fault (rest_is c.args.entries.now c.loop-place.place) (omega arith) c.in-Pair.ensures.is.0 c.in-Ok.ensures h)
     c.in-Err-add_pair.fault c.in-Err-add_pair.ensures.err
 
+pub loop-place-preserved-in-Ok-add_pair : goal.loop-place-preserved-in-Ok-add_pair
+loop-place-preserved-in-Ok-add_pair c = record {
+  number = c.in-Ok-add_pair.ensures.number;
+  all = leaf_rebuild_goes_on (chunks_in c.args.bytes.now c.args.spans.now) c.args.entries.now c.args.rebuild.now.leaf c.args.rebuild.now.nodes.items c.args.rebuild.now.number c.loop-place.rebuild.leaf c.loop-place.rebuild.nodes.items c.loop-place.rebuild.number c.loop-place.place c.loop-place.invariant.all
+      _ c.in-Pair.len _ c.in-Ok.pair c.add_pair.new.rebuild.leaf c.add_pair.new.rebuild.nodes.items c.add_pair.new.rebuild.number (rest_is c.args.entries.now c.loop-place.place) (omega arith) c.in-Pair.ensures.is.0 c.in-Ok.ensures
+      c.in-Ok-add_pair.ensures.ok;
+}
+
 pub loop-place-preserved : goal.loop-place-preserved
 loop-place-preserved c = record {
   number = c.in-Ok-add_pair.ensures.number;
