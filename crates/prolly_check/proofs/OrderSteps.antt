@@ -8,12 +8,13 @@ use Rattle.prolly_entry.specs.declared.version.Version.{Version}
 use Rattle.prolly_entry.specs.Front.{IsPairAt, NoPairAt}
 use Rattle.prolly_entry.specs.Keys.{key_order}
 use Rattle.prolly_entry.specs.Pair.{Pair, IsPair}
+use Rattle.prolly_entry.specs.Position.{is_before}
 use Rattle.prolly_entry.specs.Spelling.{pair_spelling}
 use Rattle.prolly_check.specs.declared.fault.CheckFault.TheVariants as faults
 use Rattle.prolly_check.specs.declared.frames.Span.{Span}
 use Rattle.prolly_check.specs.Entries.{Holds, AllHold}
 use Rattle.prolly_check.specs.Judged.{is_rising, order_fault}
-use Rattle.prolly_check.specs.Order.{comes_behind, rises_behind, last_behind, RisesTo}
+use Rattle.prolly_check.specs.Order.{rises_behind, last_behind, RisesTo}
 use Rattle.prolly_check.specs.Spans.{chunk_in, chunks_in}
 use Rattle.prolly_check.proofs.EntrySteps.{past_end, some_left}
 use Rattle.prolly_check.proofs.FindSteps.{first_is}
@@ -28,8 +29,8 @@ and_assoc false b c = refl
 rises_append : (last : Option (List ℕ)) (xs ys : List Pair) → rises_behind last (xs ++ ys) ≡ (rises_behind last xs && rises_behind (last_behind last xs) ys)
 rises_append last [] ys = refl
 rises_append last (x ∷ xs) ys =
-    ap (λ b. comes_behind last x.key && b) (rises_append (Some x.key) xs ys)
-    ∙ and_assoc (comes_behind last x.key) (rises_behind (Some x.key) xs) (rises_behind (last_behind (Some x.key) xs) ys)
+    ap (λ b. is_before last (Some x.key) && b) (rises_append (Some x.key) xs ys)
+    ∙ and_assoc (is_before last (Some x.key)) (rises_behind (Some x.key) xs) (rises_behind (last_behind (Some x.key) xs) ys)
 
 last_append : (last : Option (List ℕ)) (xs ys : List Pair) → last_behind last (xs ++ ys) ≡ last_behind (last_behind last xs) ys
 last_append last [] ys = refl
@@ -68,7 +69,7 @@ cons_nil e = cc
 
 module _ (entries : List ℕ) (first last : Option (List ℕ)) (place : ℕ) (walk : LeafWalk entries first last place) where
   module _ (bytes : List ℕ) (len : ℕ) (p : Pair) (e : bytes ≡ drop place entries) (h : place < length entries) (at : IsPairAt bytes p len) where
-    pub walk_goes_on : comes_behind last p.key ≡ true → LeafWalk entries first (Some p.key) (place + len)
+    pub walk_goes_on : is_before last (Some p.key) ≡ true → LeafWalk entries first (Some p.key) (place + len)
     walk_goes_on behind leaf lawful spelled =
         let w = walk leaf lawful spelled in
         let f = first_is entries bytes place len p w.rest e h at w.left w.lawful in
@@ -80,7 +81,7 @@ module _ (entries : List ℕ) (first last : Option (List ℕ)) (place : ℕ) (wa
           last_is = w.last_is ∙ ap (last_behind last) f.is;
         }
 
-    pub walk_falls : comes_behind last p.key ≡ false → (leaf : List Pair) → AllByRecursion IsPair leaf → entries ≡ flat_map pair_spelling leaf → rises_behind first leaf ≡ false
+    pub walk_falls : is_before last (Some p.key) ≡ false → (leaf : List Pair) → AllByRecursion IsPair leaf → entries ≡ flat_map pair_spelling leaf → rises_behind first leaf ≡ false
     walk_falls falls leaf lawful spelled =
         let w = walk leaf lawful spelled in
         let f = first_is entries bytes place len p w.rest e h at w.left w.lawful in

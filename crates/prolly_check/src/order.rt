@@ -3,11 +3,12 @@ ghost use Rattle.std.specs.Prelude.{◌≡◌, [], false, List, None, Some, OnOk
 ghost use Rattle.std.specs.List.{flat_map, AllByRecursion};
 ghost use Rattle.std.specs.Option.{option_copied};
 ghost use Rattle.prolly_entry.specs.Pair.{Pair as PairValue, IsPair};
+ghost use Rattle.prolly_entry.specs.Position.{is_before};
 ghost use Rattle.prolly_entry.specs.Spelling.{pair_spelling};
 ghost use Rattle.prolly_entry.specs.declared.version.Version.{Version};
 ghost use Rattle.prolly_check.specs.Entries.{Holds, AllHold};
 ghost use Rattle.prolly_check.specs.Judged.{order_fault};
-ghost use Rattle.prolly_check.specs.Order.{comes_behind, rises_behind, RisesTo};
+ghost use Rattle.prolly_check.specs.Order.{rises_behind, RisesTo};
 ghost use Rattle.prolly_check.specs.Spans.{IsWithin, chunks_in};
 
 use crate::fault::CheckFault;
@@ -83,7 +84,7 @@ fn last_in_leaf<'a>(
 
 /// Whether a key is greater than the last one, where there is a last one.
 fn comes_behind(last: Option<&[u8]>, key: &[u8]) -> bool
-    ensures { result ≡ comes_behind (option_copied last.entry) key.now }
+    ensures { result ≡ is_before (option_copied last.entry) (Some key.now) }
 {
     match last {
         Some(last) => key_order(last, key).is_lt(),

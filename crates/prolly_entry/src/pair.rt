@@ -96,10 +96,13 @@ impl Pair {
     }
 
     /// The same pair, which carries its boundary number from now on if it is a copy
-    /// ([`Pair::copy_of`]). Takes one hash of its spelling, and no memory.
+    /// ([`Pair::copy_of`]). Takes one hash of its spelling where it carried none, and no memory.
     pub fn with_boundary_number(self) -> Pair
         ensures { result ≡ self }
     {
+        if self.boundary_number.is_some() {
+            return self;
+        }
         let boundary_number = match &self.storage {
             Storage::Apart { .. } => None,
             Storage::Spelled { spelling, .. } => Some(boundary_number(spelling)),

@@ -69,6 +69,19 @@ impl Record {
         })
     }
 
+    /// The same record, whose pair carries its boundary number from now on
+    /// ([`Pair::with_boundary_number`]). A removal has none.
+    pub fn with_boundary_number(self) -> Record
+        ensures { result ≡ self }
+    {
+        match self.change {
+            Change::Put(pair) => Record::put(pair.with_boundary_number()),
+            Change::Remove(key) => Record {
+                change: Change::Remove(key),
+            },
+        }
+    }
+
     /// The key.
     pub fn key(&self) -> &[u8]
         ensures key { result.now ≡ self.now.key }

@@ -120,6 +120,10 @@ impl<T: Drop> Out<T> for BatchSender<T> {
         BatchSender::send(self, rt, item)
     }
 
+    fn is_ahead(&self) -> bool {
+        self.sender.is_ahead()
+    }
+
     fn close<R: Wait>(self, rt: &R, end: End) -> ClosedBatch<T> {
         BatchSender::close(self, rt, end)
     }

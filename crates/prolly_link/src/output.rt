@@ -32,6 +32,12 @@ pub trait Out<T> {
         ensures ok { OnOk result (sent self.new ≡ sent self.old ++ item ∷ []) }
         ensures err { IfErr result (λ back. (back ≡ item) × (sent self.new ≡ sent self.old)) };
 
+    /// Whether the receiver was the whole link behind when this end last looked. Then the sender has time to
+    /// do what the receiver would do else. It is a hint: no contract speaks of it.
+    fn is_ahead(&self) -> bool {
+        false
+    }
+
     /// Sends the end.
     fn close<R: Wait>(self, rt: &R, end: End) -> Self::Closed
         ensures link { closed_link result ≡ link self }

@@ -83,6 +83,10 @@ impl<T> Out<T> for Sender<T> {
         Sender::send(self, rt, item)
     }
 
+    fn is_ahead(&self) -> bool {
+        self.ring.cached_slots() == 0
+    }
+
     fn close<R: Wait>(self, rt: &R, end: End) -> ClosedSender<T> {
         Sender::close(self, rt, end)
     }

@@ -28,9 +28,9 @@ pub struct Loaded<S, C> {
 /// was sent stays sent. The source is not read while the bytes at hand decide a record or a flaw, so a
 /// flaw is told even where a further read would fail.
 ///
-/// Takes time linear in the bytes, copies each record's bytes once, and takes one hash of each pair: that
-/// of its boundary number, which the pair carries then. Holds one buffer of 130 KiB, however long the file
-/// is, and offers each read 64 KiB or more.
+/// Takes time linear in the bytes, and copies each record's bytes once. Where the receiver is far behind, it
+/// takes the hash of a pair's boundary, which the pair carries then. Holds one buffer of 130 KiB, however
+/// long the file is, and offers each read 64 KiB or more.
 pub fn load<R: Wait, S: Source, O: Out<Record>>(
     rt: &R,
     alloc: Global,

@@ -35,7 +35,7 @@ pub(crate) fn send_records<R: Wait, S: Source, O: Out<Record>>(
     loop {
         match take_record(alloc, &mut buffer, limit, count) {
             Ok(Taken::Record(record)) => {
-                if let Err(_) = out.send(rt, record) {
+                if let Err(_) = out.send(rt, prepared(record, out.is_ahead())) {
                     return End::Fault(RunFault::Memory);
                 }
                 count += 1;
@@ -53,5 +53,17 @@ pub(crate) fn send_records<R: Wait, S: Source, O: Out<Record>>(
             Ok(Taken::Flawed(flaw)) => return End::Fault(fault_of(file, count, flaw)),
             Err(_) => return End::Fault(RunFault::Memory),
         }
+    }
+}
+
+/// A record as it is sent. Where the receivers are behind, it gets its boundary number here: one thread
+/// alone cuts the leaves, and this one would wait for it else.
+fn prepared(record: Record, is_ahead: bool) -> Record
+    ensures { result ≡ «record» }
+{
+    if is_ahead {
+        record.with_boundary_number()
+    } else {
+        record
     }
 }

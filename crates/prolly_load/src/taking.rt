@@ -19,9 +19,6 @@ pub(crate) enum Taken {
 
 /// Takes the record behind `count` good ones, of which at most `limit` are allowed. The one copy of its
 /// bytes is made here, and takes the memory that may be refused.
-///
-/// A pair gets its boundary number here, since several files are loaded at once, while one thread alone
-/// cuts the leaves.
 pub(crate) fn take_record(
     alloc: Global,
     buffer: &mut Buffer,
@@ -39,7 +36,7 @@ pub(crate) fn take_record(
             let unparsed = buffer.unparsed();
             let pair = Pair::copy_of(alloc, &unparsed[2..key_end], &unparsed[value_start..len])?;
             buffer.consume(key_end, len);
-            Ok(Taken::Record(Record::put(pair.with_boundary_number())))
+            Ok(Taken::Record(Record::put(pair)))
         }
         NextRecord::Remove { key_end, len } => {
             let record = Record::removal_of(alloc, &buffer.unparsed()[2..key_end])?;

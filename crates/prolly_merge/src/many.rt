@@ -93,7 +93,8 @@ fn merge_all<I: In<Record>, O: Out<Pair>, R: Wait>(
 /// output. All inputs are received to their ends. All this is promised of inputs whose keys rise; of others it is known only that
 /// they have ended, and how many pairs were sent.
 ///
-/// Takes one comparison of keys an input for each record, and one more for those before it where inputs share its key.
+/// Takes one comparison of keys an input for each record, and one more for those before it where inputs share its key. Where
+/// the receiver is far behind, it takes the hash of a pair's boundary, which the pair carries then.
 pub fn merge<I: In<Record>, O: Out<Pair>, R: Wait>(
     rt: &R,
     alloc: Global,

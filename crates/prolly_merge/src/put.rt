@@ -23,8 +23,20 @@ pub(crate) fn send_put<O: Out<Pair>, R: Wait>(
     let Some(pair) = merged.into_pair() else {
         return Ok(pairs);
     };
-    match out.send(rt, pair) {
+    match out.send(rt, prepared(pair, out.is_ahead())) {
         Ok(()) => Ok(pairs.saturating_add(1)),
         Err(_) => Err(AllocError),
+    }
+}
+
+// A pair as it is sent. Where the receiver is behind, the pair gets its boundary number here, if it has none: this thread
+// would wait else.
+fn prepared(pair: Pair, is_ahead: bool) -> Pair
+    ensures { result ≡ pair }
+{
+    if is_ahead {
+        pair.with_boundary_number()
+    } else {
+        pair
     }
 }

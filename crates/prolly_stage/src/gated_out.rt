@@ -35,6 +35,10 @@ impl<'a, T, G: Gate, O: Out<T>> Out<T> for Gated<'a, G, O> {
         self.send_next(rt, item)
     }
 
+    fn is_ahead(&self) -> bool {
+        self.out.is_ahead()
+    }
+
     /// Sends the end. The gate is not asked, since an end is no item.
     fn close<R: Wait>(self, rt: &R, end: End) -> O::Closed {
         self.into_out().close(rt, end)

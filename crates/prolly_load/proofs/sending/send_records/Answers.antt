@@ -1,4 +1,4 @@
-use Rattle.std.proofs.Common.{rules, ◌≡◌, ◌∙◌, refl, None, []}
+use Rattle.std.proofs.Common.{rules, ◌≡◌, ◌∙◌, refl, ap, None, [], ◌∷◌, ◌++◌}
 use Rattle.std.proofs.lemmas.List.{nil_from_length}
 use Rattle.prolly_load.specs.Buffered.{Buffered}
 use Rattle.prolly_load.proofs.UnderWay.{none_sent, one_sent, more_read, nothing_read, record_taken, flaw_taken, nothing_taken, gains_none, still_undecided}
@@ -34,7 +34,7 @@ loop-record-preserved-in-Ok-Record g c =
           (g.S.Source.left c.args.source.now) (g.S.Source.left l.source) (g.O.Out.sent c.args.out.now) (g.O.Out.sent l.out)
           (g.O.Out.sent c.send.new.self) c.in-Ok-Record.record l.invariant.under_way
           (record_taken c.args.limit l.count l.buffer c.take_record.new.buffer c.in-Ok-Record.field-0 c.in-Ok-Record.record c.in-Ok-Record.ensures c.in-Ok-Record.field-0-is)
-          c.in_default-send.ensures.ok;
+          (c.in_default-send.ensures.ok ∙ ap (λ r. g.O.Out.sent l.out ++ r ∷ []) c.prepared.ensures);
       link = c.send.ensures.link ∙ l.invariant.link;
       honest = l.invariant.honest;
       steady = l.invariant.steady;
