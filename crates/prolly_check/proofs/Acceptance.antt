@@ -111,7 +111,7 @@ both_and : (a b : Bool) → a ≡ true → b ≡ true → (a && b) ≡ true
 both_and true b e f = f
 both_and false b e f = absurd (false≢true e)
 
-pub rising_front : (xs ys : List Pair) → is_rising (xs ++ ys) ≡ true → is_rising xs ≡ true
+rising_front : (xs ys : List Pair) → is_rising (xs ++ ys) ≡ true → is_rising xs ≡ true
 rising_front [] ys h = refl
 rising_front (p ∷ []) ys h = refl
 rising_front (p ∷ q ∷ xs) ys h = let s = and_both (is_lt (key_order p.key q.key)) (is_rising (q ∷ (xs ++ ys))) h in
@@ -121,11 +121,11 @@ rising_from : (p : Pair) (ps : List Pair) → RisingFrom p.key (map (λ p. p.key
 rising_from p [] h = refl
 rising_from p (q ∷ ps) h = both_and (is_lt (key_order p.key q.key)) (is_rising (q ∷ ps)) (ap is_lt h.0) (rising_from q ps h.1)
 
-pub rising_test : (ps : List Pair) → Rising (map (λ p. p.key) ps) → is_rising ps ≡ true
+rising_test : (ps : List Pair) → Rising (map (λ p. p.key) ps) → is_rising ps ≡ true
 rising_test [] h = refl
 rising_test (p ∷ ps) h = rising_from p ps h
 
-pub order_clean : (before : List Pair) (number : ℕ) (lists : List (List Pair)) → is_rising (before ++ flat lists) ≡ true → order_fault before number lists ≡ None
+order_clean : (before : List Pair) (number : ℕ) (lists : List (List Pair)) → is_rising (before ++ flat lists) ≡ true → order_fault before number lists ≡ None
 order_clean before number [] h = refl
 order_clean before number (ps ∷ lists) h =
     let k : is_rising ((before ++ ps) ++ flat lists) ≡ true = subst (λ qs. is_rising qs ≡ true) (sym (append_assoc before ps (flat lists))) h in

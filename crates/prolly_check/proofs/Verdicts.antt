@@ -143,7 +143,7 @@ rising_from_ok p [] h = tt
 rising_from_ok p (q ∷ ps) h = let s = and_both (is_lt (key_order p.key q.key)) (is_rising (q ∷ ps)) h in
     (is_less (key_order p.key q.key) s.0, rising_from_ok q ps s.1)
 
-pub rising_ok : (ps : List Pair) → is_rising ps ≡ true → Rising (map (λ p. p.key) ps)
+rising_ok : (ps : List Pair) → is_rising ps ≡ true → Rising (map (λ p. p.key) ps)
 rising_ok [] h = tt
 rising_ok (p ∷ ps) h = rising_from_ok p ps h
 
