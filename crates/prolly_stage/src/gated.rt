@@ -69,6 +69,14 @@ impl<'a, G: Ask, O> Gated<'a, G, O> {
         self.next = self.next.saturating_add(1);
         self.out.send(rt, item)
     }
+
+    /// Whether the output's receiver is far behind.
+    pub(crate) fn is_ahead_of<T>(&self) -> bool
+    where
+        O: Out<T>,
+    {
+        self.out.is_ahead()
+    }
 }
 
 impl<'a, G, O> Gated<'a, G, O> {

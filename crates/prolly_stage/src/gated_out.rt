@@ -36,7 +36,7 @@ impl<'a, T, G: Gate, O: Out<T>> Out<T> for Gated<'a, G, O> {
     }
 
     fn is_ahead(&self) -> bool {
-        self.out.is_ahead()
+        self.is_ahead_of()
     }
 
     /// Sends the end. The gate is not asked, since an end is no item.
