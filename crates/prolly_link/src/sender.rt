@@ -84,7 +84,7 @@ impl<T> Out<T> for Sender<T> {
     }
 
     fn is_ahead(&self) -> bool {
-        self.ring.cached_slots() == 0
+        self.ring.cached_slots() <= self.ring.capacity() / 4
     }
 
     fn close<R: Wait>(self, rt: &R, end: End) -> ClosedSender<T> {

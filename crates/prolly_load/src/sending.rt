@@ -56,7 +56,7 @@ pub(crate) fn send_records<R: Wait, S: Source, O: Out<Record>>(
     }
 }
 
-/// A record as it is sent. Where the receivers are behind, it gets its boundary number here: one thread
+/// A record as it is sent. Where the receiver is far behind, it gets its boundary number here: one thread
 /// alone cuts the leaves, and this one would wait for it else.
 fn prepared(record: Record, is_ahead: bool) -> Record
     ensures { result ≡ «record» }

@@ -29,8 +29,8 @@ pub(crate) fn send_put<O: Out<Pair>, R: Wait>(
     }
 }
 
-// A pair as it is sent. Where the receiver is behind, the pair gets its boundary number here, if it has none: this thread
-// would wait else.
+// A pair as it is sent. Where the receiver is far behind, the pair gets its boundary number here, if it has none: this
+// thread would wait else.
 fn prepared(pair: Pair, is_ahead: bool) -> Pair
     ensures { result ≡ pair }
 {
