@@ -161,7 +161,7 @@ def unread():
                 status=6,
                 err=b"prolly: out of memory\n",
                 before={"in": chunk_file(numbered(100_000), 12, 2)},
-                memory=12_000_000,
+                memory=6_000_000,
             )
             for w in words
         ]

@@ -31,9 +31,9 @@ ending_is version bits pairs =
 abbrev pub AllRise : List ℕ → List Span → Type 0
 AllRise bytes spans = (version : Version) (lists : List (List Pair)) → AllHold version (chunks_in bytes spans) lists → order_fault [] 0 lists ≡ None
 
--- how the chunks differ from those of the pairs that they hold
-abbrev pub DifferAs : Version → ℕ → List ℕ → Option CheckFault → List Span → Type 0
-DifferAs version bits bytes o spans = (lists : List (List Pair)) → AllHold version (chunks_in bytes spans) lists → length (flat lists) < 2 ^ 64 →
+-- how the chunks compare with those of the pairs that they hold
+abbrev pub ComparesAs : Version → ℕ → List ℕ → Option CheckFault → List Span → Type 0
+ComparesAs version bits bytes o spans = (lists : List (List Pair)) → AllHold version (chunks_in bytes spans) lists → length (flat lists) < 2 ^ 64 →
     difference 0 (chunk_bytes version bits (flat lists)) (chunks_in bytes spans) ≡ o
 
 module _ (version : Version) (bits : ℕ) (bytes : List ℕ) (spans : List Span) (place : ℕ) (frames : FramesTo bytes spans place) (short : length bytes < 2 ^ 64) (rise : AllRise bytes spans) where
@@ -43,13 +43,13 @@ module _ (version : Version) (bits : ℕ) (bytes : List ℕ) (spans : List Span)
   few : (lists : List (List Pair)) → AllHold version cs lists → length (flat lists) < 2 ^ 64
   few lists hold = let f = few_held version bytes spans place lists frames hold in omega arith
 
-  pub chunks_say : (fault : CheckFault) → DifferAs version bits bytes (Some fault) spans →
+  pub chunks_say : (fault : CheckFault) → ComparesAs version bits bytes (Some fault) spans →
       (lists : List (List Pair)) (ending : List ℕ) → AllHold version cs lists → canonical_fault version bits cs ending lists ≡ Some fault
   chunks_say fault h lists ending hold =
       then_chunks version bits cs ending lists (rise version lists hold)
       ∙ chunks_first version bits cs ending (flat lists) (chunk_bytes version bits (flat lists)) fault refl (h lists hold (few lists hold))
 
-  module _ (same : DifferAs version bits bytes None spans) where
+  module _ (same : ComparesAs version bits bytes None spans) where
     none_differ : (lists : List (List Pair)) → AllHold version cs lists → difference 0 (chunk_bytes version bits (flat lists)) cs ≡ None
     none_differ lists hold = same lists hold (few lists hold)
 

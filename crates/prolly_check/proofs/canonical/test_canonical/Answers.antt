@@ -7,7 +7,7 @@ use Rattle.prolly_check.specs.Entries.{AllHold}
 use Rattle.prolly_check.specs.Refusal.{UnlessMemory}
 use Rattle.prolly_check.specs.Spans.{chunks_in}
 use Rattle.prolly_check.specs.declared.fault.CheckFault.{CheckFault}
-use Rattle.prolly_check.proofs.CanonicalEnd.{AllRise, DifferAs, chunks_say, some_chunks, end_says, all_say}
+use Rattle.prolly_check.proofs.CanonicalEnd.{AllRise, ComparesAs, chunks_say, some_chunks, end_says, all_say}
 use Rattle.prolly_check.proofs.CanonicalSteps.{count_in}
 use Rattle.prolly_check.proofs.Refusals.{named, still_refused}
 use Rattle.prolly_check.proofs.canonical.test_canonical.Goals as goal
@@ -17,12 +17,12 @@ returns-in-Err-test_rebuilt-clause-err c =
     let bytes = c.args.bytes.now in
     let spans = c.args.frames.now.spans.items in
     let cs = chunks_in bytes spans in
-    still_refused (λ fault. DifferAs c.args.version c.args.cut bytes (Some fault) spans)
+    still_refused (λ fault. ComparesAs c.args.version c.args.cut bytes (Some fault) spans)
     (λ fault. (lists : List (List Pair)) (ending : List ℕ) → AllHold c.args.version cs lists → drop c.args.frames.now.end bytes ≡ 0x45 ∷ ending → canonical_fault c.args.version c.args.cut cs ending lists ≡ Some fault)
     (λ fault h lists ending hold e. chunks_say c.args.version c.args.cut bytes spans c.args.frames.now.end c.requires.frames c.requires.short
     (subst (AllRise bytes) c.deref.ensures.value c.in-Ok.ensures.ok) fault h lists ending hold)
     c.in-Err-test_rebuilt.fault
-    (subst (λ ss. UnlessMemory (λ fault. DifferAs c.args.version c.args.cut bytes (Some fault) ss) c.in-Err-test_rebuilt.fault) c.deref-2.ensures.value c.in-Err-test_rebuilt.ensures.err)
+    (subst (λ ss. UnlessMemory (λ fault. ComparesAs c.args.version c.args.cut bytes (Some fault) ss) c.in-Err-test_rebuilt.fault) c.deref-2.ensures.value c.in-Err-test_rebuilt.ensures.err)
 
 pub test_end-requires-clause-some : goal.test_end-requires-clause-some
 test_end-requires-clause-some c =
@@ -30,7 +30,7 @@ test_end-requires-clause-some c =
     let spans = c.args.frames.now.spans.items in
     let some = some_chunks c.args.version c.args.cut bytes spans c.args.frames.now.end c.requires.frames c.requires.short
     (subst (AllRise bytes) c.deref.ensures.value c.in-Ok.ensures.ok)
-    (subst (DifferAs c.args.version c.args.cut bytes None) c.deref-2.ensures.value c.in-Ok-test_rebuilt.ensures.ok) c.requires.whole in
+    (subst (ComparesAs c.args.version c.args.cut bytes None) c.deref-2.ensures.value c.in-Ok-test_rebuilt.ensures.ok) c.requires.whole in
     omega (arith, count_in bytes spans, ap length c.deref-3.ensures.value)
 
 pub returns-clause-ok : goal.returns-clause-ok
@@ -40,7 +40,7 @@ returns-clause-ok c =
     on_ok_weaker c.test_end.result (λ found lists ending hold e.
     all_say c.args.version c.args.cut bytes spans c.args.frames.now.end c.requires.frames c.requires.short
     (subst (AllRise bytes) c.deref.ensures.value c.in-Ok.ensures.ok)
-    (subst (DifferAs c.args.version c.args.cut bytes None) c.deref-2.ensures.value c.in-Ok-test_rebuilt.ensures.ok)
+    (subst (ComparesAs c.args.version c.args.cut bytes None) c.deref-2.ensures.value c.in-Ok-test_rebuilt.ensures.ok)
     (drop c.args.frames.now.end bytes)
     (sym (rest_is bytes c.args.frames.now.end) ∙ found ∙ ap (λ ss. 0x45 ∷ ending_of_chunks (chunks_in bytes ss)) c.deref-3.ensures.value) lists ending hold e) c.test_end.ensures.ok
 
@@ -54,6 +54,6 @@ returns-clause-err c =
     IfErr-weaker c.test_end.result _ (UnlessMemory Says) (λ fault h. named Says fault (λ lists ending hold e.
     end_says c.args.version c.args.cut bytes spans c.args.frames.now.end c.requires.frames c.requires.short
     (subst (AllRise bytes) c.deref.ensures.value c.in-Ok.ensures.ok)
-    (subst (DifferAs c.args.version c.args.cut bytes None) c.deref-2.ensures.value c.in-Ok-test_rebuilt.ensures.ok)
+    (subst (ComparesAs c.args.version c.args.cut bytes None) c.deref-2.ensures.value c.in-Ok-test_rebuilt.ensures.ok)
     (drop c.args.frames.now.end bytes) fault
     (h.0, λ found. h.1 (rest_is bytes c.args.frames.now.end ∙ found ∙ ap (λ ss. 0x45 ∷ ending_of_chunks (chunks_in bytes ss)) (sym c.deref-3.ensures.value))) lists ending hold e)) c.test_end.ensures.err
