@@ -105,7 +105,16 @@ fn files_are_cut_and_second_reads_fail(rt: HostRuntime) -> Result<(), Fail> {
         let sources = vec![in rt.alloc(); source]?;
         let sink = ScriptSink::new(rt.alloc(), 65_536, None);
         let config = settings(12)?;
-        expect_fault(&rt, rt.alloc(), &config, sources, sink, fault, b"a1b1", taken)?;
+        expect_fault(
+            &rt,
+            rt.alloc(),
+            &config,
+            sources,
+            sink,
+            fault,
+            b"a1b1",
+            taken,
+        )?;
     }
     Ok(())
 }
@@ -138,7 +147,10 @@ fn reads_fail(rt: HostRuntime) -> Result<(), Fail> {
     let config = settings(12)?;
     let built = build(&rt, rt.alloc(), &config, &mut sources, &mut sink, &OpenGate);
     assert_eq!(rt; built.err(), None);
-    assert_eq!(rt; sink.taken(), file_of(rt.alloc(), &config, b"a1b1c1")?.as_slice());
+    assert_eq!(rt;
+        sink.taken(),
+        file_of(rt.alloc(), &config, b"a1b1c1")?.as_slice()
+    );
     Ok(())
 }
 
