@@ -11,7 +11,7 @@ use std::marker::Model;
 /// The greatest number of bits of a [`Sha512Cut`].
 pub const BITS_LIMIT: u8 = 24;
 
-/// Which entries end a chunk. Both answers are functions of the cut's value and the entry's bytes, so
+/// Which entries end a chunk. All answers are functions of the cut's value and the entry's bytes, so
 /// equal contents are cut in equal places.
 pub trait Cut: Copy + Send {
     /// The cut as the definitions have it.
