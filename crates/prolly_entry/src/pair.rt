@@ -20,8 +20,8 @@ pub enum EntryFault {
 /// A key of at most 1,024 bytes and the value at it, of at most 65,536 bytes. Either may be empty.
 ///
 /// It may carry its boundary number, by which a [`Sha512Cut`](crate::Sha512Cut) decides whether it ends a
-/// chunk. So that hash can be taken by a thread that has time for it. Nothing else tells such a pair from
-/// one that carries none.
+/// chunk. So that hash can be taken by a thread that has time for it. No contract tells such a pair from one
+/// that carries none; `Debug` shows it.
 #[derive(Debug, Drop)]
 pub struct Pair {
     storage: Storage,
