@@ -11,15 +11,13 @@ use std::alloc::{AllocError, Global};
 fn bare_line<'a>(alloc: Global) -> Result<Command<'a>, AllocError>
     ensures line { IfOk result (λ c. app_of c ≡ bare_line) }
 {
-    let program = Command::new(alloc, "prolly").bin_name("prolly")?;
-    Ok(
-        program
-            .about("Makes, checks and reads prolly trees")
-            .long_about(help::PROGRAM)
-            .after_help(help::PROGRAM_EXAMPLE)
-            .subcommand_required(true)
-            .no_binary_name(true),
-    )
+    Command::new(alloc, "prolly")
+        .about("Makes, checks and reads prolly trees")
+        .long_about(help::PROGRAM)
+        .after_help(help::PROGRAM_EXAMPLE)
+        .subcommand_required(true)
+        .no_binary_name(true)
+        .bin_name("prolly")
 }
 
 /// The whole command line.

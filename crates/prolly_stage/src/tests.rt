@@ -25,11 +25,21 @@ const SECOND_LEAF: &[u8] = b"\0\0\x01c\0\0\0\x011\0\x02d!\0\0\0\x011";
 
 const LAST_LEAF: &[u8] = b"\0\0\x01e\0\0\0\x011";
 
-/// The pairs of these keys, each with the value 1.
+/// The pair of this key and the value 1.
+fn pair_of(alloc: Global, key: &[u8]) -> Result<Pair, Fail> {
+    let key = Vec::from_slice(alloc, key)?;
+    let value = Vec::from_slice(alloc, b"1")?;
+    match Pair::new(key, value) {
+        Ok(pair) => Ok(pair),
+        Err(_) => Err("a key too long".into()),
+    }
+}
+
+/// The pairs of these keys.
 fn pairs_of(alloc: Global, keys: &[&[u8]]) -> Result<Vec<Pair>, Fail> {
     let mut pairs = Vec::new(alloc);
     for key in keys {
-        pairs.push(Pair::new(Vec::from_slice(alloc, key)?, Vec::from_slice(alloc, b"1")?)?)?;
+        pairs.push(pair_of(alloc, key)?)?;
     }
     Ok(pairs)
 }
