@@ -5,6 +5,7 @@ PARTS is the program that times the parts. Machines are noisy, so what is compar
 times, and the medians are compared. Peaks are those of the processes, as the system tells them.
 """
 
+import ctypes
 import os
 import re
 import statistics
@@ -16,6 +17,10 @@ from pathlib import Path
 
 RECORDS = 1_000_000
 TURNS = 9
+LATE_MILLISECONDS = (0, 2, 8)
+
+# The number of `prctl` that sets how much later than asked for the kernel may end a thread's sleep.
+PR_SET_TIMERSLACK = 29
 
 
 def main():
@@ -26,6 +31,7 @@ def main():
         write_records("records", range(RECORDS))
         compare_commands(program, parts)
         show_memory(program)
+        show_late_wakes(program)
         compare_worker(parts, "load", str(RECORDS), "records")
     for words in (["merge-of-2", str(RECORDS)], ["merge-of-16", str(RECORDS)], ["leaves", "100"]):
         compare_worker(parts, *words)
@@ -90,6 +96,17 @@ def show_memory(program):
     print(f"prolly build of {4 * RECORDS} records: {seconds:.2f} s, peak memory {peak / 1e6:.0f} MB")
 
 
+def show_late_wakes(program):
+    """Builds whose threads are woken late, as on a guest whose idle cores the host lends to others."""
+    command = [program, "build", "tree", "records"]
+    for late in LATE_MILLISECONDS:
+        runs = [measured(command, subprocess.DEVNULL, late) for _ in range(TURNS)]
+        seconds, busy = [run[0] for run in runs], [run[1] for run in runs]
+        print(
+            f"prolly build, naps up to {late} ms longer: {spread(seconds)}, processor time {statistics.median(busy):.2f} s"
+        )
+
+
 def compare_worker(parts, *words):
     """A worker of a build, over lists in one thread, beside the hashes that the part of the tree takes."""
     lines = [output(parts, *words) for _ in range(TURNS)]
@@ -111,10 +128,15 @@ def output(*command):
     return subprocess.run(command, check=True, capture_output=True, text=True).stdout.strip()
 
 
-def measured(command, stdin):
-    """A run's seconds, its seconds of processor time, and its peak memory in bytes."""
+def measured(command, stdin, late=0):
+    """A run's seconds, its seconds of processor time, and its peak memory in bytes. Its sleeps may end so many
+    milliseconds late."""
+
+    def allow_late_wakes():
+        ctypes.CDLL(None).prctl(PR_SET_TIMERSLACK, ctypes.c_ulong(late * 1_000_000))
+
     start = time.monotonic()
-    child = subprocess.Popen(command, stdin=stdin, stdout=subprocess.DEVNULL)
+    child = subprocess.Popen(command, stdin=stdin, stdout=subprocess.DEVNULL, preexec_fn=allow_late_wakes if late else None)
     _, status, usage = os.wait4(child.pid, 0)
     if status != 0:
         sys.exit(f"{command} failed")

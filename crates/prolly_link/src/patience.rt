@@ -7,8 +7,11 @@ use std::{hint, thread};
 // Rounds of a wait that only look again.
 const LOOKS: u32 = 8;
 
-// Rounds, those included, that give the turn to other threads. From then on the thread sleeps.
-const SHORT_ROUNDS: u32 = 12;
+// Rounds, those included, in which an end stays awake and gives the turn to other threads. From then on it sleeps.
+const FEWEST_AWAKE: u32 = 12;
+
+// One or two milliseconds, in which a ring of the default size is filled and emptied again.
+const MOST_AWAKE: u32 = 4096;
 
 const FIRST_NAP_MICROS: u64 = 20;
 
@@ -17,17 +20,29 @@ const LONGEST_NAP_MICROS: u64 = 1000;
 // Enough of them to come from the first nap to the longest.
 const MOST_DOUBLINGS: u32 = 10;
 
-/// What an end waits on. It does not sleep in a short wait, and a long one takes next to no time of the processor.
+// A ring of fewer places is full, or empty, after the shortest nap.
+const FEWEST_PLACES: usize = 8;
+
+/// How an end waits. It stays awake in a short wait, and sleeps in a long one, which takes next to no time of the
+/// processor.
+///
+/// Some machines wake a thread late, by milliseconds: guests above all, whose idle cores the host lends out. By then the
+/// ring is full, or empty, so that the other end sleeps too, and the threads of a pipeline sleep in turn. So an end that
+/// slept, and finds that the other one could do no more meanwhile, stays awake for longer in the waits to come, until
+/// it has slept and woken in time.
 #[derive(Drop)]
 pub(crate) struct Patience {
     // No other thread has the word: a wake-up would need a shared one, which every send would then have to look at.
     word: AtomicU64,
+    // Rounds of a wait before it sleeps.
+    awake: u32,
 }
 
 impl Patience {
     pub(crate) fn new() -> Patience {
         Patience {
             word: AtomicU64::new(0),
+            awake: FEWEST_AWAKE,
         }
     }
 
@@ -37,12 +52,54 @@ impl Patience {
     pub(crate) fn pause<R: Wait>(&self, rt: &R, round: u32) {
         if round < LOOKS {
             hint::spin_loop();
-        } else if round < SHORT_ROUNDS {
+        } else if round < self.awake {
             thread::yield_now();
         } else {
-            let doublings = (round - SHORT_ROUNDS).min(MOST_DOUBLINGS);
+            let doublings = (round - self.awake).min(MOST_DOUBLINGS);
             let micros = (FIRST_NAP_MICROS << doublings).min(LONGEST_NAP_MICROS);
             self.word.park_timeout(rt, 0, Duration::from_micros(micros));
         }
+    }
+
+    /// Learns from a wait of so many rounds, after which the other end was found to have done so much, of all that it
+    /// can do alone: filled so many of the ring's places, or emptied them.
+    pub(crate) fn learn(&mut self, rounds: u32, done: usize, places: usize) {
+        if rounds <= self.awake || places < FEWEST_PLACES {
+            return;
+        }
+        self.awake = if done < places {
+            (self.awake / 2).max(FEWEST_AWAKE)
+        } else {
+            self.awake.saturating_mul(2).min(MOST_AWAKE)
+        };
+    }
+}
+
+#[cfg(test)]
+mod tests {
+    use super::*;
+
+    #[test]
+    fn stays_awake_for_longer_after_naps_that_were_too_long(rt: HostRuntime) {
+        let mut patience = Patience::new();
+        for (rounds, done, places, awake) in [
+            // It did not sleep.
+            (FEWEST_AWAKE, 64, 64, FEWEST_AWAKE),
+            // It slept, and woke in time.
+            (FEWEST_AWAKE + 1, 63, 64, FEWEST_AWAKE),
+            // It slept, and woke too late; then again, after one more round awake than before.
+            (FEWEST_AWAKE + 1, 64, 64, 2 * FEWEST_AWAKE),
+            (2 * FEWEST_AWAKE + 1, 64, 64, 4 * FEWEST_AWAKE),
+            (4 * FEWEST_AWAKE + 1, 63, 64, 2 * FEWEST_AWAKE),
+            // A ring of two is full after any nap.
+            (2 * FEWEST_AWAKE + 1, 2, 2, 2 * FEWEST_AWAKE),
+        ] {
+            patience.learn(rounds, done, places);
+            assert_eq!(rt; patience.awake, awake);
+        }
+        for _ in 0..20 {
+            patience.learn(u32::MAX, 64, 64);
+        }
+        assert_eq!(rt; patience.awake, MOST_AWAKE);
     }
 }

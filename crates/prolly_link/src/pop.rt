@@ -10,7 +10,7 @@ use std::sync::Wait;
 /// Pops a message, waiting for one. `None` where the ring is empty and its producer was dropped.
 pub(crate) fn pop_waiting<M, R: Wait>(
     rt: &R,
-    patience: &Patience,
+    patience: &mut Patience,
     ring: &mut Consumer<M>,
 ) -> Option<M>
     ensures link { consumer_link ring.new ≡ consumer_link ring.old }
@@ -22,6 +22,8 @@ pub(crate) fn pop_waiting<M, R: Wait>(
         // Asked before the pop: all that a producer pushed before it was dropped is then in the ring.
         let abandoned = ring.is_abandoned();
         if let Ok(message) = ring.pop() {
+            let filled = ring.cached_slots().saturating_add(1);
+            patience.learn(round, filled, ring.capacity());
             return Some(message);
         }
         if abandoned {

@@ -10,7 +10,7 @@ use std::sync::Wait;
 /// Pushes a message, waiting for room.
 pub(crate) fn push_waiting<M, R: Wait>(
     rt: &R,
-    patience: &Patience,
+    patience: &mut Patience,
     ring: &mut Producer<M>,
     message: M,
 )
@@ -21,7 +21,11 @@ pub(crate) fn push_waiting<M, R: Wait>(
     let mut round = 0u32;
     for _ in rt.forever() {
         match ring.push(message) {
-            Ok(()) => return,
+            Ok(()) => {
+                let emptied = ring.cached_slots().saturating_add(1);
+                patience.learn(round, emptied, ring.capacity());
+                return;
+            }
             Err(PushError::Full(back)) => message = back,
         }
         patience.pause(rt, round);

@@ -40,7 +40,7 @@ impl<T> Sender<T> {
         ensures link { self.new.link ≡ self.old.link }
         ensures items { self.new.items ≡ self.old.items ++ item ∷ [] }
     {
-        push_waiting(rt, &self.patience, &mut self.ring, Message::Item(item));
+        push_waiting(rt, &mut self.patience, &mut self.ring, Message::Item(item));
     }
 
     /// Sends an item, waiting for room. It takes no memory, and so it never refuses.
@@ -60,8 +60,11 @@ impl<T> Sender<T> {
         ensures items { result.items ≡ self.items }
         ensures end { result.end ≡ end }
     {
-        let Sender { mut ring, patience } = self;
-        push_waiting(rt, &patience, &mut ring, Message::Last(end));
+        let Sender {
+            mut ring,
+            mut patience,
+        } = self;
+        push_waiting(rt, &mut patience, &mut ring, Message::Last(end));
         ClosedSender { ring }
     }
 }
