@@ -1,7 +1,6 @@
 //! The chunks against those of the file of the same pairs.
 ghost use Rattle.std.specs.Prelude.{◌≡◌, ℕ, ◌∷◌, ◌<◌, ◌^◌, None, Some, List, length, drop, OnOk, IfErr};
 ghost use Rattle.std.specs.List.{AllByRecursion};
-ghost use Rattle.prolly_entry.specs.File.{end_record};
 ghost use Rattle.prolly_entry.specs.Pair.{Pair as PairValue};
 ghost use Rattle.prolly_check.specs.Canonical.{canonical_fault, ending_of_chunks};
 ghost use Rattle.prolly_check.specs.Entries.{AllHold};
@@ -14,6 +13,7 @@ use crate::frames::{Frames, Span, chunk_at};
 use crate::order::test_order;
 use crate::rebuild::test_rebuilt;
 use prolly_entry::{Ref, Sha512Cut, Version};
+use prolly_file::end_record;
 use std::alloc::Global;
 
 /// Tests that the keys rise, and that the chunks and the end record are those of the file of the pairs.
@@ -41,16 +41,6 @@ pub(crate) fn test_canonical(
         Err(fault) => return Err(fault),
     }
     test_end(&bytes[frames.end..], bytes, &frames.spans)
-}
-
-/// What a file with this root and so many chunks ends with.
-fn end_record(root: &Ref, chunks: u64) -> [u8; 29]
-    ensures { result ≡ end_record root.now.0 chunks }
-{
-    let mut record = [b'E'; 29];
-    record[21..].copy_from_slice(&chunks.to_be_bytes());
-    record[1..21].copy_from_slice(&root.0);
-    record
 }
 
 /// Tests that an end record has the reference of the last chunk and the number of chunks.

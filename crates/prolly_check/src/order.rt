@@ -3,7 +3,6 @@ ghost use Rattle.std.specs.Prelude.{◌≡◌, [], false, List, None, Some, OnOk
 ghost use Rattle.std.specs.List.{flat_map, AllByRecursion};
 ghost use Rattle.std.specs.Option.{option_copied};
 ghost use Rattle.prolly_entry.specs.Pair.{Pair as PairValue, IsPair};
-ghost use Rattle.prolly_entry.specs.Position.{is_before};
 ghost use Rattle.prolly_entry.specs.Spelling.{pair_spelling};
 ghost use Rattle.prolly_entry.specs.declared.version.Version.{Version};
 ghost use Rattle.prolly_check.specs.Entries.{Holds, AllHold};
@@ -13,7 +12,7 @@ ghost use Rattle.prolly_check.specs.Spans.{IsWithin, chunks_in};
 
 use crate::fault::CheckFault;
 use crate::frames::{Span, chunk_at};
-use prolly_entry::{Front, front_pair, key_order};
+use prolly_entry::{Front, front_pair, key_rises};
 
 /// A key is not greater than the one before it.
 #[derive(Clone, Copy, Debug)]
@@ -70,7 +69,7 @@ fn last_in_leaf<'a>(
         match front_pair(rest) {
             Front::Pair { key_end, len, .. } => {
                 let key = &rest[2..key_end];
-                if !comes_behind(last, key) {
+                if !key_rises(last, key) {
                     return Err(Falls);
                 }
                 last = Some(key);
@@ -80,14 +79,4 @@ fn last_in_leaf<'a>(
         }
     }
     Ok(last)
-}
-
-/// Whether a key is greater than the last one, where there is a last one.
-fn comes_behind(last: Option<&[u8]>, key: &[u8]) -> bool
-    ensures { result ≡ is_before (option_copied last.entry) (Some key.now) }
-{
-    match last {
-        Some(last) => key_order(last, key).is_lt(),
-        None => true,
-    }
 }

@@ -24,7 +24,7 @@ pub use child::{ChildAt, front_child, front_child_as};
 pub use cut::{BITS_LIMIT, Cut, KeyCut, Sha512Cut};
 pub use flaw::Flaw;
 pub use front::{Front, FrontRecord, front_pair, front_record};
-pub use keys::key_order;
+pub use keys::{key_order, key_rises};
 pub use limits::{KEY_LIMIT, VALUE_LIMIT};
 pub use next::{NextRecord, next_record};
 pub use pair::{EntryFault, Pair};

@@ -1,12 +1,10 @@
 //! The next record of a record file.
-ghost use Rattle.std.specs.Prelude.{◌≡◌, Some};
 ghost use Rattle.std.specs.Option.{option_copied};
-ghost use Rattle.prolly_entry.specs.Position.{is_before};
 ghost use Rattle.prolly_entry.specs.NextRecord.{IsNextRecord};
 
 use crate::flaw::Flaw;
 use crate::front::{FrontRecord, front_record};
-use crate::keys::key_order;
+use crate::keys::key_rises;
 
 /// What bytes say of the next record of a record file, where more bytes may follow them. A record's key
 /// is the bytes `2..key_end`, the value of a put is `value_start..len`, and its spelling is `0..len`.
@@ -47,7 +45,7 @@ pub fn next_record(limit: u32, count: u32, last_key: Option<&[u8]>, bytes: &[u8]
             value_start,
             len,
         } => {
-            if !rises(last_key, &bytes[2..key_end]) {
+            if !key_rises(last_key, &bytes[2..key_end]) {
                 return NextRecord::Flawed(Flaw::OutOfOrder);
             }
             NextRecord::Put {
@@ -57,7 +55,7 @@ pub fn next_record(limit: u32, count: u32, last_key: Option<&[u8]>, bytes: &[u8]
             }
         }
         FrontRecord::Remove { key_end, len } => {
-            if !rises(last_key, &bytes[2..key_end]) {
+            if !key_rises(last_key, &bytes[2..key_end]) {
                 return NextRecord::Flawed(Flaw::OutOfOrder);
             }
             NextRecord::Remove { key_end, len }
@@ -65,15 +63,5 @@ pub fn next_record(limit: u32, count: u32, last_key: Option<&[u8]>, bytes: &[u8]
         FrontRecord::More => NextRecord::More,
         FrontRecord::KeyTooLong => NextRecord::Flawed(Flaw::KeyTooLong),
         FrontRecord::ValueTooLong => NextRecord::Flawed(Flaw::ValueTooLong),
-    }
-}
-
-/// Whether the key is greater than the last one; any key is where there is none.
-fn rises(last_key: Option<&[u8]>, key: &[u8]) -> bool
-    ensures { result ≡ is_before (option_copied last_key.entry) (Some key.now) }
-{
-    match last_key {
-        None => true,
-        Some(last_key) => key_order(last_key, key).is_lt(),
     }
 }

@@ -22,8 +22,9 @@ pub(crate) fn frame_start(len: u64) -> [u8; 9]
     start
 }
 
-/// What a file ends with.
-pub(crate) fn end_record(root: &Ref, chunks: u64) -> [u8; 29]
+/// What a file with this root and so many chunks ends with: a letter, the reference, and the number in
+/// eight bytes.
+pub fn end_record(root: &Ref, chunks: u64) -> [u8; 29]
     ensures { result ≡ end_record root.now.0 chunks }
 {
     let mut record = [b'E'; 29];

@@ -15,6 +15,7 @@ mod whole;
 mod whole_file;
 mod writer;
 
+pub use frame::end_record;
 pub use from_read::FromRead;
 pub use plain::{ScratchFault, scratch, scratch_as};
 pub use script_sink::ScriptSink;
