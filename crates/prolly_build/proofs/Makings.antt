@@ -1,17 +1,20 @@
 -- What the writer behind the stages has made of a map.
-use Rattle.std.proofs.Common.{◌≡◌, ◌≤◌, ◌<◌, ◌+◌, ◌-◌, ◌^◌, ℕ, suc, Bool, true, false, List, [], ◌∷◌, ◌++◌, length, min, Option, Some, None, inl, inr, refl, ap, sym, subst, ◌∙◌, arith, length-append, Result, Ok, Err, OnOk, IfOk, IfErr}
+use Rattle.std.proofs.Common.{◌≡◌, ◌≤◌, ◌<◌, ◌+◌, ◌-◌, ◌^◌, ℕ, suc, Bool, true, false, List, [], ◌∷◌, ◌++◌, length, min, ◌⊎◌, Option, Some, None, inl, inr, refl, ap, sym, subst, ◌∙◌, arith, length-append, append_assoc, Result, Ok, Err, OnOk, IfOk, IfErr}
 use Rattle.std.specs.List.{filter}
 use Rattle.std.proofs.Math.Nat.{lt_of_not-le}
 use Rattle.prolly_entry.specs.Chunk.{Chunk, chunk_of, chunks}
 use Rattle.prolly_entry.specs.Cut.{Cut, sha512_cut}
 use Rattle.prolly_entry.specs.Events.{clean, has_level, greatest_count}
-use Rattle.prolly_entry.specs.File.{header, end_record}
+use Rattle.prolly_entry.specs.File.{file, header, end_record}
 use Rattle.prolly_entry.specs.Pair.{Pair}
-use Rattle.prolly_entry.specs.Pipeline.{pipeline_events, HasSecond}
+use Rattle.prolly_entry.specs.Pipeline.{pipeline_events, before_second, within_stages, HasSecond}
+use Rattle.prolly_entry.specs.Prefix.{IsPrefix}
 use Rattle.prolly_entry.specs.Reference.{reference_of}
 use Rattle.prolly_entry.specs.Tree.{tree_of, level_count}
 use Rattle.prolly_entry.proofs.Composition.{composition, enough_stages}
 use Rattle.prolly_entry.proofs.Sizes.{few_chunks}
+use Rattle.prolly_entry.proofs.Writers.{within_is_prefix}
+use Rattle.prolly_file.specs.Sink.{TakesPrefix}
 use Rattle.prolly_link.specs.declared.fault.End.{End}
 use Rattle.prolly_link.specs.declared.fault.End.TheVariants.{Clean, Fault}
 use Rattle.prolly_link.specs.declared.fault.RunFault.{RunFault}
@@ -21,9 +24,11 @@ use Rattle.prolly_build.specs.declared.writer.Begun.{Begun}
 use Rattle.prolly_build.specs.declared.writer.Top.{Top}
 use Rattle.prolly_build.specs.declared.writer.Written.{Written}
 use Rattle.prolly_build.specs.declared.writer.Written.TheVariants.{Whole}
-use Rattle.prolly_build.specs.Built.{IsCleanRun, IsFileOf, IsInputEnd, IsInputFault, IsStartFault}
+use Rattle.prolly_build.specs.Built.{IsCleanRun, IsRunOf, IsFileOf, IsTooTall, IsCutOff, IsUnmadeOf, tall_file, IsInputEnd, IsInputFault, IsStartFault, IsWriterFault}
 use Rattle.prolly_build.specs.Settings.{Settings}
-use Rattle.prolly_build.specs.Writing.{Sunk, HasWritten, HasEnded, IsEndFault, IsWhole, IsTopOf, tops_counted, frames_of}
+use Rattle.prolly_build.specs.Writing.{Sunk, HasWritten, HasEnded, IsEndFault, IsWhole, IsTall, IsFailed, IsUnended, IsTopOf, tops_counted, frames_of}
+use Rattle.prolly_build.proofs.Tops.{frames_front}
+use Rattle.prolly_build.proofs.WritingSteps.{prefix_on}
 
 at_most_one : (b : Bool) → tops_counted b ≤ 1
 at_most_one true = omega arith
@@ -105,19 +110,32 @@ module _ (settings : Settings) (some : 1 ≤ settings.stages) (most : settings.s
             let l = length-append before (root ∷ []) in
             absurd (omega (arith, n, k, l))
 
+  abbrev file_head : List ℕ
+  file_head = header settings.version settings.bits
+
+  abbrev root_chunk : Chunk
+  root_chunk = chunk_of settings.version (tree_of cut settings.version m).level (tree_of cut settings.version m).tree
+
+  -- the last event is the root
+  root_is : (tree : IsTree) (before : List Chunk) (root : Chunk) → events ≡ before ++ root ∷ [] → root ≡ root_chunk
+  root_is tree before root whole = one_front before tree.before root root_chunk (sym whole ∙ (tree.events_are ∙ tree.root_last))
+
+  -- the frames of the events and the end record are the file of the map
+  file_is : (tree : IsTree) (before : List Chunk) (root : Chunk) → events ≡ before ++ root ∷ [] →
+      frames_of file_head events ++ end_record (reference_of root.bytes) (length events) ≡ file cut settings.version m
+  file_is tree before root whole =
+      ap (λ (es : List Chunk). frames_of file_head es ++ end_record (reference_of root.bytes) (length es)) tree.events_are
+      ∙ ap (λ (c : Chunk). frames_of file_head (chunks cut settings.version m) ++ end_record (reference_of c.bytes) (length (chunks cut settings.version m))) (root_is tree before root whole)
+
   -- once the end record is written, the file of the map is
-  pub file_made : (old new : Sunk) (report : Report) → HasEnded (header settings.version settings.bits) level events old new count report → IsFileOf settings m old new report
+  pub file_made : (old new : Sunk) (report : Report) → HasEnded file_head level events old new count report → IsFileOf settings m old new report
   file_made old new report h =
       let tree = is_tree h.few in
-      let root_is = one_front h.before tree.before h.root (chunk_of settings.version (tree_of cut settings.version m).level (tree_of cut settings.version m).tree)
-      (sym h.whole ∙ (tree.events_are ∙ tree.root_last)) in
+      let root_is = root_is tree h.before h.root h.whole in
       let small = tree.stages in
       record {
         stages = tree.stages;
-        taken = λ keeps.
-            h.taken_is keeps
-            ∙ ap (λ (es : List Chunk). old.taken ++ (frames_of (header settings.version settings.bits) es ++ end_record (reference_of h.root.bytes) (length es))) tree.events_are
-            ∙ ap (λ (c : Chunk). old.taken ++ (frames_of (header settings.version settings.bits) (chunks cut settings.version m) ++ end_record (reference_of c.bytes) (length (chunks cut settings.version m)))) root_is;
+        taken = λ keeps. h.taken_is keeps ∙ ap (λ (bytes : List ℕ). old.taken ++ bytes) (file_is tree h.before h.root h.whole);
         unfailed = h.unfailed;
         root = h.root_is ∙ ap (λ (c : Chunk). reference_of c.bytes) root_is;
         chunks_are = h.chunks_are ∙ ap (λ (es : List Chunk). length es) tree.events_are;
@@ -127,6 +145,76 @@ module _ (settings : Settings) (some : 1 ≤ settings.stages) (most : settings.s
     where
       few_levels : level_count cut settings.version m ≤ settings.stages → min 255 ((tree_of cut settings.version m).level + 1) ≡ level_count cut settings.version m
       few_levels h = omega (arith, h, most)
+
+  -- what was written up to, and without, a second chunk of the last stage's level
+  begun_is : frames_of file_head (before_second level events) ≡ tall_file settings m
+  begun_is =
+      let taken : before_second level events ≡ before_second level (chunks cut settings.version m) =
+      ap (before_second level) run.sent ∙ (composition cut settings.version m few level).0 in
+      ap (frames_of file_head) (taken ∙ ap (λ (n : ℕ). within_stages n (chunks cut settings.version m)) suc_level)
+
+  -- is a prefix of the file
+  tall_is_prefix : IsPrefix (tall_file settings m) (file cut settings.version m)
+  tall_is_prefix =
+      let all = chunks cut settings.version m in
+      let front = frames_front file_head (within_stages settings.stages all) all (within_is_prefix settings.stages all all ([], sym (nil_behind all))).1 in
+      let ending = end_record (reference_of root_chunk.bytes) (length all) in
+      (front.0 ++ ending, ap (λ (bytes : List ℕ). bytes ++ ending) front.1 ∙ append_assoc (tall_file settings m) front.0 ending)
+    where
+      nil_behind : (xs : List Chunk) → xs ++ [] ≡ xs
+      nil_behind [] = refl
+      nil_behind (x ∷ xs) = ap (λ z. x ∷ z) (nil_behind xs)
+
+  too_tall : (old new : Sunk) → IsTall file_head level events old new → IsTooTall settings m old new
+  too_tall old new h =
+      let second = (composition cut settings.version m few level).1 in
+      record {
+        levels = subst (λ (n : ℕ). n < level_count cut settings.version m) suc_level (second.0 (subst (λ (es : List Chunk). HasSecond level es) run.sent h.second));
+        unfailed = h.unfailed;
+        taken = λ keeps. h.taken_is keeps ∙ ap (λ (bytes : List ℕ). old.taken ++ bytes) begun_is;
+      }
+
+  cut_off : (old new : Sunk) → IsFailed file_head level events old new ⊎ IsUnended file_head level events old new → IsCutOff settings m old new
+  cut_off old new (inl h) = record {
+    failed = h.failed;
+    taken = λ keeps. prefix_on (file cut settings.version m) (begun keeps) tall_is_prefix;
+    tall = λ levels keeps. begun keeps;
+  }
+    where
+      begun : old.is_keeping ≡ true → TakesPrefix old.taken new.taken (tall_file settings m)
+      begun keeps = subst (λ (bytes : List ℕ). TakesPrefix old.taken new.taken bytes) begun_is (h.taken_is keeps)
+  cut_off old new (inr h) = record {
+    failed = h.failed;
+    taken = λ keeps. subst (λ (bytes : List ℕ). TakesPrefix old.taken new.taken bytes) (file_is (is_tree h.few) h.before h.root h.whole) (h.taken_is keeps);
+    tall = λ levels keeps. absurd (let low = (is_tree h.few).stages in omega (arith, low, levels));
+  }
+
+  -- why the file of the map was not made
+  pub unmade : (old before after : Sunk) (fault : RunFault) → IsEndFault file_head level events old before after Clean fault → IsUnmadeOf settings m old after fault
+  unmade old before after fault (inl h) = subst (λ (f : RunFault). IsUnmadeOf settings m old after f) (sym h.0) (cut_off old after h.1)
+  unmade old before after fault (inr h) = subst (λ (f : RunFault). IsUnmadeOf settings m old after f) (sym h.0) (too_tall old after h.1)
+
+-- the same at any end, which a fault of the writer rules out but for a clean one
+pub unmade_at : (settings : Settings) (some : 1 ≤ settings.stages) (most : settings.stages ≤ 12) (m : List Pair) (events : List Chunk) (count : ℕ) (end : End) →
+    IsRunOf settings m events end count → IsInputEnd end → (old before after : Sunk) (fault : RunFault) →
+    IsEndFault (header settings.version settings.bits) (settings.stages - 1) events old before after end fault → IsWriterFault fault →
+    (end ≡ Clean) × IsUnmadeOf settings m old after fault
+unmade_at settings some most m events count (Fault f) run input old before after fault h writer = absurd (apart f (subst IsWriterFault h.0 writer) input)
+  where
+    apart : (f : RunFault) → IsWriterFault f → IsInputFault f → ⊥
+    apart Write w i = i
+    apart TooTall w i = i
+    apart NoThread w i = w
+    apart TooManyFiles w i = w
+    apart Memory w i = w
+    apart (Read n) w i = w
+    apart (Truncated n place) w i = w
+    apart (KeyTooLong n place) w i = w
+    apart (ValueTooLong n place) w i = w
+    apart (OutOfOrder n place) w i = w
+    apart (TooManyRecords n) w i = w
+    apart Lost w i = w
+unmade_at settings some most m events count Clean run input old before after fault h writer = (refl, unmade settings some most m events count (run refl) old before after fault h)
 
 -- the fault of a finished build is that of the end that the workers sent, or one of the writer
 pub no_start_fault : (head : List ℕ) (last_level : ℕ) (events : List Chunk) (old before after : Sunk) (end : End) (fault : RunFault) → IsInputEnd end →

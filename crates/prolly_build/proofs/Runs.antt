@@ -19,7 +19,7 @@ use Rattle.prolly_build.specs.Ran.{IsHaltFault}
 use Rattle.prolly_merge.specs.Inputs.{fault_of, lists_of}
 use Rattle.prolly_merge.specs.Sent.{Counts}
 use Rattle.prolly_stage.specs.Sends.{Sends, closing_of}
-use Rattle.prolly_build.specs.Built.{AreRead, AreKept, IsBuilt, IsFileOf, IsRunOf, IsInputFault, IsInputEnd, IsStartFault, IsRefusal}
+use Rattle.prolly_build.specs.Built.{AreRead, AreKept, IsBuilt, IsFileOf, IsUnmade, IsUnmadeOf, IsRunOf, IsInputFault, IsInputEnd, IsStartFault, IsWriterFault, IsRefusal}
 use Rattle.prolly_build.specs.declared.report.Report.{Report}
 use Rattle.prolly_build.specs.Writing.{Sunk}
 use Rattle.prolly_build.specs.Gathering.{IsGathered}
@@ -132,6 +132,12 @@ pub built : {S : Type 0} {is_honest : S → Bool} {left : S → List ℕ} {failu
     IsBuilt is_honest left failures settings before after old new report
 built goods read made = record { goods = goods; read = read; made = made }
 
+-- why there is none
+pub not_built : {S : Type 0} {is_honest : S → Bool} {left : S → List ℕ} {failures : S → ℕ} {settings : Settings} {before after : List S} {old new : Sunk} {fault : RunFault} →
+    (goods : List (List Record)) → AreRead is_honest left failures settings.max_records before after goods → IsUnmadeOf settings (overlay goods) old new fault →
+    IsUnmade is_honest left failures settings before after old new fault
+not_built goods read unmade = record { goods = goods; read = read; unmade = unmade }
+
 -- a fault of a finished build is none that starts nothing
 pub finished_refusal : {untouched kept : Type 0} (fault : RunFault) → (IsStartFault fault → ⊥) → kept → IsRefusal untouched kept fault
 finished_refusal fault h k = record {
@@ -144,6 +150,11 @@ no_thread_is_no_count e = cc
 
 lost_is_no_count : Lost ≡ TooManyFiles → ⊥
 lost_is_no_count e = cc
+
+-- a halt is no fault of the writer
+pub halted_unmade : (halt : Halt) (fault : RunFault) → IsHaltFault halt fault → IsWriterFault fault → ⊥
+halted_unmade NoThread_halt fault is w = subst IsWriterFault is w
+halted_unmade Lost_halt fault is w = subst IsWriterFault is w
 
 -- where the workers were halted for want of a thread, the sink is as it was
 pub halted_refusal : {untouched kept : Type 0} (halt : Halt) (fault : RunFault) → IsHaltFault halt fault → (halt ≡ NoThread_halt → untouched) → IsRefusal untouched kept fault

@@ -1,16 +1,17 @@
 -- How the writer's state goes on.
-use Rattle.std.proofs.Common.{◌≡◌, ◌≢◌, ℕ, suc, ◌≤◌, Bool, true, false, List, [], ◌∷◌, ◌++◌, refl, sym, ap, ◌∙◌, subst, arith, append_assoc}
+use Rattle.std.proofs.Common.{◌≡◌, ◌≢◌, ◌<◌, Option, Some, length, ℕ, suc, ◌≤◌, Bool, true, false, List, [], ◌∷◌, ◌++◌, refl, sym, ap, ◌∙◌, subst, arith, append_assoc}
 use Rattle.prolly_entry.specs.Chunk.{Chunk}
-use Rattle.prolly_entry.specs.File.{frame}
-use Rattle.prolly_entry.specs.Events.{has_level}
+use Rattle.prolly_entry.specs.File.{frame, end_record}
+use Rattle.prolly_entry.specs.Events.{has_level, greatest_count}
 use Rattle.prolly_entry.specs.Pipeline.{before_second}
 use Rattle.prolly_entry.specs.Prefix.{IsPrefix}
 use Rattle.prolly_entry.proofs.Prefixes.{count, count_true, count_false}
 use Rattle.prolly_entry.proofs.Writers.{within_is_prefix}
 use Rattle.prolly_file.specs.Sink.{TakesPrefix}
 use Rattle.prolly_build.specs.declared.writer.Begun.{Begun}
+use Rattle.prolly_build.specs.declared.writer.Top.{Top}
 use Rattle.prolly_build.specs.declared.writer.Written.{Written}
-use Rattle.prolly_build.specs.Writing.{Sunk, frames_of, tops_counted, IsWhole, IsTall, IsFailed, HasWritten}
+use Rattle.prolly_build.specs.Writing.{Sunk, frames_of, tops_counted, IsTopOf, IsWhole, IsTall, IsFailed, IsUnended, HasWritten}
 use Rattle.prolly_build.proofs.Tops.{one_more, second_all, second_last, second_stays, frames_front, frames_more}
 
 -- too tall a tree stays so
@@ -23,7 +24,7 @@ tall_stays {head} {level} {events} {old} e h = let more = one_more level events 
   keeps = h.keeps;
 }
 
-prefix_on : {old new wanted : List ℕ} (more : List ℕ) → TakesPrefix old new wanted → IsPrefix wanted more → TakesPrefix old new more
+pub prefix_on : {old new wanted : List ℕ} (more : List ℕ) → TakesPrefix old new wanted → IsPrefix wanted more → TakesPrefix old new more
 prefix_on {wanted} more h k = record {
   part = h.part;
   grown = h.grown;
@@ -103,6 +104,29 @@ failed_now {head} {level} {events} {old} {mid} {new} {begun} e is_top h few part
 
     all : frames_of head events ++ frame e ≡ frames_of head (before_second level (events ++ e ∷ []))
     all = sym (frames_more head events e) ∙ ap (frames_of head) (sym (second_all level (events ++ e ∷ []) (low begun.has_top is_top h.few few)))
+
+-- the end record fails
+pub unended : {head : List ℕ} {level : ℕ} {events : List Chunk} {old mid new : Sunk} {begun : Begun} (top : Top) → IsWhole head level events old mid begun →
+    begun.top ≡ Some top → begun.file.chunks < greatest_count →
+    (mid.is_keeping ≡ true → TakesPrefix mid.taken new.taken (end_record top.root.0 begun.file.chunks)) → new.failures ≢ mid.failures →
+    IsUnended head level events old new
+unended {head} {level} {events} {old} {mid} {new} {begun} top h top_is few part failed =
+    let last = subst (λ (t : Option Top). IsTopOf events t) top_is h.top_is in
+    let count_is = h.count_is in
+    let chunks_are : begun.file.chunks ≡ length events = omega (arith, count_is, few) in
+    let one = one_at_most begun.has_top in
+    let some = h.few in
+    record {
+      before = last.0;
+      root = last.1;
+      whole = last.2;
+      few = omega (arith, one, some);
+      failed = λ f. failed (f ∙ sym h.unfailed);
+      taken_is = λ k.
+          subst (λ (bytes : List ℕ). TakesPrefix old.taken new.taken (frames_of head events ++ bytes))
+          (ap (λ (n : ℕ). end_record top.root.0 n) chunks_are ∙ ap (λ (r : List ℕ). end_record r (length events)) last.3)
+          (part_behind old.taken mid.taken new.taken (frames_of head events) (end_record top.root.0 begun.file.chunks) (h.taken_is k) (part (h.keeps k)));
+    }
 
 -- the same events
 pub written_of : (head : List ℕ) (level : ℕ) (es more : List Chunk) (old new : Sunk) (written : Written) → more ≡ es → HasWritten head level es old new written →

@@ -1,22 +1,23 @@
 -- What a build has made of its sources.
-use Rattle.std.specs.Prelude.{◌≡◌, ◌≢◌, ◌≤◌, ℕ, Bool, true, List, [], ◌∷◌, ◌++◌, length, None, ◌-◌}
+use Rattle.std.specs.Prelude.{◌≡◌, ◌≢◌, ◌<◌, ◌≤◌, ℕ, Bool, true, List, [], ◌∷◌, ◌++◌, length, None, ◌-◌}
 use Rattle.prolly_entry.specs.Chunk.{Chunk, chunks}
 use Rattle.prolly_entry.specs.Cut.{sha512_cut}
-use Rattle.prolly_entry.specs.File.{file, root_reference}
+use Rattle.prolly_entry.specs.File.{file, header, root_reference}
 use Rattle.prolly_entry.specs.Events.{clean}
 use Rattle.prolly_entry.specs.Overlay.{overlay}
 use Rattle.prolly_entry.specs.Pair.{Pair}
-use Rattle.prolly_entry.specs.Pipeline.{pipeline_events}
+use Rattle.prolly_entry.specs.Pipeline.{pipeline_events, within_stages}
 use Rattle.prolly_entry.specs.Reading.{IsReading}
 use Rattle.prolly_entry.specs.Record.{Record}
 use Rattle.prolly_entry.specs.Tree.{level_count}
+use Rattle.prolly_file.specs.Sink.{TakesPrefix}
 use Rattle.prolly_link.specs.declared.fault.End.{End}
 use Rattle.prolly_link.specs.declared.fault.End.TheVariants.{Clean, Fault}
 use Rattle.prolly_link.specs.declared.fault.RunFault.{RunFault}
 use Rattle.prolly_link.specs.declared.fault.RunFault.TheVariants as faults
 use Rattle.prolly_build.specs.declared.report.Report.{Report}
 use Rattle.prolly_build.specs.Settings.{Settings}
-use Rattle.prolly_build.specs.Writing.{Sunk}
+use Rattle.prolly_build.specs.Writing.{Sunk, frames_of}
 
 -- The sink took the chunk file of a map, and the report is that of its tree, which has no more levels than there are stages.
 pub record IsFileOf (settings : Settings) (m : List Pair) (old new : Sunk) (report : Report) : Type 0 where
@@ -27,6 +28,36 @@ pub record IsFileOf (settings : Settings) (m : List Pair) (old new : Sunk) (repo
   pub chunks_are : report.chunks ≡ length (chunks (sha512_cut settings.bits) settings.version m)
   pub pairs : report.pairs ≡ length m
   pub levels : report.levels ≡ level_count (sha512_cut settings.bits) settings.version m
+
+-- The chunk file of a map up to, and without, the second chunk of the last stage's level: what is written of a tree that is too tall.
+abbrev pub tall_file : Settings → List Pair → List ℕ
+tall_file settings m =
+    frames_of (header settings.version settings.bits) (within_stages settings.stages (chunks (sha512_cut settings.bits) settings.version m))
+
+-- The tree of a map has more levels than there are stages. The sink has not failed, and took the file up to there.
+pub record IsTooTall (settings : Settings) (m : List Pair) (old new : Sunk) : Type 0 where
+  pub levels : settings.stages < level_count (sha512_cut settings.bits) settings.version m
+  pub unfailed : new.failures ≡ old.failures
+  pub taken : old.is_keeping ≡ true → new.taken ≡ old.taken ++ tall_file settings m
+
+-- The sink failed, and took a prefix of the file of a map; of a tree that is too tall, a prefix of what is written of it.
+pub record IsCutOff (settings : Settings) (m : List Pair) (old new : Sunk) : Type 0 where
+  pub failed : new.failures ≢ old.failures
+  pub taken : old.is_keeping ≡ true → TakesPrefix old.taken new.taken (file (sha512_cut settings.bits) settings.version m)
+  pub tall : settings.stages < level_count (sha512_cut settings.bits) settings.version m → old.is_keeping ≡ true →
+      TakesPrefix old.taken new.taken (tall_file settings m)
+
+-- A fault of the writer: the sink's, or too tall a tree.
+abbrev pub IsWriterFault : RunFault → Type 0
+IsWriterFault faults.Write = Unit {0}
+IsWriterFault faults.TooTall = Unit {0}
+IsWriterFault _ = ⊥
+
+-- Why the file of a map was not made, at a fault of the writer, and what the sink took of it.
+abbrev pub IsUnmadeOf : Settings → List Pair → Sunk → Sunk → RunFault → Type 0
+IsUnmadeOf settings m old new faults.Write = IsCutOff settings m old new
+IsUnmadeOf settings m old new faults.TooTall = IsTooTall settings m old new
+IsUnmadeOf settings m old new _ = ⊥
 
 -- What the stages sent, where it ended clean: what they make of a map, which is small, and whose pairs were counted.
 pub record IsCleanRun (settings : Settings) (m : List Pair) (events : List Chunk) (count : ℕ) : Type 0 where
@@ -66,6 +97,12 @@ module _ {S : Type 0} (is_honest : S → Bool) (left : S → List ℕ) (failures
     pub goods : List (List Record)
     pub read : AreRead settings.max_records before after goods
     pub made : IsFileOf settings (overlay goods) old new report
+
+  -- The sources were read, each to its end, and the file of the overlay of their records was not made, for this fault of the writer.
+  pub record IsUnmade (settings : Settings) (before after : List S) (old new : Sunk) (fault : RunFault) : Type 0 where
+    pub goods : List (List Record)
+    pub read : AreRead settings.max_records before after goods
+    pub unmade : IsUnmadeOf settings (overlay goods) old new fault
 
 -- A fault of a record file, or want of memory.
 abbrev pub IsInputFault : RunFault → Type 0

@@ -82,10 +82,19 @@ pub record HasEnded (head : List ℕ) (level : ℕ) (events : List Chunk) (old n
   pub pairs_are : report.pairs ≡ pairs
   pub levels_are : report.levels ≡ min 255 (root.level + 1)
 
--- Why nothing was made: the fault that came with the last link's end, which leaves the sink alone; or, at a clean end, a call of the
--- sink that failed, or a second event of the last stage's level, at which nothing more was written.
+-- All events are written, of which at most one is of the last stage's level, and the end record failed.
+pub record IsUnended (head : List ℕ) (level : ℕ) (events : List Chunk) (old new : Sunk) : Type 0 where
+  pub before : List Chunk
+  pub root : Chunk
+  pub whole : events ≡ before ++ root ∷ []
+  pub few : length (filter (has_level level) events) ≤ 1
+  pub failed : new.failures ≢ old.failures
+  pub taken_is : old.is_keeping ≡ true → TakesPrefix old.taken new.taken (frames_of head events ++ end_record (reference_of root.bytes) (length events))
+
+-- Why nothing was made: the fault that came with the last link's end, which leaves the sink alone; or, at a clean end, a frame or the end
+-- record that failed, or a second event of the last stage's level, at which nothing more was written.
 abbrev pub IsEndFault : List ℕ → ℕ → List Chunk → Sunk → Sunk → Sunk → End → RunFault → Type 0
 IsEndFault head level events old before after (Fault fault) answer = (answer ≡ fault) × (after ≡ before)
 IsEndFault head level events old before after Clean answer =
-    ((answer ≡ Write) × (after.failures ≢ old.failures))
-    ⊎ ((answer ≡ TooTall_fault) × HasSecond level events × (after ≡ before))
+    ((answer ≡ Write) × (IsFailed head level events old after ⊎ IsUnended head level events old after))
+    ⊎ ((answer ≡ TooTall_fault) × IsTall head level events old after)

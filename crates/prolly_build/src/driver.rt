@@ -6,7 +6,7 @@ ghost use Rattle.prolly_build.specs.Writing.{Sunk};
 ghost use Rattle.prolly_build.specs.Ran.{IsWritten};
 ghost use Rattle.prolly_build.specs.Staging.{HasStaged};
 ghost use Rattle.prolly_build.specs.declared.halt.Halt.TheVariants.{NoThread};
-ghost use Rattle.prolly_build.specs.Built.{IsBuilt, AreKept, IsAnswer, IsRefusal};
+ghost use Rattle.prolly_build.specs.Built.{IsBuilt, IsUnmade, AreKept, IsAnswer, IsRefusal, IsWriterFault};
 
 use crate::config::Config;
 use crate::finishing::finish;
@@ -97,6 +97,9 @@ fn run_workers<R: Wait + Threads + Sync, S: Source + Send + Drop, W: Sink, G: Ga
         (record { is_keeping = W.is_keeping sink.old; taken = W.taken sink.old; failures = W.failures sink.old })
         (record { is_keeping = W.is_keeping sink.new; taken = W.taken sink.new; failures = W.failures sink.new })) }
     ensures kept { OnOk result (AreKept S.is_honest S.left S.failures sources.old.items sources.new.items) }
+    ensures unmade { IfErr result (λ fault. IsWriterFault fault → IsUnmade S.is_honest S.left S.failures config sources.old.items sources.new.items
+        (record { is_keeping = W.is_keeping sink.old; taken = W.taken sink.old; failures = W.failures sink.old })
+        (record { is_keeping = W.is_keeping sink.new; taken = W.taken sink.new; failures = W.failures sink.new }) fault) }
     ensures err { IfErr result (IsRefusal (sink.new ≡ sink.old) (AreKept S.is_honest S.left S.failures sources.old.items sources.new.items)) }
 {
     let mut lent = mem::replace(sources, Vec::new(alloc));
@@ -166,6 +169,9 @@ pub fn build_with<R: Wait + Threads + Sync, S: Source + Send + Drop, W: Sink, G:
         (record { is_keeping = W.is_keeping sink.old; taken = W.taken sink.old; failures = W.failures sink.old })
         (record { is_keeping = W.is_keeping sink.new; taken = W.taken sink.new; failures = W.failures sink.new })) }
     ensures kept { OnOk result (AreKept S.is_honest S.left S.failures sources.old.items sources.new.items) }
+    ensures unmade { IfErr result (λ fault. IsWriterFault fault → IsUnmade S.is_honest S.left S.failures config.now sources.old.items sources.new.items
+        (record { is_keeping = W.is_keeping sink.old; taken = W.taken sink.old; failures = W.failures sink.old })
+        (record { is_keeping = W.is_keeping sink.new; taken = W.taken sink.new; failures = W.failures sink.new }) fault) }
     ensures err { IfErr result (λ fault. IsAnswer (sink.new ≡ sink.old) (AreKept S.is_honest S.left S.failures sources.old.items sources.new.items) fault) }
 {
     if sources.len() > FILES_LIMIT {
@@ -192,6 +198,9 @@ pub fn build<R: Wait + Threads + Sync, S: Source + Send + Drop, W: Sink, G: Gate
         (record { is_keeping = W.is_keeping sink.old; taken = W.taken sink.old; failures = W.failures sink.old })
         (record { is_keeping = W.is_keeping sink.new; taken = W.taken sink.new; failures = W.failures sink.new })) }
     ensures kept { OnOk result (AreKept S.is_honest S.left S.failures sources.old.items sources.new.items) }
+    ensures unmade { IfErr result (λ fault. IsWriterFault fault → IsUnmade S.is_honest S.left S.failures config.now sources.old.items sources.new.items
+        (record { is_keeping = W.is_keeping sink.old; taken = W.taken sink.old; failures = W.failures sink.old })
+        (record { is_keeping = W.is_keeping sink.new; taken = W.taken sink.new; failures = W.failures sink.new }) fault) }
     ensures err { IfErr result (λ fault. IsAnswer (sink.new ≡ sink.old) (AreKept S.is_honest S.left S.failures sources.old.items sources.new.items) fault) }
 {
     build_with(rt, alloc, config, sources, sink, gate, &AllStart)

@@ -6,7 +6,7 @@ ghost use Rattle.prolly_link.specs.Receipts.{HasEnded, end_given};
 ghost use Rattle.prolly_link.specs.declared.fault.End.TheVariants.{Clean};
 ghost use Rattle.prolly_build.specs.Settings.{AreLawful};
 ghost use Rattle.prolly_build.specs.Writing.{Sunk, HasWritten};
-ghost use Rattle.prolly_build.specs.Built.{IsRunOf, IsFileOf, IsInputEnd, IsStartFault};
+ghost use Rattle.prolly_build.specs.Built.{IsRunOf, IsFileOf, IsUnmadeOf, IsInputEnd, IsStartFault, IsWriterFault};
 
 use crate::config::Config;
 use crate::ending::end_build;
@@ -38,6 +38,11 @@ pub(crate) fn finish<R: Wait, W: Sink>(
         (record { is_keeping = W.is_keeping sink.old; taken = W.taken sink.old; failures = W.failures sink.old }) ran.wrote.written →
         IfOk result (IsFileOf config m old (record { is_keeping = W.is_keeping sink.new; taken = W.taken sink.new; failures = W.failures sink.new })) }
     ensures clean { OnOk result (ran.out.end ≡ Clean) }
+    ensures unmade { (m : List PairValue) (old : Sunk) → IsRunOf config m ran.out.items ran.out.end ran.pairs →
+        HasWritten (header config.version config.bits) (config.stages - 1) ran.wrote.last.items old
+        (record { is_keeping = W.is_keeping sink.old; taken = W.taken sink.old; failures = W.failures sink.old }) ran.wrote.written →
+        IfErr result (λ fault. IsWriterFault fault → (ran.out.end ≡ Clean)
+        × IsUnmadeOf config m old (record { is_keeping = W.is_keeping sink.new; taken = W.taken sink.new; failures = W.failures sink.new }) fault) }
     ensures err { IfErr result (λ fault. IsStartFault fault → ⊥) }
 {
     let Ran { out, pairs, wrote } = ran;

@@ -3,10 +3,11 @@ use Rattle.std.proofs.lemmas.Result.{on_ok_weaker, IfErr-weaker}
 use Rattle.prolly_entry.specs.Chunk.{Chunk}
 use Rattle.prolly_entry.specs.File.{header}
 use Rattle.prolly_link.specs.Receipts.{end_given}
+use Rattle.prolly_link.specs.declared.fault.End.{End}
 use Rattle.prolly_link.specs.declared.fault.End.TheVariants.{Clean}
 use Rattle.prolly_build.specs.Built.{IsInputEnd}
-use Rattle.prolly_build.specs.Writing.{Sunk, HasWritten}
-use Rattle.prolly_build.proofs.Makings.{few_written, some_written, file_made, no_start_fault, if_ok}
+use Rattle.prolly_build.specs.Writing.{Sunk, HasWritten, IsEndFault}
+use Rattle.prolly_build.proofs.Makings.{few_written, some_written, file_made, no_start_fault, unmade_at, if_ok}
 use Rattle.prolly_build.proofs.finishing.finish.Goals as goal
 
 pub end_build-requires-clause-few : goal.end_build-requires-clause-few
@@ -57,3 +58,16 @@ pub returns-then-has_met-clause-clean : goal.returns-then-has_met-clause-clean
 returns-then-has_met-clause-clean g c =
     let met = c.has_met.ensures c.if-has_met.true c.requires.ended in
     on_ok_weaker c.end_build.result (λ clean. sym (c.requires.end ∙ ap end_given met.1) ∙ clean) c.end_build.ensures.clean
+
+pub returns-then-has_met-clause-unmade : goal.returns-then-has_met-clause-unmade
+returns-then-has_met-clause-unmade g c = λ m old run written.
+    let met = c.has_met.ensures c.if-has_met.true c.requires.ended in
+    let now : Sunk = record { is_keeping = g.W.Sink.is_keeping c.args.sink.now; taken = g.W.Sink.taken c.args.sink.now; failures = g.W.Sink.failures c.args.sink.now } in
+    let head = header c.args.config.version c.args.config.bits in
+    let after : Sunk = record { is_keeping = g.W.Sink.is_keeping c.end_build.new.sink; taken = g.W.Sink.taken c.end_build.new.sink; failures = g.W.Sink.failures c.end_build.new.sink } in
+    let level = c.args.config.stages - 1 in
+    IfErr-weaker c.end_build.result _ _
+    (λ fault h. unmade_at c.args.config c.requires.lawful.stages.0 c.requires.lawful.stages.1 m c.args.ran.out.items c.args.ran.pairs c.args.ran.out.end run c.requires.faults old now after fault
+    (subst (λ (e : End). IsEndFault head level c.args.ran.out.items old now after e fault) (c.requires.end ∙ ap end_given met.1) h))
+    (c.end_build.ensures.err head level c.args.ran.out.items old
+    (subst (λ (es : List Chunk). HasWritten head level es old now c.args.ran.wrote.written) met.0 written))
