@@ -1,15 +1,57 @@
 -- What the driver's parts give back.
-use Rattle.std.proofs.Common.{◌≡◌, ℕ, ◌-◌, List, [], subst, ap}
+use Rattle.std.proofs.Common.{◌≡◌, ℕ, ◌-◌, List, [], ◌∷◌, ◌++◌, ◌≢◌, inl, inr, refl, sym, subst, ap}
 use Rattle.prolly_entry.specs.Chunk.{Chunk}
 use Rattle.prolly_entry.specs.File.{header}
+use Rattle.prolly_entry.specs.Pipeline.{before_second}
+use Rattle.prolly_file.specs.Sink.{TakesPrefix}
 use Rattle.prolly_link.specs.Views.{Receiving}
 use Rattle.prolly_link.specs.Receipts.{HasEnded, end_given}
 use Rattle.prolly_link.specs.Growth.{items_between}
 use Rattle.prolly_link.specs.declared.fault.End.{End}
+use Rattle.prolly_link.specs.declared.fault.End.TheVariants.{Clean, Fault}
+use Rattle.prolly_link.specs.declared.fault.RunFault.{RunFault}
+use Rattle.prolly_link.specs.declared.fault.RunFault.TheVariants.{Write}
 use Rattle.prolly_build.specs.Settings.{Settings}
-use Rattle.prolly_build.specs.Writing.{Sunk, HasWritten}
+use Rattle.prolly_build.specs.Built.{IsBegun}
+use Rattle.prolly_build.specs.Writing.{Sunk, HasWritten, IsEndFault, frames_of}
 use Rattle.prolly_build.specs.Ran.{IsWritten}
 use Rattle.prolly_build.specs.declared.writer.Written.{Written}
+use Rattle.prolly_build.specs.declared.writer.Written.TheVariants.{Whole, TooTall, Failed}
+use Rattle.prolly_build.specs.declared.writing.Wrote.{Wrote}
+
+nil_behind : (xs : List ℕ) → xs ++ [] ≡ xs
+nil_behind [] = refl
+nil_behind (x ∷ xs) = ap (λ z. x ∷ z) (nil_behind xs)
+
+-- a sink that was left alone
+pub nothing_begun : (settings : Settings) (old : Sunk) → IsBegun settings old old
+nothing_begun settings old = record {
+  chunks_begun = [];
+  taken = λ k. record { part = []; grown = sym (nil_behind old.taken); is_prefix = (frames_of (header settings.version settings.bits) [], refl) };
+}
+
+all_taken : {old new wanted : List ℕ} → new ≡ old ++ wanted → TakesPrefix old new wanted
+all_taken {wanted} h = record { part = wanted; grown = h; is_prefix = ([], sym (nil_behind wanted)) }
+
+-- a sink that the writer wrote to
+pub written_begun : (settings : Settings) (level : ℕ) (events : List Chunk) (old new : Sunk) (written : Written) →
+    HasWritten (header settings.version settings.bits) level events old new written → IsBegun settings old new
+written_begun settings level events old new (Whole begun) h = record { chunks_begun = events; taken = λ k. all_taken (h.taken_is k) }
+written_begun settings level events old new TooTall h = record { chunks_begun = before_second level events; taken = λ k. all_taken (h.taken_is k) }
+written_begun settings level events old new Failed h = record { chunks_begun = before_second level events; taken = h.taken_is }
+
+-- and once the build has ended with another fault than a failed write
+pub ended_begun : (settings : Settings) (level : ℕ) (events : List Chunk) (old before after : Sunk) (written : Written) (end : End) (fault : RunFault) →
+    HasWritten (header settings.version settings.bits) level events old before written →
+    IsEndFault (header settings.version settings.bits) level events old before after end fault → fault ≢ Write → IsBegun settings old after
+ended_begun settings level events old before after written (Fault f) fault h end_is other =
+    subst (λ (s : Sunk). IsBegun settings old s) (sym end_is.1) (written_begun settings level events old before written h)
+ended_begun settings level events old before after written Clean fault h (inl failed) other = absurd (other failed.0)
+ended_begun settings level events old before after written Clean fault h (inr tall) other =
+    record { chunks_begun = before_second level events; taken = λ k. all_taken (tall.1.taken_is k) }
+
+pub all_begun : (settings : Settings) (last : Receiving Chunk) (old new : Sunk) (wrote : Wrote) → IsWritten settings last old new wrote → IsBegun settings old new
+all_begun settings last old new wrote h = written_begun settings (settings.stages - 1) wrote.last.items old new wrote.written h.written
 
 -- a receiver that had given nothing has given all that it gave since
 between_all : (before after : List Chunk) → before ≡ [] → items_between before after ≡ after

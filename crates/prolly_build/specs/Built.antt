@@ -29,6 +29,11 @@ pub record IsFileOf (settings : Settings) (m : List Pair) (old new : Sunk) (repo
   pub pairs : report.pairs ≡ length m
   pub levels : report.levels ≡ level_count (sha512_cut settings.bits) settings.version m
 
+-- The sink took a prefix of a header and of the frames of some chunks: no end record is begun.
+pub record IsBegun (settings : Settings) (old new : Sunk) : Type 0 where
+  pub chunks_begun : List Chunk
+  pub taken : old.is_keeping ≡ true → TakesPrefix old.taken new.taken (frames_of (header settings.version settings.bits) chunks_begun)
+
 -- The chunk file of a map up to, and without, the second chunk of the last stage's level: what is written of a tree that is too tall.
 abbrev pub tall_file : Settings → List Pair → List ℕ
 tall_file settings m =

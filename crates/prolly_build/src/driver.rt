@@ -1,12 +1,12 @@
 //! The pipelined build.
-ghost use Rattle.std.specs.Prelude.{◌≡◌, ◌+◌, ◌<◌, ◌≤◌, ◌↔◌, [], Err, vec_len, IfOk, IfErr, OnOk};
-ghost use Rattle.prolly_link.specs.declared.fault.RunFault.TheVariants.{TooManyFiles};
+ghost use Rattle.std.specs.Prelude.{◌≡◌, ◌≢◌, ◌+◌, ◌<◌, ◌≤◌, ◌↔◌, [], Err, vec_len, IfOk, IfErr, OnOk};
+ghost use Rattle.prolly_link.specs.declared.fault.RunFault.TheVariants.{TooManyFiles, Write};
 ghost use Rattle.prolly_build.specs.Settings.{AreLawful};
 ghost use Rattle.prolly_build.specs.Writing.{Sunk};
 ghost use Rattle.prolly_build.specs.Ran.{IsWritten};
 ghost use Rattle.prolly_build.specs.Staging.{HasStaged};
 ghost use Rattle.prolly_build.specs.declared.halt.Halt.TheVariants.{NoThread};
-ghost use Rattle.prolly_build.specs.Built.{IsBuilt, IsUnmade, AreKept, IsAnswer, IsRefusal, IsWriterFault};
+ghost use Rattle.prolly_build.specs.Built.{IsBegun, IsBuilt, IsUnmade, AreKept, IsAnswer, IsRefusal, IsWriterFault};
 
 use crate::config::Config;
 use crate::finishing::finish;
@@ -56,6 +56,9 @@ fn run_in<
         (record { is_keeping = W.is_keeping sink.new; taken = W.taken sink.new; failures = W.failures sink.new }) ran.wrote) }
     ensures staged { IfOk result (λ ran. HasStaged S.is_honest S.left S.failures config (vec_len rings.events) sources.old.items sources.new.items ran.out.items ran.out.end ran.pairs) }
     ensures refused { IfErr result (λ halt. halt ≡ NoThread → sink.new ≡ sink.old) }
+    ensures begun { IfErr result (λ halt. IsBegun config
+        (record { is_keeping = W.is_keeping sink.old; taken = W.taken sink.old; failures = W.failures sink.old })
+        (record { is_keeping = W.is_keeping sink.new; taken = W.taken sink.new; failures = W.failures sink.new })) }
 {
     let Rings {
         last,
@@ -100,6 +103,9 @@ fn run_workers<R: Wait + Threads + Sync, S: Source + Send + Drop, W: Sink, G: Ga
     ensures unmade { IfErr result (λ fault. IsWriterFault fault → IsUnmade S.is_honest S.left S.failures config sources.old.items sources.new.items
         (record { is_keeping = W.is_keeping sink.old; taken = W.taken sink.old; failures = W.failures sink.old })
         (record { is_keeping = W.is_keeping sink.new; taken = W.taken sink.new; failures = W.failures sink.new }) fault) }
+    ensures begun { IfErr result (λ fault. fault ≢ Write → IsBegun config
+        (record { is_keeping = W.is_keeping sink.old; taken = W.taken sink.old; failures = W.failures sink.old })
+        (record { is_keeping = W.is_keeping sink.new; taken = W.taken sink.new; failures = W.failures sink.new })) }
     ensures err { IfErr result (IsRefusal (sink.new ≡ sink.old) (AreKept S.is_honest S.left S.failures sources.old.items sources.new.items)) }
 {
     let mut lent = mem::replace(sources, Vec::new(alloc));
@@ -114,6 +120,9 @@ fn run_workers<R: Wait + Threads + Sync, S: Source + Send + Drop, W: Sink, G: Ga
                 (record { is_keeping = W.is_keeping result.2.now; taken = W.taken result.2.now; failures = W.failures result.2.now }) ran.wrote) }
             ensures staged { IfOk result.0 (λ ran. HasStaged S.is_honest S.left S.failures config (vec_len rings.events) lent.items result.1.items ran.out.items ran.out.end ran.pairs) }
             ensures refused { IfErr result.0 (λ halt. halt ≡ NoThread → result.2.now ≡ sink.entry.now) }
+            ensures begun { IfErr result.0 (λ halt. IsBegun config
+                (record { is_keeping = W.is_keeping sink.entry.now; taken = W.taken sink.entry.now; failures = W.failures sink.entry.now })
+                (record { is_keeping = W.is_keeping result.2.now; taken = W.taken result.2.now; failures = W.failures result.2.now })) }
             ensures same { result.2.ghost_name ≡ sink.entry.ghost_name }
         {
             let ran = run_in(
@@ -172,6 +181,9 @@ pub fn build_with<R: Wait + Threads + Sync, S: Source + Send + Drop, W: Sink, G:
     ensures unmade { IfErr result (λ fault. IsWriterFault fault → IsUnmade S.is_honest S.left S.failures config.now sources.old.items sources.new.items
         (record { is_keeping = W.is_keeping sink.old; taken = W.taken sink.old; failures = W.failures sink.old })
         (record { is_keeping = W.is_keeping sink.new; taken = W.taken sink.new; failures = W.failures sink.new }) fault) }
+    ensures begun { IfErr result (λ fault. fault ≢ Write → IsBegun config.now
+        (record { is_keeping = W.is_keeping sink.old; taken = W.taken sink.old; failures = W.failures sink.old })
+        (record { is_keeping = W.is_keeping sink.new; taken = W.taken sink.new; failures = W.failures sink.new })) }
     ensures err { IfErr result (λ fault. IsAnswer (sink.new ≡ sink.old) (AreKept S.is_honest S.left S.failures sources.old.items sources.new.items) fault) }
 {
     if sources.len() > FILES_LIMIT {
@@ -201,6 +213,9 @@ pub fn build<R: Wait + Threads + Sync, S: Source + Send + Drop, W: Sink, G: Gate
     ensures unmade { IfErr result (λ fault. IsWriterFault fault → IsUnmade S.is_honest S.left S.failures config.now sources.old.items sources.new.items
         (record { is_keeping = W.is_keeping sink.old; taken = W.taken sink.old; failures = W.failures sink.old })
         (record { is_keeping = W.is_keeping sink.new; taken = W.taken sink.new; failures = W.failures sink.new }) fault) }
+    ensures begun { IfErr result (λ fault. fault ≢ Write → IsBegun config.now
+        (record { is_keeping = W.is_keeping sink.old; taken = W.taken sink.old; failures = W.failures sink.old })
+        (record { is_keeping = W.is_keeping sink.new; taken = W.taken sink.new; failures = W.failures sink.new })) }
     ensures err { IfErr result (λ fault. IsAnswer (sink.new ≡ sink.old) (AreKept S.is_honest S.left S.failures sources.old.items sources.new.items) fault) }
 {
     build_with(rt, alloc, config, sources, sink, gate, &AllStart)

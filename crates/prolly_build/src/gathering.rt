@@ -1,6 +1,7 @@
 //! The last merger, and all workers below it.
 ghost use Rattle.std.specs.Prelude.{◌≡◌, ◌+◌, ◌<◌, ◌≤◌, [], All, map, vec_len, vec_capacity, IsTrue, IfOk, IfErr};
 ghost use Rattle.prolly_link.specs.Receipts.{HasEnded};
+ghost use Rattle.prolly_build.specs.Built.{IsBegun};
 ghost use Rattle.prolly_build.specs.Writing.{Sunk};
 ghost use Rattle.prolly_build.specs.Ran.{IsWritten, IsUnsent, IsUnread};
 ghost use Rattle.prolly_build.specs.Merging.{received_input, sent_input};
@@ -74,6 +75,7 @@ fn all_have_met<R: Wait>(
 }
 
 /// Starts the last merger, then all workers below it, writes, joins them, and meets their links.
+#[tactic(auto, using(crate::proofs::RanSteps::nothing_begun))]
 pub(crate) fn gather<
     's,
     E,
@@ -100,6 +102,9 @@ pub(crate) fn gather<
     ensures gathered { IfOk result (λ gathered. IsGathered S.is_honest S.left S.failures site.now.config.max_records
         sources.old.items sources.new.items gathered.out.items gathered.out.end gathered.pairs) }
     ensures refused { IfErr result (λ halt. halt ≡ NoThread → sink.new ≡ sink.old) }
+    ensures begun { IfErr result (λ halt. IsBegun site.now.config
+        (record { is_keeping = W.is_keeping sink.old; taken = W.taken sink.old; failures = W.failures sink.old })
+        (record { is_keeping = W.is_keeping sink.new; taken = W.taken sink.new; failures = W.failures sink.new })) }
 {
     let Feed {
         files: _,

@@ -1,5 +1,6 @@
 //! The tree of mergers of two, and the loaders below it.
 ghost use Rattle.std.specs.Prelude.{◌≡◌, ◌+◌, ◌<◌, ◌≤◌, [], All, vec_len, vec_capacity, IfOk, IfErr, OnOk};
+ghost use Rattle.prolly_build.specs.Built.{IsBegun};
 ghost use Rattle.prolly_build.specs.Writing.{Sunk};
 ghost use Rattle.prolly_build.specs.Ran.{IsWritten, IsUnsent};
 ghost use Rattle.prolly_build.specs.Feeding.{IsFed};
@@ -31,6 +32,7 @@ pub(crate) struct Fork {
 
 /// Starts a merger of two for each fork, the last one first, then loads and writes, joins the mergers, and
 /// meets the links into them. The outputs are those that feed the last merger.
+#[tactic(auto, using(crate::proofs::RanSteps::nothing_begun))]
 pub(crate) fn merge_tree<
     's,
     E,
@@ -59,6 +61,9 @@ pub(crate) fn merge_tree<
         (record { is_keeping = W.is_keeping sink.new; taken = W.taken sink.new; failures = W.failures sink.new })) }
     ensures fed { OnOk result (IsFed S.is_honest S.left S.failures site.now.config.max_records sources.old.items sources.new.items outs.items closed.new.items) }
     ensures refused { IfErr result (λ halt. halt ≡ NoThread → sink.new ≡ sink.old) }
+    ensures begun { IfErr result (λ halt. IsBegun site.now.config
+        (record { is_keeping = W.is_keeping sink.old; taken = W.taken sink.old; failures = W.failures sink.old })
+        (record { is_keeping = W.is_keeping sink.new; taken = W.taken sink.new; failures = W.failures sink.new })) }
 {
     let mut forks = forks;
     let mut outs = outs;

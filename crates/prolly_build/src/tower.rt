@@ -1,5 +1,6 @@
 //! The stages, one above the other, and all workers below them.
 ghost use Rattle.std.specs.Prelude.{◌≡◌, ◌<◌, ◌≤◌, [], vec_len, IfOk, IfErr};
+ghost use Rattle.prolly_build.specs.Built.{IsBegun};
 ghost use Rattle.prolly_build.specs.Writing.{Sunk};
 ghost use Rattle.prolly_build.specs.Ran.{IsWritten};
 ghost use Rattle.prolly_build.specs.Staging.{HasStaged};
@@ -30,6 +31,7 @@ pub(crate) struct Ran {
 }
 
 /// Starts the stage of the leaves, then all workers below it, writes, joins it, and meets the link into it.
+#[tactic(auto, using(crate::proofs::RanSteps::nothing_begun))]
 fn run_from_leaves<
     's,
     E,
@@ -56,6 +58,9 @@ fn run_from_leaves<
         (record { is_keeping = W.is_keeping sink.new; taken = W.taken sink.new; failures = W.failures sink.new }) ran.wrote) }
     ensures staged { IfOk result (λ ran. HasStaged S.is_honest S.left S.failures site.now.config 0 sources.old.items sources.new.items ran.out.items ran.out.end ran.pairs) }
     ensures refused { IfErr result (λ halt. halt ≡ NoThread → sink.new ≡ sink.old) }
+    ensures begun { IfErr result (λ halt. IsBegun site.now.config
+        (record { is_keeping = W.is_keeping sink.old; taken = W.taken sink.old; failures = W.failures sink.old })
+        (record { is_keeping = W.is_keeping sink.new; taken = W.taken sink.new; failures = W.failures sink.new })) }
 {
     let NewLink { sender, receiver } = pairs;
     if !site.permit.may_start(Worker::Stage(0)) {
@@ -90,6 +95,7 @@ fn run_from_leaves<
 /// Starts a stage of nodes for each link, the highest one first, then all workers below them, writes, joins
 /// the stages, and meets the links into them. The output is that of the highest stage, whose level is the
 /// number of the links.
+#[tactic(auto, using(crate::proofs::RanSteps::nothing_begun))]
 pub(crate) fn run_from_top<
     's,
     E,
@@ -118,6 +124,9 @@ pub(crate) fn run_from_top<
         (record { is_keeping = W.is_keeping sink.new; taken = W.taken sink.new; failures = W.failures sink.new }) ran.wrote) }
     ensures staged { IfOk result (λ ran. HasStaged S.is_honest S.left S.failures site.now.config (vec_len events) sources.old.items sources.new.items ran.out.items ran.out.end ran.pairs) }
     ensures refused { IfErr result (λ halt. halt ≡ NoThread → sink.new ≡ sink.old) }
+    ensures begun { IfErr result (λ halt. IsBegun site.now.config
+        (record { is_keeping = W.is_keeping sink.old; taken = W.taken sink.old; failures = W.failures sink.old })
+        (record { is_keeping = W.is_keeping sink.new; taken = W.taken sink.new; failures = W.failures sink.new })) }
 {
     let mut events = events;
     let Some(link) = events.pop() else {

@@ -1,8 +1,9 @@
-use Rattle.std.proofs.Common.{◌≡◌, ap, sym, subst, ◌∙◌, arith, IfOk, IfErr, OnOk}
+use Rattle.std.proofs.Common.{◌≡◌, ◌≢◌, ap, sym, subst, ◌∙◌, arith, IfOk, IfErr, OnOk}
 use Rattle.std.proofs.lemmas.Result.{IfErr-weaker}
 use Rattle.prolly_entry.specs.Overlay.{overlay}
 use Rattle.prolly_link.specs.declared.fault.End.TheVariants.{Clean}
-use Rattle.prolly_build.specs.Built.{IsBuilt, IsUnmade, IsWriterFault}
+use Rattle.prolly_link.specs.declared.fault.RunFault.TheVariants.{Write}
+use Rattle.prolly_build.specs.Built.{IsBegun, IsBuilt, IsUnmade, IsWriterFault}
 use Rattle.prolly_build.proofs.Makings.{at_ok, at_err, if_ok, if_ok_any}
 use Rattle.prolly_build.proofs.Runs.{lent_run, built, not_built, finished_refusal, halted_refusal, halted_unmade}
 use Rattle.prolly_build.proofs.driver.run_workers.Goals as goal
@@ -31,7 +32,7 @@ returns-in-Ok-clause-ok g c =
     let written = at_ok _ _ _ c.in-Ok.is c.scoped-ran.ensures.1.1.0 in
     let clean : OnOk c.finish.result (c.in-Ok.ran.out.end ≡ Clean) = c.finish.ensures.clean in
     let made = if_ok c.finish.result _ _ _ (λ clean report file. built r.goods (r.read clean) file) clean (c.finish.ensures.ok (overlay r.goods) _ r.run written.written) in
-    let back = c.sink-1.given.1 (sym c.scoped-ran.ensures.1.1.1.1.1) in
+    let back = c.sink-1.given.1 (sym c.scoped-ran.ensures.1.1.1.1.1.1) in
     subst (λ (w : g.row.W.Denot). IfOk c.finish.result (IsBuilt g.S.Source.is_honest g.S.Source.left g.S.Source.failures c.args.config c.args.sources.now.items c.scoped-ran.result.1.items
     (record { is_keeping = g.W.Sink.is_keeping c.args.sink.now; taken = g.W.Sink.taken c.args.sink.now; failures = g.W.Sink.failures c.args.sink.now })
     (record { is_keeping = g.W.Sink.is_keeping w; taken = g.W.Sink.taken w; failures = g.W.Sink.failures w }))) (sym back) made
@@ -51,7 +52,7 @@ returns-in-Ok-clause-err g c =
 pub returns-in-Err-clause-err : goal.returns-in-Err-clause-err
 returns-in-Err-clause-err g c =
     let e = at_err _ _ _ c.in-Err.is c.scoped-ran.ensures.1.1.1.1.0 in
-    let back = c.in-Err.sink-in-Err-1-own.given.1 (sym c.scoped-ran.ensures.1.1.1.1.1) in
+    let back = c.in-Err.sink-in-Err-1-own.given.1 (sym c.scoped-ran.ensures.1.1.1.1.1.1) in
     halted_refusal c.in-Err.halt c.fault.result c.fault.ensures (λ n. back ∙ e n)
 
 pub returns-in-Ok-clause-unmade : goal.returns-in-Ok-clause-unmade
@@ -60,10 +61,18 @@ returns-in-Ok-clause-unmade g c =
     (at_ok _ _ _ c.in-Ok.is c.scoped-ran.ensures.1.1.1.0) in
     let written = at_ok _ _ _ c.in-Ok.is c.scoped-ran.ensures.1.1.0 in
     let unmade = IfErr-weaker c.finish.result _ _ (λ fault h w. not_built r.goods (r.read (h w).0) (h w).1) (c.finish.ensures.unmade (overlay r.goods) _ r.run written.written) in
-    let back = c.sink-1.given.1 (sym c.scoped-ran.ensures.1.1.1.1.1) in
+    let back = c.sink-1.given.1 (sym c.scoped-ran.ensures.1.1.1.1.1.1) in
     subst (λ (w : g.row.W.Denot). IfErr c.finish.result (λ fault. IsWriterFault fault → IsUnmade g.S.Source.is_honest g.S.Source.left g.S.Source.failures c.args.config c.args.sources.now.items c.scoped-ran.result.1.items
     (record { is_keeping = g.W.Sink.is_keeping c.args.sink.now; taken = g.W.Sink.taken c.args.sink.now; failures = g.W.Sink.failures c.args.sink.now })
     (record { is_keeping = g.W.Sink.is_keeping w; taken = g.W.Sink.taken w; failures = g.W.Sink.failures w }) fault)) (sym back) unmade
 
 pub returns-in-Err-clause-unmade : goal.returns-in-Err-clause-unmade
 returns-in-Err-clause-unmade g c = λ w. absurd (halted_unmade c.in-Err.halt c.fault.result c.fault.ensures w)
+
+pub returns-in-Ok-clause-begun : goal.returns-in-Ok-clause-begun
+returns-in-Ok-clause-begun g c =
+    let written = at_ok _ _ _ c.in-Ok.is c.scoped-ran.ensures.1.1.0 in
+    let back = c.sink-1.given.1 (sym c.scoped-ran.ensures.1.1.1.1.1.1) in
+    subst (λ (w : g.row.W.Denot). IfErr c.finish.result (λ fault. fault ≢ Write → IsBegun c.args.config
+    (record { is_keeping = g.W.Sink.is_keeping c.args.sink.now; taken = g.W.Sink.taken c.args.sink.now; failures = g.W.Sink.failures c.args.sink.now })
+    (record { is_keeping = g.W.Sink.is_keeping w; taken = g.W.Sink.taken w; failures = g.W.Sink.failures w }))) (sym back) (c.finish.ensures.begun _ written.written)

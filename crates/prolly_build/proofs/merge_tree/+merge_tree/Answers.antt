@@ -4,6 +4,7 @@ use Rattle.prolly_entry.specs.Record.{Record}
 use Rattle.prolly_link.specs.Views.{Batching, Whole}
 use Rattle.prolly_build.specs.Ran.{IsUnsent}
 use Rattle.prolly_build.proofs.ForkSteps.{forked_one, forked_all, forked_maps, same_length}
+use Rattle.prolly_build.proofs.RanSteps.{all_begun}
 use Rattle.prolly_build.proofs.FeedingSteps.{fed_by_loaders, fed_by_merger, merges_met}
 use Rattle.prolly_build.proofs.merge_tree.+merge_tree.Goals as goal
 
@@ -42,3 +43,6 @@ returns-then-right_met-clause-fed g t c =
     (merges_met c.join-left.result.left c.join-left.result.right c.join_at-left_sent.result.0 c.join_at-left_sent.result.1 c.join-left.result.out c.join-left.ensures.merges
     (c.has_met-left_met.ensures c.if-left_met.true c.join-left.ensures.left_ended)
     (c.has_met-right_met.ensures c.if-right_met.true c.join-left.ensures.right_ended))
+
+pub returns-else-left_met-clause-begun : goal.returns-else-left_met-clause-begun
+returns-else-left_met-clause-begun g t c = all_begun c.args.site.now.config _ _ _ _ c.in-Ok.ensures.written

@@ -1,4 +1,5 @@
 use Rattle.std.proofs.Common.{◌∙◌, vec_len, arith}
+use Rattle.prolly_build.proofs.RanSteps.{all_begun}
 use Rattle.prolly_build.proofs.StagingSteps.{nodes_staged}
 use Rattle.prolly_build.proofs.tower.+run_from_top.Goals as goal
 
@@ -11,3 +12,6 @@ returns-then-has_met-clause-staged g t c =
     (c.in-Some-start_nodes.ensures.cut.0 ∙ c.cut-cut.ensures) (c.in-Some-start_nodes.ensures.cut.1 ∙ c.version-version.ensures)
     _ _ c.join-input.result.input c.join-input.result.out c.in-Ok.ran.out c.in-Ok.ensures.staged c.join-input.ensures
     (c.has_met.ensures c.if-has_met.true c.join-input.ensures.has_ended)
+
+pub returns-else-has_met-clause-begun : goal.returns-else-has_met-clause-begun
+returns-else-has_met-clause-begun g t c = all_begun c.args.site.now.config _ _ _ _ c.in-Ok.ensures.written

@@ -1,4 +1,5 @@
 use Rattle.std.proofs.Common.{ap, ◌∙◌, sym}
+use Rattle.prolly_build.proofs.RanSteps.{all_begun}
 use Rattle.prolly_build.proofs.StagingSteps.{leaves_staged}
 use Rattle.prolly_build.proofs.tower.run_from_leaves.Goals as goal
 
@@ -17,3 +18,6 @@ returns-then-has_met-clause-staged g c =
     let stage = c.join-input.ensures c.args.site.now.config.version in
     leaves_staged g.S.Source.is_honest g.S.Source.left g.S.Source.failures c.args.site.now.config _ _ _ _ (c.in-Some.ensures.cut ∙ c.cut-cut.ensures)
     _ _ c.join-input.result.input c.join-input.result.out c.in-Ok.gathered.out c.in-Ok.ensures.gathered stage (c.has_met.ensures c.if-has_met.true stage.has_ended)
+
+pub returns-else-has_met-clause-begun : goal.returns-else-has_met-clause-begun
+returns-else-has_met-clause-begun g c = all_begun c.args.site.now.config _ _ _ _ c.in-Ok.ensures.written
