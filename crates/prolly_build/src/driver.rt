@@ -154,9 +154,9 @@ fn run_workers<R: Wait + Threads + Sync, S: Source + Send + Drop, W: Sink, G: Ga
 /// - `Write`, where the sink failed.
 /// - `TooTall`, where the tree has more levels than there are stages.
 ///
-/// After a fault the sink holds the beginning of a file, with no end record. After every answer but
-/// `NoThread` and `Lost` the sources are there in their order, each as its loader left it; after those two
-/// some may be gone.
+/// After a fault the sink holds the beginning of a file, and nothing of its end record; after `Write` that
+/// may have been begun. After every answer but `NoThread` and `Lost` the sources are there in their order,
+/// each as its loader left it; after those two some may be gone.
 ///
 /// Before a worker sends an item `gate` is asked, and before a worker is started `permit`.
 ///
