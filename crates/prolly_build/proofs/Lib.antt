@@ -10,3 +10,6 @@ pub mod Mergings
 pub mod Loads
 pub mod Makings
 pub mod Runs
+pub mod Counted
+pub mod Stops
+pub mod Takings

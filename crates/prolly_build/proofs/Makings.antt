@@ -30,7 +30,7 @@ use Rattle.prolly_build.specs.Writing.{Sunk, HasWritten, HasEnded, IsEndFault, I
 use Rattle.prolly_build.proofs.Tops.{frames_front}
 use Rattle.prolly_build.proofs.WritingSteps.{prefix_on}
 
-at_most_one : (b : Bool) → tops_counted b ≤ 1
+pub at_most_one : (b : Bool) → tops_counted b ≤ 1
 at_most_one true = omega arith
 at_most_one false = omega arith
 

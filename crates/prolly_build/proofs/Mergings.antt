@@ -27,7 +27,7 @@ fault_is_clean f e = cc
 none_is_some : (f : RunFault) → None ≡ Some f → ⊥
 none_is_some f e = cc
 
-fault_of_end_of : (f : Option RunFault) → fault_of (end_of f) ≡ f
+pub fault_of_end_of : (f : Option RunFault) → fault_of (end_of f) ≡ f
 fault_of_end_of None = refl
 fault_of_end_of (Some f) = refl
 
@@ -56,11 +56,11 @@ sent_rises left right sent end merges rising = go (merges rising)
 
 -- ---- all inputs
 
-all_front : (P : Input RunFault → Type 0) (xs ys : Inputs) → AllByRecursion P (xs ++ ys) → AllByRecursion P xs × AllByRecursion P ys
+pub all_front : (P : Input RunFault → Type 0) (xs ys : Inputs) → AllByRecursion P (xs ++ ys) → AllByRecursion P xs × AllByRecursion P ys
 all_front P [] ys h = (tt, h)
 all_front P (x ∷ xs) ys h = let k = all_front P xs ys h.1 in ((h.0, k.0), k.1)
 
-all_both : (P : Input RunFault → Type 0) (xs ys : Inputs) → AllByRecursion P xs → AllByRecursion P ys → AllByRecursion P (xs ++ ys)
+pub all_both : (P : Input RunFault → Type 0) (xs ys : Inputs) → AllByRecursion P xs → AllByRecursion P ys → AllByRecursion P (xs ++ ys)
 all_both P [] ys h k = k
 all_both P (x ∷ xs) ys h k = (h.0, all_both P xs ys h.1 k)
 

@@ -30,7 +30,7 @@ nothing_begun settings old = record {
   taken = λ k. record { part = []; grown = sym (nil_behind old.taken); is_prefix = (frames_of (header settings.version settings.bits) [], refl) };
 }
 
-all_taken : {old new wanted : List ℕ} → new ≡ old ++ wanted → TakesPrefix old new wanted
+pub all_taken : {old new wanted : List ℕ} → new ≡ old ++ wanted → TakesPrefix old new wanted
 all_taken {wanted} h = record { part = wanted; grown = h; is_prefix = ([], sym (nil_behind wanted)) }
 
 -- a sink that the writer wrote to

@@ -1,8 +1,8 @@
 -- What the workers of a build sent, seen from the sources.
-use Rattle.std.proofs.Common.{◌≡◌, ◌≤◌, ◌+◌, ◌-◌, ℕ, Bool, List, [], map, length, inl, inr, refl, ap, sym, subst, ◌∙◌, arith}
+use Rattle.std.proofs.Common.{◌≡◌, ◌≢◌, ◌≤◌, ◌<◌, ◌+◌, ◌-◌, ◌^◌, ℕ, Bool, List, [], map, length, inl, inr, refl, ap, sym, subst, ◌∙◌, arith}
 use Rattle.prolly_entry.specs.Chunk.{Chunk}
 use Rattle.prolly_entry.specs.Cut.{sha512_cut}
-use Rattle.prolly_entry.specs.Events.{Closing, clean}
+use Rattle.prolly_entry.specs.Events.{Closing, clean, faulty}
 use Rattle.prolly_entry.specs.Merge.{merged_part}
 use Rattle.prolly_entry.specs.Overlay.{overlay}
 use Rattle.prolly_entry.specs.Pair.{Pair}
@@ -20,6 +20,7 @@ use Rattle.prolly_merge.specs.Inputs.{fault_of, lists_of}
 use Rattle.prolly_merge.specs.Sent.{Counts}
 use Rattle.prolly_stage.specs.Sends.{Sends, closing_of}
 use Rattle.prolly_build.specs.Built.{AreRead, AreKept, IsBuilt, IsFileOf, IsUnmade, IsUnmadeOf, IsRunOf, IsInputFault, IsInputEnd, IsStartFault, IsWriterFault, IsRefusal}
+use Rattle.prolly_build.specs.Stopped.{IsFileFault, IsStopped, TookBegun}
 use Rattle.prolly_build.specs.declared.report.Report.{Report}
 use Rattle.prolly_build.specs.Writing.{Sunk}
 use Rattle.prolly_build.specs.Gathering.{IsGathered}
@@ -27,6 +28,7 @@ use Rattle.prolly_build.specs.Merging.{MergesAll, sent_input}
 use Rattle.prolly_build.specs.Settings.{Settings, AreLawful}
 use Rattle.prolly_build.specs.Staging.{HasStaged}
 use Rattle.prolly_build.proofs.Loads.{all_rise, all_only, all_kept, all_read, all_few}
+use Rattle.prolly_build.proofs.Stops.{IsStoppedRun}
 use Rattle.prolly_build.proofs.Mergings.{IfFault, clean_pairs, joined_rises, joined_only, rises_all, sends_only}
 
 -- an end whose fault is one of the input's
@@ -150,6 +152,20 @@ no_thread_is_no_count e = cc
 
 lost_is_no_count : Lost ≡ TooManyFiles → ⊥
 lost_is_no_count e = cc
+
+-- why the fault of a file is named
+pub stopped : {S : Type 0} {is_honest : S → Bool} {left : S → List ℕ} {failures : S → ℕ} {settings : Settings} {before after : List S} {old new : Sunk} {count : ℕ}
+    {events : List Chunk} (fault : RunFault) → IsFileFault fault → (fault ≢ Memory → IsStoppedRun is_honest left failures settings before after count events fault) →
+    ((p : List Pair) → length p < 2 ^ 64 → events ≡ pipeline_events (settings.stages - 1) (sha512_cut settings.bits) settings.version faulty p → TookBegun settings p old new) →
+    IsStopped is_honest left failures settings before after old new fault
+stopped fault file run took =
+    let h = run (λ e. subst IsFileFault e file) in
+    record { inputs = h.inputs; count_for = h.count_for; named = h.named; took = took (merged_part h.inputs) h.few h.sent }
+
+-- a halt is no fault of a file
+pub halted_unstopped : (halt : Halt) (fault : RunFault) → IsHaltFault halt fault → IsFileFault fault → ⊥
+halted_unstopped NoThread_halt fault is f = subst IsFileFault is f
+halted_unstopped Lost_halt fault is f = subst IsFileFault is f
 
 -- a halt is no fault of the writer
 pub halted_unmade : (halt : Halt) (fault : RunFault) → IsHaltFault halt fault → IsWriterFault fault → ⊥

@@ -8,3 +8,4 @@ pub mod Feeding
 pub mod Gathering
 pub mod Staging
 pub mod Built
+pub mod Stopped

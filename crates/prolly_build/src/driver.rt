@@ -7,6 +7,7 @@ ghost use Rattle.prolly_build.specs.Ran.{IsWritten};
 ghost use Rattle.prolly_build.specs.Staging.{HasStaged};
 ghost use Rattle.prolly_build.specs.declared.halt.Halt.TheVariants.{NoThread};
 ghost use Rattle.prolly_build.specs.Built.{IsBegun, IsBuilt, IsUnmade, AreKept, IsAnswer, IsRefusal, IsWriterFault};
+ghost use Rattle.prolly_build.specs.Stopped.{AreHonest, IsFileFault, IsStopped};
 
 use crate::config::Config;
 use crate::finishing::finish;
@@ -106,6 +107,9 @@ fn run_workers<R: Wait + Threads + Sync, S: Source + Send + Drop, W: Sink, G: Ga
     ensures begun { IfErr result (λ fault. fault ≢ Write → IsBegun config
         (record { is_keeping = W.is_keeping sink.old; taken = W.taken sink.old; failures = W.failures sink.old })
         (record { is_keeping = W.is_keeping sink.new; taken = W.taken sink.new; failures = W.failures sink.new })) }
+    ensures stopped { IfErr result (λ fault. IsFileFault fault → AreHonest S.is_honest S.left S.failures sources.old.items → IsStopped S.is_honest S.left S.failures config sources.old.items sources.new.items
+        (record { is_keeping = W.is_keeping sink.old; taken = W.taken sink.old; failures = W.failures sink.old })
+        (record { is_keeping = W.is_keeping sink.new; taken = W.taken sink.new; failures = W.failures sink.new }) fault) }
     ensures err { IfErr result (IsRefusal (sink.new ≡ sink.old) (AreKept S.is_honest S.left S.failures sources.old.items sources.new.items)) }
 {
     let mut lent = mem::replace(sources, Vec::new(alloc));
@@ -184,6 +188,9 @@ pub fn build_with<R: Wait + Threads + Sync, S: Source + Send + Drop, W: Sink, G:
     ensures begun { IfErr result (λ fault. fault ≢ Write → IsBegun config.now
         (record { is_keeping = W.is_keeping sink.old; taken = W.taken sink.old; failures = W.failures sink.old })
         (record { is_keeping = W.is_keeping sink.new; taken = W.taken sink.new; failures = W.failures sink.new })) }
+    ensures stopped { IfErr result (λ fault. IsFileFault fault → AreHonest S.is_honest S.left S.failures sources.old.items → IsStopped S.is_honest S.left S.failures config.now sources.old.items sources.new.items
+        (record { is_keeping = W.is_keeping sink.old; taken = W.taken sink.old; failures = W.failures sink.old })
+        (record { is_keeping = W.is_keeping sink.new; taken = W.taken sink.new; failures = W.failures sink.new }) fault) }
     ensures err { IfErr result (λ fault. IsAnswer (sink.new ≡ sink.old) (AreKept S.is_honest S.left S.failures sources.old.items sources.new.items) fault) }
 {
     if sources.len() > FILES_LIMIT {
@@ -216,6 +223,9 @@ pub fn build<R: Wait + Threads + Sync, S: Source + Send + Drop, W: Sink, G: Gate
     ensures begun { IfErr result (λ fault. fault ≢ Write → IsBegun config.now
         (record { is_keeping = W.is_keeping sink.old; taken = W.taken sink.old; failures = W.failures sink.old })
         (record { is_keeping = W.is_keeping sink.new; taken = W.taken sink.new; failures = W.failures sink.new })) }
+    ensures stopped { IfErr result (λ fault. IsFileFault fault → AreHonest S.is_honest S.left S.failures sources.old.items → IsStopped S.is_honest S.left S.failures config.now sources.old.items sources.new.items
+        (record { is_keeping = W.is_keeping sink.old; taken = W.taken sink.old; failures = W.failures sink.old })
+        (record { is_keeping = W.is_keeping sink.new; taken = W.taken sink.new; failures = W.failures sink.new }) fault) }
     ensures err { IfErr result (λ fault. IsAnswer (sink.new ≡ sink.old) (AreKept S.is_honest S.left S.failures sources.old.items sources.new.items) fault) }
 {
     build_with(rt, alloc, config, sources, sink, gate, &AllStart)

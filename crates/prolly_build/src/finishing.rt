@@ -1,13 +1,17 @@
 //! What a build does once its workers have been joined.
-ghost use Rattle.std.specs.Prelude.{◌≡◌, ◌≢◌, ◌-◌, ℕ, List, IfOk, IfErr, OnOk};
+ghost use Rattle.std.specs.Prelude.{◌≡◌, ◌≢◌, ◌-◌, ◌<◌, ◌^◌, ℕ, List, length, IfOk, IfErr, OnOk};
+ghost use Rattle.prolly_entry.specs.Cut.{sha512_cut};
+ghost use Rattle.prolly_entry.specs.Events.{faulty};
 ghost use Rattle.prolly_entry.specs.File.{header};
 ghost use Rattle.prolly_entry.specs.Pair.{Pair as PairValue};
+ghost use Rattle.prolly_entry.specs.Pipeline.{pipeline_events};
 ghost use Rattle.prolly_link.specs.Receipts.{HasEnded, end_given};
-ghost use Rattle.prolly_link.specs.declared.fault.End.TheVariants.{Clean};
+ghost use Rattle.prolly_link.specs.declared.fault.End.TheVariants.{Clean, Fault};
 ghost use Rattle.prolly_link.specs.declared.fault.RunFault.TheVariants.{Write};
 ghost use Rattle.prolly_build.specs.Settings.{AreLawful};
 ghost use Rattle.prolly_build.specs.Writing.{Sunk, HasWritten};
 ghost use Rattle.prolly_build.specs.Built.{IsBegun, IsRunOf, IsFileOf, IsUnmadeOf, IsInputEnd, IsStartFault, IsWriterFault};
+ghost use Rattle.prolly_build.specs.Stopped.{IsFileFault, TookBegun};
 
 use crate::config::Config;
 use crate::ending::end_build;
@@ -48,6 +52,11 @@ pub(crate) fn finish<R: Wait, W: Sink>(
         (record { is_keeping = W.is_keeping sink.old; taken = W.taken sink.old; failures = W.failures sink.old }) ran.wrote.written →
         IfErr result (λ fault. fault ≢ Write
         → IsBegun config old (record { is_keeping = W.is_keeping sink.new; taken = W.taken sink.new; failures = W.failures sink.new })) }
+    ensures stopped { (old : Sunk) → HasWritten (header config.version config.bits) (config.stages - 1) ran.wrote.last.items old
+        (record { is_keeping = W.is_keeping sink.old; taken = W.taken sink.old; failures = W.failures sink.old }) ran.wrote.written →
+        IfErr result (λ fault. IsFileFault fault → (ran.out.end ≡ Fault fault) × ((p : List PairValue) → length p < 2 ^ 64 →
+        ran.out.items ≡ pipeline_events (config.stages - 1) (sha512_cut config.bits) config.version faulty p →
+        TookBegun config p old (record { is_keeping = W.is_keeping sink.new; taken = W.taken sink.new; failures = W.failures sink.new }))) }
     ensures err { IfErr result (λ fault. IsStartFault fault → ⊥) }
 {
     let Ran { out, pairs, wrote } = ran;

@@ -21,14 +21,14 @@ lt_less Greater h = absurd (false≢true h)
 is_below : (x y : List ℕ) → is_lt (key_order x y) ≡ true → KeyBelow x y
 is_below x y h = lt_less (key_order x y) h
 
-before_trans : (p q r : Position) → is_before p q ≡ true → is_before q r ≡ true → is_before p r ≡ true
+pub before_trans : (p q r : Position) → is_before p q ≡ true → is_before q r ≡ true → is_before p r ≡ true
 before_trans p q None h k = k
 before_trans None q (Some z) h k = refl
 before_trans (Some x) None (Some z) h k = absurd (false≢true h)
 before_trans (Some x) (Some y) (Some z) h k = ap is_lt (order_trans x y z (is_below x y h) (is_below y z k))
 
 -- what is before p is before what is not before p
-before_weak : (p q r : Position) → is_before r p ≡ true → is_before q p ≡ false → is_before r q ≡ true
+pub before_weak : (p q r : Position) → is_before r p ≡ true → is_before q p ≡ false → is_before r q ≡ true
 before_weak None q r h k = absurd (false≢true (sym (never r) ∙ h))
   where
     never : (r : Position) → is_before r None ≡ false
@@ -43,7 +43,7 @@ before_weak (Some x) (Some y) (Some z) h k = go (key_order y x) refl
     go Greater e = ap is_lt (order_trans z x y (is_below z x h) (greater_below y x e))
 
 module _ {F : Type 0} where
-  earlier_none : (s : Option (Stop F)) → earlier_stop s None ≡ s
+  pub earlier_none : (s : Option (Stop F)) → earlier_stop s None ≡ s
   earlier_none None = refl
   earlier_none (Some s) = refl
 
@@ -63,7 +63,7 @@ module _ {F : Type 0} where
       go false false false e f g = rw (g, e) refl
 
   -- up to the earlier_stop one is up to both
-  within_earlier : (s t : Option (Stop F)) (key : List ℕ) → is_within (earlier_stop s t) key ≡ (is_within s key && is_within t key)
+  pub within_earlier : (s t : Option (Stop F)) (key : List ℕ) → is_within (earlier_stop s t) key ≡ (is_within s key && is_within t key)
   within_earlier None t key = refl
   within_earlier (Some s) None key = sym (and_true (not (is_before s.position (Some key))))
     where
@@ -102,7 +102,7 @@ filter_rising t (r ∷ m) h = go (t r.key) (filter_rising t m h.1)
     go true k = (filter_above t r.key m h.0, k)
     go false k = k
 
-found_filter : (t : List ℕ → Bool) (m : List Record) (key : List ℕ) → change_of (filter (λ r. t r.key) m) key ≡ cond (t key) (change_of m key) None
+pub found_filter : (t : List ℕ → Bool) (m : List Record) (key : List ℕ) → change_of (filter (λ r. t r.key) m) key ≡ cond (t key) (change_of m key) None
 found_filter t [] key = none_both (t key)
   where
     none_both : (b : Bool) → ◌≡◌ {A = Option (Option (List ℕ))} None (cond b None None)
@@ -211,11 +211,11 @@ last_found_append : (xs ys : List (List Record)) (key : List ℕ) → last_chang
 last_found_append [] ys key = sym (or_none (last_change_of ys key))
 last_found_append (l ∷ xs) ys key = ap (λ o. or_else o (change_of l key)) (last_found_append xs ys key) ∙ or_assoc (last_change_of ys key) (last_change_of xs key) (change_of l key)
 
-and_left : (a b : Bool) → (a && b) ≡ true → a ≡ true
+pub and_left : (a b : Bool) → (a && b) ≡ true → a ≡ true
 and_left true b h = refl
 and_left false b h = absurd (false≢true h)
 
-and_right : (a b : Bool) → (a && b) ≡ true → b ≡ true
+pub and_right : (a b : Bool) → (a && b) ≡ true → b ≡ true
 and_right true b h = h
 and_right false b h = absurd (false≢true h)
 

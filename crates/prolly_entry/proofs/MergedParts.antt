@@ -1,9 +1,9 @@
 -- How large overlays are, and that merged parts rise.
-use Rattle.std.proofs.Common.{ℕ, ◌+◌, ◌≤◌, List, [], ◌∷◌, ◌++◌, length, map, Option, Some, None, Ordering, arith}
+use Rattle.std.proofs.Common.{ℕ, ◌+◌, ◌≤◌, List, [], ◌∷◌, ◌++◌, length, map, Bool, true, false, cond, Option, Some, None, Ordering, arith}
 use Rattle.std.specs.declared.cmp.Ordering.TheVariants.{Less, Equal, Greater}
-use Rattle.std.specs.List.{flat_map}
+use Rattle.std.specs.List.{filter, flat_map}
 use Rattle.prolly_entry.specs.Keys.{key_order}
-use Rattle.prolly_entry.specs.Merge.{stop, is_within, raw_merged_part}
+use Rattle.prolly_entry.specs.Merge.{Input, stop, is_within, raw_merged_part, merged_part}
 use Rattle.prolly_entry.specs.MergedParts.{MergedPartRises, OverlayIsSmall}
 use Rattle.prolly_entry.specs.Overlay.{with_record_by, with_record, with_records, raw_overlay, pairs_of_change, pairs_put}
 use Rattle.prolly_entry.specs.Record.{Record}
@@ -44,3 +44,20 @@ overlay_is_small lists =
     let h = few_put (raw_overlay lists) in
     let k = few_records lists in
     omega (arith, h, k)
+
+few_left : (t : Record → Bool) (rs : List Record) → length (filter t rs) ≤ length rs
+few_left t [] = omega arith
+few_left t (r ∷ rs) = go (t r) (few_left t rs)
+  where
+    go : (b : Bool) → length (filter t rs) ≤ length rs → length (cond b (r ∷ filter t rs) (filter t rs)) ≤ length (r ∷ rs)
+    go true h = omega (arith, h)
+    go false h = omega (arith, h)
+
+-- a merged part has at most as many pairs as its inputs have records
+pub merged_part_is_small : (Fault : Type 0) (inputs : List (Input Fault)) →
+    length (merged_part inputs) ≤ length (flat_map (λ records. records) (map (λ i. i.records) inputs))
+merged_part_is_small Fault inputs =
+    let put = few_put (raw_merged_part inputs) in
+    let left = few_left (λ r. is_within (stop inputs) r.key) (raw_overlay (map (λ i. i.records) inputs)) in
+    let all = few_records (map (λ i. i.records) inputs) in
+    omega (arith, put, left, all)

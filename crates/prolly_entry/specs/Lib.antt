@@ -17,6 +17,7 @@ pub mod Overlay
 pub mod RecordList
 pub mod Merge
 pub mod MergedParts
+pub mod CutShort
 pub mod LookUp
 pub mod Split
 pub mod Tree

@@ -1,5 +1,6 @@
 //! Overlays of lists of records, and merging them.
 ghost use Rattle.prolly_entry.specs.Overlay.{OneRawOverlay, OverlayIsMap, DivisionKeepsOverlay, OverlayStep};
+ghost use Rattle.prolly_entry.specs.CutShort.{CutBehindStop};
 ghost use Rattle.prolly_entry.specs.Merge.{NeighboursMergeFirst};
 ghost use Rattle.prolly_entry.specs.MergedParts.{MergedPartRises, OverlayIsSmall};
 
@@ -21,6 +22,11 @@ pub fn divisions_keep_the_overlay()
 /// Two neighbours may be merged first.
 pub fn neighbours_merge_first<Fault>()
     ensures { NeighboursMergeFirst Fault }
+{}
+
+/// Inputs that were cut short behind their stop have the same stop, and the same merged part.
+pub fn cut_inputs_keep_their_stop<Fault>()
+    ensures { CutBehindStop Fault }
 {}
 
 /// An overlay goes on key by key.

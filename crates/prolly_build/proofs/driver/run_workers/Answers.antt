@@ -5,7 +5,9 @@ use Rattle.prolly_link.specs.declared.fault.End.TheVariants.{Clean}
 use Rattle.prolly_link.specs.declared.fault.RunFault.TheVariants.{Write}
 use Rattle.prolly_build.specs.Built.{IsBegun, IsBuilt, IsUnmade, IsWriterFault}
 use Rattle.prolly_build.proofs.Makings.{at_ok, at_err, if_ok, if_ok_any}
-use Rattle.prolly_build.proofs.Runs.{lent_run, built, not_built, finished_refusal, halted_refusal, halted_unmade}
+use Rattle.prolly_build.proofs.Runs.{lent_run, built, not_built, finished_refusal, halted_refusal, halted_unmade, halted_unstopped, stopped}
+use Rattle.prolly_build.proofs.Stops.{lent_stops}
+use Rattle.prolly_build.specs.Stopped.{AreHonest, IsFileFault, IsStopped}
 use Rattle.prolly_build.proofs.driver.run_workers.Goals as goal
 
 pub finish-requires-clause-run : goal.finish-requires-clause-run
@@ -76,3 +78,20 @@ returns-in-Ok-clause-begun g c =
     subst (λ (w : g.row.W.Denot). IfErr c.finish.result (λ fault. fault ≢ Write → IsBegun c.args.config
     (record { is_keeping = g.W.Sink.is_keeping c.args.sink.now; taken = g.W.Sink.taken c.args.sink.now; failures = g.W.Sink.failures c.args.sink.now })
     (record { is_keeping = g.W.Sink.is_keeping w; taken = g.W.Sink.taken w; failures = g.W.Sink.failures w }))) (sym back) (c.finish.ensures.begun _ written.written)
+
+pub returns-in-Ok-clause-stopped : goal.returns-in-Ok-clause-stopped
+returns-in-Ok-clause-stopped g c =
+    let written = at_ok _ _ _ c.in-Ok.is c.scoped-ran.ensures.1.1.0 in
+    let named = IfErr-weaker c.finish.result _ _
+    (λ fault h file honest. stopped fault file
+    (lent_stops g.S.Source.is_honest g.S.Source.left g.S.Source.failures _ _ c.args.sources.now.items c.replace-lent.result.items c.scoped-ran.result.1.items _ c.requires.lawful (omega (arith, c.requires.files, c.args.sources.now.ok.0)) c.requires.levels (ap (λ v. v.items) c.replace-lent.ensures.value) honest _ _ fault
+    (at_ok _ _ _ c.in-Ok.is c.scoped-ran.ensures.1.1.1.0) (h file).0) (h file).1)
+    (c.finish.ensures.stopped _ written.written) in
+    let back = c.sink-1.given.1 (sym c.scoped-ran.ensures.1.1.1.1.1.1) in
+    subst (λ (w : g.row.W.Denot). IfErr c.finish.result (λ fault. IsFileFault fault → AreHonest g.S.Source.is_honest g.S.Source.left g.S.Source.failures c.args.sources.now.items →
+    IsStopped g.S.Source.is_honest g.S.Source.left g.S.Source.failures c.args.config c.args.sources.now.items c.scoped-ran.result.1.items
+    (record { is_keeping = g.W.Sink.is_keeping c.args.sink.now; taken = g.W.Sink.taken c.args.sink.now; failures = g.W.Sink.failures c.args.sink.now })
+    (record { is_keeping = g.W.Sink.is_keeping w; taken = g.W.Sink.taken w; failures = g.W.Sink.failures w }) fault)) (sym back) named
+
+pub returns-in-Err-clause-stopped : goal.returns-in-Err-clause-stopped
+returns-in-Err-clause-stopped g c = λ file. absurd (halted_unstopped c.in-Err.halt c.fault.result c.fault.ensures file)

@@ -1,0 +1,115 @@
+-- What the files of a build count for, by what the loaders sent of them.
+use Rattle.std.proofs.Common.{◌≡◌, ◌≢◌, ◌+◌, ◌⊎◌, ℕ, Bool, true, List, [], ◌∷◌, ◌++◌, All, map, length, Option, Some, None, inl, inr, refl, ap, sym, subst, ◌∙◌}
+use Rattle.prolly_entry.specs.Byte.{IsByte}
+use Rattle.prolly_entry.specs.CutShort.{IsSentOf, AreSentOf}
+use Rattle.prolly_entry.specs.Merge.{Input}
+use Rattle.prolly_entry.specs.Reading.{IsReading}
+use Rattle.prolly_entry.specs.Record.{Record}
+use Rattle.prolly_entry.specs.declared.flaw.Flaw.{Flaw}
+use Rattle.prolly_entry.specs.declared.flaw.Flaw.TheVariants as flaws
+use Rattle.prolly_entry.proofs.Readings.{reading_is}
+use Rattle.prolly_link.specs.Views.{Batching, Whole}
+use Rattle.prolly_link.specs.declared.fault.End.{End}
+use Rattle.prolly_link.specs.declared.fault.End.TheVariants.{Clean, Fault}
+use Rattle.prolly_link.specs.declared.fault.RunFault.{RunFault}
+use Rattle.prolly_link.specs.declared.fault.RunFault.TheVariants as faults
+use Rattle.prolly_load.specs.Fault.{fault_of as fault_of_flaw}
+use Rattle.prolly_load.specs.Loading.{FailsAs, EndsAs, IsLoaded}
+use Rattle.prolly_merge.specs.Inputs.{input_of, fault_of}
+use Rattle.prolly_build.specs.Merging.{sent_input}
+use Rattle.prolly_build.specs.Ran.{AreLoaded}
+use Rattle.prolly_build.specs.Stopped.{IsReadingOf, IsFailureOf, CountFor, AreHonest, ending_told}
+use Rattle.prolly_build.specs.Workers.{IsLoadedFrom}
+
+module _ {S : Type 0} (is_honest : S → Bool) (left : S → List ℕ) (failures : S → ℕ) (limit : ℕ) where
+  -- what a file counts for, and what its loader sent of that
+  record Counts (file : ℕ) (s t : S) (sent : Input RunFault) : Type 0 where
+    input : Input RunFault
+    counts : IsReadingOf is_honest left failures file limit s input ⊎ IsFailureOf is_honest left failures file limit s t input
+    sent_of : IsSentOf faults.Memory input sent
+
+  -- a reading that was sent whole
+  whole : (file : ℕ) (s t : S) (records : List Record) (ending : Option Flaw) (end : End) → IsReading (left s) limit records ending →
+      fault_of end ≡ ending_told file (length records) ending → Counts file s t (input_of records end)
+  whole file s t records ending end h told = record {
+    input = input_of records end;
+    counts = inl (record { ending = ending; reading = h; told = told });
+    sent_of = inl refl;
+  }
+
+  same_file : (f file place : ℕ) (records : List Record) (make : ℕ → ℕ → RunFault) → f ≡ file → place ≡ length records →
+      ◌≡◌ {A = Option RunFault} (Some (make f place)) (Some (make file (length records)))
+  same_file f file place records make e k = ap (λ (n : ℕ). Some (make n place)) e ∙ ap (λ (n : ℕ). Some (make file n)) k
+
+  one_fault : (file : ℕ) (s t : S) (records : List Record) (handed : List ℕ) (fault : RunFault) → All IsByte (left s) → left s ≡ handed ++ left t →
+      FailsAs file limit handed records fault → (Fault fault ≢ Fault (faults.Read file) → FailsAs file limit (left s) records fault) →
+      (Fault fault ≡ Fault (faults.Read file) → failures t ≢ failures s) → Counts file s t (input_of records (Fault fault))
+  one_fault file s t records handed faults.Memory bytes kept ends all failed =
+      let has = reading_is (left s) limit bytes in
+      let first = all (λ e. cc) in
+      record {
+        input = record { records = has.good; fault = ending_told file (length has.good) has.ending };
+        counts = inl (record { ending = has.ending; reading = has.reading; told = refl });
+        sent_of = inr (refl, first.prefix has.good has.ending has.reading);
+      }
+  one_fault file s t records handed (faults.Read f) bytes kept ends all failed = record {
+    input = input_of records (Fault (faults.Read f));
+    counts = inr (record {
+      failed = failed (ap (λ (n : ℕ). Fault (faults.Read n)) ends.0);
+      handed = handed;
+      kept = kept;
+      read = ends.1;
+      told = ap (λ (n : ℕ). Some (faults.Read n)) ends.0;
+    });
+    sent_of = inl refl;
+  }
+  one_fault file s t records handed (faults.Truncated f place) bytes kept ends all failed =
+      let h = all (λ e. cc) in whole file s t records (Some flaws.Truncated) (Fault (faults.Truncated f place)) h.2 (same_file f file place records faults.Truncated h.0 h.1)
+  one_fault file s t records handed (faults.KeyTooLong f place) bytes kept ends all failed =
+      let h = all (λ e. cc) in whole file s t records (Some flaws.KeyTooLong) (Fault (faults.KeyTooLong f place)) h.2 (same_file f file place records faults.KeyTooLong h.0 h.1)
+  one_fault file s t records handed (faults.ValueTooLong f place) bytes kept ends all failed =
+      let h = all (λ e. cc) in whole file s t records (Some flaws.ValueTooLong) (Fault (faults.ValueTooLong f place)) h.2 (same_file f file place records faults.ValueTooLong h.0 h.1)
+  one_fault file s t records handed (faults.OutOfOrder f place) bytes kept ends all failed =
+      let h = all (λ e. cc) in whole file s t records (Some flaws.OutOfOrder) (Fault (faults.OutOfOrder f place)) h.2 (same_file f file place records faults.OutOfOrder h.0 h.1)
+  one_fault file s t records handed (faults.TooManyRecords f) bytes kept ends all failed =
+      let h = all (λ e. cc) in whole file s t records (Some flaws.TooManyRecords) (Fault (faults.TooManyRecords f)) h.1 (ap (λ (n : ℕ). Some (faults.TooManyRecords n)) h.0)
+  one_fault file s t records handed faults.Write bytes kept ends all failed = absurd ends
+  one_fault file s t records handed faults.TooTall bytes kept ends all failed = absurd ends
+  one_fault file s t records handed faults.NoThread bytes kept ends all failed = absurd ends
+  one_fault file s t records handed faults.Lost bytes kept ends all failed = absurd ends
+  one_fault file s t records handed faults.TooManyFiles bytes kept ends all failed = absurd ends
+
+  one_end : (file : ℕ) (s t : S) (records : List Record) (handed : List ℕ) (end : End) → All IsByte (left s) → left s ≡ handed ++ left t →
+      EndsAs file limit handed records end → (end ≢ Fault (faults.Read file) → EndsAs file limit (left s) records end) →
+      (end ≡ Fault (faults.Read file) → failures t ≢ failures s) → Counts file s t (input_of records end)
+  one_end file s t records handed Clean bytes kept ends all failed = whole file s t records None Clean (all (λ e. cc)) refl
+  one_end file s t records handed (Fault fault) bytes kept ends all failed = one_fault file s t records handed fault bytes kept ends all failed
+
+  abbrev One : ℕ → S → Batching Record → S → Whole Record → Type 0
+  One file s o t c = IsLoadedFrom is_honest left failures file limit s o t c
+
+  one_counts : (file : ℕ) (s : S) (o : Batching Record) (t : S) (c : Whole Record) → One file s o t c → is_honest s ≡ true → All IsByte (left s) → Counts file s t (sent_input c)
+  one_counts file s o t c h honest bytes =
+      subst (λ (rs : List Record). Counts file s t (input_of rs c.end)) (sym h.loaded.sent)
+      (one_end file s t h.loaded.records h.loaded.handed c.end bytes (h.loaded.kept honest) h.loaded.ends (h.loaded.whole honest) h.read.0)
+
+  -- ---- all files
+
+  pub record AllCounts (file : ℕ) (ss ts : List S) (sent : List (Input RunFault)) : Type 0 where
+    pub inputs : List (Input RunFault)
+    pub count_for : CountFor is_honest left failures file limit ss ts inputs
+    pub sent_of : AreSentOf faults.Memory inputs sent
+
+  pub all_count : (file : ℕ) (ss : List S) (os : List (Batching Record)) (ts : List S) (cs : List (Whole Record)) →
+      AreLoaded is_honest left failures limit file ss os ts cs → AreHonest is_honest left failures ss → AllCounts file ss ts (map sent_input cs)
+  all_count file [] [] [] [] h honest = record { inputs = []; count_for = tt; sent_of = tt }
+  all_count file [] [] [] (c ∷ cs) h honest = absurd h
+  all_count file [] [] (t ∷ ts) cs h honest = absurd h
+  all_count file [] (o ∷ os) ts cs h honest = absurd h
+  all_count file (s ∷ ss) [] ts cs h honest = absurd h
+  all_count file (s ∷ ss) (o ∷ os) [] cs h honest = absurd h
+  all_count file (s ∷ ss) (o ∷ os) (t ∷ ts) [] h honest = absurd h
+  all_count file (s ∷ ss) (o ∷ os) (t ∷ ts) (c ∷ cs) h honest =
+      let one = one_counts file s o t c h.0 honest.0.0 honest.0.1 in
+      let rest = all_count (file + 1) ss os ts cs h.1 honest.1 in
+      record { inputs = one.input ∷ rest.inputs; count_for = (one.counts, rest.count_for); sent_of = (one.sent_of, rest.sent_of) }

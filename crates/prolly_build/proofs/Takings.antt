@@ -1,0 +1,66 @@
+-- What the writer has written of the pairs before a fault.
+use Rattle.std.proofs.Common.{◌≡◌, ◌≢◌, ◌≤◌, ◌<◌, ◌+◌, ◌-◌, ◌^◌, ℕ, suc, Bool, true, false, List, [], ◌++◌, length, inl, inr, refl, ap, sym, subst, ◌∙◌, arith}
+use Rattle.std.specs.List.{filter}
+use Rattle.prolly_entry.specs.Chunk.{Chunk, begun_chunks}
+use Rattle.prolly_entry.specs.Cut.{sha512_cut}
+use Rattle.prolly_entry.specs.Events.{faulty, has_level}
+use Rattle.prolly_entry.specs.File.{header}
+use Rattle.prolly_entry.specs.Pair.{Pair}
+use Rattle.prolly_entry.specs.Pipeline.{pipeline_events, before_second, within_stages}
+use Rattle.prolly_entry.proofs.Composition.{composition}
+use Rattle.prolly_file.specs.Sink.{TakesPrefix}
+use Rattle.prolly_link.specs.declared.fault.End.{End}
+use Rattle.prolly_link.specs.declared.fault.End.TheVariants.{Clean, Fault}
+use Rattle.prolly_link.specs.declared.fault.RunFault.{RunFault}
+use Rattle.prolly_build.specs.declared.writer.Written.{Written}
+use Rattle.prolly_build.specs.declared.writer.Written.TheVariants.{Whole, TooTall, Failed}
+use Rattle.prolly_build.specs.Settings.{Settings}
+use Rattle.prolly_build.specs.Stopped.{IsFileFault, TookBegun, begun_of}
+use Rattle.prolly_build.specs.Writing.{Sunk, HasWritten, IsEndFault, frames_of}
+use Rattle.prolly_build.proofs.Makings.{at_most_one}
+use Rattle.prolly_build.proofs.RanSteps.{all_taken}
+use Rattle.prolly_build.proofs.Tops.{second_all}
+
+module _ (settings : Settings) (some : 1 ≤ settings.stages) (p : List Pair) (few : length p < 2 ^ 64) (events : List Chunk)
+    (sent : events ≡ pipeline_events (settings.stages - 1) (sha512_cut settings.bits) settings.version faulty p) (old new : Sunk) where
+  abbrev level : ℕ
+  level = settings.stages - 1
+
+  abbrev file_head : List ℕ
+  file_head = header settings.version settings.bits
+
+  begun_is : frames_of file_head (before_second level events) ≡ begun_of settings p
+  begun_is =
+      let stages_are : suc level ≡ settings.stages = omega (arith, some) in
+      let taken : before_second level events ≡ before_second level (begun_chunks (sha512_cut settings.bits) settings.version p) =
+      ap (before_second level) sent ∙ (composition (sha512_cut settings.bits) settings.version p few level).2 in
+      ap (frames_of file_head) (taken ∙ ap (λ (n : ℕ). within_stages n (begun_chunks (sha512_cut settings.bits) settings.version p)) stages_are)
+
+  took_all : (old.is_keeping ≡ true → new.taken ≡ old.taken ++ frames_of file_head (before_second level events)) → TookBegun settings p old new
+  took_all h = record { all = λ u k. all k; part = λ k. all_taken (all k) }
+    where
+      all : old.is_keeping ≡ true → new.taken ≡ old.taken ++ begun_of settings p
+      all k = h k ∙ ap (λ (bytes : List ℕ). old.taken ++ bytes) begun_is
+
+  pub took_begun : (written : Written) → HasWritten file_head level events old new written → TookBegun settings p old new
+  took_begun (Whole begun) h =
+      let one = at_most_one begun.has_top in
+      let count = h.few in
+      let few : length (filter (has_level level) events) ≤ 1 = omega (arith, one, count) in
+      took_all (λ k. h.taken_is k ∙ ap (λ (es : List Chunk). old.taken ++ frames_of file_head es) (sym (second_all level events few)))
+  took_begun TooTall h = took_all h.taken_is
+  took_begun Failed h = record {
+    all = λ u k. absurd (h.failed u);
+    part = λ k. subst (λ (bytes : List ℕ). TakesPrefix old.taken new.taken bytes) begun_is (h.taken_is k);
+  }
+
+-- what is known where a build names the fault of a file
+pub stopped_at : (settings : Settings) (some : 1 ≤ settings.stages) (events : List Chunk) (old before after : Sunk) (written : Written) (end : End) (fault : RunFault) →
+    HasWritten (header settings.version settings.bits) (settings.stages - 1) events old before written →
+    IsEndFault (header settings.version settings.bits) (settings.stages - 1) events old before after end fault → IsFileFault fault →
+    (end ≡ Fault fault) × ((p : List Pair) → length p < 2 ^ 64 →
+    events ≡ pipeline_events (settings.stages - 1) (sha512_cut settings.bits) settings.version faulty p → TookBegun settings p old after)
+stopped_at settings some events old before after written (Fault f) fault h is file =
+    (ap Fault (sym is.0), λ p few sent. subst (λ (s : Sunk). TookBegun settings p old s) (sym is.1) (took_begun settings some p few events sent old before written h))
+stopped_at settings some events old before after written Clean fault h (inl failed) file = absurd (subst IsFileFault failed.0 file)
+stopped_at settings some events old before after written Clean fault h (inr tall) file = absurd (subst IsFileFault tall.0 file)

@@ -1,0 +1,79 @@
+-- What a build names, and what it leaves, where a record file is at fault.
+use Rattle.std.specs.Prelude.{◌≡◌, ◌≢◌, ◌⊎◌, ℕ, ◌+◌, Bool, true, List, [], ◌∷◌, ◌++◌, All, length, Option, Some, None}
+use Rattle.std.specs.List.{AllByRecursion}
+use Rattle.prolly_entry.specs.Byte.{IsByte}
+use Rattle.prolly_entry.specs.Chunk.{begun_chunks}
+use Rattle.prolly_entry.specs.Cut.{sha512_cut}
+use Rattle.prolly_entry.specs.File.{header}
+use Rattle.prolly_entry.specs.Merge.{Input, stop, stop_fault, merged_part}
+use Rattle.prolly_entry.specs.Pair.{Pair}
+use Rattle.prolly_entry.specs.Pipeline.{within_stages}
+use Rattle.prolly_entry.specs.Reading.{IsReading}
+use Rattle.prolly_entry.specs.Record.{Record}
+use Rattle.prolly_entry.specs.declared.flaw.Flaw.{Flaw}
+use Rattle.prolly_file.specs.Sink.{TakesPrefix}
+use Rattle.prolly_link.specs.declared.fault.RunFault.{RunFault}
+use Rattle.prolly_link.specs.declared.fault.RunFault.TheVariants as faults
+use Rattle.prolly_load.specs.Fault.{fault_of as fault_of_flaw}
+use Rattle.prolly_load.specs.Loading.{IsReadTo}
+use Rattle.prolly_build.specs.Settings.{Settings}
+use Rattle.prolly_build.specs.Writing.{Sunk, frames_of}
+
+-- How the ending of a file's reading is told: not at all where it is clean, else as the flaw of the record at this place.
+abbrev pub ending_told : ℕ → ℕ → Option Flaw → Option RunFault
+ending_told file place None = None
+ending_told file place (Some flaw) = Some (fault_of_flaw file place flaw)
+
+-- A fault of a record file.
+abbrev pub IsFileFault : RunFault → Type 0
+IsFileFault (faults.Read f) = Unit {0}
+IsFileFault (faults.Truncated f place) = Unit {0}
+IsFileFault (faults.KeyTooLong f place) = Unit {0}
+IsFileFault (faults.ValueTooLong f place) = Unit {0}
+IsFileFault (faults.OutOfOrder f place) = Unit {0}
+IsFileFault (faults.TooManyRecords f) = Unit {0}
+IsFileFault _ = ⊥
+
+module _ {S : Type 0} (is_honest : S → Bool) (left : S → List ℕ) (failures : S → ℕ) where
+  -- The reading of the bytes that the source had left, with what it ends in.
+  pub record IsReadingOf (file limit : ℕ) (before : S) (input : Input RunFault) : Type 0 where
+    pub ending : Option Flaw
+    pub reading : IsReading (left before) limit input.records ending
+    pub told : input.fault ≡ ending_told file (length input.records) ending
+
+  -- The source failed: the records of the bytes that it had handed out till then, with a failed read.
+  pub record IsFailureOf (file limit : ℕ) (before after : S) (input : Input RunFault) : Type 0 where
+    pub failed : failures after ≢ failures before
+    pub handed : List ℕ
+    pub kept : left before ≡ handed ++ left after
+    pub read : IsReadTo handed limit input.records
+    pub told : input.fault ≡ Some (faults.Read file)
+
+  -- What the files count for, each in its place, from this file number on.
+  abbrev pub CountFor : ℕ → ℕ → List S → List S → List (Input RunFault) → Type 0
+  CountFor file limit [] [] [] = Unit {0}
+  CountFor file limit (s ∷ ss) (t ∷ ts) (i ∷ inputs) = (IsReadingOf file limit s i ⊎ IsFailureOf file limit s t i) × CountFor (file + 1) limit ss ts inputs
+  CountFor file limit _ _ _ = ⊥
+
+  -- Honest sources of bytes.
+  abbrev pub AreHonest : List S → Type 0
+  AreHonest sources = AllByRecursion (λ s. (is_honest s ≡ true) × All IsByte (left s)) sources
+
+-- What is written of the pairs that come before a fault: the header, and a frame for each chunk that they close, up to, and without, the
+-- second one of the last stage's level.
+abbrev pub begun_of : Settings → List Pair → List ℕ
+begun_of settings p =
+    frames_of (header settings.version settings.bits) (within_stages settings.stages (begun_chunks (sha512_cut settings.bits) settings.version p))
+
+-- The sink took just that, or, where it failed, a prefix of it.
+pub record TookBegun (settings : Settings) (p : List Pair) (old new : Sunk) : Type 0 where
+  pub all : new.failures ≡ old.failures → old.is_keeping ≡ true → new.taken ≡ old.taken ++ begun_of settings p
+  pub part : old.is_keeping ≡ true → TakesPrefix old.taken new.taken (begun_of settings p)
+
+-- The fault is the stop of what the files count for, and the sink took what the pairs before it begin.
+pub record IsStopped {S : Type 0} (is_honest : S → Bool) (left : S → List ℕ) (failures : S → ℕ) (settings : Settings) (before after : List S)
+    (old new : Sunk) (fault : RunFault) : Type 0 where
+  pub inputs : List (Input RunFault)
+  pub count_for : CountFor is_honest left failures 0 settings.max_records before after inputs
+  pub named : stop_fault (stop inputs) ≡ Some fault
+  pub took : TookBegun settings (merged_part inputs) old new

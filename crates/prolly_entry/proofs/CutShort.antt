@@ -1,0 +1,244 @@
+-- Inputs that were cut short behind the stop.
+use Rattle.std.proofs.Common.{◌≡◌, ◌≢◌, ℕ, Bool, true, false, not, cond, List, [], ◌∷◌, ◌++◌, map, Option, Some, None, Ordering, ◌⊎◌, inl, inr, refl, sym, ap, ◌∙◌, subst}
+use Rattle.std.specs.declared.cmp.Ordering.TheVariants.{Less, Equal, Greater}
+use Rattle.std.specs.Ordering.{is_lt, is_eq}
+use Rattle.std.proofs.lemmas.Bool.{false≢true}
+use Rattle.std.specs.List.{filter}
+use Rattle.prolly_entry.specs.Keys.{key_order}
+use Rattle.prolly_entry.specs.Overlay.{change_of, or_else, last_change_of, raw_overlay, AllRising}
+use Rattle.prolly_entry.specs.CutShort.{IsSentOf, AreSentOf, CutBehindStop}
+use Rattle.prolly_entry.specs.Merge.{Input, Stop, stop_at, earlier_stop, stop, is_within, raw_merged_part}
+use Rattle.prolly_entry.specs.Position.{Position, last_position, is_before}
+use Rattle.prolly_entry.specs.Record.{Record}
+use Rattle.prolly_entry.proofs.Joins.{before_trans, before_weak, earlier_none, within_earlier, filter_rising, found_filter, and_left, and_right}
+use Rattle.prolly_entry.proofs.Overlays.{IsRising, AllAbove, is_rising, rising_is, above_trans, found_above, found_raw, rising_raw, same_lookups, order_self, greater_below, below_greater}
+
+-- ---- a rising list and its first records
+
+before_self : (p : Position) → is_before p p ≡ false
+before_self None = refl
+before_self (Some x) = ap is_lt (order_self x)
+
+-- the last key of records above x is not before x
+last_above : (x : List ℕ) (r : Record) (rs : List Record) → AllAbove x (r ∷ rs) → is_before (last_position (r ∷ rs)) (Some x) ≡ false
+last_above x r [] h = ap is_lt (below_greater x r.key h.0)
+last_above x r (s ∷ rs) h = last_above x s rs h.1
+
+last_behind : (xs ys : List Record) → IsRising (xs ++ ys) → is_before (last_position (xs ++ ys)) (last_position xs) ≡ false
+last_behind [] ys h = refl
+last_behind (x ∷ []) [] h = before_self (Some x.key)
+last_behind (x ∷ []) (y ∷ ys) h = last_above x.key y ys h.0
+last_behind (x ∷ z ∷ xs) ys h = last_behind (z ∷ xs) ys h.1
+
+front_above : (x : List ℕ) (xs ys : List Record) → AllAbove x (xs ++ ys) → AllAbove x xs
+front_above x [] ys h = tt
+front_above x (r ∷ xs) ys h = (h.0, front_above x xs ys h.1)
+
+front_rising : (xs ys : List Record) → IsRising (xs ++ ys) → IsRising xs
+front_rising [] ys h = tt
+front_rising (x ∷ xs) ys h = (front_above x.key xs ys h.0, front_rising xs ys h.1)
+
+-- what comes behind its first records says nothing of a key up to the last of them
+front_found : (xs ys : List Record) (key : List ℕ) → IsRising (xs ++ ys) → is_before (last_position xs) (Some key) ≡ false → change_of (xs ++ ys) key ≡ change_of xs key
+front_found [] ys key h k = absurd (false≢true (sym k))
+front_found (x ∷ []) ys key h k = go (key_order x.key key) refl
+  where
+    go : (o : Ordering) → key_order x.key key ≡ o → change_of (x ∷ ys) key ≡ change_of (x ∷ []) key
+    go Less e = absurd (false≢true (sym k ∙ ap is_lt e))
+    go Equal e = rw e refl
+    go Greater e = rw e (found_above key ys (above_trans key x.key ys (greater_below x.key key e) h.0))
+front_found (x ∷ z ∷ xs) ys key h k = go (is_eq (key_order x.key key)) refl (front_found (z ∷ xs) ys key h.1 k)
+  where
+    go : (b : Bool) → is_eq (key_order x.key key) ≡ b → change_of ((z ∷ xs) ++ ys) key ≡ change_of (z ∷ xs) key →
+        change_of ((x ∷ z ∷ xs) ++ ys) key ≡ change_of (x ∷ z ∷ xs) key
+    go true e more = rw e refl
+    go false e more = rw e more
+
+-- ---- the stop
+
+module _ {F : Type 0} (refused : F) where
+  -- no stop before the position
+  IsBehind : Option (Stop F) → Position → Type 0
+  IsBehind None p = Unit {0}
+  IsBehind (Some s) p = is_before s.position p ≡ false
+
+  -- the stop of what was sent is that of the inputs, or names the refusal and is not behind that of the inputs
+  AreStops : Option (Stop F) → Option (Stop F) → Type 0
+  AreStops sent full = (sent ≡ full) ⊎ ((t : Stop F) × (sent ≡ Some t) × (t.fault ≡ refused) × IsBehind full t.position)
+
+  apart : (b : Bool) → b ≡ true → b ≡ false → ⊥
+  apart b t f = false≢true (sym f ∙ t)
+
+  not_before : (b : Bool) → (b ≡ true → ⊥) → b ≡ false
+  not_before true h = absurd (h refl)
+  not_before false h = refl
+
+  behind_earlier : (a b : Option (Stop F)) (p : Position) → IsBehind a p → IsBehind b p → IsBehind (earlier_stop a b) p
+  unfolding IsBehind
+  behind_earlier None b p h k = k
+  behind_earlier (Some a) None p h k = h
+  behind_earlier (Some a) (Some b) p h k = go (is_before b.position a.position)
+    where
+      go : (x : Bool) → IsBehind (cond x (Some b) (Some a)) p
+      go true = k
+      go false = h
+
+  -- behind a position is behind each that is not behind it
+  behind_less : (a : Option (Stop F)) (p q : Position) → IsBehind a q → is_before q p ≡ false → IsBehind a p
+  unfolding IsBehind
+  behind_less None p q h k = tt
+  behind_less (Some a) p q h k = not_before (is_before a.position p) (λ x. apart (is_before a.position q) (before_weak p q a.position x k) h)
+
+  behind_before : (a : Option (Stop F)) (p q : Position) → IsBehind a q → is_before p q ≡ true → IsBehind a p
+  unfolding IsBehind
+  behind_before None p q h k = tt
+  behind_before (Some a) p q h k = not_before (is_before a.position p) (λ x. apart (is_before a.position q) (before_trans a.position p q x k) h)
+
+  -- one of two is whole, and the other one was cut short, or both were
+  cut_second : (a : Option (Stop F)) (t : Stop F) (full : Option (Stop F)) → t.fault ≡ refused → IsBehind full t.position →
+      AreStops (earlier_stop a (Some t)) (earlier_stop a full)
+  unfolding IsBehind AreStops
+  cut_second None t full m h = inr (t, refl, m, h)
+  cut_second (Some s) t full m h = go (is_before t.position s.position) refl
+    where
+      stays : (full : Option (Stop F)) → IsBehind full t.position → is_before t.position s.position ≡ false → Some s ≡ earlier_stop (Some s) full
+      stays None h e = refl
+      stays (Some u) h e =
+          let late : is_before u.position s.position ≡ false =
+          not_before (is_before u.position s.position) (λ x. apart (is_before u.position t.position) (before_weak s.position t.position u.position x e) h) in
+          rw late refl
+
+      go : (x : Bool) → is_before t.position s.position ≡ x → AreStops (cond x (Some t) (Some s)) (earlier_stop (Some s) full)
+      go true e =
+          let late : is_before s.position t.position ≡ false =
+          not_before (is_before s.position t.position) (λ x. apart (is_before t.position t.position) (before_trans t.position s.position t.position e x) (before_self t.position)) in
+          inr (t, refl, m, behind_earlier (Some s) full t.position late h)
+      go false e = inl (stays full h e)
+
+  cut_first : (s : Stop F) (full b : Option (Stop F)) → s.fault ≡ refused → IsBehind full s.position → AreStops (earlier_stop (Some s) b) (earlier_stop full b)
+  unfolding IsBehind AreStops
+  cut_first s full None m h = inr (s, refl, m, subst (λ o. IsBehind o s.position) (sym (earlier_none full)) h)
+  cut_first s full (Some t) m h = go (is_before t.position s.position) refl
+    where
+      wins : (full : Option (Stop F)) → IsBehind full s.position → is_before t.position s.position ≡ true → Some t ≡ earlier_stop full (Some t)
+      wins None h e = refl
+      wins (Some v) h e = let first : is_before t.position v.position ≡ true = before_weak s.position v.position t.position e h in rw first refl
+
+      go : (x : Bool) → is_before t.position s.position ≡ x → AreStops (cond x (Some t) (Some s)) (earlier_stop full (Some t))
+      go true e = inl (wins full h e)
+      go false e = inr (s, refl, m, behind_earlier full (Some t) s.position h e)
+
+  cut_both : (s t : Stop F) (a b : Option (Stop F)) → s.fault ≡ refused → t.fault ≡ refused → IsBehind a s.position → IsBehind b t.position →
+      AreStops (earlier_stop (Some s) (Some t)) (earlier_stop a b)
+  unfolding AreStops
+  cut_both s t a b m n h k = go (is_before t.position s.position) refl
+    where
+      go : (x : Bool) → is_before t.position s.position ≡ x → AreStops (cond x (Some t) (Some s)) (earlier_stop a b)
+      go true e = inr (t, refl, n, behind_earlier a b t.position (behind_before a t.position s.position h e) k)
+      go false e = inr (s, refl, m, behind_earlier a b s.position h (behind_less b s.position t.position k e))
+
+  earlier_stops : (a b c d : Option (Stop F)) → AreStops a b → AreStops c d → AreStops (earlier_stop a c) (earlier_stop b d)
+  unfolding AreStops
+  earlier_stops a b c d (inl e) (inl f) = inl (ap (λ x. earlier_stop x c) e ∙ ap (λ y. earlier_stop b y) f)
+  earlier_stops a b c d (inl e) (inr f) =
+      subst (λ x. AreStops (earlier_stop a x) (earlier_stop b d)) (sym f.1)
+      (subst (λ x. AreStops (earlier_stop x (Some f.0)) (earlier_stop b d)) (sym e) (cut_second b f.0 d f.2 f.3))
+  earlier_stops a b c d (inr e) (inl f) =
+      subst (λ x. AreStops (earlier_stop x c) (earlier_stop b d)) (sym e.1)
+      (subst (λ x. AreStops (earlier_stop (Some e.0) x) (earlier_stop b d)) (sym f) (cut_first e.0 b d e.2 e.3))
+  earlier_stops a b c d (inr e) (inr f) =
+      subst (λ x. AreStops (earlier_stop x c) (earlier_stop b d)) (sym e.1)
+      (subst (λ x. AreStops (earlier_stop (Some e.0) x) (earlier_stop b d)) (sym f.1) (cut_both e.0 f.0 b d e.2 f.2 e.3 f.3))
+
+  abbrev own : Input F → Option (Stop F)
+  own i = stop_at (last_position i.records) i.fault
+
+  own_stops : (i j : Input F) → IsRising i.records → IsSentOf refused i j → AreStops (own j) (own i)
+  unfolding AreStops IsBehind
+  own_stops i j h (inl e) = inl (ap own e)
+  own_stops i j h (inr k) =
+      inr (record { position = last_position j.records; fault = refused }, ap (λ f. stop_at (last_position j.records) f) k.0, refl, behind i.fault)
+    where
+      behind : (f : Option F) → IsBehind (stop_at (last_position i.records) f) (last_position j.records)
+      behind None = tt
+      behind (Some f) =
+          subst (λ (rs : List Record). is_before (last_position rs) (last_position j.records) ≡ false) (sym k.1.1)
+          (last_behind j.records k.1.0 (subst IsRising k.1.1 h))
+
+  abbrev lists_of : List (Input F) → List (List Record)
+  lists_of inputs = map (λ i. i.records) inputs
+
+  stops : (inputs sent : List (Input F)) → AllRising (lists_of inputs) → AreSentOf refused inputs sent → AreStops (stop sent) (stop inputs)
+  unfolding AreStops
+  stops [] [] h k = inl refl
+  stops (i ∷ inputs) [] h k = absurd k
+  stops [] (j ∷ sent) h k = absurd k
+  stops (i ∷ inputs) (j ∷ sent) h k =
+      earlier_stops (own j) (own i) (stop sent) (stop inputs) (own_stops i j (is_rising i.records h.0) k.0) (stops inputs sent h.1 k.1)
+
+  -- ---- the records up to the stop
+
+  sent_rising : (i j : Input F) → IsRising i.records → IsSentOf refused i j → IsRising j.records
+  sent_rising i j h (inl e) = subst (λ (x : Input F). IsRising x.records) (sym e) h
+  sent_rising i j h (inr k) = front_rising j.records k.1.0 (subst IsRising k.1.1 h)
+
+  all_rising : (inputs sent : List (Input F)) → AllRising (lists_of inputs) → AreSentOf refused inputs sent → AllRising (lists_of sent)
+  all_rising [] [] h k = tt
+  all_rising (i ∷ inputs) [] h k = absurd k
+  all_rising [] (j ∷ sent) h k = absurd k
+  all_rising (i ∷ inputs) (j ∷ sent) h k = (rising_is j.records (sent_rising i j (is_rising i.records h.0) k.0), all_rising inputs sent h.1 k.1)
+
+  same_found : (i j : Input F) (key : List ℕ) → IsRising i.records → IsSentOf refused i j → is_within (own j) key ≡ true → change_of i.records key ≡ change_of j.records key
+  same_found i j key h (inl e) w = ap (λ (x : Input F). change_of x.records key) (sym e)
+  same_found i j key h (inr k) w =
+      let before : is_before (last_position j.records) (Some key) ≡ false =
+      not_true (is_before (last_position j.records) (Some key)) (subst (λ f. is_within (stop_at (last_position j.records) f) key ≡ true) k.0 w) in
+      ap (λ (rs : List Record). change_of rs key) k.1.1 ∙ front_found j.records k.1.0 key (subst IsRising k.1.1 h) before
+    where
+      not_true : (b : Bool) → not b ≡ true → b ≡ false
+      not_true true h = absurd (false≢true h)
+      not_true false h = refl
+
+  all_found : (inputs sent : List (Input F)) (key : List ℕ) → AllRising (lists_of inputs) → AreSentOf refused inputs sent → is_within (stop sent) key ≡ true →
+      last_change_of (lists_of inputs) key ≡ last_change_of (lists_of sent) key
+  all_found [] [] key h k w = refl
+  all_found (i ∷ inputs) [] key h k w = absurd k
+  all_found [] (j ∷ sent) key h k w = absurd k
+  all_found (i ∷ inputs) (j ∷ sent) key h k w =
+      let both = sym (within_earlier (own j) (stop sent) key) ∙ w in
+      let first = same_found i j key (is_rising i.records h.0) k.0 (and_left (is_within (own j) key) (is_within (stop sent) key) both) in
+      let rest = all_found inputs sent key h.1 k.1 (and_right (is_within (own j) key) (is_within (stop sent) key) both) in
+      ap (λ o. or_else o (change_of i.records key)) rest ∙ ap (λ o. or_else (last_change_of (lists_of sent) key) o) first
+
+  same_part : (inputs sent : List (Input F)) → AllRising (lists_of inputs) → AreSentOf refused inputs sent → stop inputs ≡ stop sent →
+      raw_merged_part inputs ≡ raw_merged_part sent
+  same_part inputs sent h k same =
+      let t : List ℕ → Bool = λ q. is_within (stop inputs) q in
+      let u : List ℕ → Bool = λ q. is_within (stop sent) q in
+      let left = raw_overlay (lists_of inputs) in
+      let right = raw_overlay (lists_of sent) in
+      same_lookups (filter (λ r. t r.key) left) (filter (λ r. u r.key) right)
+      (filter_rising t left (rising_raw (lists_of inputs))) (filter_rising u right (rising_raw (lists_of sent)))
+      (λ key. found_filter t left key
+      ∙ ap (λ s. cond (is_within s key) (change_of left key) None) same
+      ∙ within key (u key) refl
+      ∙ sym (found_filter u right key))
+    where
+      within : (key : List ℕ) (b : Bool) → is_within (stop sent) key ≡ b →
+          cond (is_within (stop sent) key) (change_of (raw_overlay (lists_of inputs)) key) None ≡ cond (is_within (stop sent) key) (change_of (raw_overlay (lists_of sent)) key) None
+      within key false e = rw e refl
+      within key true e =
+          rw e (found_raw (lists_of inputs) key h ∙ all_found inputs sent key h k e ∙ sym (found_raw (lists_of sent) key (all_rising inputs sent h k)))
+
+pub cut_behind_stop : (F : Type 0) → CutBehindStop F
+unfolding AreStops
+cut_behind_stop F refused inputs sent s h k is other =
+    let same : stop inputs ≡ Some s = go (stops refused inputs sent h k) in
+    (same, same_part refused inputs sent h k (same ∙ sym is))
+  where
+    some_same : (x y : Stop F) → Some x ≡ Some y → x ≡ y
+    some_same x y e = cc
+
+    go : AreStops refused (stop sent) (stop inputs) → stop inputs ≡ Some s
+    go (inl e) = sym e ∙ is
+    go (inr e) = absurd (other (ap (λ (x : Stop F). x.fault) (some_same s e.0 (sym is ∙ e.1)) ∙ e.2))
