@@ -13,8 +13,7 @@ use Rattle.prolly_link.specs.declared.fault.End.{End}
 use Rattle.prolly_link.specs.declared.fault.End.TheVariants.{Clean, Fault}
 use Rattle.prolly_link.specs.declared.fault.RunFault.{RunFault}
 use Rattle.prolly_link.specs.declared.fault.RunFault.TheVariants as faults
-use Rattle.prolly_load.specs.Fault.{fault_of as fault_of_flaw}
-use Rattle.prolly_load.specs.Loading.{FailsAs, EndsAs, IsLoaded}
+use Rattle.prolly_load.specs.Loading.{FailsAs, EndsAs}
 use Rattle.prolly_merge.specs.Inputs.{input_of, fault_of}
 use Rattle.prolly_build.specs.Merging.{sent_input}
 use Rattle.prolly_build.specs.Ran.{AreLoaded}

@@ -2,6 +2,7 @@
 use Rattle.std.proofs.Common.{◌≡◌, ◌≤◌, ◌<◌, ◌+◌, ◌-◌, ◌^◌, ℕ, suc, Bool, true, false, List, [], ◌∷◌, ◌++◌, length, min, ◌⊎◌, Option, Some, None, inl, inr, refl, ap, sym, subst, ◌∙◌, arith, length-append, append_assoc, Result, Ok, Err, OnOk, IfOk, IfErr}
 use Rattle.std.specs.List.{filter}
 use Rattle.std.proofs.Math.Nat.{lt_of_not-le}
+use Rattle.std.proofs.lemmas.List.{append-nil}
 use Rattle.prolly_entry.specs.Chunk.{Chunk, chunk_of, chunks}
 use Rattle.prolly_entry.specs.Cut.{Cut, sha512_cut}
 use Rattle.prolly_entry.specs.Events.{clean, has_level, greatest_count}
@@ -157,13 +158,9 @@ module _ (settings : Settings) (some : 1 ≤ settings.stages) (most : settings.s
   tall_is_prefix : IsPrefix (tall_file settings m) (file cut settings.version m)
   tall_is_prefix =
       let all = chunks cut settings.version m in
-      let front = frames_front file_head (within_stages settings.stages all) all (within_is_prefix settings.stages all all ([], sym (nil_behind all))).1 in
+      let front = frames_front file_head (within_stages settings.stages all) all (within_is_prefix settings.stages all all ([], sym (append-nil all))).1 in
       let ending = end_record (reference_of root_chunk.bytes) (length all) in
       (front.0 ++ ending, ap (λ (bytes : List ℕ). bytes ++ ending) front.1 ∙ append_assoc (tall_file settings m) front.0 ending)
-    where
-      nil_behind : (xs : List Chunk) → xs ++ [] ≡ xs
-      nil_behind [] = refl
-      nil_behind (x ∷ xs) = ap (λ z. x ∷ z) (nil_behind xs)
 
   too_tall : (old new : Sunk) → IsTall file_head level events old new → IsTooTall settings m old new
   too_tall old new h =

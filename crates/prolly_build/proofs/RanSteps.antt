@@ -1,5 +1,6 @@
 -- What the driver's parts give back.
-use Rattle.std.proofs.Common.{◌≡◌, ℕ, ◌-◌, List, [], ◌∷◌, ◌++◌, ◌≢◌, inl, inr, refl, sym, subst, ap}
+use Rattle.std.proofs.Common.{◌≡◌, ℕ, ◌-◌, List, [], ◌++◌, ◌≢◌, inl, inr, refl, sym, subst, ap}
+use Rattle.std.proofs.lemmas.List.{append-nil}
 use Rattle.prolly_entry.specs.Chunk.{Chunk}
 use Rattle.prolly_entry.specs.File.{header}
 use Rattle.prolly_entry.specs.Pipeline.{before_second}
@@ -19,19 +20,15 @@ use Rattle.prolly_build.specs.declared.writer.Written.{Written}
 use Rattle.prolly_build.specs.declared.writer.Written.TheVariants.{Whole, TooTall, Failed}
 use Rattle.prolly_build.specs.declared.writing.Wrote.{Wrote}
 
-nil_behind : (xs : List ℕ) → xs ++ [] ≡ xs
-nil_behind [] = refl
-nil_behind (x ∷ xs) = ap (λ z. x ∷ z) (nil_behind xs)
-
 -- a sink that was left alone
 pub nothing_begun : (settings : Settings) (old : Sunk) → IsBegun settings old old
 nothing_begun settings old = record {
   chunks_begun = [];
-  taken = λ k. record { part = []; grown = sym (nil_behind old.taken); is_prefix = (frames_of (header settings.version settings.bits) [], refl) };
+  taken = λ k. record { part = []; grown = sym (append-nil old.taken); is_prefix = (frames_of (header settings.version settings.bits) [], refl) };
 }
 
 pub all_taken : {old new wanted : List ℕ} → new ≡ old ++ wanted → TakesPrefix old new wanted
-all_taken {wanted} h = record { part = wanted; grown = h; is_prefix = ([], sym (nil_behind wanted)) }
+all_taken {wanted} h = record { part = wanted; grown = h; is_prefix = ([], sym (append-nil wanted)) }
 
 -- a sink that the writer wrote to
 pub written_begun : (settings : Settings) (level : ℕ) (events : List Chunk) (old new : Sunk) (written : Written) →

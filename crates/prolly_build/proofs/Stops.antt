@@ -1,6 +1,6 @@
 -- Which fault the workers of a build name, and what they sent before it.
-use Rattle.std.proofs.Common.{◌≡◌, ◌≢◌, ◌≤◌, ◌<◌, ◌+◌, ◌-◌, ◌*◌, ◌^◌, ◌⊎◌, ℕ, zero, suc, Bool, List, [], ◌∷◌, ◌++◌, map, length, Option, Some, None, inl, inr, refl, ap, sym, subst, ◌∙◌, arith}
-use Rattle.std.specs.List.{flat_map, AllByRecursion}
+use Rattle.std.proofs.Common.{◌≡◌, ◌≢◌, ◌≤◌, ◌<◌, ◌+◌, ◌-◌, ◌^◌, ℕ, zero, suc, Bool, List, [], ◌∷◌, ◌++◌, map, length, Option, Some, None, inl, inr, refl, ap, sym, subst, ◌∙◌, arith}
+use Rattle.std.specs.List.{AllByRecursion}
 use Rattle.prolly_entry.specs.Chunk.{Chunk}
 use Rattle.prolly_entry.specs.CutShort.{IsSentOf, AreSentOf}
 use Rattle.prolly_entry.specs.Cut.{sha512_cut}
@@ -22,11 +22,11 @@ use Rattle.prolly_merge.specs.Sent.{Sends}
 use Rattle.prolly_stage.specs.Sends.{closing_of, Sends as StageSends}
 use Rattle.prolly_build.specs.Feeding.{IsJoint, Joined}
 use Rattle.prolly_build.specs.Gathering.{IsGathered}
-use Rattle.prolly_build.specs.Merging.{MergesTwo, MergesAll, sent_input}
+use Rattle.prolly_build.specs.Merging.{MergesAll, sent_input}
 use Rattle.prolly_build.specs.Settings.{Settings, AreLawful}
 use Rattle.prolly_build.specs.Staging.{HasStaged}
-use Rattle.prolly_build.specs.Stopped.{IsReadingOf, IsFailureOf, CountFor, AreHonest}
-use Rattle.prolly_build.proofs.Counted.{AllCounts, all_count}
+use Rattle.prolly_build.specs.Stopped.{CountFor, AreHonest}
+use Rattle.prolly_build.proofs.Counted.{all_count}
 use Rattle.prolly_build.proofs.Loads.{all_rise, all_few}
 use Rattle.prolly_build.proofs.Mergings.{Inputs, Rises, rises_all, joined_rises, all_front, all_both, fault_of_end_of}
 
@@ -79,11 +79,7 @@ joined_stops (suc n) files inputs j rising s is other =
 
 -- ---- the last merger
 
-record Stopped (inputs : Inputs) (fault : RunFault) : Type 0 where
-  at : Stop RunFault
-  is : stop inputs ≡ Some at
-  fault_is : at.fault ≡ fault
-
+-- the stop that an end names
 stop_of_end : (fault : RunFault) (o : Option (Stop RunFault)) → Fault fault ≡ end_of (stop_fault o) → (s : Stop RunFault) × (o ≡ Some s) × (s.fault ≡ fault)
 stop_of_end fault None e = absurd (no_end fault e)
   where

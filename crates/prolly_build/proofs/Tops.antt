@@ -3,6 +3,7 @@ use Rattle.std.proofs.Common.{◌≡◌, ℕ, suc, ◌+◌, ◌≤◌, Bool, tru
 use Rattle.std.specs.List.{filter, flat_map}
 use Rattle.std.proofs.lemmas.List.Elements.{filter-append}
 use Rattle.std.proofs.lemmas.List.Concat.{flat_map-append}
+use Rattle.std.proofs.lemmas.List.{append-nil}
 use Rattle.prolly_entry.specs.Chunk.{Chunk}
 use Rattle.prolly_entry.specs.File.{frame}
 use Rattle.prolly_entry.specs.Events.{has_level}
@@ -89,8 +90,4 @@ frames_front head a b h =
 -- one frame more
 pub frames_more : (head : List ℕ) (es : List Chunk) (e : Chunk) → frames_of head (es ++ e ∷ []) ≡ frames_of head es ++ frame e
 frames_more head es e =
-    ap (λ (z : List ℕ). head ++ z) (flat_map-append frame es (e ∷ [])) ∙ (ap (λ (z : List ℕ). head ++ (flat_map frame es ++ z)) (nil_behind (frame e)) ∙ sym (append_assoc head (flat_map frame es) (frame e)))
-  where
-    nil_behind : (xs : List ℕ) → xs ++ [] ≡ xs
-    nil_behind [] = refl
-    nil_behind (x ∷ xs) = ap (λ z. x ∷ z) (nil_behind xs)
+    ap (λ (z : List ℕ). head ++ z) (flat_map-append frame es (e ∷ [])) ∙ (ap (λ (z : List ℕ). head ++ (flat_map frame es ++ z)) (append-nil (frame e)) ∙ sym (append_assoc head (flat_map frame es) (frame e)))

@@ -9,7 +9,6 @@ use Rattle.prolly_entry.specs.Merge.{Input, stop, stop_fault, merged_part}
 use Rattle.prolly_entry.specs.Pair.{Pair}
 use Rattle.prolly_entry.specs.Pipeline.{within_stages}
 use Rattle.prolly_entry.specs.Reading.{IsReading}
-use Rattle.prolly_entry.specs.Record.{Record}
 use Rattle.prolly_entry.specs.declared.flaw.Flaw.{Flaw}
 use Rattle.prolly_file.specs.Sink.{TakesPrefix}
 use Rattle.prolly_link.specs.declared.fault.RunFault.{RunFault}
