@@ -98,6 +98,33 @@ fn add_pair(
     }
 }
 
+/// Takes a copy of a pair, and compares the chunks that it closes.
+fn add_copy(
+    alloc: Global,
+    rebuild: &mut Rebuild,
+    key: &[u8],
+    value: &[u8],
+    bytes: &[u8],
+    spans: &[Span],
+) -> Result<(), CheckFault>
+    requires key { length key.now ≤ 1024 }
+    requires value { length value.now ≤ 65536 }
+    requires within { AllByRecursion (IsWithin bytes.now) spans.now }
+    requires number { rebuild.old.number ≤ length spans.now }
+    ensures ok { OnOk result ((bits : ℕ) (version : Version) (pairs : List PairValue) (pair : PairValue) → pair ≡ record { key = key.now; value = value.now } →
+        IsBehind bits version (chunks_in bytes.now spans.now) pairs rebuild.old.leaf rebuild.old.nodes.items rebuild.old.number →
+        IsBehind bits version (chunks_in bytes.now spans.now) (pairs ++ pair ∷ []) rebuild.new.leaf rebuild.new.nodes.items rebuild.new.number) }
+    ensures number { OnOk result (rebuild.new.number ≤ length spans.now) }
+    ensures err { IfErr result (UnlessMemory (λ fault. (bits : ℕ) (version : Version) (pairs : List PairValue) (pair : PairValue) → pair ≡ record { key = key.now; value = value.now } →
+        IsBehind bits version (chunks_in bytes.now spans.now) pairs rebuild.old.leaf rebuild.old.nodes.items rebuild.old.number →
+        DifferBy bits version (chunks_in bytes.now spans.now) (pairs ++ pair ∷ []) fault)) }
+{
+    let Ok(pair) = Pair::copy_of(alloc, key, value) else {
+        return Err(CheckFault::Memory);
+    };
+    add_pair(alloc, rebuild, &pair, bytes, spans)
+}
+
 /// Takes the pairs of a leaf's entries.
 fn add_leaf(
     alloc: Global,
@@ -124,11 +151,8 @@ fn add_leaf(
                 value_start,
                 len,
             } => {
-                let pair = match Pair::copy_of(alloc, &rest[2..key_end], &rest[value_start..len]) {
-                    Ok(pair) => pair,
-                    Err(_) => return Err(CheckFault::Memory),
-                };
-                match add_pair(alloc, rebuild, &pair, bytes, spans) {
+                let (key, value) = (&rest[2..key_end], &rest[value_start..len]);
+                match add_copy(alloc, rebuild, key, value, bytes, spans) {
                     Ok(()) => place += len,
                     Err(fault) => return Err(fault),
                 }

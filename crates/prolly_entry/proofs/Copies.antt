@@ -1,5 +1,5 @@
 -- A copy of a pair is kept as its spelling.
-use Rattle.std.proofs.Common.{◌≡◌, ℕ, ◌+◌, ◌-◌, ◌≤◌, List, ◌++◌, length, take, drop, refl, sym, ap, ◌∙◌, subst, arith, length-append}
+use Rattle.std.proofs.Common.{◌≡◌, ℕ, ◌+◌, ◌-◌, List, ◌++◌, length, take, drop, refl, sym, ap, ◌∙◌, subst, arith, length-append}
 use Rattle.std.proofs.lemmas.List.{drop-drop}
 use Rattle.std.specs.Int.{w16, w32, to_be_bytes}
 use Rattle.prolly_entry.specs.Pair.{Pair, IsPair}
@@ -29,3 +29,13 @@ is_spelling p bytes h e =
       begun = omega arith;
       within = omega arith;
     }
+
+-- An array that begins with the four parts of a spelling begins with the spelling.
+pub short_spelling : (p : Pair) (bytes key_length value_length : List ℕ) →
+    key_length ≡ to_be_bytes w16 (length p.key) → value_length ≡ to_be_bytes w32 (length p.value) →
+    take (length key_length + length p.key + length value_length + length p.value) bytes ≡ (key_length ++ p.key) ++ (value_length ++ p.value) →
+    take (2 + length p.key + 4 + length p.value) bytes ≡ pair_spelling p
+short_spelling p bytes key_length value_length k v e =
+    let two : length key_length ≡ 2 = ap length k in
+    let four : length value_length ≡ 4 = ap length v in
+    ap (λ n. take n bytes) (omega arith) ∙ e ∙ ap (λ xs. (xs ++ p.key) ++ (value_length ++ p.value)) k ∙ ap (λ xs. (to_be_bytes w16 (length p.key) ++ p.key) ++ (xs ++ p.value)) v

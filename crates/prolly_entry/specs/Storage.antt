@@ -3,8 +3,9 @@ use Rattle.std.specs.Prelude.{◌≡◌, ℕ, ◌+◌, ◌-◌, ◌≤◌, List,
 use Rattle.prolly_entry.specs.Cut.{boundary_number}
 use Rattle.prolly_entry.specs.Pair.{Pair, IsPair}
 use Rattle.prolly_entry.specs.Spelling.{pair_spelling}
-use Rattle.prolly_entry.specs.declared.pair.Storage.{Storage}
-use Rattle.prolly_entry.specs.declared.pair.Storage.TheVariants.{Apart, Spelled}
+use Rattle.prolly_entry.specs.declared.storage.Storage.{Storage}
+use Rattle.prolly_entry.specs.declared.storage.TheConstants.{IN_PLACE_LIMIT}
+use Rattle.prolly_entry.specs.declared.storage.Storage.TheVariants.{Apart, Block, InPlace}
 
 -- The pair whose spelling the bytes are, where its key ends there.
 abbrev pub pair_of : List ℕ → ℕ → Pair
@@ -13,7 +14,8 @@ pair_of bytes key_end = record { key = take (key_end - 2) (drop 2 bytes); value 
 -- The pair that is kept so.
 abbrev pub pair_in : Storage → Pair
 pair_in (Apart key value) = record { key = key.items; value = value.items }
-pair_in (Spelled spelling key_end) = pair_of spelling.items key_end
+pair_in (Block spelling key_end) = pair_of spelling.items key_end
+pair_in (InPlace bytes key_end len) = pair_of (take len bytes) key_end
 
 -- The bytes are the spelling of a lawful pair whose key ends there.
 pub record IsSpelling (bytes : List ℕ) (key_end : ℕ) : Type 0 where
@@ -25,7 +27,8 @@ pub record IsSpelling (bytes : List ℕ) (key_end : ℕ) : Type 0 where
 -- What is kept is lawful.
 abbrev pub IsStored : Storage → Type 0
 IsStored (Apart key value) = (vec_len key ≤ 1024) × (vec_len value ≤ 65536)
-IsStored (Spelled spelling key_end) = IsSpelling spelling.items key_end
+IsStored (Block spelling key_end) = IsSpelling spelling.items key_end
+IsStored (InPlace bytes key_end len) = (len ≤ IN_PLACE_LIMIT) × IsSpelling (take len bytes) key_end
 
 -- The boundary number that a pair carries, where it carries one, is that of its spelling.
 abbrev pub IsCarried : Pair → Option ℕ → Type 0

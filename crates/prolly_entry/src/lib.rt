@@ -18,6 +18,7 @@ mod record;
 mod record_file;
 mod reference;
 mod spelling;
+mod storage;
 mod version;
 
 pub use child::{ChildAt, front_child, front_child_as};

@@ -1,10 +1,9 @@
 //! Pairs of a key and a value.
 ghost use Rattle.std.specs.Prelude.{◌≡◌};
 
-use crate::appending::append_parts;
 use crate::boundary::boundary_number;
 use crate::limits::{KEY_LIMIT, VALUE_LIMIT};
-use crate::numbers::{four_bytes, two_bytes};
+use crate::storage::Storage;
 use std::alloc::{AllocError, Global};
 use std::marker::Model;
 
@@ -27,22 +26,6 @@ pub struct Pair {
     storage: Storage,
     boundary_number: Option<u32>,
 }
-
-/// How a pair is kept.
-#[derive(Debug, Drop)]
-enum Storage {
-    /// As it was given.
-    Apart { key: Vec<u8>, value: Vec<u8> },
-    /// As its spelling, one block of memory for both parts. The key is the bytes `2..key_end`, and the
-    /// value begins four bytes behind it.
-    Spelled { spelling: Vec<u8>, key_end: usize },
-}
-
-/// How many bytes of a spelling lie before the key.
-const KEY_START: usize = 2;
-
-/// How many bytes of a spelling lie between the key and the value.
-const VALUE_LENGTH_BYTES: usize = 4;
 
 impl Model for Pair {
     ghost use Rattle.prolly_entry.specs.Pair.{Pair as PairValue};
@@ -78,19 +61,15 @@ impl Pair {
         })
     }
 
-    /// A pair of copies of these bytes. Takes one block of memory.
+    /// A pair of copies of these bytes. Takes one block of memory, or none where key and value have at most 40
+    /// bytes together.
     pub fn copy_of(alloc: Global, key: &[u8], value: &[u8]) -> Result<Pair, AllocError>
         requires key { length key.now ≤ 1024 }
         requires value { length value.now ≤ 65536 }
         ensures { IfOk result (λ p. p ≡ record { key = key.now; value = value.now }) }
     {
-        let key_length = two_bytes(key.len() as u16);
-        let value_length = four_bytes(value.len() as u32);
-        let mut spelling = Vec::new(alloc);
-        append_parts(&mut spelling, &key_length, key, &value_length, value)?;
-        let key_end = KEY_START + key.len();
         Ok(Pair {
-            storage: Storage::Spelled { spelling, key_end },
+            storage: Storage::copy_of(alloc, key, value)?,
             boundary_number: None,
         })
     }
@@ -103,10 +82,7 @@ impl Pair {
         if self.boundary_number.is_some() {
             return self;
         }
-        let boundary_number = match &self.storage {
-            Storage::Apart { .. } => None,
-            Storage::Spelled { spelling, .. } => Some(boundary_number(spelling)),
-        };
+        let boundary_number = self.storage.spelling().map(boundary_number);
         Pair {
             boundary_number,
             ..self
@@ -124,10 +100,7 @@ impl Pair {
     pub(crate) fn spelling(&self) -> Option<&[u8]>
         ensures { IfSome result (λ spelling. spelling.now ≡ pair_spelling self.now) }
     {
-        match &self.storage {
-            Storage::Apart { .. } => None,
-            Storage::Spelled { spelling, .. } => Some(spelling),
-        }
+        self.storage.spelling()
     }
 
     /// The key.
@@ -135,10 +108,7 @@ impl Pair {
         ensures key { result.now ≡ self.now.key }
         ensures short { length self.now.key ≤ 1024 }
     {
-        match &self.storage {
-            Storage::Apart { key, .. } => key,
-            Storage::Spelled { spelling, key_end } => &spelling[KEY_START..*key_end],
-        }
+        self.storage.key()
     }
 
     /// The value.
@@ -146,9 +116,24 @@ impl Pair {
         ensures value { result.now ≡ self.now.value }
         ensures short { length self.now.value ≤ 65536 }
     {
-        match &self.storage {
-            Storage::Apart { value, .. } => value,
-            Storage::Spelled { spelling, key_end } => &spelling[*key_end + VALUE_LENGTH_BYTES..],
+        self.storage.value()
+    }
+}
+
+#[cfg(test)]
+mod tests {
+    use super::*;
+    use std::test::Fail;
+
+    #[test]
+    fn copies_are_whole_whether_short_or_long(rt: HostRuntime) -> Result<(), Fail> {
+        let key = [0x6B; 20];
+        for length in [0, 19, 20, 21, VALUE_LIMIT] {
+            let value = vec![in rt.alloc(); 0x76; length]?;
+            let copy = Pair::copy_of(rt.alloc(), &key, &value)?;
+            assert_eq!(rt; copy.key(), key.as_slice());
+            assert_eq!(rt; copy.value(), value.as_slice());
         }
+        Ok(())
     }
 }
