@@ -164,10 +164,11 @@ fn run_workers<R: Wait + Threads + Sync, S: Source + Send + Drop, W: Sink, G: Ga
 ///
 /// Before a worker sends an item `gate` is asked, and before a worker is started `permit`.
 ///
-/// Takes the hash of each entry and of each chunk: those of the leaves in one thread, those of each level of
-/// nodes in a thread of its own, and that of a pair where there is time for it, in its loader, in the last
-/// merger or in the thread of the leaves. Takes the memory of the links, as many items as capacity and
-/// batch allow for each, and of one buffer a file, whatever the files have.
+/// Takes the hash of each entry and of each chunk: that of a chunk in the thread of the level above, or in
+/// the caller's where there is none, that of a child's entry in the thread of its level, and that of a pair
+/// where there is time for it, in its loader, in the last merger or in the thread of the leaves. Takes the
+/// memory of the links, as many items as capacity and batch allow for each, and of one buffer a file, whatever
+/// the files have.
 pub fn build_with<R: Wait + Threads + Sync, S: Source + Send + Drop, W: Sink, G: Gate, P: Permit>(
     rt: &R,
     alloc: Global,

@@ -8,14 +8,17 @@ use std::marker::Model;
 
 /// A closed chunk: its level, its greatest key, its reference, its bytes and how many pairs are below
 /// it. Whoever takes it needs nothing else to write the chunk or to make the entry of a child of it.
+///
+/// It may carry its reference, a hash of all its bytes. So that hash can be taken by another thread than the one that
+/// closed the chunk. No contract tells such an event from one that carries none; `Debug` shows it.
 #[derive(Debug, Drop)]
 pub struct ChunkEvent {
     chunk: Chunk,
-    reference: Ref,
+    reference: Option<Ref>,
 }
 
 impl Model for ChunkEvent {
-    ghost use Rattle.std.specs.Prelude.{◌≡◌};
+    ghost use Rattle.std.specs.Prelude.{◌≡◌, IfSome};
     ghost use Rattle.prolly_entry.specs.Reference.{reference_of};
     ghost use Rattle.prolly_entry.specs.Chunk.{Chunk as ChunkValue};
 
@@ -23,16 +26,27 @@ impl Model for ChunkEvent {
 
     ghost view = { λ e. e.chunk };
 
-    ghost invariant = { λ e. e.reference.0 ≡ reference_of e.chunk.bytes };
+    ghost invariant = { λ e. IfSome e.reference (λ reference. reference.0 ≡ reference_of e.chunk.bytes) };
 }
 
 impl ChunkEvent {
-    /// The event of a chunk that closes. Takes one hash of its bytes, and no memory.
+    /// The event of a chunk that closes. Takes no hash, and no memory.
     pub(crate) fn new(chunk: Chunk) -> ChunkEvent
         ensures { result ≡ chunk }
     {
-        let reference = Ref::of(chunk.bytes());
-        ChunkEvent { chunk, reference }
+        ChunkEvent {
+            chunk,
+            reference: None,
+        }
+    }
+
+    /// The same event, which carries its reference from now on. Takes one hash of the bytes where it carried
+    /// none, and no memory.
+    pub fn with_reference(self) -> ChunkEvent
+        ensures { result ≡ self }
+    {
+        let reference = Some(self.reference());
+        ChunkEvent { reference, ..self }
     }
 
     /// The level: 0 for a leaf, and for a node one more than that of its children.
@@ -50,11 +64,14 @@ impl ChunkEvent {
         self.chunk.key()
     }
 
-    /// The reference of the bytes. It was taken when the chunk closed, so this takes no hash.
+    /// The reference of the bytes. Takes one hash of them where the event does not carry it.
     pub fn reference(&self) -> Ref
         ensures { result.0 ≡ reference_of self.now.bytes }
     {
-        self.reference
+        match self.reference {
+            Some(reference) => reference,
+            None => Ref::of(self.bytes()),
+        }
     }
 
     /// The bytes: the level, then the entries.

@@ -40,8 +40,8 @@ impl<C: Cut> LeafLevel<C> {
     /// Takes a pair, and answers the leaf that it closes, if it closes one. The pair's key is to be
     /// greater than those before it, or else what is made is no leaf of a map's tree.
     ///
-    /// Takes time in the pair's size and one look at the cut, and where a leaf closes one hash of the
-    /// leaf. Keeps the bytes of one leaf. After an `Err` the level is of no use.
+    /// Takes time in the pair's size and one look at the cut. A leaf that closes is not hashed here
+    /// ([`ChunkEvent::reference`]). Keeps the bytes of one leaf. After an `Err` the level is of no use.
     pub fn push(&mut self, alloc: Global, pair: &Pair) -> Result<Option<ChunkEvent>, AllocError>
         ensures { IfOk result (λ closed. LeafTakes C.cut self.old self.new pair.now closed) }
     {
@@ -53,7 +53,7 @@ impl<C: Cut> LeafLevel<C> {
     }
 
     /// What is left at a clean end: the open leaf where it has pairs, or the leaf without pairs where
-    /// no pair came at all. Takes one hash of the leaf.
+    /// no pair came at all. Takes no hash.
     pub fn finish(self) -> Option<ChunkEvent>
         ensures { LeafEnds C.cut self result }
     {

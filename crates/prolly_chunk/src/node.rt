@@ -77,8 +77,9 @@ impl<C: Cut> NodeLevel<C> {
     /// Takes an event, and answers the node that it closes, if it closes one. An event of any other
     /// level than the one below changes nothing.
     ///
-    /// Takes time in the size of the child's entry and one look at the cut, and where a node closes one
-    /// hash of the node. Keeps the bytes of one node. After an `Err` the level is of no use.
+    /// Takes time in the size of the child's entry, one look at the cut, and one hash of the child's bytes
+    /// where its event does not carry the reference. Keeps the bytes of one node. After an `Err` the level is
+    /// of no use.
     pub fn push(
         &mut self,
         alloc: Global,
@@ -100,7 +101,7 @@ impl<C: Cut> NodeLevel<C> {
     }
 
     /// What is left at a clean end: the open node where it has children, and two or more events of the
-    /// level below came. (Of a single one, that one is the root.) Takes one hash of the node.
+    /// level below came. (Of a single one, that one is the root.) Takes no hash.
     pub fn finish(self) -> Option<ChunkEvent>
         ensures { NodeEnds C.cut self result }
     {

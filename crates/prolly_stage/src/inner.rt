@@ -41,8 +41,8 @@ pub fn inner_stage<C: Cut, I: In<ChunkEvent>, O: Out<ChunkEvent>, R: Wait>(
 /// as one that ended with `Lost`.
 ///
 /// Where memory is refused it closes with that fault, and receives its input to the end. It keeps the
-/// bytes of one node, and takes one look at the cut for each child and one hash of each node. It returns
-/// if the ends do.
+/// bytes of one node, and takes one look at the cut for each child. It takes the hash of each chunk whose
+/// event does not carry its reference, and sends the event with it. It returns if the ends do.
 pub fn inner_stage_as<C: Cut, I: In<ChunkEvent>, O: Out<ChunkEvent>, R: Wait>(
     rt: &R,
     alloc: Global,
@@ -96,6 +96,7 @@ fn send_nodes<C: Cut, I: In<ChunkEvent>, O: Out<ChunkEvent>, R: Wait>(
     for _ in rt.forever() {
         match input.recv(rt) {
             Next::Item(event) => {
+                let event = event.with_reference();
                 let closed = nodes.push(alloc, &event)?;
                 send_event(rt, out, event)?;
                 send_closed(rt, out, closed)?;

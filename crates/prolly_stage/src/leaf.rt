@@ -19,8 +19,8 @@ use std::sync::Wait;
 /// that ended with `Lost`.
 ///
 /// Where memory is refused it closes with that fault, and receives its input to the end. It keeps the
-/// bytes of one leaf, and takes one look at the cut for each pair and one hash of each leaf. It returns
-/// if the ends do.
+/// bytes of one leaf, and takes one look at the cut for each pair. The hash of a leaf is left to whoever
+/// asks for its reference first. It returns if the ends do.
 pub fn leaf_stage<C: Cut, I: In<Pair>, O: Out<ChunkEvent>, R: Wait>(
     rt: &R,
     alloc: Global,

@@ -40,11 +40,12 @@ returns-in_err-send_closed-in-Item-clause-err g c =
     let stage = inner_events c.args.level (g.C.Cut.cut c.args.cut) c.args.version in
     let received = g.I.In.received c.args.input.now c.loop.input in
     let both = g.met.I.In.received_both c.args.input.now c.loop.input c.recv.new.self c.loop.invariant.follows c.in-Item.ensures.follows in
-    let one_more : g.I.In.received c.args.input.now c.recv.new.self ≡ received ++ c.in-Item.event ∷ [] = both ∙ ap (λ xs. received ++ xs) c.in-Item.ensures.received in
+    let one_more : g.I.In.received c.args.input.now c.recv.new.self ≡ received ++ c.with_reference-event.result ∷ [] =
+    both ∙ ap (λ xs. received ++ xs) c.in-Item.ensures.received ∙ ap (λ event. received ++ event ∷ []) (sym c.with_reference-event.ensures) in
     let takes = c.in_ok-closed-in-Item.ensures in
     let gives_up : GivesUp stage (g.I.In.received c.args.input.now c.recv.new.self) (g.O.Out.sent c.args.out.now) (g.O.Out.sent c.send_closed.new.out) =
     gives_up_within stage (nodes_keep (g.C.Cut.cut c.args.cut) c.args.version c.args.level)
-    received _ (c.in-Item.event ∷ []) (option_to_list c.in_ok-closed-in-Item.closed) _ _ _
+    received _ (c.with_reference-event.result ∷ []) (option_to_list c.in_ok-closed-in-Item.closed) _ _ _
     (ap (stage faulty) one_more ∙ takes.events c.args.cut c.args.version c.args.level received c.loop.invariant.state)
     c.loop.invariant.sent (c.in_err-send_closed-in-Item.ensures.err ∙ c.in_ok-send_event-in-Item.ensures.ok) in
     on_err _ gives_up
@@ -54,7 +55,8 @@ loop-preserved g c =
     let stage = inner_events c.args.level (g.C.Cut.cut c.args.cut) c.args.version in
     let received = g.I.In.received c.args.input.now c.loop.input in
     let both = g.met.I.In.received_both c.args.input.now c.loop.input c.recv.new.self c.loop.invariant.follows c.in-Item.ensures.follows in
-    let one_more : g.I.In.received c.args.input.now c.recv.new.self ≡ received ++ c.in-Item.event ∷ [] = both ∙ ap (λ xs. received ++ xs) c.in-Item.ensures.received in
+    let one_more : g.I.In.received c.args.input.now c.recv.new.self ≡ received ++ c.with_reference-event.result ∷ [] =
+    both ∙ ap (λ xs. received ++ xs) c.in-Item.ensures.received ∙ ap (λ event. received ++ event ∷ []) (sym c.with_reference-event.ensures) in
     let takes = c.in_ok-closed-in-Item.ensures in
     record {
       input_link = c.in-Item.ensures.link ∙ c.loop.invariant.input_link;
