@@ -81,6 +81,7 @@ impl<T: Drop> BatchSender<T> {
         }
         let full = mem::replace(&mut self.pending, Vec::new(self.alloc));
         send_items(rt, &mut self.sender, full, self.size);
+        self.sender.look_ahead();
         Ok(())
     }
 

@@ -32,7 +32,7 @@ pub trait Out<T> {
         ensures ok { OnOk result (sent self.new ≡ sent self.old ++ item ∷ []) }
         ensures err { IfErr result (λ back. (back ≡ item) × (sent self.new ≡ sent self.old)) };
 
-    /// Whether the receiver is far behind: of the room that this end last saw, at most a quarter of the
+    /// Whether the receiver is far behind: of the room that this end last saw, at most half of the
     /// link's is left. Then the sender has time to do what the receiver would do else, before it has to
     /// wait. It is a hint: no contract speaks of it.
     fn is_ahead(&self) -> bool {

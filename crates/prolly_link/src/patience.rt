@@ -13,11 +13,11 @@ const FEWEST_AWAKE: u32 = 12;
 // One or two milliseconds, in which a ring of the default size is filled and emptied again.
 const MOST_AWAKE: u32 = 4096;
 
-const FIRST_NAP_MICROS: u64 = 20;
+const SHORTEST_NAP_MICROS: u64 = 20;
 
 const LONGEST_NAP_MICROS: u64 = 1000;
 
-// Enough of them to come from the first nap to the longest.
+// Enough of them to come from the shortest nap to the longest.
 const MOST_DOUBLINGS: u32 = 10;
 
 // A ring of fewer places is full, or empty, after the shortest nap.
@@ -26,16 +26,22 @@ const FEWEST_PLACES: usize = 8;
 /// How an end waits. It stays awake in a short wait, and sleeps in a long one, which takes next to no time of the
 /// processor.
 ///
+/// It learns from what the other end has done when a wait is over. Where that is little, it woke too early, and the
+/// next wait begins with a longer nap: an end that waits for a message every few milliseconds needs no six naps for
+/// each.
+///
 /// Some machines wake a thread late, by milliseconds: guests above all, whose idle cores the host lends out. By then the
 /// ring is full, or empty, so that the other end sleeps too, and the threads of a pipeline sleep in turn. So an end that
-/// slept, and finds that the other one could do no more meanwhile, stays awake for longer in the waits to come, until
-/// it has slept and woken in time.
+/// slept the shortest naps, and finds that the other one could do no more meanwhile, stays awake for longer in the waits
+/// to come, until it has slept and woken in time.
 #[derive(Drop)]
 pub(crate) struct Patience {
     // No other thread has the word: a wake-up would need a shared one, which every send would then have to look at.
     word: AtomicU64,
     // Rounds of a wait before it sleeps.
     awake: u32,
+    // How long a wait's first nap is. Each further one is twice as long as the one before.
+    first_nap_micros: u64,
 }
 
 impl Patience {
@@ -43,6 +49,7 @@ impl Patience {
         Patience {
             word: AtomicU64::new(0),
             awake: FEWEST_AWAKE,
+            first_nap_micros: SHORTEST_NAP_MICROS,
         }
     }
 
@@ -56,8 +63,9 @@ impl Patience {
             thread::yield_now();
         } else {
             let doublings = (round - self.awake).min(MOST_DOUBLINGS);
-            let micros = (FIRST_NAP_MICROS << doublings).min(LONGEST_NAP_MICROS);
-            self.word.park_timeout(rt, 0, Duration::from_micros(micros));
+            let micros = self.first_nap_micros.saturating_mul(1 << doublings);
+            let nap = Duration::from_micros(micros.min(LONGEST_NAP_MICROS));
+            self.word.park_timeout(rt, 0, nap);
         }
     }
 
@@ -67,11 +75,25 @@ impl Patience {
         if rounds <= self.awake || places < FEWEST_PLACES {
             return;
         }
-        self.awake = if done < places {
-            (self.awake / 2).max(FEWEST_AWAKE)
+        if done < places {
+            self.awake = (self.awake / 2).max(FEWEST_AWAKE);
+            self.first_nap_micros = next_nap_micros(self.first_nap_micros, done, places);
+        } else if self.first_nap_micros > SHORTEST_NAP_MICROS {
+            self.first_nap_micros = SHORTEST_NAP_MICROS;
         } else {
-            self.awake.saturating_mul(2).min(MOST_AWAKE)
-        };
+            self.awake = self.awake.saturating_mul(2).min(MOST_AWAKE);
+        }
+    }
+}
+
+// How long to nap after naps that began with this one and ended in time.
+fn next_nap_micros(micros: u64, done: usize, places: usize) -> u64 {
+    if done < places / 8 {
+        micros.saturating_mul(2).min(LONGEST_NAP_MICROS)
+    } else if done > places / 2 {
+        (micros / 2).max(SHORTEST_NAP_MICROS)
+    } else {
+        micros
     }
 }
 
@@ -101,5 +123,29 @@ mod tests {
             patience.learn(u32::MAX, 64, 64);
         }
         assert_eq!(rt; patience.awake, MOST_AWAKE);
+    }
+
+    #[test]
+    fn first_naps_grow_where_they_end_too_early(rt: HostRuntime) {
+        let mut patience = Patience::new();
+        for (done, micros) in [
+            // One of 64 places is too few, and so are seven. Eight are enough, and more than half are too many.
+            (1, 40),
+            (7, 80),
+            (8, 80),
+            (32, 80),
+            (33, 40),
+            // The other end could do no more.
+            (1, 80),
+            (64, 20),
+        ] {
+            patience.learn(FEWEST_AWAKE + 1, done, 64);
+            assert_eq!(rt; patience.first_nap_micros, micros);
+            assert_eq!(rt; patience.awake, FEWEST_AWAKE);
+        }
+        for _ in 0..20 {
+            patience.learn(u32::MAX, 1, 64);
+        }
+        assert_eq!(rt; patience.first_nap_micros, LONGEST_NAP_MICROS);
     }
 }

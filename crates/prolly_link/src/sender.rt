@@ -43,6 +43,15 @@ impl<T> Sender<T> {
         push_waiting(rt, &mut self.patience, &mut self.ring, Message::Item(item));
     }
 
+    // Looks again how far behind the receiver is, where it seemed to be far.
+    pub(crate) fn look_ahead(&mut self)
+        ensures { self.new ≡ self.old }
+    {
+        if self.is_ahead() {
+            self.ring.slots();
+        }
+    }
+
     /// Sends an item, waiting for room. It takes no memory, and so it never refuses.
     pub fn send<R: Wait>(&mut self, rt: &R, item: T) -> Result<(), T>
         ensures never_refused { IsOk result }
@@ -87,7 +96,7 @@ impl<T> Out<T> for Sender<T> {
     }
 
     fn is_ahead(&self) -> bool {
-        self.ring.cached_slots() <= self.ring.capacity() / 4
+        self.ring.cached_slots() <= self.ring.capacity() / 2
     }
 
     fn close<R: Wait>(self, rt: &R, end: End) -> ClosedSender<T> {
