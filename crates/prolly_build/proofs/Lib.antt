@@ -13,3 +13,4 @@ pub mod Runs
 pub mod Counted
 pub mod Stops
 pub mod Takings
+pub mod Refusals

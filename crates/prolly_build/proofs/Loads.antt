@@ -19,9 +19,9 @@ use Rattle.prolly_build.specs.Workers.{IsLoadedFrom}
 use Rattle.prolly_build.proofs.Mergings.{Rises, IfFault, FaultsOnly, EndsClean}
 
 -- records that some bytes begin with
-record Begun (bytes : List ℕ) (limit : ℕ) (records : List Record) : Type 0 where
-  rest : List ℕ
-  begins : Begins bytes limit records rest
+pub record Begun (bytes : List ℕ) (limit : ℕ) (records : List Record) : Type 0 where
+  pub rest : List ℕ
+  pub begins : Begins bytes limit records rest
 
 of_reading : {bytes : List ℕ} {limit : ℕ} {records : List Record} {ending : Option _} → IsReading bytes limit records ending → Begun bytes limit records
 of_reading h = record { rest = h.rest; begins = h.begins }
@@ -62,7 +62,7 @@ end_only : (file limit : ℕ) (bytes : List ℕ) (records : List Record) (end : 
 end_only file limit bytes records Clean h = tt
 end_only file limit bytes records (Fault fault) h = fault_only file limit bytes records fault h
 
-clean_end : (end : End) → fault_of end ≡ None → end ≡ Clean
+pub clean_end : (end : End) → fault_of end ≡ None → end ≡ Clean
 clean_end Clean e = refl
 clean_end (Fault f) e = absurd cc
 
@@ -70,14 +70,14 @@ module _ {S : Type 0} (is_honest : S → Bool) (left : S → List ℕ) (failures
   abbrev One : ℕ → S → Batching Record → S → Whole Record → Type 0
   One file s o t c = IsLoadedFrom is_honest left failures file limit s o t c
 
-  begun : (file : ℕ) (s : S) (o : Batching Record) (t : S) (c : Whole Record) (h : One file s o t c) → Begun h.loaded.handed limit c.items
+  pub begun : (file : ℕ) (s : S) (o : Batching Record) (t : S) (c : Whole Record) (h : One file s o t c) → Begun h.loaded.handed limit c.items
   begun file s o t c h =
       subst (λ (rs : List Record). Begun h.loaded.handed limit rs) (sym h.loaded.sent) (end_begins file limit h.loaded.handed h.loaded.records c.end h.loaded.ends)
 
   not_read : (file : ℕ) (end : End) → end ≡ Clean → end ≡ Fault (faults.Read file) → ⊥
   not_read file end e f = cc
 
-  one_read : (file : ℕ) (s : S) (o : Batching Record) (t : S) (c : Whole Record) → One file s o t c → c.end ≡ Clean → IsRead is_honest left failures limit s t c.items
+  pub one_read : (file : ℕ) (s : S) (o : Batching Record) (t : S) (c : Whole Record) → One file s o t c → c.end ≡ Clean → IsRead is_honest left failures limit s t c.items
   one_read file s o t c h clean = record {
     reading = (λ honest.
         subst (λ (rs : List Record). IsReading (left s) limit rs None) (sym h.loaded.sent)

@@ -6,7 +6,7 @@ use Rattle.std.proofs.lemmas.List.{append-nil}
 use Rattle.prolly_entry.specs.Chunk.{Chunk, chunk_of, chunks}
 use Rattle.prolly_entry.specs.Cut.{Cut, sha512_cut}
 use Rattle.prolly_entry.specs.Events.{clean, has_level, greatest_count}
-use Rattle.prolly_entry.specs.File.{file, header, end_record}
+use Rattle.prolly_entry.specs.File.{file, header, end_record, root_reference}
 use Rattle.prolly_entry.specs.Pair.{Pair}
 use Rattle.prolly_entry.specs.Pipeline.{pipeline_events, before_second, within_stages, HasSecond}
 use Rattle.prolly_entry.specs.Prefix.{IsPrefix}
@@ -30,6 +30,16 @@ use Rattle.prolly_build.specs.Settings.{Settings}
 use Rattle.prolly_build.specs.Writing.{Sunk, HasWritten, HasEnded, IsEndFault, IsWhole, IsTall, IsFailed, IsUnended, IsTopOf, tops_counted, frames_of}
 use Rattle.prolly_build.proofs.Tops.{frames_front}
 use Rattle.prolly_build.proofs.WritingSteps.{prefix_on}
+
+-- the frames of the first chunks of a map's tree are a prefix of its file
+pub frames_are_first : (settings : Settings) (m : List Pair) (first : List Chunk) → IsPrefix first (chunks (sha512_cut settings.bits) settings.version m) →
+    IsPrefix (frames_of (header settings.version settings.bits) first) (file (sha512_cut settings.bits) settings.version m)
+frames_are_first settings m first h =
+    let head = header settings.version settings.bits in
+    let all = chunks (sha512_cut settings.bits) settings.version m in
+    let front = frames_front head first all h in
+    let ending = end_record (root_reference (sha512_cut settings.bits) settings.version m) (length all) in
+    (front.0 ++ ending, ap (λ (bytes : List ℕ). bytes ++ ending) front.1 ∙ append_assoc (frames_of head first) front.0 ending)
 
 pub at_most_one : (b : Bool) → tops_counted b ≤ 1
 at_most_one true = omega arith
@@ -158,9 +168,7 @@ module _ (settings : Settings) (some : 1 ≤ settings.stages) (most : settings.s
   tall_is_prefix : IsPrefix (tall_file settings m) (file cut settings.version m)
   tall_is_prefix =
       let all = chunks cut settings.version m in
-      let front = frames_front file_head (within_stages settings.stages all) all (within_is_prefix settings.stages all all ([], sym (append-nil all))).1 in
-      let ending = end_record (reference_of root_chunk.bytes) (length all) in
-      (front.0 ++ ending, ap (λ (bytes : List ℕ). bytes ++ ending) front.1 ∙ append_assoc (tall_file settings m) front.0 ending)
+      frames_are_first settings m (within_stages settings.stages all) (within_is_prefix settings.stages all all ([], sym (append-nil all))).1
 
   too_tall : (old new : Sunk) → IsTall file_head level events old new → IsTooTall settings m old new
   too_tall old new h =

@@ -7,6 +7,7 @@ use Rattle.prolly_entry.specs.Overlay.{raw_overlay, overlay, pairs_put, AllRisin
 use Rattle.prolly_entry.specs.Pair.{Pair}
 use Rattle.prolly_entry.specs.Position.{Position, last_position, is_before}
 use Rattle.prolly_entry.specs.Record.{Record, keys_of}
+use Rattle.prolly_entry.proofs.Fronts.{all_kept}
 use Rattle.prolly_entry.proofs.Joins.{merge_joined}
 use Rattle.prolly_entry.proofs.MergedParts.{merged_part_rises}
 use Rattle.prolly_link.specs.declared.fault.End.{End}
@@ -158,7 +159,7 @@ all_clean (i ∷ is) e =
     let h = earlier_none (stop_at (last_position i.records) i.fault) (stop is) e in
     (stop_at_none (last_position i.records) i.fault h.0, all_clean is h.1)
 
-stop_none : (s : Option (Stop RunFault)) → stop_fault s ≡ None → s ≡ None
+pub stop_none : (s : Option (Stop RunFault)) → stop_fault s ≡ None → s ≡ None
 stop_none None e = refl
 stop_none (Some s) e = absurd cc
 
@@ -207,10 +208,6 @@ joined_clean (suc n) files inputs j rising none =
     (k.0, k.1 ∙ h.1)
 
 -- ---- the pairs of the last merger
-
-all_kept : (rs : List Record) → filter (λ r. true) rs ≡ rs
-all_kept [] = refl
-all_kept (r ∷ rs) = ap (λ (ss : List Record). r ∷ ss) (all_kept rs)
 
 -- where nothing stops them, the merged part of files is their overlay
 pub merged_is_overlay : (files : Inputs) → stop files ≡ None → merged_part files ≡ overlay (lists_of files)

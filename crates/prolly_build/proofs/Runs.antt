@@ -167,6 +167,17 @@ pub halted_unstopped : (halt : Halt) (fault : RunFault) → IsHaltFault halt fau
 halted_unstopped NoThread_halt fault is f = subst IsFileFault is f
 halted_unstopped Lost_halt fault is f = subst IsFileFault is f
 
+-- a halt is no want of memory
+pub halted_unrefused : (halt : Halt) (fault : RunFault) → IsHaltFault halt fault → fault ≡ Memory → ⊥
+halted_unrefused NoThread_halt fault is m = no_thread (sym is ∙ m)
+  where
+    no_thread : NoThread ≡ Memory → ⊥
+    no_thread e = cc
+halted_unrefused Lost_halt fault is m = lost (sym is ∙ m)
+  where
+    lost : Lost ≡ Memory → ⊥
+    lost e = cc
+
 -- a halt is no fault of the writer
 pub halted_unmade : (halt : Halt) (fault : RunFault) → IsHaltFault halt fault → IsWriterFault fault → ⊥
 halted_unmade NoThread_halt fault is w = subst IsWriterFault is w

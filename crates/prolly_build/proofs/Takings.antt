@@ -1,4 +1,4 @@
--- What the writer has written of the pairs before a fault.
+-- What the writer has written of the pairs before a fault, and before want of memory.
 use Rattle.std.proofs.Common.{◌≡◌, ◌≤◌, ◌<◌, ◌+◌, ◌-◌, ◌^◌, ℕ, suc, true, List, ◌++◌, length, inl, inr, ap, sym, subst, ◌∙◌, arith}
 use Rattle.std.specs.List.{filter}
 use Rattle.prolly_entry.specs.Chunk.{Chunk, begun_chunks}
@@ -12,6 +12,7 @@ use Rattle.prolly_file.specs.Sink.{TakesPrefix}
 use Rattle.prolly_link.specs.declared.fault.End.{End}
 use Rattle.prolly_link.specs.declared.fault.End.TheVariants.{Clean, Fault}
 use Rattle.prolly_link.specs.declared.fault.RunFault.{RunFault}
+use Rattle.prolly_link.specs.declared.fault.RunFault.TheVariants.{Memory, Write, TooTall as TooTall_fault, Lost}
 use Rattle.prolly_build.specs.declared.writer.Written.{Written}
 use Rattle.prolly_build.specs.declared.writer.Written.TheVariants.{Whole, TooTall, Failed}
 use Rattle.prolly_build.specs.Settings.{Settings}
@@ -53,6 +54,38 @@ module _ (settings : Settings) (some : 1 ≤ settings.stages) (p : List Pair) (f
     all = λ u k. absurd (h.failed u);
     part = λ k. subst (λ (bytes : List ℕ). TakesPrefix old.taken new.taken bytes) begun_is (h.taken_is k);
   }
+
+-- what the sink took of events, of which the writer takes those before the second one of the last stage's level
+took_events : (head : List ℕ) (level : ℕ) (events : List Chunk) (old new : Sunk) (written : Written) → HasWritten head level events old new written →
+    old.is_keeping ≡ true → TakesPrefix old.taken new.taken (frames_of head (before_second level events))
+took_events head level events old new (Whole begun) h keeps =
+    let one = at_most_one begun.has_top in
+    let count = h.few in
+    let few : length (filter (has_level level) events) ≤ 1 = omega (arith, one, count) in
+    all_taken (h.taken_is keeps ∙ ap (λ (es : List Chunk). old.taken ++ frames_of head es) (sym (second_all level events few)))
+took_events head level events old new TooTall h keeps = all_taken (h.taken_is keeps)
+took_events head level events old new Failed h keeps = h.taken_is keeps
+
+pub lost_is_no_memory : Lost ≡ Memory → ⊥
+lost_is_no_memory e = cc
+
+-- what is known where a build names want of memory
+pub refused_at : (head : List ℕ) (level : ℕ) (events : List Chunk) (old before after : Sunk) (written : Written) (end : End) (fault : RunFault) →
+    HasWritten head level events old before written → IsEndFault head level events old before after end fault → fault ≡ Memory →
+    (end ≡ Fault Memory) × (old.is_keeping ≡ true → TakesPrefix old.taken after.taken (frames_of head (before_second level events)))
+refused_at head level events old before after written (Fault f) fault h is memory = (
+  ap Fault (sym is.0 ∙ memory),
+  subst (λ (s : Sunk). old.is_keeping ≡ true → TakesPrefix old.taken s.taken (frames_of head (before_second level events))) (sym is.1)
+      (took_events head level events old before written h),
+)
+refused_at head level events old before after written Clean fault h (inl failed) memory = absurd (apart (sym failed.0 ∙ memory))
+  where
+    apart : Write ≡ Memory → ⊥
+    apart e = cc
+refused_at head level events old before after written Clean fault h (inr tall) memory = absurd (apart (sym tall.0 ∙ memory))
+  where
+    apart : TooTall_fault ≡ Memory → ⊥
+    apart e = cc
 
 -- what is known where a build names the fault of a file
 pub stopped_at : (settings : Settings) (some : 1 ≤ settings.stages) (events : List Chunk) (old before after : Sunk) (written : Written) (end : End) (fault : RunFault) →

@@ -9,3 +9,4 @@ pub mod Gathering
 pub mod Staging
 pub mod Built
 pub mod Stopped
+pub mod Refused

@@ -1,12 +1,13 @@
 //! The pipelined build.
 ghost use Rattle.std.specs.Prelude.{◌≡◌, ◌≢◌, ◌+◌, ◌<◌, ◌≤◌, ◌↔◌, [], Err, vec_len, IfOk, IfErr, OnOk};
-ghost use Rattle.prolly_link.specs.declared.fault.RunFault.TheVariants.{TooManyFiles, Write};
+ghost use Rattle.prolly_link.specs.declared.fault.RunFault.TheVariants.{Memory, TooManyFiles, Write};
 ghost use Rattle.prolly_build.specs.Settings.{AreLawful};
 ghost use Rattle.prolly_build.specs.Writing.{Sunk};
 ghost use Rattle.prolly_build.specs.Ran.{IsWritten};
 ghost use Rattle.prolly_build.specs.Staging.{HasStaged};
 ghost use Rattle.prolly_build.specs.declared.halt.Halt.TheVariants.{NoThread};
 ghost use Rattle.prolly_build.specs.Built.{IsBegun, IsBuilt, IsUnmade, AreKept, IsAnswer, IsRefusal, IsWriterFault};
+ghost use Rattle.prolly_build.specs.Refused.{IsRefused};
 ghost use Rattle.prolly_build.specs.Stopped.{AreHonest, IsFileFault, IsStopped};
 
 use crate::config::Config;
@@ -110,6 +111,9 @@ fn run_workers<R: Wait + Threads + Sync, S: Source + Send + Drop, W: Sink, G: Ga
     ensures stopped { IfErr result (λ fault. IsFileFault fault → AreHonest S.is_honest S.left S.failures sources.old.items → IsStopped S.is_honest S.left S.failures config sources.old.items sources.new.items
         (record { is_keeping = W.is_keeping sink.old; taken = W.taken sink.old; failures = W.failures sink.old })
         (record { is_keeping = W.is_keeping sink.new; taken = W.taken sink.new; failures = W.failures sink.new }) fault) }
+    ensures refused { IfErr result (λ fault. fault ≡ Memory → AreHonest S.is_honest S.left S.failures sources.old.items → IsRefused S.left config sources.old.items
+        (record { is_keeping = W.is_keeping sink.old; taken = W.taken sink.old; failures = W.failures sink.old })
+        (record { is_keeping = W.is_keeping sink.new; taken = W.taken sink.new; failures = W.failures sink.new })) }
     ensures err { IfErr result (IsRefusal (sink.new ≡ sink.old) (AreKept S.is_honest S.left S.failures sources.old.items sources.new.items)) }
 {
     let mut lent = mem::replace(sources, Vec::new(alloc));
@@ -192,6 +196,9 @@ pub fn build_with<R: Wait + Threads + Sync, S: Source + Send + Drop, W: Sink, G:
     ensures stopped { IfErr result (λ fault. IsFileFault fault → AreHonest S.is_honest S.left S.failures sources.old.items → IsStopped S.is_honest S.left S.failures config.now sources.old.items sources.new.items
         (record { is_keeping = W.is_keeping sink.old; taken = W.taken sink.old; failures = W.failures sink.old })
         (record { is_keeping = W.is_keeping sink.new; taken = W.taken sink.new; failures = W.failures sink.new }) fault) }
+    ensures refused { IfErr result (λ fault. fault ≡ Memory → AreHonest S.is_honest S.left S.failures sources.old.items → IsRefused S.left config.now sources.old.items
+        (record { is_keeping = W.is_keeping sink.old; taken = W.taken sink.old; failures = W.failures sink.old })
+        (record { is_keeping = W.is_keeping sink.new; taken = W.taken sink.new; failures = W.failures sink.new })) }
     ensures err { IfErr result (λ fault. IsAnswer (sink.new ≡ sink.old) (AreKept S.is_honest S.left S.failures sources.old.items sources.new.items) fault) }
 {
     if sources.len() > FILES_LIMIT {
@@ -227,6 +234,9 @@ pub fn build<R: Wait + Threads + Sync, S: Source + Send + Drop, W: Sink, G: Gate
     ensures stopped { IfErr result (λ fault. IsFileFault fault → AreHonest S.is_honest S.left S.failures sources.old.items → IsStopped S.is_honest S.left S.failures config.now sources.old.items sources.new.items
         (record { is_keeping = W.is_keeping sink.old; taken = W.taken sink.old; failures = W.failures sink.old })
         (record { is_keeping = W.is_keeping sink.new; taken = W.taken sink.new; failures = W.failures sink.new }) fault) }
+    ensures refused { IfErr result (λ fault. fault ≡ Memory → AreHonest S.is_honest S.left S.failures sources.old.items → IsRefused S.left config.now sources.old.items
+        (record { is_keeping = W.is_keeping sink.old; taken = W.taken sink.old; failures = W.failures sink.old })
+        (record { is_keeping = W.is_keeping sink.new; taken = W.taken sink.new; failures = W.failures sink.new })) }
     ensures err { IfErr result (λ fault. IsAnswer (sink.new ≡ sink.old) (AreKept S.is_honest S.left S.failures sources.old.items sources.new.items) fault) }
 {
     build_with(rt, alloc, config, sources, sink, gate, &AllStart)

@@ -1,17 +1,17 @@
 -- Inputs that were cut short behind the stop.
-use Rattle.std.proofs.Common.{◌≡◌, ℕ, Bool, true, false, not, cond, List, [], ◌∷◌, ◌++◌, map, Option, Some, None, Ordering, ◌⊎◌, inl, inr, refl, sym, ap, ◌∙◌, subst}
-use Rattle.std.specs.declared.cmp.Ordering.TheVariants.{Less, Equal, Greater}
-use Rattle.std.specs.Ordering.{is_lt, is_eq}
+use Rattle.std.proofs.Common.{◌≡◌, Bool, true, false, cond, List, [], ◌∷◌, ◌++◌, map, Option, Some, None, ◌⊎◌, inl, inr, refl, sym, ap, ◌∙◌, subst, ℕ}
+use Rattle.std.specs.Ordering.{is_lt}
 use Rattle.std.proofs.lemmas.Bool.{false≢true}
+use Rattle.std.proofs.lemmas.List.{append-nil}
 use Rattle.std.specs.List.{filter}
-use Rattle.prolly_entry.specs.Keys.{key_order}
-use Rattle.prolly_entry.specs.Overlay.{change_of, or_else, last_change_of, raw_overlay, AllRising}
-use Rattle.prolly_entry.specs.CutShort.{IsSentOf, AreSentOf, CutBehindStop}
+use Rattle.prolly_entry.specs.Overlay.{raw_overlay, AllRising}
+use Rattle.prolly_entry.specs.CutShort.{IsSentOf, AreSentOf, CutBehindStop, IsFrontOf, AreFrontsOf}
 use Rattle.prolly_entry.specs.Merge.{Input, Stop, stop_at, earlier_stop, stop, is_within, raw_merged_part}
 use Rattle.prolly_entry.specs.Position.{Position, last_position, is_before}
 use Rattle.prolly_entry.specs.Record.{Record}
-use Rattle.prolly_entry.proofs.Joins.{before_trans, before_weak, earlier_none, within_earlier, filter_rising, found_filter, and_left, and_right}
-use Rattle.prolly_entry.proofs.Overlays.{IsRising, AllAbove, is_rising, rising_is, above_trans, found_above, found_raw, rising_raw, same_lookups, order_self, greater_below, below_greater}
+use Rattle.prolly_entry.proofs.Fronts.{part_of_overlay}
+use Rattle.prolly_entry.proofs.Joins.{before_trans, before_weak, earlier_none}
+use Rattle.prolly_entry.proofs.Overlays.{IsRising, AllAbove, is_rising, order_self, below_greater}
 
 -- ---- a rising list and its first records
 
@@ -29,30 +29,6 @@ last_behind [] ys h = refl
 last_behind (x ∷ []) [] h = before_self (Some x.key)
 last_behind (x ∷ []) (y ∷ ys) h = last_above x.key y ys h.0
 last_behind (x ∷ z ∷ xs) ys h = last_behind (z ∷ xs) ys h.1
-
-front_above : (x : List ℕ) (xs ys : List Record) → AllAbove x (xs ++ ys) → AllAbove x xs
-front_above x [] ys h = tt
-front_above x (r ∷ xs) ys h = (h.0, front_above x xs ys h.1)
-
-front_rising : (xs ys : List Record) → IsRising (xs ++ ys) → IsRising xs
-front_rising [] ys h = tt
-front_rising (x ∷ xs) ys h = (front_above x.key xs ys h.0, front_rising xs ys h.1)
-
--- what comes behind its first records says nothing of a key up to the last of them
-front_found : (xs ys : List Record) (key : List ℕ) → IsRising (xs ++ ys) → is_before (last_position xs) (Some key) ≡ false → change_of (xs ++ ys) key ≡ change_of xs key
-front_found [] ys key h k = absurd (false≢true (sym k))
-front_found (x ∷ []) ys key h k = go (key_order x.key key) refl
-  where
-    go : (o : Ordering) → key_order x.key key ≡ o → change_of (x ∷ ys) key ≡ change_of (x ∷ []) key
-    go Less e = absurd (false≢true (sym k ∙ ap is_lt e))
-    go Equal e = rw e refl
-    go Greater e = rw e (found_above key ys (above_trans key x.key ys (greater_below x.key key e) h.0))
-front_found (x ∷ z ∷ xs) ys key h k = go (is_eq (key_order x.key key)) refl (front_found (z ∷ xs) ys key h.1 k)
-  where
-    go : (b : Bool) → is_eq (key_order x.key key) ≡ b → change_of ((z ∷ xs) ++ ys) key ≡ change_of (z ∷ xs) key →
-        change_of ((x ∷ z ∷ xs) ++ ys) key ≡ change_of (x ∷ z ∷ xs) key
-    go true e more = rw e refl
-    go false e more = rw e more
 
 -- ---- the stop
 
@@ -178,57 +154,26 @@ module _ {F : Type 0} (refused : F) where
 
   -- ---- the records up to the stop
 
-  sent_rising : (i j : Input F) → IsRising i.records → IsSentOf refused i j → IsRising j.records
-  sent_rising i j h (inl e) = subst (λ (x : Input F). IsRising x.records) (sym e) h
-  sent_rising i j h (inr k) = front_rising j.records k.1.0 (subst IsRising k.1.1 h)
-
-  all_rising : (inputs sent : List (Input F)) → AllRising (lists_of inputs) → AreSentOf refused inputs sent → AllRising (lists_of sent)
-  all_rising [] [] h k = tt
-  all_rising (i ∷ inputs) [] h k = absurd k
-  all_rising [] (j ∷ sent) h k = absurd k
-  all_rising (i ∷ inputs) (j ∷ sent) h k = (rising_is j.records (sent_rising i j (is_rising i.records h.0) k.0), all_rising inputs sent h.1 k.1)
-
-  same_found : (i j : Input F) (key : List ℕ) → IsRising i.records → IsSentOf refused i j → is_within (own j) key ≡ true → change_of i.records key ≡ change_of j.records key
-  same_found i j key h (inl e) w = ap (λ (x : Input F). change_of x.records key) (sym e)
-  same_found i j key h (inr k) w =
-      let before : is_before (last_position j.records) (Some key) ≡ false =
-      not_true (is_before (last_position j.records) (Some key)) (subst (λ f. is_within (stop_at (last_position j.records) f) key ≡ true) k.0 w) in
-      ap (λ (rs : List Record). change_of rs key) k.1.1 ∙ front_found j.records k.1.0 key (subst IsRising k.1.1 h) before
+  one_front : (i j : Input F) → IsSentOf refused i j → IsFrontOf i.records j
+  one_front i j (inl e) = record {
+    first = ([], ap (λ (x : Input F). x.records) (sym e) ∙ sym (append-nil j.records));
+    all = λ _. ap (λ (x : Input F). x.records) e;
+  }
+  one_front i j (inr k) = record { first = k.1; all = λ e. absurd (none_is_some (sym e ∙ k.0)) }
     where
-      not_true : (b : Bool) → not b ≡ true → b ≡ false
-      not_true true h = absurd (false≢true h)
-      not_true false h = refl
+      none_is_some : ◌≡◌ {A = Option F} None (Some refused) → ⊥
+      none_is_some e = cc
 
-  all_found : (inputs sent : List (Input F)) (key : List ℕ) → AllRising (lists_of inputs) → AreSentOf refused inputs sent → is_within (stop sent) key ≡ true →
-      last_change_of (lists_of inputs) key ≡ last_change_of (lists_of sent) key
-  all_found [] [] key h k w = refl
-  all_found (i ∷ inputs) [] key h k w = absurd k
-  all_found [] (j ∷ sent) key h k w = absurd k
-  all_found (i ∷ inputs) (j ∷ sent) key h k w =
-      let both = sym (within_earlier (own j) (stop sent) key) ∙ w in
-      let first = same_found i j key (is_rising i.records h.0) k.0 (and_left (is_within (own j) key) (is_within (stop sent) key) both) in
-      let rest = all_found inputs sent key h.1 k.1 (and_right (is_within (own j) key) (is_within (stop sent) key) both) in
-      ap (λ o. or_else o (change_of i.records key)) rest ∙ ap (λ o. or_else (last_change_of (lists_of sent) key) o) first
+  fronts : (inputs sent : List (Input F)) → AreSentOf refused inputs sent → AreFrontsOf (lists_of inputs) sent
+  fronts [] [] k = tt
+  fronts (i ∷ inputs) [] k = absurd k
+  fronts [] (j ∷ sent) k = absurd k
+  fronts (i ∷ inputs) (j ∷ sent) k = (one_front i j k.0, fronts inputs sent k.1)
 
   same_part : (inputs sent : List (Input F)) → AllRising (lists_of inputs) → AreSentOf refused inputs sent → stop inputs ≡ stop sent →
       raw_merged_part inputs ≡ raw_merged_part sent
   same_part inputs sent h k same =
-      let t : List ℕ → Bool = λ q. is_within (stop inputs) q in
-      let u : List ℕ → Bool = λ q. is_within (stop sent) q in
-      let left = raw_overlay (lists_of inputs) in
-      let right = raw_overlay (lists_of sent) in
-      same_lookups (filter (λ r. t r.key) left) (filter (λ r. u r.key) right)
-      (filter_rising t left (rising_raw (lists_of inputs))) (filter_rising u right (rising_raw (lists_of sent)))
-      (λ key. found_filter t left key
-      ∙ ap (λ s. cond (is_within s key) (change_of left key) None) same
-      ∙ within key (u key) refl
-      ∙ sym (found_filter u right key))
-    where
-      within : (key : List ℕ) (b : Bool) → is_within (stop sent) key ≡ b →
-          cond (is_within (stop sent) key) (change_of (raw_overlay (lists_of inputs)) key) None ≡ cond (is_within (stop sent) key) (change_of (raw_overlay (lists_of sent)) key) None
-      within key false e = rw e refl
-      within key true e =
-          rw e (found_raw (lists_of inputs) key h ∙ all_found inputs sent key h k e ∙ sym (found_raw (lists_of sent) key (all_rising inputs sent h k)))
+      ap (λ s. filter (λ r. is_within s r.key) (raw_overlay (lists_of inputs))) same ∙ part_of_overlay (lists_of inputs) sent h (fronts inputs sent k)
 
 pub cut_behind_stop : (F : Type 0) → CutBehindStop F
 unfolding AreStops

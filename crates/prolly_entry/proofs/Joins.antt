@@ -6,7 +6,7 @@ use Rattle.std.proofs.lemmas.Bool.{false≢true}
 use Rattle.std.specs.List.{filter, AllByRecursion}
 use Rattle.prolly_entry.specs.Record.{Record}
 use Rattle.prolly_entry.specs.Keys.{key_order, KeyBelow}
-use Rattle.prolly_entry.specs.Overlay.{change_of, or_else, last_change_of, raw_overlay, AllRising}
+use Rattle.prolly_entry.specs.Overlay.{change_of, or_else, last_change_of, raw_overlay, AllRising, NeighboursOverlayFirst}
 use Rattle.prolly_entry.specs.Merge.{Input, Stop, stop_at, earlier_stop, stop, is_within, raw_merged_part, stop_fault, joined_input, NeighboursMergeFirst}
 use Rattle.prolly_entry.specs.Position.{Position, last_position, is_before}
 use Rattle.prolly_entry.proofs.Overlays.{IsRising, AllAbove, rising_is, found_raw, rising_raw, same_lookups, or_none, or_assoc, eq_true, order_same, order_self, order_trans, greater_below}
@@ -327,3 +327,28 @@ module _ {F : Type 0} where
 
   pub merge_joined : NeighboursMergeFirst F
   merge_joined before after a b h = (stop_row before after a b (rising_two before after a b h), merged_row before after a b h)
+
+-- ---- two lists of records
+
+last_found_two : (before after : List (List Record)) (a b : List Record) (key : List ℕ) → AllRising (a ∷ b ∷ []) →
+    last_change_of (before ++ a ∷ b ∷ after) key ≡ last_change_of (before ++ raw_overlay (a ∷ b ∷ []) ∷ after) key
+last_found_two [] after a b key h =
+    or_assoc (last_change_of after key) (change_of b key) (change_of a key)
+    ∙ ap (or_else (last_change_of after key)) (sym (found_raw (a ∷ b ∷ []) key h))
+last_found_two (l ∷ before) after a b key h = ap (λ o. or_else o (change_of l key)) (last_found_two before after a b key h)
+
+pub two_of_all : (before after : List (List Record)) (a b : List Record) → AllRising (before ++ a ∷ b ∷ after) → AllRising (a ∷ b ∷ [])
+two_of_all [] after a b h = (h.0, (h.1.0, tt))
+two_of_all (l ∷ before) after a b h = two_of_all before after a b h.1
+
+pub rising_two_as_one : (before after : List (List Record)) (a b : List Record) → AllRising (before ++ a ∷ b ∷ after) → AllRising (before ++ raw_overlay (a ∷ b ∷ []) ∷ after)
+rising_two_as_one [] after a b h = (rising_is (raw_overlay (a ∷ b ∷ [])) (rising_raw (a ∷ b ∷ [])), h.1.1)
+rising_two_as_one (l ∷ before) after a b h = (h.0, rising_two_as_one before after a b h.1)
+
+pub overlay_of_two : NeighboursOverlayFirst
+overlay_of_two before after a b h =
+    same_lookups (raw_overlay (before ++ a ∷ b ∷ after)) (raw_overlay (before ++ raw_overlay (a ∷ b ∷ []) ∷ after))
+    (rising_raw (before ++ a ∷ b ∷ after)) (rising_raw (before ++ raw_overlay (a ∷ b ∷ []) ∷ after))
+    (λ key. found_raw (before ++ a ∷ b ∷ after) key h
+    ∙ last_found_two before after a b key (two_of_all before after a b h)
+    ∙ sym (found_raw (before ++ raw_overlay (a ∷ b ∷ []) ∷ after) key (rising_two_as_one before after a b h)))

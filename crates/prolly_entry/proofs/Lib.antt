@@ -12,6 +12,7 @@ pub mod Sizes
 pub mod Overlays
 pub mod Joins
 pub mod MergedParts
+pub mod Fronts
 pub mod CutShort
 pub mod Steps
 pub mod Orders

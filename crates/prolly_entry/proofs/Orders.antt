@@ -1,14 +1,15 @@
 -- The order of keys in words, and that bytes have one reading.
-use Rattle.std.proofs.Common.{◌≡◌, ℕ, suc, ◌<◌, ◌≤◌, List, [], ◌∷◌, ◌++◌, length, Option, Some, None, Ordering, nat_cmp, refl, sym, ap, ◌∙◌, subst, arith, append_assoc}
+use Rattle.std.proofs.Common.{◌≡◌, ℕ, suc, ◌<◌, ◌≤◌, List, [], ◌∷◌, ◌++◌, length, Option, Some, None, Ordering, nat_cmp, refl, sym, ap, ◌∙◌, subst, arith, append_assoc, length-append}
 use Rattle.std.specs.declared.cmp.Ordering.TheVariants.{Less, Equal, Greater}
 use Rattle.std.specs.Ordering.{ordering_then}
 use Rattle.std.proofs.lemmas.Bool.Decides.{nat_tests}
+use Rattle.std.proofs.lemmas.List.{append-nil}
 use Rattle.std.specs.List.{flat_map, AllByRecursion}
 use Rattle.prolly_entry.specs.Record.{Record, IsRecord}
 use Rattle.prolly_entry.specs.Spelling.{record_spelling}
 use Rattle.prolly_entry.specs.Keys.{key_order, KeyBelow, ComesBefore, KeyOrderIsBytewise}
 use Rattle.prolly_entry.specs.declared.flaw.Flaw.{Flaw}
-use Rattle.prolly_entry.specs.Reading.{EndsIn, OneReading}
+use Rattle.prolly_entry.specs.Reading.{Begins, EndsIn, IsReading, OneReading, FirstAreGood}
 use Rattle.prolly_entry.proofs.Spellings.{record_spellings_apart}
 
 cmp_less : (a b : ℕ) → a < b → nat_cmp a b ≡ Less
@@ -65,21 +66,41 @@ key_order_is x y = (below, comes x y)
 
 -- ---- one reading
 
-record Same (rs ss : List Record) (x y : List ℕ) : Type 0 where
-  records : rs ≡ ss
-  rest : x ≡ y
+-- The second list goes on where the first one ends, and so do the bytes behind the first one.
+record GoesOn (rs ss : List Record) (x y : List ℕ) : Type 0 where
+  more : List Record
+  records : ss ≡ rs ++ more
+  rest : x ≡ flat_map record_spelling more ++ y
 
-same_fronts : (rs ss : List Record) (x y : List ℕ) → AllByRecursion IsRecord rs → AllByRecursion IsRecord ss → length rs ≡ length ss →
-    flat_map record_spelling rs ++ x ≡ flat_map record_spelling ss ++ y → Same rs ss x y
-same_fronts [] [] x y h k n e = record { records = refl; rest = e }
-same_fronts [] (s ∷ ss) x y h k n e = absurd (let n' : 0 ≡ suc (length ss) = n in omega arith)
-same_fronts (r ∷ rs) [] x y h k n e = absurd (let n' : suc (length rs) ≡ 0 = n in omega arith)
-same_fronts (r ∷ rs) (s ∷ ss) x y h k n e =
-    let n' : suc (length rs) ≡ suc (length ss) = n in
+-- Of two lists of records that begin the same bytes the shorter one begins the longer one.
+goes_on : (rs ss : List Record) (x y : List ℕ) → AllByRecursion IsRecord rs → AllByRecursion IsRecord ss → length rs ≤ length ss →
+    flat_map record_spelling rs ++ x ≡ flat_map record_spelling ss ++ y → GoesOn rs ss x y
+goes_on [] ss x y h k n e = record { more = ss; records = refl; rest = e }
+goes_on (r ∷ rs) [] x y h k n e = absurd (let n' : suc (length rs) ≤ 0 = n in omega arith)
+goes_on (r ∷ rs) (s ∷ ss) x y h k n e =
+    let n' : suc (length rs) ≤ suc (length ss) = n in
     let first = record_spellings_apart r s (flat_map record_spelling rs ++ x) (flat_map record_spelling ss ++ y) h.0 k.0
     (sym (append_assoc (record_spelling r) (flat_map record_spelling rs) x) ∙ e ∙ append_assoc (record_spelling s) (flat_map record_spelling ss) y) in
-    let more = same_fronts rs ss x y h.1 k.1 (omega arith) first.1 in
-    record { records = ap (λ q. q ∷ rs) first.0 ∙ ap (λ q. s ∷ q) more.records; rest = more.rest }
+    let further = goes_on rs ss x y h.1 k.1 (omega arith) first.1 in
+    record { more = further.more; records = ap (λ q. q ∷ ss) (sym first.0) ∙ ap (λ q. r ∷ q) further.records; rest = further.rest }
+
+begun_goes_on : (bytes : List ℕ) (limit : ℕ) (records : List Record) (rest : List ℕ) (good : List Record) (ending : Option Flaw) →
+    Begins bytes limit records rest → (k : IsReading bytes limit good ending) → GoesOn records good rest k.rest
+begun_goes_on bytes limit records rest good ending h k =
+    goes_on records good rest k.rest h.lawful k.begins.lawful (k.longest records rest h) (sym h.spelled ∙ k.begins.spelled)
+
+-- what begins some bytes begins all that go on behind them
+pub begins_all : (bytes handed left : List ℕ) (limit : ℕ) (records : List Record) (unparsed : List ℕ) → Begins handed limit records unparsed → bytes ≡ handed ++ left →
+    Begins bytes limit records (unparsed ++ left)
+begins_all bytes handed left limit records unparsed h e = record {
+  spelled = e ∙ (ap (λ (x : List ℕ). x ++ left) h.spelled ∙ append_assoc (flat_map record_spelling records) unparsed left);
+  lawful = h.lawful;
+  rising = h.rising;
+  few = h.few;
+}
+
+pub first_are_good : FirstAreGood
+first_are_good bytes limit records rest good ending h k = let m = begun_goes_on bytes limit records rest good ending h k in (m.more, m.records)
 
 ending_same : (limit : ℕ) (good : List Record) (rest : List ℕ) (e f : Option Flaw) → EndsIn limit good rest e → EndsIn limit good rest f → e ≡ f
 ending_same limit good [] e f h k = h ∙ sym k
@@ -89,10 +110,17 @@ ending_same limit good (b ∷ rest) (Some e) (Some f) h k = sym h ∙ k
 
 pub one_reading : OneReading
 one_reading bytes limit good good' ending ending' h k =
-    let a : length good ≤ length good' = k.longest good h.rest h.begins in
-    let b : length good' ≤ length good = h.longest good' k.rest k.begins in
-    let s = same_fronts good good' h.rest k.rest h.begins.lawful k.begins.lawful (omega arith) (sym h.begins.spelled ∙ k.begins.spelled) in (
-      s.records,
+    let m = begun_goes_on bytes limit good h.rest good' ending' h.begins k in
+    let same = nothing_more m.more m.records m.rest in (
+      same.0,
       ending_same limit good h.rest ending ending' h.ends
-          (subst (λ r. EndsIn limit good r ending') (sym s.rest) (subst (λ g. EndsIn limit g k.rest ending') (sym s.records) k.ends)),
+          (subst (λ r. EndsIn limit good r ending') (sym same.1) (subst (λ g. EndsIn limit g k.rest ending') (sym same.0) k.ends)),
     )
+  where
+    nothing_more : (more : List Record) → good' ≡ good ++ more → h.rest ≡ flat_map record_spelling more ++ k.rest → (good ≡ good') × (h.rest ≡ k.rest)
+    nothing_more [] e rest = (sym (e ∙ append-nil good), rest)
+    nothing_more (m ∷ more) e rest =
+        let shorter : length good' ≤ length good = h.longest good' k.rest k.begins in
+        let longer = ap length e in
+        let sum = length-append good (m ∷ more) in
+        absurd (omega (arith, shorter, longer, sum))

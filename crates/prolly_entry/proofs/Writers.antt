@@ -5,7 +5,7 @@ use Rattle.prolly_entry.specs.Events.{has_level}
 use Rattle.prolly_entry.specs.Pipeline.{before_first, before_second, WriterTakesPrefix}
 use Rattle.prolly_entry.specs.Prefix.{IsPrefix}
 
-cons_front : {A : Type 0} (x : A) (a b : List A) → IsPrefix a b → IsPrefix (x ∷ a) (x ∷ b)
+pub cons_front : {A : Type 0} (x : A) (a b : List A) → IsPrefix a b → IsPrefix (x ∷ a) (x ∷ b)
 cons_front x a b h = (h.0, ap (λ z. x ∷ z) h.1)
 
 module _ (level : ℕ) where

@@ -78,6 +78,11 @@ abbrev pub DivisionKeepsOverlay : Type 0
 DivisionKeepsOverlay = (before after : List (List Record)) (x y : List Record) → Rising (keys_of (x ++ y)) →
     overlay (before ++ x ∷ y ∷ after) ≡ overlay (before ++ (x ++ y) ∷ after)
 
+-- Law: two neighbours may be overlaid first.
+abbrev pub NeighboursOverlayFirst : Type 0
+NeighboursOverlayFirst = (before after : List (List Record)) (a b : List Record) → AllRising (before ++ a ∷ b ∷ after) →
+    raw_overlay (before ++ a ∷ b ∷ after) ≡ raw_overlay (before ++ raw_overlay (a ∷ b ∷ []) ∷ after)
+
 -- ---- How the raw overlay goes on, one key after another.
 
 -- What is left of a list behind the key, where the key is its first.

@@ -6,6 +6,7 @@ use Rattle.prolly_entry.specs.declared.flaw.Flaw.{Flaw}
 use Rattle.prolly_entry.specs.declared.flaw.Flaw.TheVariants.{Truncated, KeyTooLong, ValueTooLong, OutOfOrder, TooManyRecords}
 use Rattle.prolly_entry.specs.Byte.{IsByte}
 use Rattle.prolly_entry.specs.Keys.{Rising}
+use Rattle.prolly_entry.specs.Prefix.{IsPrefix}
 use Rattle.prolly_entry.specs.Record.{Record, IsRecord, keys_of}
 use Rattle.prolly_entry.specs.Spelling.{record_spelling}
 use Rattle.prolly_entry.specs.Position.{Position, last_position, is_before}
@@ -76,3 +77,8 @@ pub record HasReading (bytes : List ℕ) (limit : ℕ) : Type 0 where
 
 abbrev pub SomeReading : Type 0
 SomeReading = (bytes : List ℕ) (limit : ℕ) → All IsByte bytes → HasReading bytes limit
+
+-- Law: records that begin the bytes are the first ones of their reading.
+abbrev pub FirstAreGood : Type 0
+FirstAreGood = (bytes : List ℕ) (limit : ℕ) (records : List Record) (rest : List ℕ) (good : List Record) (ending : Option Flaw) →
+    Begins bytes limit records rest → IsReading bytes limit good ending → IsPrefix records good

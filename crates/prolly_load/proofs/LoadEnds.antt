@@ -1,17 +1,14 @@
 -- The ends of a loading.
-use Rattle.std.proofs.Common.{◌≡◌, ℕ, suc, ◌<◌, ◌≤◌, Bool, true, List, [], ◌∷◌, ◌++◌, length, Some, None, inl, inr, refl, sym, ap, ◌∙◌, subst, arith, append_assoc}
+use Rattle.std.proofs.Common.{◌≡◌, ℕ, ◌<◌, Bool, true, List, [], ◌∷◌, ◌++◌, length, Some, None, inl, inr, refl, sym, ap, ◌∙◌, subst, arith}
 use Rattle.std.proofs.lemmas.List.{append-nil}
-use Rattle.std.specs.List.{flat_map, AllByRecursion}
 use Rattle.prolly_entry.specs.declared.flaw.Flaw.{Flaw}
 use Rattle.prolly_entry.specs.declared.flaw.Flaw.TheVariants as flaws
 use Rattle.prolly_entry.specs.Position.{last_position}
-use Rattle.prolly_entry.specs.Prefix.{IsPrefix}
-use Rattle.prolly_entry.specs.Record.{Record, IsRecord}
+use Rattle.prolly_entry.specs.Record.{Record}
 use Rattle.prolly_entry.specs.Reading.{Begins, IsReading}
-use Rattle.prolly_entry.specs.Spelling.{record_spelling}
 use Rattle.prolly_entry.specs.NextRecord.{IsUndecided, IsFlawed}
 use Rattle.prolly_entry.proofs.Endings.{ends_clean, ends_flawed, ends_cut}
-use Rattle.prolly_entry.proofs.Spellings.{record_spellings_apart}
+use Rattle.prolly_entry.proofs.Orders.{first_are_good, begins_all}
 use Rattle.prolly_link.specs.declared.fault.End.TheVariants.{Clean, Fault}
 use Rattle.prolly_link.specs.declared.fault.RunFault.{RunFault}
 use Rattle.prolly_link.specs.declared.fault.RunFault.TheVariants as faults
@@ -22,35 +19,11 @@ use Rattle.prolly_load.proofs.UnderWay.{IsUnderWay}
 
 -- ---- first records
 
--- Of two lists of records that begin the same bytes the shorter one begins the longer one.
-prefix_of : (rs ss : List Record) (x y : List ℕ) → AllByRecursion IsRecord rs → AllByRecursion IsRecord ss → length rs ≤ length ss →
-    flat_map record_spelling rs ++ x ≡ flat_map record_spelling ss ++ y → IsPrefix rs ss
-prefix_of [] ss x y h k n e = (ss, refl)
-prefix_of (r ∷ rs) [] x y h k n e = absurd (let n' : suc (length rs) ≤ 0 = n in omega arith)
-prefix_of (r ∷ rs) (s ∷ ss) x y h k n e =
-    let n' : suc (length rs) ≤ suc (length ss) = n in
-    let first = record_spellings_apart r s (flat_map record_spelling rs ++ x) (flat_map record_spelling ss ++ y) h.0 k.0
-    (sym (append_assoc (record_spelling r) (flat_map record_spelling rs) x) ∙ e ∙ append_assoc (record_spelling s) (flat_map record_spelling ss) y) in
-    let more = prefix_of rs ss x y h.1 k.1 (omega arith) first.1 in
-    (more.0, ap (λ q. q ∷ ss) (sym first.0) ∙ ap (λ q. r ∷ q) more.1)
-
 first_good : (bytes : List ℕ) (limit : ℕ) (records : List Record) (rest : List ℕ) → Begins bytes limit records rest → AreFirstGood bytes limit records
 first_good bytes limit records rest h = record {
   rest = rest;
   begins = h;
-  prefix = λ good ending k. prefix_of records good rest k.rest h.lawful k.begins.lawful (k.longest records rest h) (sym h.spelled ∙ k.begins.spelled);
-}
-
--- ---- more bytes
-
--- What begins the bytes that were handed out begins all of them.
-begins_all : (bytes handed left : List ℕ) (limit : ℕ) (records : List Record) (unparsed : List ℕ) → Begins handed limit records unparsed → bytes ≡ handed ++ left →
-    Begins bytes limit records (unparsed ++ left)
-begins_all bytes handed left limit records unparsed h e = record {
-  spelled = e ∙ (ap (λ (x : List ℕ). x ++ left) h.spelled ∙ append_assoc (flat_map record_spelling records) unparsed left);
-  lawful = h.lawful;
-  rising = h.rising;
-  few = h.few;
+  prefix = λ good ending k. first_are_good bytes limit records rest good ending h k;
 }
 
 -- ---- the ends

@@ -1,6 +1,6 @@
 //! Overlays of lists of records, and merging them.
-ghost use Rattle.prolly_entry.specs.Overlay.{OneRawOverlay, OverlayIsMap, DivisionKeepsOverlay, OverlayStep};
-ghost use Rattle.prolly_entry.specs.CutShort.{CutBehindStop};
+ghost use Rattle.prolly_entry.specs.Overlay.{OneRawOverlay, OverlayIsMap, DivisionKeepsOverlay, NeighboursOverlayFirst, OverlayStep};
+ghost use Rattle.prolly_entry.specs.CutShort.{CutBehindStop, FrontsMergeToFront};
 ghost use Rattle.prolly_entry.specs.Merge.{NeighboursMergeFirst};
 ghost use Rattle.prolly_entry.specs.MergedParts.{MergedPartRises, OverlayIsSmall};
 
@@ -19,6 +19,11 @@ pub fn divisions_keep_the_overlay()
     ensures { DivisionKeepsOverlay }
 {}
 
+/// Two neighbours may be overlaid first.
+pub fn neighbours_are_overlaid_first()
+    ensures { NeighboursOverlayFirst }
+{}
+
 /// Two neighbours may be merged first.
 pub fn neighbours_merge_first<Fault>()
     ensures { NeighboursMergeFirst Fault }
@@ -27,6 +32,12 @@ pub fn neighbours_merge_first<Fault>()
 /// Inputs that were cut short behind their stop have the same stop, and the same merged part.
 pub fn cut_inputs_keep_their_stop<Fault>()
     ensures { CutBehindStop Fault }
+{}
+
+/// What was sent of lists is merged to what may be sent of their overlay: its first records, and at a clean
+/// end all of them.
+pub fn fronts_merge_to_a_front<Fault>()
+    ensures { FrontsMergeToFront Fault }
 {}
 
 /// An overlay goes on key by key.

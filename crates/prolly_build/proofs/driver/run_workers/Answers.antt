@@ -2,11 +2,13 @@ use Rattle.std.proofs.Common.{◌≡◌, ◌≢◌, ap, sym, subst, ◌∙◌, a
 use Rattle.std.proofs.lemmas.Result.{IfErr-weaker}
 use Rattle.prolly_entry.specs.Overlay.{overlay}
 use Rattle.prolly_link.specs.declared.fault.End.TheVariants.{Clean}
-use Rattle.prolly_link.specs.declared.fault.RunFault.TheVariants.{Write}
+use Rattle.prolly_link.specs.declared.fault.RunFault.TheVariants.{Memory, Write}
 use Rattle.prolly_build.specs.Built.{IsBegun, IsBuilt, IsUnmade, IsWriterFault}
 use Rattle.prolly_build.proofs.Makings.{at_ok, at_err, if_ok, if_ok_any}
-use Rattle.prolly_build.proofs.Runs.{lent_run, built, not_built, finished_refusal, halted_refusal, halted_unmade, halted_unstopped, stopped}
+use Rattle.prolly_build.proofs.Runs.{lent_run, built, not_built, finished_refusal, halted_refusal, halted_unmade, halted_unrefused, halted_unstopped, stopped}
+use Rattle.prolly_build.proofs.Refusals.{lent_refused, refused}
 use Rattle.prolly_build.proofs.Stops.{lent_stops}
+use Rattle.prolly_build.specs.Refused.{IsRefused}
 use Rattle.prolly_build.specs.Stopped.{AreHonest, IsFileFault, IsStopped}
 use Rattle.prolly_build.proofs.driver.run_workers.Goals as goal
 
@@ -95,3 +97,20 @@ returns-in-Ok-clause-stopped g c =
 
 pub returns-in-Err-clause-stopped : goal.returns-in-Err-clause-stopped
 returns-in-Err-clause-stopped g c = λ file. absurd (halted_unstopped c.in-Err.halt c.fault.result c.fault.ensures file)
+
+pub returns-in-Ok-clause-refused : goal.returns-in-Ok-clause-refused
+returns-in-Ok-clause-refused g c =
+    let written = at_ok _ _ _ c.in-Ok.is c.scoped-ran.ensures.1.1.0 in
+    let left_behind = IfErr-weaker c.finish.result _ _
+    (λ fault h memory honest. refused g.S.Source.is_honest g.S.Source.left g.S.Source.failures _ c.args.sources.now.items c.scoped-ran.result.1.items _
+    (lent_refused g.S.Source.is_honest g.S.Source.left g.S.Source.failures _ _ c.args.sources.now.items c.replace-lent.result.items c.scoped-ran.result.1.items _ c.requires.lawful (omega (arith, c.requires.files, c.args.sources.now.ok.0)) c.requires.levels (ap (λ v. v.items) c.replace-lent.ensures.value) honest _ _
+    (at_ok _ _ _ c.in-Ok.is c.scoped-ran.ensures.1.1.1.0) (h memory).0) (h memory).1)
+    (c.finish.ensures.refused _ written.written) in
+    let back = c.sink-1.given.1 (sym c.scoped-ran.ensures.1.1.1.1.1.1) in
+    subst (λ (w : g.row.W.Denot). IfErr c.finish.result (λ fault. fault ≡ Memory → AreHonest g.S.Source.is_honest g.S.Source.left g.S.Source.failures c.args.sources.now.items →
+    IsRefused g.S.Source.left c.args.config c.args.sources.now.items
+    (record { is_keeping = g.W.Sink.is_keeping c.args.sink.now; taken = g.W.Sink.taken c.args.sink.now; failures = g.W.Sink.failures c.args.sink.now })
+    (record { is_keeping = g.W.Sink.is_keeping w; taken = g.W.Sink.taken w; failures = g.W.Sink.failures w }))) (sym back) left_behind
+
+pub returns-in-Err-clause-refused : goal.returns-in-Err-clause-refused
+returns-in-Err-clause-refused g c = λ memory. absurd (halted_unrefused c.in-Err.halt c.fault.result c.fault.ensures memory)

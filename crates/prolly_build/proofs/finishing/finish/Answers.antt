@@ -8,7 +8,7 @@ use Rattle.prolly_link.specs.declared.fault.End.TheVariants.{Clean}
 use Rattle.prolly_build.specs.Built.{IsInputEnd}
 use Rattle.prolly_build.specs.Writing.{Sunk, HasWritten, IsEndFault}
 use Rattle.prolly_build.proofs.RanSteps.{written_begun, ended_begun}
-use Rattle.prolly_build.proofs.Takings.{stopped_at}
+use Rattle.prolly_build.proofs.Takings.{lost_is_no_memory, refused_at, stopped_at}
 use Rattle.prolly_build.proofs.Makings.{few_written, some_written, file_made, no_start_fault, unmade_at, if_ok}
 use Rattle.prolly_build.proofs.finishing.finish.Goals as goal
 
@@ -100,3 +100,20 @@ returns-then-has_met-clause-stopped g c = λ old written.
     (subst (λ (e : End). IsEndFault head level c.args.ran.out.items old now after e fault) (c.requires.end ∙ ap end_given met.1) h))
     (c.end_build.ensures.err head level c.args.ran.out.items old
     (subst (λ (es : List Chunk). HasWritten head level es old now c.args.ran.wrote.written) met.0 written))
+
+pub returns-then-has_met-clause-refused : goal.returns-then-has_met-clause-refused
+returns-then-has_met-clause-refused g c = λ old written.
+    let met = c.has_met.ensures c.if-has_met.true c.requires.ended in
+    let now : Sunk = record { is_keeping = g.W.Sink.is_keeping c.args.sink.now; taken = g.W.Sink.taken c.args.sink.now; failures = g.W.Sink.failures c.args.sink.now } in
+    let after : Sunk = record { is_keeping = g.W.Sink.is_keeping c.end_build.new.sink; taken = g.W.Sink.taken c.end_build.new.sink; failures = g.W.Sink.failures c.end_build.new.sink } in
+    let head = header c.args.config.version c.args.config.bits in
+    let level = c.args.config.stages - 1 in
+    IfErr-weaker c.end_build.result _ _
+    (λ fault h. refused_at head level c.args.ran.out.items old now after c.args.ran.wrote.written c.args.ran.out.end fault
+    (subst (λ (es : List Chunk). HasWritten head level es old now c.args.ran.wrote.written) met.0 written)
+    (subst (λ (e : End). IsEndFault head level c.args.ran.out.items old now after e fault) (c.requires.end ∙ ap end_given met.1) h))
+    (c.end_build.ensures.err head level c.args.ran.out.items old
+    (subst (λ (es : List Chunk). HasWritten head level es old now c.args.ran.wrote.written) met.0 written))
+
+pub returns-else-has_met-clause-refused : goal.returns-else-has_met-clause-refused
+returns-else-has_met-clause-refused g c = λ old written memory. absurd (lost_is_no_memory memory)

@@ -1,0 +1,274 @@
+-- What the workers of a build sent where one of them was refused memory.
+use Rattle.std.proofs.Common.{◌≡◌, ◌≤◌, ◌<◌, ◌+◌, ◌-◌, ◌*◌, ◌^◌, ℕ, zero, suc, Bool, true, List, [], ◌∷◌, ◌++◌, All, map, length, Option, Some, None, inl, inr, refl, ap, sym, subst, ◌∙◌, arith}
+use Rattle.std.specs.List.{flat_map}
+use Rattle.std.proofs.lemmas.List.{append-nil, length-append}
+use Rattle.std.proofs.lemmas.List.Concat.{flat_map-append}
+use Rattle.prolly_entry.specs.Byte.{IsByte}
+use Rattle.prolly_entry.specs.Chunk.{Chunk, chunks}
+use Rattle.prolly_entry.specs.Cut.{Cut, sha512_cut}
+use Rattle.prolly_entry.specs.CutShort.{IsFrontOf, AreFrontsOf}
+use Rattle.prolly_entry.specs.File.{file, header}
+use Rattle.prolly_entry.specs.Merge.{Input, stop, stop_fault, raw_merged_part, merged_part}
+use Rattle.prolly_entry.specs.Overlay.{raw_overlay, overlay, pairs_of_change, pairs_put, AllRising}
+use Rattle.prolly_entry.specs.Pair.{Pair}
+use Rattle.prolly_entry.specs.Pipeline.{before_second}
+use Rattle.prolly_entry.specs.Prefix.{IsPrefix}
+use Rattle.prolly_entry.specs.Reading.{IsReading}
+use Rattle.prolly_entry.specs.Record.{Record}
+use Rattle.prolly_entry.specs.declared.flaw.Flaw.{Flaw}
+use Rattle.prolly_entry.proofs.Composition.{composition}
+use Rattle.prolly_entry.proofs.Fronts.{all_rising, fronts_merge}
+use Rattle.prolly_entry.proofs.Joins.{rising_two_as_one, two_of_all, overlay_of_two}
+use Rattle.prolly_entry.proofs.MergedParts.{overlay_is_small}
+use Rattle.prolly_entry.proofs.Orders.{begins_all, first_are_good, one_reading}
+use Rattle.prolly_entry.proofs.Readings.{reading_is}
+use Rattle.prolly_entry.proofs.Writers.{within_is_prefix}
+use Rattle.prolly_file.specs.Sink.{TakesPrefix}
+use Rattle.prolly_link.specs.Views.{Batching, Whole}
+use Rattle.prolly_link.specs.declared.fault.End.{End}
+use Rattle.prolly_link.specs.declared.fault.End.TheVariants.{Fault}
+use Rattle.prolly_link.specs.declared.fault.RunFault.{RunFault}
+use Rattle.prolly_link.specs.declared.fault.RunFault.TheVariants.{Memory}
+use Rattle.prolly_merge.specs.Inputs.{fault_of, input_of, stop_end}
+use Rattle.prolly_merge.specs.Sent.{Sends}
+use Rattle.prolly_stage.proofs.Steps.{prefix_trans}
+use Rattle.prolly_stage.proofs.Takings.{writer_takes}
+use Rattle.prolly_build.specs.Feeding.{IsJoint, Joined}
+use Rattle.prolly_build.specs.Gathering.{IsGathered}
+use Rattle.prolly_build.specs.Merging.{MergesAll, sent_input}
+use Rattle.prolly_build.specs.Ran.{AreLoaded}
+use Rattle.prolly_build.specs.Refused.{AreGood, IsRefused}
+use Rattle.prolly_build.specs.Settings.{Settings, AreLawful}
+use Rattle.prolly_build.specs.Staging.{HasStaged}
+use Rattle.prolly_build.specs.Stopped.{AreHonest}
+use Rattle.prolly_build.specs.Workers.{IsLoadedFrom}
+use Rattle.prolly_build.specs.Writing.{Sunk, frames_of}
+use Rattle.prolly_build.proofs.Loads.{begun, clean_end, one_read}
+use Rattle.prolly_build.proofs.Makings.{frames_are_first}
+use Rattle.prolly_build.proofs.Mergings.{Inputs, fault_of_end_of, stop_none}
+use Rattle.prolly_build.proofs.WritingSteps.{prefix_on}
+
+-- ---- lists, and what was sent of them
+
+record Apart (lists : List (List Record)) (xs ys : Inputs) : Type 0 where
+  front : List (List Record)
+  back : List (List Record)
+  is : lists ≡ front ++ back
+  fronts : AreFrontsOf front xs
+  backs : AreFrontsOf back ys
+
+apart : (lists : List (List Record)) (xs ys : Inputs) → AreFrontsOf lists (xs ++ ys) → Apart lists xs ys
+apart lists [] ys h = record { front = []; back = lists; is = refl; fronts = tt; backs = h }
+apart [] (x ∷ xs) ys h = absurd h
+apart (l ∷ lists) (x ∷ xs) ys h =
+    let k = apart lists xs ys h.1 in
+    record { front = l ∷ k.front; back = k.back; is = ap (λ ls. l ∷ ls) k.is; fronts = (h.0, k.fronts); backs = k.backs }
+
+together : (front : List (List Record)) (xs : Inputs) (back : List (List Record)) (ys : Inputs) → AreFrontsOf front xs → AreFrontsOf back ys → AreFrontsOf (front ++ back) (xs ++ ys)
+together [] [] back ys h k = k
+together [] (x ∷ xs) back ys h k = absurd h
+together (l ∷ front) [] back ys h k = absurd h
+together (l ∷ front) (x ∷ xs) back ys h k = (h.0, together front xs back ys h.1 k)
+
+-- the inputs are what was sent of lists with this raw overlay
+record AreSent (inputs : Inputs) (whole : List Record) : Type 0 where
+  lists : List (List Record)
+  rising : AllRising lists
+  fronts : AreFrontsOf lists inputs
+  overlay_is : raw_overlay lists ≡ whole
+
+-- ---- the mergers
+
+-- what a merger of two sent was sent of the overlay of its two lists
+front_of_two : (l r : Input RunFault) (a b sent : List Record) (end : End) → Sends [] (raw_merged_part (l ∷ r ∷ [])) (stop_end (l ∷ r ∷ [])) sent end →
+    AllRising (a ∷ b ∷ []) → IsFrontOf a l → IsFrontOf b r → IsFrontOf (raw_overlay (a ∷ b ∷ [])) (input_of sent end)
+front_of_two l r a b sent end sends rising h k = go (fronts_merge RunFault (a ∷ b ∷ []) (l ∷ r ∷ []) rising (h, (k, tt))) sends
+  where
+    merged : Input RunFault
+    merged = record { records = raw_merged_part (l ∷ r ∷ []); fault = stop_fault (stop (l ∷ r ∷ [])) }
+
+    none_is_memory : None ≡ Some Memory → ⊥
+    none_is_memory e = cc
+
+    go : IsFrontOf (raw_overlay (a ∷ b ∷ [])) merged → Sends [] (raw_merged_part (l ∷ r ∷ [])) (stop_end (l ∷ r ∷ [])) sent end → IsFrontOf (raw_overlay (a ∷ b ∷ [])) (input_of sent end)
+    go front (inl s) = record {
+      first = subst (λ (rs : List Record). IsPrefix rs (raw_overlay (a ∷ b ∷ []))) (sym s.0) front.first;
+      all = λ e. s.0 ∙ front.all (sym (ap fault_of s.1 ∙ fault_of_end_of (stop_fault (stop (l ∷ r ∷ [])))) ∙ e);
+    }
+    go front (inr s) = record {
+      first = subst (λ (rs : List Record). IsPrefix rs (raw_overlay (a ∷ b ∷ []))) (sym s.1.2)
+          (prefix_trans s.1.0 (raw_merged_part (l ∷ r ∷ [])) (raw_overlay (a ∷ b ∷ [])) s.1.1 front.first);
+      all = λ e. absurd (none_is_memory (sym e ∙ ap fault_of s.0));
+    }
+
+joint_sent : (before after : Inputs) (j : IsJoint before after) (whole : List Record) → AreSent before whole → AreSent after whole
+joint_sent before after j whole h =
+    let parts = apart h.lists j.forked.front (j.left ∷ j.right ∷ j.forked.back) (subst (λ (is : Inputs). AreFrontsOf h.lists is) j.forked.now h.fronts) in
+    go parts.front parts.back parts.is parts.fronts parts.backs
+  where
+    go : (front back : List (List Record)) → h.lists ≡ front ++ back → AreFrontsOf front j.forked.front → AreFrontsOf back (j.left ∷ j.right ∷ j.forked.back) → AreSent after whole
+    go front [] is f k = absurd k
+    go front (a ∷ []) is f k = absurd k.1
+    go front (a ∷ b ∷ back) is f k =
+        let rising = subst AllRising is h.rising in
+        let two = two_of_all front back a b rising in
+        let sends = j.merges (all_rising (a ∷ b ∷ []) (j.left ∷ j.right ∷ []) two (k.0, (k.1.0, tt))) in
+        let one = front_of_two j.left j.right a b j.sent j.end sends two k.0 k.1.0 in
+        record {
+          lists = front ++ raw_overlay (a ∷ b ∷ []) ∷ back;
+          rising = rising_two_as_one front back a b rising;
+          fronts = subst (λ (is : Inputs). AreFrontsOf (front ++ raw_overlay (a ∷ b ∷ []) ∷ back) is) (sym j.forked.was)
+              (together front j.forked.front (raw_overlay (a ∷ b ∷ []) ∷ back) (input_of j.sent j.end ∷ j.forked.back) f (one, k.1.1));
+          overlay_is = sym (overlay_of_two front back a b rising) ∙ (ap raw_overlay (sym is) ∙ h.overlay_is);
+        }
+
+joined_sent : (n : ℕ) (files inputs : Inputs) → Joined n files inputs → (whole : List Record) → AreSent files whole → AreSent inputs whole
+joined_sent zero files inputs j whole h = subst (λ (is : Inputs). AreSent is whole) (sym j) h
+joined_sent (suc n) files inputs j whole h = joint_sent j.0 inputs j.2 whole (joined_sent n files j.0 j.1 whole h)
+
+put_front : (a b : List Record) → IsPrefix a b → IsPrefix (pairs_put a) (pairs_put b)
+put_front a b h = (pairs_put h.0, ap pairs_put h.1 ∙ flat_map-append (λ (r : Record). pairs_of_change r.key r.value) a h.0)
+
+-- the last merger sent the first pairs that the whole overlay puts
+first_pairs : (inputs : Inputs) (pairs : List Pair) (end : End) (whole : List Record) → AreSent inputs whole → MergesAll inputs pairs end → IsPrefix pairs (pairs_put whole)
+first_pairs inputs pairs end whole h merges = go (merges (all_rising h.lists inputs h.rising h.fronts))
+  where
+    part : IsPrefix (merged_part inputs) (pairs_put whole)
+    part = put_front (raw_merged_part inputs) whole
+        (subst (λ (rs : List Record). IsPrefix (raw_merged_part inputs) rs) h.overlay_is (fronts_merge RunFault h.lists inputs h.rising h.fronts).first)
+
+    go : Sends [] (merged_part inputs) (stop_end inputs) pairs end → IsPrefix pairs (pairs_put whole)
+    go (inl s) = subst (λ (ps : List Pair). IsPrefix ps (pairs_put whole)) (sym s.0) part
+    go (inr s) = subst (λ (ps : List Pair). IsPrefix ps (pairs_put whole)) (sym s.1.2) (prefix_trans s.1.0 (merged_part inputs) (pairs_put whole) s.1.1 part)
+
+-- ---- the loaders
+
+module _ {S : Type 0} (is_honest : S → Bool) (left : S → List ℕ) (failures : S → ℕ) (limit : ℕ) where
+  -- the good records of the files, and what was sent of them
+  record Good (ss : List S) (sent : Inputs) : Type 0 where
+    goods : List (List Record)
+    are_good : AreGood left limit ss goods
+    fronts : AreFrontsOf goods sent
+    rising : AllRising goods
+
+  -- what a loader sent are the first good records of its file
+  one_front : (file : ℕ) (s : S) (o : Batching Record) (t : S) (c : Whole Record) → IsLoadedFrom is_honest left failures file limit s o t c → is_honest s ≡ true →
+      (good : List Record) (ending : Option Flaw) → IsReading (left s) limit good ending → IsFrontOf good (sent_input c)
+  one_front file s o t c h honest good ending reading =
+      let sent = begun is_honest left failures limit file s o t c h in record {
+        first = first_are_good (left s) limit c.items (sent.rest ++ left t) good ending
+            (begins_all (left s) h.loaded.handed (left t) limit c.items sent.rest sent.begins (h.loaded.kept honest)) reading;
+        all = λ e.
+            (one_reading (left s) limit c.items good None ending ((one_read is_honest left failures limit file s o t c h (clean_end c.end e)).reading honest) reading).0;
+      }
+
+  all_fronts : (file : ℕ) (ss : List S) (os : List (Batching Record)) (ts : List S) (cs : List (Whole Record)) →
+      AreLoaded is_honest left failures limit file ss os ts cs → AreHonest is_honest left failures ss → Good ss (map sent_input cs)
+  all_fronts file [] [] [] [] h honest = record { goods = []; are_good = tt; fronts = tt; rising = tt }
+  all_fronts file [] [] [] (c ∷ cs) h honest = absurd h
+  all_fronts file [] [] (t ∷ ts) cs h honest = absurd h
+  all_fronts file [] (o ∷ os) ts cs h honest = absurd h
+  all_fronts file (s ∷ ss) [] ts cs h honest = absurd h
+  all_fronts file (s ∷ ss) (o ∷ os) [] cs h honest = absurd h
+  all_fronts file (s ∷ ss) (o ∷ os) (t ∷ ts) [] h honest = absurd h
+  all_fronts file (s ∷ ss) (o ∷ os) (t ∷ ts) (c ∷ cs) h honest =
+      let has = reading_is (left s) limit honest.0.1 in
+      let rest = all_fronts (file + 1) ss os ts cs h.1 honest.1 in
+      record {
+        goods = has.good ∷ rest.goods;
+        are_good = (record { ending = has.ending; reading = has.reading }, rest.are_good);
+        fronts = (one_front file s o t c h.0 honest.0.0 has.good has.ending has.reading, rest.fronts);
+        rising = (has.reading.begins.rising, rest.rising);
+      }
+
+  -- n files have at most n times as many good records as one may have
+  good_few : (ss : List S) (goods : List (List Record)) → AreGood left limit ss goods → limit ≤ 16777216 → length (flat_map (λ records. records) goods) ≤ length ss * 16777216
+  good_few [] [] h small = omega arith
+  good_few [] (g ∷ goods) h small = absurd h
+  good_few (s ∷ ss) [] h small = absurd h
+  good_few (s ∷ ss) (g ∷ goods) h small =
+      let one = h.0.reading.begins.few in
+      let rest = good_few ss goods h.1 small in
+      let both = length-append g (flat_map (λ records. records) goods) in
+      omega (arith, one, rest, both, small)
+
+  -- honest sources have good records
+  some_good : (ss : List S) → AreHonest is_honest left failures ss → (goods : List (List Record)) × AreGood left limit ss goods
+  some_good [] honest = ([], tt)
+  some_good (s ∷ ss) honest =
+      let has = reading_is (left s) limit honest.0.1 in
+      let rest = some_good ss honest.1 in
+      (has.good ∷ rest.0, (record { ending = has.ending; reading = has.reading }, rest.1))
+
+-- ---- all workers
+
+-- a sink that was left alone
+pub untouched_refused : {S : Type 0} (is_honest : S → Bool) (left : S → List ℕ) (failures : S → ℕ) (settings : Settings) (before : List S) (old : Sunk) →
+    AreHonest is_honest left failures before → IsRefused left settings before old old
+untouched_refused is_honest left failures settings before old honest =
+    let has = some_good is_honest left failures settings.max_records before honest in record {
+      goods = has.0;
+      are_good = has.1;
+      pairs = [];
+      first = (overlay has.0, refl);
+      taken = λ keeps. record { part = []; grown = sym (append-nil old.taken); is_prefix = (file (sha512_cut settings.bits) settings.version [], refl) };
+    }
+
+module _ {S : Type 0} (is_honest : S → Bool) (left : S → List ℕ) (failures : S → ℕ) (settings : Settings) (before after : List S) (count : ℕ) where
+  abbrev cut : Cut
+  cut = sha512_cut settings.bits
+
+  abbrev level : ℕ
+  level = settings.stages - 1
+
+  -- what the last stage sent, by the first pairs of the overlay of all good records
+  pub record IsRefusedRun (events : List Chunk) : Type 0 where
+    pub goods : List (List Record)
+    pub are_good : AreGood left settings.max_records before goods
+    pub pairs : List Pair
+    pub first : IsPrefix pairs (overlay goods)
+    pub taken : IsPrefix (before_second level events) (chunks cut settings.version pairs)
+
+  source_refused : AreLawful settings → length before ≤ 16 → AreHonest is_honest left failures before → (events : List Chunk) (end : End) →
+      HasStaged is_honest left failures settings level before after events end count → end ≡ Fault Memory → IsRefusedRun events
+  source_refused lawful sixteen honest events end h end_is =
+      let sent = all_fronts is_honest left failures settings.max_records 0 before h.gathered.loader_outs after h.gathered.files h.gathered.loaded honest in
+      let files : AreSent (map sent_input h.gathered.files) (raw_overlay sent.goods) = record { lists = sent.goods; rising = sent.rising; fronts = sent.fronts; overlay_is = refl } in
+      let inputs = joined_sent h.gathered.mergers (map sent_input h.gathered.files) h.gathered.inputs h.gathered.joined (raw_overlay sent.goods) files in
+      let first = first_pairs h.gathered.inputs h.pairs h.pairs_end (raw_overlay sent.goods) inputs h.gathered.merges in
+      let all = good_few is_honest left failures settings.max_records before sent.goods sent.are_good lawful.max_records.1 in
+      let small = overlay_is_small sent.goods in
+      let more : length (overlay sent.goods) ≡ length (h.pairs ++ first.0) = ap (λ (ps : List Pair). length ps) first.1 in
+      let sum = length-append h.pairs first.0 in
+      let few : length h.pairs < 2 ^ 64 = omega (arith, all, small, more, sum, sixteen) in
+      let takes = writer_takes cut settings.version h.pairs level (composition cut settings.version h.pairs few level) h.pairs_end events end h.staged in
+      let tree = chunks cut settings.version h.pairs in
+      record {
+        goods = sent.goods;
+        are_good = sent.are_good;
+        pairs = h.pairs;
+        first = first;
+        taken = prefix_trans (before_second level events) (before_second level tree) tree (takes.memory end_is)
+            (within_is_prefix (suc level) tree tree ([], sym (append-nil tree))).1;
+      }
+
+  -- what the sink took of that
+  pub refused : {old new : Sunk} {events : List Chunk} → IsRefusedRun events →
+      (old.is_keeping ≡ true → TakesPrefix old.taken new.taken (frames_of (header settings.version settings.bits) (before_second level events))) → IsRefused left settings before old new
+  refused h took = record {
+    goods = h.goods;
+    are_good = h.are_good;
+    pairs = h.pairs;
+    first = h.first;
+    taken = λ keeps. prefix_on (file cut settings.version h.pairs) (took keeps) (frames_are_first settings h.pairs _ h.taken);
+  }
+
+-- the same over sources that were lent
+pub lent_refused : {S : Type 0} (is_honest : S → Bool) (left : S → List ℕ) (failures : S → ℕ) (settings : Settings) (level : ℕ) (before lent after : List S) (count : ℕ) →
+    AreLawful settings → length before ≤ 16 → level + 1 ≡ settings.stages → lent ≡ before → AreHonest is_honest left failures before → (events : List Chunk) (end : End) →
+    HasStaged is_honest left failures settings level lent after events end count → end ≡ Fault Memory → IsRefusedRun is_honest left failures settings before after count events
+lent_refused {S} is_honest left failures settings level before lent after count lawful sixteen levels same honest events end h =
+    let below : level ≡ settings.stages - 1 = omega (arith, levels) in
+    source_refused is_honest left failures settings before after count lawful sixteen honest events end
+    (subst (λ (l : ℕ). HasStaged is_honest left failures settings l before after events end count) below
+    (subst (λ (ss : List S). HasStaged is_honest left failures settings level ss after events end count) same h))
