@@ -28,6 +28,3 @@ pub use config::{Config, ConfigFault};
 pub use driver::{FILES_LIMIT, build, build_with};
 pub use permit::{AllStart, Permit};
 pub use report::Report;
-
-#[cfg(test)]
-mod tests;

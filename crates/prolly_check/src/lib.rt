@@ -25,6 +25,3 @@ mod whole;
 pub use checker::check;
 pub use fault::CheckFault;
 pub use tree::{NoCounts, Tree};
-
-#[cfg(test)]
-mod tests;

@@ -10,6 +10,3 @@ mod node;
 pub use event::ChunkEvent;
 pub use leaf::LeafLevel;
 pub use node::NodeLevel;
-
-#[cfg(test)]
-mod tests;

@@ -14,14 +14,3 @@ pub(crate) fn boundary_number(entry: &[u8]) -> u32
     let digest = Sha512::digest(entry);
     BigEndian::read_u32(&digest[20..24])
 }
-
-#[cfg(test)]
-mod tests {
-    use super::*;
-
-    #[test]
-    fn boundary_numbers_are_bytes_20_to_23(rt: HostRuntime) {
-        assert_eq!(rt; boundary_number(b"abc"), 0x89A9_7EA2);
-        assert_eq!(rt; boundary_number(b""), 0x0B57_15DC);
-    }
-}

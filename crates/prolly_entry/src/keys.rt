@@ -24,18 +24,3 @@ pub fn key_rises(last_key: Option<&[u8]>, key: &[u8]) -> bool
         Some(last_key) => key_order(last_key, key).is_lt(),
     }
 }
-
-#[cfg(test)]
-mod tests {
-    use super::*;
-
-    #[test]
-    fn compares_bytes_unsigned_and_prefixes_first(rt: HostRuntime) {
-        let empty: &[u8] = b"";
-        assert_eq!(rt; key_order(empty, b"a"), Ordering::Less);
-        assert_eq!(rt; key_order(b"a", b"a\0"), Ordering::Less);
-        assert_eq!(rt; key_order(b"a\xFF", b"b"), Ordering::Less);
-        assert_eq!(rt; key_order(b"\x80", b"\x7F"), Ordering::Greater);
-        assert_eq!(rt; key_order(b"a", b"a"), Ordering::Equal);
-    }
-}

@@ -135,39 +135,3 @@ fn digit_of(byte: u8) -> Option<u8>
         _ => None,
     }
 }
-
-#[cfg(test)]
-mod tests {
-    use super::*;
-
-    /// What a message hashes to, by another program, and the text of that.
-    const ABC: [u8; 20] = [
-        0xdd, 0xaf, 0x35, 0xa1, 0x93, 0x61, 0x7a, 0xba, 0xcc, 0x41, 0x73, 0x49, 0xae, 0x20, 0x41,
-        0x31, 0x12, 0xe6, 0xfa, 0x4e,
-    ];
-
-    const ABC_TEXT: [u8; 32] = *b"rmnjb8cjc5tblj21ed4qs821649eduie";
-
-    #[test]
-    fn references_have_their_text(rt: HostRuntime) {
-        let abc = Ref::of(b"abc");
-        assert_eq!(rt; abc, Ref(ABC));
-        assert_eq!(rt; abc.to_text(), ABC_TEXT);
-        assert_eq!(rt;
-            Ref::of(b"").to_text(),
-            *b"pu1u2dbutusbrsak518dcrc00vb21p05"
-        );
-        assert_eq!(rt;
-            Ref::of(b"\0").to_text(),
-            *b"n0i4q0k9g7b97brr8llfhrt4pbb3qa1e"
-        );
-    }
-
-    #[test]
-    fn only_the_text_of_a_reference_is_read(rt: HostRuntime) {
-        assert_eq!(rt; Ref::from_text(&ABC_TEXT), Some(Ref(ABC)));
-        assert_eq!(rt; Ref::from_text(&ABC_TEXT[..31]), None);
-        assert_eq!(rt; Ref::from_text(b"wmnjb8cjc5tblj21ed4qs821649eduie"), None);
-        assert_eq!(rt; Ref::from_text(b"Rmnjb8cjc5tblj21ed4qs821649eduie"), None);
-    }
-}

@@ -85,6 +85,3 @@ fn root_of(chunks: &[ChunkEvent]) -> Ref
 {
     chunks[chunks.len() - 1].reference()
 }
-
-#[cfg(test)]
-mod tests;

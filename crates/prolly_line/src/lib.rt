@@ -13,6 +13,3 @@ mod subcommands;
 mod values;
 
 pub use command::{Command, ParseFault, parse};
-
-#[cfg(test)]
-mod tests;

@@ -2,4 +2,3 @@ pub mod MessageLemmas
 pub mod AgreementLemmas
 pub mod BatchLemmas
 pub mod HandLemmas
-pub mod NumberLemmas

@@ -33,8 +33,6 @@ mod push;
 mod receiver;
 mod rest;
 mod sender;
-#[cfg(test)]
-mod tests;
 
 pub use batch_closed::ClosedBatch;
 pub use batch_comparing::compare_batches;

@@ -7,7 +7,5 @@ mod loader;
 mod sending;
 mod span;
 mod taking;
-#[cfg(test)]
-mod tests;
 
 pub use loader::{Loaded, load};

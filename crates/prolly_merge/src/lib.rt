@@ -13,8 +13,6 @@ mod peeked;
 mod put;
 mod round;
 mod step;
-#[cfg(test)]
-mod tests;
 mod turn;
 mod two;
 

@@ -15,8 +15,6 @@ pub mod laws;
 mod leaf;
 mod sending;
 mod staged;
-#[cfg(test)]
-mod tests;
 mod worker;
 
 pub use gate::{Gate, OpenGate};

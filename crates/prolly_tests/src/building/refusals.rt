@@ -1,0 +1,82 @@
+//! Builds that do not start.
+use super::*;
+use prolly_file::{Source, SourceFault};
+use prolly_link::RunFault;
+use prolly_stage::{OpenGate, Worker};
+
+/// A permit that refuses one worker.
+#[derive(Drop)]
+struct AllBut(Worker);
+
+impl Permit for AllBut {
+    fn may_start(&self, worker: Worker) -> bool {
+        worker != self.0
+    }
+}
+
+const THREE_FILES: [&[u8]; 3] = [b"a1d1", b"b1", b"c1e1"];
+
+#[test]
+fn each_worker_may_be_refused(rt: HostRuntime) -> Result<(), Fail> {
+    for worker in [
+        Worker::Loader(0),
+        Worker::Loader(1),
+        Worker::Loader(2),
+        Worker::Merger(0),
+        Worker::Merger(1),
+        Worker::Stage(0),
+        Worker::Stage(1),
+        Worker::Stage(2),
+        Worker::Stage(3),
+    ] {
+        let mut sources = sources_of(rt.alloc(), &THREE_FILES)?;
+        let mut sink = ScriptSink::new(rt.alloc(), 65_536, None);
+        let (config, permit) = (settings(4)?, AllBut(worker));
+        let built = build_with(
+            &rt,
+            rt.alloc(),
+            &config,
+            &mut sources,
+            &mut sink,
+            &OpenGate,
+            &permit,
+        );
+        assert_eq!(rt; built.err(), Some(RunFault::NoThread), "{worker:?}");
+        assert_eq!(rt; sink.taken(), b"".as_slice());
+    }
+    let report = expect_file(
+        &rt,
+        rt.alloc(),
+        &settings(4)?,
+        &OpenGate,
+        &THREE_FILES,
+        &file_of(rt.alloc(), b"a1b1c1d1e1")?,
+    )?;
+    assert_eq!(rt; (report.chunks, report.pairs, report.levels), (11, 5, 4));
+    Ok(())
+}
+
+// The first read of each source would fail, and is still to come.
+#[test]
+fn seventeen_files_are_not_read(rt: HostRuntime) -> Result<(), Fail> {
+    let mut sources = Vec::new(rt.alloc());
+    for _ in 0..17 {
+        sources.push(ScriptSource::new(Vec::new(rt.alloc()), 1, Some(1)))?;
+    }
+    let mut sink = ScriptSink::new(rt.alloc(), 65_536, None);
+    let built = build(
+        &rt,
+        rt.alloc(),
+        &settings(12)?,
+        &mut sources,
+        &mut sink,
+        &OpenGate,
+    );
+    assert_eq!(rt; built.err(), Some(RunFault::TooManyFiles));
+    assert_eq!(rt; sink.taken(), b"".as_slice());
+    assert_eq!(rt; sources.len(), 17);
+    for source in &mut sources {
+        assert_eq!(rt; source.read(&mut [0]), Err(SourceFault));
+    }
+    Ok(())
+}

@@ -1,0 +1,126 @@
+//! The command line in use: that words are taken, which no clause can promise, since memory may run
+//! out, and what they come to as a person reads them.
+use prolly_line::{Command, ParseFault, parse};
+use std::alloc::{AllocError, Global};
+use std::test::Fail;
+
+// The answer to the words of a line.
+fn answer(alloc: Global, line: &str) -> Result<Result<Command, ParseFault>, AllocError> {
+    let mut words = Vec::new(alloc);
+    for word in line.split_whitespace() {
+        words.push(String::from_str(alloc, word)?)?;
+    }
+    Ok(parse(alloc, words.as_slice()))
+}
+
+// The command of a line that is taken, as one text.
+fn shown(alloc: Global, line: &str) -> Result<String, Fail> {
+    let Ok(command) = answer(alloc, line)? else {
+        return Err(Fail::from("the words were refused"));
+    };
+    let text = match &command {
+        Command::Pack { out } => format!(in alloc; "pack {out:?}")?,
+        Command::Scratch { bits, version, out } => {
+            format!(in alloc; "scratch bits={bits} version={version} out={out:?}")?
+        }
+        Command::Build {
+            bits,
+            stages,
+            capacity,
+            max_records,
+            batch,
+            version,
+            out,
+            files,
+        } => format!(in alloc;
+            "build bits={bits} stages={stages} capacity={capacity} max_records={max_records} batch={batch} version={version} out={out:?} files={files:?}"
+        )?,
+        Command::Check { file } => format!(in alloc; "check {file:?}")?,
+        Command::Get { file, key } => format!(in alloc; "get {file:?} {key:?}")?,
+        Command::Scan { file, from, limit } => {
+            format!(in alloc; "scan {file:?} {from:?} {limit}")?
+        }
+        Command::Nth { file, n } => format!(in alloc; "nth {file:?} {n}")?,
+    };
+    Ok(text)
+}
+
+#[test]
+fn commands_have_their_fields(rt: HostRuntime) -> Result<(), Fail> {
+    let alloc = rt.alloc();
+    let cases = [
+        ("pack a.rec", "pack \"a.rec\""),
+        ("scratch", "scratch bits=12 version=1 out=None"),
+        (
+            "scratch --bits 24 --format 2 --out a.prl",
+            "scratch bits=24 version=2 out=Some(\"a.prl\")",
+        ),
+        (
+            "build out.prl x.rec y.rec",
+            "build bits=12 stages=12 capacity=64 max_records=16777216 batch=16 version=1 out=\"out.prl\" files=[\"x.rec\", \"y.rec\"]",
+        ),
+        (
+            "build --bits 1 --stages 2 --capacity 3 --max-records 4 --batch 5 --format 2 out.prl",
+            "build bits=1 stages=2 capacity=3 max_records=4 batch=5 version=2 out=\"out.prl\" files=[]",
+        ),
+        ("check a.prl", "check \"a.prl\""),
+        ("get a.prl 61fF", "get \"a.prl\" [97, 255]"),
+        ("scan a.prl 00 1000000", "scan \"a.prl\" [0] 1000000"),
+        ("nth a.prl 4294967295", "nth \"a.prl\" 4294967295"),
+    ];
+    for (line, expected) in cases {
+        let text = shown(alloc, line)?;
+        assert!(rt; text.as_str() == expected, "{line}: {text}");
+    }
+    Ok(())
+}
+
+#[test]
+fn words_out_of_range_are_usage(rt: HostRuntime) -> Result<(), Fail> {
+    let alloc = rt.alloc();
+    let lines = [
+        "",
+        "pack",
+        "scratch --bits 25",
+        "build --stages 0 out.prl",
+        "scan a.prl 00 1000001",
+        "nth a.prl 4294967296",
+        "forget a.prl",
+    ];
+    for line in lines {
+        let is_usage = matches!(&answer(alloc, line)?, Err(ParseFault::Usage(_)));
+        assert!(rt; is_usage, "{line}");
+    }
+    Ok(())
+}
+
+#[test]
+fn help_is_no_fault_of_the_words(rt: HostRuntime) -> Result<(), Fail> {
+    let alloc = rt.alloc();
+    for (line, part) in [("--help", "  pack "), ("help build", "[default: 16777216]")] {
+        let Err(ParseFault::Help(text)) = answer(alloc, line)? else {
+            return Err(Fail::from("no help"));
+        };
+        assert!(rt; text.as_str().contains(part), "{text}");
+    }
+    Ok(())
+}
+
+#[test]
+fn keys_are_hexadecimal_of_1024_bytes_at_most(rt: HostRuntime) -> Result<(), Fail> {
+    let alloc = rt.alloc();
+    assert!(rt; matches!(&answer(alloc, "get a.prl 6")?, Err(ParseFault::BadKey)));
+    assert!(rt; matches!(&answer(alloc, "scan a.prl 6x 1")?, Err(ParseFault::BadKey)));
+    // What clap refuses is no bad key.
+    assert!(rt; matches!(&answer(alloc, "scan a.prl 6x")?, Err(ParseFault::Usage(_))));
+    let longest = "6B".repeat(alloc, 1024)?;
+    let line = format!(in alloc; "get a.prl {longest}")?;
+    let is_longest = match &answer(alloc, line.as_str())? {
+        Ok(Command::Get { key, .. }) => key.len() == 1024,
+        _ => false,
+    };
+    assert!(rt; is_longest);
+    let line = format!(in alloc; "get a.prl {longest}6B")?;
+    assert!(rt; matches!(&answer(alloc, line.as_str())?, Err(ParseFault::BadKey)));
+    Ok(())
+}

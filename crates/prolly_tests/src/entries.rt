@@ -1,0 +1,9 @@
+//! Pairs, records, references and cuts.
+mod children;
+mod cuts;
+mod fronts;
+mod keys;
+mod pairs;
+mod record_files;
+mod references;
+mod spellings;

@@ -1,0 +1,124 @@
+use prolly_entry::Ref;
+use prolly_file::{FileWriter, ScriptSink, Sink, ToWrite, WriteFault};
+use std::alloc::{AllocError, Global};
+use std::test::Fail;
+
+const FIRST_LEAF: [u8; 9] = *b"\0\0\x01a\0\0\0\x011";
+
+const SECOND_LEAF: [u8; 9] = *b"\0\0\x01b\0\0\0\x011";
+
+const THIRD_LEAF: [u8; 9] = *b"\0\0\x01c\0\0\0\x011";
+
+/// Parts, one after another.
+fn joined(alloc: Global, parts: &[&[u8]]) -> Result<Vec<u8>, AllocError> {
+    let mut all = Vec::new(alloc);
+    for part in parts {
+        all.extend_from_slice(part)?;
+    }
+    Ok(all)
+}
+
+/// The chunks of the file of the keys a, b and c, and the bytes of that file, which are 234.
+#[derive(Drop)]
+struct Sample {
+    first_node: Vec<u8>,
+    last_node: Vec<u8>,
+    root: Vec<u8>,
+    file: Vec<u8>,
+}
+
+fn make_sample(alloc: Global) -> Result<Sample, AllocError> {
+    let first_node = joined(
+        alloc,
+        &[
+            b"\x01\0\x01a",
+            &Ref::of(&FIRST_LEAF).0,
+            b"\0\x01b",
+            &Ref::of(&SECOND_LEAF).0,
+        ],
+    )?;
+    let last_node = joined(alloc, &[b"\x01\0\x01c", &Ref::of(&THIRD_LEAF).0])?;
+    let root = joined(
+        alloc,
+        &[
+            b"\x02\0\x01b",
+            &Ref::of(&first_node).0,
+            b"\0\x01c",
+            &Ref::of(&last_node).0,
+        ],
+    )?;
+    let file = joined(
+        alloc,
+        &[
+            b"PRLY\x01\0",
+            b"C\0\0\0\0\0\0\0\x09",
+            &FIRST_LEAF,
+            b"C\0\0\0\0\0\0\0\x09",
+            &SECOND_LEAF,
+            b"C\0\0\0\0\0\0\0\x2F",
+            &first_node,
+            b"C\0\0\0\0\0\0\0\x09",
+            &THIRD_LEAF,
+            b"C\0\0\0\0\0\0\0\x18",
+            &last_node,
+            b"C\0\0\0\0\0\0\0\x2F",
+            &root,
+            b"E",
+            &Ref::of(&root).0,
+            b"\0\0\0\0\0\0\0\x06",
+        ],
+    )?;
+    Ok(Sample {
+        first_node,
+        last_node,
+        root,
+        file,
+    })
+}
+
+fn write<W: Sink>(sample: &Sample, sink: &mut W) -> Result<u64, WriteFault> {
+    let mut writer = FileWriter::begin(sink, 0)?;
+    writer.chunk(sink, &FIRST_LEAF)?;
+    writer.chunk(sink, &SECOND_LEAF)?;
+    writer.chunk(sink, &sample.first_node)?;
+    writer.chunk(sink, &THIRD_LEAF)?;
+    writer.chunk(sink, &sample.last_node)?;
+    writer.chunk(sink, &sample.root)?;
+    writer.end(sink, &Ref::of(&sample.root))
+}
+
+#[test]
+fn writes_a_file(rt: HostRuntime) -> Result<(), Fail> {
+    let alloc = rt.alloc();
+    let sample = make_sample(alloc)?;
+    assert_eq!(rt; sample.file.len(), 234);
+
+    let mut sink = ScriptSink::new(alloc, 1, None);
+    assert_eq!(rt; write(&sample, &mut sink), Ok(6));
+    assert_eq!(rt; sink.taken(), sample.file.as_slice());
+
+    let mut out = Vec::new(alloc);
+    assert_eq!(rt; write(&sample, &mut ToWrite::new(&mut out)), Ok(6));
+    assert_eq!(rt; out.as_slice(), sample.file.as_slice());
+    Ok(())
+}
+
+#[test]
+fn stops_at_a_failed_call(rt: HostRuntime) -> Result<(), Fail> {
+    let alloc = rt.alloc();
+    let sample = make_sample(alloc)?;
+
+    let mut sink = ScriptSink::new(alloc, 1, Some(3));
+    assert_eq!(rt; write(&sample, &mut sink), Err(WriteFault));
+    assert_eq!(rt; sink.taken(), b"PR".as_slice());
+
+    // Each write takes a byte, so the call after 234 is the flush.
+    let mut sink = ScriptSink::new(alloc, 1, Some(235));
+    assert_eq!(rt; write(&sample, &mut sink), Err(WriteFault));
+    assert_eq!(rt; sink.taken(), sample.file.as_slice());
+
+    let mut sink = ScriptSink::new(alloc, 0, None);
+    assert_eq!(rt; write(&sample, &mut sink), Err(WriteFault));
+    assert!(rt; sink.taken().is_empty());
+    Ok(())
+}

@@ -1,0 +1,209 @@
+use prolly_entry::{Cut, KeyCut, Pair, Ref, Sha512Cut, Version};
+use prolly_file::{ScratchFault, scratch, scratch_as};
+use std::alloc::Global;
+use std::process::Abort;
+use std::test::Fail;
+
+/// A leaf of one pair, a key of one byte and the value `1`.
+const A: &[u8] = b"\0\0\x01a\0\0\0\x011";
+
+const B: &[u8] = b"\0\0\x01b\0\0\0\x011";
+
+const C: &[u8] = b"\0\0\x01c\0\0\0\x011";
+
+/// The leaves of the keys a, b!, c, d! and e, where an exclamation mark closes a leaf.
+const FIRST: &[u8] = b"\0\0\x01a\0\0\0\x011\0\x02b!\0\0\0\x011";
+
+const SECOND: &[u8] = b"\0\0\x01c\0\0\0\x011\0\x02d!\0\0\0\x011";
+
+const THIRD: &[u8] = b"\0\0\x01e\0\0\0\x011";
+
+/// Pairs of these keys, each with the value `1`.
+fn pairs_of(alloc: Global, keys: &[&[u8]]) -> Result<Vec<Pair>, Fail> {
+    let mut pairs = Vec::new(alloc);
+    for key in keys {
+        let pair = Pair::new(Vec::from_slice(alloc, key)?, Vec::from_slice(alloc, b"1")?)?;
+        if pairs.push(pair).is_err() {
+            return Err(Fail::from("memory"));
+        }
+    }
+    Ok(pairs)
+}
+
+/// A node of children of which each has a key, bytes and, in version Two, a count.
+fn node_of(
+    alloc: Global,
+    level: u8,
+    children: &[(&[u8], &[u8])],
+    counts: &[u8],
+) -> Result<Vec<u8>, Fail> {
+    let mut node = Vec::new(alloc);
+    node.push(level)?;
+    for (place, (key, bytes)) in children.iter().enumerate() {
+        node.extend_from_slice(&[0, u8::try_from(key.len())?])?;
+        node.extend_from_slice(key)?;
+        node.extend_from_slice(&Ref::of(bytes).0)?;
+        if place < counts.len() {
+            node.extend_from_slice(&[0, 0, 0, 0, 0, 0, 0, counts[place]])?;
+        }
+    }
+    Ok(node)
+}
+
+/// The file of these chunks, the last one the root.
+fn file_of(alloc: Global, version: u8, bits: u8, chunks: &[&[u8]]) -> Result<Vec<u8>, Fail> {
+    let mut file = b"PRLY".to_vec(alloc)?;
+    file.extend_from_slice(&[version, bits])?;
+    let mut root = Ref([0; 20]);
+    for chunk in chunks {
+        file.extend_from_slice(&[b'C', 0, 0, 0, 0, 0, 0, 0, u8::try_from(chunk.len())?])?;
+        file.extend_from_slice(chunk)?;
+        root = Ref::of(chunk);
+    }
+    file.push(b'E')?;
+    file.extend_from_slice(&root.0)?;
+    file.extend_from_slice(&[0, 0, 0, 0, 0, 0, 0, u8::try_from(chunks.len())?])?;
+    Ok(file)
+}
+
+/// The file that is made of these keys.
+fn made<K: Cut>(alloc: Global, cut: K, version: Version, keys: &[&[u8]]) -> Result<Vec<u8>, Fail> {
+    let pairs = pairs_of(alloc, keys)?;
+    let mut out = b"kept".to_vec(alloc)?;
+    let root = scratch_as(alloc, cut, version, &pairs, 12, &mut out)?;
+    if !out.starts_with(b"kept") || !out[out.len() - 28..].starts_with(&root.0) {
+        return Err(Fail::from("the root, or what was there"));
+    }
+    Ok(out[4..].to_vec(alloc)?)
+}
+
+#[test]
+fn the_empty_map_is_one_leaf(rt: HostRuntime) -> Result<(), Fail> {
+    let cut = Sha512Cut::new(0).ok_or("bits")?;
+    let mut out = Vec::new(rt.alloc());
+    let root = scratch(rt.alloc(), cut, &[], 12, &mut out)?;
+    assert_eq!(rt; root.to_text(), *b"n0i4q0k9g7b97brr8llfhrt4pbb3qa1e");
+    assert_eq!(rt;
+        out.as_slice(),
+        b"PRLY\x01\0C\0\0\0\0\0\0\0\x01\0\
+        E\xb8\x24\x4d\x02\x89\x81\xd6\x93\xaf\x7b\x45\x6a\xf8\xef\xa4\xca\xd6\x3d\x28\x2e\
+        \0\0\0\0\0\0\0\x01"
+            .as_slice()
+    );
+    Ok(())
+}
+
+#[test]
+fn small_maps_have_these_files(rt: HostRuntime) -> Result<(), Fail> {
+    let alloc = rt.alloc();
+    let cut = Sha512Cut::new(0).ok_or("bits")?;
+    let one = made(alloc, cut, Version::One, &[b"a"])?;
+    assert_eq!(rt; one.len(), 53);
+    assert_eq!(rt; one, file_of(alloc, 1, 0, &[A])?);
+
+    let first_node = node_of(alloc, 1, &[(b"a", A), (b"b", B)], &[])?;
+    let two = made(alloc, cut, Version::One, &[b"a", b"b"])?;
+    assert_eq!(rt; two.len(), 127);
+    assert_eq!(rt; two, file_of(alloc, 1, 0, &[A, B, &first_node])?);
+
+    let last_node = node_of(alloc, 1, &[(b"c", C)], &[])?;
+    let root = node_of(alloc, 2, &[(b"b", &first_node), (b"c", &last_node)], &[])?;
+    let three = made(alloc, cut, Version::One, &[b"a", b"b", b"c"])?;
+    assert_eq!(rt; three.len(), 234);
+    assert_eq!(rt;
+        three,
+        file_of(alloc, 1, 0, &[A, B, &first_node, C, &last_node, &root])?
+    );
+    Ok(())
+}
+
+#[test]
+fn version_two_counts(rt: HostRuntime) -> Result<(), Fail> {
+    let alloc = rt.alloc();
+    let cut = Sha512Cut::new(0).ok_or("bits")?;
+    assert_eq!(rt;
+        made(alloc, cut, Version::Two, &[b"a"])?,
+        file_of(alloc, 2, 0, &[A])?
+    );
+
+    let first_node = node_of(alloc, 1, &[(b"a", A), (b"b", B)], &[1, 1])?;
+    let two = made(alloc, cut, Version::Two, &[b"a", b"b"])?;
+    assert_eq!(rt; two.len(), 143);
+    assert_eq!(rt; two, file_of(alloc, 2, 0, &[A, B, &first_node])?);
+
+    let last_node = node_of(alloc, 1, &[(b"c", C)], &[1])?;
+    let root = node_of(
+        alloc,
+        2,
+        &[(b"b", &first_node), (b"c", &last_node)],
+        &[2, 1],
+    )?;
+    let three = made(alloc, cut, Version::Two, &[b"a", b"b", b"c"])?;
+    assert_eq!(rt; three.len(), 274);
+    assert_eq!(rt;
+        three,
+        file_of(alloc, 2, 0, &[A, B, &first_node, C, &last_node, &root])?
+    );
+    Ok(())
+}
+
+#[test]
+fn a_level_is_cut_at_marked_keys(rt: HostRuntime) -> Result<(), Fail> {
+    let alloc = rt.alloc();
+    let node = node_of(alloc, 1, &[(b"b!", FIRST), (b"d!", SECOND)], &[])?;
+    let last = node_of(alloc, 1, &[(b"e", THIRD)], &[])?;
+    let root = node_of(alloc, 2, &[(b"d!", &node), (b"e", &last)], &[])?;
+    let file = made(
+        alloc,
+        KeyCut,
+        Version::One,
+        &[b"a", b"b!", b"c", b"d!", b"e"],
+    )?;
+    assert_eq!(rt; file.len(), 255);
+    assert_eq!(rt; file[5], 0xFF);
+    assert_eq!(rt;
+        file,
+        file_of(alloc, 1, 255, &[FIRST, SECOND, &node, THIRD, &last, &root])?
+    );
+    Ok(())
+}
+
+/// The fault of these keys, and that the vector is as it was.
+fn refused(
+    rt: &impl Abort,
+    alloc: Global,
+    keys: &[&[u8]],
+    max_levels: u8,
+    fault: ScratchFault,
+) -> Result<(), Fail> {
+    let cut = Sha512Cut::new(0).ok_or("bits")?;
+    let mut out = b"kept".to_vec(alloc)?;
+    let pairs = pairs_of(alloc, keys)?;
+    assert_eq!(rt;
+        scratch(alloc, cut, &pairs, max_levels, &mut out),
+        Err(fault)
+    );
+    assert_eq!(rt; out.as_slice(), b"kept".as_slice());
+    Ok(())
+}
+
+#[test]
+fn faults_leave_the_vector(rt: HostRuntime) -> Result<(), Fail> {
+    let alloc = rt.alloc();
+    refused(
+        &rt,
+        alloc,
+        &[b"b", b"a"],
+        12,
+        ScratchFault::OutOfOrder { pair: 1 },
+    )?;
+    refused(
+        &rt,
+        alloc,
+        &[b"a", b"b", b"b", b"a"],
+        0,
+        ScratchFault::OutOfOrder { pair: 2 },
+    )?;
+    refused(&rt, alloc, &[b"a", b"b", b"c"], 2, ScratchFault::TooTall)?;
+    refused(&rt, alloc, &[], 0, ScratchFault::TooTall)
+}

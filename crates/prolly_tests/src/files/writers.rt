@@ -1,0 +1,55 @@
+use prolly_file::{Sink, SinkFault, ToWrite};
+use std::io;
+use std::io::{ErrorKind, Write};
+use std::test::Fail;
+
+/// A writer that counts its flushes, and fails at its second write and at its second flush.
+#[derive(Drop)]
+struct Counts {
+    writes: u8,
+    flushes: u8,
+}
+
+impl Write for Counts {
+    fn write(&mut self, buf: &[u8]) -> io::Result<usize> {
+        self.writes = self.writes.wrapping_add(1);
+        if self.writes == 2 {
+            return Err(io::Error::from(ErrorKind::Interrupted));
+        }
+        Ok(buf.len())
+    }
+
+    fn flush(&mut self) -> io::Result<()> {
+        self.flushes = self.flushes.wrapping_add(1);
+        if self.flushes == 2 {
+            return Err(io::Error::from(ErrorKind::InvalidData));
+        }
+        Ok(())
+    }
+}
+
+#[test]
+fn writes_memory(rt: HostRuntime) -> Result<(), Fail> {
+    let mut out = b"a".to_vec(rt.alloc())?;
+    let mut sink = ToWrite::new(&mut out);
+    assert_eq!(rt; sink.write(b"bc"), Ok(2));
+    assert_eq!(rt; sink.flush(), Ok(()));
+    assert_eq!(rt; out.as_slice(), b"abc".as_slice());
+    Ok(())
+}
+
+#[test]
+fn flushes_the_writer_and_errors_are_faults(rt: HostRuntime) {
+    let mut writer = Counts {
+        writes: 0,
+        flushes: 0,
+    };
+    let mut sink = ToWrite::new(&mut writer);
+    assert_eq!(rt; sink.write(b"abc"), Ok(3));
+    assert_eq!(rt; sink.write(b"abc"), Err(SinkFault));
+    assert_eq!(rt; sink.write(b"abc"), Ok(3));
+    assert_eq!(rt; sink.flush(), Ok(()));
+    assert_eq!(rt; sink.flush(), Err(SinkFault));
+    assert_eq!(rt; sink.flush(), Ok(()));
+    assert_eq!(rt; writer.flushes, 3);
+}
