@@ -2,7 +2,7 @@
 
 from harness import FOLDER, Case
 from scratch import ABC, many_removals, numbered
-from trees import REMOVED, begun_file, chunk_file, header, overlay, record, records, report, tall_file
+from trees import END_SIZE, REMOVED, begun_file, chunk_file, header, overlay, record, records, report, tall_file
 
 NO_FILE = header(12, 1)
 """What lies in OUT where a fault came before the first chunk."""
@@ -53,7 +53,7 @@ def refused(name, contents, line, left, status=3, bits=0, **numbers):
 
 def cases(folder):
     """All cases; files too large for a case's text are made in the folder."""
-    return trees() + faults() + named_faults() + limits() + devices() + large(folder)
+    return trees() + faults() + named_faults() + limits() + devices() + scarce() + large(folder)
 
 
 def trees():
@@ -316,6 +316,25 @@ def devices():
             after={"out.prl": b""},
             memory=8_000_000,
         ),
+    ]
+
+
+def scarce():
+    """Builds in so little memory that a thread can't be had, or, here or there, a worker is refused what it needs."""
+    pairs = [(number.to_bytes(2, "big"), bytes([number % 251]) * 60_000) for number in range(600)]
+    before = named([records(pairs[0::2]), records(pairs[1::2])])
+    whole = chunk_file(pairs, 4)
+    return [
+        Case(
+            f"build: {megabytes} megabytes of memory",
+            ["build", "--bits", "4", "out.prl", *before],
+            out=report(pairs, 4),
+            before=before,
+            after={"out.prl": whole},
+            memory=megabytes * 1_000_000,
+            unfinished={"out.prl": whole[:-END_SIZE]},
+        )
+        for megabytes in range(100, 400, 20)
     ]
 
 

@@ -10,6 +10,9 @@ from pathlib import Path
 FOLDER = object()
 """Stands among a case's files for a folder without files."""
 
+SCARCE = [b"prolly: out of memory\n", b"prolly: a thread could not be started\n"]
+"""How the program says that memory, or a thread, was not there."""
+
 
 @dataclass
 class Case:
@@ -32,6 +35,9 @@ class Case:
     """`read` or `closed`."""
     memory: int = None
     """How many bytes of memory the program may have."""
+    unfinished: dict = None
+    """The files of which it may leave a first part, and no more, where it says that memory, or a thread, was not there.
+    Without them that is no answer."""
 
 
 def run(program, case):
@@ -40,6 +46,8 @@ def run(program, case):
         folder = Path(name)
         lay_out(folder, case.before)
         status, out, err = start(program, case, folder)
+        if case.unfinished is not None and (status, out) == (6, b"") and err in SCARCE:
+            return part_differences(folder, case)
         differences = []
         if status != case.status:
             differences.append(f"status {status}, wanted {case.status}")
@@ -126,6 +134,13 @@ def file_differences(folder, wanted):
         if content != wanted[name]:
             differences.append(f"{name} holds {shown(content)}, wanted {shown(wanted[name])}")
     return differences
+
+
+def part_differences(folder, case):
+    """How the files differ from those that were there, and from first parts of those that were begun."""
+    parts = {name: (folder / name).read_bytes() for name in case.unfinished if (folder / name).is_file()}
+    begun = {name: part for name, part in parts.items() if case.unfinished[name].startswith(part)}
+    return file_differences(folder, {**case.before, **case.unfinished, **begun})
 
 
 def shown(content):

@@ -10,6 +10,9 @@ DIGITS = "0123456789abcdefghijklmnopqrstuv"
 REMOVED = None
 """Stands for a value in a record that removes its key."""
 
+END_SIZE = 29
+"""How many bytes an end record has."""
+
 
 def record(key, value):
     """The spelling of a record, or of a pair."""
