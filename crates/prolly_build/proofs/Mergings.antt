@@ -159,7 +159,7 @@ all_clean (i ∷ is) e =
     let h = earlier_none (stop_at (last_position i.records) i.fault) (stop is) e in
     (stop_at_none (last_position i.records) i.fault h.0, all_clean is h.1)
 
-pub stop_none : (s : Option (Stop RunFault)) → stop_fault s ≡ None → s ≡ None
+stop_none : (s : Option (Stop RunFault)) → stop_fault s ≡ None → s ≡ None
 stop_none None e = refl
 stop_none (Some s) e = absurd cc
 

@@ -1,9 +1,8 @@
 -- What the workers of a build sent where one of them was refused memory.
-use Rattle.std.proofs.Common.{◌≡◌, ◌≤◌, ◌<◌, ◌+◌, ◌-◌, ◌*◌, ◌^◌, ℕ, zero, suc, Bool, true, List, [], ◌∷◌, ◌++◌, All, map, length, Option, Some, None, inl, inr, refl, ap, sym, subst, ◌∙◌, arith}
+use Rattle.std.proofs.Common.{◌≡◌, ◌≤◌, ◌<◌, ◌+◌, ◌-◌, ◌*◌, ◌^◌, ℕ, zero, suc, Bool, true, List, [], ◌∷◌, ◌++◌, map, length, Option, Some, None, inl, inr, refl, ap, sym, subst, ◌∙◌, arith}
 use Rattle.std.specs.List.{flat_map}
 use Rattle.std.proofs.lemmas.List.{append-nil, length-append}
 use Rattle.std.proofs.lemmas.List.Concat.{flat_map-append}
-use Rattle.prolly_entry.specs.Byte.{IsByte}
 use Rattle.prolly_entry.specs.Chunk.{Chunk, chunks}
 use Rattle.prolly_entry.specs.Cut.{Cut, sha512_cut}
 use Rattle.prolly_entry.specs.CutShort.{IsFrontOf, AreFrontsOf}
@@ -34,7 +33,6 @@ use Rattle.prolly_merge.specs.Sent.{Sends}
 use Rattle.prolly_stage.proofs.Steps.{prefix_trans}
 use Rattle.prolly_stage.proofs.Takings.{writer_takes}
 use Rattle.prolly_build.specs.Feeding.{IsJoint, Joined}
-use Rattle.prolly_build.specs.Gathering.{IsGathered}
 use Rattle.prolly_build.specs.Merging.{MergesAll, sent_input}
 use Rattle.prolly_build.specs.Ran.{AreLoaded}
 use Rattle.prolly_build.specs.Refused.{AreGood, IsRefused}
@@ -45,7 +43,7 @@ use Rattle.prolly_build.specs.Workers.{IsLoadedFrom}
 use Rattle.prolly_build.specs.Writing.{Sunk, frames_of}
 use Rattle.prolly_build.proofs.Loads.{begun, clean_end, one_read}
 use Rattle.prolly_build.proofs.Makings.{frames_are_first}
-use Rattle.prolly_build.proofs.Mergings.{Inputs, fault_of_end_of, stop_none}
+use Rattle.prolly_build.proofs.Mergings.{Inputs, fault_of_end_of}
 use Rattle.prolly_build.proofs.WritingSteps.{prefix_on}
 
 -- ---- lists, and what was sent of them

@@ -1,5 +1,5 @@
 -- What the writer has written of the pairs before a fault, and before want of memory.
-use Rattle.std.proofs.Common.{◌≡◌, ◌≤◌, ◌<◌, ◌+◌, ◌-◌, ◌^◌, ℕ, suc, true, List, ◌++◌, length, inl, inr, ap, sym, subst, ◌∙◌, arith}
+use Rattle.std.proofs.Common.{◌≡◌, ◌≤◌, ◌<◌, ◌-◌, ◌^◌, ℕ, suc, true, List, ◌++◌, length, inl, inr, ap, sym, subst, ◌∙◌, arith}
 use Rattle.std.specs.List.{filter}
 use Rattle.prolly_entry.specs.Chunk.{Chunk, begun_chunks}
 use Rattle.prolly_entry.specs.Cut.{sha512_cut}

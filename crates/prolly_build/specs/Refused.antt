@@ -1,5 +1,5 @@
 -- What a build leaves where a worker was refused memory.
-use Rattle.std.specs.Prelude.{◌≡◌, ℕ, Bool, true, List, [], ◌∷◌, Option}
+use Rattle.std.specs.Prelude.{◌≡◌, ℕ, true, List, [], ◌∷◌, Option}
 use Rattle.prolly_entry.specs.Cut.{sha512_cut}
 use Rattle.prolly_entry.specs.File.{file}
 use Rattle.prolly_entry.specs.Overlay.{overlay}

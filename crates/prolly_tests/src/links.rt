@@ -1,8 +1,7 @@
 use between::{copy_into_batches, copy_list, copy_out_of_batches};
 use copies::{Copies, copy_all};
 use prolly_link::{
-    BatchDrained, BatchReceiver, BatchSender, ClosedBatch, ClosedList, ClosedSender, Drained, End,
-    In, ListIn, ListOut, Next, Out, Progress, Receiver, RunFault, Sender, batch_link, link, meet,
+    BatchDrained, Drained, End, In, ListIn, ListOut, Next, Out, RunFault, batch_link, link, meet,
     meet_batches, receive_rest,
 };
 use std::test::Fail;

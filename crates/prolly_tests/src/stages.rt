@@ -4,9 +4,7 @@ use links::leaves_over_links;
 use lists::{leaves_of, two_stages};
 use prolly_entry::{KeyCut, Pair, Sha512Cut, Version};
 use prolly_link::{End, ListIn, ListOut, Next, RunFault, batch_link, link, receive_rest};
-use prolly_stage::{
-    ChunkEvent, Gate, Gated, OpenGate, Staged, Worker, inner_stage, inner_stage_as, leaf_stage,
-};
+use prolly_stage::{Gated, OpenGate, Staged, Worker, inner_stage, leaf_stage};
 use std::alloc::Global;
 use std::process::Abort;
 use std::sync::Wait;

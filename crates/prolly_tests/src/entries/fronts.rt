@@ -1,4 +1,4 @@
-use prolly_entry::{Front, FrontRecord, Pair, front_pair, front_record};
+use prolly_entry::{Front, FrontRecord, front_pair, front_record};
 
 #[test]
 fn finds_what_bytes_begin_with(rt: HostRuntime) {

@@ -1,5 +1,4 @@
 use prolly_file::{FromRead, ScriptSource, WholeFault, read_whole};
-use std::io::Read;
 use std::test::Fail;
 
 #[test]
