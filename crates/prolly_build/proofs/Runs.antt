@@ -29,6 +29,7 @@ use Rattle.prolly_build.specs.Settings.{Settings, AreLawful}
 use Rattle.prolly_build.specs.Staging.{HasStaged}
 use Rattle.prolly_build.proofs.Loads.{all_rise, all_only, all_kept, all_read, all_few}
 use Rattle.prolly_build.proofs.Stops.{IsStoppedRun}
+use Rattle.prolly_build.proofs.Takings.{lost_is_no_memory}
 use Rattle.prolly_build.proofs.Mergings.{IfFault, clean_pairs, joined_rises, joined_only, rises_all, sends_only}
 
 -- an end whose fault is one of the input's
@@ -173,10 +174,7 @@ halted_unrefused NoThread_halt fault is m = no_thread (sym is ∙ m)
   where
     no_thread : NoThread ≡ Memory → ⊥
     no_thread e = cc
-halted_unrefused Lost_halt fault is m = lost (sym is ∙ m)
-  where
-    lost : Lost ≡ Memory → ⊥
-    lost e = cc
+halted_unrefused Lost_halt fault is m = lost_is_no_memory (sym is ∙ m)
 
 -- a halt is no fault of the writer
 pub halted_unmade : (halt : Halt) (fault : RunFault) → IsHaltFault halt fault → IsWriterFault fault → ⊥
