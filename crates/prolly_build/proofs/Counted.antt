@@ -24,7 +24,7 @@ module _ {S : Type 0} (is_honest : S → Bool) (left : S → List ℕ) (failures
   -- what a file counts for, and what its loader sent of that
   record Counts (file : ℕ) (s t : S) (sent : Input RunFault) : Type 0 where
     input : Input RunFault
-    counts : IsReadingOf is_honest left failures file limit s input ⊎ IsFailureOf is_honest left failures file limit s t input
+    counts : IsReadingOf left failures file limit s input ⊎ IsFailureOf left failures file limit s t input
     sent_of : IsSentOf faults.Memory input sent
 
   -- a reading that was sent whole
@@ -96,11 +96,11 @@ module _ {S : Type 0} (is_honest : S → Bool) (left : S → List ℕ) (failures
 
   pub record AllCounts (file : ℕ) (ss ts : List S) (sent : List (Input RunFault)) : Type 0 where
     pub inputs : List (Input RunFault)
-    pub count_for : CountFor is_honest left failures file limit ss ts inputs
+    pub count_for : CountFor left failures file limit ss ts inputs
     pub sent_of : AreSentOf faults.Memory inputs sent
 
   pub all_count : (file : ℕ) (ss : List S) (os : List (Batching Record)) (ts : List S) (cs : List (Whole Record)) →
-      AreLoaded is_honest left failures limit file ss os ts cs → AreHonest is_honest left failures ss → AllCounts file ss ts (map sent_input cs)
+      AreLoaded is_honest left failures limit file ss os ts cs → AreHonest is_honest left ss → AllCounts file ss ts (map sent_input cs)
   all_count file [] [] [] [] h honest = record { inputs = []; count_for = tt; sent_of = tt }
   all_count file [] [] [] (c ∷ cs) h honest = absurd h
   all_count file [] [] (t ∷ ts) cs h honest = absurd h

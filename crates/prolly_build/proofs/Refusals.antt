@@ -161,7 +161,7 @@ module _ {S : Type 0} (is_honest : S → Bool) (left : S → List ℕ) (failures
       }
 
   all_fronts : (file : ℕ) (ss : List S) (os : List (Batching Record)) (ts : List S) (cs : List (Whole Record)) →
-      AreLoaded is_honest left failures limit file ss os ts cs → AreHonest is_honest left failures ss → Good ss (map sent_input cs)
+      AreLoaded is_honest left failures limit file ss os ts cs → AreHonest is_honest left ss → Good ss (map sent_input cs)
   all_fronts file [] [] [] [] h honest = record { goods = []; are_good = tt; fronts = tt; rising = tt }
   all_fronts file [] [] [] (c ∷ cs) h honest = absurd h
   all_fronts file [] [] (t ∷ ts) cs h honest = absurd h
@@ -191,7 +191,7 @@ module _ {S : Type 0} (is_honest : S → Bool) (left : S → List ℕ) (failures
       omega (arith, one, rest, both, small)
 
   -- honest sources have good records
-  some_good : (ss : List S) → AreHonest is_honest left failures ss → (goods : List (List Record)) × AreGood left limit ss goods
+  some_good : (ss : List S) → AreHonest is_honest left ss → (goods : List (List Record)) × AreGood left limit ss goods
   some_good [] honest = ([], tt)
   some_good (s ∷ ss) honest =
       let has = reading_is (left s) limit honest.0.1 in
@@ -202,7 +202,7 @@ module _ {S : Type 0} (is_honest : S → Bool) (left : S → List ℕ) (failures
 
 -- a sink that was left alone
 pub untouched_refused : {S : Type 0} (is_honest : S → Bool) (left : S → List ℕ) (failures : S → ℕ) (settings : Settings) (before : List S) (old : Sunk) →
-    AreHonest is_honest left failures before → IsRefused left settings before old old
+    AreHonest is_honest left before → IsRefused left settings before old old
 untouched_refused is_honest left failures settings before old honest =
     let has = some_good is_honest left failures settings.max_records before honest in record {
       goods = has.0;
@@ -227,7 +227,7 @@ module _ {S : Type 0} (is_honest : S → Bool) (left : S → List ℕ) (failures
     pub first : IsPrefix pairs (overlay goods)
     pub taken : IsPrefix (before_second level events) (chunks cut settings.version pairs)
 
-  source_refused : AreLawful settings → length before ≤ 16 → AreHonest is_honest left failures before → (events : List Chunk) (end : End) →
+  source_refused : AreLawful settings → length before ≤ 16 → AreHonest is_honest left before → (events : List Chunk) (end : End) →
       HasStaged is_honest left failures settings level before after events end count → end ≡ Fault Memory → IsRefusedRun events
   source_refused lawful sixteen honest events end h end_is =
       let sent = all_fronts is_honest left failures settings.max_records 0 before h.gathered.loader_outs after h.gathered.files h.gathered.loaded honest in
@@ -263,7 +263,7 @@ module _ {S : Type 0} (is_honest : S → Bool) (left : S → List ℕ) (failures
 
 -- the same over sources that were lent
 pub lent_refused : {S : Type 0} (is_honest : S → Bool) (left : S → List ℕ) (failures : S → ℕ) (settings : Settings) (level : ℕ) (before lent after : List S) (count : ℕ) →
-    AreLawful settings → length before ≤ 16 → level + 1 ≡ settings.stages → lent ≡ before → AreHonest is_honest left failures before → (events : List Chunk) (end : End) →
+    AreLawful settings → length before ≤ 16 → level + 1 ≡ settings.stages → lent ≡ before → AreHonest is_honest left before → (events : List Chunk) (end : End) →
     HasStaged is_honest left failures settings level lent after events end count → end ≡ Fault Memory → IsRefusedRun is_honest left failures settings before after count events
 lent_refused {S} is_honest left failures settings level before lent after count lawful sixteen levels same honest events end h =
     let below : level ≡ settings.stages - 1 = omega (arith, levels) in

@@ -158,7 +158,7 @@ lost_is_no_count e = cc
 pub stopped : {S : Type 0} {is_honest : S → Bool} {left : S → List ℕ} {failures : S → ℕ} {settings : Settings} {before after : List S} {old new : Sunk} {count : ℕ}
     {events : List Chunk} (fault : RunFault) → IsFileFault fault → (fault ≢ Memory → IsStoppedRun is_honest left failures settings before after count events fault) →
     ((p : List Pair) → length p < 2 ^ 64 → events ≡ pipeline_events (settings.stages - 1) (sha512_cut settings.bits) settings.version faulty p → TookBegun settings p old new) →
-    IsStopped is_honest left failures settings before after old new fault
+    IsStopped left failures settings before after old new fault
 stopped fault file run took =
     let h = run (λ e. subst IsFileFault e file) in
     record { inputs = h.inputs; count_for = h.count_for; named = h.named; took = took (merged_part h.inputs) h.few h.sent }

@@ -102,7 +102,7 @@ merged_stops inputs pairs fault other (inr h) = absurd (other (same_fault fault 
 -- ---- all workers
 
 module _ {S : Type 0} (is_honest : S → Bool) (left : S → List ℕ) (failures : S → ℕ) (settings : Settings) (before after : List S) (count : ℕ) where
-  count_rises : (file : ℕ) (ss ts : List S) (inputs : Inputs) → CountFor is_honest left failures file settings.max_records ss ts inputs → AllRising (lists_of inputs)
+  count_rises : (file : ℕ) (ss ts : List S) (inputs : Inputs) → CountFor left failures file settings.max_records ss ts inputs → AllRising (lists_of inputs)
   count_rises file [] [] [] h = tt
   count_rises file [] [] (i ∷ is) h = absurd h
   count_rises file [] (t ∷ ts) is h = absurd h
@@ -114,12 +114,12 @@ module _ {S : Type 0} (is_honest : S → Bool) (left : S → List ℕ) (failures
   -- what the last stage sent before the fault of a file
   pub record IsStoppedRun (events : List Chunk) (fault : RunFault) : Type 0 where
     pub inputs : List (Input RunFault)
-    pub count_for : CountFor is_honest left failures 0 settings.max_records before after inputs
+    pub count_for : CountFor left failures 0 settings.max_records before after inputs
     pub named : stop_fault (stop inputs) ≡ Some fault
     pub few : length (merged_part inputs) < 2 ^ 64
     pub sent : events ≡ pipeline_events (settings.stages - 1) (sha512_cut settings.bits) settings.version faulty (merged_part inputs)
 
-  gathered_stops : AreLawful settings → length before ≤ 16 → AreHonest is_honest left failures before → (pairs : List Pair) (end : End) (fault : RunFault) →
+  gathered_stops : AreLawful settings → length before ≤ 16 → AreHonest is_honest left before → (pairs : List Pair) (end : End) (fault : RunFault) →
       IsGathered is_honest left failures settings.max_records before after pairs end count → end ≡ Fault fault → fault ≢ Memory →
       (events : List Chunk) → events ≡ pipeline_events (settings.stages - 1) (sha512_cut settings.bits) settings.version faulty pairs → IsStoppedRun events fault
   gathered_stops lawful sixteen honest pairs end fault h end_is other events sent =
@@ -144,7 +144,7 @@ module _ {S : Type 0} (is_honest : S → Bool) (left : S → List ℕ) (failures
         sent = sent ∙ ap (λ (ps : List Pair). pipeline_events (settings.stages - 1) (sha512_cut settings.bits) settings.version faulty ps) (sym part);
       }
 
-  pub source_stops : AreLawful settings → length before ≤ 16 → AreHonest is_honest left failures before → (events : List Chunk) (end : End) (fault : RunFault) →
+  pub source_stops : AreLawful settings → length before ≤ 16 → AreHonest is_honest left before → (events : List Chunk) (end : End) (fault : RunFault) →
       HasStaged is_honest left failures settings (settings.stages - 1) before after events end count → end ≡ Fault fault → fault ≢ Memory → IsStoppedRun events fault
   source_stops lawful sixteen honest events end fault h end_is other = go h.staged
     where
@@ -159,7 +159,7 @@ module _ {S : Type 0} (is_honest : S → Bool) (left : S → List ℕ) (failures
 
 -- the same over sources that were lent
 pub lent_stops : {S : Type 0} (is_honest : S → Bool) (left : S → List ℕ) (failures : S → ℕ) (settings : Settings) (level : ℕ) (before lent after : List S) (count : ℕ) →
-    AreLawful settings → length before ≤ 16 → level + 1 ≡ settings.stages → lent ≡ before → AreHonest is_honest left failures before →
+    AreLawful settings → length before ≤ 16 → level + 1 ≡ settings.stages → lent ≡ before → AreHonest is_honest left before →
     (events : List Chunk) (end : End) (fault : RunFault) → HasStaged is_honest left failures settings level lent after events end count → end ≡ Fault fault → fault ≢ Memory →
     IsStoppedRun is_honest left failures settings before after count events fault
 lent_stops {S} is_honest left failures settings level before lent after count lawful sixteen levels same honest events end fault h =

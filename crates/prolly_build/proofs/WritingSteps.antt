@@ -8,6 +8,7 @@ use Rattle.prolly_entry.specs.Prefix.{IsPrefix}
 use Rattle.prolly_entry.proofs.Prefixes.{count, count_true, count_false}
 use Rattle.prolly_entry.proofs.Writers.{within_is_prefix}
 use Rattle.prolly_file.specs.Sink.{TakesPrefix}
+use Rattle.prolly_stage.proofs.Steps.{prefix_trans}
 use Rattle.prolly_build.specs.declared.writer.Begun.{Begun}
 use Rattle.prolly_build.specs.declared.writer.Top.{Top}
 use Rattle.prolly_build.specs.declared.writer.Written.{Written}
@@ -24,11 +25,12 @@ tall_stays {head} {level} {events} {old} e h = let more = one_more level events 
   keeps = h.keeps;
 }
 
+-- what is a prefix of the wanted bytes is one of bytes that they begin
 pub prefix_on : {old new wanted : List ℕ} (more : List ℕ) → TakesPrefix old new wanted → IsPrefix wanted more → TakesPrefix old new more
 prefix_on {wanted} more h k = record {
   part = h.part;
   grown = h.grown;
-  is_prefix = (h.is_prefix.0 ++ k.0, k.1 ∙ (ap (λ (z : List ℕ). z ++ k.0) h.is_prefix.1 ∙ append_assoc h.part h.is_prefix.0 k.0));
+  is_prefix = prefix_trans h.part wanted more h.is_prefix k;
 }
 
 -- so does a failed file

@@ -33,7 +33,7 @@ IsFileFault (faults.OutOfOrder f place) = Unit {0}
 IsFileFault (faults.TooManyRecords f) = Unit {0}
 IsFileFault _ = ⊥
 
-module _ {S : Type 0} (is_honest : S → Bool) (left : S → List ℕ) (failures : S → ℕ) where
+module _ {S : Type 0} (left : S → List ℕ) (failures : S → ℕ) where
   -- The reading of the bytes that the source had left, with what it ends in.
   pub record IsReadingOf (file limit : ℕ) (before : S) (input : Input RunFault) : Type 0 where
     pub ending : Option Flaw
@@ -54,9 +54,9 @@ module _ {S : Type 0} (is_honest : S → Bool) (left : S → List ℕ) (failures
   CountFor file limit (s ∷ ss) (t ∷ ts) (i ∷ inputs) = (IsReadingOf file limit s i ⊎ IsFailureOf file limit s t i) × CountFor (file + 1) limit ss ts inputs
   CountFor file limit _ _ _ = ⊥
 
-  -- Honest sources of bytes.
-  abbrev pub AreHonest : List S → Type 0
-  AreHonest sources = AllByRecursion (λ s. (is_honest s ≡ true) × All IsByte (left s)) sources
+-- Honest sources of bytes.
+abbrev pub AreHonest : {S : Type 0} → (S → Bool) → (S → List ℕ) → List S → Type 0
+AreHonest is_honest left sources = AllByRecursion (λ s. (is_honest s ≡ true) × All IsByte (left s)) sources
 
 -- What is written of the pairs that come before a fault: the header, and a frame for each chunk that they close, up to, and without, the
 -- second one of the last stage's level.
@@ -70,9 +70,9 @@ pub record TookBegun (settings : Settings) (p : List Pair) (old new : Sunk) : Ty
   pub part : old.is_keeping ≡ true → TakesPrefix old.taken new.taken (begun_of settings p)
 
 -- The fault is the stop of what the files count for, and the sink took what the pairs before it begin.
-pub record IsStopped {S : Type 0} (is_honest : S → Bool) (left : S → List ℕ) (failures : S → ℕ) (settings : Settings) (before after : List S)
-    (old new : Sunk) (fault : RunFault) : Type 0 where
+pub record IsStopped {S : Type 0} (left : S → List ℕ) (failures : S → ℕ) (settings : Settings) (before after : List S) (old new : Sunk)
+    (fault : RunFault) : Type 0 where
   pub inputs : List (Input RunFault)
-  pub count_for : CountFor is_honest left failures 0 settings.max_records before after inputs
+  pub count_for : CountFor left failures 0 settings.max_records before after inputs
   pub named : stop_fault (stop inputs) ≡ Some fault
   pub took : TookBegun settings (merged_part inputs) old new

@@ -23,6 +23,10 @@ pub record Sunk : Type 0 where
   pub taken : List ℕ
   pub failures : ℕ
 
+-- What it sees of a sink of a type that tells these three of it.
+abbrev pub sunk : {W : Type 0} → (W → Bool) → (W → List ℕ) → (W → ℕ) → W → Sunk
+sunk is_keeping taken failures sink = record { is_keeping = is_keeping sink; taken = taken sink; failures = failures sink }
+
 -- The header and a frame for each chunk.
 abbrev pub frames_of : List ℕ → List Chunk → List ℕ
 frames_of head chunks = head ++ flat_map frame chunks

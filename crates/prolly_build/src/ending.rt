@@ -6,7 +6,7 @@ ghost use Rattle.prolly_link.specs.declared.fault.End.TheVariants.{Clean};
 ghost use Rattle.prolly_build.specs.declared.writer.Begun.{Begun as BegunValue};
 ghost use Rattle.prolly_build.specs.declared.writer.Top.{Top as TopValue};
 ghost use Rattle.prolly_build.specs.declared.writer.Written.TheVariants.{Whole};
-ghost use Rattle.prolly_build.specs.Writing.{Sunk, HasWritten, HasEnded, IsEndFault};
+ghost use Rattle.prolly_build.specs.Writing.{Sunk, sunk, HasWritten, HasEnded, IsEndFault};
 
 use crate::report::Report;
 use crate::writer::{Begun, Written};
@@ -24,14 +24,14 @@ pub(crate) fn end_build<W: Sink>(
     requires few { (begun : BegunValue) → written ≡ Whole begun → end ≡ Clean → begun.file.chunks < greatest_count }
     requires some { (begun : BegunValue) → written ≡ Whole begun → end ≡ Clean → (top : TopValue) × (begun.top ≡ Some top) }
     ensures ok { (head : List ℕ) (level : ℕ) (events : List Chunk) (old : Sunk) →
-        HasWritten head level events old (record { is_keeping = W.is_keeping sink.old; taken = W.taken sink.old; failures = W.failures sink.old }) written →
-        IfOk result (HasEnded head level events old (record { is_keeping = W.is_keeping sink.new; taken = W.taken sink.new; failures = W.failures sink.new }) pairs) }
+        HasWritten head level events old (sunk W.is_keeping W.taken W.failures sink.old) written →
+        IfOk result (HasEnded head level events old (sunk W.is_keeping W.taken W.failures sink.new) pairs) }
     ensures clean { OnOk result (end ≡ Clean) }
     ensures err { (head : List ℕ) (level : ℕ) (events : List Chunk) (old : Sunk) →
-        HasWritten head level events old (record { is_keeping = W.is_keeping sink.old; taken = W.taken sink.old; failures = W.failures sink.old }) written →
+        HasWritten head level events old (sunk W.is_keeping W.taken W.failures sink.old) written →
         IfErr result (λ fault. IsEndFault head level events old
-        (record { is_keeping = W.is_keeping sink.old; taken = W.taken sink.old; failures = W.failures sink.old })
-        (record { is_keeping = W.is_keeping sink.new; taken = W.taken sink.new; failures = W.failures sink.new }) end fault) }
+        (sunk W.is_keeping W.taken W.failures sink.old)
+        (sunk W.is_keeping W.taken W.failures sink.new) end fault) }
 {
     match (end, written) {
         (End::Fault(fault), _) => Err(fault),
@@ -46,13 +46,13 @@ fn end_file<W: Sink>(sink: &mut W, begun: Begun, pairs: u64) -> Result<Report, R
     requires few { begun.file.chunks < greatest_count }
     requires some { (top : TopValue) × (begun.top ≡ Some top) }
     ensures ok { (head : List ℕ) (level : ℕ) (events : List Chunk) (old : Sunk) →
-        HasWritten head level events old (record { is_keeping = W.is_keeping sink.old; taken = W.taken sink.old; failures = W.failures sink.old }) (Whole begun) →
-        IfOk result (HasEnded head level events old (record { is_keeping = W.is_keeping sink.new; taken = W.taken sink.new; failures = W.failures sink.new }) pairs) }
+        HasWritten head level events old (sunk W.is_keeping W.taken W.failures sink.old) (Whole begun) →
+        IfOk result (HasEnded head level events old (sunk W.is_keeping W.taken W.failures sink.new) pairs) }
     ensures err { (head : List ℕ) (level : ℕ) (events : List Chunk) (old : Sunk) →
-        HasWritten head level events old (record { is_keeping = W.is_keeping sink.old; taken = W.taken sink.old; failures = W.failures sink.old }) (Whole begun) →
+        HasWritten head level events old (sunk W.is_keeping W.taken W.failures sink.old) (Whole begun) →
         IfErr result (λ fault. IsEndFault head level events old
-        (record { is_keeping = W.is_keeping sink.old; taken = W.taken sink.old; failures = W.failures sink.old })
-        (record { is_keeping = W.is_keeping sink.new; taken = W.taken sink.new; failures = W.failures sink.new }) Clean fault) }
+        (sunk W.is_keeping W.taken W.failures sink.old)
+        (sunk W.is_keeping W.taken W.failures sink.new) Clean fault) }
 {
     let Begun {
         file,

@@ -1,5 +1,5 @@
 //! What a build does once its workers have been joined.
-ghost use Rattle.std.specs.Prelude.{◌≡◌, ◌≢◌, ◌-◌, ◌<◌, ◌^◌, ℕ, true, List, length, IfOk, IfErr, OnOk};
+ghost use Rattle.std.specs.Prelude.{◌≡◌, ◌≢◌, ◌-◌, ◌<◌, ◌^◌, true, List, length, IfOk, IfErr, OnOk};
 ghost use Rattle.prolly_entry.specs.Cut.{sha512_cut};
 ghost use Rattle.prolly_entry.specs.Events.{faulty};
 ghost use Rattle.prolly_entry.specs.File.{header};
@@ -10,7 +10,7 @@ ghost use Rattle.prolly_link.specs.Receipts.{HasEnded, end_given};
 ghost use Rattle.prolly_link.specs.declared.fault.End.TheVariants.{Clean, Fault};
 ghost use Rattle.prolly_link.specs.declared.fault.RunFault.TheVariants.{Memory, Write};
 ghost use Rattle.prolly_build.specs.Settings.{AreLawful};
-ghost use Rattle.prolly_build.specs.Writing.{Sunk, HasWritten, frames_of};
+ghost use Rattle.prolly_build.specs.Writing.{Sunk, sunk, HasWritten, frames_of};
 ghost use Rattle.prolly_build.specs.Built.{IsBegun, IsRunOf, IsFileOf, IsUnmadeOf, IsInputEnd, IsStartFault, IsWriterFault};
 ghost use Rattle.prolly_build.specs.Stopped.{IsFileFault, TookBegun};
 
@@ -38,28 +38,28 @@ pub(crate) fn finish<R: Wait, W: Sink>(
     requires run { (m : List PairValue) × IsRunOf config m ran.out.items ran.out.end ran.pairs }
     requires faults { IsInputEnd ran.out.end }
     requires written { (old : Sunk) × HasWritten (header config.version config.bits) (config.stages - 1) ran.wrote.last.items old
-        (record { is_keeping = W.is_keeping sink.old; taken = W.taken sink.old; failures = W.failures sink.old }) ran.wrote.written }
+        (sunk W.is_keeping W.taken W.failures sink.old) ran.wrote.written }
     ensures ok { (m : List PairValue) (old : Sunk) → IsRunOf config m ran.out.items ran.out.end ran.pairs →
         HasWritten (header config.version config.bits) (config.stages - 1) ran.wrote.last.items old
-        (record { is_keeping = W.is_keeping sink.old; taken = W.taken sink.old; failures = W.failures sink.old }) ran.wrote.written →
-        IfOk result (IsFileOf config m old (record { is_keeping = W.is_keeping sink.new; taken = W.taken sink.new; failures = W.failures sink.new })) }
+        (sunk W.is_keeping W.taken W.failures sink.old) ran.wrote.written →
+        IfOk result (IsFileOf config m old (sunk W.is_keeping W.taken W.failures sink.new)) }
     ensures clean { OnOk result (ran.out.end ≡ Clean) }
     ensures unmade { (m : List PairValue) (old : Sunk) → IsRunOf config m ran.out.items ran.out.end ran.pairs →
         HasWritten (header config.version config.bits) (config.stages - 1) ran.wrote.last.items old
-        (record { is_keeping = W.is_keeping sink.old; taken = W.taken sink.old; failures = W.failures sink.old }) ran.wrote.written →
+        (sunk W.is_keeping W.taken W.failures sink.old) ran.wrote.written →
         IfErr result (λ fault. IsWriterFault fault → (ran.out.end ≡ Clean)
-        × IsUnmadeOf config m old (record { is_keeping = W.is_keeping sink.new; taken = W.taken sink.new; failures = W.failures sink.new }) fault) }
+        × IsUnmadeOf config m old (sunk W.is_keeping W.taken W.failures sink.new) fault) }
     ensures begun { (old : Sunk) → HasWritten (header config.version config.bits) (config.stages - 1) ran.wrote.last.items old
-        (record { is_keeping = W.is_keeping sink.old; taken = W.taken sink.old; failures = W.failures sink.old }) ran.wrote.written →
+        (sunk W.is_keeping W.taken W.failures sink.old) ran.wrote.written →
         IfErr result (λ fault. fault ≢ Write
-        → IsBegun config old (record { is_keeping = W.is_keeping sink.new; taken = W.taken sink.new; failures = W.failures sink.new })) }
+        → IsBegun config old (sunk W.is_keeping W.taken W.failures sink.new)) }
     ensures stopped { (old : Sunk) → HasWritten (header config.version config.bits) (config.stages - 1) ran.wrote.last.items old
-        (record { is_keeping = W.is_keeping sink.old; taken = W.taken sink.old; failures = W.failures sink.old }) ran.wrote.written →
+        (sunk W.is_keeping W.taken W.failures sink.old) ran.wrote.written →
         IfErr result (λ fault. IsFileFault fault → (ran.out.end ≡ Fault fault) × ((p : List PairValue) → length p < 2 ^ 64 →
         ran.out.items ≡ pipeline_events (config.stages - 1) (sha512_cut config.bits) config.version faulty p →
-        TookBegun config p old (record { is_keeping = W.is_keeping sink.new; taken = W.taken sink.new; failures = W.failures sink.new }))) }
+        TookBegun config p old (sunk W.is_keeping W.taken W.failures sink.new))) }
     ensures refused { (old : Sunk) → HasWritten (header config.version config.bits) (config.stages - 1) ran.wrote.last.items old
-        (record { is_keeping = W.is_keeping sink.old; taken = W.taken sink.old; failures = W.failures sink.old }) ran.wrote.written →
+        (sunk W.is_keeping W.taken W.failures sink.old) ran.wrote.written →
         IfErr result (λ fault. fault ≡ Memory → (ran.out.end ≡ Fault Memory) × (old.is_keeping ≡ true →
         TakesPrefix old.taken (W.taken sink.new) (frames_of (header config.version config.bits) (before_second (config.stages - 1) ran.out.items)))) }
     ensures err { IfErr result (λ fault. IsStartFault fault → ⊥) }

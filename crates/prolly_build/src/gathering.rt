@@ -2,7 +2,7 @@
 ghost use Rattle.std.specs.Prelude.{◌≡◌, ◌+◌, ◌<◌, ◌≤◌, [], All, map, vec_len, vec_capacity, IsTrue, IfOk, IfErr};
 ghost use Rattle.prolly_link.specs.Receipts.{HasEnded};
 ghost use Rattle.prolly_build.specs.Built.{IsBegun};
-ghost use Rattle.prolly_build.specs.Writing.{Sunk};
+ghost use Rattle.prolly_build.specs.Writing.{sunk};
 ghost use Rattle.prolly_build.specs.Ran.{IsWritten, IsUnsent, IsUnread};
 ghost use Rattle.prolly_build.specs.Merging.{received_input, sent_input};
 ghost use Rattle.prolly_build.specs.Gathering.{IsGathered};
@@ -97,14 +97,14 @@ pub(crate) fn gather<
     requires unread { last.items ≡ [] }
     ensures link { IfOk result (λ gathered. gathered.out.link ≡ out.link) }
     ensures written { IfOk result (λ gathered. IsWritten site.now.config last
-        (record { is_keeping = W.is_keeping sink.old; taken = W.taken sink.old; failures = W.failures sink.old })
-        (record { is_keeping = W.is_keeping sink.new; taken = W.taken sink.new; failures = W.failures sink.new }) gathered.wrote) }
+        (sunk W.is_keeping W.taken W.failures sink.old)
+        (sunk W.is_keeping W.taken W.failures sink.new) gathered.wrote) }
     ensures gathered { IfOk result (λ gathered. IsGathered S.is_honest S.left S.failures site.now.config.max_records
         sources.old.items sources.new.items gathered.out.items gathered.out.end gathered.pairs) }
     ensures refused { IfErr result (λ halt. halt ≡ NoThread → sink.new ≡ sink.old) }
     ensures begun { IfErr result (λ halt. IsBegun site.now.config
-        (record { is_keeping = W.is_keeping sink.old; taken = W.taken sink.old; failures = W.failures sink.old })
-        (record { is_keeping = W.is_keeping sink.new; taken = W.taken sink.new; failures = W.failures sink.new })) }
+        (sunk W.is_keeping W.taken W.failures sink.old)
+        (sunk W.is_keeping W.taken W.failures sink.new)) }
 {
     let Feed {
         files: _,

@@ -1,7 +1,7 @@
 //! The stages, one above the other, and all workers below them.
 ghost use Rattle.std.specs.Prelude.{◌≡◌, ◌<◌, ◌≤◌, [], vec_len, IfOk, IfErr};
 ghost use Rattle.prolly_build.specs.Built.{IsBegun};
-ghost use Rattle.prolly_build.specs.Writing.{Sunk};
+ghost use Rattle.prolly_build.specs.Writing.{sunk};
 ghost use Rattle.prolly_build.specs.Ran.{IsWritten};
 ghost use Rattle.prolly_build.specs.Staging.{HasStaged};
 ghost use Rattle.prolly_build.specs.declared.halt.Halt.TheVariants.{NoThread};
@@ -54,13 +54,13 @@ fn run_from_leaves<
     requires unread { last.items ≡ [] }
     ensures link { IfOk result (λ ran. ran.out.link ≡ out.link) }
     ensures written { IfOk result (λ ran. IsWritten site.now.config last
-        (record { is_keeping = W.is_keeping sink.old; taken = W.taken sink.old; failures = W.failures sink.old })
-        (record { is_keeping = W.is_keeping sink.new; taken = W.taken sink.new; failures = W.failures sink.new }) ran.wrote) }
+        (sunk W.is_keeping W.taken W.failures sink.old)
+        (sunk W.is_keeping W.taken W.failures sink.new) ran.wrote) }
     ensures staged { IfOk result (λ ran. HasStaged S.is_honest S.left S.failures site.now.config 0 sources.old.items sources.new.items ran.out.items ran.out.end ran.pairs) }
     ensures refused { IfErr result (λ halt. halt ≡ NoThread → sink.new ≡ sink.old) }
     ensures begun { IfErr result (λ halt. IsBegun site.now.config
-        (record { is_keeping = W.is_keeping sink.old; taken = W.taken sink.old; failures = W.failures sink.old })
-        (record { is_keeping = W.is_keeping sink.new; taken = W.taken sink.new; failures = W.failures sink.new })) }
+        (sunk W.is_keeping W.taken W.failures sink.old)
+        (sunk W.is_keeping W.taken W.failures sink.new)) }
 {
     let NewLink { sender, receiver } = pairs;
     if !site.permit.may_start(Worker::Stage(0)) {
@@ -120,13 +120,13 @@ pub(crate) fn run_from_top<
     requires unread { last.items ≡ [] }
     ensures link { IfOk result (λ ran. ran.out.link ≡ out.link) }
     ensures written { IfOk result (λ ran. IsWritten site.now.config last
-        (record { is_keeping = W.is_keeping sink.old; taken = W.taken sink.old; failures = W.failures sink.old })
-        (record { is_keeping = W.is_keeping sink.new; taken = W.taken sink.new; failures = W.failures sink.new }) ran.wrote) }
+        (sunk W.is_keeping W.taken W.failures sink.old)
+        (sunk W.is_keeping W.taken W.failures sink.new) ran.wrote) }
     ensures staged { IfOk result (λ ran. HasStaged S.is_honest S.left S.failures site.now.config (vec_len events) sources.old.items sources.new.items ran.out.items ran.out.end ran.pairs) }
     ensures refused { IfErr result (λ halt. halt ≡ NoThread → sink.new ≡ sink.old) }
     ensures begun { IfErr result (λ halt. IsBegun site.now.config
-        (record { is_keeping = W.is_keeping sink.old; taken = W.taken sink.old; failures = W.failures sink.old })
-        (record { is_keeping = W.is_keeping sink.new; taken = W.taken sink.new; failures = W.failures sink.new })) }
+        (sunk W.is_keeping W.taken W.failures sink.old)
+        (sunk W.is_keeping W.taken W.failures sink.new)) }
 {
     let mut events = events;
     let Some(link) = events.pop() else {

@@ -3,7 +3,7 @@ ghost use Rattle.std.specs.Prelude.{◌≡◌, ◌≤◌, ℕ, List, [], ◌∷�
 ghost use Rattle.prolly_entry.specs.Chunk.{Chunk};
 ghost use Rattle.prolly_entry.specs.File.{header};
 ghost use Rattle.prolly_link.specs.Receipts.{HasEnded, end_given};
-ghost use Rattle.prolly_build.specs.Writing.{Sunk, HasWritten};
+ghost use Rattle.prolly_build.specs.Writing.{Sunk, sunk, HasWritten};
 
 use prolly_chunk::ChunkEvent;
 use prolly_entry::{Ref, Version};
@@ -43,8 +43,8 @@ impl Written {
     /// Writes the header.
     pub(crate) fn begin<W: Sink>(sink: &mut W, version: Version, bits: u8) -> Written
         ensures { (level : ℕ) → HasWritten (header version bits) level []
-            (record { is_keeping = W.is_keeping sink.old; taken = W.taken sink.old; failures = W.failures sink.old })
-            (record { is_keeping = W.is_keeping sink.new; taken = W.taken sink.new; failures = W.failures sink.new }) result }
+            (sunk W.is_keeping W.taken W.failures sink.old)
+            (sunk W.is_keeping W.taken W.failures sink.new) result }
     {
         match FileWriter::begin_as(sink, version, bits) {
             Ok(file) => Written::Whole(Begun {
@@ -60,8 +60,8 @@ impl Written {
     /// failed.
     pub(crate) fn push<W: Sink>(self, sink: &mut W, last_level: u8, event: &ChunkEvent) -> Written
         ensures { (head : List ℕ) (events : List Chunk) (old : Sunk) →
-            HasWritten head last_level events old (record { is_keeping = W.is_keeping sink.old; taken = W.taken sink.old; failures = W.failures sink.old }) self →
-            HasWritten head last_level (events ++ event.now ∷ []) old (record { is_keeping = W.is_keeping sink.new; taken = W.taken sink.new; failures = W.failures sink.new }) result }
+            HasWritten head last_level events old (sunk W.is_keeping W.taken W.failures sink.old) self →
+            HasWritten head last_level (events ++ event.now ∷ []) old (sunk W.is_keeping W.taken W.failures sink.new) result }
     {
         match self {
             Written::Whole(begun) => begun.push(sink, last_level, event),
@@ -74,8 +74,8 @@ impl Written {
 impl Begun {
     fn push<W: Sink>(self, sink: &mut W, last_level: u8, event: &ChunkEvent) -> Written
         ensures { (head : List ℕ) (events : List Chunk) (old : Sunk) →
-            HasWritten head last_level events old (record { is_keeping = W.is_keeping sink.old; taken = W.taken sink.old; failures = W.failures sink.old }) (Written.Whole self) →
-            HasWritten head last_level (events ++ event.now ∷ []) old (record { is_keeping = W.is_keeping sink.new; taken = W.taken sink.new; failures = W.failures sink.new }) result }
+            HasWritten head last_level events old (sunk W.is_keeping W.taken W.failures sink.old) (Written.Whole self) →
+            HasWritten head last_level (events ++ event.now ∷ []) old (sunk W.is_keeping W.taken W.failures sink.new) result }
     {
         let is_top = event.level() == last_level;
         if is_top && self.has_top {
@@ -113,8 +113,8 @@ pub(crate) fn write_events<I: In<ChunkEvent>, W: Sink, R: Wait>(
     ensures ended { HasEnded (I.progress input.new) }
     ensures end { result.1 ≡ end_given (I.progress input.new) }
     ensures written { (head : List ℕ) (old : Sunk) →
-        HasWritten head last_level [] old (record { is_keeping = W.is_keeping sink.old; taken = W.taken sink.old; failures = W.failures sink.old }) begun →
-        HasWritten head last_level (I.received input.old input.new) old (record { is_keeping = W.is_keeping sink.new; taken = W.taken sink.new; failures = W.failures sink.new }) result.0 }
+        HasWritten head last_level [] old (sunk W.is_keeping W.taken W.failures sink.old) begun →
+        HasWritten head last_level (I.received input.old input.new) old (sunk W.is_keeping W.taken W.failures sink.new) result.0 }
 {
     let mut written = begun;
     for _ in rt.forever() {

@@ -1,7 +1,6 @@
 //! The writer's thread, which is the caller's.
 ghost use Rattle.std.specs.Prelude.{◌≡◌, []};
-ghost use Rattle.prolly_build.specs.Settings.{Settings};
-ghost use Rattle.prolly_build.specs.Writing.{Sunk};
+ghost use Rattle.prolly_build.specs.Writing.{sunk};
 ghost use Rattle.prolly_build.specs.Ran.{IsWritten};
 
 use crate::config::Config;
@@ -29,8 +28,8 @@ pub(crate) fn write_all<R: Wait, W: Sink>(
 ) -> Wrote
     requires { last.items ≡ [] }
     ensures { IsWritten config last
-        (record { is_keeping = W.is_keeping sink.old; taken = W.taken sink.old; failures = W.failures sink.old })
-        (record { is_keeping = W.is_keeping sink.new; taken = W.taken sink.new; failures = W.failures sink.new }) result }
+        (sunk W.is_keeping W.taken W.failures sink.old)
+        (sunk W.is_keeping W.taken W.failures sink.new) result }
 {
     let begun = Written::begin(sink, config.version(), config.bits());
     let mut last = last;

@@ -12,3 +12,4 @@ pub mod Batches
 pub mod OpenBatches
 pub mod Hands
 pub mod BatchDraining
+pub mod Waiting

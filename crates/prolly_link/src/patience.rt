@@ -1,4 +1,7 @@
 // How an end of a ring waits.
+ghost use Rattle.std.specs.Prelude.{◌≡◌, ◌≤◌, ◌<◌, ◌⊎◌, ◌/◌};
+
+use std::marker::Model;
 use std::sync::Wait;
 use std::sync::atomic::AtomicU64;
 use std::time::Duration;
@@ -44,6 +47,16 @@ pub(crate) struct Patience {
     first_nap_micros: u64,
 }
 
+impl Model for Patience {
+    ghost use Rattle.prolly_link.specs.Waiting.{IsModerate, Pace};
+
+    ghost Value = { Pace };
+
+    ghost view = { λ p. record { awake = p.awake; nap_micros = p.first_nap_micros } };
+
+    ghost invariant = { λ p. IsModerate (record { awake = p.awake; nap_micros = p.first_nap_micros }) };
+}
+
 impl Patience {
     pub(crate) fn new() -> Patience {
         Patience {
@@ -71,7 +84,11 @@ impl Patience {
 
     /// Learns from a wait of so many rounds, after which the other end was found to have done so much, of all that it
     /// can do alone: filled so many of the ring's places, or emptied them.
-    pub(crate) fn learn(&mut self, rounds: u32, done: usize, places: usize) {
+    pub(crate) fn learn(&mut self, rounds: u32, done: usize, places: usize)
+        ensures unslept { (rounds ≤ self.old.awake) ⊎ (places < 8) → self.new ≡ self.old }
+        ensures in_time { done < places → self.new.awake ≤ self.old.awake }
+        ensures late { places ≤ done → (self.old.awake ≤ self.new.awake) × (self.new.nap_micros ≤ self.old.nap_micros) }
+    {
         if rounds <= self.awake || places < FEWEST_PLACES {
             return;
         }
@@ -81,71 +98,23 @@ impl Patience {
         } else if self.first_nap_micros > SHORTEST_NAP_MICROS {
             self.first_nap_micros = SHORTEST_NAP_MICROS;
         } else {
-            self.awake = self.awake.saturating_mul(2).min(MOST_AWAKE);
+            self.awake = (self.awake * 2).min(MOST_AWAKE);
         }
     }
 }
 
 // How long to nap after naps that began with this one and ended in time.
-fn next_nap_micros(micros: u64, done: usize, places: usize) -> u64 {
+fn next_nap_micros(micros: u64, done: usize, places: usize) -> u64
+    requires { (20 ≤ micros) × (micros ≤ 1000) }
+    ensures range { (20 ≤ result) × (result ≤ 1000) }
+    ensures early { done < places / 8 → micros ≤ result }
+    ensures late { places / 2 < done → result ≤ micros }
+{
     if done < places / 8 {
-        micros.saturating_mul(2).min(LONGEST_NAP_MICROS)
+        (micros * 2).min(LONGEST_NAP_MICROS)
     } else if done > places / 2 {
         (micros / 2).max(SHORTEST_NAP_MICROS)
     } else {
         micros
-    }
-}
-
-#[cfg(test)]
-mod tests {
-    use super::*;
-
-    #[test]
-    fn stays_awake_for_longer_after_naps_that_were_too_long(rt: HostRuntime) {
-        let mut patience = Patience::new();
-        for (rounds, done, places, awake) in [
-            // It did not sleep.
-            (FEWEST_AWAKE, 64, 64, FEWEST_AWAKE),
-            // It slept, and woke in time.
-            (FEWEST_AWAKE + 1, 63, 64, FEWEST_AWAKE),
-            // It slept, and woke too late; then again, after one more round awake than before.
-            (FEWEST_AWAKE + 1, 64, 64, 2 * FEWEST_AWAKE),
-            (2 * FEWEST_AWAKE + 1, 64, 64, 4 * FEWEST_AWAKE),
-            (4 * FEWEST_AWAKE + 1, 63, 64, 2 * FEWEST_AWAKE),
-            // A ring of two is full after any nap.
-            (2 * FEWEST_AWAKE + 1, 2, 2, 2 * FEWEST_AWAKE),
-        ] {
-            patience.learn(rounds, done, places);
-            assert_eq!(rt; patience.awake, awake);
-        }
-        for _ in 0..20 {
-            patience.learn(u32::MAX, 64, 64);
-        }
-        assert_eq!(rt; patience.awake, MOST_AWAKE);
-    }
-
-    #[test]
-    fn first_naps_grow_where_they_end_too_early(rt: HostRuntime) {
-        let mut patience = Patience::new();
-        for (done, micros) in [
-            // One of 64 places is too few, and so are seven. Eight are enough, and more than half are too many.
-            (1, 40),
-            (7, 80),
-            (8, 80),
-            (32, 80),
-            (33, 40),
-            // The other end could do no more.
-            (1, 80),
-            (64, 20),
-        ] {
-            patience.learn(FEWEST_AWAKE + 1, done, 64);
-            assert_eq!(rt; patience.first_nap_micros, micros);
-            assert_eq!(rt; patience.awake, FEWEST_AWAKE);
-        }
-        for _ in 0..20 {
-            patience.learn(u32::MAX, 1, 64);
-        }
-        assert_eq!(rt; patience.first_nap_micros, LONGEST_NAP_MICROS);
     }
 }

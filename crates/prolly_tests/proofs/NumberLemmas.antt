@@ -1,6 +1,5 @@
--- One number more, and nothing more.
+-- One number more.
 use Rattle.std.proofs.Common.{◌≡◌, ℕ, zero, suc, ◌+◌, List, [], ◌∷◌, ◌++◌, ◌∙◌, ap, append_assoc, sym, arith}
-use Rattle.std.proofs.lemmas.List.{append-nil}
 use Rattle.std.specs.List.{range_with_len}
 
 one_more : (a n m : ℕ) → a + n ≡ m → range_with_len a (suc n) ≡ range_with_len a n ++ m ∷ []
@@ -12,7 +11,3 @@ pub number_sent : (sent before after : List ℕ) (n : ℕ) → sent ≡ before +
 number_sent sent before after n e f =
     let next : n + 1 ≡ suc n = omega arith in
     f ∙ ap (λ xs. xs ++ n ∷ []) e ∙ append_assoc before (range_with_len 0 n) (n ∷ []) ∙ ap (λ xs. before ++ xs) (sym (ap (range_with_len 0) next ∙ one_more 0 n n (omega arith)))
-
--- an end adds no item
-pub nothing_more : {T : Type 0} (all before last : List T) → all ≡ before ++ last → last ≡ [] → all ≡ before
-nothing_more all before last e none = e ∙ ap (λ ys. before ++ ys) none ∙ append-nil before

@@ -4,6 +4,7 @@ use Rattle.prolly_entry.specs.Overlay.{overlay}
 use Rattle.prolly_link.specs.declared.fault.End.TheVariants.{Clean}
 use Rattle.prolly_link.specs.declared.fault.RunFault.TheVariants.{Memory, Write}
 use Rattle.prolly_build.specs.Built.{IsBegun, IsBuilt, IsUnmade, IsWriterFault}
+use Rattle.prolly_build.specs.Writing.{sunk}
 use Rattle.prolly_build.proofs.Makings.{at_ok, at_err, if_ok, if_ok_any}
 use Rattle.prolly_build.proofs.Runs.{lent_run, built, not_built, finished_refusal, halted_refusal, halted_unmade, halted_unrefused, halted_unstopped, stopped}
 use Rattle.prolly_build.proofs.Refusals.{lent_refused, refused}
@@ -38,8 +39,8 @@ returns-in-Ok-clause-ok g c =
     let made = if_ok c.finish.result _ _ _ (λ clean report file. built r.goods (r.read clean) file) clean (c.finish.ensures.ok (overlay r.goods) _ r.run written.written) in
     let back = c.sink-1.given.1 (sym c.scoped-ran.ensures.1.1.1.1.1.1) in
     subst (λ (w : g.row.W.Denot). IfOk c.finish.result (IsBuilt g.S.Source.is_honest g.S.Source.left g.S.Source.failures c.args.config c.args.sources.now.items c.scoped-ran.result.1.items
-    (record { is_keeping = g.W.Sink.is_keeping c.args.sink.now; taken = g.W.Sink.taken c.args.sink.now; failures = g.W.Sink.failures c.args.sink.now })
-    (record { is_keeping = g.W.Sink.is_keeping w; taken = g.W.Sink.taken w; failures = g.W.Sink.failures w }))) (sym back) made
+    (sunk g.W.Sink.is_keeping g.W.Sink.taken g.W.Sink.failures c.args.sink.now)
+    (sunk g.W.Sink.is_keeping g.W.Sink.taken g.W.Sink.failures w))) (sym back) made
 
 pub returns-in-Ok-clause-kept : goal.returns-in-Ok-clause-kept
 returns-in-Ok-clause-kept g c =
@@ -67,8 +68,8 @@ returns-in-Ok-clause-unmade g c =
     let unmade = IfErr-weaker c.finish.result _ _ (λ fault h w. not_built r.goods (r.read (h w).0) (h w).1) (c.finish.ensures.unmade (overlay r.goods) _ r.run written.written) in
     let back = c.sink-1.given.1 (sym c.scoped-ran.ensures.1.1.1.1.1.1) in
     subst (λ (w : g.row.W.Denot). IfErr c.finish.result (λ fault. IsWriterFault fault → IsUnmade g.S.Source.is_honest g.S.Source.left g.S.Source.failures c.args.config c.args.sources.now.items c.scoped-ran.result.1.items
-    (record { is_keeping = g.W.Sink.is_keeping c.args.sink.now; taken = g.W.Sink.taken c.args.sink.now; failures = g.W.Sink.failures c.args.sink.now })
-    (record { is_keeping = g.W.Sink.is_keeping w; taken = g.W.Sink.taken w; failures = g.W.Sink.failures w }) fault)) (sym back) unmade
+    (sunk g.W.Sink.is_keeping g.W.Sink.taken g.W.Sink.failures c.args.sink.now)
+    (sunk g.W.Sink.is_keeping g.W.Sink.taken g.W.Sink.failures w) fault)) (sym back) unmade
 
 pub returns-in-Err-clause-unmade : goal.returns-in-Err-clause-unmade
 returns-in-Err-clause-unmade g c = λ w. absurd (halted_unmade c.in-Err.halt c.fault.result c.fault.ensures w)
@@ -78,8 +79,8 @@ returns-in-Ok-clause-begun g c =
     let written = at_ok _ _ _ c.in-Ok.is c.scoped-ran.ensures.1.1.0 in
     let back = c.sink-1.given.1 (sym c.scoped-ran.ensures.1.1.1.1.1.1) in
     subst (λ (w : g.row.W.Denot). IfErr c.finish.result (λ fault. fault ≢ Write → IsBegun c.args.config
-    (record { is_keeping = g.W.Sink.is_keeping c.args.sink.now; taken = g.W.Sink.taken c.args.sink.now; failures = g.W.Sink.failures c.args.sink.now })
-    (record { is_keeping = g.W.Sink.is_keeping w; taken = g.W.Sink.taken w; failures = g.W.Sink.failures w }))) (sym back) (c.finish.ensures.begun _ written.written)
+    (sunk g.W.Sink.is_keeping g.W.Sink.taken g.W.Sink.failures c.args.sink.now)
+    (sunk g.W.Sink.is_keeping g.W.Sink.taken g.W.Sink.failures w))) (sym back) (c.finish.ensures.begun _ written.written)
 
 pub returns-in-Ok-clause-stopped : goal.returns-in-Ok-clause-stopped
 returns-in-Ok-clause-stopped g c =
@@ -90,10 +91,10 @@ returns-in-Ok-clause-stopped g c =
     (at_ok _ _ _ c.in-Ok.is c.scoped-ran.ensures.1.1.1.0) (h file).0) (h file).1)
     (c.finish.ensures.stopped _ written.written) in
     let back = c.sink-1.given.1 (sym c.scoped-ran.ensures.1.1.1.1.1.1) in
-    subst (λ (w : g.row.W.Denot). IfErr c.finish.result (λ fault. IsFileFault fault → AreHonest g.S.Source.is_honest g.S.Source.left g.S.Source.failures c.args.sources.now.items →
-    IsStopped g.S.Source.is_honest g.S.Source.left g.S.Source.failures c.args.config c.args.sources.now.items c.scoped-ran.result.1.items
-    (record { is_keeping = g.W.Sink.is_keeping c.args.sink.now; taken = g.W.Sink.taken c.args.sink.now; failures = g.W.Sink.failures c.args.sink.now })
-    (record { is_keeping = g.W.Sink.is_keeping w; taken = g.W.Sink.taken w; failures = g.W.Sink.failures w }) fault)) (sym back) named
+    subst (λ (w : g.row.W.Denot). IfErr c.finish.result (λ fault. IsFileFault fault → AreHonest g.S.Source.is_honest g.S.Source.left c.args.sources.now.items →
+    IsStopped g.S.Source.left g.S.Source.failures c.args.config c.args.sources.now.items c.scoped-ran.result.1.items
+    (sunk g.W.Sink.is_keeping g.W.Sink.taken g.W.Sink.failures c.args.sink.now)
+    (sunk g.W.Sink.is_keeping g.W.Sink.taken g.W.Sink.failures w) fault)) (sym back) named
 
 pub returns-in-Err-clause-stopped : goal.returns-in-Err-clause-stopped
 returns-in-Err-clause-stopped g c = λ file. absurd (halted_unstopped c.in-Err.halt c.fault.result c.fault.ensures file)
@@ -107,10 +108,10 @@ returns-in-Ok-clause-refused g c =
     (at_ok _ _ _ c.in-Ok.is c.scoped-ran.ensures.1.1.1.0) (h memory).0) (h memory).1)
     (c.finish.ensures.refused _ written.written) in
     let back = c.sink-1.given.1 (sym c.scoped-ran.ensures.1.1.1.1.1.1) in
-    subst (λ (w : g.row.W.Denot). IfErr c.finish.result (λ fault. fault ≡ Memory → AreHonest g.S.Source.is_honest g.S.Source.left g.S.Source.failures c.args.sources.now.items →
+    subst (λ (w : g.row.W.Denot). IfErr c.finish.result (λ fault. fault ≡ Memory → AreHonest g.S.Source.is_honest g.S.Source.left c.args.sources.now.items →
     IsRefused g.S.Source.left c.args.config c.args.sources.now.items
-    (record { is_keeping = g.W.Sink.is_keeping c.args.sink.now; taken = g.W.Sink.taken c.args.sink.now; failures = g.W.Sink.failures c.args.sink.now })
-    (record { is_keeping = g.W.Sink.is_keeping w; taken = g.W.Sink.taken w; failures = g.W.Sink.failures w }))) (sym back) left_behind
+    (sunk g.W.Sink.is_keeping g.W.Sink.taken g.W.Sink.failures c.args.sink.now)
+    (sunk g.W.Sink.is_keeping g.W.Sink.taken g.W.Sink.failures w))) (sym back) left_behind
 
 pub returns-in-Err-clause-refused : goal.returns-in-Err-clause-refused
 returns-in-Err-clause-refused g c = λ memory. absurd (halted_unrefused c.in-Err.halt c.fault.result c.fault.ensures memory)
