@@ -50,10 +50,10 @@ fn node_of(
     Ok(node)
 }
 
-/// The file of these chunks, the last one the root.
-fn file_of(alloc: Global, version: u8, bits: u8, chunks: &[&[u8]]) -> Result<Vec<u8>, Fail> {
+/// The file of these chunks, the last one the root. Its head is the version and the bits.
+fn file_of(alloc: Global, head: [u8; 2], chunks: &[&[u8]]) -> Result<Vec<u8>, Fail> {
     let mut file = b"PRLY".to_vec(alloc)?;
-    file.extend_from_slice(&[version, bits])?;
+    file.extend_from_slice(&head)?;
     let mut root = Ref([0; 20]);
     for chunk in chunks {
         file.extend_from_slice(&[b'C', 0, 0, 0, 0, 0, 0, 0, u8::try_from(chunk.len())?])?;
@@ -77,6 +77,20 @@ fn made<K: Cut>(alloc: Global, cut: K, version: Version, keys: &[&[u8]]) -> Resu
     Ok(out[4..].to_vec(alloc)?)
 }
 
+/// Tests that a file has so many bytes, and is that of these chunks.
+fn expect(
+    rt: &impl Abort,
+    alloc: Global,
+    made: Vec<u8>,
+    length: usize,
+    head: [u8; 2],
+    chunks: &[&[u8]],
+) -> Result<(), Fail> {
+    assert_eq!(rt; made.len(), length);
+    assert_eq!(rt; made, file_of(alloc, head, chunks)?);
+    Ok(())
+}
+
 #[test]
 fn the_empty_map_is_one_leaf(rt: HostRuntime) -> Result<(), Fail> {
     let cut = Sha512Cut::new(0).ok_or("bits")?;
@@ -98,53 +112,43 @@ fn small_maps_have_these_files(rt: HostRuntime) -> Result<(), Fail> {
     let alloc = rt.alloc();
     let cut = Sha512Cut::new(0).ok_or("bits")?;
     let one = made(alloc, cut, Version::One, &[b"a"])?;
-    assert_eq!(rt; one.len(), 53);
-    assert_eq!(rt; one, file_of(alloc, 1, 0, &[A])?);
-
-    let first_node = node_of(alloc, 1, &[(b"a", A), (b"b", B)], &[])?;
+    expect(&rt, alloc, one, 53, [1, 0], &[A])?;
+    let first = node_of(alloc, 1, &[(b"a", A), (b"b", B)], &[])?;
     let two = made(alloc, cut, Version::One, &[b"a", b"b"])?;
-    assert_eq!(rt; two.len(), 127);
-    assert_eq!(rt; two, file_of(alloc, 1, 0, &[A, B, &first_node])?);
-
-    let last_node = node_of(alloc, 1, &[(b"c", C)], &[])?;
-    let root = node_of(alloc, 2, &[(b"b", &first_node), (b"c", &last_node)], &[])?;
+    expect(&rt, alloc, two, 127, [1, 0], &[A, B, &first])?;
+    let last = node_of(alloc, 1, &[(b"c", C)], &[])?;
+    let root = node_of(alloc, 2, &[(b"b", &first), (b"c", &last)], &[])?;
     let three = made(alloc, cut, Version::One, &[b"a", b"b", b"c"])?;
-    assert_eq!(rt; three.len(), 234);
-    assert_eq!(rt;
+    expect(
+        &rt,
+        alloc,
         three,
-        file_of(alloc, 1, 0, &[A, B, &first_node, C, &last_node, &root])?
-    );
-    Ok(())
+        234,
+        [1, 0],
+        &[A, B, &first, C, &last, &root],
+    )
 }
 
 #[test]
 fn version_two_counts(rt: HostRuntime) -> Result<(), Fail> {
     let alloc = rt.alloc();
     let cut = Sha512Cut::new(0).ok_or("bits")?;
-    assert_eq!(rt;
-        made(alloc, cut, Version::Two, &[b"a"])?,
-        file_of(alloc, 2, 0, &[A])?
-    );
-
-    let first_node = node_of(alloc, 1, &[(b"a", A), (b"b", B)], &[1, 1])?;
+    let one = made(alloc, cut, Version::Two, &[b"a"])?;
+    expect(&rt, alloc, one, 53, [2, 0], &[A])?;
+    let first = node_of(alloc, 1, &[(b"a", A), (b"b", B)], &[1, 1])?;
     let two = made(alloc, cut, Version::Two, &[b"a", b"b"])?;
-    assert_eq!(rt; two.len(), 143);
-    assert_eq!(rt; two, file_of(alloc, 2, 0, &[A, B, &first_node])?);
-
-    let last_node = node_of(alloc, 1, &[(b"c", C)], &[1])?;
-    let root = node_of(
-        alloc,
-        2,
-        &[(b"b", &first_node), (b"c", &last_node)],
-        &[2, 1],
-    )?;
+    expect(&rt, alloc, two, 143, [2, 0], &[A, B, &first])?;
+    let last = node_of(alloc, 1, &[(b"c", C)], &[1])?;
+    let root = node_of(alloc, 2, &[(b"b", &first), (b"c", &last)], &[2, 1])?;
     let three = made(alloc, cut, Version::Two, &[b"a", b"b", b"c"])?;
-    assert_eq!(rt; three.len(), 274);
-    assert_eq!(rt;
+    expect(
+        &rt,
+        alloc,
         three,
-        file_of(alloc, 2, 0, &[A, B, &first_node, C, &last_node, &root])?
-    );
-    Ok(())
+        274,
+        [2, 0],
+        &[A, B, &first, C, &last, &root],
+    )
 }
 
 #[test]
@@ -153,19 +157,10 @@ fn a_level_is_cut_at_marked_keys(rt: HostRuntime) -> Result<(), Fail> {
     let node = node_of(alloc, 1, &[(b"b!", FIRST), (b"d!", SECOND)], &[])?;
     let last = node_of(alloc, 1, &[(b"e", THIRD)], &[])?;
     let root = node_of(alloc, 2, &[(b"d!", &node), (b"e", &last)], &[])?;
-    let file = made(
-        alloc,
-        KeyCut,
-        Version::One,
-        &[b"a", b"b!", b"c", b"d!", b"e"],
-    )?;
-    assert_eq!(rt; file.len(), 255);
-    assert_eq!(rt; file[5], 0xFF);
-    assert_eq!(rt;
-        file,
-        file_of(alloc, 1, 255, &[FIRST, SECOND, &node, THIRD, &last, &root])?
-    );
-    Ok(())
+    let keys: [&[u8]; 5] = [b"a", b"b!", b"c", b"d!", b"e"];
+    let file = made(alloc, KeyCut, Version::One, &keys)?;
+    let chunks: [&[u8]; 6] = [FIRST, SECOND, &node, THIRD, &last, &root];
+    expect(&rt, alloc, file, 255, [1, 0xFF], &chunks)
 }
 
 /// The fault of these keys, and that the vector is as it was.
