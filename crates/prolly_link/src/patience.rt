@@ -88,6 +88,10 @@ impl Patience {
         ensures unslept { (rounds ≤ self.old.awake) ⊎ (places < 8) → self.new ≡ self.old }
         ensures in_time { done < places → self.new.awake ≤ self.old.awake }
         ensures late { places ≤ done → (self.old.awake ≤ self.new.awake) × (self.new.nap_micros ≤ self.old.nap_micros) }
+        ensures sooner { self.old.awake < rounds → 8 ≤ places → done < places →
+            (self.new.awake < self.old.awake) ⊎ (self.new.awake ≡ 12) }
+        ensures later { self.old.awake < rounds → 8 ≤ places → places ≤ done →
+            (self.new.nap_micros < self.old.nap_micros) ⊎ (self.old.awake < self.new.awake) ⊎ (self.new.awake ≡ 4096) }
     {
         if rounds <= self.awake || places < FEWEST_PLACES {
             return;
@@ -107,8 +111,8 @@ impl Patience {
 fn next_nap_micros(micros: u64, done: usize, places: usize) -> u64
     requires { (20 ≤ micros) × (micros ≤ 1000) }
     ensures range { (20 ≤ result) × (result ≤ 1000) }
-    ensures early { done < places / 8 → micros ≤ result }
-    ensures late { places / 2 < done → result ≤ micros }
+    ensures early { done < places / 8 → (micros < result) ⊎ (result ≡ 1000) }
+    ensures late { places / 2 < done → (result < micros) ⊎ (result ≡ 20) }
 {
     if done < places / 8 {
         (micros * 2).min(LONGEST_NAP_MICROS)
