@@ -23,7 +23,7 @@ pub record Sunk : Type 0 where
   pub taken : List ℕ
   pub failures : ℕ
 
--- What it sees of a sink of a type that tells these three of it.
+-- A sink as a contract sees it, by what its type tells of it: these three functions.
 abbrev pub sunk : {W : Type 0} → (W → Bool) → (W → List ℕ) → (W → ℕ) → W → Sunk
 sunk is_keeping taken failures sink = record { is_keeping = is_keeping sink; taken = taken sink; failures = failures sink }
 

@@ -1,5 +1,6 @@
 // How an end of a ring waits.
-ghost use Rattle.std.specs.Prelude.{◌≡◌, ◌≤◌, ◌<◌, ◌⊎◌, ◌/◌};
+ghost use Rattle.std.specs.Prelude.{◌≡◌, ◌≤◌, ◌<◌, ◌⊎◌};
+ghost use Rattle.prolly_link.specs.Waiting.{HasLearned, IsNextNap};
 
 use std::marker::Model;
 use std::sync::Wait;
@@ -86,12 +87,7 @@ impl Patience {
     /// can do alone: filled so many of the ring's places, or emptied them.
     pub(crate) fn learn(&mut self, rounds: u32, done: usize, places: usize)
         ensures unslept { (rounds ≤ self.old.awake) ⊎ (places < 8) → self.new ≡ self.old }
-        ensures in_time { done < places → self.new.awake ≤ self.old.awake }
-        ensures late { places ≤ done → (self.old.awake ≤ self.new.awake) × (self.new.nap_micros ≤ self.old.nap_micros) }
-        ensures sooner { self.old.awake < rounds → 8 ≤ places → done < places →
-            (self.new.awake < self.old.awake) ⊎ (self.new.awake ≡ 12) }
-        ensures later { self.old.awake < rounds → 8 ≤ places → places ≤ done →
-            (self.new.nap_micros < self.old.nap_micros) ⊎ (self.old.awake < self.new.awake) ⊎ (self.new.awake ≡ 4096) }
+        ensures slept { self.old.awake < rounds → 8 ≤ places → HasLearned done places self.old self.new }
     {
         if rounds <= self.awake || places < FEWEST_PLACES {
             return;
@@ -111,8 +107,7 @@ impl Patience {
 fn next_nap_micros(micros: u64, done: usize, places: usize) -> u64
     requires { (20 ≤ micros) × (micros ≤ 1000) }
     ensures range { (20 ≤ result) × (result ≤ 1000) }
-    ensures early { done < places / 8 → (micros < result) ⊎ (result ≡ 1000) }
-    ensures late { places / 2 < done → (result < micros) ⊎ (result ≡ 20) }
+    ensures next { IsNextNap done places micros result }
 {
     if done < places / 8 {
         (micros * 2).min(LONGEST_NAP_MICROS)

@@ -13,46 +13,16 @@ fn answer(alloc: Global, line: &str) -> Result<Result<Command, ParseFault>, Allo
     Ok(parse(alloc, words.as_slice()))
 }
 
-// Whether the words of a line give this command.
-fn gives(alloc: Global, line: &str, name: &str) -> Result<bool, AllocError> {
-    let found = match &answer(alloc, line)? {
-        Ok(Command::Pack { .. }) => "pack",
-        Ok(Command::Scratch { .. }) => "scratch",
-        Ok(Command::Build { .. }) => "build",
-        Ok(Command::Check { .. }) => "check",
-        Ok(Command::Get { .. }) => "get",
-        Ok(Command::Scan { .. }) => "scan",
-        Ok(Command::Nth { .. }) => "nth",
-        Err(_) => "",
+// The command of a line that is taken, as one text.
+fn shown(alloc: Global, line: &str) -> Result<String, Fail> {
+    let Ok(command) = answer(alloc, line)? else {
+        return Err(Fail::from("the words were refused"));
     };
-    Ok(found == name)
-}
-
-#[test]
-fn each_command_is_taken(rt: HostRuntime) -> Result<(), Fail> {
-    let alloc = rt.alloc();
-    let cases = [
-        ("pack a.rec", "pack"),
-        ("scratch", "scratch"),
-        ("scratch --bits 24 --format 2 --out a.prl", "scratch"),
-        (
-            "build --bits 1 --stages 2 --capacity 3 --max-records 4 --batch 5 --format 2 out.prl",
-            "build",
-        ),
-        ("check a.prl", "check"),
-        ("get a.prl 61fF", "get"),
-        ("scan a.prl 00 1000000", "scan"),
-        ("nth a.prl 4294967295", "nth"),
-    ];
-    for (line, name) in cases {
-        assert!(rt; gives(alloc, line, name)?, "{line}");
-    }
-    Ok(())
-}
-
-#[test]
-fn a_build_has_defaults(rt: HostRuntime) -> Result<(), Fail> {
-    let Ok(
+    let text = match &command {
+        Command::Pack { out } => format!(in alloc; "pack {out:?}")?,
+        Command::Scratch { bits, version, out } => {
+            format!(in alloc; "scratch bits={bits} version={version} out={out:?}")?
+        }
         Command::Build {
             bits,
             stages,
@@ -62,15 +32,46 @@ fn a_build_has_defaults(rt: HostRuntime) -> Result<(), Fail> {
             version,
             out,
             files,
-        },
-    ) = answer(rt.alloc(), "build out.prl x.rec y.rec")?
-    else {
-        return Err(Fail::from("no build"));
+        } => format!(in alloc;
+            "build bits={bits} stages={stages} capacity={capacity} max_records={max_records} batch={batch} version={version} out={out:?} files={files:?}"
+        )?,
+        Command::Check { file } => format!(in alloc; "check {file:?}")?,
+        Command::Get { file, key } => format!(in alloc; "get {file:?} {key:?}")?,
+        Command::Scan { file, from, limit } => {
+            format!(in alloc; "scan {file:?} {from:?} {limit}")?
+        }
+        Command::Nth { file, n } => format!(in alloc; "nth {file:?} {n}")?,
     };
-    assert_eq!(rt; [bits, stages, version], [12, 12, 1]);
-    assert_eq!(rt; [capacity, max_records, batch], [64, 16_777_216, 16]);
-    assert!(rt; out.as_str() == "out.prl");
-    assert!(rt; files.len() == 2 && files[0].as_str() == "x.rec" && files[1].as_str() == "y.rec");
+    Ok(text)
+}
+
+#[test]
+fn commands_have_their_fields(rt: HostRuntime) -> Result<(), Fail> {
+    let alloc = rt.alloc();
+    let cases = [
+        ("pack a.rec", "pack \"a.rec\""),
+        ("scratch", "scratch bits=12 version=1 out=None"),
+        (
+            "scratch --bits 24 --format 2 --out a.prl",
+            "scratch bits=24 version=2 out=Some(\"a.prl\")",
+        ),
+        (
+            "build out.prl x.rec y.rec",
+            "build bits=12 stages=12 capacity=64 max_records=16777216 batch=16 version=1 out=\"out.prl\" files=[\"x.rec\", \"y.rec\"]",
+        ),
+        (
+            "build --bits 1 --stages 2 --capacity 3 --max-records 4 --batch 5 --format 2 out.prl",
+            "build bits=1 stages=2 capacity=3 max_records=4 batch=5 version=2 out=\"out.prl\" files=[]",
+        ),
+        ("check a.prl", "check \"a.prl\""),
+        ("get a.prl 61fF", "get \"a.prl\" [97, 255]"),
+        ("scan a.prl 00 1000000", "scan \"a.prl\" [0] 1000000"),
+        ("nth a.prl 4294967295", "nth \"a.prl\" 4294967295"),
+    ];
+    for (line, expected) in cases {
+        let text = shown(alloc, line)?;
+        assert!(rt; text.as_str() == expected, "{line}: {text}");
+    }
     Ok(())
 }
 
@@ -105,22 +106,21 @@ fn help_is_no_fault_of_the_words(rt: HostRuntime) -> Result<(), Fail> {
     Ok(())
 }
 
-// Whether the words of a line are refused for their key.
-fn has_bad_key(alloc: Global, line: &str) -> Result<bool, AllocError> {
-    Ok(matches!(&answer(alloc, line)?, Err(ParseFault::BadKey)))
-}
-
 #[test]
 fn keys_are_hexadecimal_of_1024_bytes_at_most(rt: HostRuntime) -> Result<(), Fail> {
     let alloc = rt.alloc();
-    assert!(rt; has_bad_key(alloc, "get a.prl 6")?);
-    assert!(rt; has_bad_key(alloc, "scan a.prl 6x 1")?);
+    assert!(rt; matches!(&answer(alloc, "get a.prl 6")?, Err(ParseFault::BadKey)));
+    assert!(rt; matches!(&answer(alloc, "scan a.prl 6x 1")?, Err(ParseFault::BadKey)));
     // What clap refuses is no bad key.
-    assert!(rt; !has_bad_key(alloc, "scan a.prl 6x")?);
+    assert!(rt; matches!(&answer(alloc, "scan a.prl 6x")?, Err(ParseFault::Usage(_))));
     let longest = "6B".repeat(alloc, 1024)?;
     let line = format!(in alloc; "get a.prl {longest}")?;
-    assert!(rt; gives(alloc, line.as_str(), "get")?);
-    let line = format!(in alloc; "{line}6B")?;
-    assert!(rt; has_bad_key(alloc, line.as_str())?);
+    let is_longest = match &answer(alloc, line.as_str())? {
+        Ok(Command::Get { key, .. }) => key.len() == 1024,
+        _ => false,
+    };
+    assert!(rt; is_longest);
+    let line = format!(in alloc; "get a.prl {longest}6B")?;
+    assert!(rt; matches!(&answer(alloc, line.as_str())?, Err(ParseFault::BadKey)));
     Ok(())
 }
