@@ -1,12 +1,14 @@
 -- The steps of a stage: what it has received and sent, as lists.
-use Rattle.std.proofs.Common.{◌≡◌, List, [], ◌++◌, refl, sym, ◌∙◌, ap, subst, inr, append_assoc}
+use Rattle.std.proofs.Common.{◌≡◌, List, [], ◌++◌, true, refl, sym, ◌∙◌, ap, subst, inr, append_assoc, true≢false}
 use Rattle.std.proofs.lemmas.List.{append-nil}
-use Rattle.std.specs.Prelude.{Result, Ok, Err, OnErr}
+use Rattle.std.specs.Prelude.{Result, Ok, Err, IfOk, OnErr, is_err}
 use Rattle.prolly_entry.specs.Events.{Closing, faulty}
 use Rattle.prolly_entry.specs.Prefix.{IsPrefix}
 use Rattle.prolly_link.specs.declared.fault.End.{End}
 use Rattle.prolly_link.specs.declared.fault.End.TheVariants.{Fault}
 use Rattle.prolly_link.specs.declared.fault.RunFault.TheVariants.{Memory}
+use Rattle.prolly_link.specs.declared.progress.Progress.{Progress}
+use Rattle.prolly_link.specs.Receipts.{HasEnded, end_given}
 use Rattle.prolly_stage.specs.Sends.{closing_of, Sends, GivesUp}
 use Rattle.prolly_stage.specs.Workers.{KeepsPrefixes}
 
@@ -14,8 +16,16 @@ pub on_err : {T E P : Type 0} (r : Result T E) → P → OnErr r P
 on_err (Ok x) p = tt
 on_err (Err e) p = p
 
+pub not_ok : {T E : Type 0} (P : T → Type 0) (r : Result T E) → is_err r ≡ true → IfOk r P
+not_ok P (Ok x) e = absurd (true≢false (sym e))
+not_ok P (Err e) _ = tt
+
 pub prefix_trans : {A : Type 0} (xs ys zs : List A) → IsPrefix xs ys → IsPrefix ys zs → IsPrefix xs zs
 prefix_trans xs ys zs a b = (a.0 ++ b.0, b.1 ∙ ap (λ l. l ++ b.0) a.1 ∙ append_assoc xs a.0 b.0)
+
+-- What gave an end has ended, by that end.
+pub ended_by : (now after : Progress) → now ≡ after → HasEnded after → HasEnded now × (end_given now ≡ end_given after)
+ended_by now after e h = (subst HasEnded (sym e) h, ap end_given e)
 
 -- Nothing came in the last stretch.
 pub nothing_came : {A : Type 0} (before stretch all : List A) → all ≡ before ++ stretch → stretch ≡ [] → all ≡ before
