@@ -1,6 +1,7 @@
 //! The whole command line.
-ghost use Rattle.std.specs.Prelude.{◌≡◌, IfOk};
-ghost use Rattle.clap.specs.Words.{app_of};
+ghost use Rattle.std.specs.Prelude.{◌≡◌, IfOk, false};
+ghost use Rattle.clap.specs.Words.{App, app_of, with_subcommand};
+ghost use Rattle.clap.specs.declared.builder.command.Command.TheViews.{out-Command as fields_of};
 ghost use Rattle.prolly_line.specs.Line.{bare_line, program_line};
 
 use crate::{help, subcommands};
@@ -20,16 +21,27 @@ fn bare_line<'a>(alloc: Global) -> Result<Command<'a>, AllocError>
         .bin_name("prolly")
 }
 
+// Adds a subcommand to a line, where there was memory for both.
+fn with<'a>(
+    line: Result<Command<'a>, AllocError>,
+    subcommand: Result<Command<'a>, AllocError>,
+) -> Result<Command<'a>, AllocError>
+    ensures line { (app inner : App) → IfOk line.entry (λ c. app_of c ≡ app) → IfOk subcommand.entry (λ c. app_of c ≡ inner)
+        → IfOk subcommand.entry (λ c. (fields_of c).has_globals ≡ false) → IfOk result (λ c. app_of c ≡ with_subcommand app inner.top) }
+{
+    line?.subcommand(subcommand?)
+}
+
 /// The whole command line.
 pub(crate) fn program_line<'a>(alloc: Global) -> Result<Command<'a>, AllocError>
     ensures line { IfOk result (λ c. app_of c ≡ program_line) }
 {
-    bare_line(alloc)?
-        .subcommand(subcommands::pack_line(alloc)?)?
-        .subcommand(subcommands::scratch_line(alloc)?)?
-        .subcommand(subcommands::build_line(alloc)?)?
-        .subcommand(subcommands::check_line(alloc)?)?
-        .subcommand(subcommands::get_line(alloc)?)?
-        .subcommand(subcommands::scan_line(alloc)?)?
-        .subcommand(subcommands::nth_line(alloc)?)
+    let line = bare_line(alloc);
+    let line = with(line, subcommands::pack_line(alloc));
+    let line = with(line, subcommands::scratch_line(alloc));
+    let line = with(line, subcommands::build_line(alloc));
+    let line = with(line, subcommands::check_line(alloc));
+    let line = with(line, subcommands::get_line(alloc));
+    let line = with(line, subcommands::scan_line(alloc));
+    with(line, subcommands::nth_line(alloc))
 }

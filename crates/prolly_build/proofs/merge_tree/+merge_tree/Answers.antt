@@ -1,12 +1,21 @@
-use Rattle.std.proofs.Common.{ap, ◌∙◌, sym, arith}
+use Rattle.std.proofs.Common.{ap, ◌∙◌, sym, arith, refl}
 use Rattle.std.proofs.lemmas.Result.{on_ok_weaker}
 use Rattle.prolly_entry.specs.Record.{Record}
 use Rattle.prolly_link.specs.Views.{Batching, Whole}
 use Rattle.prolly_build.specs.Ran.{IsUnsent}
 use Rattle.prolly_build.proofs.ForkSteps.{forked_one, forked_all, forked_maps, same_length}
-use Rattle.prolly_build.proofs.RanSteps.{all_begun}
+use Rattle.prolly_build.proofs.RanSteps.{all_begun, nothing_begun}
 use Rattle.prolly_build.proofs.FeedingSteps.{fed_by_loaders, fed_by_merger, merges_met}
 use Rattle.prolly_build.proofs.merge_tree.+merge_tree.Goals as goal
+
+pub returns-then-not-may_start : goal.returns-then-not-may_start
+returns-then-not-may_start g t c = record { written = tt; fed = tt; refused = λ _. refl; begun = nothing_begun c.args.site.now.config _ }
+
+pub returns-in_default-start_two : goal.returns-in_default-start_two
+returns-in_default-start_two g t c = record { written = tt; fed = tt; refused = λ _. refl; begun = nothing_begun c.args.site.now.config _ }
+
+pub returns-in-Err : goal.returns-in-Err
+returns-in-Err g t c = record { written = tt; fed = tt; refused = c.in-Err.ensures.refused; begun = c.in-Err.ensures.begun }
 
 pub returns-in_default-clause-fed : goal.returns-in_default-clause-fed
 returns-in_default-clause-fed g t c =

@@ -1,7 +1,16 @@
-use Rattle.std.proofs.Common.{ap, ◌∙◌, sym}
-use Rattle.prolly_build.proofs.RanSteps.{all_begun}
+use Rattle.std.proofs.Common.{ap, ◌∙◌, sym, refl}
+use Rattle.prolly_build.proofs.RanSteps.{all_begun, nothing_begun}
 use Rattle.prolly_build.proofs.StagingSteps.{leaves_staged}
 use Rattle.prolly_build.proofs.tower.run_from_leaves.Goals as goal
+
+pub returns-then-not-may_start : goal.returns-then-not-may_start
+returns-then-not-may_start g c = record { link = tt; written = tt; staged = tt; refused = λ _. refl; begun = nothing_begun c.args.site.now.config _ }
+
+pub returns-in_default : goal.returns-in_default
+returns-in_default g c = record { link = tt; written = tt; staged = tt; refused = λ _. refl; begun = nothing_begun c.args.site.now.config _ }
+
+pub returns-in-Err : goal.returns-in-Err
+returns-in-Err g c = record { link = tt; written = tt; staged = tt; refused = c.in-Err.ensures.refused; begun = c.in-Err.ensures.begun }
 
 pub has_met-requires : goal.has_met-requires
 has_met-requires g c =

@@ -1,19 +1,22 @@
 -- One subcommand more at each step.
-use Rattle.std.proofs.lemmas.Result.{IfOk-weaker}
-use Rattle.prolly_line.specs.Line.{build_line, check_line, get_line, nth_line, pack_line, scan_line, scratch_line}
-use Rattle.prolly_line.proofs.LineSteps.{entered}
+use Rattle.prolly_line.specs.Line.{bare_line, build_line, check_line, get_line, nth_line, pack_line, scan_line, scratch_line}
+use Rattle.clap.specs.Words.{with_subcommand}
 use Rattle.prolly_line.proofs.line.program_line.Goals as goal
 
 pub returns : goal.returns
 returns c =
-    let with_pack = entered c.in_ok-bare_line.field-0 c.in_ok-subcommand.field-0 c.in_ok-pack_line.field-0 _ pack_line c.in_ok-bare_line.ensures.line c.in_ok-pack_line.ensures.line c.in_ok-pack_line.ensures.local c.in_ok-subcommand.ensures in
-    let with_scratch = entered c.in_ok-subcommand.field-0 c.in_ok-subcommand-2.field-0 c.in_ok-scratch_line.field-0 _ scratch_line with_pack c.in_ok-scratch_line.ensures.line c.in_ok-scratch_line.ensures.local c.in_ok-subcommand-2.ensures in
-    let with_build = entered c.in_ok-subcommand-2.field-0 c.in_ok-subcommand-3.field-0 c.in_ok-build_line.field-0 _ build_line with_scratch c.in_ok-build_line.ensures.line c.in_ok-build_line.ensures.local c.in_ok-subcommand-3.ensures in
-    let with_check = entered c.in_ok-subcommand-3.field-0 c.in_ok-subcommand-4.field-0 c.in_ok-check_line.field-0 _ check_line with_build c.in_ok-check_line.ensures.line c.in_ok-check_line.ensures.local c.in_ok-subcommand-4.ensures in
-    let with_get = entered c.in_ok-subcommand-4.field-0 c.in_ok-subcommand-5.field-0 c.in_ok-get_line.field-0 _ get_line with_check c.in_ok-get_line.ensures.line c.in_ok-get_line.ensures.local c.in_ok-subcommand-5.ensures in
-    let with_scan = entered c.in_ok-subcommand-5.field-0 c.in_ok-subcommand-6.field-0 c.in_ok-scan_line.field-0 _ scan_line with_get c.in_ok-scan_line.ensures.line c.in_ok-scan_line.ensures.local c.in_ok-subcommand-6.ensures in
+    let with_pack = c.with-line.ensures.line bare_line pack_line c.bare_line-line.ensures.line c.pack_line.ensures.line c.pack_line.ensures.local in
+    let top_1 = with_subcommand bare_line pack_line.top in
+    let with_scratch = c.with-line-2.ensures.line top_1 scratch_line with_pack c.scratch_line.ensures.line c.scratch_line.ensures.local in
+    let top_2 = with_subcommand top_1 scratch_line.top in
+    let with_build = c.with-line-3.ensures.line top_2 build_line with_scratch c.build_line.ensures.line c.build_line.ensures.local in
+    let top_3 = with_subcommand top_2 build_line.top in
+    let with_check = c.with-line-4.ensures.line top_3 check_line with_build c.check_line.ensures.line c.check_line.ensures.local in
+    let top_4 = with_subcommand top_3 check_line.top in
+    let with_get = c.with-line-5.ensures.line top_4 get_line with_check c.get_line.ensures.line c.get_line.ensures.local in
+    let top_5 = with_subcommand top_4 get_line.top in
+    let with_scan = c.with-line-6.ensures.line top_5 scan_line with_get c.scan_line.ensures.line c.scan_line.ensures.local in
+    let top_6 = with_subcommand top_5 scan_line.top in
     record {
-      line = IfOk-weaker c.subcommand-7.result _ _
-          (λ x adds. entered c.in_ok-subcommand-6.field-0 x c.in_ok-nth_line.field-0 _ nth_line with_scan c.in_ok-nth_line.ensures.line c.in_ok-nth_line.ensures.local adds)
-          c.subcommand-7.ensures;
+      line = c.with.ensures.line top_6 nth_line with_scan c.nth_line.ensures.line c.nth_line.ensures.local;
     }
