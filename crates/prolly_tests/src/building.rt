@@ -1,3 +1,4 @@
+use crate::shared::expect_bytes;
 use prolly_build::{Config, Permit, Report, build, build_with};
 use prolly_entry::{Pair, Sha512Cut, Version};
 use prolly_file::{ScriptSink, ScriptSource, scratch_as};
@@ -77,8 +78,7 @@ fn expect_file<R: Wait + Threads + Sync + Abort, G: Gate>(
     let mut sources = sources_of(alloc, files)?;
     let mut sink = ScriptSink::new(alloc, 65_536, None);
     let built = build(rt, alloc, config, &mut sources, &mut sink, gate);
-    assert_eq!(rt; built.err(), None);
-    assert_eq!(rt; sources.len(), files.len());
-    assert_eq!(rt; sink.taken(), file);
+    assert_eq!(rt; (built.err(), sources.len()), (None, files.len()));
+    expect_bytes(rt, sink.taken(), file);
     Ok(built.ok().ok_or("no report")?)
 }

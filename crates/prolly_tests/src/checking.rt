@@ -1,9 +1,11 @@
 //! The checker and look-ups on small files.
 
+use crate::shared::{chunk_file, pairs_of};
 use prolly_check::{CheckFault, Tree, check};
-use prolly_entry::{Pair, Ref, Sha512Cut, Version};
+use prolly_entry::{Sha512Cut, Version};
 use prolly_file::{FromRead, scratch_as};
 use std::alloc::Global;
+use std::process::Abort;
 use std::test::Fail;
 
 mod accepted;
@@ -28,10 +30,7 @@ const LEAF_OF_B: &[u8] = b"\0\0\x01b\0\0\0\x011";
 /// The file of a=1, b=1 and c=1, of 0 bits. Its chunks are two leaves, their node, a leaf, its node and
 /// the root. In version One they begin at 15, 33, 51, 107, 125 and 158, and the end record at 205.
 fn file_of_three(alloc: Global, version: Version) -> Result<Vec<u8>, Fail> {
-    let mut pairs = Vec::new(alloc);
-    for key in [b"a", b"b", b"c"] {
-        pairs.push(Pair::copy_of(alloc, key, b"1")?)?;
-    }
+    let pairs = pairs_of(alloc, &[b"a", b"b", b"c"])?;
     let mut file = Vec::new(alloc);
     let cut = Sha512Cut::new(0).ok_or("bits")?;
     scratch_as(alloc, cut, version, &pairs, 12, &mut file)?;
@@ -40,22 +39,21 @@ fn file_of_three(alloc: Global, version: Version) -> Result<Vec<u8>, Fail> {
 
 /// The bytes of a file of version One and 0 bits with these chunks, of which the last is the root.
 fn file_with(alloc: Global, chunks: &[&[u8]]) -> Result<Vec<u8>, Fail> {
-    let mut file = b"PRLY\x01\0".to_vec(alloc)?;
-    let mut root = Ref::of(b"");
-    for chunk in chunks {
-        file.push(b'C')?;
-        file.extend_from_slice(&(chunk.len() as u64).to_be_bytes())?;
-        file.extend_from_slice(chunk)?;
-        root = Ref::of(chunk);
-    }
-    file.push(b'E')?;
-    file.extend_from_slice(&root.0)?;
-    file.extend_from_slice(&(chunks.len() as u64).to_be_bytes())?;
-    Ok(file)
+    Ok(chunk_file(alloc, [1, 0], chunks)?)
 }
 
 fn checked(alloc: Global, bytes: &[u8]) -> Result<Tree, CheckFault> {
     check(alloc, &mut FromRead::new(bytes), 1_000_000)
+}
+
+/// Fails unless these bytes are refused for this fault.
+fn expect_fault(rt: &impl Abort, alloc: Global, bytes: &[u8], fault: CheckFault) {
+    assert_eq!(rt;
+        checked(alloc, bytes).err(),
+        Some(fault),
+        "{} bytes",
+        bytes.len()
+    );
 }
 
 /// Puts a byte in the place of another.

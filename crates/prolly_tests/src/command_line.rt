@@ -13,6 +13,32 @@ fn answer(alloc: Global, line: &str) -> Result<Result<Command, ParseFault>, Allo
     Ok(parse(alloc, words.as_slice()))
 }
 
+// What becomes of a line, in a word or two.
+fn outcome(alloc: Global, line: &str) -> Result<&'static str, AllocError> {
+    Ok(match &answer(alloc, line)? {
+        Ok(_) => "taken",
+        Err(ParseFault::Memory) => "memory",
+        Err(ParseFault::Usage(_)) => "usage",
+        Err(ParseFault::Help(_)) => "help",
+        Err(ParseFault::BadKey) => "bad key",
+    })
+}
+
+// The settings of a build, as a part of its text.
+fn settings_shown(
+    alloc: Global,
+    bits: u8,
+    stages: u8,
+    capacity: u32,
+    max_records: u32,
+    batch: u32,
+    version: u8,
+) -> Result<String, AllocError> {
+    format!(in alloc;
+        "bits={bits} stages={stages} capacity={capacity} max_records={max_records} batch={batch} version={version}"
+    )
+}
+
 // The command of a line that is taken, as one text.
 fn shown(alloc: Global, line: &str) -> Result<String, Fail> {
     let Ok(command) = answer(alloc, line)? else {
@@ -32,9 +58,18 @@ fn shown(alloc: Global, line: &str) -> Result<String, Fail> {
             version,
             out,
             files,
-        } => format!(in alloc;
-            "build bits={bits} stages={stages} capacity={capacity} max_records={max_records} batch={batch} version={version} out={out:?} files={files:?}"
-        )?,
+        } => {
+            let settings = settings_shown(
+                alloc,
+                *bits,
+                *stages,
+                *capacity,
+                *max_records,
+                *batch,
+                *version,
+            )?;
+            format!(in alloc; "build {settings} out={out:?} files={files:?}")?
+        }
         Command::Check { file } => format!(in alloc; "check {file:?}")?,
         Command::Get { file, key } => format!(in alloc; "get {file:?} {key:?}")?,
         Command::Scan { file, from, limit } => {
@@ -88,8 +123,7 @@ fn words_out_of_range_are_usage(rt: HostRuntime) -> Result<(), Fail> {
         "forget a.prl",
     ];
     for line in lines {
-        let is_usage = matches!(&answer(alloc, line)?, Err(ParseFault::Usage(_)));
-        assert!(rt; is_usage, "{line}");
+        assert_eq!(rt; outcome(alloc, line)?, "usage", "{line}");
     }
     Ok(())
 }
@@ -109,10 +143,6 @@ fn help_is_no_fault_of_the_words(rt: HostRuntime) -> Result<(), Fail> {
 #[test]
 fn keys_are_hexadecimal_of_1024_bytes_at_most(rt: HostRuntime) -> Result<(), Fail> {
     let alloc = rt.alloc();
-    assert!(rt; matches!(&answer(alloc, "get a.prl 6")?, Err(ParseFault::BadKey)));
-    assert!(rt; matches!(&answer(alloc, "scan a.prl 6x 1")?, Err(ParseFault::BadKey)));
-    // What clap refuses is no bad key.
-    assert!(rt; matches!(&answer(alloc, "scan a.prl 6x")?, Err(ParseFault::Usage(_))));
     let longest = "6B".repeat(alloc, 1024)?;
     let line = format!(in alloc; "get a.prl {longest}")?;
     let is_longest = match &answer(alloc, line.as_str())? {
@@ -120,7 +150,15 @@ fn keys_are_hexadecimal_of_1024_bytes_at_most(rt: HostRuntime) -> Result<(), Fai
         _ => false,
     };
     assert!(rt; is_longest);
-    let line = format!(in alloc; "get a.prl {longest}6B")?;
-    assert!(rt; matches!(&answer(alloc, line.as_str())?, Err(ParseFault::BadKey)));
+    let too_long = format!(in alloc; "get a.prl {longest}6B")?;
+    for (line, expected) in [
+        ("get a.prl 6", "bad key"),
+        ("scan a.prl 6x 1", "bad key"),
+        // What clap refuses is no bad key.
+        ("scan a.prl 6x", "usage"),
+        (too_long.as_str(), "bad key"),
+    ] {
+        assert_eq!(rt; outcome(alloc, line)?, expected, "{line}");
+    }
     Ok(())
 }

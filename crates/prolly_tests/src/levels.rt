@@ -1,7 +1,8 @@
 ghost use Rattle.std.specs.Prelude.{◌≤◌};
 
+use crate::shared::{expect_bytes, joined, pairs_of};
 use prolly_chunk::{ChunkEvent, LeafLevel, NodeLevel};
-use prolly_entry::{KeyCut, Pair, Ref, Version};
+use prolly_entry::{KeyCut, Ref, Version};
 use std::alloc::Global;
 use std::process::Abort;
 use std::test::Fail;
@@ -35,9 +36,8 @@ const LAST_REFERENCE: Ref = Ref([
 fn leaf_answers(alloc: Global, keys: &[&[u8]]) -> Result<Vec<Option<ChunkEvent>>, Fail> {
     let mut leaves = LeafLevel::new(alloc, KeyCut)?;
     let mut answers = Vec::new(alloc);
-    for key in keys {
-        let pair = Pair::new(Vec::from_slice(alloc, key)?, Vec::from_slice(alloc, b"1")?)?;
-        answers.push(leaves.push(alloc, &pair)?)?;
+    for pair in &pairs_of(alloc, keys)? {
+        answers.push(leaves.push(alloc, pair)?)?;
     }
     answers.push(leaves.finish())?;
     Ok(answers)
@@ -71,17 +71,17 @@ fn bytes_of(answer: &Option<ChunkEvent>) -> &[u8] {
     }
 }
 
-fn expect_bytes(rt: &impl Abort, answers: &[Option<ChunkEvent>], want: &[&[u8]]) {
+fn expect_chunks(rt: &impl Abort, answers: &[Option<ChunkEvent>], want: &[&[u8]]) {
     assert_eq!(rt; answers.len(), want.len());
     for (answer, want) in answers.iter().zip(want) {
-        assert_eq!(rt; bytes_of(answer), *want);
+        expect_bytes(rt, bytes_of(answer), want);
     }
 }
 
 #[test]
 fn boundaries_close_leaves(rt: HostRuntime) -> Result<(), Fail> {
     let answers = leaf_answers(rt.alloc(), &KEYS)?;
-    expect_bytes(
+    expect_chunks(
         &rt,
         &answers,
         &[b"", FIRST_LEAF, b"", SECOND_LEAF, b"", LAST_LEAF],
@@ -92,7 +92,7 @@ fn boundaries_close_leaves(rt: HostRuntime) -> Result<(), Fail> {
 #[test]
 fn no_pairs_are_one_leaf(rt: HostRuntime) -> Result<(), Fail> {
     let answers = leaf_answers(rt.alloc(), &[])?;
-    expect_bytes(&rt, &answers, &[b"\0"]);
+    expect_chunks(&rt, &answers, &[b"\0"]);
     Ok(())
 }
 
@@ -102,40 +102,44 @@ fn events_tell_of_their_chunk(rt: HostRuntime) -> Result<(), Fail> {
     let Some(Some(event)) = answers.get(1) else {
         return Err("open".into());
     };
-    assert_eq!(rt; event.level(), 0);
-    assert_eq!(rt; event.key(), b"b!".as_slice());
-    assert_eq!(rt; event.count(), 2);
-    assert_eq!(rt; event.reference(), FIRST_REFERENCE);
+    expect_bytes(&rt, event.key(), b"b!");
+    assert_eq!(rt;
+        (event.level(), event.count(), event.reference()),
+        (0, 2, FIRST_REFERENCE)
+    );
     Ok(())
 }
 
 #[test]
 fn second_boundaries_close_nodes(rt: HostRuntime) -> Result<(), Fail> {
     let alloc = rt.alloc();
-    let mut node = b"\x01\0\x02b!".to_vec(alloc)?;
-    node.extend_from_slice(&FIRST_REFERENCE.0)?;
-    node.extend_from_slice(b"\0\x02d!")?;
-    node.extend_from_slice(&SECOND_REFERENCE.0)?;
-    let mut last = b"\x01\0\x01e".to_vec(alloc)?;
-    last.extend_from_slice(&LAST_REFERENCE.0)?;
+    let node = joined(
+        alloc,
+        &[
+            b"\x01\0\x02b!",
+            &FIRST_REFERENCE.0,
+            b"\0\x02d!",
+            &SECOND_REFERENCE.0,
+        ],
+    )?;
+    let last = joined(alloc, &[b"\x01\0\x01e", &LAST_REFERENCE.0])?;
 
     let answers = node_answers(alloc, Version::One, 1, &leaf_answers(alloc, &KEYS)?)?;
-    expect_bytes(&rt, &answers, &[b"", &node, b"", &last]);
+    expect_chunks(&rt, &answers, &[b"", &node, b"", &last]);
     Ok(())
 }
 
 #[test]
 fn version_two_counts_in_its_entries(rt: HostRuntime) -> Result<(), Fail> {
     let alloc = rt.alloc();
-    let mut last = b"\x01\0\x01e".to_vec(alloc)?;
-    last.extend_from_slice(&LAST_REFERENCE.0)?;
-    last.extend_from_slice(b"\0\0\0\0\0\0\0\x01")?;
+    let count = b"\0\0\0\0\0\0\0\x01";
+    let last = joined(alloc, &[b"\x01\0\x01e", &LAST_REFERENCE.0, count])?;
 
     let answers = node_answers(alloc, Version::Two, 1, &leaf_answers(alloc, &KEYS)?)?;
     let Some(Some(event)) = answers.get(3) else {
         return Err("nothing left".into());
     };
-    assert_eq!(rt; event.bytes(), last.as_slice());
+    expect_bytes(&rt, event.bytes(), &last);
     Ok(())
 }
 
@@ -143,7 +147,7 @@ fn version_two_counts_in_its_entries(rt: HostRuntime) -> Result<(), Fail> {
 fn a_single_event_needs_no_node(rt: HostRuntime) -> Result<(), Fail> {
     let alloc = rt.alloc();
     let answers = node_answers(alloc, Version::One, 1, &leaf_answers(alloc, &[b"a"])?)?;
-    expect_bytes(&rt, &answers, &[b"", b""]);
+    expect_chunks(&rt, &answers, &[b"", b""]);
     Ok(())
 }
 
@@ -151,6 +155,6 @@ fn a_single_event_needs_no_node(rt: HostRuntime) -> Result<(), Fail> {
 fn events_of_other_levels_pass_by(rt: HostRuntime) -> Result<(), Fail> {
     let alloc = rt.alloc();
     let answers = node_answers(alloc, Version::One, 2, &leaf_answers(alloc, &KEYS)?)?;
-    expect_bytes(&rt, &answers, &[b"", b"", b"", b""]);
+    expect_chunks(&rt, &answers, &[b"", b"", b"", b""]);
     Ok(())
 }

@@ -23,6 +23,8 @@ mod loading;
 #[cfg(test)]
 mod merging;
 #[cfg(test)]
+mod shared;
+#[cfg(test)]
 mod stages;
 #[cfg(test)]
 mod tools;

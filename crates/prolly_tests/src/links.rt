@@ -1,9 +1,13 @@
+ghost use Rattle.std.specs.Prelude.{◌≡◌};
+
 use between::{copy_into_batches, copy_list, copy_out_of_batches};
 use copies::{Copies, copy_all};
 use prolly_link::{
     BatchDrained, Drained, End, In, ListIn, ListOut, Next, Out, RunFault, batch_link, link, meet,
     meet_batches, receive_rest,
 };
+use std::process::Abort;
+use std::sync::Wait;
 use std::test::Fail;
 use std::thread;
 use std::time::Duration;
@@ -14,18 +18,41 @@ mod copies;
 mod gather;
 mod numbers;
 
+// Fails unless each of these items is taken.
+fn sends<O: Out<u32>>(rt: &(impl Abort + Wait), out: &mut O, items: &[u32])
+    ensures { O.link out.new ≡ O.link out.old }
+{
+    for &item in items {
+        assert_eq!(rt; out.send(rt, item), Ok(()));
+    }
+}
+
+// Fails unless this is received, in this order.
+fn receives<I: In<u32>>(rt: &(impl Abort + Wait), input: &mut I, expected: &[Next<u32>])
+    ensures { I.link input.new ≡ I.link input.old }
+{
+    for next in expected {
+        assert_eq!(rt; input.recv(rt), *next);
+    }
+}
+
 #[test]
 fn an_end_is_given_again(rt: HostRuntime) -> Result<(), Fail> {
     let Ok((mut sender, mut receiver)) = link(rt.alloc(), 4) else {
         return no_memory(&rt);
     };
-    assert_eq!(rt; sender.send(&rt, 1u32), Ok(()));
-    assert_eq!(rt; sender.send(&rt, 2), Ok(()));
+    sends(&rt, &mut sender, &[1, 2]);
     let closed = sender.close(&rt, End::Clean);
-    assert_eq!(rt; receiver.recv(&rt), Next::Item(1));
-    assert_eq!(rt; receiver.recv(&rt), Next::Item(2));
-    assert_eq!(rt; receiver.recv(&rt), Next::End(End::Clean));
-    assert_eq!(rt; receiver.recv(&rt), Next::End(End::Clean));
+    receives(
+        &rt,
+        &mut receiver,
+        &[
+            Next::Item(1),
+            Next::Item(2),
+            Next::End(End::Clean),
+            Next::End(End::Clean),
+        ],
+    );
     match receiver.drain(&rt) {
         Drained::Ended(ended) => drop(meet(closed, ended)),
         Drained::Lost(_) => assert!(rt; false, "the sender had closed"),
@@ -38,11 +65,9 @@ fn a_dropped_sender_is_lost(rt: HostRuntime) -> Result<(), Fail> {
     let Ok((mut sender, mut receiver)) = link(rt.alloc(), 4) else {
         return no_memory(&rt);
     };
-    assert_eq!(rt; sender.send(&rt, 1u32), Ok(()));
+    sends(&rt, &mut sender, &[1]);
     drop(sender);
-    assert_eq!(rt; receiver.recv(&rt), Next::Item(1));
-    assert_eq!(rt; receiver.recv(&rt), Next::Lost);
-    assert_eq!(rt; receiver.recv(&rt), Next::Lost);
+    receives(&rt, &mut receiver, &[Next::Item(1), Next::Lost, Next::Lost]);
     assert!(rt; matches!(receiver.drain(&rt), Drained::Lost(_)));
     Ok(())
 }
@@ -52,15 +77,19 @@ fn batches_keep_the_order(rt: HostRuntime) -> Result<(), Fail> {
     let Ok((mut sender, mut receiver)) = batch_link(rt.alloc(), 4, 2) else {
         return no_memory(&rt);
     };
-    assert_eq!(rt; sender.send(&rt, 1u32), Ok(()));
-    assert_eq!(rt; sender.send(&rt, 2), Ok(()));
-    assert_eq!(rt; sender.send(&rt, 3), Ok(()));
+    sends(&rt, &mut sender, &[1, 2, 3]);
     let closed = sender.close(&rt, End::Clean);
-    assert_eq!(rt; receiver.recv(&rt), Next::Item(1));
-    assert_eq!(rt; receiver.recv(&rt), Next::Item(2));
-    assert_eq!(rt; receiver.recv(&rt), Next::Item(3));
-    assert_eq!(rt; receiver.recv(&rt), Next::End(End::Clean));
-    assert_eq!(rt; receiver.recv(&rt), Next::End(End::Clean));
+    receives(
+        &rt,
+        &mut receiver,
+        &[
+            Next::Item(1),
+            Next::Item(2),
+            Next::Item(3),
+            Next::End(End::Clean),
+            Next::End(End::Clean),
+        ],
+    );
     match receiver.drain(&rt) {
         BatchDrained::Ended(ended) => drop(meet_batches(closed, ended)),
         BatchDrained::Lost(_) => assert!(rt; false, "the sender had closed"),
@@ -74,14 +103,13 @@ fn a_dropped_batch_sender_is_lost(rt: HostRuntime) -> Result<(), Fail> {
     let Ok((mut sender, mut receiver)) = batch_link(rt.alloc(), 4, 2) else {
         return no_memory(&rt);
     };
-    assert_eq!(rt; sender.send(&rt, 1u32), Ok(()));
-    assert_eq!(rt; sender.send(&rt, 2), Ok(()));
-    assert_eq!(rt; sender.send(&rt, 3), Ok(()));
+    sends(&rt, &mut sender, &[1, 2, 3]);
     drop(sender);
-    assert_eq!(rt; receiver.recv(&rt), Next::Item(1));
-    assert_eq!(rt; receiver.recv(&rt), Next::Item(2));
-    assert_eq!(rt; receiver.recv(&rt), Next::Lost);
-    assert_eq!(rt; receiver.recv(&rt), Next::Lost);
+    receives(
+        &rt,
+        &mut receiver,
+        &[Next::Item(1), Next::Item(2), Next::Lost, Next::Lost],
+    );
     assert!(rt; matches!(receiver.drain(&rt), BatchDrained::Lost(_)));
     Ok(())
 }
@@ -95,13 +123,17 @@ fn a_thousand_numbers_go_across(rt: HostRuntime) -> Result<(), Fail> {
     let Ok(in_batches) = across::numbers_across_in_batches(rt, rt.alloc(), 1000) else {
         return no_memory(&rt);
     };
-    assert_eq!(rt; plain.len(), 1000);
-    assert_eq!(rt; in_batches.len(), 1000);
-    for i in 0..1000u32 {
-        assert_eq!(rt; plain.get(i as usize).copied(), Some(i));
-        assert_eq!(rt; in_batches.get(i as usize).copied(), Some(i));
-    }
+    expect_numbers(&rt, &plain, 1000);
+    expect_numbers(&rt, &in_batches, 1000);
     Ok(())
+}
+
+// Fails unless these are the numbers below `count`, in their order.
+fn expect_numbers(rt: &impl Abort, numbers: &[u32], count: u32) {
+    assert_eq!(rt; numbers.len(), count as usize);
+    for i in 0..count {
+        assert_eq!(rt; numbers.get(i as usize).copied(), Some(i));
+    }
 }
 
 // The receiver comes to its longest naps before the sender begins.
@@ -119,8 +151,7 @@ fn a_long_wait_ends(rt: HostRuntime) -> Result<(), Fail> {
     let Ok(late) = late else {
         return no_memory(&rt);
     };
-    assert_eq!(rt; receiver.recv(&rt), Next::Item(7));
-    assert_eq!(rt; receiver.recv(&rt), Next::End(End::Clean));
+    receives(&rt, &mut receiver, &[Next::Item(7), Next::End(End::Clean)]);
     late.join(&rt);
     Ok(())
 }
@@ -130,22 +161,24 @@ fn a_long_wait_ends(rt: HostRuntime) -> Result<(), Fail> {
 fn a_worker_copies_between_all_ends(rt: HostRuntime) -> Result<(), Fail> {
     let fault = End::Fault(RunFault::Read { file: 3 });
     let items = [7u32, 8, 9].to_vec(rt.alloc())?;
+    let list = copy_list(&rt, rt.alloc(), items, fault);
     let Ok((first, from_first)) = link(rt.alloc(), 4) else {
         return no_memory(&rt);
     };
+    drop(copy_all(&rt, ListIn::new(list.items, list.last), first));
     let Ok((second, from_second)) = batch_link(rt.alloc(), 4, 2) else {
         return no_memory(&rt);
     };
+    drop(copy_into_batches(&rt, from_first, second));
     let Ok((third, from_third)) = link(rt.alloc(), 4) else {
         return no_memory(&rt);
     };
-    let list = copy_list(&rt, rt.alloc(), items, fault);
-    drop(copy_all(&rt, ListIn::new(list.items, list.last), first));
-    drop(copy_into_batches(&rt, from_first, second));
     drop(copy_out_of_batches(&rt, from_second, third));
     let Copies { input, out } = copy_all(&rt, from_third, ListOut::new(rt.alloc()));
-    assert_eq!(rt; out.items.as_slice(), [7u32, 8, 9].as_slice());
-    assert_eq!(rt; out.last, fault);
+    assert_eq!(rt;
+        (out.items.as_slice(), out.last),
+        ([7u32, 8, 9].as_slice(), fault)
+    );
     drop(input);
     Ok(())
 }
@@ -156,11 +189,11 @@ fn a_rest_is_received(rt: HostRuntime) -> Result<(), Fail> {
     let items = [7u32, 8].to_vec(rt.alloc())?;
     let mut input = ListIn::new(items, End::Clean);
     receive_rest(&rt, &mut input);
-    assert_eq!(rt; In::recv(&mut input, &rt), Next::End(End::Clean));
+    receives(&rt, &mut input, &[Next::End(End::Clean)]);
     Ok(())
 }
 
-fn no_memory(rt: &impl std::process::Abort) -> Result<(), Fail> {
+fn no_memory(rt: &impl Abort) -> Result<(), Fail> {
     assert!(rt; false, "memory and threads are there");
     Ok(())
 }

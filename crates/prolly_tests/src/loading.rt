@@ -37,8 +37,7 @@ fn expect_records(
         append_record(&mut spelled, record)?;
     }
     assert!(rt; file.starts_with(&spelled));
-    assert_eq!(rt; sent.items.len(), count);
-    assert_eq!(rt; sent.last, end);
+    assert_eq!(rt; (sent.items.len(), sent.last), (count, end));
     Ok(())
 }
 

@@ -1,10 +1,14 @@
 ghost use Rattle.std.specs.Prelude.{◌≡◌, []};
 
+use crate::shared::{expect_bytes, pairs_of};
 use links::leaves_over_links;
 use lists::{leaves_of, two_stages};
 use prolly_entry::{KeyCut, Pair, Sha512Cut, Version};
-use prolly_link::{End, ListIn, ListOut, Next, RunFault, batch_link, link, receive_rest};
-use prolly_stage::{Gated, OpenGate, Staged, Worker, inner_stage, leaf_stage};
+use prolly_link::{
+    BatchReceiver, BatchSender, ClosedList, End, ListIn, ListOut, Next, RunFault, batch_link, link,
+    receive_rest,
+};
+use prolly_stage::{ChunkEvent, Gated, OpenGate, Staged, Worker, inner_stage, leaf_stage};
 use std::alloc::Global;
 use std::process::Abort;
 use std::sync::Wait;
@@ -25,23 +29,9 @@ const SECOND_LEAF: &[u8] = b"\0\0\x01c\0\0\0\x011\0\x02d!\0\0\0\x011";
 
 const LAST_LEAF: &[u8] = b"\0\0\x01e\0\0\0\x011";
 
-/// The pair of this key and the value 1.
-fn pair_of(alloc: Global, key: &[u8]) -> Result<Pair, Fail> {
-    let key = Vec::from_slice(alloc, key)?;
-    let value = Vec::from_slice(alloc, b"1")?;
-    match Pair::new(key, value) {
-        Ok(pair) => Ok(pair),
-        Err(_) => Err("a key too long".into()),
-    }
-}
-
-/// The pairs of these keys.
-fn pairs_of(alloc: Global, keys: &[&[u8]]) -> Result<Vec<Pair>, Fail> {
-    let mut pairs = Vec::new(alloc);
-    for key in keys {
-        pairs.push(pair_of(alloc, key)?)?;
-    }
-    Ok(pairs)
+/// Fails unless so many events were sent, and then this end.
+fn expect_sent(rt: &impl Abort, sent: &ClosedList<ChunkEvent>, count: usize, last: End) {
+    assert_eq!(rt; (sent.items.len(), sent.last), (count, last));
 }
 
 /// Runs the leaf stage over these keys and this end, and compares the bytes of the leaves.
@@ -53,10 +43,9 @@ fn expect_leaves<R: Abort + Wait>(
     leaves: &[&[u8]],
 ) -> Result<(), Fail> {
     let sent = leaves_of(rt, alloc, KeyCut, pairs_of(alloc, keys)?, last);
-    assert_eq!(rt; sent.last, last);
-    assert_eq!(rt; sent.items.len(), leaves.len());
+    expect_sent(rt, &sent, leaves.len(), last);
     for (event, leaf) in sent.items.iter().zip(leaves) {
-        assert_eq!(rt; event.bytes(), *leaf);
+        expect_bytes(rt, event.bytes(), leaf);
     }
     Ok(())
 }
@@ -72,8 +61,7 @@ fn expect_levels<R: Abort + Wait>(
 ) -> Result<(), Fail> {
     let pairs = pairs_of(alloc, keys)?;
     let sent = two_stages(rt, alloc, KeyCut, Version::One, pairs, last);
-    assert_eq!(rt; sent.last, last);
-    assert_eq!(rt; sent.items.len(), levels.len());
+    expect_sent(rt, &sent, levels.len(), last);
     for (event, level) in sent.items.iter().zip(levels) {
         assert_eq!(rt; event.level(), *level);
     }
@@ -119,10 +107,9 @@ fn version_two_counts(rt: HostRuntime) -> Result<(), Fail> {
     let cut = Sha512Cut::new(0).ok_or("bits")?;
     let pairs = pairs_of(rt.alloc(), &[b"a", b"b"])?;
     let sent = two_stages(&rt, rt.alloc(), cut, Version::Two, pairs, End::Clean);
-    assert_eq!(rt; sent.items.len(), 3);
+    expect_sent(&rt, &sent, 3, End::Clean);
     let node = sent.items.get(2).ok_or("no node")?;
-    assert_eq!(rt; node.level(), 1);
-    assert_eq!(rt; node.count(), 2);
+    assert_eq!(rt; (node.level(), node.count()), (1, 2));
     Ok(())
 }
 
@@ -137,15 +124,46 @@ fn gates_are_asked_before_each_item(rt: HostRuntime) -> Result<(), Fail> {
     let gated = Gated::new(out, Worker::Stage(3), &turns);
     let Staged { input, out } = leaf_stage(&rt, rt.alloc(), KeyCut, input, gated);
     drop(input);
-    assert_eq!(rt; out.items.len(), 3);
-    assert_eq!(rt; turns.asked(), 3);
-    assert_eq!(rt; turns.out_of_turn(), 0);
+    assert_eq!(rt;
+        (out.items.len(), turns.asked(), turns.out_of_turn()),
+        (3, 3, 0)
+    );
+    Ok(())
+}
+
+/// Sends the pairs of these keys, each of which must be taken, and then a clean end.
+fn send_pairs<R: Abort + Wait>(
+    rt: &R,
+    alloc: Global,
+    out: BatchSender<Pair>,
+    keys: &[&[u8]],
+) -> Result<(), Fail> {
+    let mut out = out;
+    for pair in pairs_of(alloc, keys)? {
+        assert!(rt; out.send(rt, pair).is_ok());
+    }
+    drop(out.close(rt, End::Clean));
+    Ok(())
+}
+
+/// Fails unless these leaves are received.
+fn receive_leaves<R: Abort + Wait>(
+    rt: &R,
+    input: &mut BatchReceiver<ChunkEvent>,
+    leaves: &[&[u8]],
+) -> Result<(), Fail> {
+    for leaf in leaves {
+        let Next::Item(event) = input.recv(rt) else {
+            return Err("no event".into());
+        };
+        expect_bytes(rt, event.bytes(), leaf);
+    }
     Ok(())
 }
 
 #[test]
 fn a_stage_runs_between_threads(rt: HostRuntime) -> Result<(), Fail> {
-    let (Ok((mut pairs, input)), Ok((out, mut events))) = (
+    let (Ok((pairs, input)), Ok((out, mut events))) = (
         batch_link(rt.alloc(), 2, 2),
         batch_link(rt.alloc(), 1, 2),
     ) else {
@@ -157,16 +175,8 @@ fn a_stage_runs_between_threads(rt: HostRuntime) -> Result<(), Fail> {
             requires { (input.items ≡ []) × (out.items ≡ []) }
         { leaves_over_links(&rt, rt.alloc(), &OpenGate, input, out) },
     )?;
-    for pair in pairs_of(rt.alloc(), &KEYS)? {
-        assert!(rt; pairs.send(&rt, pair).is_ok());
-    }
-    drop(pairs.close(&rt, End::Clean));
-    for leaf in [FIRST_LEAF, SECOND_LEAF] {
-        let Next::Item(event) = events.recv(&rt) else {
-            return Err("no event".into());
-        };
-        assert_eq!(rt; event.bytes(), leaf);
-    }
+    send_pairs(&rt, rt.alloc(), pairs, &KEYS)?;
+    receive_leaves(&rt, &mut events, &[FIRST_LEAF, SECOND_LEAF])?;
     receive_rest(&rt, &mut events);
     drop(stage.join(&rt));
     Ok(())
@@ -181,7 +191,6 @@ fn a_lost_input_is_a_fault(rt: HostRuntime) -> Result<(), Fail> {
     let out = ListOut::new(rt.alloc());
     let Staged { input, out } = inner_stage(&rt, rt.alloc(), 1, KeyCut, input, out);
     drop(input);
-    assert_eq!(rt; out.last, End::Fault(RunFault::Lost));
-    assert_eq!(rt; out.items.len(), 0);
+    expect_sent(&rt, &out, 0, End::Fault(RunFault::Lost));
     Ok(())
 }

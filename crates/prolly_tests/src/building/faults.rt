@@ -1,90 +1,112 @@
 //! Builds that end in a fault.
+ghost use Rattle.std.specs.Prelude.{◌<◌};
+
 use super::*;
 use prolly_link::RunFault;
 use prolly_stage::OpenGate;
 
-/// Builds from these sources, and fails unless there is this fault and the sink has taken this many first
-/// bytes of the chunk file of the map.
-fn expect_fault<R: Wait + Threads + Sync + Abort>(
+/// Builds from these sources, and fails unless there is this fault, or none, and the sink has taken this many
+/// first bytes of the chunk file of the map, or all.
+fn expect_end<R: Wait + Threads + Sync + Abort>(
     rt: &R,
     alloc: Global,
     config: &Config,
     sources: Vec<ScriptSource>,
     sink: ScriptSink,
-    fault: RunFault,
+    fault: Option<RunFault>,
     map: &[u8],
     taken: usize,
 ) -> Result<(), Fail> {
     let mut sources = sources;
     let mut sink = sink;
-    let built = build(rt, alloc, config, &mut sources, &mut sink, &OpenGate);
-    assert_eq!(rt; built.err(), Some(fault));
     let mut begun = file_of(alloc, map)?;
     begun.truncate(taken);
-    assert_eq!(rt; sink.taken(), begun.as_slice(), "{fault:?}");
+    let built = build(rt, alloc, config, &mut sources, &mut sink, &OpenGate);
+    assert_eq!(rt; (built.err(), sink.taken()), (fault, begun.as_slice()));
     Ok(())
 }
 
-// None has taken an end record, which has 29 bytes.
+const OUT_OF_ORDER: RunFault = RunFault::OutOfOrder { file: 0, place: 1 };
+
+/// Record files, the stages and the limit of records they are built with, the fault, the map of the file that
+/// is begun, and how many bytes of it are written. None has an end record, which has 29 bytes.
+const FAULTY_FILES: [(&[&[u8]], u8, u32, RunFault, &[u8], usize); 8] = [
+    (&[b"a1a2", b""], 12, 1_000, OUT_OF_ORDER, b"a1", 24),
+    (
+        &[b"5131", b"112171"],
+        12,
+        1_000,
+        OUT_OF_ORDER,
+        b"112151",
+        116,
+    ),
+    (&[b"5131", b"5131"], 12, 1_000, OUT_OF_ORDER, b"51", 24),
+    (
+        &[b"a1b1", b"c1c2"],
+        12,
+        1_000,
+        RunFault::OutOfOrder { file: 1, place: 1 },
+        b"a1b1c1",
+        116,
+    ),
+    (
+        &[b"", b"a1b1c1"],
+        12,
+        2,
+        RunFault::TooManyRecords { file: 1 },
+        b"a1b1",
+        98,
+    ),
+    (&[b"a1b1c1", b""], 2, 3, RunFault::TooTall, b"a1b1c1", 116),
+    (&[b"a1", b"b1"], 1, 1, RunFault::TooTall, b"a1b1", 24),
+    (
+        &[b"a1b1c1d1d1", b""],
+        2,
+        5,
+        RunFault::OutOfOrder { file: 0, place: 4 },
+        b"a1b1c1d1",
+        134,
+    ),
+];
+
 #[test]
 fn inputs_have_faults(rt: HostRuntime) -> Result<(), Fail> {
-    let out_of_order = RunFault::OutOfOrder { file: 0, place: 1 };
-    for (files, stages, limit, fault, map, taken) in [
-        (
-            [b"a1a2".as_slice(), b""],
-            12,
-            1_000,
-            out_of_order,
-            b"a1".as_slice(),
-            24,
-        ),
-        (
-            [b"5131", b"112171"],
-            12,
-            1_000,
-            out_of_order,
-            b"112151",
-            116,
-        ),
-        ([b"5131", b"5131"], 12, 1_000, out_of_order, b"51", 24),
-        (
-            [b"a1b1", b"c1c2"],
-            12,
-            1_000,
-            RunFault::OutOfOrder { file: 1, place: 1 },
-            b"a1b1c1",
-            116,
-        ),
-        (
-            [b"", b"a1b1c1"],
-            12,
-            2,
-            RunFault::TooManyRecords { file: 1 },
-            b"a1b1",
-            98,
-        ),
-        ([b"a1b1c1", b""], 2, 3, RunFault::TooTall, b"a1b1c1", 116),
-        ([b"a1", b"b1"], 1, 1, RunFault::TooTall, b"a1b1", 24),
-        (
-            [b"a1b1c1d1d1", b""],
-            2,
-            5,
-            RunFault::OutOfOrder { file: 0, place: 4 },
-            b"a1b1c1d1",
-            134,
-        ),
-    ] {
+    for (files, stages, limit, fault, map, taken) in FAULTY_FILES {
         let config = Config::new(0, stages, 4, limit)?;
-        let sources = sources_of(rt.alloc(), &files)?;
+        let sources = sources_of(rt.alloc(), files)?;
         let sink = ScriptSink::new(rt.alloc(), 65_536, None);
-        expect_fault(&rt, rt.alloc(), &config, sources, sink, fault, map, taken)?;
+        expect_end(
+            &rt,
+            rt.alloc(),
+            &config,
+            sources,
+            sink,
+            Some(fault),
+            map,
+            taken,
+        )?;
     }
     Ok(())
+}
+
+/// A source of these bytes alone.
+fn source_of(
+    alloc: Global,
+    file: &[u8],
+    step: usize,
+    fail_at: Option<u64>,
+) -> Result<Vec<ScriptSource>, Fail>
+    requires { 0 < step }
+{
+    let mut sources = Vec::new(alloc);
+    sources.push(ScriptSource::new(file.to_vec(alloc)?, step, fail_at))?;
+    Ok(sources)
 }
 
 // Where a read would fail, it is the second one.
 #[test]
 fn files_are_cut_and_second_reads_fail(rt: HostRuntime) -> Result<(), Fail> {
+    let config = settings(12)?;
     let cut = RunFault::Truncated { file: 0, place: 0 };
     let long = RunFault::KeyTooLong { file: 0, place: 1 };
     for (file, step, fail_at, fault, taken) in [
@@ -101,17 +123,15 @@ fn files_are_cut_and_second_reads_fail(rt: HostRuntime) -> Result<(), Fail> {
         ),
         (b"\0\x01a\0\0\0\x011\x04\x01", 10, Some(2), long, 24),
     ] {
-        let source = ScriptSource::new(file.to_vec(rt.alloc())?, step, fail_at);
-        let sources = vec![in rt.alloc(); source]?;
+        let sources = source_of(rt.alloc(), file, step, fail_at)?;
         let sink = ScriptSink::new(rt.alloc(), 65_536, None);
-        let config = settings(12)?;
-        expect_fault(
+        expect_end(
             &rt,
             rt.alloc(),
             &config,
             sources,
             sink,
-            fault,
+            Some(fault),
             b"a1b1",
             taken,
         )?;
@@ -119,51 +139,58 @@ fn files_are_cut_and_second_reads_fail(rt: HostRuntime) -> Result<(), Fail> {
     Ok(())
 }
 
+/// The record file of a=1, b=1 and c=1.
+const THREE_PUTS: &[u8] = b"\0\x01a\0\0\0\x011\0\x01b\0\0\0\x011\0\x01c\0\0\0\x011";
+
 // A read gives a byte, so the reads before the failed one gave a record for eight of them. The 26th would
 // come after the end of the file.
 #[test]
 fn reads_fail(rt: HostRuntime) -> Result<(), Fail> {
-    let fault = RunFault::Read { file: 0 };
+    let config = settings(12)?;
     for (first, last, taken) in [(1, 8, 6), (9, 16, 24), (17, 24, 98), (25, 25, 116)] {
         for fail_at in first..=last {
-            let file = records(rt.alloc(), b"a1b1c1")?;
-            let sources = vec![in rt.alloc(); ScriptSource::new(file, 1, Some(fail_at))]?;
+            let sources = source_of(rt.alloc(), THREE_PUTS, 1, Some(fail_at))?;
             let sink = ScriptSink::new(rt.alloc(), 65_536, None);
-            expect_fault(
+            expect_end(
                 &rt,
                 rt.alloc(),
-                &settings(12)?,
+                &config,
                 sources,
                 sink,
-                fault,
+                Some(RunFault::Read { file: 0 }),
                 b"a1b1c1",
                 taken,
             )?;
         }
     }
-    let file = records(rt.alloc(), b"a1b1c1")?;
-    let mut sources = vec![in rt.alloc(); ScriptSource::new(file, 1, Some(26))]?;
-    let mut sink = ScriptSink::new(rt.alloc(), 65_536, None);
-    let config = settings(12)?;
-    let built = build(&rt, rt.alloc(), &config, &mut sources, &mut sink, &OpenGate);
-    assert_eq!(rt; built.err(), None);
-    assert_eq!(rt; sink.taken(), file_of(rt.alloc(), b"a1b1c1")?.as_slice());
-    Ok(())
+    let sources = source_of(rt.alloc(), THREE_PUTS, 1, Some(26))?;
+    let sink = ScriptSink::new(rt.alloc(), 65_536, None);
+    expect_end(
+        &rt,
+        rt.alloc(),
+        &config,
+        sources,
+        sink,
+        None,
+        b"a1b1c1",
+        usize::MAX,
+    )
 }
 
 // A write takes a byte. The last call is the flush, before which the file is whole.
 #[test]
 fn writes_fail(rt: HostRuntime) -> Result<(), Fail> {
+    let config = settings(3)?;
     for taken in 0..=234 {
         let sources = sources_of(rt.alloc(), &[b"a1b1c1"])?;
         let sink = ScriptSink::new(rt.alloc(), 1, Some(taken as u64 + 1));
-        expect_fault(
+        expect_end(
             &rt,
             rt.alloc(),
-            &settings(3)?,
+            &config,
             sources,
             sink,
-            RunFault::Write,
+            Some(RunFault::Write),
             b"a1b1c1",
             taken,
         )?;

@@ -19,9 +19,14 @@ fn batches_and_versions_have_ranges(rt: HostRuntime) {
     let Ok(config) = Config::new(0, 1, 1, 1) else {
         return;
     };
-    assert_eq!(rt; config.with_batch(0).err(), Some(ConfigFault::BadBatch));
-    assert_eq!(rt; config.with_batch(1_025).err(), Some(ConfigFault::BadBatch));
-    assert_eq!(rt; config.with_batch(1_024).err(), None);
-    assert_eq!(rt; config.with_version(3).err(), Some(ConfigFault::BadVersion));
-    assert_eq!(rt; config.with_version(2).err(), None);
+    for (batch, fault) in [
+        (0, Some(ConfigFault::BadBatch)),
+        (1_025, Some(ConfigFault::BadBatch)),
+        (1_024, None),
+    ] {
+        assert_eq!(rt; config.with_batch(batch).err(), fault);
+    }
+    for (version, fault) in [(3, Some(ConfigFault::BadVersion)), (2, None)] {
+        assert_eq!(rt; config.with_version(version).err(), fault);
+    }
 }

@@ -16,6 +16,30 @@ impl Permit for AllBut {
 
 const THREE_FILES: [&[u8]; 3] = [b"a1d1", b"b1", b"c1e1"];
 
+/// Fails unless a build to which this worker is refused ends in that fault, and nothing is written.
+fn expect_refusal<R: Wait + Threads + Sync + Abort>(
+    rt: &R,
+    alloc: Global,
+    worker: Worker,
+) -> Result<(), Fail> {
+    let config = settings(4)?;
+    let mut sources = sources_of(alloc, &THREE_FILES)?;
+    let mut sink = ScriptSink::new(alloc, 65_536, None);
+    let permit = AllBut(worker);
+    let built = build_with(
+        rt,
+        alloc,
+        &config,
+        &mut sources,
+        &mut sink,
+        &OpenGate,
+        &permit,
+    );
+    assert_eq!(rt; built.err(), Some(RunFault::NoThread), "{worker:?}");
+    expect_bytes(rt, sink.taken(), b"");
+    Ok(())
+}
+
 #[test]
 fn each_worker_may_be_refused(rt: HostRuntime) -> Result<(), Fail> {
     for worker in [
@@ -29,20 +53,7 @@ fn each_worker_may_be_refused(rt: HostRuntime) -> Result<(), Fail> {
         Worker::Stage(2),
         Worker::Stage(3),
     ] {
-        let mut sources = sources_of(rt.alloc(), &THREE_FILES)?;
-        let mut sink = ScriptSink::new(rt.alloc(), 65_536, None);
-        let (config, permit) = (settings(4)?, AllBut(worker));
-        let built = build_with(
-            &rt,
-            rt.alloc(),
-            &config,
-            &mut sources,
-            &mut sink,
-            &OpenGate,
-            &permit,
-        );
-        assert_eq!(rt; built.err(), Some(RunFault::NoThread), "{worker:?}");
-        assert_eq!(rt; sink.taken(), b"".as_slice());
+        expect_refusal(&rt, rt.alloc(), worker)?;
     }
     let report = expect_file(
         &rt,
@@ -72,9 +83,11 @@ fn seventeen_files_are_not_read(rt: HostRuntime) -> Result<(), Fail> {
         &mut sink,
         &OpenGate,
     );
-    assert_eq!(rt; built.err(), Some(RunFault::TooManyFiles));
-    assert_eq!(rt; sink.taken(), b"".as_slice());
-    assert_eq!(rt; sources.len(), 17);
+    assert_eq!(rt;
+        (built.err(), sources.len()),
+        (Some(RunFault::TooManyFiles), 17)
+    );
+    expect_bytes(&rt, sink.taken(), b"");
     for source in &mut sources {
         assert_eq!(rt; source.read(&mut [0]), Err(SourceFault));
     }

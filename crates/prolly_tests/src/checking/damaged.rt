@@ -1,6 +1,7 @@
 //! A file of which a byte is another, or of which only a part is there.
 
-use super::{checked, file_of_three, flip, put};
+use super::{checked, expect_fault, file_of_three, flip, put};
+use crate::shared::expect_length;
 use prolly_check::CheckFault;
 use prolly_entry::Version;
 use std::test::Fail;
@@ -47,10 +48,9 @@ fn refuses_each_flipped_bit(rt: HostRuntime) -> Result<(), Fail> {
 #[test]
 fn refuses_each_part_that_ends_early(rt: HostRuntime) -> Result<(), Fail> {
     let file = file_of_three(rt.alloc(), Version::One)?;
-    assert_eq!(rt; file.len(), 234);
+    expect_length(&rt, &file, 234);
     for len in 0..file.len() {
-        let fault = checked(rt.alloc(), &file[..len]).err();
-        assert_eq!(rt; fault, Some(CheckFault::Truncated), "{len} bytes");
+        expect_fault(&rt, rt.alloc(), &file[..len], CheckFault::Truncated);
     }
     Ok(())
 }
@@ -60,12 +60,9 @@ fn refuses_another_end(rt: HostRuntime) -> Result<(), Fail> {
     let mut file = file_of_three(rt.alloc(), Version::One)?;
     // One chunk more than there are.
     put(&mut file, 233, 7);
-    assert_eq!(rt; checked(rt.alloc(), &file).err(), Some(CheckFault::BadEnd));
+    expect_fault(&rt, rt.alloc(), &file, CheckFault::BadEnd);
     put(&mut file, 233, 6);
     file.push(0)?;
-    assert_eq!(rt;
-        checked(rt.alloc(), &file).err(),
-        Some(CheckFault::Trailing)
-    );
+    expect_fault(&rt, rt.alloc(), &file, CheckFault::Trailing);
     Ok(())
 }

@@ -1,23 +1,51 @@
 //! Values by their keys, and ranges of pairs.
 
 use super::{checked, file_of_three};
+use crate::shared::expect_bytes;
+use prolly_check::Tree;
 use prolly_entry::Version;
+use std::alloc::Global;
+use std::process::Abort;
 use std::test::Fail;
+
+/// Fails unless these keys have these values in the map of a=1, b=1 and c=1.
+fn expect_values(rt: &impl Abort, tree: &Tree) {
+    for (key, value) in [
+        (b"a".as_slice(), Some(b"1".as_slice())),
+        (b"c".as_slice(), Some(b"1".as_slice())),
+        (b"".as_slice(), None),
+        (b"b\0".as_slice(), None),
+        (b"z".as_slice(), None),
+    ] {
+        assert_eq!(rt; tree.get(key), value);
+    }
+}
 
 #[test]
 fn finds_values(rt: HostRuntime) -> Result<(), Fail> {
     for version in [Version::One, Version::Two] {
         let tree = checked(rt.alloc(), &file_of_three(rt.alloc(), version)?)?;
-        for (key, value) in [
-            (b"a".as_slice(), Some(b"1".as_slice())),
-            (b"c".as_slice(), Some(b"1".as_slice())),
-            (b"".as_slice(), None),
-            (b"b\0".as_slice(), None),
-            (b"z".as_slice(), None),
-        ] {
-            assert_eq!(rt; tree.get(key), value);
-        }
+        expect_values(&rt, &tree);
     }
+    Ok(())
+}
+
+/// Fails unless a scan gives these keys, of one byte each, with the value 1.
+fn expect_scan(
+    rt: &impl Abort,
+    alloc: Global,
+    tree: &Tree,
+    from: &[u8],
+    limit: u32,
+    keys: &[u8],
+) -> Result<(), Fail> {
+    let pairs = tree.scan(alloc, from, limit)?;
+    let mut scanned = Vec::new(alloc);
+    for pair in &pairs {
+        scanned.extend_from_slice(pair.key())?;
+        expect_bytes(rt, pair.value(), b"1");
+    }
+    expect_bytes(rt, &scanned, keys);
     Ok(())
 }
 
@@ -33,13 +61,7 @@ fn scans_from_a_key(rt: HostRuntime) -> Result<(), Fail> {
             (b"".as_slice(), 10, b"abc".as_slice()),
             (b"z".as_slice(), 10, b"".as_slice()),
         ] {
-            let pairs = tree.scan(rt.alloc(), from, limit)?;
-            let mut scanned = Vec::new(rt.alloc());
-            for pair in &pairs {
-                scanned.extend_from_slice(pair.key())?;
-                assert_eq!(rt; pair.value(), b"1".as_slice());
-            }
-            assert_eq!(rt; scanned.as_slice(), keys);
+            expect_scan(&rt, rt.alloc(), &tree, from, limit, keys)?;
         }
     }
     Ok(())

@@ -1,14 +1,26 @@
 //! Pairs by their numbers, and the counts that lead to them.
 
-use super::{checked, file_of_three, put};
-use prolly_check::{CheckFault, NoCounts};
+use super::{checked, expect_fault, file_of_three, put};
+use crate::shared::expect_length;
+use prolly_check::{CheckFault, NoCounts, Tree};
 use prolly_entry::Version;
+use std::process::Abort;
 use std::test::Fail;
+
+/// Fails unless this is the pair of a number.
+fn expect_nth(
+    rt: &impl Abort,
+    tree: &Tree,
+    n: u64,
+    pair: Result<Option<(&[u8], &[u8])>, NoCounts>,
+) {
+    assert_eq!(rt; tree.nth(n), pair, "of number {n}");
+}
 
 #[test]
 fn finds_pairs_by_number(rt: HostRuntime) -> Result<(), Fail> {
     let file = file_of_three(rt.alloc(), Version::Two)?;
-    assert_eq!(rt; file.len(), 274);
+    expect_length(&rt, &file, 274);
     let tree = checked(rt.alloc(), &file)?;
     for (n, pair) in [
         (0, Some((b"a".as_slice(), b"1".as_slice()))),
@@ -17,7 +29,7 @@ fn finds_pairs_by_number(rt: HostRuntime) -> Result<(), Fail> {
         (3, None),
         (u64::MAX, None),
     ] {
-        assert_eq!(rt; tree.nth(n), Ok(pair));
+        expect_nth(&rt, &tree, n, Ok(pair));
     }
     Ok(())
 }
@@ -26,7 +38,7 @@ fn finds_pairs_by_number(rt: HostRuntime) -> Result<(), Fail> {
 fn tells_that_there_are_no_counts(rt: HostRuntime) -> Result<(), Fail> {
     let tree = checked(rt.alloc(), &file_of_three(rt.alloc(), Version::One)?)?;
     for n in [0, 3] {
-        assert_eq!(rt; tree.nth(n), Err(NoCounts));
+        expect_nth(&rt, &tree, n, Err(NoCounts));
     }
     Ok(())
 }
@@ -37,8 +49,12 @@ fn refuses_another_count(rt: HostRuntime) -> Result<(), Fail> {
     // The last byte of the first count in the root: two pairs are below its first child.
     assert_eq!(rt; file.get(213), Some(&2));
     put(&mut file, 213, 3);
-    let fault = checked(rt.alloc(), &file).err();
-    assert_eq!(rt; fault, Some(CheckFault::NotCanonical { chunk: 5 }));
+    expect_fault(
+        &rt,
+        rt.alloc(),
+        &file,
+        CheckFault::NotCanonical { chunk: 5 },
+    );
     Ok(())
 }
 
@@ -46,7 +62,6 @@ fn refuses_another_count(rt: HostRuntime) -> Result<(), Fail> {
 fn refuses_the_other_version(rt: HostRuntime) -> Result<(), Fail> {
     let mut file = file_of_three(rt.alloc(), Version::One)?;
     put(&mut file, 4, 2);
-    let fault = checked(rt.alloc(), &file).err();
-    assert_eq!(rt; fault, Some(CheckFault::BadChunk { chunk: 2 }));
+    expect_fault(&rt, rt.alloc(), &file, CheckFault::BadChunk { chunk: 2 });
     Ok(())
 }

@@ -1,6 +1,6 @@
 //! Bytes that end in the header or in the first frame.
 
-use super::checked;
+use super::expect_fault;
 use prolly_check::CheckFault;
 
 #[test]
@@ -20,6 +20,6 @@ fn names_the_fault_of_short_bytes(rt: HostRuntime) {
             CheckFault::NotCanonical { chunk: 0 },
         ),
     ] {
-        assert_eq!(rt; checked(rt.alloc(), bytes).err(), Some(fault));
+        expect_fault(&rt, rt.alloc(), bytes, fault);
     }
 }

@@ -53,8 +53,7 @@ fn boundaries_are_multiples(rt: HostRuntime) -> Result<(), Fail> {
         (b"".as_slice(), 3, false),
     ] {
         let cut = Sha512Cut::new(bits).ok_or("bits")?;
-        assert_eq!(rt; cut.is_boundary(entry), boundary, "at {bits} bits");
-        assert_eq!(rt; cut.bits(), bits);
+        assert_eq!(rt; (cut.bits(), cut.is_boundary(entry)), (bits, boundary));
     }
     assert_eq!(rt; Sha512Cut::new(25), None);
     Ok(())

@@ -1,3 +1,4 @@
+use crate::shared::expect_bytes;
 use prolly_entry::{Pair, VALUE_LIMIT};
 use std::test::Fail;
 
@@ -7,8 +8,8 @@ fn copies_are_whole_whether_short_or_long(rt: HostRuntime) -> Result<(), Fail> {
     for length in [0, 19, 20, 21, VALUE_LIMIT] {
         let value = vec![in rt.alloc(); 0x76; length]?;
         let copy = Pair::copy_of(rt.alloc(), &key, &value)?;
-        assert_eq!(rt; copy.key(), key.as_slice());
-        assert_eq!(rt; copy.value(), value.as_slice());
+        expect_bytes(&rt, copy.key(), &key);
+        expect_bytes(&rt, copy.value(), &value);
     }
     Ok(())
 }

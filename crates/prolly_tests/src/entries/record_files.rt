@@ -1,24 +1,33 @@
+use crate::shared::expect_bytes;
 use prolly_entry::{RecordFault, records};
+use std::alloc::Global;
+use std::process::Abort;
 use std::test::Fail;
+
+/// Fails unless the file puts these keys, each with the value 1.
+fn expect_pairs(
+    rt: &impl Abort,
+    alloc: Global,
+    file: &[u8],
+    limit: u32,
+    keys: &[&[u8]],
+) -> Result<(), Fail> {
+    let pairs = records(alloc, file, limit).ok().ok_or("a fault")?;
+    assert_eq!(rt; pairs.len(), keys.len());
+    for (pair, key) in pairs.iter().zip(keys) {
+        expect_bytes(rt, pair.key(), key);
+        expect_bytes(rt, pair.value(), b"1");
+    }
+    Ok(())
+}
 
 #[test]
 fn reads_the_pairs_that_are_put(rt: HostRuntime) -> Result<(), Fail> {
     let three = b"\0\x01a\0\0\0\x011\0\x01b\0\0\0\x011\0\x01c\0\0\0\x011";
-    let pairs = records(rt.alloc(), three, 3).ok().ok_or("a fault")?;
-    assert_eq!(rt; pairs.len(), 3);
-    for (pair, key) in pairs.iter().zip([b"a", b"b", b"c"]) {
-        assert_eq!(rt; pair.key(), key.as_slice());
-        assert_eq!(rt; pair.value(), b"1".as_slice());
-    }
+    expect_pairs(&rt, rt.alloc(), three, 3, &[b"a", b"b", b"c"])?;
     let removed = b"\0\x01a\xFF\xFF\xFF\xFF\0\x01b\0\0\0\x011";
-    let pairs = records(rt.alloc(), removed, 2).ok().ok_or("a fault")?;
-    assert_eq!(rt; pairs.len(), 1);
-    assert_eq!(rt; pairs[0].key(), b"b".as_slice());
-    assert_eq!(rt;
-        records(rt.alloc(), b"", 1).ok().map(|pairs| pairs.len()),
-        Some(0)
-    );
-    Ok(())
+    expect_pairs(&rt, rt.alloc(), removed, 2, &[b"b"])?;
+    expect_pairs(&rt, rt.alloc(), b"", 1, &[])
 }
 
 #[test]

@@ -10,23 +10,24 @@ const ABC_TEXT: [u8; 32] = *b"rmnjb8cjc5tblj21ed4qs821649eduie";
 
 #[test]
 fn references_have_their_text(rt: HostRuntime) {
-    let abc = Ref::of(b"abc");
-    assert_eq!(rt; abc, Ref(ABC));
-    assert_eq!(rt; abc.to_text(), ABC_TEXT);
-    assert_eq!(rt;
-        Ref::of(b"").to_text(),
-        *b"pu1u2dbutusbrsak518dcrc00vb21p05"
-    );
-    assert_eq!(rt;
-        Ref::of(b"\0").to_text(),
-        *b"n0i4q0k9g7b97brr8llfhrt4pbb3qa1e"
-    );
+    assert_eq!(rt; Ref::of(b"abc"), Ref(ABC));
+    for (message, text) in [
+        (b"abc".as_slice(), ABC_TEXT),
+        (b"", *b"pu1u2dbutusbrsak518dcrc00vb21p05"),
+        (b"\0", *b"n0i4q0k9g7b97brr8llfhrt4pbb3qa1e"),
+    ] {
+        assert_eq!(rt; Ref::of(message).to_text(), text);
+    }
 }
 
 #[test]
 fn only_the_text_of_a_reference_is_read(rt: HostRuntime) {
-    assert_eq!(rt; Ref::from_text(&ABC_TEXT), Some(Ref(ABC)));
-    assert_eq!(rt; Ref::from_text(&ABC_TEXT[..31]), None);
-    assert_eq!(rt; Ref::from_text(b"wmnjb8cjc5tblj21ed4qs821649eduie"), None);
-    assert_eq!(rt; Ref::from_text(b"Rmnjb8cjc5tblj21ed4qs821649eduie"), None);
+    for (text, reference) in [
+        (ABC_TEXT.as_slice(), Some(Ref(ABC))),
+        (&ABC_TEXT[..31], None),
+        (b"wmnjb8cjc5tblj21ed4qs821649eduie", None),
+        (b"Rmnjb8cjc5tblj21ed4qs821649eduie", None),
+    ] {
+        assert_eq!(rt; Ref::from_text(text), reference);
+    }
 }

@@ -1,3 +1,4 @@
+use crate::shared::{expect_bytes, expect_length};
 use prolly_entry::{
     Pair, Record, Ref, Version, append_child, append_child_as, append_pair, append_record,
 };
@@ -12,20 +13,22 @@ const REFERENCE: Ref = Ref([
 fn appends_a_pair(rt: HostRuntime) -> Result<(), Fail> {
     let mut out = [0].to_vec(rt.alloc())?;
     append_pair(&mut out, &Pair::copy_of(rt.alloc(), b"a", b"1")?)?;
-    assert_eq!(rt; out.as_slice(), b"\0\0\x01a\0\0\0\x011".as_slice());
+    expect_bytes(&rt, &out, b"\0\0\x01a\0\0\0\x011");
     Ok(())
 }
 
 #[test]
 fn appends_records(rt: HostRuntime) -> Result<(), Fail> {
+    let removal = Record::removal_of(rt.alloc(), b"a")?;
+    let put = Record::put(Pair::copy_of(rt.alloc(), b"", b"")?);
     let mut out = Vec::new(rt.alloc());
-    append_record(&mut out, &Record::removal_of(rt.alloc(), b"a")?)?;
-    assert_eq!(rt; out.as_slice(), b"\0\x01a\xFF\xFF\xFF\xFF".as_slice());
-    append_record(&mut out, &Record::put(Pair::copy_of(rt.alloc(), b"", b"")?))?;
-    assert_eq!(rt;
-        out.as_slice(),
-        b"\0\x01a\xFF\xFF\xFF\xFF\0\0\0\0\0\0".as_slice()
-    );
+    for (record, bytes) in [
+        (&removal, b"\0\x01a\xFF\xFF\xFF\xFF".as_slice()),
+        (&put, b"\0\x01a\xFF\xFF\xFF\xFF\0\0\0\0\0\0"),
+    ] {
+        append_record(&mut out, record)?;
+        expect_bytes(&rt, &out, bytes);
+    }
     Ok(())
 }
 
@@ -33,11 +36,11 @@ fn appends_records(rt: HostRuntime) -> Result<(), Fail> {
 fn appends_child_entries(rt: HostRuntime) -> Result<(), Fail> {
     let mut out = Vec::new(rt.alloc());
     append_child(&mut out, b"a", &REFERENCE)?;
-    assert_eq!(rt; out.len(), 23);
-    assert_eq!(rt; &out[..3], b"\0\x01a".as_slice());
-    assert_eq!(rt; &out[3..], REFERENCE.0.as_slice());
+    expect_length(&rt, &out, 23);
+    expect_bytes(&rt, &out[..3], b"\0\x01a");
+    expect_bytes(&rt, &out[3..], &REFERENCE.0);
     append_child_as(&mut out, Version::Two, b"a", &REFERENCE, 1)?;
-    assert_eq!(rt; out.len(), 54);
-    assert_eq!(rt; &out[46..], b"\0\0\0\0\0\0\0\x01".as_slice());
+    expect_length(&rt, &out, 54);
+    expect_bytes(&rt, &out[46..], b"\0\0\0\0\0\0\0\x01");
     Ok(())
 }

@@ -1,6 +1,8 @@
+use crate::shared::{expect_bytes, expect_length, joined};
 use prolly_entry::Ref;
 use prolly_file::{FileWriter, ScriptSink, Sink, ToWrite, WriteFault};
 use std::alloc::{AllocError, Global};
+use std::process::Abort;
 use std::test::Fail;
 
 const FIRST_LEAF: [u8; 9] = *b"\0\0\x01a\0\0\0\x011";
@@ -8,15 +10,6 @@ const FIRST_LEAF: [u8; 9] = *b"\0\0\x01a\0\0\0\x011";
 const SECOND_LEAF: [u8; 9] = *b"\0\0\x01b\0\0\0\x011";
 
 const THIRD_LEAF: [u8; 9] = *b"\0\0\x01c\0\0\0\x011";
-
-/// Parts, one after another.
-fn joined(alloc: Global, parts: &[&[u8]]) -> Result<Vec<u8>, AllocError> {
-    let mut all = Vec::new(alloc);
-    for part in parts {
-        all.extend_from_slice(part)?;
-    }
-    Ok(all)
-}
 
 /// The chunks of the file of the keys a, b and c, and the bytes of that file, which are 234.
 #[derive(Drop)]
@@ -87,19 +80,31 @@ fn write<W: Sink>(sample: &Sample, sink: &mut W) -> Result<u64, WriteFault> {
     writer.end(sink, &Ref::of(&sample.root))
 }
 
+/// Fails unless writing the sample answers this, and the sink has then taken these bytes.
+fn expect_written(
+    rt: &impl Abort,
+    sample: &Sample,
+    sink: ScriptSink,
+    answer: Result<u64, WriteFault>,
+    taken: &[u8],
+) {
+    let mut sink = sink;
+    assert_eq!(rt; write(sample, &mut sink), answer);
+    expect_bytes(rt, sink.taken(), taken);
+}
+
 #[test]
 fn writes_a_file(rt: HostRuntime) -> Result<(), Fail> {
     let alloc = rt.alloc();
     let sample = make_sample(alloc)?;
-    assert_eq!(rt; sample.file.len(), 234);
+    expect_length(&rt, &sample.file, 234);
 
-    let mut sink = ScriptSink::new(alloc, 1, None);
-    assert_eq!(rt; write(&sample, &mut sink), Ok(6));
-    assert_eq!(rt; sink.taken(), sample.file.as_slice());
+    let sink = ScriptSink::new(alloc, 1, None);
+    expect_written(&rt, &sample, sink, Ok(6), &sample.file);
 
     let mut out = Vec::new(alloc);
     assert_eq!(rt; write(&sample, &mut ToWrite::new(&mut out)), Ok(6));
-    assert_eq!(rt; out.as_slice(), sample.file.as_slice());
+    expect_bytes(&rt, &out, &sample.file);
     Ok(())
 }
 
@@ -108,17 +113,14 @@ fn stops_at_a_failed_call(rt: HostRuntime) -> Result<(), Fail> {
     let alloc = rt.alloc();
     let sample = make_sample(alloc)?;
 
-    let mut sink = ScriptSink::new(alloc, 1, Some(3));
-    assert_eq!(rt; write(&sample, &mut sink), Err(WriteFault));
-    assert_eq!(rt; sink.taken(), b"PR".as_slice());
-
     // Each write takes a byte, so the call after 234 is the flush.
-    let mut sink = ScriptSink::new(alloc, 1, Some(235));
-    assert_eq!(rt; write(&sample, &mut sink), Err(WriteFault));
-    assert_eq!(rt; sink.taken(), sample.file.as_slice());
-
-    let mut sink = ScriptSink::new(alloc, 0, None);
-    assert_eq!(rt; write(&sample, &mut sink), Err(WriteFault));
-    assert!(rt; sink.taken().is_empty());
+    for (step, fail_at, taken) in [
+        (1, Some(3), b"PR".as_slice()),
+        (1, Some(235), &sample.file),
+        (0, None, b""),
+    ] {
+        let sink = ScriptSink::new(alloc, step, fail_at);
+        expect_written(&rt, &sample, sink, Err(WriteFault), taken);
+    }
     Ok(())
 }

@@ -1,4 +1,5 @@
-use prolly_entry::{Cut, KeyCut, Pair, Ref, Sha512Cut, Version};
+use crate::shared::{chunk_file, expect_bytes, expect_length, pairs_of};
+use prolly_entry::{Cut, KeyCut, Ref, Sha512Cut, Version};
 use prolly_file::{ScratchFault, scratch, scratch_as};
 use std::alloc::Global;
 use std::process::Abort;
@@ -18,18 +19,6 @@ const SECOND: &[u8] = b"\0\0\x01c\0\0\0\x011\0\x02d!\0\0\0\x011";
 
 const THIRD: &[u8] = b"\0\0\x01e\0\0\0\x011";
 
-/// Pairs of these keys, each with the value `1`.
-fn pairs_of(alloc: Global, keys: &[&[u8]]) -> Result<Vec<Pair>, Fail> {
-    let mut pairs = Vec::new(alloc);
-    for key in keys {
-        let pair = Pair::new(Vec::from_slice(alloc, key)?, Vec::from_slice(alloc, b"1")?)?;
-        if pairs.push(pair).is_err() {
-            return Err(Fail::from("memory"));
-        }
-    }
-    Ok(pairs)
-}
-
 /// A node of children of which each has a key, bytes and, in version Two, a count.
 fn node_of(
     alloc: Global,
@@ -48,22 +37,6 @@ fn node_of(
         }
     }
     Ok(node)
-}
-
-/// The file of these chunks, the last one the root. Its head is the version and the bits.
-fn file_of(alloc: Global, head: [u8; 2], chunks: &[&[u8]]) -> Result<Vec<u8>, Fail> {
-    let mut file = b"PRLY".to_vec(alloc)?;
-    file.extend_from_slice(&head)?;
-    let mut root = Ref([0; 20]);
-    for chunk in chunks {
-        file.extend_from_slice(&[b'C', 0, 0, 0, 0, 0, 0, 0, u8::try_from(chunk.len())?])?;
-        file.extend_from_slice(chunk)?;
-        root = Ref::of(chunk);
-    }
-    file.push(b'E')?;
-    file.extend_from_slice(&root.0)?;
-    file.extend_from_slice(&[0, 0, 0, 0, 0, 0, 0, u8::try_from(chunks.len())?])?;
-    Ok(file)
 }
 
 /// The file that is made of these keys.
@@ -86,8 +59,8 @@ fn expect(
     head: [u8; 2],
     chunks: &[&[u8]],
 ) -> Result<(), Fail> {
-    assert_eq!(rt; made.len(), length);
-    assert_eq!(rt; made, file_of(alloc, head, chunks)?);
+    expect_length(rt, &made, length);
+    expect_bytes(rt, &made, &chunk_file(alloc, head, chunks)?);
     Ok(())
 }
 
@@ -97,12 +70,12 @@ fn the_empty_map_is_one_leaf(rt: HostRuntime) -> Result<(), Fail> {
     let mut out = Vec::new(rt.alloc());
     let root = scratch(rt.alloc(), cut, &[], 12, &mut out)?;
     assert_eq!(rt; root.to_text(), *b"n0i4q0k9g7b97brr8llfhrt4pbb3qa1e");
-    assert_eq!(rt;
-        out.as_slice(),
+    expect_bytes(
+        &rt,
+        &out,
         b"PRLY\x01\0C\0\0\0\0\0\0\0\x01\0\
         E\xb8\x24\x4d\x02\x89\x81\xd6\x93\xaf\x7b\x45\x6a\xf8\xef\xa4\xca\xd6\x3d\x28\x2e\
-        \0\0\0\0\0\0\0\x01"
-            .as_slice()
+        \0\0\0\0\0\0\0\x01",
     );
     Ok(())
 }
@@ -178,7 +151,7 @@ fn refused(
         scratch(alloc, cut, &pairs, max_levels, &mut out),
         Err(fault)
     );
-    assert_eq!(rt; out.as_slice(), b"kept".as_slice());
+    expect_bytes(rt, &out, b"kept");
     Ok(())
 }
 

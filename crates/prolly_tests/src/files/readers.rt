@@ -1,4 +1,6 @@
-use prolly_file::{FromRead, Source, SourceFault};
+use super::reads;
+use crate::shared::expect_bytes;
+use prolly_file::{FromRead, SourceFault};
 use std::io;
 use std::io::{ErrorKind, Read};
 
@@ -31,22 +33,19 @@ impl Read for Stutters {
 fn reads_memory(rt: HostRuntime) {
     let mut source = FromRead::new(b"abc".as_slice());
     let mut buf = [0; 2];
-    assert_eq!(rt; source.read(&mut buf), Ok(2));
-    assert_eq!(rt; buf, *b"ab");
-    assert_eq!(rt; source.read(&mut buf), Ok(1));
-    assert_eq!(rt; buf[0], b'c');
-    assert_eq!(rt; source.read(&mut buf), Ok(0));
+    reads(&rt, &mut source, &mut buf, &[Ok(2)]);
+    expect_bytes(&rt, &buf, b"ab");
+    reads(&rt, &mut source, &mut buf, &[Ok(1)]);
+    expect_bytes(&rt, &buf[..1], b"c");
+    reads(&rt, &mut source, &mut buf, &[Ok(0)]);
 }
 
 #[test]
 fn errors_are_faults_and_the_end_is_for_good(rt: HostRuntime) {
     let mut source = FromRead::new(Stutters { reads: 0 });
     let mut buf = [0; 2];
-    assert_eq!(rt; source.read(&mut buf), Ok(1));
-    assert_eq!(rt; source.read(&mut buf), Err(SourceFault));
-    assert_eq!(rt; source.read(&mut buf), Err(SourceFault));
-    assert_eq!(rt; source.read(&mut buf), Ok(1));
-    assert_eq!(rt; buf[0], 4);
-    assert_eq!(rt; source.read(&mut buf), Ok(0));
-    assert_eq!(rt; source.read(&mut buf), Ok(0));
+    let answers = [Ok(1), Err(SourceFault), Err(SourceFault), Ok(1)];
+    reads(&rt, &mut source, &mut buf, &answers);
+    expect_bytes(&rt, &buf[..1], &[4]);
+    reads(&rt, &mut source, &mut buf, &[Ok(0), Ok(0)]);
 }

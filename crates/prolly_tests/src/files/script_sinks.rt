@@ -1,15 +1,15 @@
-use prolly_file::{ScriptSink, Sink, SinkFault};
+use super::{flushes, writes};
+use crate::shared::expect_bytes;
+use prolly_file::{ScriptSink, SinkFault};
 
 #[test]
 fn takes_steps_and_fails_once(rt: HostRuntime) {
     let mut sink = ScriptSink::new(rt.alloc(), 2, Some(3));
-    assert_eq!(rt; sink.write(b"abc"), Ok(2));
-    assert_eq!(rt; sink.flush(), Ok(()));
-    assert_eq!(rt; sink.write(b"c"), Err(SinkFault));
-    assert_eq!(rt; sink.write(b"c"), Ok(1));
-    assert_eq!(rt; sink.taken(), b"abc".as_slice());
+    writes(&rt, &mut sink, b"abc", &[Ok(2)]);
+    flushes(&rt, &mut sink, &[Ok(())]);
+    writes(&rt, &mut sink, b"c", &[Err(SinkFault), Ok(1)]);
+    expect_bytes(&rt, sink.taken(), b"abc");
 
     let mut sink = ScriptSink::new(rt.alloc(), 2, Some(1));
-    assert_eq!(rt; sink.flush(), Err(SinkFault));
-    assert_eq!(rt; sink.flush(), Ok(()));
+    flushes(&rt, &mut sink, &[Err(SinkFault), Ok(())]);
 }

@@ -1,27 +1,37 @@
-use prolly_file::{FromRead, ScriptSource, WholeFault, read_whole};
+use prolly_file::{FromRead, ScriptSource, Source, WholeFault, read_whole};
+use std::alloc::Global;
+use std::process::Abort;
 use std::test::Fail;
+
+/// Fails unless this is what comes of a source that is read to this limit.
+fn expect_whole<S: Source>(
+    rt: &impl Abort,
+    alloc: Global,
+    source: &mut S,
+    limit: u32,
+    whole: Result<&[u8], &WholeFault>,
+) {
+    assert_eq!(rt; read_whole(alloc, source, limit).as_deref(), whole);
+}
 
 #[test]
 fn reads_to_the_end_or_the_limit(rt: HostRuntime) -> Result<(), Fail> {
     let alloc = rt.alloc();
     let bytes = b"abc".as_slice();
-    let whole = read_whole(alloc, &mut FromRead::new(bytes), 3);
-    assert_eq!(rt; whole.as_deref(), Ok(bytes));
-    let whole = read_whole(alloc, &mut FromRead::new(bytes), 2);
-    assert_eq!(rt; whole.err(), Some(WholeFault::TooLong));
+    expect_whole(&rt, alloc, &mut FromRead::new(bytes), 3, Ok(bytes));
+    let too_long = Err(&WholeFault::TooLong);
+    expect_whole(&rt, alloc, &mut FromRead::new(bytes), 2, too_long);
     let mut steps = ScriptSource::new(bytes.to_vec(alloc)?, 2, None);
-    assert_eq!(rt; read_whole(alloc, &mut steps, 3).as_deref(), Ok(bytes));
+    expect_whole(&rt, alloc, &mut steps, 3, Ok(bytes));
     Ok(())
 }
 
 #[test]
 fn answers_the_fault_that_comes_first(rt: HostRuntime) -> Result<(), Fail> {
     let alloc = rt.alloc();
-    let mut failing = ScriptSource::new(b"abc".to_vec(alloc)?, 1, Some(3));
-    let whole = read_whole(alloc, &mut failing, 2);
-    assert_eq!(rt; whole.err(), Some(WholeFault::Read));
-    let mut failing = ScriptSource::new(b"abc".to_vec(alloc)?, 1, Some(3));
-    let whole = read_whole(alloc, &mut failing, 1);
-    assert_eq!(rt; whole.err(), Some(WholeFault::TooLong));
+    for (limit, fault) in [(2, WholeFault::Read), (1, WholeFault::TooLong)] {
+        let mut failing = ScriptSource::new(b"abc".to_vec(alloc)?, 1, Some(3));
+        expect_whole(&rt, alloc, &mut failing, limit, Err(&fault));
+    }
     Ok(())
 }

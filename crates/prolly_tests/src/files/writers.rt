@@ -1,4 +1,6 @@
-use prolly_file::{Sink, SinkFault, ToWrite};
+use super::{flushes, writes};
+use crate::shared::expect_bytes;
+use prolly_file::{SinkFault, ToWrite};
 use std::io;
 use std::io::{ErrorKind, Write};
 use std::test::Fail;
@@ -32,9 +34,9 @@ impl Write for Counts {
 fn writes_memory(rt: HostRuntime) -> Result<(), Fail> {
     let mut out = b"a".to_vec(rt.alloc())?;
     let mut sink = ToWrite::new(&mut out);
-    assert_eq!(rt; sink.write(b"bc"), Ok(2));
-    assert_eq!(rt; sink.flush(), Ok(()));
-    assert_eq!(rt; out.as_slice(), b"abc".as_slice());
+    writes(&rt, &mut sink, b"bc", &[Ok(2)]);
+    flushes(&rt, &mut sink, &[Ok(())]);
+    expect_bytes(&rt, &out, b"abc");
     Ok(())
 }
 
@@ -45,11 +47,7 @@ fn flushes_the_writer_and_errors_are_faults(rt: HostRuntime) {
         flushes: 0,
     };
     let mut sink = ToWrite::new(&mut writer);
-    assert_eq!(rt; sink.write(b"abc"), Ok(3));
-    assert_eq!(rt; sink.write(b"abc"), Err(SinkFault));
-    assert_eq!(rt; sink.write(b"abc"), Ok(3));
-    assert_eq!(rt; sink.flush(), Ok(()));
-    assert_eq!(rt; sink.flush(), Err(SinkFault));
-    assert_eq!(rt; sink.flush(), Ok(()));
+    writes(&rt, &mut sink, b"abc", &[Ok(3), Err(SinkFault), Ok(3)]);
+    flushes(&rt, &mut sink, &[Ok(()), Err(SinkFault), Ok(())]);
     assert_eq!(rt; writer.flushes, 3);
 }

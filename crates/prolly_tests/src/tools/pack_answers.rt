@@ -1,3 +1,5 @@
+use super::expect_answer;
+use crate::shared::expect_bytes;
 use prolly_file::{FromRead, ScriptSink};
 use prolly_tool::answer_pack;
 use std::test::Fail;
@@ -34,10 +36,8 @@ fn packs_or_tells_the_fault(rt: HostRuntime) -> Result<(), Fail> {
     ] {
         let mut sink = ScriptSink::new(alloc, 3, fail_at);
         let answer = answer_pack(alloc, &mut FromRead::new(text), &mut sink)?;
-        assert_eq!(rt; answer.status, status);
-        assert_eq!(rt; answer.out.as_slice(), out);
-        assert_eq!(rt; answer.err.as_slice(), err);
-        assert_eq!(rt; sink.taken(), taken);
+        expect_answer(&rt, &answer, status, out, err);
+        expect_bytes(&rt, sink.taken(), taken);
     }
     Ok(())
 }

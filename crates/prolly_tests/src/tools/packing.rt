@@ -1,3 +1,4 @@
+use crate::shared::{expect_bytes, joined};
 use prolly_tool::{PackFault, pack_lines};
 use std::alloc::Global;
 use std::test::Fail;
@@ -23,8 +24,7 @@ fn packs_lines(rt: HostRuntime) -> Result<(), Fail> {
     ] {
         let mut out = b"kept".to_vec(rt.alloc())?;
         assert_eq!(rt; pack_lines(rt.alloc(), text, &mut out), Ok(count));
-        assert_eq!(rt; &out[..4], b"kept".as_slice());
-        assert_eq!(rt; &out[4..], bytes);
+        expect_bytes(&rt, &out, &joined(rt.alloc(), &[b"kept", bytes])?);
     }
     Ok(())
 }
@@ -49,7 +49,7 @@ fn names_the_first_faulty_line(rt: HostRuntime) -> Result<(), Fail> {
             pack_lines(rt.alloc(), text, &mut out),
             Err(PackFault::BadLine { line })
         );
-        assert_eq!(rt; out.as_slice(), b"kept".as_slice());
+        expect_bytes(&rt, &out, b"kept");
     }
     Ok(())
 }

@@ -1,3 +1,5 @@
+use super::expect_answer;
+use crate::shared::expect_bytes;
 use prolly_entry::Version;
 use prolly_file::{FromRead, ScriptSink, ScriptSource};
 use prolly_tool::answer_scratch;
@@ -13,14 +15,9 @@ fn shows_the_root_and_writes_the_file(rt: HostRuntime) -> Result<(), Fail> {
     let mut source = FromRead::new(b"".as_slice());
     let mut sink = Some(ScriptSink::new(alloc, 4, None));
     let answer = answer_scratch(alloc, &mut source, 0, Version::One, &mut sink)?;
-    assert_eq!(rt; answer.status, 0);
-    assert_eq!(rt;
-        answer.out.as_slice(),
-        b"n0i4q0k9g7b97brr8llfhrt4pbb3qa1e\n".as_slice()
-    );
-    assert!(rt; answer.err.is_empty());
+    expect_answer(&rt, &answer, 0, b"n0i4q0k9g7b97brr8llfhrt4pbb3qa1e\n", b"");
     let sink = sink.ok_or("no sink")?;
-    assert_eq!(rt; sink.taken(), EMPTY_FILE);
+    expect_bytes(&rt, sink.taken(), EMPTY_FILE);
     Ok(())
 }
 
@@ -42,12 +39,10 @@ fn tells_the_fault_and_writes_nothing(rt: HostRuntime) -> Result<(), Fail> {
         ),
     ] {
         let answer = answer_scratch(alloc, &mut source, 0, Version::One, &mut sink)?;
-        assert_eq!(rt; answer.status, status);
-        assert!(rt; answer.out.is_empty());
-        assert_eq!(rt; answer.err.as_slice(), line);
+        expect_answer(&rt, &answer, status, b"", line);
     }
     let sink = sink.ok_or("no sink")?;
-    assert!(rt; sink.taken().is_empty());
+    expect_bytes(&rt, sink.taken(), b"");
     Ok(())
 }
 
@@ -57,10 +52,8 @@ fn tells_that_writing_failed(rt: HostRuntime) -> Result<(), Fail> {
     let mut source = FromRead::new(b"".as_slice());
     let mut sink = Some(ScriptSink::new(alloc, 1, Some(3)));
     let answer = answer_scratch(alloc, &mut source, 0, Version::One, &mut sink)?;
-    assert_eq!(rt; answer.status, 5);
-    assert!(rt; answer.out.is_empty());
-    assert_eq!(rt; answer.err.as_slice(), b"prolly: write failed\n".as_slice());
+    expect_answer(&rt, &answer, 5, b"", b"prolly: write failed\n");
     let sink = sink.ok_or("no sink")?;
-    assert_eq!(rt; sink.taken(), b"PR".as_slice());
+    expect_bytes(&rt, sink.taken(), b"PR");
     Ok(())
 }
