@@ -19,16 +19,10 @@ pub fn time_link<R: Print + Clock + Threads + Wait + Copy + Send + 'static>(
     alloc: Global,
     count: u32,
 ) -> Result<()> {
-    let Ok((sender, mut receiver)) = link::<u64>(alloc, CAPACITY) else {
+    let Ok((sender, receiver)) = link::<u64>(alloc, CAPACITY) else {
         bail!("out of memory");
     };
-    let start = Instant::now(&rt)?;
-    let Ok(child) = thread::spawn(&rt, move || send_all(&rt, sender, count)) else {
-        bail!("no thread");
-    };
-    let sum = receive_all(&rt, &mut receiver);
-    let _closed = child.join(&rt);
-    let nanos = start.elapsed(&rt)?.as_nanos() / u128::from(count.max(1));
+    let (nanos, sum) = time_across(rt, sender, receiver, count)?;
     println!(&rt; "link: {nanos} ns an item, {count} items, sum {sum}")?;
     Ok(())
 }
@@ -42,18 +36,33 @@ pub fn time_batches<R: Print + Clock + Threads + Wait + Copy + Send + 'static>(
 ) -> Result<()>
     requires { (1 ≤ batch) × (batch ≤ 1024) }
 {
-    let Ok((sender, mut receiver)) = batch_link::<u64>(alloc, CAPACITY, batch) else {
+    let Ok((sender, receiver)) = batch_link::<u64>(alloc, CAPACITY, batch) else {
         bail!("out of memory");
     };
+    let (nanos, sum) = time_across(rt, sender, receiver, count)?;
+    println!(&rt; "batches of {batch}: {nanos} ns an item, {count} items, sum {sum}")?;
+    Ok(())
+}
+
+/// Sends so many numbers from another thread to this one. Gives the time that one took, in nanoseconds,
+/// and the sum of all.
+fn time_across<
+    O: Out<u64> + Send + Drop + 'static,
+    I: In<u64> + Drop,
+    R: Clock + Threads + Wait + Copy + Send + 'static,
+>(rt: R, sender: O, receiver: I, count: u32) -> Result<(u128, u64)>
+where
+    O::Closed: Send + Drop + 'static,
+{
     let start = Instant::now(&rt)?;
     let Ok(child) = thread::spawn(&rt, move || send_all(&rt, sender, count)) else {
         bail!("no thread");
     };
+    let mut receiver = receiver;
     let sum = receive_all(&rt, &mut receiver);
     let _closed = child.join(&rt);
     let nanos = start.elapsed(&rt)?.as_nanos() / u128::from(count.max(1));
-    println!(&rt; "batches of {batch}: {nanos} ns an item, {count} items, sum {sum}")?;
-    Ok(())
+    Ok((nanos, sum))
 }
 
 fn send_all<O: Out<u64>, R: Wait>(rt: &R, mut out: O, count: u32) -> O::Closed {
