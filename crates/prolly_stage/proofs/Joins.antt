@@ -1,17 +1,21 @@
 -- Workers that stand one behind another.
-use Rattle.std.proofs.Common.{◌≡◌, ℕ, zero, suc, List, [], ◌∙◌, ap, subst, inl, inr}
+use Rattle.std.proofs.Common.{◌≡◌, ℕ, zero, suc, List, [], ◌∷◌, ◌++◌, ◌∙◌, ap, subst, inl, inr}
+use Rattle.std.specs.Option.{option_to_list}
 use Rattle.prolly_entry.specs.declared.version.Version.{Version}
 use Rattle.prolly_entry.specs.Prefix.{IsPrefix}
+use Rattle.prolly_entry.specs.Chunk.{Chunk}
 use Rattle.prolly_entry.specs.Cut.{Cut}
 use Rattle.prolly_entry.specs.Events.{Closing, faulty, leaf_events, inner_events}
 use Rattle.prolly_entry.specs.Pipeline.{pipeline_events}
 use Rattle.prolly_link.specs.declared.fault.End.{End}
 use Rattle.prolly_link.specs.declared.fault.End.TheVariants.{Fault}
 use Rattle.prolly_link.specs.declared.fault.RunFault.TheVariants.{Memory}
-use Rattle.prolly_stage.specs.Sends.{closing_of, Sends}
+use Rattle.prolly_chunk.specs.NodeLevel.{NodeState, node_level}
+use Rattle.prolly_stage.specs.Sends.{closing_of, Sends, GivesUp}
+use Rattle.prolly_stage.specs.Taking.{SendsNodeInPart}
 use Rattle.prolly_stage.specs.Workers.{KeepsPrefixes, behind, WorkersJoin, StageFollows}
 use Rattle.prolly_entry.proofs.Prefixes.{fault_is_prefix}
-use Rattle.prolly_stage.proofs.Steps.{prefix_trans}
+use Rattle.prolly_stage.proofs.Steps.{prefix_trans, gives_up_before, gives_up_within}
 
 module _ {A B C : Type 0} (first : Closing → List A → List B) (second : Closing → List B → List C) where
   -- A stage behind another keeps prefixes where both do.
@@ -58,3 +62,18 @@ module _ (cut : Cut) (version : Version) where
 
   pub stage_follows : (n : ℕ) → StageFollows cut version n
   stage_follows n = join_workers (pipeline_events n cut version) (inner_events (suc n) cut version) (nodes_keep (suc n))
+
+-- A stage of nodes gives up while it takes an event.
+pub gives_up_in_part : {C : Type 0} (cut_of : C → Cut) (cut : C) (version : Version) (level : ℕ) (received all : List Chunk) (old new : NodeState C)
+    (event : Chunk) (before sent sent' : List Chunk) →
+    all ≡ received ++ event ∷ [] → old ≡ node_level cut_of cut version level received →
+    sent ≡ before ++ inner_events level (cut_of cut) version faulty received →
+    SendsNodeInPart cut_of old new event sent sent' → GivesUp (inner_events level (cut_of cut) version) all before sent'
+gives_up_in_part cut_of cut version level received all old new event before sent sent' e s f part =
+    let stage = inner_events level (cut_of cut) version in
+    let law = nodes_keep (cut_of cut) version level in
+    elim part [
+      | inl h ↦ gives_up_before stage law received (event ∷ []) all before sent sent' e f h
+      | inr h ↦ gives_up_within stage law received all (event ∷ []) (option_to_list h.0) before sent sent'
+          (ap (stage faulty) e ∙ h.1.events cut version level received s) f h.2
+    ]

@@ -1,3 +1,4 @@
 pub mod Gated
 pub mod Sends
+pub mod Taking
 pub mod Workers

@@ -1,9 +1,10 @@
 //! The stages of the levels of nodes.
-ghost use Rattle.std.specs.Prelude.{◌≡◌, ◌≤◌, ◌++◌, IfOk, OnErr};
+ghost use Rattle.std.specs.Prelude.{◌≡◌, ◌≤◌, ◌++◌, IfOk, OnOk, OnErr};
 ghost use Rattle.prolly_entry.specs.declared.version.Version.TheVariants.{One};
 ghost use Rattle.prolly_entry.specs.Events.{inner_events};
 ghost use Rattle.prolly_link.specs.Receipts.{HasEnded, end_given};
 ghost use Rattle.prolly_stage.specs.Sends.{closing_of, Sends, GivesUp};
+ghost use Rattle.prolly_stage.specs.Taking.{SendsNode, SendsNodeInPart};
 
 use crate::sending::{send_closed, send_event};
 use crate::staged::{Staged, give_up};
@@ -95,12 +96,7 @@ fn send_nodes<C: Cut, I: In<ChunkEvent>, O: Out<ChunkEvent>, R: Wait>(
     let mut nodes = NodeLevel::new(alloc, version, level, cut)?;
     for _ in rt.forever() {
         match input.recv(rt) {
-            Next::Item(event) => {
-                let event = event.with_reference();
-                let closed = nodes.push(alloc, &event)?;
-                send_event(rt, out, event)?;
-                send_closed(rt, out, closed)?;
-            }
+            Next::Item(event) => take_event(rt, alloc, &mut nodes, out, event)?,
             Next::End(End::Clean) => {
                 send_closed(rt, out, nodes.finish())?;
                 return Ok(End::Clean);
@@ -110,4 +106,22 @@ fn send_nodes<C: Cut, I: In<ChunkEvent>, O: Out<ChunkEvent>, R: Wait>(
         }
     }
     unreachable!()
+}
+
+/// Takes an event, and sends it, with its reference, and then the node that it closes, if any.
+fn take_event<C: Cut, O: Out<ChunkEvent>, R: Wait>(
+    rt: &R,
+    alloc: Global,
+    nodes: &mut NodeLevel<C>,
+    out: &mut O,
+    event: ChunkEvent,
+) -> Result<(), AllocError>
+    ensures link { O.link out.new ≡ O.link out.old }
+    ensures ok { OnOk result (SendsNode C.cut nodes.old nodes.new event (O.sent out.old) (O.sent out.new)) }
+    ensures err { OnErr result (SendsNodeInPart C.cut nodes.old nodes.new event (O.sent out.old) (O.sent out.new)) }
+{
+    let event = event.with_reference();
+    let closed = nodes.push(alloc, &event)?;
+    send_event(rt, out, event)?;
+    send_closed(rt, out, closed)
 }

@@ -1,9 +1,10 @@
 //! The stage of the leaves.
-ghost use Rattle.std.specs.Prelude.{◌≡◌, ◌++◌, IfOk, OnErr};
+ghost use Rattle.std.specs.Prelude.{◌≡◌, ◌++◌, IfOk, OnOk, OnErr};
 ghost use Rattle.prolly_entry.specs.declared.version.Version.{Version as VersionValue};
 ghost use Rattle.prolly_entry.specs.Events.{leaf_events};
 ghost use Rattle.prolly_link.specs.Receipts.{HasEnded, end_given};
 ghost use Rattle.prolly_stage.specs.Sends.{closing_of, Sends, GivesUp};
+ghost use Rattle.prolly_stage.specs.Taking.{SendsLeaf};
 
 use crate::sending::send_closed;
 use crate::staged::{Staged, give_up};
@@ -67,10 +68,7 @@ fn send_leaves<C: Cut, I: In<Pair>, O: Out<ChunkEvent>, R: Wait>(
     let mut leaves = LeafLevel::new(alloc, cut)?;
     for _ in rt.forever() {
         match input.recv(rt) {
-            Next::Item(pair) => {
-                let closed = leaves.push(alloc, &pair)?;
-                send_closed(rt, out, closed)?;
-            }
+            Next::Item(pair) => take_pair(rt, alloc, &mut leaves, out, &pair)?,
             Next::End(End::Clean) => {
                 send_closed(rt, out, leaves.finish())?;
                 return Ok(End::Clean);
@@ -80,4 +78,20 @@ fn send_leaves<C: Cut, I: In<Pair>, O: Out<ChunkEvent>, R: Wait>(
         }
     }
     unreachable!()
+}
+
+/// Takes a pair, and sends the leaf that it closes, if any. An `Err` has sent nothing.
+fn take_pair<C: Cut, O: Out<ChunkEvent>, R: Wait>(
+    rt: &R,
+    alloc: Global,
+    leaves: &mut LeafLevel<C>,
+    out: &mut O,
+    pair: &Pair,
+) -> Result<(), AllocError>
+    ensures link { O.link out.new ≡ O.link out.old }
+    ensures ok { OnOk result (SendsLeaf C.cut leaves.old leaves.new pair.now (O.sent out.old) (O.sent out.new)) }
+    ensures err { OnErr result (O.sent out.new ≡ O.sent out.old) }
+{
+    let closed = leaves.push(alloc, pair)?;
+    send_closed(rt, out, closed)
 }

@@ -1,10 +1,9 @@
 use Rattle.std.proofs.Common.{◌≡◌, ◌++◌, ◌∷◌, [], rules, ap, sym, ◌∙◌, refl}
-use Rattle.std.specs.Option.{option_to_list}
 use Rattle.prolly_entry.specs.Events.{inner_events, faulty, clean}
 use Rattle.prolly_chunk.specs.NodeLevel.{node_level}
 use Rattle.prolly_stage.specs.Sends.{GivesUp}
-use Rattle.prolly_stage.proofs.Joins.{nodes_keep}
-use Rattle.prolly_stage.proofs.Steps.{on_err, not_ok, ended_by, nothing_came, sent_both, sends_rest, gives_up_at_once, gives_up_before, gives_up_within}
+use Rattle.prolly_stage.proofs.Joins.{nodes_keep, gives_up_in_part}
+use Rattle.prolly_stage.proofs.Steps.{on_err, not_ok, ended_by, nothing_came, sends_rest, gives_up_at_once, gives_up_before}
 use Rattle.prolly_stage.proofs.inner.send_nodes.Goals as goal
 
 pub returns-in_err-nodes : goal.returns-in_err-nodes
@@ -21,56 +20,20 @@ returns-in_err-nodes g c =
       err = on_err _ gives_up;
     }
 
-pub returns-in_err-closed-in-Item : goal.returns-in_err-closed-in-Item
-returns-in_err-closed-in-Item g c =
-    let stage = inner_events c.args.level (g.C.Cut.cut c.args.cut) c.args.version in
-    let both = g.met.I.In.received_both c.args.input.now c.loop.input c.recv.new.self c.loop.invariant.follows c.in-Item.ensures.follows in
-    let gives_up : GivesUp stage (g.I.In.received c.args.input.now c.recv.new.self) (g.O.Out.sent c.args.out.now) (g.O.Out.sent c.loop.out) =
-    gives_up_before stage (nodes_keep (g.C.Cut.cut c.args.cut) c.args.version c.args.level) _ _ _ _ _ _ both c.loop.invariant.sent refl in
-    record {
-      input_link = c.in-Item.ensures.link ∙ c.loop.invariant.input_link;
-      follows = g.met.I.In.goes_on c.args.input.now c.loop.input c.recv.new.self c.loop.invariant.follows c.in-Item.ensures.follows;
-      out_link = c.loop.invariant.out_link;
-      ended = not_ok _ _ c.from_residual-in_err-closed-in-Item.ensures.0;
-      sent = not_ok _ _ c.from_residual-in_err-closed-in-Item.ensures.0;
-      err = on_err _ gives_up;
-    }
-
-pub returns-in_err-send_event-in-Item : goal.returns-in_err-send_event-in-Item
-returns-in_err-send_event-in-Item g c =
-    let stage = inner_events c.args.level (g.C.Cut.cut c.args.cut) c.args.version in
-    let both = g.met.I.In.received_both c.args.input.now c.loop.input c.recv.new.self c.loop.invariant.follows c.in-Item.ensures.follows in
-    let gives_up : GivesUp stage (g.I.In.received c.args.input.now c.recv.new.self) (g.O.Out.sent c.args.out.now) (g.O.Out.sent c.send_event.new.out) =
-    gives_up_before stage (nodes_keep (g.C.Cut.cut c.args.cut) c.args.version c.args.level) _ _ _ _ _ _
-    both c.loop.invariant.sent c.in_err-send_event-in-Item.ensures.err in
-    record {
-      input_link = c.in-Item.ensures.link ∙ c.loop.invariant.input_link;
-      follows = g.met.I.In.goes_on c.args.input.now c.loop.input c.recv.new.self c.loop.invariant.follows c.in-Item.ensures.follows;
-      out_link = c.send_event.ensures.link ∙ c.loop.invariant.out_link;
-      ended = not_ok _ _ c.from_residual-in_err-send_event-in-Item.ensures.0;
-      sent = not_ok _ _ c.from_residual-in_err-send_event-in-Item.ensures.0;
-      err = on_err _ gives_up;
-    }
-
-pub returns-in_err-send_closed-in-Item : goal.returns-in_err-send_closed-in-Item
-returns-in_err-send_closed-in-Item g c =
+pub returns-in_err-take_event-in-Item : goal.returns-in_err-take_event-in-Item
+returns-in_err-take_event-in-Item g c =
     let stage = inner_events c.args.level (g.C.Cut.cut c.args.cut) c.args.version in
     let received = g.I.In.received c.args.input.now c.loop.input in
     let both = g.met.I.In.received_both c.args.input.now c.loop.input c.recv.new.self c.loop.invariant.follows c.in-Item.ensures.follows in
-    let one_more : g.I.In.received c.args.input.now c.recv.new.self ≡ received ++ c.with_reference-event.result ∷ [] =
-    both ∙ ap (λ xs. received ++ xs) c.in-Item.ensures.received ∙ ap (λ event. received ++ event ∷ []) (sym c.with_reference-event.ensures) in
-    let takes = c.in_ok-closed-in-Item.ensures in
-    let gives_up : GivesUp stage (g.I.In.received c.args.input.now c.recv.new.self) (g.O.Out.sent c.args.out.now) (g.O.Out.sent c.send_closed.new.out) =
-    gives_up_within stage (nodes_keep (g.C.Cut.cut c.args.cut) c.args.version c.args.level)
-    received _ (c.with_reference-event.result ∷ []) (option_to_list c.in_ok-closed-in-Item.closed) _ _ _
-    (ap (stage faulty) one_more ∙ takes.events c.args.cut c.args.version c.args.level received c.loop.invariant.state)
-    c.loop.invariant.sent (c.in_err-send_closed-in-Item.ensures.err ∙ c.in_ok-send_event-in-Item.ensures.ok) in
+    let one_more : g.I.In.received c.args.input.now c.recv.new.self ≡ received ++ c.in-Item.event ∷ [] = both ∙ ap (λ xs. received ++ xs) c.in-Item.ensures.received in
+    let gives_up : GivesUp stage (g.I.In.received c.args.input.now c.recv.new.self) (g.O.Out.sent c.args.out.now) (g.O.Out.sent c.take_event.new.out) =
+    gives_up_in_part g.C.Cut.cut c.args.cut c.args.version c.args.level received _ _ _ _ _ _ _ one_more c.loop.invariant.state c.loop.invariant.sent c.in_err-take_event-in-Item.ensures.err in
     record {
       input_link = c.in-Item.ensures.link ∙ c.loop.invariant.input_link;
       follows = g.met.I.In.goes_on c.args.input.now c.loop.input c.recv.new.self c.loop.invariant.follows c.in-Item.ensures.follows;
-      out_link = c.send_closed.ensures.link ∙ c.send_event.ensures.link ∙ c.loop.invariant.out_link;
-      ended = not_ok _ _ c.from_residual-in_err-send_closed-in-Item.ensures.0;
-      sent = not_ok _ _ c.from_residual-in_err-send_closed-in-Item.ensures.0;
+      out_link = c.take_event.ensures.link ∙ c.loop.invariant.out_link;
+      ended = not_ok _ _ c.from_residual-in_err-take_event-in-Item.ensures.0;
+      sent = not_ok _ _ c.from_residual-in_err-take_event-in-Item.ensures.0;
       err = on_err _ gives_up;
     }
 
@@ -79,15 +42,14 @@ loop-preserved g c =
     let stage = inner_events c.args.level (g.C.Cut.cut c.args.cut) c.args.version in
     let received = g.I.In.received c.args.input.now c.loop.input in
     let both = g.met.I.In.received_both c.args.input.now c.loop.input c.recv.new.self c.loop.invariant.follows c.in-Item.ensures.follows in
-    let one_more : g.I.In.received c.args.input.now c.recv.new.self ≡ received ++ c.with_reference-event.result ∷ [] =
-    both ∙ ap (λ xs. received ++ xs) c.in-Item.ensures.received ∙ ap (λ event. received ++ event ∷ []) (sym c.with_reference-event.ensures) in
-    let takes = c.in_ok-closed-in-Item.ensures in
+    let one_more : g.I.In.received c.args.input.now c.recv.new.self ≡ received ++ c.in-Item.event ∷ [] = both ∙ ap (λ xs. received ++ xs) c.in-Item.ensures.received in
+    let takes = c.in_ok-take_event-in-Item.ensures.ok.1 in
     record {
       input_link = c.in-Item.ensures.link ∙ c.loop.invariant.input_link;
       follows = g.met.I.In.goes_on c.args.input.now c.loop.input c.recv.new.self c.loop.invariant.follows c.in-Item.ensures.follows;
-      out_link = c.send_closed.ensures.link ∙ c.send_event.ensures.link ∙ c.loop.invariant.out_link;
+      out_link = c.take_event.ensures.link ∙ c.loop.invariant.out_link;
       state = takes.state c.args.cut c.args.version c.args.level received c.loop.invariant.state ∙ ap (node_level g.C.Cut.cut c.args.cut c.args.version c.args.level) (sym one_more);
-      sent = sends_rest _ _ _ _ _ _ c.loop.invariant.sent (sent_both _ _ _ _ _ c.in_ok-send_event-in-Item.ensures.ok c.in_ok-send_closed-in-Item.ensures.ok)
+      sent = sends_rest _ _ _ _ _ _ c.loop.invariant.sent c.in_ok-take_event-in-Item.ensures.ok.2
           (ap (stage faulty) one_more ∙ takes.events c.args.cut c.args.version c.args.level received c.loop.invariant.state);
     }
 
@@ -95,13 +57,13 @@ pub returns-in_err-send_closed-in-End-Clean : goal.returns-in_err-send_closed-in
 returns-in_err-send_closed-in-End-Clean g c =
     let stage = inner_events c.args.level (g.C.Cut.cut c.args.cut) c.args.version in
     let both = g.met.I.In.received_both c.args.input.now c.loop.input c.recv.new.self c.loop.invariant.follows c.in-End-Clean.ensures.follows in
-    let gives_up : GivesUp stage (g.I.In.received c.args.input.now c.recv.new.self) (g.O.Out.sent c.args.out.now) (g.O.Out.sent c.send_closed-in-End-Clean.new.out) =
+    let gives_up : GivesUp stage (g.I.In.received c.args.input.now c.recv.new.self) (g.O.Out.sent c.args.out.now) (g.O.Out.sent c.send_closed.new.out) =
     gives_up_before stage (nodes_keep (g.C.Cut.cut c.args.cut) c.args.version c.args.level) _ _ _ _ _ _
     both c.loop.invariant.sent c.in_err-send_closed-in-End-Clean.ensures.err in
     record {
       input_link = c.in-End-Clean.ensures.link ∙ c.loop.invariant.input_link;
       follows = g.met.I.In.goes_on c.args.input.now c.loop.input c.recv.new.self c.loop.invariant.follows c.in-End-Clean.ensures.follows;
-      out_link = c.send_closed-in-End-Clean.ensures.link ∙ c.loop.invariant.out_link;
+      out_link = c.send_closed.ensures.link ∙ c.loop.invariant.out_link;
       ended = not_ok _ _ c.from_residual-in_err-send_closed-in-End-Clean.ensures.0;
       sent = not_ok _ _ c.from_residual-in_err-send_closed-in-End-Clean.ensures.0;
       err = on_err _ gives_up;
@@ -115,7 +77,7 @@ returns-in-End-Clean g c =
     record {
       input_link = c.in-End-Clean.ensures.link ∙ c.loop.invariant.input_link;
       follows = g.met.I.In.goes_on c.args.input.now c.loop.input c.recv.new.self c.loop.invariant.follows c.in-End-Clean.ensures.follows;
-      out_link = c.send_closed-in-End-Clean.ensures.link ∙ c.loop.invariant.out_link;
+      out_link = c.send_closed.ensures.link ∙ c.loop.invariant.out_link;
       ended = search (rules, c.in-End-Clean.ensures.progress);
       sent = sends_rest _ _ _ _ _ _ c.loop.invariant.sent c.in_ok-send_closed-in-End-Clean.ensures.ok
           (ap (stage clean) (nothing_came _ _ _ both c.in-End-Clean.ensures.received) ∙ c.finish.ensures c.args.cut c.args.version c.args.level received c.loop.invariant.state);

@@ -35,34 +35,19 @@ loop-init g c =
           ∙ ap (λ events. g.O.Out.sent c.args.out.now ++ events) (sym (c.in_ok-leaves.ensures.events version) ∙ ap (stage version faulty) (sym none));
     }
 
-pub returns-in_err-closed-in-Item : goal.returns-in_err-closed-in-Item
-returns-in_err-closed-in-Item g c =
+pub returns-in_err-take_pair-in-Item : goal.returns-in_err-take_pair-in-Item
+returns-in_err-take_pair-in-Item g c =
     let stage = leaf_events (g.C.Cut.cut c.args.cut) in
     let both = g.met.I.In.received_both c.args.input.now c.loop.input c.recv.new.self c.loop.invariant.follows c.in-Item.ensures.follows in
-    let gives_up : (version : Version) → GivesUp (stage version) (g.I.In.received c.args.input.now c.recv.new.self) (g.O.Out.sent c.args.out.now) (g.O.Out.sent c.loop.out) =
-    λ version. gives_up_before (stage version) (leaves_keep (g.C.Cut.cut c.args.cut) version) _ _ _ _ _ _ both (c.loop.invariant.sent version) refl in
-    record {
-      input_link = c.in-Item.ensures.link ∙ c.loop.invariant.input_link;
-      follows = g.met.I.In.goes_on c.args.input.now c.loop.input c.recv.new.self c.loop.invariant.follows c.in-Item.ensures.follows;
-      out_link = c.loop.invariant.out_link;
-      ended = not_ok _ _ c.from_residual-in_err-closed-in-Item.ensures.0;
-      sent = not_ok _ _ c.from_residual-in_err-closed-in-Item.ensures.0;
-      err = on_err _ gives_up;
-    }
-
-pub returns-in_err-send_closed-in-Item : goal.returns-in_err-send_closed-in-Item
-returns-in_err-send_closed-in-Item g c =
-    let stage = leaf_events (g.C.Cut.cut c.args.cut) in
-    let both = g.met.I.In.received_both c.args.input.now c.loop.input c.recv.new.self c.loop.invariant.follows c.in-Item.ensures.follows in
-    let gives_up : (version : Version) → GivesUp (stage version) (g.I.In.received c.args.input.now c.recv.new.self) (g.O.Out.sent c.args.out.now) (g.O.Out.sent c.send_closed.new.out) =
+    let gives_up : (version : Version) → GivesUp (stage version) (g.I.In.received c.args.input.now c.recv.new.self) (g.O.Out.sent c.args.out.now) (g.O.Out.sent c.take_pair.new.out) =
     λ version. gives_up_before (stage version) (leaves_keep (g.C.Cut.cut c.args.cut) version) _ _ _ _ _ _
-    both (c.loop.invariant.sent version) c.in_err-send_closed-in-Item.ensures.err in
+    both (c.loop.invariant.sent version) c.in_err-take_pair-in-Item.ensures.err in
     record {
       input_link = c.in-Item.ensures.link ∙ c.loop.invariant.input_link;
       follows = g.met.I.In.goes_on c.args.input.now c.loop.input c.recv.new.self c.loop.invariant.follows c.in-Item.ensures.follows;
-      out_link = c.send_closed.ensures.link ∙ c.loop.invariant.out_link;
-      ended = not_ok _ _ c.from_residual-in_err-send_closed-in-Item.ensures.0;
-      sent = not_ok _ _ c.from_residual-in_err-send_closed-in-Item.ensures.0;
+      out_link = c.take_pair.ensures.link ∙ c.loop.invariant.out_link;
+      ended = not_ok _ _ c.from_residual-in_err-take_pair-in-Item.ensures.0;
+      sent = not_ok _ _ c.from_residual-in_err-take_pair-in-Item.ensures.0;
       err = on_err _ gives_up;
     }
 
@@ -72,13 +57,13 @@ loop-preserved g c =
     let received = g.I.In.received c.args.input.now c.loop.input in
     let both = g.met.I.In.received_both c.args.input.now c.loop.input c.recv.new.self c.loop.invariant.follows c.in-Item.ensures.follows in
     let one_more : g.I.In.received c.args.input.now c.recv.new.self ≡ received ++ c.in-Item.pair ∷ [] = both ∙ ap (λ xs. received ++ xs) c.in-Item.ensures.received in
-    let takes = c.in_ok-closed-in-Item.ensures in
+    let takes = c.in_ok-take_pair-in-Item.ensures.ok.1 in
     record {
       input_link = c.in-Item.ensures.link ∙ c.loop.invariant.input_link;
       follows = g.met.I.In.goes_on c.args.input.now c.loop.input c.recv.new.self c.loop.invariant.follows c.in-Item.ensures.follows;
-      out_link = c.send_closed.ensures.link ∙ c.loop.invariant.out_link;
+      out_link = c.take_pair.ensures.link ∙ c.loop.invariant.out_link;
       state = takes.state c.args.cut received c.loop.invariant.state ∙ ap (leaf_level g.C.Cut.cut c.args.cut) (sym one_more);
-      sent = λ version. sends_rest _ _ _ _ _ _ (c.loop.invariant.sent version) c.in_ok-send_closed-in-Item.ensures.ok
+      sent = λ version. sends_rest _ _ _ _ _ _ (c.loop.invariant.sent version) c.in_ok-take_pair-in-Item.ensures.ok.2
           (ap (stage version faulty) one_more ∙ takes.events c.args.cut version received c.loop.invariant.state);
     }
 
@@ -86,13 +71,13 @@ pub returns-in_err-send_closed-in-End-Clean : goal.returns-in_err-send_closed-in
 returns-in_err-send_closed-in-End-Clean g c =
     let stage = leaf_events (g.C.Cut.cut c.args.cut) in
     let both = g.met.I.In.received_both c.args.input.now c.loop.input c.recv.new.self c.loop.invariant.follows c.in-End-Clean.ensures.follows in
-    let gives_up : (version : Version) → GivesUp (stage version) (g.I.In.received c.args.input.now c.recv.new.self) (g.O.Out.sent c.args.out.now) (g.O.Out.sent c.send_closed-in-End-Clean.new.out) =
+    let gives_up : (version : Version) → GivesUp (stage version) (g.I.In.received c.args.input.now c.recv.new.self) (g.O.Out.sent c.args.out.now) (g.O.Out.sent c.send_closed.new.out) =
     λ version. gives_up_before (stage version) (leaves_keep (g.C.Cut.cut c.args.cut) version) _ _ _ _ _ _
     both (c.loop.invariant.sent version) c.in_err-send_closed-in-End-Clean.ensures.err in
     record {
       input_link = c.in-End-Clean.ensures.link ∙ c.loop.invariant.input_link;
       follows = g.met.I.In.goes_on c.args.input.now c.loop.input c.recv.new.self c.loop.invariant.follows c.in-End-Clean.ensures.follows;
-      out_link = c.send_closed-in-End-Clean.ensures.link ∙ c.loop.invariant.out_link;
+      out_link = c.send_closed.ensures.link ∙ c.loop.invariant.out_link;
       ended = not_ok _ _ c.from_residual-in_err-send_closed-in-End-Clean.ensures.0;
       sent = not_ok _ _ c.from_residual-in_err-send_closed-in-End-Clean.ensures.0;
       err = on_err _ gives_up;
@@ -106,7 +91,7 @@ returns-in-End-Clean g c =
     record {
       input_link = c.in-End-Clean.ensures.link ∙ c.loop.invariant.input_link;
       follows = g.met.I.In.goes_on c.args.input.now c.loop.input c.recv.new.self c.loop.invariant.follows c.in-End-Clean.ensures.follows;
-      out_link = c.send_closed-in-End-Clean.ensures.link ∙ c.loop.invariant.out_link;
+      out_link = c.send_closed.ensures.link ∙ c.loop.invariant.out_link;
       ended = search (rules, c.in-End-Clean.ensures.progress);
       sent = λ version. sends_rest _ _ _ _ _ _ (c.loop.invariant.sent version) c.in_ok-send_closed-in-End-Clean.ensures.ok
           (ap (stage version clean) (nothing_came _ _ _ both c.in-End-Clean.ensures.received) ∙ c.finish.ensures c.args.cut version received c.loop.invariant.state);
