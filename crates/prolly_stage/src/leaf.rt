@@ -68,7 +68,7 @@ fn send_leaves<C: Cut, I: In<Pair>, O: Out<ChunkEvent>, R: Wait>(
     let mut leaves = LeafLevel::new(alloc, cut)?;
     for _ in rt.forever() {
         match input.recv(rt) {
-            Next::Item(pair) => take_pair(rt, alloc, &mut leaves, out, &pair)?,
+            Next::Item(pair) => take_pair(rt, alloc, &mut leaves, out, pair)?,
             Next::End(End::Clean) => {
                 send_closed(rt, out, leaves.finish())?;
                 return Ok(End::Clean);
@@ -86,12 +86,12 @@ fn take_pair<C: Cut, O: Out<ChunkEvent>, R: Wait>(
     alloc: Global,
     leaves: &mut LeafLevel<C>,
     out: &mut O,
-    pair: &Pair,
+    pair: Pair,
 ) -> Result<(), AllocError>
     ensures link { O.link out.new ≡ O.link out.old }
-    ensures ok { OnOk result (SendsLeaf C.cut leaves.old leaves.new pair.now (O.sent out.old) (O.sent out.new)) }
+    ensures ok { OnOk result (SendsLeaf C.cut leaves.old leaves.new pair (O.sent out.old) (O.sent out.new)) }
     ensures err { OnErr result (O.sent out.new ≡ O.sent out.old) }
 {
-    let closed = leaves.push(alloc, pair)?;
+    let closed = leaves.push(alloc, &pair)?;
     send_closed(rt, out, closed)
 }
