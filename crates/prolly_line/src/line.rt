@@ -21,8 +21,9 @@ fn bare_line<'a>(alloc: Global) -> Result<Command<'a>, AllocError>
         .bin_name("prolly")
 }
 
-// Adds a subcommand to a line, where there was memory for both.
-fn with<'a>(
+// Adds a subcommand to a line, where there was memory for both. A `?` for each subcommand in one function
+// would make a large proof.
+fn with_subcommand<'a>(
     line: Result<Command<'a>, AllocError>,
     subcommand: Result<Command<'a>, AllocError>,
 ) -> Result<Command<'a>, AllocError>
@@ -37,11 +38,11 @@ pub(crate) fn program_line<'a>(alloc: Global) -> Result<Command<'a>, AllocError>
     ensures line { IfOk result (λ c. app_of c ≡ program_line) }
 {
     let line = bare_line(alloc);
-    let line = with(line, subcommands::pack_line(alloc));
-    let line = with(line, subcommands::scratch_line(alloc));
-    let line = with(line, subcommands::build_line(alloc));
-    let line = with(line, subcommands::check_line(alloc));
-    let line = with(line, subcommands::get_line(alloc));
-    let line = with(line, subcommands::scan_line(alloc));
-    with(line, subcommands::nth_line(alloc))
+    let line = with_subcommand(line, subcommands::pack_line(alloc));
+    let line = with_subcommand(line, subcommands::scratch_line(alloc));
+    let line = with_subcommand(line, subcommands::build_line(alloc));
+    let line = with_subcommand(line, subcommands::check_line(alloc));
+    let line = with_subcommand(line, subcommands::get_line(alloc));
+    let line = with_subcommand(line, subcommands::scan_line(alloc));
+    with_subcommand(line, subcommands::nth_line(alloc))
 }

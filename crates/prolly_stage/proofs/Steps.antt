@@ -1,7 +1,7 @@
 -- The steps of a stage: what it has received and sent, as lists.
-use Rattle.std.proofs.Common.{◌≡◌, List, [], ◌++◌, true, refl, sym, ◌∙◌, ap, subst, inr, append_assoc, true≢false}
+use Rattle.std.proofs.Common.{◌≡◌, List, [], ◌++◌, refl, sym, ◌∙◌, ap, subst, inr, append_assoc}
 use Rattle.std.proofs.lemmas.List.{append-nil}
-use Rattle.std.specs.Prelude.{Result, Ok, Err, IfOk, OnErr, is_err}
+use Rattle.std.specs.Prelude.{Result, Ok, Err, OnErr}
 use Rattle.prolly_entry.specs.Events.{Closing, faulty}
 use Rattle.prolly_entry.specs.Prefix.{IsPrefix}
 use Rattle.prolly_link.specs.declared.fault.End.{End}
@@ -15,10 +15,6 @@ use Rattle.prolly_stage.specs.Workers.{KeepsPrefixes}
 pub on_err : {T E P : Type 0} (r : Result T E) → P → OnErr r P
 on_err (Ok x) p = tt
 on_err (Err e) p = p
-
-pub not_ok : {T E : Type 0} (P : T → Type 0) (r : Result T E) → is_err r ≡ true → IfOk r P
-not_ok P (Ok x) e = absurd (true≢false (sym e))
-not_ok P (Err e) _ = tt
 
 pub prefix_trans : {A : Type 0} (xs ys zs : List A) → IsPrefix xs ys → IsPrefix ys zs → IsPrefix xs zs
 prefix_trans xs ys zs a b = (a.0 ++ b.0, b.1 ∙ ap (λ l. l ++ b.0) a.1 ∙ append_assoc xs a.0 b.0)

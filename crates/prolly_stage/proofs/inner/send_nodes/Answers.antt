@@ -1,9 +1,10 @@
 use Rattle.std.proofs.Common.{◌≡◌, ◌++◌, ◌∷◌, [], rules, ap, sym, ◌∙◌, refl}
+use Rattle.std.proofs.lemmas.Result.{IfOk-from_err}
 use Rattle.prolly_entry.specs.Events.{inner_events, faulty, clean}
 use Rattle.prolly_chunk.specs.NodeLevel.{node_level}
 use Rattle.prolly_stage.specs.Sends.{GivesUp}
 use Rattle.prolly_stage.proofs.Joins.{nodes_keep, gives_up_in_part}
-use Rattle.prolly_stage.proofs.Steps.{on_err, not_ok, ended_by, nothing_came, sends_rest, gives_up_at_once, gives_up_before}
+use Rattle.prolly_stage.proofs.Steps.{on_err, ended_by, nothing_came, sends_rest, gives_up_at_once, gives_up_before}
 use Rattle.prolly_stage.proofs.inner.send_nodes.Goals as goal
 
 pub returns-in_err-nodes : goal.returns-in_err-nodes
@@ -15,8 +16,8 @@ returns-in_err-nodes g c =
       input_link = refl;
       follows = g.met.I.In.stays c.args.input.now;
       out_link = refl;
-      ended = not_ok _ _ c.from_residual.ensures.0;
-      sent = not_ok _ _ c.from_residual.ensures.0;
+      ended = IfOk-from_err _ _ c.from_residual.ensures.0;
+      sent = IfOk-from_err _ _ c.from_residual.ensures.0;
       err = on_err _ gives_up;
     }
 
@@ -32,8 +33,8 @@ returns-in_err-take_event-in-Item g c =
       input_link = c.in-Item.ensures.link ∙ c.loop.invariant.input_link;
       follows = g.met.I.In.goes_on c.args.input.now c.loop.input c.recv.new.self c.loop.invariant.follows c.in-Item.ensures.follows;
       out_link = c.take_event.ensures.link ∙ c.loop.invariant.out_link;
-      ended = not_ok _ _ c.from_residual-in_err-take_event-in-Item.ensures.0;
-      sent = not_ok _ _ c.from_residual-in_err-take_event-in-Item.ensures.0;
+      ended = IfOk-from_err _ _ c.from_residual-in_err-take_event-in-Item.ensures.0;
+      sent = IfOk-from_err _ _ c.from_residual-in_err-take_event-in-Item.ensures.0;
       err = on_err _ gives_up;
     }
 
@@ -64,8 +65,8 @@ returns-in_err-send_closed-in-End-Clean g c =
       input_link = c.in-End-Clean.ensures.link ∙ c.loop.invariant.input_link;
       follows = g.met.I.In.goes_on c.args.input.now c.loop.input c.recv.new.self c.loop.invariant.follows c.in-End-Clean.ensures.follows;
       out_link = c.send_closed.ensures.link ∙ c.loop.invariant.out_link;
-      ended = not_ok _ _ c.from_residual-in_err-send_closed-in-End-Clean.ensures.0;
-      sent = not_ok _ _ c.from_residual-in_err-send_closed-in-End-Clean.ensures.0;
+      ended = IfOk-from_err _ _ c.from_residual-in_err-send_closed-in-End-Clean.ensures.0;
+      sent = IfOk-from_err _ _ c.from_residual-in_err-send_closed-in-End-Clean.ensures.0;
       err = on_err _ gives_up;
     }
 

@@ -1,11 +1,12 @@
 use Rattle.std.proofs.Common.{◌≡◌, ◌++◌, ◌∷◌, [], rules, ap, sym, ◌∙◌, refl}
 use Rattle.std.proofs.lemmas.List.{append-nil}
+use Rattle.std.proofs.lemmas.Result.{IfOk-from_err}
 use Rattle.prolly_entry.specs.declared.version.Version.{Version}
 use Rattle.prolly_entry.specs.Events.{leaf_events, faulty, clean}
 use Rattle.prolly_chunk.specs.LeafLevel.{leaf_level}
 use Rattle.prolly_stage.specs.Sends.{GivesUp}
 use Rattle.prolly_stage.proofs.Joins.{leaves_keep}
-use Rattle.prolly_stage.proofs.Steps.{on_err, not_ok, ended_by, nothing_came, sends_rest, gives_up_at_once, gives_up_before}
+use Rattle.prolly_stage.proofs.Steps.{on_err, ended_by, nothing_came, sends_rest, gives_up_at_once, gives_up_before}
 use Rattle.prolly_stage.proofs.leaf.send_leaves.Goals as goal
 
 pub returns-in_err-leaves : goal.returns-in_err-leaves
@@ -17,8 +18,8 @@ returns-in_err-leaves g c =
       input_link = refl;
       follows = g.met.I.In.stays c.args.input.now;
       out_link = refl;
-      ended = not_ok _ _ c.from_residual.ensures.0;
-      sent = not_ok _ _ c.from_residual.ensures.0;
+      ended = IfOk-from_err _ _ c.from_residual.ensures.0;
+      sent = IfOk-from_err _ _ c.from_residual.ensures.0;
       err = on_err _ gives_up;
     }
 
@@ -46,8 +47,8 @@ returns-in_err-take_pair-in-Item g c =
       input_link = c.in-Item.ensures.link ∙ c.loop.invariant.input_link;
       follows = g.met.I.In.goes_on c.args.input.now c.loop.input c.recv.new.self c.loop.invariant.follows c.in-Item.ensures.follows;
       out_link = c.take_pair.ensures.link ∙ c.loop.invariant.out_link;
-      ended = not_ok _ _ c.from_residual-in_err-take_pair-in-Item.ensures.0;
-      sent = not_ok _ _ c.from_residual-in_err-take_pair-in-Item.ensures.0;
+      ended = IfOk-from_err _ _ c.from_residual-in_err-take_pair-in-Item.ensures.0;
+      sent = IfOk-from_err _ _ c.from_residual-in_err-take_pair-in-Item.ensures.0;
       err = on_err _ gives_up;
     }
 
@@ -78,8 +79,8 @@ returns-in_err-send_closed-in-End-Clean g c =
       input_link = c.in-End-Clean.ensures.link ∙ c.loop.invariant.input_link;
       follows = g.met.I.In.goes_on c.args.input.now c.loop.input c.recv.new.self c.loop.invariant.follows c.in-End-Clean.ensures.follows;
       out_link = c.send_closed.ensures.link ∙ c.loop.invariant.out_link;
-      ended = not_ok _ _ c.from_residual-in_err-send_closed-in-End-Clean.ensures.0;
-      sent = not_ok _ _ c.from_residual-in_err-send_closed-in-End-Clean.ensures.0;
+      ended = IfOk-from_err _ _ c.from_residual-in_err-send_closed-in-End-Clean.ensures.0;
+      sent = IfOk-from_err _ _ c.from_residual-in_err-send_closed-in-End-Clean.ensures.0;
       err = on_err _ gives_up;
     }
 

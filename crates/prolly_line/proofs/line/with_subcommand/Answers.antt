@@ -5,7 +5,7 @@ use Rattle.std.specs.Result.{result_from_control_flow}
 use Rattle.clap.specs.Words.{app_of}
 use Rattle.clap.specs.declared.builder.command.Command.TheViews.{out-Command as fields_of}
 use Rattle.prolly_line.proofs.LineSteps.{entered}
-use Rattle.prolly_line.proofs.line.with.Goals as goal
+use Rattle.prolly_line.proofs.line.with_subcommand.Goals as goal
 
 pub returns : goal.returns
 returns c = record {
