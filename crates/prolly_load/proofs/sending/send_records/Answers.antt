@@ -114,3 +114,6 @@ returns-in-Err-fill-clause-loaded g c =
     l.buffer c.take_record.new.buffer c.fill.new.self (g.S.Source.left c.args.source.now) (g.S.Source.left l.source) (g.S.Source.left c.fill.new.source)
     (g.O.Out.sent c.args.out.now) (g.O.Out.sent l.out) l.invariant.under_way taken.same fills c.fill.ensures.last_key l.invariant.honest)
     (still_undecided c.args.limit l.count l.buffer c.take_record.new.buffer c.fill.new.self taken c.fill.ensures.last_key fills.same)
+
+pub returns-then-is_empty-clause-read : goal.returns-then-is_empty-clause-read
+returns-then-is_empty-clause-read g c = search rules

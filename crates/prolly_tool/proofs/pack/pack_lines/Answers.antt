@@ -1,4 +1,5 @@
-use Rattle.std.proofs.Common.{rules}
+use Rattle.std.proofs.lemmas.Grind.{common_steps}
+use Rattle.std.proofs.Common.{rules, arith}
 use Rattle.std.proofs.lemmas.List.{nil_from_length}
 use Rattle.prolly_tool.proofs.PackSteps.{none_packed, one_packed, all_packed}
 use Rattle.prolly_tool.proofs.pack.pack_lines.Goals as goal
@@ -15,3 +16,6 @@ pub returns-clause-ok : goal.returns-clause-ok
 returns-clause-ok c =
     all_packed c.args.text.now c.args.out.now.items c.loop-rest.out.items c.loop-rest.rest.now c.loop-rest.count c.loop-rest.invariant
     (nil_from_length c.loop-rest.rest.now (search rules))
+
+pub returns-in-Err-clause-unchanged : goal.returns-in-Err-clause-unchanged
+returns-in-Err-clause-unchanged c = grind (arith, common_steps) steps 2000000

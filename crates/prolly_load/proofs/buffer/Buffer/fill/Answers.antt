@@ -1,4 +1,5 @@
-use Rattle.std.proofs.Common.{ap, ◌∙◌}
+use Rattle.std.proofs.lemmas.Grind.{common_steps}
+use Rattle.std.proofs.Common.{ap, ◌∙◌, arith}
 use Rattle.prolly_load.specs.Buffered.{Buffered}
 use Rattle.prolly_load.proofs.PartLemmas.{key_given_back}
 use Rattle.prolly_load.proofs.buffer.Buffer.fill.Goals as goal
@@ -16,3 +17,9 @@ returns-clause-last_key g c =
     c.self.inside.unparsed c.args.self.now.last_key c.as_mut_slice.ensures.value c.as_mut_slice.ensures.len c.read_behind.ensures.size
     c.self.invariant.key c.self.invariant.ordered c.read_behind.ensures.before
     (ap (λ (h : Buffered). h.last_key) c.self.view_is ∙ c.make_room.ensures.last_key)
+
+pub returns-in_err-count-clause-fills : goal.returns-in_err-count-clause-fills
+returns-in_err-count-clause-fills g c = grind (arith, common_steps) steps 2000000
+
+pub returns-clause-fills : goal.returns-clause-fills
+returns-clause-fills g c = grind (arith, common_steps) steps 2000000

@@ -1,0 +1,11 @@
+use Rattle.std.proofs.Common.{rules}
+use Rattle.prolly_file.proofs.writer.FileWriter.chunk.Goals as goal
+
+pub returns-clause-counted : goal.returns-clause-counted
+returns-clause-counted g c = search rules
+
+pub returns-clause-faulty : goal.returns-clause-faulty
+returns-clause-faulty g c = search rules
+
+pub returns-clause-alone : goal.returns-clause-alone
+returns-clause-alone g c = search rules
