@@ -3,23 +3,65 @@ ghost use Rattle.std.specs.Prelude.{◌≡◌, false};
 ghost use Rattle.clap.specs.Words.{rule_of};
 ghost use Rattle.prolly_line.specs.Line.{batch_option, bits_option, capacity_option, file_word};
 ghost use Rattle.prolly_line.specs.Line.{files_words, format_option, key_word, limit_word};
-ghost use Rattle.prolly_line.specs.Line.{max_records_option, n_word, out_option, out_word};
-ghost use Rattle.prolly_line.specs.Line.{stages_option};
+ghost use Rattle.prolly_line.specs.Line.{max_records_option, n_word, number_option, number_word};
+ghost use Rattle.prolly_line.specs.Line.{out_option, out_word, stages_option, word_rule};
 
 use clap::Arg;
+use clap::builder::ValueParser;
 use std::alloc::Global;
+
+// `--NAME VALUE_NAME`, for a number from `least` to `most`.
+fn number_option<'a>(
+    alloc: Global,
+    name: &'a str,
+    value_name: &'a str,
+    least: u32,
+    most: u32,
+    default: &'a str,
+) -> Arg<'a>
+    ensures rule { rule_of result ≡ number_option name.now least most default.now }
+    ensures local { result.global ≡ false }
+{
+    Arg::new(alloc, name)
+        .long(name)
+        .value_name(value_name)
+        .value_parser(ValueParser::signed(i64::from(least), i64::from(most)))
+        .default_value(default)
+}
+
+// A word that has to be there.
+fn required_word<'a>(alloc: Global, name: &'a str, value_name: &'a str) -> Arg<'a>
+    ensures rule { rule_of result ≡ word_rule name.now }
+    ensures local { result.global ≡ false }
+{
+    Arg::new(alloc, name).required(true).value_name(value_name)
+}
+
+// Such a word, for a number from `least` to `most`.
+fn number_word<'a>(
+    alloc: Global,
+    name: &'a str,
+    value_name: &'a str,
+    least: u32,
+    most: u32,
+) -> Arg<'a>
+    ensures rule { rule_of result ≡ number_word name.now least most }
+    ensures local { result.global ≡ false }
+{
+    required_word(alloc, name, value_name).value_parser(ValueParser::signed(
+        i64::from(least),
+        i64::from(most),
+    ))
+}
 
 /// `--bits Q`
 pub(crate) fn bits_option<'a>(alloc: Global) -> Arg<'a>
     ensures rule { rule_of result ≡ bits_option }
     ensures local { result.global ≡ false }
 {
-    Arg::new(alloc, "bits")
-        .long("bits")
-        .value_name("Q")
-        .value_parser(clap::value_parser!(u8).range(0..=24))
-        .default_value("12")
-        .help("Cut by Q bits of a hash: about one entry in 2^Q ends a chunk (0 to 24)")
+    number_option(alloc, "bits", "Q", 0, 24, "12").help(
+        "Cut by Q bits of a hash: about one entry in 2^Q ends a chunk (0 to 24)",
+    )
 }
 
 /// `--stages S`
@@ -27,12 +69,9 @@ pub(crate) fn stages_option<'a>(alloc: Global) -> Arg<'a>
     ensures rule { rule_of result ≡ stages_option }
     ensures local { result.global ≡ false }
 {
-    Arg::new(alloc, "stages")
-        .long("stages")
-        .value_name("S")
-        .value_parser(clap::value_parser!(u8).range(1..=12))
-        .default_value("12")
-        .help("Make at most S levels of the tree (1 to 12)")
+    number_option(alloc, "stages", "S", 1, 12, "12").help(
+        "Make at most S levels of the tree (1 to 12)",
+    )
 }
 
 /// `--capacity C`
@@ -40,12 +79,9 @@ pub(crate) fn capacity_option<'a>(alloc: Global) -> Arg<'a>
     ensures rule { rule_of result ≡ capacity_option }
     ensures local { result.global ≡ false }
 {
-    Arg::new(alloc, "capacity")
-        .long("capacity")
-        .value_name("C")
-        .value_parser(clap::value_parser!(u32).range(1..=4096))
-        .default_value("64")
-        .help("Let C messages wait between two threads (1 to 4,096)")
+    number_option(alloc, "capacity", "C", 1, 4096, "64").help(
+        "Let C messages wait between two threads (1 to 4,096)",
+    )
 }
 
 /// `--max-records M`
@@ -53,12 +89,9 @@ pub(crate) fn max_records_option<'a>(alloc: Global) -> Arg<'a>
     ensures rule { rule_of result ≡ max_records_option }
     ensures local { result.global ≡ false }
 {
-    Arg::new(alloc, "max-records")
-        .long("max-records")
-        .value_name("M")
-        .value_parser(clap::value_parser!(u32).range(1..=16777216))
-        .default_value("16777216")
-        .help("Refuse a record file of more than M records (1 to 16,777,216)")
+    number_option(alloc, "max-records", "M", 1, 16777216, "16777216").help(
+        "Refuse a record file of more than M records (1 to 16,777,216)",
+    )
 }
 
 /// `--batch B`
@@ -66,12 +99,9 @@ pub(crate) fn batch_option<'a>(alloc: Global) -> Arg<'a>
     ensures rule { rule_of result ≡ batch_option }
     ensures local { result.global ≡ false }
 {
-    Arg::new(alloc, "batch")
-        .long("batch")
-        .value_name("B")
-        .value_parser(clap::value_parser!(u32).range(1..=1024))
-        .default_value("16")
-        .help("Put up to B items into a message (1 to 1,024)")
+    number_option(alloc, "batch", "B", 1, 1024, "16").help(
+        "Put up to B items into a message (1 to 1,024)",
+    )
 }
 
 /// `--format V`
@@ -79,12 +109,9 @@ pub(crate) fn format_option<'a>(alloc: Global) -> Arg<'a>
     ensures rule { rule_of result ≡ format_option }
     ensures local { result.global ≡ false }
 {
-    Arg::new(alloc, "format")
-        .long("format")
-        .value_name("V")
-        .value_parser(clap::value_parser!(u8).range(1..=2))
-        .default_value("1")
-        .help("Write version V of the chunk file (1 or 2)")
+    number_option(alloc, "format", "V", 1, 2, "1").help(
+        "Write version V of the chunk file (1 or 2)",
+    )
 }
 
 /// `--out FILE`
@@ -103,10 +130,7 @@ pub(crate) fn out_word<'a>(alloc: Global, what: &'a str) -> Arg<'a>
     ensures rule { rule_of result ≡ out_word }
     ensures local { result.global ≡ false }
 {
-    Arg::new(alloc, "out")
-        .required(true)
-        .value_name("OUT")
-        .help(what)
+    required_word(alloc, "out", "OUT").help(what)
 }
 
 /// `FILE`, the chunk file that a subcommand reads.
@@ -114,10 +138,7 @@ pub(crate) fn file_word<'a>(alloc: Global) -> Arg<'a>
     ensures rule { rule_of result ≡ file_word }
     ensures local { result.global ≡ false }
 {
-    Arg::new(alloc, "file")
-        .required(true)
-        .value_name("FILE")
-        .help("The chunk file")
+    required_word(alloc, "file", "FILE").help("The chunk file")
 }
 
 /// `HEXKEY`
@@ -125,10 +146,9 @@ pub(crate) fn key_word<'a>(alloc: Global) -> Arg<'a>
     ensures rule { rule_of result ≡ key_word }
     ensures local { result.global ≡ false }
 {
-    Arg::new(alloc, "key")
-        .required(true)
-        .value_name("HEXKEY")
-        .help("The key in hexadecimal: two digits a byte, at most 1,024 bytes")
+    required_word(alloc, "key", "HEXKEY").help(
+        "The key in hexadecimal: two digits a byte, at most 1,024 bytes",
+    )
 }
 
 /// `LIMIT`
@@ -136,11 +156,9 @@ pub(crate) fn limit_word<'a>(alloc: Global) -> Arg<'a>
     ensures rule { rule_of result ≡ limit_word }
     ensures local { result.global ≡ false }
 {
-    Arg::new(alloc, "limit")
-        .required(true)
-        .value_name("LIMIT")
-        .value_parser(clap::value_parser!(u32).range(0..=1000000))
-        .help("Print at most LIMIT pairs (0 to 1,000,000)")
+    number_word(alloc, "limit", "LIMIT", 0, 1000000).help(
+        "Print at most LIMIT pairs (0 to 1,000,000)",
+    )
 }
 
 /// `N`
@@ -148,11 +166,9 @@ pub(crate) fn n_word<'a>(alloc: Global) -> Arg<'a>
     ensures rule { rule_of result ≡ n_word }
     ensures local { result.global ≡ false }
 {
-    Arg::new(alloc, "n")
-        .required(true)
-        .value_name("N")
-        .value_parser(clap::value_parser!(u32))
-        .help("The place of the pair in the order of keys, counted from 0 (to 4,294,967,295)")
+    number_word(alloc, "n", "N", 0, u32::MAX).help(
+        "The place of the pair in the order of keys, counted from 0 (to 4,294,967,295)",
+    )
 }
 
 /// `FILES`

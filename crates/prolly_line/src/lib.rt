@@ -5,6 +5,7 @@
 #![tactic(auto)]
 
 mod arguments;
+mod building;
 mod command;
 mod fields;
 mod help;

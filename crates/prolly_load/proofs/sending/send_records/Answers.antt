@@ -1,4 +1,5 @@
-use Rattle.std.proofs.Common.{rules, ◌≡◌, ◌∙◌, refl, ap, None, [], ◌∷◌, ◌++◌}
+use Rattle.std.proofs.lemmas.Grind.{common_steps}
+use Rattle.std.proofs.Common.{rules, ◌≡◌, ◌∙◌, refl, ap, None, [], ◌∷◌, ◌++◌, arith}
 use Rattle.std.proofs.lemmas.List.{nil_from_length}
 use Rattle.prolly_load.specs.Buffered.{Buffered}
 use Rattle.prolly_load.proofs.UnderWay.{none_sent, one_sent, more_read, nothing_read, record_taken, flaw_taken, nothing_taken, gains_none, still_undecided}
@@ -117,3 +118,6 @@ returns-in-Err-fill-clause-loaded g c =
 
 pub returns-then-is_empty-clause-read : goal.returns-then-is_empty-clause-read
 returns-then-is_empty-clause-read g c = search rules
+
+pub loop-record-smaller : goal.loop-record-smaller
+loop-record-smaller g c = grind (arith, common_steps) steps 2000000

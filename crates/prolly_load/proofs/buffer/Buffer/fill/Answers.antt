@@ -23,3 +23,9 @@ returns-in_err-count-clause-fills g c = grind (arith, common_steps) steps 200000
 
 pub returns-clause-fills : goal.returns-clause-fills
 returns-clause-fills g c = grind (arith, common_steps) steps 2000000
+
+pub invariant_of-self : goal.invariant_of-self
+invariant_of-self g c = grind (arith, common_steps) steps 2000000
+
+pub invariant_of-self-2 : goal.invariant_of-self-2
+invariant_of-self-2 g c = grind (arith, common_steps) steps 2000000
