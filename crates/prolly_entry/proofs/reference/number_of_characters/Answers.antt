@@ -1,3 +1,4 @@
+use Rattle.std.proofs.lemmas.Grind.{common_steps}
 use Rattle.std.proofs.Common.{◌+◌, ◌<◌, arith}
 use Rattle.std.proofs.lemmas.List.{take_more}
 use Rattle.prolly_entry.proofs.Digits.{characters_more}
@@ -23,3 +24,6 @@ loop-byte-preserved c =
       push_below 32 i (i + 1) c.loop-byte.number digit c.loop-byte.invariant.0 digit_below (omega arith),
       cc (pushed, read, c.loop-byte.invariant.1, c.in_ok-digit_of.ensures.read),
     )
+
+pub returns-clause-read : goal.returns-clause-read
+returns-clause-read c = grind (arith, common_steps) steps 2000000
