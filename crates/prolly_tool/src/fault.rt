@@ -70,10 +70,10 @@ impl Display for Fault {
             Fault::Run(fault) => RunText(*fault).fmt(f),
             Fault::Pack(fault) => fault.fmt(f),
             Fault::Check(fault) => CheckText(*fault).fmt(f),
-            Fault::NoCounts => write!(f, "chunk file: no counts"),
-            Fault::InputTooLong => write!(f, "input too long"),
-            Fault::BadKey => write!(f, "not a key in hexadecimal"),
-            Fault::NotUnicode => write!(f, "a word is not UTF-8"),
+            Fault::NoCounts => f.write_str("chunk file: no counts"),
+            Fault::InputTooLong => f.write_str("input too long"),
+            Fault::BadKey => f.write_str("not a key in hexadecimal"),
+            Fault::NotUnicode => f.write_str("a word is not UTF-8"),
         }
     }
 }
@@ -89,7 +89,7 @@ impl Display for RunText {
 
     fn fmt<W: fmt::Write>(&self, f: &mut Formatter<W>) -> fmt::Result {
         match self.0 {
-            RunFault::Memory => write!(f, "out of memory"),
+            RunFault::Memory => f.write_str("out of memory"),
             RunFault::Read { file } => write!(f, "file {file}: read failed"),
             RunFault::Truncated { file, place } => RecordText(file, place, " is cut").fmt(f),
             RunFault::KeyTooLong { file, place } => {
@@ -102,11 +102,11 @@ impl Display for RunText {
                 RecordText(file, place, ": key out of order").fmt(f)
             }
             RunFault::TooManyRecords { file } => write!(f, "file {file}: too many records"),
-            RunFault::Write => write!(f, "write failed"),
-            RunFault::TooTall => write!(f, "tree too tall"),
-            RunFault::NoThread => write!(f, "a thread could not be started"),
-            RunFault::Lost => write!(f, "a worker was lost"),
-            RunFault::TooManyFiles => write!(f, "too many files"),
+            RunFault::Write => f.write_str("write failed"),
+            RunFault::TooTall => f.write_str("tree too tall"),
+            RunFault::NoThread => f.write_str("a thread could not be started"),
+            RunFault::Lost => f.write_str("a worker was lost"),
+            RunFault::TooManyFiles => f.write_str("too many files"),
         }
     }
 }
@@ -137,13 +137,13 @@ impl Display for CheckText {
 
     fn fmt<W: fmt::Write>(&self, f: &mut Formatter<W>) -> fmt::Result {
         match self.0 {
-            CheckFault::Memory => write!(f, "out of memory"),
-            CheckFault::Read => write!(f, "chunk file: read failed"),
-            CheckFault::TooLong => write!(f, "chunk file: too long"),
-            CheckFault::BadHeader => write!(f, "chunk file: bad header"),
+            CheckFault::Memory => f.write_str("out of memory"),
+            CheckFault::Read => f.write_str("chunk file: read failed"),
+            CheckFault::TooLong => f.write_str("chunk file: too long"),
+            CheckFault::BadHeader => f.write_str("chunk file: bad header"),
             CheckFault::BadFrame { chunk } => write!(f, "chunk file: bad frame {chunk}"),
-            CheckFault::Truncated => write!(f, "chunk file: truncated"),
-            CheckFault::Trailing => write!(f, "chunk file: bytes after the end"),
+            CheckFault::Truncated => f.write_str("chunk file: truncated"),
+            CheckFault::Trailing => f.write_str("chunk file: bytes after the end"),
             CheckFault::BadChunk { chunk } => write!(f, "chunk file: bad chunk {chunk}"),
             CheckFault::KeysOutOfOrder { chunk } => {
                 write!(f, "chunk file: keys out of order in chunk {chunk}")
@@ -151,7 +151,7 @@ impl Display for CheckText {
             CheckFault::NotCanonical { chunk } => {
                 write!(f, "chunk file: chunk {chunk} is not canonical")
             }
-            CheckFault::BadEnd => write!(f, "chunk file: bad end record"),
+            CheckFault::BadEnd => f.write_str("chunk file: bad end record"),
             CheckFault::Collision { chunk } => {
                 write!(f, "chunk file: reference of chunk {chunk} is used twice")
             }

@@ -1,3 +1,4 @@
+use Rattle.std.proofs.lemmas.Grind.{common_steps}
 use Rattle.std.proofs.Common.{◌<◌, length, sym, arith}
 use Rattle.prolly_entry.proofs.RecordSteps.{rest_is}
 use Rattle.prolly_check.proofs.GetSteps.{begins, at_some, at_leaf, at_none, at_index, at_number, at_next}
@@ -64,3 +65,9 @@ returns c =
     at_leaf c.args.bytes.now c.args.version c.args.spans.now c.args.index.now c.args.key.now c.loop-chunk.chunk.now
     (record { checked = c.requires.checked; short = c.requires.short; stands = c.loop-chunk.invariant })
     _ _ (rest_is c.loop-chunk.chunk.now 1) c.loop-chunk-test.false c.value_in.ensures
+
+pub slice_bounds-child_for-count : goal.slice_bounds-child_for-count
+slice_bounds-child_for-count c = grind (arith, common_steps) steps 2000000
+
+pub slice_bounds-child_for-start : goal.slice_bounds-child_for-start
+slice_bounds-child_for-start c = grind (arith, common_steps) steps 2000000

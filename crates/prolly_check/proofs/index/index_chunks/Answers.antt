@@ -1,3 +1,4 @@
+use Rattle.std.proofs.lemmas.Grind.{common_steps}
 use Rattle.std.proofs.Common.{sym, ◌∙◌, arith}
 use Rattle.prolly_check.specs.Spans.{chunks_in}
 use Rattle.prolly_check.proofs.CanonicalSteps.{count_in, chunk_there}
@@ -21,3 +22,9 @@ loop-number-preserved c =
 pub returns-clause-index : goal.returns-clause-index
 returns-clause-index c =
     (index_ends c.loop-number.index (chunks_in c.args.bytes.now c.args.spans.now) c.loop-number.number (omega (arith, count_in c.args.bytes.now c.args.spans.now)) c.loop-number.invariant).0
+
+pub chunk_at-requires : goal.chunk_at-requires
+chunk_at-requires c = grind (arith, common_steps) steps 2000000
+
+pub returns-clause-apart : goal.returns-clause-apart
+returns-clause-apart c = grind (arith, common_steps) steps 2000000

@@ -1,3 +1,4 @@
+use Rattle.std.proofs.lemmas.Grind.{common_steps}
 use Rattle.std.proofs.Common.{◌<◌, length, sym, arith}
 use Rattle.prolly_entry.proofs.RecordSteps.{rest_is}
 use Rattle.prolly_check.proofs.NthSteps.{count_begins, count_some, count_leaf, count_none, count_index, count_number, count_next}
@@ -66,3 +67,9 @@ returns c =
     count_leaf c.args.bytes.now c.args.spans.now c.args.index.now c.args.n c.loop-chunk.chunk.now c.loop-chunk.ahead
     (record { checked = c.requires.checked; short = c.requires.short; stands = c.loop-chunk.invariant })
     _ _ (rest_is c.loop-chunk.chunk.now 1) c.loop-chunk-test.false c.pair_at.ensures
+
+pub slice_bounds-child_with-count : goal.slice_bounds-child_with-count
+slice_bounds-child_with-count c = grind (arith, common_steps) steps 2000000
+
+pub slice_bounds-child_with-start : goal.slice_bounds-child_with-start
+slice_bounds-child_with-start c = grind (arith, common_steps) steps 2000000

@@ -1,3 +1,4 @@
+use Rattle.std.proofs.lemmas.Grind.{common_steps}
 use Rattle.std.proofs.Common.{subst, arith}
 use Rattle.std.proofs.lemmas.Result.{IfOk-weaker, IfErr-weaker}
 use Rattle.prolly_check.specs.Rebuilt.{FaultHere, FaultPassing}
@@ -42,3 +43,9 @@ returns-in-Some-clause-err t c =
     IfErr-weaker c.pass-in-Some.result _ _ (λ fault refused. still_refused _ _ (λ fault h.
     fault_second (chunks_in c.args.bytes.now c.args.spans.now) c.args.levels.now c.push_at.new.levels c.args.place c.args.event.now c.in-Ok.closed c.args.number (omega arith) c.in-Ok.ensures
     c.pass.new.levels c.in-Ok-pass.next c.in-Ok-pass.ensures.ok c.in-Some.closed c.in-Some.is fault h) fault refused) c.pass-in-Some.ensures.err
+
+pub returns-then-place-levels-clause-ok : goal.returns-then-place-levels-clause-ok
+returns-then-place-levels-clause-ok t c = grind (arith, common_steps) steps 2000000
+
+pub returns-then-place-levels-clause-next : goal.returns-then-place-levels-clause-next
+returns-then-place-levels-clause-next t c = grind (arith, common_steps) steps 2000000

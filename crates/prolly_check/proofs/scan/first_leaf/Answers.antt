@@ -1,3 +1,4 @@
+use Rattle.std.proofs.lemmas.Grind.{common_steps}
 use Rattle.std.proofs.Common.{sym, arith}
 use Rattle.prolly_entry.proofs.RecordSteps.{rest_is}
 use Rattle.prolly_check.proofs.StartSteps.{root_some, root_stands, start_some, start_leaf, start_none, start_index, start_number, start_next}
@@ -51,3 +52,9 @@ loop-chunk-preserved c = record {
       c.chunk_at-chunk.result.now c.chunk_at-chunk.ensures _ (rest_is c.chunk_at-chunk.result.now 1) c.if-chunk-eq0.false c.in-Some.reference.0 c.in-Some-get.number.now c.in-Some.ensures.some
       (sym c.in-Some-get.ensures.value) content f).0;
 }
+
+pub overflow_sub-number : goal.overflow_sub-number
+overflow_sub-number c = grind (arith, common_steps) steps 2000000
+
+pub chunk_at-chunk-requires : goal.chunk_at-chunk-requires
+chunk_at-chunk-requires c = grind (arith, common_steps) steps 2000000

@@ -1,3 +1,4 @@
+use Rattle.std.proofs.lemmas.Grind.{common_steps}
 use Rattle.std.proofs.Common.{◌∙◌, arith}
 use Rattle.prolly_entry.proofs.RecordSteps.{rest_is}
 use Rattle.prolly_check.proofs.EntrySteps.{no_pair}
@@ -18,3 +19,6 @@ returns-in_default-clause-added c = λ leaf lawful spelled. absurd
 pub returns-clause-added : goal.returns-clause-added
 returns-clause-added c = λ leaf lawful spelled.
     leaf_scan_ends c.args.entries.now c.args.from.now c.args.limit c.args.pairs.now.items c.loop-place.pairs.items c.loop-place.place c.loop-place.invariant leaf lawful spelled (omega arith)
+
+pub returns-then-len-limit-clause-added : goal.returns-then-len-limit-clause-added
+returns-then-len-limit-clause-added c = grind (arith, common_steps) steps 2000000

@@ -1,4 +1,5 @@
-use Rattle.std.proofs.Common.{◌∙◌, sym}
+use Rattle.std.proofs.lemmas.Grind.{common_steps}
+use Rattle.std.proofs.Common.{◌∙◌, sym, arith}
 use Rattle.prolly_file.proofs.levels.leaves.Goals as goal
 
 pub loop-pair-init : goal.loop-pair-init
@@ -6,3 +7,9 @@ loop-pair-init g c = record {
   state = c.in_ok-level.ensures.state;
   sent = λ version. c.new-events.ensures.items ∙ sym (c.in_ok-level.ensures.events version);
 }
+
+pub loop-pair-preserved : goal.loop-pair-preserved
+loop-pair-preserved g c = grind (arith, common_steps) steps 2000000
+
+pub returns : goal.returns
+returns g c = grind (arith, common_steps) steps 2000000

@@ -1,4 +1,5 @@
-use Rattle.std.proofs.Common.{rules, ◌∙◌, sym}
+use Rattle.std.proofs.lemmas.Grind.{common_steps}
+use Rattle.std.proofs.Common.{rules, ◌∙◌, sym, arith}
 use Rattle.prolly_file.proofs.levels.with_nodes.Goals as goal
 
 pub loop-event-init : goal.loop-event-init
@@ -7,3 +8,9 @@ loop-event-init g c = record {
   state = c.in_ok-nodes.ensures.state;
   sent = c.new-more.ensures.items ∙ sym c.in_ok-nodes.ensures.events;
 }
+
+pub loop-event-preserved : goal.loop-event-preserved
+loop-event-preserved g c = grind (arith, common_steps) steps 4000000
+
+pub returns : goal.returns
+returns g c = grind (arith, common_steps) steps 2000000

@@ -4,3 +4,6 @@ use Rattle.prolly_file.proofs.writer.write_all.Goals as goal
 
 pub loop-rest-preserved : goal.loop-rest-preserved
 loop-rest-preserved g c = grind (arith, common_steps) steps 2000000
+
+pub returns-clause-written : goal.returns-clause-written
+returns-clause-written g c = grind (arith, common_steps) steps 2000000

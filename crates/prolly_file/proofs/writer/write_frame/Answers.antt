@@ -1,4 +1,5 @@
-use Rattle.std.proofs.Common.{length}
+use Rattle.std.proofs.lemmas.Grind.{common_steps}
+use Rattle.std.proofs.Common.{length, arith}
 use Rattle.std.proofs.lemmas.Result.{err_from_is_err_and}
 use Rattle.prolly_file.specs.Frame.{frame_start}
 use Rattle.prolly_file.proofs.Written.{taken_of_first}
@@ -10,3 +11,9 @@ returns-in_err-write_all-clause-part g c =
     let part = rw c.frame_start.ensures at (c.in_err-write_all.ensures.part keeps) in
     let p = err_from_is_err_and c.from_residual.result c.from_residual.ensures.1 in
     rw p.1 (taken_of_first _ _ (frame_start (length c.args.bytes.now)) c.args.bytes.now part)
+
+pub returns-clause-written : goal.returns-clause-written
+returns-clause-written g c = grind (arith, common_steps) steps 2000000
+
+pub returns-clause-part : goal.returns-clause-part
+returns-clause-part g c = grind (arith, common_steps) steps 2000000

@@ -1,3 +1,4 @@
+use Rattle.std.proofs.lemmas.Grind.{common_steps}
 use Rattle.std.proofs.Common.{◌≡◌, ◌∙◌, arith, length, sym, ap}
 use Rattle.prolly_file.specs.Script.{SourceScript}
 use Rattle.prolly_file.proofs.ScriptReads.{all_given, handed_out}
@@ -12,3 +13,9 @@ returns-clause-bytes c =
           let size : length c.copy_some-count.new.to ≡ length c.args.buf.now = c.copy_some-count.auto.to in
           all_given _ _ c.args.buf.now _ _ _ c.self.invariant.1 c.deref.ensures.value given.count none (omega arith),
     )
+
+pub returns-clause-count : goal.returns-clause-count
+returns-clause-count c = grind (arith, common_steps) steps 2000000
+
+pub returns-clause-behind : goal.returns-clause-behind
+returns-clause-behind c = grind (arith, common_steps) steps 2000000

@@ -1,5 +1,6 @@
+use Rattle.std.proofs.lemmas.Grind.{common_steps}
 use Rattle.std.specs.Vec.Iter.{into_iter_items, into_iter_len}
-use Rattle.std.proofs.Common.{◌∙◌, ap, ◌++◌, ◌∷◌, []}
+use Rattle.std.proofs.Common.{◌∙◌, ap, ◌++◌, ◌∷◌, [], arith}
 use Rattle.prolly_link.proofs.HandLemmas.{hand_after, batch_in_hand, first_given}
 use Rattle.prolly_link.proofs.batch_receiver.BatchReceiver.recv.Goals as goal
 
@@ -22,3 +23,6 @@ returns-in-Item-clause-items g c =
     first_given c.self.inside.receiver c.recv.new.self c.in-Item.batch first (into_iter_items hand) (into_iter_items c.into_first-first.result.1) (into_iter_len hand)
     c.self.invariant c.in-None.ensures.cases.0 c.in-Item.ensures.items c.into_first-first.ensures.items
     ∙ ap (λ v. v.items ++ first ∷ []) c.self.view_is
+
+pub returns-in-Some-clause-items : goal.returns-in-Some-clause-items
+returns-in-Some-clause-items g c = grind (arith, common_steps) steps 2000000

@@ -7,3 +7,6 @@ returns-then-len-self-clause-ok g c = grind (arith, common_steps) steps 2000000
 
 pub returns-in-Err-clause-ok : goal.returns-in-Err-clause-ok
 returns-in-Err-clause-ok g c = search rules
+
+pub returns-clause-ok : goal.returns-clause-ok
+returns-clause-ok g c = grind (arith, common_steps) steps 2000000
