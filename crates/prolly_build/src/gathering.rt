@@ -19,8 +19,8 @@ use crate::writing::Wrote;
 use prolly_chunk::ChunkEvent;
 use prolly_entry::{Pair, Record};
 use prolly_file::{Sink, Source};
-use prolly_link::{BatchReceiver, BatchSender, ClosedBatch, End, RunFault};
-use prolly_stage::{Gate, Worker};
+use prolly_link::{BatchReceiver, BatchSender, ClosedBatch};
+use prolly_stage::Gate;
 use std::sync::Wait;
 use std::thread::Threads;
 
@@ -114,16 +114,18 @@ pub(crate) fn gather<
         closed,
     } = feed;
     let number = forks.len() as u32;
-    if !site.permit.may_start(Worker::Merger(number)) {
-        let _ = out.close(site.rt, End::Fault(RunFault::NoThread));
-        close_all(site.rt, outs);
-        return Err(refuse(site.rt, last));
-    }
     let Some(handle) = start_last(
-        site.scope, site.rt, site.alloc, site.gate, number, inputs, out,
+        site.scope,
+        site.rt,
+        site.alloc,
+        site.gate,
+        site.permit,
+        number,
+        inputs,
+        out,
     ) else {
         close_all(site.rt, outs);
-        return Err(refuse(site.rt, last));
+        return Err(refuse(site.rt, (forks, closed), last));
     };
     let mut closed = closed;
     let wrote = merge_tree(site, forks, outs, sources, &mut closed, last, sink);

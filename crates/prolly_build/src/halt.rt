@@ -26,10 +26,12 @@ impl Halt {
     }
 }
 
-/// Receives the last link to its end, and writes nothing.
-pub(crate) fn refuse<T: Drop, R: Wait>(rt: &R, last: BatchReceiver<T>) -> Halt
+/// Drops what the workers that are not started would have had, receives the last link to its end, and writes
+/// nothing.
+pub(crate) fn refuse<T: Drop, U: Drop, R: Wait>(rt: &R, unused: U, last: BatchReceiver<T>) -> Halt
     ensures { result ≡ Halt.NoThread }
 {
+    drop(unused);
     let _ = last.drain(rt);
     Halt::NoThread
 }

@@ -14,9 +14,9 @@ use crate::writing::{Wrote, write_all};
 use prolly_chunk::ChunkEvent;
 use prolly_entry::Record;
 use prolly_file::{Sink, Source};
-use prolly_link::{BatchReceiver, BatchSender, ClosedBatch, End, RunFault};
+use prolly_link::{BatchReceiver, BatchSender, ClosedBatch};
 use prolly_load::Loaded;
-use prolly_stage::{Gate, Worker};
+use prolly_stage::Gate;
 use std::sync::Wait;
 use std::thread::Threads;
 
@@ -62,17 +62,20 @@ pub(crate) fn load_all<
     let Some(source) = pop_first(sources) else {
         unreachable!()
     };
-    if !site.permit.may_start(Worker::Loader(file)) {
-        let _ = out.close(site.rt, End::Fault(RunFault::NoThread));
-        close_all(site.rt, outs);
-        return Err(refuse(site.rt, last));
-    }
     let limit = site.config.max_records();
     let Some(handle) = start_loader(
-        site.scope, site.rt, site.alloc, site.gate, file, limit, source, out,
+        site.scope,
+        site.rt,
+        site.alloc,
+        site.gate,
+        site.permit,
+        file,
+        limit,
+        source,
+        out,
     ) else {
         close_all(site.rt, outs);
-        return Err(refuse(site.rt, last));
+        return Err(refuse(site.rt, (), last));
     };
     let wrote = load_all(site, file + 1, outs, sources, closed, last, sink);
     let Loaded { source, out } = handle.join(site.rt);

@@ -2,9 +2,10 @@
 ghost use Rattle.std.specs.Prelude.{◌≡◌, [], IfSome};
 ghost use Rattle.prolly_build.specs.Workers.{IsLoadedFrom};
 
+use crate::permit::Permit;
 use prolly_entry::Record;
 use prolly_file::Source;
-use prolly_link::{BatchSender, ClosedBatch};
+use prolly_link::{BatchSender, ClosedBatch, End, RunFault};
 use prolly_load::{Loaded, load};
 use prolly_stage::{Gate, Gated, Worker};
 use std::alloc::Global;
@@ -44,12 +45,14 @@ fn run_loader<R: Wait, G: Gate, S: Source>(
     load(rt, alloc, file, source, limit, out)
 }
 
-/// Starts a loader. `None` where no thread can be had; its source and its output are then dropped.
-pub(crate) fn start_loader<'s, E, R: Wait + Sync, G: Gate, S: Source + Send + Drop + 's>(
+/// Starts a loader. `None` where it may not start, and its output is closed and its source dropped, or where no
+/// thread can be had, and both are dropped.
+pub(crate) fn start_loader<'s, E, R: Wait + Sync, G: Gate, P: Permit, S: Source + Send + Drop + 's>(
     scope: &'s Scope<'s, E>,
     rt: &'s R,
     alloc: Global,
     gate: &'s G,
+    permit: &P,
     file: u32,
     limit: u32,
     source: S,
@@ -60,6 +63,10 @@ pub(crate) fn start_loader<'s, E, R: Wait + Sync, G: Gate, S: Source + Send + Dr
     ensures source { IfSome result (λ handle. handle.promise.source.value ≡ source) }
     ensures out { IfSome result (λ handle. handle.promise.out.value ≡ out) }
 {
+    if !permit.may_start(Worker::Loader(file)) {
+        let _ = out.close(rt, End::Fault(RunFault::NoThread));
+        return None;
+    }
     let promise = LoadPromise {
         file,
         limit,

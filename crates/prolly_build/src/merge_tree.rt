@@ -18,8 +18,8 @@ use crate::writing::Wrote;
 use prolly_chunk::ChunkEvent;
 use prolly_entry::Record;
 use prolly_file::{Sink, Source};
-use prolly_link::{BatchReceiver, BatchSender, ClosedBatch, End, RunFault};
-use prolly_stage::{Gate, Worker};
+use prolly_link::{BatchReceiver, BatchSender, ClosedBatch};
+use prolly_stage::Gate;
 use std::sync::Wait;
 use std::thread::Threads;
 
@@ -83,14 +83,18 @@ pub(crate) fn merge_tree<
     } = right;
     let out = fork_at(&mut outs, place, left_out, right_out);
     let number = number as u32;
-    if !site.permit.may_start(Worker::Merger(number)) {
-        let _ = out.close(site.rt, End::Fault(RunFault::NoThread));
+    let Some(handle) = start_two(
+        site.scope,
+        site.rt,
+        site.gate,
+        site.permit,
+        number,
+        left,
+        right,
+        out,
+    ) else {
         close_all(site.rt, outs);
-        return Err(refuse(site.rt, last));
-    }
-    let Some(handle) = start_two(site.scope, site.rt, site.gate, number, left, right, out) else {
-        close_all(site.rt, outs);
-        return Err(refuse(site.rt, last));
+        return Err(refuse(site.rt, forks, last));
     };
     let wrote = merge_tree(site, forks, outs, sources, closed, last, sink);
     let TwoEnds { left, right, out } = handle.join(site.rt);

@@ -3,8 +3,9 @@ ghost use Rattle.std.specs.Prelude.{◌≡◌, [], All, IfSome};
 ghost use Rattle.prolly_build.specs.Ran.{IsUnread};
 ghost use Rattle.prolly_build.specs.Merging.{IsMergedTwo, IsMerged};
 
+use crate::permit::Permit;
 use prolly_entry::{Pair, Record};
-use prolly_link::{BatchReceiver, BatchSender, ClosedBatch};
+use prolly_link::{BatchReceiver, BatchSender, ClosedBatch, End, RunFault};
 use prolly_merge::{Merged, MergedTwo, merge, merge_two};
 use prolly_stage::{Gate, Gated, Worker};
 use std::alloc::Global;
@@ -56,11 +57,13 @@ fn run_two<R: Wait, G: Gate>(
     TwoEnds { left, right, out }
 }
 
-/// Starts a merger of two. `None` where no thread can be had; its ends are then dropped.
-pub(crate) fn start_two<'s, E, R: Wait + Sync, G: Gate>(
+/// Starts a merger of two. `None` where it may not start, and its output is closed, or where no thread can be had,
+/// and its ends are dropped.
+pub(crate) fn start_two<'s, E, R: Wait + Sync, G: Gate, P: Permit>(
     scope: &'s Scope<'s, E>,
     rt: &'s R,
     gate: &'s G,
+    permit: &P,
     number: u32,
     left: BatchReceiver<Record>,
     right: BatchReceiver<Record>,
@@ -71,6 +74,10 @@ pub(crate) fn start_two<'s, E, R: Wait + Sync, G: Gate>(
     ensures right { IfSome result (λ handle. handle.promise.right.value ≡ right) }
     ensures out { IfSome result (λ handle. handle.promise.out.value ≡ out) }
 {
+    if !permit.may_start(Worker::Merger(number)) {
+        let _ = out.close(rt, End::Fault(RunFault::NoThread));
+        return None;
+    }
     let promise = TwoPromise {
         left: Snapshot::of(&left),
         right: Snapshot::of(&right),
@@ -125,12 +132,14 @@ fn run_last<R: Wait, G: Gate>(
     LastEnds { inputs, out, pairs }
 }
 
-/// Starts the last merger. `None` where no thread can be had; its ends are then dropped.
-pub(crate) fn start_last<'s, E, R: Wait + Sync, G: Gate>(
+/// Starts the last merger. `None` where it may not start, and its output is closed, or where no thread can be had,
+/// and its ends are dropped.
+pub(crate) fn start_last<'s, E, R: Wait + Sync, G: Gate, P: Permit>(
     scope: &'s Scope<'s, E>,
     rt: &'s R,
     alloc: Global,
     gate: &'s G,
+    permit: &P,
     number: u32,
     inputs: Vec<BatchReceiver<Record>>,
     out: BatchSender<Pair>,
@@ -139,6 +148,10 @@ pub(crate) fn start_last<'s, E, R: Wait + Sync, G: Gate>(
     ensures inputs { IfSome result (λ handle. handle.promise.inputs.value ≡ inputs) }
     ensures out { IfSome result (λ handle. handle.promise.out.value ≡ out) }
 {
+    if !permit.may_start(Worker::Merger(number)) {
+        let _ = out.close(rt, End::Fault(RunFault::NoThread));
+        return None;
+    }
     let promise = LastPromise {
         inputs: Snapshot::of(&inputs),
         out: Snapshot::of(&out),

@@ -1,5 +1,5 @@
 //! The links of a build, all of which are made before a worker starts.
-ghost use Rattle.std.specs.Prelude.{◌≡◌, ◌+◌, ◌<◌, ◌≤◌, [], All, map, vec_len, vec_capacity, IfOk};
+ghost use Rattle.std.specs.Prelude.{◌≡◌, ◌+◌, ◌<◌, ◌≤◌, [], All, map, vec_len, vec_capacity, IfOk, Ok};
 ghost use Rattle.prolly_build.specs.Ran.{IsUnsent, IsUnread};
 
 use crate::config::Config;
@@ -30,13 +30,30 @@ impl Rings {
         ensures files { IfOk result (λ rings. rings.feed.files ≡ files) }
         ensures levels { IfOk result (λ rings. vec_len rings.events + 1 ≡ config.now.stages) }
     {
+        let ends = both(new_link(alloc, config), new_link(alloc, config));
+        let events = new_links(alloc, config, usize::from(config.last_level()));
+        let ((last, pairs), (events, feed)) = both(
+            ends,
+            both(events, new_feed(alloc, config, files)),
+        )?;
         Ok(Rings {
-            last: new_link(alloc, config)?,
-            events: new_links(alloc, config, usize::from(config.last_level()))?,
-            pairs: new_link(alloc, config)?,
-            feed: new_feed(alloc, config, files)?,
+            last,
+            events,
+            pairs,
+            feed,
         })
     }
+}
+
+// Two values, where there was memory for both. What is dropped else is one step of the proof here; among links
+// each of their fields is a few.
+fn both<A: Drop, B: Drop>(
+    a: Result<A, AllocError>,
+    b: Result<B, AllocError>,
+) -> Result<(A, B), AllocError>
+    ensures { IfOk result (λ p. (a ≡ Ok p.0) × (b ≡ Ok p.1)) }
+{
+    Ok((a?, b?))
 }
 
 fn new_links(
@@ -58,10 +75,8 @@ fn new_forks(alloc: Global, config: &Config, count: usize) -> Result<Vec<Fork>, 
 {
     let mut forks = Vec::with_capacity(alloc, count)?;
     for _ in 0..count {
-        forks.push(Fork {
-            left: new_link(alloc, config)?,
-            right: new_link(alloc, config)?,
-        })?;
+        let (left, right) = both(new_link(alloc, config), new_link(alloc, config))?;
+        forks.push(Fork { left, right })?;
     }
     Ok(forks)
 }

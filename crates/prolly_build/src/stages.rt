@@ -5,9 +5,10 @@ ghost use Rattle.prolly_entry.specs.Events.{leaf_events, inner_events};
 ghost use Rattle.prolly_entry.specs.Cut.{sha512_cut};
 ghost use Rattle.prolly_build.specs.Workers.{IsStaged};
 
+use crate::permit::Permit;
 use prolly_chunk::ChunkEvent;
 use prolly_entry::{Pair, Sha512Cut, Version};
-use prolly_link::{BatchReceiver, BatchSender, ClosedBatch};
+use prolly_link::{BatchReceiver, BatchSender, ClosedBatch, End, RunFault};
 use prolly_stage::{Gate, Gated, Staged, Worker, inner_stage_as, leaf_stage};
 use std::alloc::Global;
 use std::snapshot::Snapshot;
@@ -55,12 +56,14 @@ fn run_leaves<R: Wait, G: Gate>(
     StageEnds { input, out }
 }
 
-/// Starts the stage of the leaves. `None` where no thread can be had; its ends are then dropped.
-pub(crate) fn start_leaves<'s, E, R: Wait + Sync, G: Gate>(
+/// Starts the stage of the leaves. `None` where it may not start, and its output is closed, or where no thread
+/// can be had, and its ends are dropped.
+pub(crate) fn start_leaves<'s, E, R: Wait + Sync, G: Gate, P: Permit>(
     scope: &'s Scope<'s, E>,
     rt: &'s R,
     alloc: Global,
     gate: &'s G,
+    permit: &P,
     cut: Sha512Cut,
     input: BatchReceiver<Pair>,
     out: BatchSender<ChunkEvent>,
@@ -70,6 +73,10 @@ pub(crate) fn start_leaves<'s, E, R: Wait + Sync, G: Gate>(
     ensures input { IfSome result (λ handle. handle.promise.input.value ≡ input) }
     ensures out { IfSome result (λ handle. handle.promise.out.value ≡ out) }
 {
+    if !permit.may_start(Worker::Stage(0)) {
+        let _ = out.close(rt, End::Fault(RunFault::NoThread));
+        return None;
+    }
     let promise = LeafPromise {
         cut,
         input: Snapshot::of(&input),
@@ -124,13 +131,14 @@ fn run_nodes<R: Wait, G: Gate>(
     StageEnds { input, out }
 }
 
-/// Starts the stage of the nodes of a level. `None` where no thread can be had; its ends are then
-/// dropped.
-pub(crate) fn start_nodes<'s, E, R: Wait + Sync, G: Gate>(
+/// Starts the stage of the nodes of a level. `None` where it may not start, and its output is closed, or where
+/// no thread can be had, and its ends are dropped.
+pub(crate) fn start_nodes<'s, E, R: Wait + Sync, G: Gate, P: Permit>(
     scope: &'s Scope<'s, E>,
     rt: &'s R,
     alloc: Global,
     gate: &'s G,
+    permit: &P,
     level: u8,
     cut: Sha512Cut,
     version: Version,
@@ -144,6 +152,10 @@ pub(crate) fn start_nodes<'s, E, R: Wait + Sync, G: Gate>(
     ensures input { IfSome result (λ handle. handle.promise.input.value ≡ input) }
     ensures out { IfSome result (λ handle. handle.promise.out.value ≡ out) }
 {
+    if !permit.may_start(Worker::Stage(u32::from(level))) {
+        let _ = out.close(rt, End::Fault(RunFault::NoThread));
+        return None;
+    }
     let promise = NodesPromise {
         level,
         cut,

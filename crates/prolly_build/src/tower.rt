@@ -16,8 +16,8 @@ use crate::writing::Wrote;
 use prolly_chunk::ChunkEvent;
 use prolly_entry::Pair;
 use prolly_file::{Sink, Source};
-use prolly_link::{BatchReceiver, BatchSender, ClosedBatch, End, RunFault};
-use prolly_stage::{Gate, Worker};
+use prolly_link::{BatchReceiver, BatchSender, ClosedBatch};
+use prolly_stage::Gate;
 use std::sync::Wait;
 use std::thread::Threads;
 
@@ -63,15 +63,18 @@ fn run_from_leaves<
         (sunk W.is_keeping W.taken W.failures sink.new)) }
 {
     let NewLink { sender, receiver } = pairs;
-    if !site.permit.may_start(Worker::Stage(0)) {
-        let _ = out.close(site.rt, End::Fault(RunFault::NoThread));
-        return Err(refuse(site.rt, last));
-    }
     let cut = site.config.cut();
     let Some(handle) = start_leaves(
-        site.scope, site.rt, site.alloc, site.gate, cut, receiver, out,
+        site.scope,
+        site.rt,
+        site.alloc,
+        site.gate,
+        site.permit,
+        cut,
+        receiver,
+        out,
     ) else {
-        return Err(refuse(site.rt, last));
+        return Err(refuse(site.rt, (feed, sender), last));
     };
     let gathered = gather(site, feed, sender, sources, last, sink);
     let StageEnds { input, out } = handle.join(site.rt);
@@ -134,16 +137,21 @@ pub(crate) fn run_from_top<
     };
     let level = events.len() as u8 + 1;
     let NewLink { sender, receiver } = link;
-    if !site.permit.may_start(Worker::Stage(u32::from(level))) {
-        let _ = out.close(site.rt, End::Fault(RunFault::NoThread));
-        return Err(refuse(site.rt, last));
-    }
     let cut = site.config.cut();
     let version = site.config.version();
     let Some(handle) = start_nodes(
-        site.scope, site.rt, site.alloc, site.gate, level, cut, version, receiver, out,
+        site.scope,
+        site.rt,
+        site.alloc,
+        site.gate,
+        site.permit,
+        level,
+        cut,
+        version,
+        receiver,
+        out,
     ) else {
-        return Err(refuse(site.rt, last));
+        return Err(refuse(site.rt, (events, pairs, feed, sender), last));
     };
     let ran = run_from_top(site, events, pairs, feed, sender, sources, last, sink);
     let StageEnds { input, out } = handle.join(site.rt);

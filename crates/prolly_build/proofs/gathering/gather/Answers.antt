@@ -2,9 +2,6 @@ use Rattle.std.proofs.Common.{refl}
 use Rattle.prolly_build.proofs.RanSteps.{all_begun, nothing_begun}
 use Rattle.prolly_build.proofs.gathering.gather.Goals as goal
 
-pub returns-then-not-may_start : goal.returns-then-not-may_start
-returns-then-not-may_start g c = record { link = tt; written = tt; gathered = tt; refused = λ _. refl; begun = nothing_begun c.args.site.now.config _ }
-
 pub returns-in_default : goal.returns-in_default
 returns-in_default g c = record { link = tt; written = tt; gathered = tt; refused = λ _. refl; begun = nothing_begun c.args.site.now.config _ }
 

@@ -1,4 +1,5 @@
-use Rattle.std.proofs.Common.{refl}
+use Rattle.std.proofs.lemmas.Grind.{common_steps}
+use Rattle.std.proofs.Common.{refl, arith}
 use Rattle.prolly_build.specs.Ran.{IsUnsent}
 use Rattle.prolly_build.proofs.FirstOnes.{all_rest}
 use Rattle.prolly_build.proofs.RanSteps.{nothing_begun}
@@ -6,18 +7,6 @@ use Rattle.prolly_build.proofs.load_all.+load_all.Goals as goal
 
 pub load_all-wrote-requires-clause-unsent : goal.load_all-wrote-requires-clause-unsent
 load_all-wrote-requires-clause-unsent g t c κs within = all_rest IsUnsent _ _ _ c.in-Some.ensures.items c.requires.unsent
-
-pub returns-then-not-may_start-clause-written : goal.returns-then-not-may_start-clause-written
-returns-then-not-may_start-clause-written g t c = tt
-
-pub returns-then-not-may_start-clause-loaded : goal.returns-then-not-may_start-clause-loaded
-returns-then-not-may_start-clause-loaded g t c = tt
-
-pub returns-then-not-may_start-clause-refused : goal.returns-then-not-may_start-clause-refused
-returns-then-not-may_start-clause-refused g t c = λ _. refl
-
-pub returns-then-not-may_start-clause-begun : goal.returns-then-not-may_start-clause-begun
-returns-then-not-may_start-clause-begun g t c = nothing_begun c.args.site.now.config _
 
 pub returns-in_default-start_loader-clause-written : goal.returns-in_default-start_loader-clause-written
 returns-in_default-start_loader-clause-written g t c = tt
@@ -30,3 +19,6 @@ returns-in_default-start_loader-clause-refused g t c = λ _. refl
 
 pub returns-in_default-start_loader-clause-begun : goal.returns-in_default-start_loader-clause-begun
 returns-in_default-start_loader-clause-begun g t c = nothing_begun c.args.site.now.config _
+
+pub returns-in_default-clause-loaded : goal.returns-in_default-clause-loaded
+returns-in_default-clause-loaded g t c = grind (arith, common_steps) steps 2000000

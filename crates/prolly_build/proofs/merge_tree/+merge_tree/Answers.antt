@@ -8,9 +8,6 @@ use Rattle.prolly_build.proofs.RanSteps.{all_begun, nothing_begun}
 use Rattle.prolly_build.proofs.FeedingSteps.{fed_by_loaders, fed_by_merger, merges_met}
 use Rattle.prolly_build.proofs.merge_tree.+merge_tree.Goals as goal
 
-pub returns-then-not-may_start : goal.returns-then-not-may_start
-returns-then-not-may_start g t c = record { written = tt; fed = tt; refused = λ _. refl; begun = nothing_begun c.args.site.now.config _ }
-
 pub returns-in_default-start_two : goal.returns-in_default-start_two
 returns-in_default-start_two g t c = record { written = tt; fed = tt; refused = λ _. refl; begun = nothing_begun c.args.site.now.config _ }
 

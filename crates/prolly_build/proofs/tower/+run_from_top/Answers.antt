@@ -3,9 +3,6 @@ use Rattle.prolly_build.proofs.RanSteps.{all_begun, nothing_begun}
 use Rattle.prolly_build.proofs.StagingSteps.{nodes_staged}
 use Rattle.prolly_build.proofs.tower.+run_from_top.Goals as goal
 
-pub returns-then-not-may_start : goal.returns-then-not-may_start
-returns-then-not-may_start g t c = record { link = tt; written = tt; staged = tt; refused = λ _. refl; begun = nothing_begun c.args.site.now.config _ }
-
 pub returns-in_default-start_nodes : goal.returns-in_default-start_nodes
 returns-in_default-start_nodes g t c = record { link = tt; written = tt; staged = tt; refused = λ _. refl; begun = nothing_begun c.args.site.now.config _ }
 
