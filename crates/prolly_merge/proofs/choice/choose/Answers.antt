@@ -1,4 +1,5 @@
-use Rattle.std.proofs.Common.{◌≡◌, ◌+◌, Some, length, take, refl, sym, ap, ◌∙◌, subst, rules}
+use Rattle.std.proofs.lemmas.Grind.{common_steps}
+use Rattle.std.proofs.Common.{◌≡◌, ◌+◌, Some, length, take, refl, sym, ap, ◌∙◌, subst, rules, arith}
 use Rattle.std.proofs.lemmas.Option.{slice_get_read}
 use Rattle.prolly_link.specs.declared.fault.End.TheVariants.{Fault}
 use Rattle.prolly_merge.specs.declared.head.Head.TheVariants.{Ended}
@@ -24,3 +25,9 @@ loop-i-preserved c =
       | in-Ended-Clean w ↦ subst (IsLeast (take (i + 1) hs)) (sym w.least-is)
           (least_ended hs i c.index-heads-i.result c.loop-i.least read (search rules) c.loop-i.invariant)
     ]
+
+pub returns-in-Some : goal.returns-in-Some
+returns-in-Some c = grind (arith, common_steps) steps 2000000
+
+pub returns-in-None : goal.returns-in-None
+returns-in-None c = grind (arith, common_steps) steps 2000000
