@@ -2,10 +2,10 @@
 ghost use Rattle.std.specs.Prelude.{◌≡◌, [], IfSome};
 ghost use Rattle.prolly_build.specs.Workers.{IsLoadedFrom};
 
-use crate::permit::Permit;
+use crate::permit::{Permit, permitted};
 use prolly_entry::Record;
 use prolly_file::Source;
-use prolly_link::{BatchSender, ClosedBatch, End, RunFault};
+use prolly_link::{BatchSender, ClosedBatch};
 use prolly_load::{Loaded, load};
 use prolly_stage::{Gate, Gated, Worker};
 use std::alloc::Global;
@@ -63,10 +63,7 @@ pub(crate) fn start_loader<'s, E, R: Wait + Sync, G: Gate, P: Permit, S: Source 
     ensures source { IfSome result (λ handle. handle.promise.source.value ≡ source) }
     ensures out { IfSome result (λ handle. handle.promise.out.value ≡ out) }
 {
-    if !permit.may_start(Worker::Loader(file)) {
-        let _ = out.close(rt, End::Fault(RunFault::NoThread));
-        return None;
-    }
+    let out = permitted(rt, permit, Worker::Loader(file), out)?;
     let promise = LoadPromise {
         file,
         limit,

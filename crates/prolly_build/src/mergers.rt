@@ -3,9 +3,9 @@ ghost use Rattle.std.specs.Prelude.{◌≡◌, [], All, IfSome};
 ghost use Rattle.prolly_build.specs.Ran.{IsUnread};
 ghost use Rattle.prolly_build.specs.Merging.{IsMergedTwo, IsMerged};
 
-use crate::permit::Permit;
+use crate::permit::{Permit, permitted};
 use prolly_entry::{Pair, Record};
-use prolly_link::{BatchReceiver, BatchSender, ClosedBatch, End, RunFault};
+use prolly_link::{BatchReceiver, BatchSender, ClosedBatch};
 use prolly_merge::{Merged, MergedTwo, merge, merge_two};
 use prolly_stage::{Gate, Gated, Worker};
 use std::alloc::Global;
@@ -74,10 +74,7 @@ pub(crate) fn start_two<'s, E, R: Wait + Sync, G: Gate, P: Permit>(
     ensures right { IfSome result (λ handle. handle.promise.right.value ≡ right) }
     ensures out { IfSome result (λ handle. handle.promise.out.value ≡ out) }
 {
-    if !permit.may_start(Worker::Merger(number)) {
-        let _ = out.close(rt, End::Fault(RunFault::NoThread));
-        return None;
-    }
+    let out = permitted(rt, permit, Worker::Merger(number), out)?;
     let promise = TwoPromise {
         left: Snapshot::of(&left),
         right: Snapshot::of(&right),
@@ -148,10 +145,7 @@ pub(crate) fn start_last<'s, E, R: Wait + Sync, G: Gate, P: Permit>(
     ensures inputs { IfSome result (λ handle. handle.promise.inputs.value ≡ inputs) }
     ensures out { IfSome result (λ handle. handle.promise.out.value ≡ out) }
 {
-    if !permit.may_start(Worker::Merger(number)) {
-        let _ = out.close(rt, End::Fault(RunFault::NoThread));
-        return None;
-    }
+    let out = permitted(rt, permit, Worker::Merger(number), out)?;
     let promise = LastPromise {
         inputs: Snapshot::of(&inputs),
         out: Snapshot::of(&out),

@@ -5,10 +5,10 @@ ghost use Rattle.prolly_entry.specs.Events.{leaf_events, inner_events};
 ghost use Rattle.prolly_entry.specs.Cut.{sha512_cut};
 ghost use Rattle.prolly_build.specs.Workers.{IsStaged};
 
-use crate::permit::Permit;
+use crate::permit::{Permit, permitted};
 use prolly_chunk::ChunkEvent;
 use prolly_entry::{Pair, Sha512Cut, Version};
-use prolly_link::{BatchReceiver, BatchSender, ClosedBatch, End, RunFault};
+use prolly_link::{BatchReceiver, BatchSender, ClosedBatch};
 use prolly_stage::{Gate, Gated, Staged, Worker, inner_stage_as, leaf_stage};
 use std::alloc::Global;
 use std::snapshot::Snapshot;
@@ -73,10 +73,7 @@ pub(crate) fn start_leaves<'s, E, R: Wait + Sync, G: Gate, P: Permit>(
     ensures input { IfSome result (λ handle. handle.promise.input.value ≡ input) }
     ensures out { IfSome result (λ handle. handle.promise.out.value ≡ out) }
 {
-    if !permit.may_start(Worker::Stage(0)) {
-        let _ = out.close(rt, End::Fault(RunFault::NoThread));
-        return None;
-    }
+    let out = permitted(rt, permit, Worker::Stage(0), out)?;
     let promise = LeafPromise {
         cut,
         input: Snapshot::of(&input),
@@ -152,10 +149,7 @@ pub(crate) fn start_nodes<'s, E, R: Wait + Sync, G: Gate, P: Permit>(
     ensures input { IfSome result (λ handle. handle.promise.input.value ≡ input) }
     ensures out { IfSome result (λ handle. handle.promise.out.value ≡ out) }
 {
-    if !permit.may_start(Worker::Stage(u32::from(level))) {
-        let _ = out.close(rt, End::Fault(RunFault::NoThread));
-        return None;
-    }
+    let out = permitted(rt, permit, Worker::Stage(u32::from(level)), out)?;
     let promise = NodesPromise {
         level,
         cut,

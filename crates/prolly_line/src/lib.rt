@@ -5,7 +5,7 @@
 #![tactic(auto)]
 
 mod arguments;
-mod building;
+mod assembly;
 mod command;
 mod fields;
 mod help;

@@ -3,7 +3,7 @@ ghost use Rattle.std.specs.Prelude.{◌≡◌, IfOk};
 ghost use Rattle.clap.specs.Words.{app_of};
 ghost use Rattle.prolly_line.specs.Line.{bare_line, program_line};
 
-use crate::building::{described, with_subcommand};
+use crate::assembly::{described, with_subcommand};
 use crate::{help, subcommands};
 use clap::Command;
 use std::alloc::{AllocError, Global};

@@ -5,7 +5,7 @@ ghost use Rattle.clap.specs.declared.builder.command.Command.TheViews.{out-Comma
 ghost use Rattle.prolly_line.specs.Line.{build_line, check_line, get_line, nth_line, pack_line};
 ghost use Rattle.prolly_line.specs.Line.{scan_line, scratch_line};
 
-use crate::building::{described, with_argument};
+use crate::assembly::{described, with_argument};
 use crate::{arguments, help};
 use clap::Command;
 use std::alloc::{AllocError, Global};

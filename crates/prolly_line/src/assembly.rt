@@ -1,4 +1,4 @@
-//! The steps by which a line is built: its texts, its arguments and its subcommands.
+//! The steps by which a line is put together: its texts, its arguments and its subcommands.
 ghost use Rattle.std.specs.Prelude.{◌≡◌, IfOk, Ok, false};
 ghost use Rattle.clap.specs.Words.{App, Rule, app_of, new_app, rule_of, with_rule, with_subcommand};
 ghost use Rattle.clap.specs.declared.builder.command.Command.TheViews.{out-Command as fields_of};
