@@ -5,7 +5,7 @@ use Rattle.prolly_entry.specs.declared.version.Version.{Version}
 use Rattle.prolly_entry.specs.Cut.{sha512_cut}
 use Rattle.prolly_entry.specs.Chunk.{chunks}
 use Rattle.prolly_entry.specs.File.{root_reference, end_record}
-use Rattle.prolly_check.specs.Spans.{chunk_in, chunks_in, FramesTo}
+use Rattle.prolly_check.specs.Spans.{chunks_in, FramesTo}
 use Rattle.prolly_check.specs.declared.frames.Span.{Span}
 use Rattle.prolly_entry.specs.Pair.{Pair}
 use Rattle.prolly_entry.specs.Reference.{reference_of}
@@ -16,7 +16,7 @@ use Rattle.prolly_check.specs.Canonical.{canonical_fault, ending_of_chunks}
 use Rattle.prolly_check.specs.Entries.{AllHold}
 use Rattle.prolly_check.specs.Judged.{order_fault, difference, chunk_bytes, ending_for}
 use Rattle.prolly_check.specs.Whole.{AreWhole}
-use Rattle.prolly_check.proofs.CanonicalSteps.{count_in, chunk_there, then_chunks, chunks_first, end_differs, end_same}
+use Rattle.prolly_check.proofs.CanonicalSteps.{then_chunks, chunks_first, end_differs, end_same}
 use Rattle.prolly_check.proofs.CheckedTree.{count_map, chunks_some, chunks_last}
 use Rattle.prolly_check.proofs.FewPairs.{few_held}
 use Rattle.prolly_check.proofs.Verdicts.{difference_ok}
@@ -32,9 +32,9 @@ abbrev pub AllRise : List ℕ → List Span → Type 0
 AllRise bytes spans = (version : Version) (lists : List (List Pair)) → AllHold version (chunks_in bytes spans) lists → order_fault [] 0 lists ≡ None
 
 -- how the chunks compare with those of the pairs that they hold
-abbrev pub ComparesAs : Version → ℕ → List ℕ → Option CheckFault → List Span → Type 0
-ComparesAs version bits bytes o spans = (lists : List (List Pair)) → AllHold version (chunks_in bytes spans) lists → length (flat lists) < 2 ^ 64 →
-    difference 0 (chunk_bytes version bits (flat lists)) (chunks_in bytes spans) ≡ o
+abbrev pub CompareAs : Version → ℕ → Option CheckFault → List (List ℕ) → Type 0
+CompareAs version bits o chunks = (lists : List (List Pair)) → AllHold version chunks lists → length (flat lists) < 2 ^ 64 →
+    difference 0 (chunk_bytes version bits (flat lists)) chunks ≡ o
 
 module _ (version : Version) (bits : ℕ) (bytes : List ℕ) (spans : List Span) (place : ℕ) (frames : FramesTo bytes spans place) (short : length bytes < 2 ^ 64) (rise : AllRise bytes spans) where
   abbrev cs : List (List ℕ)
@@ -43,13 +43,13 @@ module _ (version : Version) (bits : ℕ) (bytes : List ℕ) (spans : List Span)
   few : (lists : List (List Pair)) → AllHold version cs lists → length (flat lists) < 2 ^ 64
   few lists hold = let f = few_held version bytes spans place lists frames hold in omega arith
 
-  pub chunks_say : (fault : CheckFault) → ComparesAs version bits bytes (Some fault) spans →
+  pub chunks_say : (fault : CheckFault) → CompareAs version bits (Some fault) cs →
       (lists : List (List Pair)) (ending : List ℕ) → AllHold version cs lists → canonical_fault version bits cs ending lists ≡ Some fault
   chunks_say fault h lists ending hold =
       then_chunks version bits cs ending lists (rise version lists hold)
       ∙ chunks_first version bits cs ending (flat lists) (chunk_bytes version bits (flat lists)) fault refl (h lists hold (few lists hold))
 
-  module _ (same : ComparesAs version bits bytes None spans) where
+  module _ (same : CompareAs version bits None cs) where
     none_differ : (lists : List (List Pair)) → AllHold version cs lists → difference 0 (chunk_bytes version bits (flat lists)) cs ≡ None
     none_differ lists hold = same lists hold (few lists hold)
 
@@ -75,8 +75,7 @@ module _ (version : Version) (bits : ℕ) (bytes : List ℕ) (spans : List Span)
         ∙ end_same version bits cs ending (flat lists) (chunk_bytes version bits (flat lists)) found (0x45 ∷ ending_of_chunks cs) refl (none_differ lists hold) e (wants lists hold) h
 
 -- what a file with these chunks ends with
-pub end_wanted : (bytes : List ℕ) (spans : List Span) (other : Span) (chunk root wanted : List ℕ) → 0 < length spans → chunk ≡ chunk_in bytes (get_or spans (length spans - 1) other) → root ≡ reference_of chunk →
-    wanted ≡ end_record root (length spans) → wanted ≡ 0x45 ∷ ending_of_chunks (chunks_in bytes spans)
-end_wanted bytes spans other chunk root wanted some e f g =
-    g ∙ ap (λ r. end_record r (length spans)) (f ∙ ap reference_of (e ∙ chunk_there bytes spans (length spans - 1) other (omega arith)))
-    ∙ ap (λ n. 0x45 ∷ reference_of (get_or (chunks_in bytes spans) (n - 1) []) ++ to_be_bytes w64 n) (sym (count_in bytes spans))
+pub end_wanted : (chunks : List (List ℕ)) (count : ℕ) (root wanted : List ℕ) → count ≡ length chunks → root ≡ reference_of (get_or chunks (count - 1) []) →
+    wanted ≡ end_record root count → wanted ≡ 0x45 ∷ ending_of_chunks chunks
+end_wanted chunks count root wanted e f g =
+    g ∙ ap (λ r. end_record r count) f ∙ ap (λ n. 0x45 ∷ reference_of (get_or chunks (n - 1) []) ++ to_be_bytes w64 n) e

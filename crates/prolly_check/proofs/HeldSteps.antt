@@ -31,13 +31,17 @@ first_held : (version : Version) (chunk : List ℕ) (after : List (List ℕ)) (r
 first_held version chunk after [] h = absurd h
 first_held version chunk after (held ∷ more) h = record { held = held; more = more; is = refl; holds = h.0; hold = h.1 }
 
+pub held_in : (chunks : List (List ℕ)) (place : ℕ) (chunk : List ℕ) → place < length chunks → chunk ≡ get_or chunks place [] →
+    (version : Version) (rest : List (List Pair)) → AllHold version (drop place chunks) rest → FirstHeld version chunk (drop (place + 1) chunks) rest
+held_in chunks place chunk within is version rest hold =
+    let next : place + 1 ≡ suc place = omega arith in
+    rw next (first_held version chunk (drop (suc place) chunks) rest (subst (λ cs. AllHold version cs rest)
+    (drop-cons chunks place [] within ∙ ap (λ c. c ∷ drop (suc place) chunks) (sym is)) hold))
+
 pub held_at : (bytes : List ℕ) (spans : List Span) (place : ℕ) (other : Span) (chunk : List ℕ) → place < length spans → chunk ≡ chunk_in bytes (get_or spans place other) →
     (version : Version) (rest : List (List Pair)) → AllHold version (drop place (chunks_in bytes spans)) rest → FirstHeld version chunk (drop (place + 1) (chunks_in bytes spans)) rest
-held_at bytes spans place other chunk within is version rest hold =
-    let next : place + 1 ≡ suc place = omega arith in
-    rw next (first_held version chunk (drop (suc place) (chunks_in bytes spans)) rest (subst (λ cs. AllHold version cs rest)
-    (drop-cons (chunks_in bytes spans) place [] (omega (arith, count_in bytes spans))
-    ∙ ap (λ c. c ∷ drop (suc place) (chunks_in bytes spans)) (sym (is ∙ chunk_there bytes spans place other within))) hold))
+held_at bytes spans place other chunk within is =
+    held_in (chunks_in bytes spans) place chunk (omega (arith, count_in bytes spans)) (is ∙ chunk_there bytes spans place other within)
 
 -- where no chunk is left, no list is
 pub none_held : (version : Version) (rest : List (List Pair)) → AllHold version [] rest → rest ≡ []

@@ -20,6 +20,7 @@ pub mod Descents
 pub mod FindSteps
 pub mod ChildSteps
 pub mod GetSteps
+pub mod ReferenceSteps
 pub mod References
 pub mod FewPairs
 pub mod CountSteps

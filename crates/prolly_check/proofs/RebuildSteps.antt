@@ -8,10 +8,8 @@ use Rattle.prolly_entry.specs.Front.{IsPairAt, NoPairAt}
 use Rattle.prolly_entry.specs.Pair.{Pair, IsPair}
 use Rattle.prolly_entry.specs.Spelling.{pair_spelling}
 use Rattle.prolly_check.specs.Entries.{Holds, AllHold}
-use Rattle.prolly_check.specs.Spans.{chunk_in, chunks_in}
-use Rattle.prolly_check.specs.declared.frames.Span.{Span}
 use Rattle.prolly_check.proofs.CanonicalSteps.{nothing_left}
-use Rattle.prolly_check.proofs.HeldSteps.{held_at, none_held}
+use Rattle.prolly_check.proofs.HeldSteps.{held_in, none_held}
 use Rattle.prolly_entry.proofs.Parts.{flat}
 use Rattle.prolly_check.proofs.EntrySteps.{past_end, some_left}
 use Rattle.prolly_check.proofs.FindSteps.{first_is}
@@ -201,35 +199,35 @@ pub chunks_begin : (chunks : List (List ℕ)) (leaf : LeafState ℕ) (nodes : Li
 chunks_begin chunks leaf nodes number bits version pairs lists b hold =
     record { done = []; rest = lists; is = refl; hold = hold; behind = subst (λ ps. IsBehind bits version chunks ps leaf nodes number) (sym (append-nil pairs)) b }
 
-module _ (bytes : List ℕ) (spans : List Span) (leaf : LeafState ℕ) (nodes : List (NodeState ℕ)) (number : ℕ) (leaf' : LeafState ℕ) (nodes' : List (NodeState ℕ)) (number' place : ℕ)
-    (all : ChunksTaken (chunks_in bytes spans) leaf nodes number leaf' nodes' number' place) (other : Span) (chunk : List ℕ) (within : place < length spans) (is : chunk ≡ chunk_in bytes (get_or spans place other)) where
+module _ (chunks : List (List ℕ)) (leaf : LeafState ℕ) (nodes : List (NodeState ℕ)) (number : ℕ) (leaf' : LeafState ℕ) (nodes' : List (NodeState ℕ)) (number' place : ℕ)
+    (all : ChunksTaken chunks leaf nodes number leaf' nodes' number' place) (chunk : List ℕ) (within : place < length chunks) (is : chunk ≡ get_or chunks place []) where
   pub chunks_go_on : (leaf'' : LeafState ℕ) (nodes'' : List (NodeState ℕ)) (number'' : ℕ) →
-      ((bits : ℕ) (version : Version) (pairs held : List Pair) → IsBehind bits version (chunks_in bytes spans) pairs leaf' nodes' number' → Holds version chunk held →
-      IsBehind bits version (chunks_in bytes spans) (pairs ++ held) leaf'' nodes'' number'') → ChunksTaken (chunks_in bytes spans) leaf nodes number leaf'' nodes'' number'' (place + 1)
+      ((bits : ℕ) (version : Version) (pairs held : List Pair) → IsBehind bits version chunks pairs leaf' nodes' number' → Holds version chunk held →
+      IsBehind bits version chunks (pairs ++ held) leaf'' nodes'' number'') → ChunksTaken chunks leaf nodes number leaf'' nodes'' number'' (place + 1)
   chunks_go_on leaf'' nodes'' number'' added bits version pairs lists b hold =
       let l = all bits version pairs lists b hold in
-      let f = held_at bytes spans place other chunk within is version l.rest l.hold in
+      let f = held_in chunks place chunk within is version l.rest l.hold in
       record {
         done = l.done ++ f.held;
         rest = f.more;
         is = l.is ∙ ap (λ ls. l.done ++ flat ls) f.is ∙ sym (append_assoc l.done f.held (flat f.more));
         hold = f.hold;
-        behind = subst (λ ps. IsBehind bits version (chunks_in bytes spans) ps leaf'' nodes'' number'') (append_assoc pairs l.done f.held) (added bits version (pairs ++ l.done) f.held l.behind f.holds);
+        behind = subst (λ ps. IsBehind bits version chunks ps leaf'' nodes'' number'') (append_assoc pairs l.done f.held) (added bits version (pairs ++ l.done) f.held l.behind f.holds);
       }
 
   pub chunks_fault : (fault : CheckFault) →
-      ((bits : ℕ) (version : Version) (pairs held : List Pair) → IsBehind bits version (chunks_in bytes spans) pairs leaf' nodes' number' → Holds version chunk held →
-      DifferBy bits version (chunks_in bytes spans) (pairs ++ held) fault) →
-      (bits : ℕ) (version : Version) (pairs : List Pair) (lists : List (List Pair)) → IsBehind bits version (chunks_in bytes spans) pairs leaf nodes number → AllHold version (chunks_in bytes spans) lists →
-      DifferBy bits version (chunks_in bytes spans) (pairs ++ flat lists) fault
+      ((bits : ℕ) (version : Version) (pairs held : List Pair) → IsBehind bits version chunks pairs leaf' nodes' number' → Holds version chunk held →
+      DifferBy bits version chunks (pairs ++ held) fault) →
+      (bits : ℕ) (version : Version) (pairs : List Pair) (lists : List (List Pair)) → IsBehind bits version chunks pairs leaf nodes number → AllHold version chunks lists →
+      DifferBy bits version chunks (pairs ++ flat lists) fault
   chunks_fault fault differs bits version pairs lists b hold =
       let l = all bits version pairs lists b hold in
-      let f = held_at bytes spans place other chunk within is version l.rest l.hold in
+      let f = held_in chunks place chunk within is version l.rest l.hold in
       let whole : ((pairs ++ l.done) ++ f.held) ++ flat f.more ≡ pairs ++ flat lists =
       append_assoc (pairs ++ l.done) f.held (flat f.more) ∙ append_assoc pairs l.done (f.held ++ flat f.more)
       ∙ ap (λ ps. pairs ++ ps) (ap (λ ls. l.done ++ flat ls) (sym f.is) ∙ sym l.is) in
-      subst (λ ps. DifferBy bits version (chunks_in bytes spans) ps fault) whole
-      (differ_by_more bits version (chunks_in bytes spans) ((pairs ++ l.done) ++ f.held) (flat f.more) fault (differs bits version (pairs ++ l.done) f.held l.behind f.holds))
+      subst (λ ps. DifferBy bits version chunks ps fault) whole
+      (differ_by_more bits version chunks ((pairs ++ l.done) ++ f.held) (flat f.more) fault (differs bits version (pairs ++ l.done) f.held l.behind f.holds))
 
 pub chunks_end : (chunks : List (List ℕ)) (leaf : LeafState ℕ) (nodes : List (NodeState ℕ)) (number : ℕ) (leaf' : LeafState ℕ) (nodes' : List (NodeState ℕ)) (number' place : ℕ) →
     length chunks ≤ place → ChunksTaken chunks leaf nodes number leaf' nodes' number' place →

@@ -12,7 +12,7 @@ use Rattle.prolly_check.proofs.Acceptance.{hold_append}
 use Rattle.prolly_check.proofs.FrameBytes.{chunks_more}
 
 -- the chunks up to the next
-one_chunk_more : (bytes : List ℕ) (spans : List Span) (n : ℕ) (other : Span) → n < length spans →
+pub one_chunk_more : (bytes : List ℕ) (spans : List Span) (n : ℕ) (other : Span) → n < length spans →
     chunks_in bytes (take (n + 1) spans) ≡ chunks_in bytes (take n spans) ++ chunk_in bytes (get_or spans n other) ∷ []
 one_chunk_more bytes spans n other h = ap (chunks_in bytes) (take_more spans n other h) ∙ chunks_more bytes (take n spans) (get_or spans n other)
 

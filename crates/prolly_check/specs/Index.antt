@@ -1,11 +1,15 @@
 -- Finding chunks by their references.
-use Rattle.std.specs.Prelude.{◌≡◌, ℕ, ◌<◌, true, is_some, get_or, List, [], length, Option, Some}
+use Rattle.std.specs.Prelude.{◌≡◌, ℕ, ◌<◌, true, is_some, get_or, List, [], length, map, Option, Some}
 use Rattle.std.specs.Ordering.{nat_cmp}
 use Rattle.std.specs.Cmp.Lexicographic.{slice_cmp}
 use Rattle.std.specs.BTreeMap.{BTreeMap, get_by}
 use Rattle.prolly_entry.specs.declared.reference.Ref.{Ref}
 use Rattle.prolly_entry.specs.Reference.{reference_of}
 use Rattle.prolly_entry.specs.Chunk.{IsIn}
+
+-- The references of the chunks, in their order.
+abbrev pub AreReferences : List (List ℕ) → List Ref → Type 0
+AreReferences chunks references = map (λ r. r.0) references ≡ map reference_of chunks
 
 -- The number that an index has for a reference.
 abbrev pub number_of : BTreeMap Ref ℕ → List ℕ → Option ℕ

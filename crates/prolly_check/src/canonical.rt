@@ -1,15 +1,16 @@
 //! The chunks against those of the file of the same pairs.
 ghost use Rattle.std.specs.Prelude.{◌≡◌, ℕ, ◌∷◌, ◌<◌, ◌^◌, None, Some, List, length, drop, OnOk, IfErr};
-ghost use Rattle.std.specs.List.{AllByRecursion};
 ghost use Rattle.prolly_entry.specs.Pair.{Pair as PairValue};
 ghost use Rattle.prolly_check.specs.Canonical.{canonical_fault, ending_of_chunks};
 ghost use Rattle.prolly_check.specs.Entries.{AllHold};
+ghost use Rattle.prolly_check.specs.Index.{AreReferences};
 ghost use Rattle.prolly_check.specs.Refusal.{UnlessMemory};
-ghost use Rattle.prolly_check.specs.Spans.{FramesTo, IsWithin, chunks_in};
+ghost use Rattle.prolly_check.specs.Spans.{FramesTo, chunks_in};
 ghost use Rattle.prolly_check.specs.Whole.{AreWhole};
 
 use crate::fault::CheckFault;
-use crate::frames::{Frames, Span, chunk_at};
+use crate::file_chunks::FileChunks;
+use crate::frames::Frames;
 use crate::order::test_order;
 use crate::rebuild::test_rebuilt;
 use prolly_entry::{Ref, Sha512Cut, Version};
@@ -23,8 +24,10 @@ pub(crate) fn test_canonical(
     version: Version,
     bytes: &[u8],
     frames: &Frames,
+    references: &[Ref],
 ) -> Result<(), CheckFault>
     requires frames { FramesTo bytes.now frames.now.spans.items frames.now.end }
+    requires references { AreReferences (chunks_in bytes.now frames.now.spans.items) references.now }
     requires whole { AreWhole version (chunks_in bytes.now frames.now.spans.items) }
     requires short { length bytes.now < 2 ^ 64 }
     ensures ok { OnOk result ((lists : List (List PairValue)) (ending : List ℕ) → AllHold version (chunks_in bytes.now frames.now.spans.items) lists → drop frames.now.end bytes.now ≡ 0x45 ∷ ending →
@@ -36,22 +39,23 @@ pub(crate) fn test_canonical(
         Ok(()) => {}
         Err(fault) => return Err(fault),
     }
-    match test_rebuilt(alloc, cut, version, bytes, &frames.spans) {
+    let chunks = FileChunks::new(bytes, &frames.spans, references);
+    match test_rebuilt(alloc, cut, version, &chunks) {
         Ok(()) => {}
         Err(fault) => return Err(fault),
     }
-    test_end(&bytes[frames.end..], bytes, &frames.spans)
+    test_end(&bytes[frames.end..], &chunks)
 }
 
 /// Tests that an end record has the reference of the last chunk and the number of chunks.
-fn test_end(found: &[u8], bytes: &[u8], spans: &[Span]) -> Result<(), CheckFault>
-    requires within { AllByRecursion (IsWithin bytes.now) spans.now }
-    requires some { 0 < length spans.now }
-    ensures ok { OnOk result (found.now ≡ 0x45 ∷ ending_of_chunks (chunks_in bytes.now spans.now)) }
-    ensures err { IfErr result (λ fault. (fault ≡ CheckFault.BadEnd) × (found.now ≡ 0x45 ∷ ending_of_chunks (chunks_in bytes.now spans.now) → ⊥)) }
+fn test_end(found: &[u8], chunks: &FileChunks) -> Result<(), CheckFault>
+    requires { 0 < length chunks.now }
+    ensures ok { OnOk result (found.now ≡ 0x45 ∷ ending_of_chunks chunks.now) }
+    ensures err { IfErr result (λ fault. (fault ≡ CheckFault.BadEnd) × (found.now ≡ 0x45 ∷ ending_of_chunks chunks.now → ⊥)) }
 {
-    let root = Ref::of(chunk_at(bytes, spans[spans.len() - 1]));
-    if found != end_record(&root, spans.len() as u64).as_slice() {
+    let count = chunks.len();
+    let root = chunks.reference(count - 1);
+    if found != end_record(&root, count as u64).as_slice() {
         return Err(CheckFault::BadEnd);
     }
     Ok(())

@@ -18,8 +18,8 @@ use std::alloc::Global;
 /// and the end record against those of the file of the same pairs; the references.
 ///
 /// Takes time linear in the bytes, but for the ordering of the references, and hashes each entry once
-/// and each chunk twice. Beside the bytes it holds the place of each chunk, while the chunks are rebuilt one
-/// open chunk of each level, and then the references.
+/// and each chunk once. Beside the bytes it holds the place and the reference of each chunk, while the
+/// chunks are rebuilt one open chunk of each level, and then the index of the references.
 pub fn check<S: Source>(alloc: Global, source: &mut S, max_bytes: u32) -> Result<Tree, CheckFault>
     // What is accepted are the bytes of the source, and they are the file of a map.
     ensures same { S.is_honest source.old ≡ true → IfOk result (λ tree. tree ≡ S.left source.old) }

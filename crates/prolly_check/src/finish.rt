@@ -1,14 +1,12 @@
 //! The end of the rebuilt chunks: what is left open is closed, level by level.
 ghost use Rattle.std.specs.Prelude.{◌≡◌, ◌<◌, ◌≤◌, ◌^◌, ℕ, List, length, IfOk, IfErr};
-ghost use Rattle.std.specs.List.{AllByRecursion};
 ghost use Rattle.prolly_entry.specs.Pair.{Pair as PairValue};
 ghost use Rattle.prolly_entry.specs.declared.version.Version.{Version};
 ghost use Rattle.prolly_check.specs.Rebuilt.{EndsAt, FaultAtEnd, IsEnding, MaybePasses, MaybeFault};
 ghost use Rattle.prolly_check.specs.Refusal.{UnlessMemory};
-ghost use Rattle.prolly_check.specs.Spans.{IsWithin, chunks_in};
 
 use crate::fault::CheckFault;
-use crate::frames::Span;
+use crate::file_chunks::FileChunks;
 use crate::passing::pass;
 use prolly_chunk::{ChunkEvent, NodeLevel};
 use prolly_entry::Sha512Cut;
@@ -19,19 +17,20 @@ pub(crate) fn pass_last(
     alloc: Global,
     levels: &mut [NodeLevel<Sha512Cut>],
     last: Option<ChunkEvent>,
-    bytes: &[u8],
-    spans: &[Span],
+    chunks: &FileChunks,
     number: usize,
 ) -> Result<usize, CheckFault>
-    requires within { AllByRecursion (IsWithin bytes.now) spans.now }
-    requires number { number ≤ length spans.now }
-    ensures ok { IfOk result (λ next. MaybePasses (chunks_in bytes.now spans.now) levels.old levels.new last number next) }
-    ensures next { IfOk result (λ next. next ≤ length spans.now) }
-    ensures err { IfErr result (UnlessMemory (MaybeFault (chunks_in bytes.now spans.now) levels.old last number)) }
+    requires number { number ≤ length chunks.now }
+    ensures ok { IfOk result (λ next. MaybePasses chunks.now levels.old levels.new last number next) }
+    ensures next { IfOk result (λ next. next ≤ length chunks.now) }
+    ensures err { IfErr result (UnlessMemory (MaybeFault chunks.now levels.old last number)) }
 {
     match last {
         None => Ok(number),
-        Some(last) => pass(alloc, levels, 0, &last, bytes, spans, number),
+        Some(last) => {
+            let last = chunks.with_reference(last, number);
+            pass(alloc, levels, 0, &last, chunks, number)
+        }
     }
 }
 
@@ -39,21 +38,19 @@ pub(crate) fn pass_last(
 pub(crate) fn finish_nodes(
     alloc: Global,
     mut nodes: Vec<NodeLevel<Sha512Cut>>,
-    bytes: &[u8],
-    spans: &[Span],
+    chunks: &FileChunks,
     mut number: usize,
 ) -> Result<usize, CheckFault>
-    requires within { AllByRecursion (IsWithin bytes.now) spans.now }
-    requires number { number ≤ length spans.now }
-    ensures ok { IfOk result (λ count. (bits : ℕ) (version : Version) (pairs : List PairValue) → IsEnding bits version (chunks_in bytes.now spans.now) pairs nodes.items number →
-        EndsAt bits version (chunks_in bytes.now spans.now) pairs count) }
-    ensures count { IfOk result (λ count. count ≤ length spans.now) }
-    ensures err { IfErr result (UnlessMemory (λ fault. (bits : ℕ) (version : Version) (pairs : List PairValue) → IsEnding bits version (chunks_in bytes.now spans.now) pairs nodes.items number →
-        FaultAtEnd bits version (chunks_in bytes.now spans.now) pairs fault)) }
+    requires number { number ≤ length chunks.now }
+    ensures ok { IfOk result (λ count. (bits : ℕ) (version : Version) (pairs : List PairValue) → IsEnding bits version chunks.now pairs nodes.items number →
+        EndsAt bits version chunks.now pairs count) }
+    ensures count { IfOk result (λ count. count ≤ length chunks.now) }
+    ensures err { IfErr result (UnlessMemory (λ fault. (bits : ℕ) (version : Version) (pairs : List PairValue) → IsEnding bits version chunks.now pairs nodes.items number →
+        FaultAtEnd bits version chunks.now pairs fault)) }
 {
     while nodes.len() > 0 {
         let last = nodes.remove(0).finish();
-        number = match pass_last(alloc, &mut nodes, last, bytes, spans, number) {
+        number = match pass_last(alloc, &mut nodes, last, chunks, number) {
             Ok(next) => next,
             Err(fault) => return Err(fault),
         };

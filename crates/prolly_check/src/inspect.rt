@@ -7,6 +7,7 @@ ghost use Rattle.prolly_check.specs.Verdict.{IsVerdict};
 use crate::canonical::test_canonical;
 use crate::ending::test_ending;
 use crate::fault::CheckFault;
+use crate::file_chunks::references_of;
 use crate::frames::{Span, find_frames};
 use crate::header::read_header;
 use crate::index::{Index, index_chunks};
@@ -36,8 +37,9 @@ pub(crate) fn inspect(alloc: Global, bytes: &[u8]) -> Result<Layout, CheckFault>
         Some(cut) => cut,
         None => unreachable!(),
     };
-    test_canonical(alloc, cut, header.version, bytes, &frames)?;
-    let index = index_chunks(alloc, bytes, &frames.spans)?;
+    let references = references_of(alloc, bytes, &frames.spans)?;
+    test_canonical(alloc, cut, header.version, bytes, &frames, &references)?;
+    let index = index_chunks(alloc, &references)?;
     Ok(Layout {
         version: header.version,
         spans: frames.spans,

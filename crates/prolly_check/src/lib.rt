@@ -5,6 +5,7 @@ mod canonical;
 mod checker;
 mod ending;
 mod fault;
+mod file_chunks;
 mod find;
 mod finish;
 mod frames;

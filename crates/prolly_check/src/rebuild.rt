@@ -8,11 +8,10 @@ ghost use Rattle.prolly_check.specs.Entries.{Holds, AllHold};
 ghost use Rattle.prolly_check.specs.Judged.{difference, chunk_bytes};
 ghost use Rattle.prolly_check.specs.Rebuilt.{IsBehind, DifferBy, AreUnused, EndsAt, FaultAtEnd, node_levels};
 ghost use Rattle.prolly_check.specs.Refusal.{UnlessMemory};
-ghost use Rattle.prolly_check.specs.Spans.{IsWithin, chunks_in};
 
 use crate::fault::CheckFault;
+use crate::file_chunks::FileChunks;
 use crate::finish::{finish_nodes, pass_last};
-use crate::frames::{Span, chunk_at};
 use crate::passing::pass;
 use prolly_chunk::{LeafLevel, NodeLevel};
 use prolly_entry::{Front, Pair, Sha512Cut, Version, front_pair};
@@ -63,38 +62,30 @@ fn add_pair(
     alloc: Global,
     rebuild: &mut Rebuild,
     pair: &Pair,
-    bytes: &[u8],
-    spans: &[Span],
+    chunks: &FileChunks,
 ) -> Result<(), CheckFault>
-    requires within { AllByRecursion (IsWithin bytes.now) spans.now }
-    requires number { rebuild.old.number ≤ length spans.now }
-    ensures ok { OnOk result ((bits : ℕ) (version : Version) (pairs : List PairValue) → IsBehind bits version (chunks_in bytes.now spans.now) pairs rebuild.old.leaf rebuild.old.nodes.items rebuild.old.number →
-        IsBehind bits version (chunks_in bytes.now spans.now) (pairs ++ pair.now ∷ []) rebuild.new.leaf rebuild.new.nodes.items rebuild.new.number) }
-    ensures number { OnOk result (rebuild.new.number ≤ length spans.now) }
-    ensures err { IfErr result (UnlessMemory (λ fault. (bits : ℕ) (version : Version) (pairs : List PairValue) → IsBehind bits version (chunks_in bytes.now spans.now) pairs rebuild.old.leaf rebuild.old.nodes.items rebuild.old.number →
-        DifferBy bits version (chunks_in bytes.now spans.now) (pairs ++ pair.now ∷ []) fault)) }
+    requires number { rebuild.old.number ≤ length chunks.now }
+    ensures ok { OnOk result ((bits : ℕ) (version : Version) (pairs : List PairValue) → IsBehind bits version chunks.now pairs rebuild.old.leaf rebuild.old.nodes.items rebuild.old.number →
+        IsBehind bits version chunks.now (pairs ++ pair.now ∷ []) rebuild.new.leaf rebuild.new.nodes.items rebuild.new.number) }
+    ensures number { OnOk result (rebuild.new.number ≤ length chunks.now) }
+    ensures err { IfErr result (UnlessMemory (λ fault. (bits : ℕ) (version : Version) (pairs : List PairValue) → IsBehind bits version chunks.now pairs rebuild.old.leaf rebuild.old.nodes.items rebuild.old.number →
+        DifferBy bits version chunks.now (pairs ++ pair.now ∷ []) fault)) }
 {
     let closed = match rebuild.leaf.push(alloc, pair) {
         Ok(closed) => closed,
         Err(_) => return Err(CheckFault::Memory),
     };
-    match closed {
-        None => Ok(()),
-        Some(leaf) => match pass(
-            alloc,
-            &mut rebuild.nodes,
-            0,
-            &leaf,
-            bytes,
-            spans,
-            rebuild.number,
-        ) {
-            Ok(number) => {
-                rebuild.number = number;
-                Ok(())
-            }
-            Err(fault) => Err(fault),
-        },
+    let Some(leaf) = closed else {
+        return Ok(());
+    };
+    let number = rebuild.number;
+    let leaf = chunks.with_reference(leaf, number);
+    match pass(alloc, &mut rebuild.nodes, 0, &leaf, chunks, number) {
+        Ok(next) => {
+            rebuild.number = next;
+            Ok(())
+        }
+        Err(fault) => Err(fault),
     }
 }
 
@@ -104,25 +95,23 @@ fn add_copy(
     rebuild: &mut Rebuild,
     key: &[u8],
     value: &[u8],
-    bytes: &[u8],
-    spans: &[Span],
+    chunks: &FileChunks,
 ) -> Result<(), CheckFault>
     requires key { length key.now ≤ 1024 }
     requires value { length value.now ≤ 65536 }
-    requires within { AllByRecursion (IsWithin bytes.now) spans.now }
-    requires number { rebuild.old.number ≤ length spans.now }
+    requires number { rebuild.old.number ≤ length chunks.now }
     ensures ok { OnOk result ((bits : ℕ) (version : Version) (pairs : List PairValue) (pair : PairValue) → pair ≡ record { key = key.now; value = value.now } →
-        IsBehind bits version (chunks_in bytes.now spans.now) pairs rebuild.old.leaf rebuild.old.nodes.items rebuild.old.number →
-        IsBehind bits version (chunks_in bytes.now spans.now) (pairs ++ pair ∷ []) rebuild.new.leaf rebuild.new.nodes.items rebuild.new.number) }
-    ensures number { OnOk result (rebuild.new.number ≤ length spans.now) }
+        IsBehind bits version chunks.now pairs rebuild.old.leaf rebuild.old.nodes.items rebuild.old.number →
+        IsBehind bits version chunks.now (pairs ++ pair ∷ []) rebuild.new.leaf rebuild.new.nodes.items rebuild.new.number) }
+    ensures number { OnOk result (rebuild.new.number ≤ length chunks.now) }
     ensures err { IfErr result (UnlessMemory (λ fault. (bits : ℕ) (version : Version) (pairs : List PairValue) (pair : PairValue) → pair ≡ record { key = key.now; value = value.now } →
-        IsBehind bits version (chunks_in bytes.now spans.now) pairs rebuild.old.leaf rebuild.old.nodes.items rebuild.old.number →
-        DifferBy bits version (chunks_in bytes.now spans.now) (pairs ++ pair ∷ []) fault)) }
+        IsBehind bits version chunks.now pairs rebuild.old.leaf rebuild.old.nodes.items rebuild.old.number →
+        DifferBy bits version chunks.now (pairs ++ pair ∷ []) fault)) }
 {
     let Ok(pair) = Pair::copy_of(alloc, key, value) else {
         return Err(CheckFault::Memory);
     };
-    add_pair(alloc, rebuild, &pair, bytes, spans)
+    add_pair(alloc, rebuild, &pair, chunks)
 }
 
 /// Takes the pairs of a leaf's entries.
@@ -130,17 +119,15 @@ fn add_leaf(
     alloc: Global,
     rebuild: &mut Rebuild,
     entries: &[u8],
-    bytes: &[u8],
-    spans: &[Span],
+    chunks: &FileChunks,
 ) -> Result<(), CheckFault>
-    requires within { AllByRecursion (IsWithin bytes.now) spans.now }
-    requires number { rebuild.old.number ≤ length spans.now }
-    ensures ok { OnOk result ((bits : ℕ) (version : Version) (pairs leaf : List PairValue) → IsBehind bits version (chunks_in bytes.now spans.now) pairs rebuild.old.leaf rebuild.old.nodes.items rebuild.old.number →
+    requires number { rebuild.old.number ≤ length chunks.now }
+    ensures ok { OnOk result ((bits : ℕ) (version : Version) (pairs leaf : List PairValue) → IsBehind bits version chunks.now pairs rebuild.old.leaf rebuild.old.nodes.items rebuild.old.number →
         AllByRecursion IsPair leaf → entries.now ≡ flat_map pair_spelling leaf →
-        IsBehind bits version (chunks_in bytes.now spans.now) (pairs ++ leaf) rebuild.new.leaf rebuild.new.nodes.items rebuild.new.number) }
-    ensures number { OnOk result (rebuild.new.number ≤ length spans.now) }
-    ensures err { IfErr result (UnlessMemory (λ fault. (bits : ℕ) (version : Version) (pairs leaf : List PairValue) → IsBehind bits version (chunks_in bytes.now spans.now) pairs rebuild.old.leaf rebuild.old.nodes.items rebuild.old.number →
-        AllByRecursion IsPair leaf → entries.now ≡ flat_map pair_spelling leaf → DifferBy bits version (chunks_in bytes.now spans.now) (pairs ++ leaf) fault)) }
+        IsBehind bits version chunks.now (pairs ++ leaf) rebuild.new.leaf rebuild.new.nodes.items rebuild.new.number) }
+    ensures number { OnOk result (rebuild.new.number ≤ length chunks.now) }
+    ensures err { IfErr result (UnlessMemory (λ fault. (bits : ℕ) (version : Version) (pairs leaf : List PairValue) → IsBehind bits version chunks.now pairs rebuild.old.leaf rebuild.old.nodes.items rebuild.old.number →
+        AllByRecursion IsPair leaf → entries.now ≡ flat_map pair_spelling leaf → DifferBy bits version chunks.now (pairs ++ leaf) fault)) }
 {
     let mut place = 0;
     while place < entries.len() {
@@ -152,7 +139,7 @@ fn add_leaf(
                 len,
             } => {
                 let (key, value) = (&rest[2..key_end], &rest[value_start..len]);
-                match add_copy(alloc, rebuild, key, value, bytes, spans) {
+                match add_copy(alloc, rebuild, key, value, chunks) {
                     Ok(()) => place += len,
                     Err(fault) => return Err(fault),
                 }
@@ -168,16 +155,14 @@ fn add_chunk(
     alloc: Global,
     rebuild: &mut Rebuild,
     chunk: &[u8],
-    bytes: &[u8],
-    spans: &[Span],
+    chunks: &FileChunks,
 ) -> Result<(), CheckFault>
-    requires within { AllByRecursion (IsWithin bytes.now) spans.now }
-    requires number { rebuild.old.number ≤ length spans.now }
-    ensures ok { OnOk result ((bits : ℕ) (version : Version) (pairs held : List PairValue) → IsBehind bits version (chunks_in bytes.now spans.now) pairs rebuild.old.leaf rebuild.old.nodes.items rebuild.old.number →
-        Holds version chunk.now held → IsBehind bits version (chunks_in bytes.now spans.now) (pairs ++ held) rebuild.new.leaf rebuild.new.nodes.items rebuild.new.number) }
-    ensures number { OnOk result (rebuild.new.number ≤ length spans.now) }
-    ensures err { IfErr result (UnlessMemory (λ fault. (bits : ℕ) (version : Version) (pairs held : List PairValue) → IsBehind bits version (chunks_in bytes.now spans.now) pairs rebuild.old.leaf rebuild.old.nodes.items rebuild.old.number →
-        Holds version chunk.now held → DifferBy bits version (chunks_in bytes.now spans.now) (pairs ++ held) fault)) }
+    requires number { rebuild.old.number ≤ length chunks.now }
+    ensures ok { OnOk result ((bits : ℕ) (version : Version) (pairs held : List PairValue) → IsBehind bits version chunks.now pairs rebuild.old.leaf rebuild.old.nodes.items rebuild.old.number →
+        Holds version chunk.now held → IsBehind bits version chunks.now (pairs ++ held) rebuild.new.leaf rebuild.new.nodes.items rebuild.new.number) }
+    ensures number { OnOk result (rebuild.new.number ≤ length chunks.now) }
+    ensures err { IfErr result (UnlessMemory (λ fault. (bits : ℕ) (version : Version) (pairs held : List PairValue) → IsBehind bits version chunks.now pairs rebuild.old.leaf rebuild.old.nodes.items rebuild.old.number →
+        Holds version chunk.now held → DifferBy bits version chunks.now (pairs ++ held) fault)) }
 {
     if chunk.len() == 0 {
         return Ok(());
@@ -185,26 +170,20 @@ fn add_chunk(
     if chunk[0] != 0 {
         return Ok(());
     }
-    add_leaf(alloc, rebuild, &chunk[1..], bytes, spans)
+    add_leaf(alloc, rebuild, &chunk[1..], chunks)
 }
 
 /// Takes the pairs of all chunks of a file.
-fn add_chunks(
-    alloc: Global,
-    rebuild: &mut Rebuild,
-    bytes: &[u8],
-    spans: &[Span],
-) -> Result<(), CheckFault>
-    requires within { AllByRecursion (IsWithin bytes.now) spans.now }
-    requires number { rebuild.old.number ≤ length spans.now }
-    ensures ok { OnOk result ((bits : ℕ) (version : Version) (pairs : List PairValue) (lists : List (List PairValue)) → IsBehind bits version (chunks_in bytes.now spans.now) pairs rebuild.old.leaf rebuild.old.nodes.items rebuild.old.number →
-        AllHold version (chunks_in bytes.now spans.now) lists → IsBehind bits version (chunks_in bytes.now spans.now) (pairs ++ flat_map (λ pairs. pairs) lists) rebuild.new.leaf rebuild.new.nodes.items rebuild.new.number) }
-    ensures number { OnOk result (rebuild.new.number ≤ length spans.now) }
-    ensures err { IfErr result (UnlessMemory (λ fault. (bits : ℕ) (version : Version) (pairs : List PairValue) (lists : List (List PairValue)) → IsBehind bits version (chunks_in bytes.now spans.now) pairs rebuild.old.leaf rebuild.old.nodes.items rebuild.old.number →
-        AllHold version (chunks_in bytes.now spans.now) lists → DifferBy bits version (chunks_in bytes.now spans.now) (pairs ++ flat_map (λ pairs. pairs) lists) fault)) }
+fn add_chunks(alloc: Global, rebuild: &mut Rebuild, chunks: &FileChunks) -> Result<(), CheckFault>
+    requires number { rebuild.old.number ≤ length chunks.now }
+    ensures ok { OnOk result ((bits : ℕ) (version : Version) (pairs : List PairValue) (lists : List (List PairValue)) → IsBehind bits version chunks.now pairs rebuild.old.leaf rebuild.old.nodes.items rebuild.old.number →
+        AllHold version chunks.now lists → IsBehind bits version chunks.now (pairs ++ flat_map (λ pairs. pairs) lists) rebuild.new.leaf rebuild.new.nodes.items rebuild.new.number) }
+    ensures number { OnOk result (rebuild.new.number ≤ length chunks.now) }
+    ensures err { IfErr result (UnlessMemory (λ fault. (bits : ℕ) (version : Version) (pairs : List PairValue) (lists : List (List PairValue)) → IsBehind bits version chunks.now pairs rebuild.old.leaf rebuild.old.nodes.items rebuild.old.number →
+        AllHold version chunks.now lists → DifferBy bits version chunks.now (pairs ++ flat_map (λ pairs. pairs) lists) fault)) }
 {
-    for span in spans {
-        match add_chunk(alloc, rebuild, chunk_at(bytes, *span), bytes, spans) {
+    for number in 0..chunks.len() {
+        match add_chunk(alloc, rebuild, chunks.chunk(number), chunks) {
             Ok(()) => {}
             Err(fault) => return Err(fault),
         }
@@ -213,19 +192,13 @@ fn add_chunks(
 }
 
 /// Closes what is left open, and answers how many chunks there are in all.
-fn finish(
-    alloc: Global,
-    rebuild: Rebuild,
-    bytes: &[u8],
-    spans: &[Span],
-) -> Result<usize, CheckFault>
-    requires within { AllByRecursion (IsWithin bytes.now) spans.now }
-    requires number { rebuild.number ≤ length spans.now }
-    ensures ok { IfOk result (λ count. (bits : ℕ) (version : Version) (pairs : List PairValue) → IsBehind bits version (chunks_in bytes.now spans.now) pairs rebuild.leaf rebuild.nodes.items rebuild.number →
-        EndsAt bits version (chunks_in bytes.now spans.now) pairs count) }
-    ensures count { IfOk result (λ count. count ≤ length spans.now) }
-    ensures err { IfErr result (UnlessMemory (λ fault. (bits : ℕ) (version : Version) (pairs : List PairValue) → IsBehind bits version (chunks_in bytes.now spans.now) pairs rebuild.leaf rebuild.nodes.items rebuild.number →
-        FaultAtEnd bits version (chunks_in bytes.now spans.now) pairs fault)) }
+fn finish(alloc: Global, rebuild: Rebuild, chunks: &FileChunks) -> Result<usize, CheckFault>
+    requires number { rebuild.number ≤ length chunks.now }
+    ensures ok { IfOk result (λ count. (bits : ℕ) (version : Version) (pairs : List PairValue) → IsBehind bits version chunks.now pairs rebuild.leaf rebuild.nodes.items rebuild.number →
+        EndsAt bits version chunks.now pairs count) }
+    ensures count { IfOk result (λ count. count ≤ length chunks.now) }
+    ensures err { IfErr result (UnlessMemory (λ fault. (bits : ℕ) (version : Version) (pairs : List PairValue) → IsBehind bits version chunks.now pairs rebuild.leaf rebuild.nodes.items rebuild.number →
+        FaultAtEnd bits version chunks.now pairs fault)) }
 {
     let Rebuild {
         leaf,
@@ -233,8 +206,8 @@ fn finish(
         number,
     } = rebuild;
     let last = leaf.finish();
-    match pass_last(alloc, &mut nodes, last, bytes, spans, number) {
-        Ok(next) => finish_nodes(alloc, nodes, bytes, spans, next),
+    match pass_last(alloc, &mut nodes, last, chunks, number) {
+        Ok(next) => finish_nodes(alloc, nodes, chunks, next),
         Err(fault) => Err(fault),
     }
 }
@@ -246,28 +219,26 @@ pub(crate) fn test_rebuilt(
     alloc: Global,
     cut: Sha512Cut,
     version: Version,
-    bytes: &[u8],
-    spans: &[Span],
+    chunks: &FileChunks,
 ) -> Result<(), CheckFault>
-    requires within { AllByRecursion (IsWithin bytes.now) spans.now }
-    ensures ok { OnOk result ((lists : List (List PairValue)) → AllHold version (chunks_in bytes.now spans.now) lists → length (flat_map (λ pairs. pairs) lists) < 2 ^ 64 →
-        difference 0 (chunk_bytes version cut (flat_map (λ pairs. pairs) lists)) (chunks_in bytes.now spans.now) ≡ None) }
-    ensures err { IfErr result (UnlessMemory (λ fault. (lists : List (List PairValue)) → AllHold version (chunks_in bytes.now spans.now) lists → length (flat_map (λ pairs. pairs) lists) < 2 ^ 64 →
-        difference 0 (chunk_bytes version cut (flat_map (λ pairs. pairs) lists)) (chunks_in bytes.now spans.now) ≡ Some fault)) }
+    ensures ok { OnOk result ((lists : List (List PairValue)) → AllHold version chunks.now lists → length (flat_map (λ pairs. pairs) lists) < 2 ^ 64 →
+        difference 0 (chunk_bytes version cut (flat_map (λ pairs. pairs) lists)) chunks.now ≡ None) }
+    ensures err { IfErr result (UnlessMemory (λ fault. (lists : List (List PairValue)) → AllHold version chunks.now lists → length (flat_map (λ pairs. pairs) lists) < 2 ^ 64 →
+        difference 0 (chunk_bytes version cut (flat_map (λ pairs. pairs) lists)) chunks.now ≡ Some fault)) }
 {
     let mut rebuild = match begin(alloc, cut, version) {
         Ok(rebuild) => rebuild,
         Err(_) => return Err(CheckFault::Memory),
     };
-    match add_chunks(alloc, &mut rebuild, bytes, spans) {
+    match add_chunks(alloc, &mut rebuild, chunks) {
         Ok(()) => {}
         Err(fault) => return Err(fault),
     }
-    let count = match finish(alloc, rebuild, bytes, spans) {
+    let count = match finish(alloc, rebuild, chunks) {
         Ok(count) => count,
         Err(fault) => return Err(fault),
     };
-    if count < spans.len() {
+    if count < chunks.len() {
         return Err(CheckFault::NotCanonical { chunk: count });
     }
     Ok(())

@@ -49,6 +49,19 @@ impl ChunkEvent {
         ChunkEvent { reference, ..self }
     }
 
+    /// The same event, which carries this reference of its bytes from now on. Takes no hash, and no memory.
+    ///
+    /// For whoever has had to hash the same bytes before.
+    pub fn with_known_reference(self, reference: Ref) -> ChunkEvent
+        requires { reference.0 ≡ reference_of self.bytes }
+        ensures { result ≡ self }
+    {
+        ChunkEvent {
+            reference: Some(reference),
+            ..self
+        }
+    }
+
     /// The level: 0 for a leaf, and for a node one more than that of its children.
     pub fn level(&self) -> u8
         ensures { result ≡ self.now.level }

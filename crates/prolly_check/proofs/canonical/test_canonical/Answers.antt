@@ -7,7 +7,7 @@ use Rattle.prolly_check.specs.Entries.{AllHold}
 use Rattle.prolly_check.specs.Refusal.{UnlessMemory}
 use Rattle.prolly_check.specs.Spans.{chunks_in}
 use Rattle.prolly_check.specs.declared.fault.CheckFault.{CheckFault}
-use Rattle.prolly_check.proofs.CanonicalEnd.{AllRise, ComparesAs, chunks_say, some_chunks, end_says, all_say}
+use Rattle.prolly_check.proofs.CanonicalEnd.{AllRise, CompareAs, chunks_say, some_chunks, end_says, all_say}
 use Rattle.prolly_check.proofs.CanonicalSteps.{count_in}
 use Rattle.prolly_check.proofs.Refusals.{named, still_refused}
 use Rattle.prolly_check.proofs.canonical.test_canonical.Goals as goal
@@ -16,44 +16,48 @@ pub returns-in-Err-test_rebuilt-clause-err : goal.returns-in-Err-test_rebuilt-cl
 returns-in-Err-test_rebuilt-clause-err c =
     let bytes = c.args.bytes.now in
     let spans = c.args.frames.now.spans.items in
+    let same : c.new-chunks.result ≡ chunks_in bytes spans = c.new-chunks.ensures ∙ ap (chunks_in bytes) c.deref-2.ensures.value in
     let cs = chunks_in bytes spans in
-    still_refused (λ fault. ComparesAs c.args.version c.args.cut bytes (Some fault) spans)
+    still_refused (λ fault. CompareAs c.args.version c.args.cut (Some fault) cs)
     (λ fault. (lists : List (List Pair)) (ending : List ℕ) → AllHold c.args.version cs lists → drop c.args.frames.now.end bytes ≡ 0x45 ∷ ending → canonical_fault c.args.version c.args.cut cs ending lists ≡ Some fault)
     (λ fault h lists ending hold e. chunks_say c.args.version c.args.cut bytes spans c.args.frames.now.end c.requires.frames c.requires.short
     (subst (AllRise bytes) c.deref.ensures.value c.in-Ok.ensures.ok) fault h lists ending hold)
     c.in-Err-test_rebuilt.fault
-    (subst (λ ss. UnlessMemory (λ fault. ComparesAs c.args.version c.args.cut bytes (Some fault) ss) c.in-Err-test_rebuilt.fault) c.deref-2.ensures.value c.in-Err-test_rebuilt.ensures.err)
+    (subst (λ chunks. UnlessMemory (λ fault. CompareAs c.args.version c.args.cut (Some fault) chunks) c.in-Err-test_rebuilt.fault) same c.in-Err-test_rebuilt.ensures.err)
 
-pub test_end-requires-clause-some : goal.test_end-requires-clause-some
-test_end-requires-clause-some c =
+pub test_end-requires : goal.test_end-requires
+test_end-requires c =
     let bytes = c.args.bytes.now in
     let spans = c.args.frames.now.spans.items in
+    let same : c.new-chunks.result ≡ chunks_in bytes spans = c.new-chunks.ensures ∙ ap (chunks_in bytes) c.deref-2.ensures.value in
     let some = some_chunks c.args.version c.args.cut bytes spans c.args.frames.now.end c.requires.frames c.requires.short
     (subst (AllRise bytes) c.deref.ensures.value c.in-Ok.ensures.ok)
-    (subst (ComparesAs c.args.version c.args.cut bytes None) c.deref-2.ensures.value c.in-Ok-test_rebuilt.ensures.ok) c.requires.whole in
-    omega (arith, count_in bytes spans, ap length c.deref-3.ensures.value)
+    (subst (CompareAs c.args.version c.args.cut None) same c.in-Ok-test_rebuilt.ensures.ok) c.requires.whole in
+    omega (arith, count_in bytes spans, ap length same)
 
 pub returns-clause-ok : goal.returns-clause-ok
 returns-clause-ok c =
     let bytes = c.args.bytes.now in
     let spans = c.args.frames.now.spans.items in
+    let same : c.new-chunks.result ≡ chunks_in bytes spans = c.new-chunks.ensures ∙ ap (chunks_in bytes) c.deref-2.ensures.value in
     on_ok_weaker c.test_end.result (λ found lists ending hold e.
     all_say c.args.version c.args.cut bytes spans c.args.frames.now.end c.requires.frames c.requires.short
     (subst (AllRise bytes) c.deref.ensures.value c.in-Ok.ensures.ok)
-    (subst (ComparesAs c.args.version c.args.cut bytes None) c.deref-2.ensures.value c.in-Ok-test_rebuilt.ensures.ok)
+    (subst (CompareAs c.args.version c.args.cut None) same c.in-Ok-test_rebuilt.ensures.ok)
     (drop c.args.frames.now.end bytes)
-    (sym (rest_is bytes c.args.frames.now.end) ∙ found ∙ ap (λ ss. 0x45 ∷ ending_of_chunks (chunks_in bytes ss)) c.deref-3.ensures.value) lists ending hold e) c.test_end.ensures.ok
+    (sym (rest_is bytes c.args.frames.now.end) ∙ found ∙ ap (λ cs. 0x45 ∷ ending_of_chunks cs) same) lists ending hold e) c.test_end.ensures.ok
 
 pub returns-clause-err : goal.returns-clause-err
 returns-clause-err c =
     let bytes = c.args.bytes.now in
     let spans = c.args.frames.now.spans.items in
+    let same : c.new-chunks.result ≡ chunks_in bytes spans = c.new-chunks.ensures ∙ ap (chunks_in bytes) c.deref-2.ensures.value in
     let cs = chunks_in bytes spans in
     let Says : CheckFault → Type 0 = λ fault. (lists : List (List Pair)) (ending : List ℕ) → AllHold c.args.version cs lists →
     drop c.args.frames.now.end bytes ≡ 0x45 ∷ ending → canonical_fault c.args.version c.args.cut cs ending lists ≡ Some fault in
     IfErr-weaker c.test_end.result _ (UnlessMemory Says) (λ fault h. named Says fault (λ lists ending hold e.
     end_says c.args.version c.args.cut bytes spans c.args.frames.now.end c.requires.frames c.requires.short
     (subst (AllRise bytes) c.deref.ensures.value c.in-Ok.ensures.ok)
-    (subst (ComparesAs c.args.version c.args.cut bytes None) c.deref-2.ensures.value c.in-Ok-test_rebuilt.ensures.ok)
+    (subst (CompareAs c.args.version c.args.cut None) same c.in-Ok-test_rebuilt.ensures.ok)
     (drop c.args.frames.now.end bytes) fault
-    (h.0, λ found. h.1 (rest_is bytes c.args.frames.now.end ∙ found ∙ ap (λ ss. 0x45 ∷ ending_of_chunks (chunks_in bytes ss)) (sym c.deref-3.ensures.value))) lists ending hold e)) c.test_end.ensures.err
+    (h.0, λ found. h.1 (rest_is bytes c.args.frames.now.end ∙ found ∙ ap (λ cs. 0x45 ∷ ending_of_chunks cs) (sym same))) lists ending hold e)) c.test_end.ensures.err

@@ -3,7 +3,6 @@ use Rattle.prolly_entry.specs.Pair.{Pair}
 use Rattle.prolly_entry.specs.declared.version.Version.{Version}
 use Rattle.prolly_check.specs.Rebuilt.{IsEnding, FaultAtEnd, MaybePasses, MaybeFault}
 use Rattle.prolly_check.specs.Refusal.{UnlessMemory}
-use Rattle.prolly_check.specs.Spans.{chunks_in}
 use Rattle.prolly_check.proofs.FinishSteps.{ending_goes_on, ending_fault, ending_ends, taken_out, no_more}
 use Rattle.prolly_check.proofs.Refusals.{still_refused}
 use Rattle.prolly_check.proofs.RebuildSteps.{written}
@@ -11,7 +10,7 @@ use Rattle.prolly_check.proofs.finish.finish_nodes.Goals as goal
 
 pub returns-in-Err-clause-err : goal.returns-in-Err-clause-err
 returns-in-Err-clause-err c =
-    let chunks = chunks_in c.args.bytes.now c.args.spans.now in
+    let chunks = c.args.chunks.now in
     let rest = c.remove.new.self.items in
     let out : c.loop-alloc.nodes.items ≡ c.remove.result ∷ rest =
     taken_out c.loop-alloc.nodes.items rest c.remove.result (omega (arith, c.len.ensures ∙ c.loop-alloc.nodes.ok.0)) c.remove.ensures.value c.remove.ensures.items in
@@ -24,7 +23,7 @@ returns-in-Err-clause-err c =
 
 pub loop-alloc-preserved : goal.loop-alloc-preserved
 loop-alloc-preserved c =
-    let chunks = chunks_in c.args.bytes.now c.args.spans.now in
+    let chunks = c.args.chunks.now in
     let rest = c.remove.new.self.items in
     let new = c.pass_last.new.levels in
     let out : c.loop-alloc.nodes.items ≡ c.remove.result ∷ rest =
@@ -39,6 +38,6 @@ loop-alloc-preserved c =
 
 pub returns-clause-ok : goal.returns-clause-ok
 returns-clause-ok c = λ bits version pairs b.
-    let chunks = chunks_in c.args.bytes.now c.args.spans.now in
+    let chunks = c.args.chunks.now in
     ending_ends bits version pairs chunks c.loop-alloc.number
     (subst (λ ns. IsEnding bits version chunks pairs ns c.loop-alloc.number) (no_more c.loop-alloc.nodes.items (omega (arith, c.len.ensures ∙ c.loop-alloc.nodes.ok.0))) (c.loop-alloc.invariant.all bits version pairs b))

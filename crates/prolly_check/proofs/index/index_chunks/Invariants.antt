@@ -1,6 +1,7 @@
-use Rattle.prolly_check.specs.Spans.{chunks_in}
+use Rattle.std.proofs.Common.{ℕ, List}
+use Rattle.prolly_check.specs.Index.{AreReferences}
 use Rattle.prolly_check.proofs.IndexSteps.{IndexBegun}
 use Rattle.prolly_check.proofs.index.index_chunks.Given as goal
 
 abbrev pub invariant-loop-number : goal.invariant-loop-number
-invariant-loop-number l = IndexBegun l.index (chunks_in l.bytes l.spans) l.number
+invariant-loop-number l = (chunks : List (List ℕ)) → AreReferences chunks l.references → IndexBegun l.index chunks l.number

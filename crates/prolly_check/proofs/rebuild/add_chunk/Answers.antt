@@ -9,7 +9,6 @@ use Rattle.prolly_check.specs.Entries.{Holds}
 use Rattle.prolly_check.specs.Rebuilt.{IsBehind, DifferBy}
 use Rattle.prolly_check.specs.Refusal.{UnlessMemory}
 use Rattle.prolly_check.specs.declared.fault.CheckFault.{CheckFault}
-use Rattle.prolly_check.specs.Spans.{chunks_in}
 use Rattle.prolly_check.proofs.Refusals.{still_refused}
 use Rattle.prolly_check.proofs.HeldSteps.{chunk_leaf}
 use Rattle.prolly_check.proofs.rebuild.add_chunk.Goals as goal
@@ -23,7 +22,7 @@ returns-clause-ok c = on_ok_weaker c.add_leaf.result
 
 pub returns-clause-err : goal.returns-clause-err
 returns-clause-err c =
-    let chunks = chunks_in c.args.bytes.now c.args.spans.now in
+    let chunks = c.args.chunks.now in
     let Wrong : CheckFault → Type 0 = λ fault. (bits : ℕ) (version : Version) (pairs held : List Pair) →
     IsBehind bits version chunks pairs c.args.rebuild.now.leaf c.args.rebuild.now.nodes.items c.args.rebuild.now.number → Holds version c.args.chunk.now held → DifferBy bits version chunks (pairs ++ held) fault in
     let WrongLeaf : CheckFault → Type 0 = λ fault. (bits : ℕ) (version : Version) (pairs leaf : List Pair) →

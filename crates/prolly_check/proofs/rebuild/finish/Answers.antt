@@ -3,14 +3,13 @@ use Rattle.prolly_entry.specs.Pair.{Pair}
 use Rattle.prolly_entry.specs.declared.version.Version.{Version}
 use Rattle.prolly_check.specs.Rebuilt.{IsBehind, FaultAtEnd, MaybeFault}
 use Rattle.prolly_check.specs.Refusal.{UnlessMemory}
-use Rattle.prolly_check.specs.Spans.{chunks_in}
 use Rattle.prolly_check.proofs.FinishSteps.{leaf_end_fault}
 use Rattle.prolly_check.proofs.Refusals.{still_refused}
 use Rattle.prolly_check.proofs.rebuild.finish.Goals as goal
 
 pub returns-in-Err-clause-err : goal.returns-in-Err-clause-err
 returns-in-Err-clause-err c =
-    let chunks = chunks_in c.args.bytes.now c.args.spans.now in
+    let chunks = c.args.chunks.now in
     let nodes = c.args.rebuild.nodes.items in
     still_refused (MaybeFault chunks nodes c.finish-last.result c.args.rebuild.number)
     (λ fault. (bits : ℕ) (version : Version) (pairs : List Pair) → IsBehind bits version chunks pairs c.args.rebuild.leaf nodes c.args.rebuild.number → FaultAtEnd bits version chunks pairs fault)

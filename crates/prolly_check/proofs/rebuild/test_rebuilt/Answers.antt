@@ -5,15 +5,13 @@ use Rattle.prolly_entry.proofs.Parts.{flat}
 use Rattle.prolly_check.specs.Entries.{AllHold}
 use Rattle.prolly_check.specs.Judged.{difference, chunk_bytes}
 use Rattle.prolly_check.specs.Rebuilt.{IsBehind, DifferBy, FaultAtEnd}
-use Rattle.prolly_check.specs.Spans.{chunks_in}
-use Rattle.prolly_check.proofs.CanonicalSteps.{count_in}
 use Rattle.prolly_check.proofs.FinishSteps.{differ_by_at_end, verdict_fault, verdict_short, verdict_none}
 use Rattle.prolly_check.proofs.Refusals.{still_refused}
 use Rattle.prolly_check.proofs.rebuild.test_rebuilt.Goals as goal
 
 pub returns-in-Err-add_chunks-clause-err : goal.returns-in-Err-add_chunks-clause-err
 returns-in-Err-add_chunks-clause-err c =
-    let chunks = chunks_in c.args.bytes.now c.args.spans.now in
+    let chunks = c.args.chunks.now in
     let rebuild = c.in-Ok.rebuild in
     still_refused
     (λ fault. (bits : ℕ) (version : Version) (pairs : List Pair) (lists : List (List Pair)) → IsBehind bits version chunks pairs rebuild.leaf rebuild.nodes.items rebuild.number → AllHold version chunks lists →
@@ -25,7 +23,7 @@ returns-in-Err-add_chunks-clause-err c =
 
 pub returns-in-Err-finish-clause-err : goal.returns-in-Err-finish-clause-err
 returns-in-Err-finish-clause-err c =
-    let chunks = chunks_in c.args.bytes.now c.args.spans.now in
+    let chunks = c.args.chunks.now in
     let rebuild = c.add_chunks.new.rebuild in
     still_refused
     (λ fault. (bits : ℕ) (version : Version) (pairs : List Pair) → IsBehind bits version chunks pairs rebuild.leaf rebuild.nodes.items rebuild.number → FaultAtEnd bits version chunks pairs fault)
@@ -34,14 +32,14 @@ returns-in-Err-finish-clause-err c =
     (h c.args.cut c.args.version (flat lists) (c.in-Ok-add_chunks.ensures.ok c.args.cut c.args.version [] lists (c.in-Ok.ensures.behind chunks) hold)))
     c.in-Err-finish.fault c.in-Err-finish.ensures.err
 
-pub returns-then-count-spans-clause-err : goal.returns-then-count-spans-clause-err
-returns-then-count-spans-clause-err c = λ lists hold few.
-    let chunks = chunks_in c.args.bytes.now c.args.spans.now in
-    verdict_short c.args.cut c.args.version chunks (flat lists) few c.in-Ok-finish.count (omega (arith, count_in c.args.bytes.now c.args.spans.now))
+pub returns-then-count-len-clause-err : goal.returns-then-count-len-clause-err
+returns-then-count-len-clause-err c = λ lists hold few.
+    let chunks = c.args.chunks.now in
+    verdict_short c.args.cut c.args.version chunks (flat lists) few c.in-Ok-finish.count (omega arith)
     (c.in-Ok-finish.ensures.ok c.args.cut c.args.version (flat lists) (c.in-Ok-add_chunks.ensures.ok c.args.cut c.args.version [] lists (c.in-Ok.ensures.behind chunks) hold))
 
 pub returns-clause-ok : goal.returns-clause-ok
 returns-clause-ok c = λ lists hold few.
-    let chunks = chunks_in c.args.bytes.now c.args.spans.now in
-    verdict_none c.args.cut c.args.version chunks (flat lists) few c.in-Ok-finish.count (omega (arith, count_in c.args.bytes.now c.args.spans.now))
+    let chunks = c.args.chunks.now in
+    verdict_none c.args.cut c.args.version chunks (flat lists) few c.in-Ok-finish.count (omega arith)
     (c.in-Ok-finish.ensures.ok c.args.cut c.args.version (flat lists) (c.in-Ok-add_chunks.ensures.ok c.args.cut c.args.version [] lists (c.in-Ok.ensures.behind chunks) hold))
