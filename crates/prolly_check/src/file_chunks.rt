@@ -49,7 +49,7 @@ impl<'a> Model for FileChunks<'a> {
 }
 
 impl<'a> FileChunks<'a> {
-    /// Takes no memory, and no hash.
+    /// The chunks that lie there, with the references that were made of them. Takes no memory, and no hash.
     pub(crate) fn new(bytes: &'a [u8], spans: &'a [Span], references: &'a [Ref]) -> FileChunks<'a>
         requires within { AllByRecursion (IsWithin bytes.now) spans.now }
         requires references { AreReferences (chunks_in bytes.now spans.now) references.now }
