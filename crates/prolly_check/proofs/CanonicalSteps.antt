@@ -1,5 +1,6 @@
 -- The tests against the file of the pairs.
-use Rattle.std.proofs.Common.{◌≡◌, ℕ, zero, suc, ◌<◌, ◌≤◌, Bool, true, false, not, List, [], ◌∷◌, length, drop, get_or, Option, Some, None, refl, sym, ap, ◌∙◌, arith}
+use Rattle.std.proofs.Common.{◌≡◌, ℕ, ◌<◌, Bool, true, false, not, List, [], ◌∷◌, length, get_or, Option, Some, None, refl, sym, ap, ◌∙◌}
+use Rattle.std.proofs.lemmas.List.{length-map, get_or-map}
 use Rattle.std.specs.Str.{bytes_eq}
 use Rattle.std.proofs.lemmas.Slice.Eq.{bytes_eq-Decides}
 use Rattle.std.proofs.lemmas.Bool.{cond-true, cond-false, false≢true}
@@ -21,20 +22,11 @@ false_is false h = refl
 
 -- ---- the first chunk that differs
 
-pub nothing_left : (cs : List (List ℕ)) (n : ℕ) → length cs ≤ n → drop n cs ≡ []
-nothing_left [] zero h = refl
-nothing_left [] (suc n) h = refl
-nothing_left (c ∷ cs) zero h = absurd (let h' : suc (length cs) ≤ 0 = h in omega arith)
-nothing_left (c ∷ cs) (suc n) h = let h' : suc (length cs) ≤ suc n = h in nothing_left cs n (omega arith)
-
 pub count_in : (bytes : List ℕ) (spans : List Span) → length (chunks_in bytes spans) ≡ length spans
-count_in bytes [] = refl
-count_in bytes (s ∷ spans) = ap suc (count_in bytes spans)
+count_in bytes spans = length-map spans (chunk_in bytes)
 
 pub chunk_there : (bytes : List ℕ) (spans : List Span) (n : ℕ) (other : Span) → n < length spans → chunk_in bytes (get_or spans n other) ≡ get_or (chunks_in bytes spans) n []
-chunk_there bytes [] n other h = absurd (omega arith)
-chunk_there bytes (s ∷ spans) zero other h = refl
-chunk_there bytes (s ∷ spans) (suc n) other h = let h' : suc n < suc (length spans) = h in chunk_there bytes spans n other (omega arith)
+chunk_there bytes spans n other h = sym (get_or-map (chunk_in bytes) spans n other [] h)
 
 -- ---- all of it
 

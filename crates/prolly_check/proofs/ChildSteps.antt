@@ -1,9 +1,10 @@
 -- Looking for the child to which a key leads, entry by entry.
+use mathlib.Core.List.{cons≢nil}
 use Rattle.std.proofs.Common.{◌≡◌, ℕ, ◌+◌, ◌<◌, ◌≤◌, true, false, List, [], ◌∷◌, ◌++◌, length, drop, Ordering, refl, sym, ap, ◌∙◌, subst, append_assoc, append-nil}
 use Rattle.std.specs.Ordering.{is_lt}
 use Rattle.std.specs.declared.cmp.Ordering.TheVariants.{Less, Equal, Greater}
 use Rattle.std.specs.List.{flat_map, AllByRecursion}
-use Rattle.std.proofs.lemmas.List.{drop-drop}
+use Rattle.std.proofs.lemmas.List.{drop-drop, drop_all}
 use Rattle.prolly_entry.specs.declared.version.Version.{Version}
 use Rattle.prolly_entry.specs.declared.child.ChildAt.{ChildAt}
 use Rattle.prolly_entry.specs.Keys.{key_order, KeyBelow}
@@ -15,7 +16,7 @@ use Rattle.prolly_entry.specs.Tree.{Tree, pairs_below, greatest_key, pair_count,
 use Rattle.prolly_entry.proofs.Groups.{all_front, all_back, all_append}
 use Rattle.prolly_entry.proofs.Roots.{last_key_short, reference_length}
 use Rattle.prolly_check.specs.Descent.{Leads, LeadsNowhere}
-use Rattle.prolly_check.proofs.EntrySteps.{child_at, past_end, some_left}
+use Rattle.prolly_check.proofs.EntrySteps.{child_at, some_left}
 use Rattle.prolly_check.proofs.Descents.{first_entry}
 
 -- of these children, the rest is left at the place, and the keys of those before are below the key
@@ -87,18 +88,15 @@ leads_here version entries bytes key reference place at e h c other r all level 
       named = r ∙ d.named;
     }
 
-cons_nil : {x : ℕ} {xs : List ℕ} → ◌≡◌ {A = List ℕ} (x ∷ xs) [] → ⊥
-cons_nil e = cc
-
 pub leads_nowhere : (version : Version) (entries key : List ℕ) (place : ℕ) → length entries ≤ place → AllGoingBy version entries key place → LeadsNowhere version entries key
 leads_nowhere version entries key place h all level children lawful spelled =
     let g = all level children lawful spelled in
-    let r = no_rest g.rest (sym g.left ∙ past_end entries place h) in
+    let r = no_rest g.rest (sym g.left ∙ drop_all place entries h) in
     subst (AllByRecursion (λ u. KeyBelow (greatest_key level u) key)) (sym (g.is ∙ ap (λ ts. g.before ++ ts) r ∙ append-nil g.before)) g.below
   where
     no_rest : (rest : List (Tree level)) → flat_map (child_entry version level) rest ≡ [] → rest ≡ []
     no_rest [] e = refl
-    no_rest (t ∷ rest) e = absurd (cons_nil e)
+    no_rest (t ∷ rest) e = absurd (cons≢nil e)
 
 pub no_child : (version : Version) (entries bytes key : List ℕ) (place : ℕ) → bytes ≡ drop place entries → place < length entries → NoChildAt version bytes → AllGoingBy version entries key place →
     LeadsNowhere version entries key

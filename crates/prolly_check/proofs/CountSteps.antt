@@ -1,7 +1,8 @@
 -- Counting the pairs of a leaf and the children of a node, entry by entry.
+use mathlib.Core.List.{cons≢nil}
 use Rattle.std.proofs.Common.{◌≡◌, ℕ, zero, suc, ◌+◌, ◌-◌, ◌^◌, ◌<◌, ◌≤◌, List, [], ◌∷◌, ◌++◌, length, drop, Some, None, refl, sym, ap, ◌∙◌, subst, arith, append_assoc, append-nil}
 use Rattle.std.specs.List.{flat_map, AllByRecursion}
-use Rattle.std.proofs.lemmas.List.{drop-drop, length-append}
+use Rattle.std.proofs.lemmas.List.{drop-drop, length-append, drop_all}
 use Rattle.std.proofs.lemmas.List.Concat.{flat_map-append}
 use Rattle.prolly_entry.specs.declared.version.Version.TheVariants.{Two}
 use Rattle.prolly_entry.specs.declared.child.ChildAt.{ChildAt}
@@ -16,7 +17,7 @@ use Rattle.prolly_entry.proofs.Groups.{all_front, all_back}
 use Rattle.prolly_entry.proofs.Roots.{last_key_short, reference_length}
 use Rattle.prolly_check.specs.Counted.{Counts, CountsPast}
 use Rattle.prolly_check.proofs.ChildSteps.{ChildIs, child_is}
-use Rattle.prolly_check.proofs.EntrySteps.{past_end, some_left}
+use Rattle.prolly_check.proofs.EntrySteps.{some_left}
 use Rattle.prolly_check.proofs.FindSteps.{first_is}
 use Rattle.prolly_check.proofs.OneVerdict.{eight_bytes}
 
@@ -59,16 +60,13 @@ pair_here entries bytes n place len ahead p e h at none all pairs lawful spelled
     let f = first_is entries bytes place len p l.rest e h at l.left l.lawful in
     sym (l.same ∙ ap (λ ps. nth ps ahead) f.is ∙ ap (nth (p ∷ f.more)) none)
 
-cons_nil : {x : ℕ} {xs : List ℕ} → ◌≡◌ {A = List ℕ} (x ∷ xs) [] → ⊥
-cons_nil e = cc
-
 pub pair_nowhere : (entries : List ℕ) (n place ahead : ℕ) → length entries ≤ place → AllAhead entries n place ahead →
     (pairs : List Pair) → AllByRecursion IsPair pairs → entries ≡ flat_map pair_spelling pairs → None ≡ nth pairs n
-pair_nowhere entries n place ahead h all pairs lawful spelled = let l = all pairs lawful spelled in go l.rest (sym l.left ∙ past_end entries place h) l.same
+pair_nowhere entries n place ahead h all pairs lawful spelled = let l = all pairs lawful spelled in go l.rest (sym l.left ∙ drop_all place entries h) l.same
   where
     go : (rest : List Pair) → flat_map pair_spelling rest ≡ [] → nth pairs n ≡ nth rest ahead → None ≡ nth pairs n
     go [] e s = sym s
-    go (q ∷ more) e s = absurd (cons_nil e)
+    go (q ∷ more) e s = absurd (cons≢nil e)
 
 -- no other bytes than pairs are there
 pub pair_not_there : (entries bytes : List ℕ) (n place ahead : ℕ) → bytes ≡ drop place entries → place < length entries → NoPairAt bytes → AllAhead entries n place ahead →
@@ -155,14 +153,14 @@ counts_here entries bytes reference n place ahead at e h c small under r all lev
 pub counts_past : (entries : List ℕ) (n place ahead : ℕ) → length entries ≤ place → AllBehind entries n place ahead → CountsPast entries n
 counts_past entries n place ahead h all level children lawful few spelled =
     let g = all level children lawful few spelled in
-    let r = no_rest g.rest (sym g.left ∙ past_end entries place h) in
+    let r = no_rest g.rest (sym g.left ∙ drop_all place entries h) in
     let size = ap (λ ts. length (flat_map (pairs_below level) ts)) (g.is ∙ ap (λ ts. g.before ++ ts) r ∙ append-nil g.before) in
     let was = g.counted in
     omega arith
   where
     no_rest : (rest : List (Tree level)) → flat_map (child_entry Two level) rest ≡ [] → rest ≡ []
     no_rest [] e = refl
-    no_rest (t ∷ rest) e = absurd (cons_nil e)
+    no_rest (t ∷ rest) e = absurd (cons≢nil e)
 
 pub counts_nothing : (entries bytes : List ℕ) (n place ahead : ℕ) → bytes ≡ drop place entries → place < length entries → NoChildAt Two bytes → AllBehind entries n place ahead → CountsPast entries n
 counts_nothing entries bytes n place ahead e h none all level children lawful few spelled =

@@ -1,7 +1,7 @@
 -- Entries of a chunk, read one after another.
-use Rattle.std.proofs.Common.{◌≡◌, ℕ, zero, suc, ◌+◌, ◌<◌, ◌≤◌, List, [], ◌∷◌, ◌++◌, length, drop, refl, sym, ap, ◌∙◌, subst, arith, append_assoc, append-nil, length-drop}
+use Rattle.std.proofs.Common.{◌≡◌, ℕ, ◌+◌, ◌<◌, ◌≤◌, List, [], ◌∷◌, ◌++◌, length, drop, refl, sym, ap, ◌∙◌, subst, arith, append_assoc, append-nil, length-drop}
 use Rattle.std.specs.List.{flat_map, AllByRecursion}
-use Rattle.std.proofs.lemmas.List.{drop-drop}
+use Rattle.std.proofs.lemmas.List.{drop-drop, drop_all}
 use Rattle.std.proofs.lemmas.List.Concat.{flat_map-append}
 use Rattle.prolly_entry.specs.declared.version.Version.{Version}
 use Rattle.prolly_entry.specs.declared.front.Front.{Front}
@@ -15,14 +15,7 @@ use Rattle.prolly_entry.proofs.Groups.{all_append}
 use Rattle.prolly_check.specs.Entries.{Child, IsChild, entry_of, IsLeaf, IsNode}
 use Rattle.prolly_check.proofs.CheckSteps.{no_leaf, no_node}
 
--- nothing is left behind the last byte
-pub past_end : (entries : List ℕ) (place : ℕ) → length entries ≤ place → drop place entries ≡ []
-past_end [] zero h = refl
-past_end [] (suc place) h = refl
-past_end (b ∷ entries) zero h = absurd (let h' : suc (length entries) ≤ 0 = h in omega arith)
-past_end (b ∷ entries) (suc place) h = let h' : suc (length entries) ≤ suc place = h in past_end entries place (omega arith)
-
--- something is left before it
+-- before the end something is left
 pub some_left : (entries : List ℕ) (place : ℕ) → place < length entries → drop place entries ≡ [] → ⊥
 some_left entries place h e = let f : length (drop place entries) ≡ 0 = ap length e in absurd (omega (arith, length-drop place entries))
 
@@ -103,7 +96,7 @@ node_goes_on version entries rest place at e b there =
 pub node_ends : (version : Version) (entries : List ℕ) (place : ℕ) → NodeBegun version entries place → length entries ≤ place → IsNode version entries []
 node_ends version entries place b h = record {
   children = b.done;
-  is = b.spelled ∙ ap (λ x. flat_map (entry_of version) b.done ++ x) (past_end entries place h) ∙ append-nil (flat_map (entry_of version) b.done);
+  is = b.spelled ∙ ap (λ x. flat_map (entry_of version) b.done ++ x) (drop_all place entries h) ∙ append-nil (flat_map (entry_of version) b.done);
   lawful = b.lawful;
   none = refl;
 }

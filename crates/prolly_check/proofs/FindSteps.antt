@@ -1,16 +1,17 @@
 -- Looking for a key in a leaf, pair by pair.
+use mathlib.Core.List.{cons≢nil}
 use Rattle.std.proofs.Common.{◌≡◌, ℕ, ◌+◌, ◌<◌, ◌≤◌, true, false, List, [], ◌∷◌, length, drop, Some, None, refl, sym, ap, ◌∙◌}
 use Rattle.std.specs.Ordering.{is_eq}
 use Rattle.std.specs.List.{flat_map, AllByRecursion}
 use Rattle.std.proofs.lemmas.Bool.{cond-true, cond-false}
-use Rattle.std.proofs.lemmas.List.{drop-drop}
+use Rattle.std.proofs.lemmas.List.{drop-drop, drop_all}
 use Rattle.prolly_entry.specs.Keys.{key_order}
 use Rattle.prolly_entry.specs.LookUp.{find}
 use Rattle.prolly_entry.specs.Pair.{Pair, IsPair}
 use Rattle.prolly_entry.specs.Spelling.{pair_spelling}
 use Rattle.prolly_entry.specs.Front.{IsPairAt, NoPairAt}
 use Rattle.prolly_entry.proofs.Spellings.{pair_spellings_apart}
-use Rattle.prolly_check.proofs.EntrySteps.{past_end, some_left}
+use Rattle.prolly_check.proofs.EntrySteps.{some_left}
 
 -- of these pairs, the rest is left at the place, and tells of the key what they do
 pub record Looking (entries key : List ℕ) (pairs : List Pair) (place : ℕ) : Type 0 where
@@ -64,16 +65,13 @@ found_here entries bytes key place len p e h at same all pairs lawful spelled =
     let f = first_is entries bytes place len p l.rest e h at l.left l.lawful in
     sym (l.same ∙ ap (λ ps. find ps key) f.is ∙ cond-true (is_eq (key_order p.key key)) (Some p.value) (find f.more key) same)
 
-cons_nil : {x : ℕ} {xs : List ℕ} → ◌≡◌ {A = List ℕ} (x ∷ xs) [] → ⊥
-cons_nil e = cc
-
 pub found_nowhere : (entries key : List ℕ) (place : ℕ) → length entries ≤ place → AllLooking entries key place →
     (pairs : List Pair) → AllByRecursion IsPair pairs → entries ≡ flat_map pair_spelling pairs → None ≡ find pairs key
-found_nowhere entries key place h all pairs lawful spelled = let l = all pairs lawful spelled in go l.rest (sym l.left ∙ past_end entries place h) l.same
+found_nowhere entries key place h all pairs lawful spelled = let l = all pairs lawful spelled in go l.rest (sym l.left ∙ drop_all place entries h) l.same
   where
     go : (rest : List Pair) → flat_map pair_spelling rest ≡ [] → find pairs key ≡ find rest key → None ≡ find pairs key
     go [] e s = sym s
-    go (q ∷ more) e s = absurd (cons_nil e)
+    go (q ∷ more) e s = absurd (cons≢nil e)
 
 -- no other bytes than pairs are there
 pub not_there : (entries bytes key : List ℕ) (place : ℕ) → bytes ≡ drop place entries → place < length entries → NoPairAt bytes → AllLooking entries key place →

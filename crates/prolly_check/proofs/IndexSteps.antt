@@ -8,7 +8,7 @@ use Rattle.std.specs.List.{list_any}
 use Rattle.std.specs.BTreeMap.{BTreeMap}
 use Rattle.std.proofs.lemmas.Slice.Eq.{bytes_eq-Decides}
 use Rattle.std.proofs.lemmas.Bool.{cond-true, cond-false, false≢true}
-use Rattle.std.proofs.lemmas.List.{take_more}
+use Rattle.std.proofs.lemmas.List.{take_more, take_all, drop_all}
 use Rattle.prolly_entry.specs.declared.reference.Ref.{Ref}
 use Rattle.prolly_entry.specs.Reference.{reference_of}
 use Rattle.prolly_entry.specs.Chunk.{IsIn}
@@ -99,9 +99,9 @@ pub index_ends : (index : BTreeMap Ref ℕ) (chunks : List (List ℕ)) (n : ℕ)
 index_ends index chunks n h b = (
   record {
     right = b.right;
-    whole = λ chunk i. sym (b.known (reference_of chunk)) ∙ is_known chunk b.before (b.held chunk (subst (IsIn chunk) (sym (take_whole chunks n h)) i));
+    whole = λ chunk i. sym (b.known (reference_of chunk)) ∙ is_known chunk b.before (b.held chunk (subst (IsIn chunk) (sym (take_all n chunks h)) i));
   },
-  b.same ∙ ap (reuse b.before n) (drop_whole chunks n h),
+  b.same ∙ ap (reuse b.before n) (drop_all n chunks h),
 )
   where
     is_known : (chunk : List ℕ) (cs : List (List ℕ)) → IsIn chunk cs → list_any (λ d. bytes_eq (reference_of d) (reference_of chunk)) cs ≡ true
@@ -112,18 +112,6 @@ index_ends index chunks n h b = (
         or_true : (a b : Bool) → b ≡ true → (a || b) ≡ true
         or_true true b e = refl
         or_true false b e = e
-
-    take_whole : (cs : List (List ℕ)) (n : ℕ) → length cs ≤ n → take n cs ≡ cs
-    take_whole [] zero h = refl
-    take_whole [] (suc n) h = refl
-    take_whole (c ∷ cs) zero h = absurd (let h' : suc (length cs) ≤ 0 = h in omega arith)
-    take_whole (c ∷ cs) (suc n) h = let h' : suc (length cs) ≤ suc n = h in ap (λ x. c ∷ x) (take_whole cs n (omega arith))
-
-    drop_whole : (cs : List (List ℕ)) (n : ℕ) → length cs ≤ n → drop n cs ≡ []
-    drop_whole [] zero h = refl
-    drop_whole [] (suc n) h = refl
-    drop_whole (c ∷ cs) zero h = absurd (let h' : suc (length cs) ≤ 0 = h in omega arith)
-    drop_whole (c ∷ cs) (suc n) h = let h' : suc (length cs) ≤ suc n = h in drop_whole cs n (omega arith)
 
 pub index_collides : (index : BTreeMap Ref ℕ) (chunks : List (List ℕ)) (n : ℕ) (key : Ref) (chunk : List ℕ) (number : ℕ) → n < length chunks → chunk ≡ get_or chunks n [] → key.0 ≡ reference_of chunk →
     IndexBegun index chunks n → number_of index key.0 ≡ Some number → reuse [] 0 chunks ≡ Some (Collision n)

@@ -1,9 +1,10 @@
 -- Reading the keys of a file one after another.
+use mathlib.Core.List.{cons≢nil}
 use Rattle.std.proofs.Common.{◌≡◌, ℕ, suc, ◌+◌, ◌<◌, ◌≤◌, Bool, true, false, ◌&&◌, List, [], ◌∷◌, ◌++◌, length, drop, get_or, Option, Some, None, refl, sym, ap, ◌∙◌, arith}
 use Rattle.std.specs.Ordering.{is_lt}
 use Rattle.std.specs.List.{flat_map, AllByRecursion}
 use Rattle.std.proofs.lemmas.Bool.{cond-true, cond-false}
-use Rattle.std.proofs.lemmas.List.{drop-drop}
+use Rattle.std.proofs.lemmas.List.{drop-drop, drop_all}
 use Rattle.prolly_entry.specs.declared.version.Version.{Version}
 use Rattle.prolly_entry.specs.Front.{IsPairAt, NoPairAt}
 use Rattle.prolly_entry.specs.Keys.{key_order}
@@ -16,7 +17,7 @@ use Rattle.prolly_check.specs.Entries.{Holds, AllHold}
 use Rattle.prolly_check.specs.Judged.{is_rising, order_fault}
 use Rattle.prolly_check.specs.Order.{rises_behind, last_behind, RisesTo}
 use Rattle.prolly_check.specs.Spans.{chunk_in, chunks_in}
-use Rattle.prolly_check.proofs.EntrySteps.{past_end, some_left}
+use Rattle.prolly_check.proofs.EntrySteps.{some_left}
 use Rattle.prolly_check.proofs.FindSteps.{first_is}
 use Rattle.prolly_check.proofs.HeldSteps.{held_at}
 
@@ -64,9 +65,6 @@ pub record Walking (entries : List ℕ) (first last : Option (List ℕ)) (leaf :
 abbrev pub LeafWalk : List ℕ → Option (List ℕ) → Option (List ℕ) → ℕ → Type 0
 LeafWalk entries first last place = (leaf : List Pair) → AllByRecursion IsPair leaf → entries ≡ flat_map pair_spelling leaf → Walking entries first last leaf place
 
-cons_nil : {x : ℕ} {xs : List ℕ} → ◌≡◌ {A = List ℕ} (x ∷ xs) [] → ⊥
-cons_nil e = cc
-
 module _ (entries : List ℕ) (first last : Option (List ℕ)) (place : ℕ) (walk : LeafWalk entries first last place) where
   module _ (bytes : List ℕ) (len : ℕ) (p : Pair) (e : bytes ≡ drop place entries) (h : place < length entries) (at : IsPairAt bytes p len) where
     pub walk_goes_on : is_before last (Some p.key) ≡ true → LeafWalk entries first (Some p.key) (place + len)
@@ -90,12 +88,12 @@ module _ (entries : List ℕ) (first last : Option (List ℕ)) (place : ℕ) (wa
   pub walk_ends : length entries ≤ place → (leaf : List Pair) → AllByRecursion IsPair leaf → entries ≡ flat_map pair_spelling leaf → RisesTo first leaf last
   walk_ends h leaf lawful spelled =
       let w = walk leaf lawful spelled in
-      let none = no_rest w.rest (sym w.left ∙ past_end entries place h) in
+      let none = no_rest w.rest (sym w.left ∙ drop_all place entries h) in
       record { rises = w.rises ∙ ap (rises_behind last) none; last_is = sym (w.last_is ∙ ap (last_behind last) none) }
     where
       no_rest : (rest : List Pair) → flat_map pair_spelling rest ≡ [] → rest ≡ []
       no_rest [] e = refl
-      no_rest (p ∷ rest) e = absurd (cons_nil e)
+      no_rest (p ∷ rest) e = absurd (cons≢nil e)
 
   -- no other bytes than pairs are there
   pub walk_stops : (bytes : List ℕ) → bytes ≡ drop place entries → place < length entries → NoPairAt bytes →

@@ -1,4 +1,5 @@
 -- Rebuilding the chunks of pairs.
+use mathlib.Core.List.{cons≢nil}
 use Rattle.std.proofs.Common.{◌≡◌, ℕ, suc, ◌+◌, ◌<◌, ◌≤◌, List, [], ◌∷◌, ◌++◌, length, take, drop, get_or, Option, Some, None, refl, sym, ap, ◌∙◌, subst, arith, append_assoc, append-nil}
 use Rattle.prolly_entry.specs.declared.version.Version.{Version}
 use Rattle.prolly_entry.specs.Cut.{sha512_cut}
@@ -8,10 +9,9 @@ use Rattle.prolly_entry.specs.Front.{IsPairAt, NoPairAt}
 use Rattle.prolly_entry.specs.Pair.{Pair, IsPair}
 use Rattle.prolly_entry.specs.Spelling.{pair_spelling}
 use Rattle.prolly_check.specs.Entries.{Holds, AllHold}
-use Rattle.prolly_check.proofs.CanonicalSteps.{nothing_left}
 use Rattle.prolly_check.proofs.HeldSteps.{held_in, none_held}
 use Rattle.prolly_entry.proofs.Parts.{flat}
-use Rattle.prolly_check.proofs.EntrySteps.{past_end, some_left}
+use Rattle.prolly_check.proofs.EntrySteps.{some_left}
 use Rattle.prolly_check.proofs.FindSteps.{first_is}
 use Rattle.std.specs.List.{flat_map, AllByRecursion}
 use Rattle.prolly_entry.proofs.Prefixes.{fault_is_prefix}
@@ -21,7 +21,7 @@ use Rattle.prolly_check.specs.declared.fault.CheckFault.{CheckFault}
 use Rattle.prolly_check.specs.Rebuilt.{node_levels, sent_through, sent_of, AreBehind, AreFirst, AreUnused, IsBehind, DifferAs, DifferBy, PassesOn, FaultPassing}
 use Rattle.prolly_check.proofs.Rebuilds.{sent_differs_more}
 use Rattle.std.specs.Option.{option_to_list}
-use Rattle.std.proofs.lemmas.List.{take_at, drop-drop}
+use Rattle.std.proofs.lemmas.List.{take_at, drop-drop, drop_all}
 
 -- levels that took nothing are those behind no chunks, and send none
 pub unused_behind : (bits : ℕ) (version : Version) (level : ℕ) (states : List (NodeState ℕ)) → AreUnused bits version level states → AreBehind bits version level states []
@@ -157,19 +157,16 @@ module _ (chunks : List (List ℕ)) (entries : List ℕ) (leaf : LeafState ℕ) 
       subst (λ ps. DifferBy bits version chunks ps fault) whole
       (differ_by_more bits version chunks ((pairs ++ l.done) ++ p ∷ []) f.more fault (subst (λ r. DifferBy bits version chunks ((pairs ++ l.done) ++ r ∷ []) fault) copy (differs bits version (pairs ++ l.done) l.behind)))
 
-  cons_nil : {x : ℕ} {xs : List ℕ} → ◌≡◌ {A = List ℕ} (x ∷ xs) [] → ⊥
-  cons_nil e = cc
-
   pub leaf_rebuild_ends : length entries ≤ place → (bits : ℕ) (version : Version) (pairs held : List Pair) → IsBehind bits version chunks pairs leaf nodes number → AllByRecursion IsPair held → entries ≡ flat_map pair_spelling held →
       IsBehind bits version chunks (pairs ++ held) leaf' nodes' number'
   leaf_rebuild_ends h bits version pairs held b lawful spelled =
       let l = all bits version pairs held b lawful spelled in
-      let none = no_rest l.rest (sym l.left ∙ past_end entries place h) in
+      let none = no_rest l.rest (sym l.left ∙ drop_all place entries h) in
       subst (λ ps. IsBehind bits version chunks ps leaf' nodes' number') (ap (λ ps. pairs ++ ps) (sym (l.is ∙ ap (λ ps. l.done ++ ps) none ∙ append-nil l.done))) l.behind
     where
       no_rest : (rest : List Pair) → flat_map pair_spelling rest ≡ [] → rest ≡ []
       no_rest [] e = refl
-      no_rest (p ∷ rest) e = absurd (cons_nil e)
+      no_rest (p ∷ rest) e = absurd (cons≢nil e)
 
   -- no other bytes than pairs are there
   pub leaf_rebuild_stops : (bytes : List ℕ) → bytes ≡ drop place entries → place < length entries → NoPairAt bytes →
@@ -235,5 +232,5 @@ pub chunks_end : (chunks : List (List ℕ)) (leaf : LeafState ℕ) (nodes : List
     IsBehind bits version chunks (pairs ++ flat lists) leaf' nodes' number'
 chunks_end chunks leaf nodes number leaf' nodes' number' place h all bits version pairs lists b hold =
     let l = all bits version pairs lists b hold in
-    let none = none_held version l.rest (subst (λ cs. AllHold version cs l.rest) (nothing_left chunks place h) l.hold) in
+    let none = none_held version l.rest (subst (λ cs. AllHold version cs l.rest) (drop_all place chunks h) l.hold) in
     subst (λ ps. IsBehind bits version chunks ps leaf' nodes' number') (ap (λ ps. pairs ++ ps) (sym (l.is ∙ ap (λ ls. l.done ++ flat ls) none ∙ append-nil l.done))) l.behind

@@ -1,9 +1,10 @@
 -- Scanning a leaf pair by pair, and a file chunk by chunk.
+use mathlib.Core.List.{cons≢nil}
 use Rattle.std.proofs.Common.{◌≡◌, ℕ, zero, suc, ◌+◌, ◌<◌, ◌≤◌, Bool, true, false, not, cond, List, [], ◌∷◌, ◌++◌, length, take, drop, get_or, slice_index, refl, sym, ap, ◌∙◌, subst, arith, append_assoc}
 use Rattle.std.specs.Ordering.{is_lt}
 use Rattle.std.specs.List.{flat_map, AllByRecursion}
 use Rattle.std.proofs.Math.Seq.{drop-cons}
-use Rattle.std.proofs.lemmas.List.{drop-drop, length-append}
+use Rattle.std.proofs.lemmas.List.{drop-drop, length-append, drop_all}
 use Rattle.prolly_entry.specs.declared.version.Version.{Version}
 use Rattle.prolly_entry.specs.Front.{IsPairAt, NoPairAt}
 use Rattle.prolly_entry.specs.Keys.{key_order}
@@ -15,7 +16,7 @@ use Rattle.prolly_check.specs.Scanned.{pairs_from}
 use Rattle.prolly_check.specs.Spans.{chunk_in, chunks_in}
 use Rattle.prolly_check.specs.declared.frames.Span.{Span}
 use Rattle.prolly_check.proofs.CanonicalSteps.{count_in, chunk_there}
-use Rattle.prolly_check.proofs.EntrySteps.{past_end, some_left}
+use Rattle.prolly_check.proofs.EntrySteps.{some_left}
 use Rattle.prolly_check.proofs.FindSteps.{first_is}
 use Rattle.prolly_check.proofs.Scans.{pairs_from-append, scan_more, scan_full, scan_done}
 
@@ -69,15 +70,12 @@ module _ (entries from : List ℕ) (limit : ℕ) (old pairs : List Pair) (place 
   pub leaf_scan_full : length pairs ≡ limit → pairs ≡ take limit (old ++ pairs_from from leaf)
   leaf_scan_full e = let l = s.all leaf lawful spelled in scan_full limit pairs (pairs_from from l.rest) e ∙ sym l.same
 
-  cons_nil : {x : ℕ} {xs : List ℕ} → ◌≡◌ {A = List ℕ} (x ∷ xs) [] → ⊥
-  cons_nil e = cc
-
   pub leaf_scan_ends : length entries ≤ place → pairs ≡ take limit (old ++ pairs_from from leaf)
-  leaf_scan_ends h = let l = s.all leaf lawful spelled in go l.rest (sym l.left ∙ past_end entries place h) l.same
+  leaf_scan_ends h = let l = s.all leaf lawful spelled in go l.rest (sym l.left ∙ drop_all place entries h) l.same
     where
       go : (rest : List Pair) → flat_map pair_spelling rest ≡ [] → take limit (old ++ pairs_from from leaf) ≡ take limit (pairs ++ pairs_from from rest) → pairs ≡ take limit (old ++ pairs_from from leaf)
       go [] e same = scan_done limit pairs s.within ∙ sym same
-      go (q ∷ more) e same = absurd (cons_nil e)
+      go (q ∷ more) e same = absurd (cons≢nil e)
 
   -- no other bytes than pairs are there
   pub leaf_scan_stops : (bytes : List ℕ) → bytes ≡ drop place entries → place < length entries → NoPairAt bytes → ⊥

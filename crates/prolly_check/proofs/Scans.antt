@@ -1,4 +1,5 @@
 -- Lists of pairs from a key on.
+use mathlib.Core.List.{cons≢nil}
 use Rattle.std.proofs.Common.{◌≡◌, ℕ, zero, suc, ◌<◌, ◌≤◌, Bool, true, false, not, cond, List, [], ◌∷◌, ◌++◌, length, take, refl, sym, ap, ◌∙◌, arith, append_assoc, append-nil}
 use Rattle.std.specs.Ordering.{is_lt}
 use Rattle.std.specs.List.{flat_map, AllByRecursion}
@@ -36,9 +37,6 @@ none_below_all level (t ∷ ts) from h k =
     ∙ ap (λ ps. ps ++ pairs_from from (flat_map (pairs_below level) ts)) (none_from from (pairs_below level t) (rises_front (pairs_below level t) (flat_map (pairs_below level) ts) h) k.0)
     ∙ none_below_all level ts from (rises_back (pairs_below level t) (flat_map (pairs_below level) ts) h) k.1
 
-cons_nil : {A : Type 0} {x : A} {xs : List A} → x ∷ xs ≡ [] → ⊥
-cons_nil e = cc
-
 -- pairs of which the last is not below it have one
 pub some_from : (from : List ℕ) (ps : List Pair) → 0 < length ps → is_lt (key_order (last_key ps) from) ≡ false → pairs_from from ps ≡ [] → ⊥
 some_from from [] some h e = absurd (omega arith)
@@ -46,11 +44,11 @@ some_from from (p ∷ []) some h e = go (is_lt (key_order p.key from)) h e
   where
     go : (b : Bool) → b ≡ false → cond (not b) (p ∷ []) [] ≡ [] → ⊥
     go true e f = cc
-    go false e f = cons_nil f
+    go false e f = cons≢nil f
 some_from from (p ∷ q ∷ ps) some h e = go (not (is_lt (key_order p.key from))) (λ f. some_from from (q ∷ ps) (omega arith) h f) e
   where
     go : (b : Bool) → (pairs_from from (q ∷ ps) ≡ [] → ⊥) → cond b (p ∷ pairs_from from (q ∷ ps)) (pairs_from from (q ∷ ps)) ≡ [] → ⊥
-    go true more f = cons_nil f
+    go true more f = cons≢nil f
     go false more f = more f
 
 -- ---- up to a limit
