@@ -10,7 +10,9 @@ from pathlib import Path
 FOLDER = object()
 """Stands among a case's files for a folder without files."""
 
-SCARCE = [b"prolly: out of memory\n", b"prolly: a thread could not be started\n"]
+NO_THREAD = b"prolly: a thread could not be started\n"
+
+SCARCE = [b"prolly: out of memory\n", NO_THREAD]
 """How the program says that memory, or a thread, was not there."""
 
 

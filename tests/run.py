@@ -2,17 +2,22 @@
 """Tests the program as a user runs it: `tests/run.py PROGRAM`.
 
 Each case is a run with its words, input, output, error, status and files. What is wanted comes from
-docs/format.md, from a second builder written after it (trees.py), or, for texts of help, from texts/.
+docs/format.md, from a second builder written after it (trees.py), or, for texts of help, from texts/. Beside the
+cases there are runs in which each growth of memory is refused in turn, the examples of the README, and the
+demonstration.
 """
 
 import sys
 import tempfile
 from pathlib import Path
 
-import command_line
-import look_ups
 import build
+import command_line
+import demo
+import growths
+import look_ups
 import pack
+import readme
 import scratch
 from harness import run
 from trees import chunk_file
@@ -27,16 +32,24 @@ def main():
     for count, version, size in KNOWN_SIZES:
         assert len(chunk_file(scratch.ABC[:count], 0, version)) == size
     assert chunk_file([], 0) == scratch.EMPTY_FILE
-    failed = 0
+    passed, failed = 0, 0
     with tempfile.TemporaryDirectory() as folder:
-        all_cases = [case for part in (command_line, pack, scratch, build, look_ups) for case in part.cases(Path(folder))]
-        for case in all_cases:
-            differences = run(program, case)
+        for name, differences in all_runs(program, Path(folder)):
+            passed += not differences
             failed += bool(differences)
             for difference in differences:
-                print(f"FAILED {case.name}: {difference}")
-    print(f"{len(all_cases) - failed} passed, {failed} failed")
+                print(f"FAILED {name}: {difference}")
+    print(f"{passed} passed, {failed} failed")
     return 1 if failed else 0
+
+
+def all_runs(program, folder):
+    """All runs: for each its name and its differences."""
+    for part in (command_line, pack, scratch, build, look_ups):
+        for case in part.cases(folder):
+            yield case.name, run(program, case)
+    for part in (growths, readme, demo):
+        yield from part.all_runs(program, folder)
 
 
 if __name__ == "__main__":

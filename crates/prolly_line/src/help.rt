@@ -4,9 +4,10 @@
 pub(crate) const PROGRAM: &str = "Makes, checks and reads prolly trees.
 
 A prolly tree is a search tree over sorted keys that is cut into chunks where
-the data itself says so. Its root is a text of 32 characters that is equal
-exactly for equal contents (at equal --bits and --format), however they came to
-be: to compare two trees, compare their roots.
+the data itself says so. Its root is a text of 32 characters that is equal for
+equal contents (at equal --bits and --format), however they came to be. Where it
+is equal for other contents, two different chunks have one SHA-512 prefix, which
+nobody has seen yet: to compare two trees, compare their roots.
 
 Two kinds of files are used. A record file is a binary file of pairs, a key with
 its value, and removals, a key to be taken away, with strictly rising keys. A
@@ -34,8 +35,9 @@ strictly from line to line, compared byte by byte; that is not tested here, but
 
 Prints the number of records.
 
-OUT is made before the input is read. After a fault it is left empty or, where
-writing failed, with the first part of the record file.";
+OUT is made before the input is read. After a fault it is left empty; where
+writing it failed, with the first part of the record file; and where standard
+output alone failed, whole.";
 
 pub(crate) const PACK_EXAMPLE: &str = "Example: put 31 at 61, and take 62 away
   printf '61 31\\n62 -\\n' | prolly pack changes.rec";
@@ -48,7 +50,8 @@ Equal contents give equal roots and equal chunk files, whether this command made
 them or `build` did, at equal --bits and --format.
 
 With --out, FILE is made before the input is read. After a fault it is left
-empty or, where writing failed, with the first part of the chunk file.";
+empty; where writing it failed, with the first part of the chunk file; and where
+standard output alone failed, whole.";
 
 pub(crate) const SCRATCH_EXAMPLE: &str = "Example:
   prolly scratch --out ab.prl < ab.rec";
@@ -62,7 +65,8 @@ pair replaces the value, its removal takes the key away.
 Prints the text of the root and the numbers of chunks, pairs and levels.
 
 OUT is made once all files are open, before any is read. After a fault it holds
-no more than the first part of a chunk file, which `check` calls truncated.
+no more than the first part of a chunk file, which `check` calls truncated; only
+where nothing but its line could not be made or printed is it whole.
 
 --bits and --format decide what the chunk file holds. --stages and --max-records
 are limits: a tree of more levels, or a file of more records, is refused.

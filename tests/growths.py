@@ -1,0 +1,169 @@
+"""Runs in which the system refuses the program one growth of memory: each growth in turn, from the first to the one
+after the last."""
+
+import os
+import subprocess
+import tempfile
+from dataclasses import dataclass, field
+from pathlib import Path
+
+from harness import NO_THREAD, SCARCE, file_differences, lay_out, shown
+from scratch import ABC
+from trees import END_SIZE, begun_file, chunk_file, overlay, record, records, report, root_text
+
+TOLD = 9
+"""The descriptor on which the allocator of refuse.c tells that it refused."""
+
+FIVE_IN_THREE = [[(b"a", b"1"), (b"d", b"1")], [(b"b", b"1")], [(b"c", b"1"), (b"e", b"1")]]
+
+OUT_OF_ORDER = [(b"5", b"1"), (b"3", b"1")]
+
+MOST_GROWTHS = 2_000
+"""More than any of the commands asks for."""
+
+
+@dataclass
+class Command:
+    """A command, what it answers where nothing is refused, and what it may leave behind where something is."""
+
+    name: str
+    words: list
+    input: bytes = b""
+    status: int = 0
+    out: bytes = b""
+    err: bytes = b""
+    before: dict = field(default_factory=dict)
+    made: str = None
+    """The file that it makes."""
+    whole: bytes = b""
+    """What this file holds where nothing is refused."""
+    parts: list = field(default_factory=list)
+    """Where a growth is refused, it holds a first part of one of these, or nothing."""
+    is_made_first: bool = False
+    """The file is made before the line that tells of it, for which there may be no memory."""
+
+
+def commands():
+    """The commands, each over little data, so that each growth can be refused."""
+    chunks, counted = chunk_file(ABC, 0), chunk_file(ABC, 0, 2)
+    reads = {"abc.prl": chunks, "counted.prl": counted}
+    return [
+        Command("pack", ["pack", "out.rec"], b"61 31\n62 -\n", out=b"2\n", made="out.rec", whole=record(b"a", b"1") + record(b"b", None)),
+        Command(
+            "scratch",
+            ["scratch", "--bits", "0", "--out", "out.prl"],
+            records(ABC),
+            out=root_text(ABC, 0),
+            made="out.prl",
+            whole=chunks,
+        ),
+        built("build of three pairs", [ABC]),
+        built("build of three pairs in format 2", [ABC], version=2),
+        built("build of three files", FIVE_IN_THREE),
+        stopped(),
+        Command("check", ["check", "abc.prl"], out=b"ok " + root_text(ABC, 0).strip() + b" 0 6\n", before=reads),
+        Command("get", ["get", "abc.prl", "62"], out=b"31\n", before=reads),
+        Command("get of no pair", ["get", "abc.prl", "7a"], status=1, before=reads),
+        Command("scan", ["scan", "abc.prl", "62", "5"], out=b"62 31\n63 31\n", before=reads),
+        Command("nth", ["nth", "counted.prl", "2"], out=b"63 31\n", before=reads),
+    ]
+
+
+def built(name, files, version=1):
+    """A build that is whole where nothing is refused, and else holds a first part of the file of some first pairs, without
+    its end record."""
+    pairs = overlay(files)
+    before = {f"{number}.rec": records(file) for number, file in enumerate(files)}
+    return Command(
+        name,
+        ["build", "--bits", "0", "--format", str(version), "out.prl", *before],
+        out=report(pairs, 0, version),
+        before=before,
+        made="out.prl",
+        whole=chunk_file(pairs, 0, version),
+        parts=first_parts(pairs, version),
+        is_made_first=True,
+    )
+
+
+def stopped():
+    """A build of two files, of which one has a key out of order behind its first."""
+    good = [(b"1", b"1"), (b"2", b"1"), (b"7", b"1")]
+    before = {"0.rec": records(OUT_OF_ORDER), "1.rec": records(good)}
+    return Command(
+        "build of a file out of order",
+        ["build", "--bits", "0", "out.prl", *before],
+        status=3,
+        err=b"prolly: file 0: record 1: key out of order\n",
+        before=before,
+        made="out.prl",
+        whole=begun_file(overlay([OUT_OF_ORDER[:1], good])[:3], 0),
+        parts=first_parts(overlay([OUT_OF_ORDER[:1], good]), 1),
+    )
+
+
+def first_parts(pairs, version):
+    """The files of the first pairs, each without its end record."""
+    return [chunk_file(pairs[:count], 0, version)[:-END_SIZE] for count in range(len(pairs) + 1)]
+
+
+def all_runs(program, folder):
+    """Refuses each command each of its growths, and gives for each run its name and its differences."""
+    allocator = folder / "refuse.so"
+    source = Path(__file__).with_name("refuse.c")
+    subprocess.run(["cc", "-O2", "-shared", "-fPIC", "-o", allocator, source], check=True)
+    for command in commands():
+        for number in range(1, MOST_GROWTHS):
+            was_refused, differences = refuse(program, allocator, command, number)
+            yield f"{command.name}, growth {number} refused", differences
+            if not was_refused:
+                break
+        else:
+            yield f"{command.name}, its growths", [f"more than {MOST_GROWTHS}"]
+
+
+def refuse(program, allocator, command, number):
+    """Runs a command and refuses it the growth of this number. Gives whether there was one, and the differences."""
+    with tempfile.TemporaryDirectory() as name:
+        folder = Path(name)
+        lay_out(folder, command.before)
+        reader, writer = os.pipe()
+        done = subprocess.run(
+            [program, *command.words],
+            cwd=folder,
+            input=command.input,
+            capture_output=True,
+            env={"LD_PRELOAD": str(allocator), "REFUSE": str(number)},
+            preexec_fn=lambda: os.dup2(writer, TOLD),
+            pass_fds=[TOLD],
+            check=False,
+        )
+        os.close(writer)
+        with os.fdopen(reader, "rb") as told:
+            was_refused = told.read() != b""
+        answer = (done.returncode, done.stdout, done.stderr)
+        if answer == (command.status, command.out, command.err):
+            return was_refused, file_differences(folder, command.before | whole_of(command))
+        if was_refused and answer[:2] == (6, b"") and done.stderr in SCARCE:
+            return True, part_differences(folder, command, done.stderr == NO_THREAD)
+        return was_refused, [f"status {done.returncode}, output {shown(done.stdout)}, error {shown(done.stderr)}"]
+
+
+def whole_of(command):
+    """The file that a command makes, if it makes one."""
+    return {command.made: command.whole} if command.made else {}
+
+
+def part_differences(folder, command, is_unstarted):
+    """How the files differ from those that were there, and from a first part of what was to be made: none of it, where a
+    thread could not be started, and all of it, where there was no memory for the line that tells of it."""
+    made = folder / command.made if command.made else None
+    if made is None or not made.is_file():
+        return file_differences(folder, command.before)
+    left = made.read_bytes()
+    differences = file_differences(folder, command.before | {command.made: left})
+    is_first_part = any(part.startswith(left) for part in command.parts)
+    is_untold = command.is_made_first and left == command.whole
+    if left and (is_unstarted or not (is_first_part or is_untold)):
+        differences.append(f"{command.made} holds {shown(left)}")
+    return differences
