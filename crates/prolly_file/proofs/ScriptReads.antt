@@ -1,7 +1,11 @@
 -- What a script hands out of its bytes, from a place on.
-use Rattle.std.proofs.Common.{◌≡◌, ◌∙◌, ℕ, ◌+◌, ◌-◌, ◌≤◌, ◌<◌, ◌++◌, List, [], length, min, take, drop, arith, sym, ap, length-drop}
+use Rattle.std.proofs.Common.{◌≡◌, ◌∙◌, ℕ, ◌+◌, ◌-◌, ◌≤◌, ◌<◌, ◌++◌, true, List, [], length, min, take, drop, arith, sym, ap, subst, length-drop}
 use Rattle.std.proofs.lemmas.List.{drop-drop, length-take-le, nil_from_length, take-append-drop}
+use Rattle.std.proofs.lemmas.List.Elements.{All-drop}
 use Rattle.std.proofs.Math.Seq.{take-append_seam, take-length}
+use Rattle.prolly_entry.specs.Byte.{IsByte}
+use Rattle.prolly_file.specs.Bytes.{are_bytes}
+use Rattle.prolly_file.specs.BytesLaws.{are_bytes_decides}
 
 -- `&bytes[at..]`
 rest-slice : (bytes : List ℕ) (at : ℕ) → take (length bytes - at) (drop at bytes) ≡ drop at bytes
@@ -38,3 +42,10 @@ all_given bytes seen old at n step moves same count none more =
     let fits : n ≡ min step (min (length old) (length (drop at bytes))) = count ∙ ap (λ (xs : List ℕ). min step (min (length old) (length xs))) rest in
     let over : length (drop at bytes) ≡ 0 = omega arith in
     nil_from_length (drop (at + n) bytes) (omega (arith, length-drop at bytes, length-drop (at + n) bytes))
+
+-- Where the bytes from a place on are bytes, so are those from a later place on.
+pub rest_are_bytes : (bytes : List ℕ) (at n : ℕ) → are_bytes (drop at bytes) ≡ true → are_bytes (drop (at + n) bytes) ≡ true
+rest_are_bytes bytes at n tested =
+    let rest = drop at bytes in
+    let kept = All-drop IsByte n rest ((are_bytes_decides rest).0 tested) in
+    subst (λ (xs : List ℕ). are_bytes xs ≡ true) (drop-drop n at bytes) ((are_bytes_decides (drop n rest)).1 kept)

@@ -1,5 +1,7 @@
 pub mod Failures
+pub mod Bytes
 pub mod Known
+pub mod BytesLaws
 pub mod Source
 pub mod FromRead
 pub mod Sink

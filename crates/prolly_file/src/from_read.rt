@@ -1,13 +1,14 @@
 //! A reader of std as a source.
-ghost use Rattle.std.specs.Prelude.{◌≡◌, ◌≤◌, ◌<◌, ◌↔◌, true, false, length, IsTrue, IfOk, OnErr, is_some};
+ghost use Rattle.std.specs.Prelude.{◌≡◌, ◌≤◌, ◌<◌, ◌↔◌, true, false, length, IsTrue, IfOk, OnErr};
 ghost use Rattle.prolly_file.specs.Failures.{CountsFailure};
-ghost use Rattle.prolly_file.specs.Known.{known_bytes};
+ghost use Rattle.prolly_file.specs.Known.{known_bytes, are_known_bytes};
 ghost use Rattle.prolly_file.specs.Source.{HandsOut};
 
 use crate::source::{Source, SourceFault};
 use std::io::Read;
 
-/// A reader of std as a source. It is honest where the reader tells its bytes.
+/// A reader of std as a source. It is honest where the reader tells its bytes, and what it tells are
+/// bytes: of that std promises nothing.
 ///
 /// Every error of the reader is a `SourceFault`, also one that a second try might mend, as
 /// `Interrupted`. An `Ok(0)` for a buffer that has room is the end for good: a terminal, say, would
@@ -25,7 +26,7 @@ impl<R: Read> FromRead<R> {
     /// A source of what the reader has left. It reads nothing yet.
     pub fn new(reader: R) -> FromRead<R>
         ensures left { ⟦<FromRead<R> as Source>⟧.left result ≡ known_bytes (R.remaining reader) }
-        ensures honest { ⟦<FromRead<R> as Source>⟧.is_honest result ≡ is_some (R.remaining reader) }
+        ensures honest { ⟦<FromRead<R> as Source>⟧.is_honest result ≡ are_known_bytes (R.remaining reader) }
         ensures failures { ⟦<FromRead<R> as Source>⟧.failures result ≡ 0 }
         ensures begun { has_ended result ≡ false }
     {
@@ -39,6 +40,7 @@ impl<R: Read> FromRead<R> {
 
 impl<R: Read> Source for FromRead<R> {
     ghost use Rattle.prolly_file.specs.FromRead.{has_ended, bytes_left, tells_bytes, failure_count};
+    ghost use Rattle.prolly_file.specs.BytesLaws.{bytes_left_are_bytes};
 
     ghost left = { bytes_left R.remaining };
 
@@ -47,6 +49,8 @@ impl<R: Read> Source for FromRead<R> {
     ghost is_honest = { tells_bytes R.remaining };
 
     ghost is_steady = { λ s. false };
+
+    ghost left_are_bytes = { λ s told. bytes_left_are_bytes s.has_ended (R.remaining s.reader) told };
 
     fn read(&mut self, buf: &mut [u8]) -> Result<usize, SourceFault>
         ensures bound { IfOk result (λ n. n ≤ length buf.new) }

@@ -1,5 +1,6 @@
 //! A source in memory that follows a script, for tests.
 ghost use Rattle.std.specs.Prelude.{◌≡◌, ◌≤◌, ◌<◌, ◌↔◌, true, length, take, drop, min, ◌++◌, not, is_some, IsErr, IfOk, OnErr};
+ghost use Rattle.prolly_file.specs.Bytes.{are_bytes};
 ghost use Rattle.prolly_file.specs.Failures.{CountsFailure};
 ghost use Rattle.prolly_file.specs.Script.{after_call};
 ghost use Rattle.prolly_file.specs.Source.{HandsOut};
@@ -35,7 +36,8 @@ impl ScriptSource {
     /// number `fail_at`, counted from 1, fails, and no other; with `None` and 0 none does.
     pub fn new(bytes: Vec<u8>, step: usize, fail_at: Option<u64>) -> ScriptSource
         requires { 0 < step }
-        ensures { result ≡ record { left = bytes.items; step = step; until_failure = fail_at; failures = 0 } }
+        ensures script { result ≡ record { left = bytes.items; step = step; until_failure = fail_at; failures = 0 } }
+        ensures honest { ⟦<ScriptSource as Source>⟧.is_honest result ≡ true }
     {
         ScriptSource {
             bytes,
@@ -48,17 +50,22 @@ impl ScriptSource {
 }
 
 impl Source for ScriptSource {
+    ghost use Rattle.prolly_file.specs.BytesLaws.{are_bytes_decides};
+
     ghost left = { λ s. s.left };
 
     ghost failures = { λ s. s.failures };
 
-    ghost is_honest = { λ s. true };
+    ghost is_honest = { λ s. are_bytes s.left };
 
     ghost is_steady = { λ s. not (is_some s.until_failure) };
+
+    ghost left_are_bytes = { λ s honest. (are_bytes_decides s.left).0 honest };
 
     fn read(&mut self, buf: &mut [u8]) -> Result<usize, SourceFault>
         ensures bound { IfOk result (λ n. n ≤ length buf.new) }
         ensures bytes { HandsOut self.old.left self.new.left result buf.new }
+        ensures honest { are_bytes self.old.left ≡ true → are_bytes self.new.left ≡ true }
         ensures failures { CountsFailure self.old.failures self.new.failures result }
 
         // It follows its script.

@@ -1,5 +1,6 @@
 //! What gives bytes.
-ghost use Rattle.std.specs.Prelude.{◌≡◌, ◌≤◌, ℕ, Bool, true, List, length, IsOk, IfOk};
+ghost use Rattle.std.specs.Prelude.{◌≡◌, ◌≤◌, ℕ, Bool, true, List, All, length, IsOk, IfOk};
+ghost use Rattle.prolly_entry.specs.Byte.{IsByte};
 ghost use Rattle.prolly_file.specs.Failures.{CountsFailure};
 ghost use Rattle.prolly_file.specs.Source.{HandsOut};
 
@@ -33,4 +34,7 @@ pub trait Source {
         ensures failures { CountsFailure (failures self.old) (failures self.new) result }
         ensures succeeds { is_steady self.old ≡ true → IsOk result }
         ensures steady { is_steady self.old ≡ true → is_steady self.new ≡ true };
+
+    /// What an honest source has left are bytes, which contracts see as numbers.
+    ghost left_are_bytes: { (s : Self) → is_honest s ≡ true → All IsByte (left s) };
 }

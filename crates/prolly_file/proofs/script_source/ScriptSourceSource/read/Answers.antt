@@ -1,7 +1,8 @@
 use Rattle.std.proofs.lemmas.Grind.{common_steps}
-use Rattle.std.proofs.Common.{◌≡◌, ◌∙◌, arith, length, sym, ap}
+use Rattle.std.proofs.Common.{◌≡◌, ◌∙◌, true, arith, length, sym, ap, subst}
+use Rattle.prolly_file.specs.Bytes.{are_bytes}
 use Rattle.prolly_file.specs.Script.{SourceScript}
-use Rattle.prolly_file.proofs.ScriptReads.{all_given, handed_out}
+use Rattle.prolly_file.proofs.ScriptReads.{all_given, handed_out, rest_are_bytes}
 use Rattle.prolly_file.proofs.script_source.ScriptSourceSource.read.Goals as goal
 
 pub returns-clause-bytes : goal.returns-clause-bytes
@@ -13,6 +14,11 @@ returns-clause-bytes c =
           let size : length c.copy_some-count.new.to ≡ length c.args.buf.now = c.copy_some-count.auto.to in
           all_given _ _ c.args.buf.now _ _ _ c.self.invariant.1 c.deref.ensures.value given.count none (omega arith),
     )
+
+pub returns-clause-honest : goal.returns-clause-honest
+returns-clause-honest c honest =
+    let seen = subst (λ (s : SourceScript). are_bytes s.left ≡ true) (sym c.self.view_is) honest in
+    rest_are_bytes c.self.inside.bytes.items c.self.inside.at c.copy_some-count.result seen
 
 pub returns-clause-count : goal.returns-clause-count
 returns-clause-count c = grind (arith, common_steps) steps 2000000

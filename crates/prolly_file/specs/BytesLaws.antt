@@ -1,0 +1,21 @@
+-- What the test of bytes tells.
+use Rattle.std.proofs.Common.{◌≡◌, ℕ, Bool, true, false, List, [], Option, Some, None, All, refl, if◌then◌else◌}
+use Rattle.std.proofs.lemmas.Bool.{false≢true}
+use Rattle.std.proofs.lemmas.Bool.Decides.{Decides-by_and, Decides-ltb}
+use Rattle.std.proofs.lemmas.List.Elements.{All-nil}
+use Rattle.std.specs.Bool.{Decides}
+use Rattle.std.specs.Prelude.{nat_lt}
+use Rattle.prolly_entry.specs.Byte.{IsByte}
+use Rattle.prolly_file.specs.Bytes.{are_bytes}
+use Rattle.prolly_file.specs.Known.{known_bytes, are_known_bytes}
+
+-- The test passes just where each number is a byte.
+pub are_bytes_decides : (numbers : List ℕ) → Decides (are_bytes numbers) (All IsByte numbers)
+are_bytes_decides numbers = Decides-by_and (λ n. nat_lt n 256) IsByte are_bytes (λ n. Decides-ltb n 256) refl (λ _ _. refl) numbers
+
+-- What a reader that told bytes has left is bytes, also once it has ended.
+pub bytes_left_are_bytes : (has_ended : Bool) (known : Option (List ℕ)) → are_known_bytes known ≡ true
+    → All IsByte (if has_ended then [] else known_bytes known)
+bytes_left_are_bytes true known told = All-nil IsByte
+bytes_left_are_bytes false None told = absurd (false≢true told)
+bytes_left_are_bytes false (Some numbers) told = (are_bytes_decides numbers).0 told
