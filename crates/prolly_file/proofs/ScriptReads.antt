@@ -5,7 +5,7 @@ use Rattle.std.proofs.lemmas.List.Elements.{All-drop}
 use Rattle.std.proofs.Math.Seq.{take-append_seam, take-length}
 use Rattle.prolly_entry.specs.Byte.{IsByte}
 use Rattle.prolly_file.specs.Bytes.{are_bytes}
-use Rattle.prolly_file.specs.BytesLaws.{are_bytes_decides}
+use Rattle.prolly_file.specs.BytesLaws.{bytes_from_test, test_from_bytes}
 
 -- `&bytes[at..]`
 rest-slice : (bytes : List ℕ) (at : ℕ) → take (length bytes - at) (drop at bytes) ≡ drop at bytes
@@ -47,5 +47,5 @@ all_given bytes seen old at n step moves same count none more =
 pub rest_are_bytes : (bytes : List ℕ) (at n : ℕ) → are_bytes (drop at bytes) ≡ true → are_bytes (drop (at + n) bytes) ≡ true
 rest_are_bytes bytes at n tested =
     let rest = drop at bytes in
-    let kept = All-drop IsByte n rest ((are_bytes_decides rest).0 tested) in
-    subst (λ (xs : List ℕ). are_bytes xs ≡ true) (drop-drop n at bytes) ((are_bytes_decides (drop n rest)).1 kept)
+    let kept = All-drop IsByte n rest (bytes_from_test rest tested) in
+    subst (λ (xs : List ℕ). are_bytes xs ≡ true) (drop-drop n at bytes) (test_from_bytes (drop n rest) kept)

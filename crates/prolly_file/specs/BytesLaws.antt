@@ -9,13 +9,21 @@ use Rattle.prolly_entry.specs.Byte.{IsByte}
 use Rattle.prolly_file.specs.Bytes.{are_bytes}
 use Rattle.prolly_file.specs.Known.{known_bytes, are_known_bytes}
 
--- The test passes just where each number is a byte.
-pub are_bytes_decides : (numbers : List ℕ) → Decides (are_bytes numbers) (All IsByte numbers)
-are_bytes_decides numbers = Decides-by_and (λ n. nat_lt n 256) IsByte are_bytes (λ n. Decides-ltb n 256) refl (λ _ _. refl) numbers
+-- The test decides whether each number is a byte.
+decided : (numbers : List ℕ) → Decides (are_bytes numbers) (All IsByte numbers)
+decided numbers = Decides-by_and (λ n. nat_lt n 256) IsByte are_bytes (λ n. Decides-ltb n 256) refl (λ _ _. refl) numbers
+
+-- Where the test passes, each number is a byte.
+pub bytes_from_test : (numbers : List ℕ) → are_bytes numbers ≡ true → All IsByte numbers
+bytes_from_test numbers = (decided numbers).0
+
+-- Where each number is a byte, the test passes.
+pub test_from_bytes : (numbers : List ℕ) → All IsByte numbers → are_bytes numbers ≡ true
+test_from_bytes numbers = (decided numbers).1
 
 -- What a reader that told bytes has left is bytes, also once it has ended.
 pub bytes_left_are_bytes : (has_ended : Bool) (known : Option (List ℕ)) → are_known_bytes known ≡ true
     → All IsByte (if has_ended then [] else known_bytes known)
 bytes_left_are_bytes true known told = All-nil IsByte
 bytes_left_are_bytes false None told = absurd (false≢true told)
-bytes_left_are_bytes false (Some numbers) told = (are_bytes_decides numbers).0 told
+bytes_left_are_bytes false (Some numbers) told = bytes_from_test numbers told

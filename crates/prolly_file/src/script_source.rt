@@ -50,7 +50,8 @@ impl ScriptSource {
 }
 
 impl Source for ScriptSource {
-    ghost use Rattle.prolly_file.specs.BytesLaws.{are_bytes_decides};
+    ghost use Rattle.std.proofs.Common.{rules};
+    ghost use Rattle.prolly_file.specs.BytesLaws.{bytes_from_test};
 
     ghost left = { λ s. s.left };
 
@@ -60,7 +61,7 @@ impl Source for ScriptSource {
 
     ghost is_steady = { λ s. not (is_some s.until_failure) };
 
-    ghost left_are_bytes = { λ s honest. (are_bytes_decides s.left).0 honest };
+    ghost left_are_bytes = { Prim.search (rules, bytes_from_test) };
 
     fn read(&mut self, buf: &mut [u8]) -> Result<usize, SourceFault>
         ensures bound { IfOk result (λ n. n ≤ length buf.new) }
