@@ -36,6 +36,8 @@ impl<S: Source> Source for Watched<S> {
 
     ghost is_steady = { λ w. S.is_steady w.source };
 
+    ghost left_are_bytes = { λ w. S.left_are_bytes w.source };
+
     fn read(&mut self, buf: &mut [u8]) -> Result<usize, SourceFault> {
         match self.source.read(buf) {
             Ok(count) => {

@@ -65,6 +65,7 @@ fn reads_within_a_limit(rt: HostRuntime) -> Result<(), Fail> {
 struct Zeros;
 
 impl Source for Zeros {
+    ghost use Rattle.std.proofs.Common.{rules};
     ghost use Rattle.std.specs.Prelude.{[], true, false};
 
     ghost left = { λ _. [] };
@@ -74,6 +75,8 @@ impl Source for Zeros {
     ghost is_honest = { λ _. false };
 
     ghost is_steady = { λ _. true };
+
+    ghost left_are_bytes = { Prim.search rules };
 
     fn read(&mut self, buf: &mut [u8]) -> Result<usize, SourceFault> {
         buf.fill(0);

@@ -8,6 +8,7 @@ use prolly_file::{ScriptSource, Source, SourceFault};
 pub(super) struct Zeros;
 
 impl Source for Zeros {
+    ghost use Rattle.std.proofs.Common.{rules};
     ghost use Rattle.std.specs.Prelude.{[], true, false};
 
     ghost left = { λ _. [] };
@@ -17,6 +18,8 @@ impl Source for Zeros {
     ghost is_honest = { λ _. false };
 
     ghost is_steady = { λ _. true };
+
+    ghost left_are_bytes = { Prim.search rules };
 
     fn read(&mut self, buf: &mut [u8]) -> Result<usize, SourceFault> {
         buf.fill(0);
@@ -46,15 +49,18 @@ impl Watched {
 }
 
 impl Source for Watched {
-    ghost use Rattle.std.specs.Prelude.{true, not, is_some};
+    ghost use Rattle.prolly_file.specs.BytesLaws.{bytes_from_test};
+    ghost use Rattle.std.specs.Prelude.{not, is_some};
 
     ghost left = { λ s. s.script.left };
 
     ghost failures = { λ s. s.script.failures };
 
-    ghost is_honest = { λ _. true };
+    ghost is_honest = { λ s. ⟦<ScriptSource as Source>⟧.is_honest s.script };
 
     ghost is_steady = { λ s. not (is_some s.script.until_failure) };
+
+    ghost left_are_bytes = { λ s. bytes_from_test s.script.left };
 
     fn read(&mut self, buf: &mut [u8]) -> Result<usize, SourceFault> {
         self.least_room = self.least_room.min(buf.len());
