@@ -14,6 +14,7 @@ mod gates;
 mod merging;
 mod ranges;
 mod refusals;
+mod whole;
 
 /// The settings of most tests: each entry closes its chunk.
 fn settings(stages: u8) -> Result<Config, Fail> {

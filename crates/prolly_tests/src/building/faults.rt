@@ -5,9 +5,24 @@ use super::*;
 use prolly_link::RunFault;
 use prolly_stage::OpenGate;
 
-/// Builds from these sources, and fails unless there is this fault, or none, and the sink has taken this many
-/// first bytes of the chunk file of the map, or all.
-fn expect_end<R: Wait + Threads + Sync + Abort>(
+/// Builds from these sources, and fails unless there is this fault, or none, and the sink has taken these bytes.
+pub(super) fn expect_taken<R: Wait + Threads + Sync + Abort>(
+    rt: &R,
+    alloc: Global,
+    config: &Config,
+    sources: Vec<ScriptSource>,
+    sink: ScriptSink,
+    fault: Option<RunFault>,
+    bytes: &[u8],
+) {
+    let mut sources = sources;
+    let mut sink = sink;
+    let built = build(rt, alloc, config, &mut sources, &mut sink, &OpenGate);
+    assert_eq!(rt; (built.err(), sink.taken()), (fault, bytes));
+}
+
+/// The same, where the sink has taken this many first bytes of the chunk file of the map, or all.
+pub(super) fn expect_end<R: Wait + Threads + Sync + Abort>(
     rt: &R,
     alloc: Global,
     config: &Config,
@@ -17,20 +32,17 @@ fn expect_end<R: Wait + Threads + Sync + Abort>(
     map: &[u8],
     taken: usize,
 ) -> Result<(), Fail> {
-    let mut sources = sources;
-    let mut sink = sink;
     let mut begun = file_of(alloc, map)?;
     begun.truncate(taken);
-    let built = build(rt, alloc, config, &mut sources, &mut sink, &OpenGate);
-    assert_eq!(rt; (built.err(), sink.taken()), (fault, begun.as_slice()));
+    expect_taken(rt, alloc, config, sources, sink, fault, &begun);
     Ok(())
 }
 
-const OUT_OF_ORDER: RunFault = RunFault::OutOfOrder { file: 0, place: 1 };
+pub(super) const OUT_OF_ORDER: RunFault = RunFault::OutOfOrder { file: 0, place: 1 };
 
 /// Record files, the stages and the limit of records they are built with, the fault, the map of the file that
 /// is begun, and how many bytes of it are written. None has an end record, which has 29 bytes.
-const FAULTY_FILES: [(&[&[u8]], u8, u32, RunFault, &[u8], usize); 8] = [
+const FAULTY_FILES: [(&[&[u8]], u8, u32, RunFault, &[u8], usize); 10] = [
     (&[b"a1a2", b""], 12, 1_000, OUT_OF_ORDER, b"a1", 24),
     (
         &[b"5131", b"112171"],
@@ -41,6 +53,8 @@ const FAULTY_FILES: [(&[&[u8]], u8, u32, RunFault, &[u8], usize); 8] = [
         116,
     ),
     (&[b"5131", b"5131"], 12, 1_000, OUT_OF_ORDER, b"51", 24),
+    (&[b"5-31", b"112171"], 12, 1_000, OUT_OF_ORDER, b"1121", 98),
+    (&[b"a-a1"], 12, 1_000, OUT_OF_ORDER, b"", 6),
     (
         &[b"a1b1", b"c1c2"],
         12,
@@ -90,7 +104,7 @@ fn inputs_have_faults(rt: HostRuntime) -> Result<(), Fail> {
 }
 
 /// A source of these bytes alone.
-fn source_of(
+pub(super) fn source_of(
     alloc: Global,
     file: &[u8],
     step: usize,
@@ -106,23 +120,39 @@ fn source_of(
 // Where a read would fail, it is the second one.
 #[test]
 fn files_are_cut_and_second_reads_fail(rt: HostRuntime) -> Result<(), Fail> {
-    let config = settings(12)?;
     let cut = RunFault::Truncated { file: 0, place: 0 };
+    let long_key = RunFault::KeyTooLong { file: 0, place: 0 };
+    let long_value = RunFault::ValueTooLong { file: 0, place: 0 };
+    let many = RunFault::TooManyRecords { file: 0 };
     let long = RunFault::KeyTooLong { file: 0, place: 1 };
-    for (file, step, fail_at, fault, taken) in [
-        (b"\0".as_slice(), 4_096, None, cut, 6),
-        (b"\0\x01", 4_096, None, cut, 6),
-        (b"\0\x01a\0\0", 4_096, None, cut, 6),
-        (b"\0\x01a\0\0\0\x021", 4_096, None, cut, 6),
+    for (file, limit, step, fail_at, fault, taken) in [
+        (b"\0".as_slice(), 1_000, 4_096, None, cut, 6),
+        (b"\0\x01", 1_000, 4_096, None, cut, 6),
+        (b"\0\x01a\0\0", 1_000, 4_096, None, cut, 6),
+        (b"\0\x01a\0\0\0\x021", 1_000, 4_096, None, cut, 6),
+        (b"\0\x01a\xFF\xFF\xFF", 1_000, 4_096, None, cut, 6),
+        (b"\x04\x01", 1_000, 4_096, None, long_key, 6),
+        (b"\0\0\0\x01\0\x01", 1_000, 4_096, None, long_value, 6),
+        (
+            b"\0\x01a\xFF\xFF\xFF\xFE",
+            1_000,
+            4_096,
+            None,
+            long_value,
+            6,
+        ),
+        (b"\0\x01a\xFF\xFF\xFF\xFF\0", 1, 4_096, None, many, 6),
         (
             b"\0\x01a\0\0\0\x011\0\x01b\0\0\0\x011",
+            1_000,
             8,
             Some(2),
             RunFault::Read { file: 0 },
             24,
         ),
-        (b"\0\x01a\0\0\0\x011\x04\x01", 10, Some(2), long, 24),
+        (b"\0\x01a\0\0\0\x011\x04\x01", 1_000, 10, Some(2), long, 24),
     ] {
+        let config = Config::new(0, 12, 4, limit)?;
         let sources = source_of(rt.alloc(), file, step, fail_at)?;
         let sink = ScriptSink::new(rt.alloc(), 65_536, None);
         expect_end(
@@ -140,7 +170,7 @@ fn files_are_cut_and_second_reads_fail(rt: HostRuntime) -> Result<(), Fail> {
 }
 
 /// The record file of a=1, b=1 and c=1.
-const THREE_PUTS: &[u8] = b"\0\x01a\0\0\0\x011\0\x01b\0\0\0\x011\0\x01c\0\0\0\x011";
+pub(super) const THREE_PUTS: &[u8] = b"\0\x01a\0\0\0\x011\0\x01b\0\0\0\x011\0\x01c\0\0\0\x011";
 
 // A read gives a byte, so the reads before the failed one gave a record for eight of them. The 26th would
 // come after the end of the file.
