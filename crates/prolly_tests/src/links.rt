@@ -136,6 +136,31 @@ fn expect_numbers(rt: &impl Abort, numbers: &[u32], count: u32) {
     }
 }
 
+// Fails unless four messages of these items are taken, and the sender is ahead from the second one on, where half of
+// the room is left.
+fn fills_four<O: Out<u32>>(rt: &(impl Abort + Wait), out: &mut O, message: &[u32]) {
+    for is_ahead in [false, true, true, true] {
+        sends(rt, out, message);
+        assert_eq!(rt; out.is_ahead(), is_ahead);
+    }
+}
+
+// Nobody receives, so that a link with less room would wait for ever. One with more would be half full later.
+#[test]
+fn a_link_has_the_room_that_was_asked_for(rt: HostRuntime) -> Result<(), Fail> {
+    let Ok((mut sender, receiver)) = link(rt.alloc(), 4) else {
+        return no_memory(&rt);
+    };
+    fills_four(&rt, &mut sender, &[7]);
+    drop(receiver);
+    let Ok((mut sender, receiver)) = batch_link(rt.alloc(), 4, 2) else {
+        return no_memory(&rt);
+    };
+    fills_four(&rt, &mut sender, &[7, 8]);
+    drop(receiver);
+    Ok(())
+}
+
 // The receiver comes to its longest naps before the sender begins.
 #[test]
 fn a_long_wait_ends(rt: HostRuntime) -> Result<(), Fail> {
@@ -143,7 +168,7 @@ fn a_long_wait_ends(rt: HostRuntime) -> Result<(), Fail> {
         return no_memory(&rt);
     };
     let late = thread::spawn(&rt, move || {
-        thread::sleep(&rt, Duration::from_millis(20));
+        thread::sleep(&rt, Duration::from_millis(300));
         let mut sender = sender;
         drop(sender.send(&rt, 7u32));
         drop(sender.close(&rt, End::Clean));

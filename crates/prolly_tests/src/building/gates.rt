@@ -72,6 +72,9 @@ impl Gate for Meeting {
 
 const MANY_TURNS: u64 = 10_000_000;
 
+/// Enough for a worker that is not held.
+const FEW_TURNS: u64 = 10_000;
+
 #[test]
 fn two_loaders_are_at_work_at_once(rt: HostRuntime) -> Result<(), Fail> {
     let gate = Meeting::new(
@@ -120,6 +123,35 @@ fn two_stages_are_at_work_at_once(rt: HostRuntime) -> Result<(), Fail> {
         let file = file_of(rt.alloc(), b"a1b1")?;
         expect_file(&rt, rt.alloc(), &config, &gate, &[b"a1b1"], &file)?;
         assert_eq!(rt; gate.met(), met);
+    }
+    Ok(())
+}
+
+/// A worker that is held before its first item, the one that sends to it, and how many items the first has taken
+/// by then: a merger takes the next record before it sends one.
+const NEIGHBOURS: [(Worker, Worker, u64); 3] = [
+    (Worker::Merger(0), Worker::Loader(0), 2),
+    (Worker::Stage(0), Worker::Merger(0), 1),
+    (Worker::Stage(1), Worker::Stage(0), 1),
+];
+
+// The sender fills the link behind what was taken and comes to the item that has no room, and no further.
+#[test]
+fn workers_are_ahead_by_the_capacity(rt: HostRuntime) -> Result<(), Fail> {
+    let pairs = b"a1b1c1d1e1f1g1h1";
+    let file = file_of(rt.alloc(), pairs)?;
+    for (held, ahead, taken) in NEIGHBOURS {
+        for (capacity, more, turns, met) in [
+            (1, 1, MANY_TURNS, 2),
+            (1, 2, FEW_TURNS, 1),
+            (4, 4, MANY_TURNS, 2),
+            (4, 5, FEW_TURNS, 1),
+        ] {
+            let gate = Meeting::new(Stop::new(held, 0), Stop::new(ahead, taken + more), turns);
+            let config = Config::new(0, 12, capacity, 1_000)?;
+            expect_file(&rt, rt.alloc(), &config, &gate, &[pairs], &file)?;
+            assert_eq!(rt; gate.met(), met, "{ahead:?} before {held:?}, {more} ahead");
+        }
     }
     Ok(())
 }
