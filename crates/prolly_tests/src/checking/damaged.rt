@@ -35,22 +35,26 @@ fn names_the_fault_of_a_flipped_bit(rt: HostRuntime) -> Result<(), Fail> {
 
 #[test]
 fn refuses_each_flipped_bit(rt: HostRuntime) -> Result<(), Fail> {
-    let mut file = file_of_three(rt.alloc(), Version::One)?;
-    for place in 0..file.len() {
-        flip(&mut file, place);
-        assert!(rt; checked(rt.alloc(), &file).is_err(), "at {place}");
-        flip(&mut file, place);
+    for version in [Version::One, Version::Two] {
+        let mut file = file_of_three(rt.alloc(), version)?;
+        for place in 0..file.len() {
+            flip(&mut file, place);
+            assert!(rt; checked(rt.alloc(), &file).is_err(), "at {place}");
+            flip(&mut file, place);
+        }
+        assert!(rt; checked(rt.alloc(), &file).is_ok());
     }
-    assert!(rt; checked(rt.alloc(), &file).is_ok());
     Ok(())
 }
 
 #[test]
 fn refuses_each_part_that_ends_early(rt: HostRuntime) -> Result<(), Fail> {
-    let file = file_of_three(rt.alloc(), Version::One)?;
-    expect_length(&rt, &file, 234);
-    for len in 0..file.len() {
-        expect_fault(&rt, rt.alloc(), &file[..len], CheckFault::Truncated);
+    for (version, length) in [(Version::One, 234), (Version::Two, 274)] {
+        let file = file_of_three(rt.alloc(), version)?;
+        expect_length(&rt, &file, length);
+        for len in 0..file.len() {
+            expect_fault(&rt, rt.alloc(), &file[..len], CheckFault::Truncated);
+        }
     }
     Ok(())
 }
