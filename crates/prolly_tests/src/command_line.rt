@@ -128,14 +128,28 @@ fn words_out_of_range_are_usage(rt: HostRuntime) -> Result<(), Fail> {
     Ok(())
 }
 
+// What is shown where there is no command, behind what it is.
+fn text_shown(alloc: Global, line: &str) -> Result<String, Fail> {
+    match answer(alloc, line)? {
+        Err(ParseFault::Help(text)) => Ok(format!(in alloc; "help: {text}")?),
+        Err(ParseFault::Usage(text)) => Ok(format!(in alloc; "usage: {text}")?),
+        _ => Err(Fail::from("no text")),
+    }
+}
+
 #[test]
-fn help_is_no_fault_of_the_words(rt: HostRuntime) -> Result<(), Fail> {
+fn a_text_is_shown_where_there_is_no_command(rt: HostRuntime) -> Result<(), Fail> {
     let alloc = rt.alloc();
-    for (line, part) in [("--help", "  pack "), ("help build", "[default: 16777216]")] {
-        let Err(ParseFault::Help(text)) = answer(alloc, line)? else {
-            return Err(Fail::from("no help"));
-        };
-        assert!(rt; text.as_str().contains(part), "{text}");
+    for (line, kind, part) in [
+        ("--help", "help: ", "  pack "),
+        ("help build", "help: ", "[default: 16777216]"),
+        ("", "usage: error: ", "requires a subcommand"),
+        ("scratch --bits 25", "usage: error: ", "25 is not in 0..=24"),
+        ("forget a.prl", "usage: error: ", "'forget'"),
+    ] {
+        let text = text_shown(alloc, line)?;
+        let shown = text.as_str();
+        assert!(rt; shown.starts_with(kind) && shown.contains(part), "{text}");
     }
     Ok(())
 }
