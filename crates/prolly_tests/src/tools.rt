@@ -3,6 +3,7 @@ use crate::shared::expect_bytes;
 use prolly_tool::Answer;
 use std::process::Abort;
 
+mod build_answers;
 mod pack_answers;
 mod packing;
 mod scratch_answers;
