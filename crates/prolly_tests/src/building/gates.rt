@@ -129,9 +129,10 @@ fn two_stages_are_at_work_at_once(rt: HostRuntime) -> Result<(), Fail> {
 
 /// A worker that is held before its first item, the one that sends to it, and how many items the first has taken
 /// by then: a merger takes the next record before it sends one.
-const NEIGHBOURS: [(Worker, Worker, u64); 3] = [
+const NEIGHBOURS: [(Worker, Worker, u64); 4] = [
     (Worker::Merger(0), Worker::Loader(0), 2),
-    (Worker::Stage(0), Worker::Merger(0), 1),
+    (Worker::Merger(1), Worker::Merger(0), 2),
+    (Worker::Stage(0), Worker::Merger(1), 1),
     (Worker::Stage(1), Worker::Stage(0), 1),
 ];
 
@@ -149,7 +150,7 @@ fn workers_are_ahead_by_the_capacity(rt: HostRuntime) -> Result<(), Fail> {
         ] {
             let gate = Meeting::new(Stop::new(held, 0), Stop::new(ahead, taken + more), turns);
             let config = Config::new(0, 12, capacity, 1_000)?;
-            expect_file(&rt, rt.alloc(), &config, &gate, &[pairs], &file)?;
+            expect_file(&rt, rt.alloc(), &config, &gate, &[pairs, b"", b""], &file)?;
             assert_eq!(rt; gate.met(), met, "{ahead:?} before {held:?}, {more} ahead");
         }
     }
