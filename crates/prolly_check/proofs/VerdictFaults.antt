@@ -1,5 +1,5 @@
 -- A verdict is never want of memory, a failed read, or that there are too many bytes.
-use Rattle.std.proofs.Common.{◌≡◌, ℕ, suc, Bool, true, false, not, ◌==◌, nat_lt, cond, List, [], ◌∷◌, ◌++◌, length, Option, Some, None, Result, Ok, Err, sym, subst}
+use Rattle.std.proofs.Common.{◌≡◌, ℕ, suc, ◌≤◌, Bool, true, false, not, ◌==◌, nat_lt, cond, List, [], ◌∷◌, ◌++◌, length, Option, Some, None, Result, Ok, Err, sym, subst}
 use Rattle.std.specs.Prelude.{slice_index}
 use Rattle.std.specs.Str.{bytes_eq}
 use Rattle.std.specs.List.{list_any}
@@ -102,16 +102,19 @@ verdict_of_bytes bytes fault v = go (header_fault header_tests bytes) (of_header
     go None h v = of_end (version_of (slice_index bytes 4)) (slice_index bytes 5) v.chunks v.ending (Err fault) (subst ErrOfBytes v.is.is (of_ending (length v.chunks) v.is.tail)) v.so
 
 -- a refusal of the bytes that were read
-pub refusal : (read bytes : List ℕ) (max_bytes : ℕ) (fault : CheckFault) → read ≡ bytes → UnlessMemory (λ fault. IsVerdict read (Err fault)) fault → IsRefusal bytes max_bytes fault
-refusal read bytes max_bytes faults.Memory e h = tt
-refusal read bytes max_bytes faults.Read e h = tt
-refusal read bytes max_bytes faults.TooLong e h = absurd (verdict_of_bytes read faults.TooLong h)
-refusal read bytes max_bytes faults.BadHeader e h = subst (λ b. IsVerdict b (Err faults.BadHeader)) e h
-refusal read bytes max_bytes (faults.BadFrame n) e h = subst (λ b. IsVerdict b (Err (faults.BadFrame n))) e h
-refusal read bytes max_bytes faults.Truncated e h = subst (λ b. IsVerdict b (Err faults.Truncated)) e h
-refusal read bytes max_bytes faults.Trailing e h = subst (λ b. IsVerdict b (Err faults.Trailing)) e h
-refusal read bytes max_bytes (faults.BadChunk n) e h = subst (λ b. IsVerdict b (Err (faults.BadChunk n))) e h
-refusal read bytes max_bytes (faults.KeysOutOfOrder n) e h = subst (λ b. IsVerdict b (Err (faults.KeysOutOfOrder n))) e h
-refusal read bytes max_bytes (faults.NotCanonical n) e h = subst (λ b. IsVerdict b (Err (faults.NotCanonical n))) e h
-refusal read bytes max_bytes faults.BadEnd e h = subst (λ b. IsVerdict b (Err faults.BadEnd)) e h
-refusal read bytes max_bytes (faults.Collision n) e h = subst (λ b. IsVerdict b (Err (faults.Collision n))) e h
+pub refusal : (read bytes : List ℕ) (max_bytes : ℕ) (fault : CheckFault) → length read ≤ max_bytes → read ≡ bytes → UnlessMemory (λ fault. IsVerdict read (Err fault)) fault → IsRefusal bytes max_bytes fault
+refusal read bytes max_bytes fault within e h = subst (λ b. IsRefusal b max_bytes fault) e (go fault h)
+  where
+    go : (fault : CheckFault) → UnlessMemory (λ fault. IsVerdict read (Err fault)) fault → IsRefusal read max_bytes fault
+    go faults.Memory h = tt
+    go faults.Read h = tt
+    go faults.TooLong h = absurd (verdict_of_bytes read faults.TooLong h)
+    go faults.BadHeader h = (within, h)
+    go (faults.BadFrame n) h = (within, h)
+    go faults.Truncated h = (within, h)
+    go faults.Trailing h = (within, h)
+    go (faults.BadChunk n) h = (within, h)
+    go (faults.KeysOutOfOrder n) h = (within, h)
+    go (faults.NotCanonical n) h = (within, h)
+    go faults.BadEnd h = (within, h)
+    go (faults.Collision n) h = (within, h)

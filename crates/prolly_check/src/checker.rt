@@ -1,5 +1,5 @@
 //! The checker.
-ghost use Rattle.std.specs.Prelude.{◌≡◌, ◌≢◌, ◌↔◌, ◌⊎◌, ◌≤◌, true, length, IfOk, IfErr, IsErrOf};
+ghost use Rattle.std.specs.Prelude.{◌≡◌, ◌≢◌, ◌↔◌, ◌⊎◌, ◌≤◌, true, length, IfOk, OnOk, IfErr, IsErrOf};
 ghost use Rattle.prolly_check.specs.Check.{IsRefusal};
 ghost use Rattle.prolly_check.specs.Checked.{IsFile};
 ghost use Rattle.prolly_check.specs.Content.{Content};
@@ -24,15 +24,19 @@ pub fn check<S: Source>(alloc: Global, source: &mut S, max_bytes: u32) -> Result
     // What is accepted are the bytes of the source, and they are the file of a map.
     ensures same { S.is_honest source.old ≡ true → IfOk result (λ tree. tree ≡ S.left source.old) }
     ensures accepted { IfOk result (λ tree. IsFile tree) }
+    ensures within { IfOk result (λ tree. length tree ≤ max_bytes) }
 
     // No file of a map is refused, but for want of memory or a failed read.
     ensures files { S.is_honest source.old ≡ true → (content : Content) → IsFileOf (S.left source.old) content →
         length (S.left source.old) ≤ max_bytes →
         IfErr result (λ fault. (fault ≡ CheckFault.Memory) ⊎ (fault ≡ CheckFault.Read)) }
 
-    // Other bytes are refused by their first fault.
+    // Other bytes are refused by their first fault, and only bytes within the limit have a fault.
     ensures refused { S.is_honest source.old ≡ true → IfErr result (IsRefusal (S.left source.old) max_bytes) }
-    ensures read { IsErrOf result CheckFault.Read → S.failures source.new ≢ S.failures source.old }
+
+    // A failed read is told as one, whatever else would follow it.
+    ensures read { IsErrOf result CheckFault.Read ↔ (S.failures source.new ≢ S.failures source.old) }
+    ensures unfailed { OnOk result (S.failures source.new ≡ S.failures source.old) }
     ensures honest { S.is_honest source.old ≡ true → S.is_honest source.new ≡ true }
     ensures steady { S.is_steady source.old ≡ true → S.is_steady source.new ≡ true }
 {
