@@ -1,5 +1,5 @@
 -- What the commands that read a chunk file print.
-use Rattle.std.specs.Prelude.{◌≡◌, ◌⊎◌, ℕ, List, [], ◌∷◌, ◌++◌, length, Option, Some, None, codes}
+use Rattle.std.specs.Prelude.{◌≡◌, ◌↔◌, ◌⊎◌, ℕ, List, [], ◌∷◌, ◌++◌, length, Option, Some, None, codes}
 use Rattle.std.specs.Fmt.{decimal}
 use Rattle.std.specs.List.{flat_map}
 use Rattle.hex.specs.Hex.{encode_lower}
@@ -17,6 +17,7 @@ use Rattle.prolly_entry.specs.LookUp.{find, nth, scan}
 use Rattle.prolly_entry.specs.Pair.{Pair}
 use Rattle.prolly_entry.specs.Reference.{reference_text}
 use Rattle.prolly_tool.specs.Answers.{Shows, ShowsLine, ShowsNothing, ShowsFault}
+use Rattle.prolly_tool.specs.Input.{IsReadWhole}
 use Rattle.prolly_tool.specs.declared.answer.Answer.{Answer}
 use Rattle.prolly_tool.specs.declared.fault.Fault.TheVariants.{Check, NoCounts}
 
@@ -64,19 +65,24 @@ ShowsScan from limit answer content = ShowsPairs answer (scan content.pairs from
 abbrev pub ShowsPlace : ℕ → Answer → Content → Type 0
 ShowsPlace n answer content = ShowsNth answer content.version (nth content.pairs n)
 
--- The bytes are the file of this content, of which this is shown.
-pub record IsLookedUp (bytes : List ℕ) (shows : Content → Type 0) : Type 0 where
+-- The bytes were read whole and are the file of this content, of which this is shown.
+pub record IsLookedUp (bytes : List ℕ) (failed : Type 0) (shows : Content → Type 0) : Type 0 where
+  pub whole : IsReadWhole bytes failed
   pub content : Content
   pub is : IsFileOf bytes content
   pub shown : shows content
 
--- The bytes were refused, or could not be read.
+-- The bytes were refused, or could not be read; a failed read is told as one, and nothing else is.
 pub record IsNoFile (bytes : List ℕ) (failed : Type 0) (answer : Answer) : Type 0 where
   pub fault : CheckFault
   pub is : IsRefusal bytes file_limit fault
-  pub read : fault ≡ Read → failed
+  pub read : (fault ≡ Read) ↔ failed
   pub shows : ShowsFault answer (Check fault)
 
 -- The answer of a command of which `shows` says what it shows of a content.
 abbrev pub IsLookUp : List ℕ → Type 0 → (Answer → Content → Type 0) → Answer → Type 0
-IsLookUp bytes failed shows answer = IsLookedUp bytes (shows answer) ⊎ IsNoFile bytes failed answer
+IsLookUp bytes failed shows answer = IsLookedUp bytes failed (shows answer) ⊎ IsNoFile bytes failed answer
+
+-- The line of a failed read.
+abbrev pub ShowsFailedRead : Answer → Type 0
+ShowsFailedRead answer = ShowsFault answer (Check Read)

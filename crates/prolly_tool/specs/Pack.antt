@@ -1,5 +1,5 @@
 -- What packing a text comes to.
-use Rattle.std.specs.Prelude.{◌≡◌, ℕ, ◌≤◌, Ok, List, [], ◌∷◌, ◌++◌, length}
+use Rattle.std.specs.Prelude.{◌≡◌, ℕ, Ok, List, [], ◌∷◌, ◌++◌, length}
 use Rattle.std.specs.Fmt.{decimal}
 use Rattle.std.specs.List.{flat_map, AllZip}
 use Rattle.hex.specs.Hex.{decode_of}
@@ -13,7 +13,7 @@ use Rattle.prolly_tool.specs.declared.line.LineFlaw.{LineFlaw}
 use Rattle.prolly_tool.specs.declared.line.LineFlaw.TheVariants as flaws
 use Rattle.prolly_tool.specs.declared.fault.Fault.{Fault}
 use Rattle.prolly_tool.specs.declared.fault.Fault.TheVariants.{Pack}
-use Rattle.prolly_tool.specs.Input.{IsInputFault}
+use Rattle.prolly_tool.specs.Input.{IsReadWhole, IsInputFault}
 use Rattle.prolly_tool.specs.Lines.{lines_of, IsLineOf, IsBadLine, HasLongKey, HasLongValue}
 
 -- The line stands for the lawful record.
@@ -85,14 +85,14 @@ pub record IsLineFault (line : List ℕ) (number : ℕ) (fault : PackFault) : Ty
 
 -- ---- the command
 
--- The text is short enough to be read whole, it is packed into this record file, and the line is the number of its records.
-pub record PacksTo (text file line : List ℕ) : Type 0 where
-  pub within : length text ≤ 1073741824
+-- The text was read whole, it is packed into this record file, and the line is the number of its records.
+pub record PacksTo (text : List ℕ) (has_failed : Type 0) (file line : List ℕ) : Type 0 where
+  pub whole : IsReadWhole text has_failed
   pub count : ℕ
   pub packs : Packs text [] file count
   pub line_is : line ≡ decimal count
 
--- The text is not packed: it can't be read, or one of its lines is at fault.
+-- The text is not packed: it can't be read, or it was read whole and one of its lines is at fault.
 abbrev pub IsPackingFault : List ℕ → Type 0 → Fault → Type 0
-IsPackingFault text has_failed (Pack fault) = IsPackFault text fault
+IsPackingFault text has_failed (Pack fault) = IsReadWhole text has_failed × IsPackFault text fault
 IsPackingFault text has_failed fault = IsInputFault text has_failed fault

@@ -2,7 +2,7 @@
 ghost use Rattle.std.specs.Prelude.{◌≡◌, ◌≢◌, true, IfOk};
 ghost use Rattle.prolly_check.specs.Content.{Content};
 ghost use Rattle.prolly_check.specs.Verdict.{IsFileOf};
-ghost use Rattle.prolly_tool.specs.LookUps.{IsLookUp, ShowsCheck, check_text};
+ghost use Rattle.prolly_tool.specs.LookUps.{IsLookUp, ShowsCheck, ShowsFailedRead, check_text};
 
 use crate::answer::Answer;
 use crate::fault::Fault;
@@ -19,7 +19,8 @@ use std::alloc::{AllocError, Global};
 /// Takes time linear in the file, but for an index of the references. The file and its chunks' places are
 /// held in memory.
 pub fn answer_check<S: Source>(alloc: Global, source: &mut S) -> Result<Answer, AllocError>
-    ensures { S.is_honest source.old ≡ true → IfOk result (IsLookUp (S.left source.old) (S.failures source.new ≢ S.failures source.old) ShowsCheck) }
+    ensures shown { S.is_honest source.old ≡ true → IfOk result (IsLookUp (S.left source.old) (S.failures source.new ≢ S.failures source.old) ShowsCheck) }
+    ensures read { S.failures source.new ≢ S.failures source.old → IfOk result ShowsFailedRead }
 {
     let tree = match check(alloc, source, INPUT_LIMIT) {
         Ok(tree) => tree,

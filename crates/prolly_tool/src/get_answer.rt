@@ -1,6 +1,6 @@
 //! The command `get`: the value of a key.
 ghost use Rattle.std.specs.Prelude.{◌≡◌, ◌≢◌, true, IfOk};
-ghost use Rattle.prolly_tool.specs.LookUps.{IsLookUp, ShowsGet};
+ghost use Rattle.prolly_tool.specs.LookUps.{IsLookUp, ShowsGet, ShowsFailedRead};
 
 use crate::answer::Answer;
 use crate::fault::Fault;
@@ -19,7 +19,8 @@ pub fn answer_get<S: Source>(
     source: &mut S,
     key: &[u8],
 ) -> Result<Answer, AllocError>
-    ensures { S.is_honest source.old ≡ true → IfOk result (IsLookUp (S.left source.old) (S.failures source.new ≢ S.failures source.old) (ShowsGet key.now)) }
+    ensures shown { S.is_honest source.old ≡ true → IfOk result (IsLookUp (S.left source.old) (S.failures source.new ≢ S.failures source.old) (ShowsGet key.now)) }
+    ensures read { S.failures source.new ≢ S.failures source.old → IfOk result ShowsFailedRead }
 {
     let tree = match check(alloc, source, INPUT_LIMIT) {
         Ok(tree) => tree,

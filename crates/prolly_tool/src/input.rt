@@ -1,6 +1,6 @@
 //! Standard input, which commands read whole.
-ghost use Rattle.std.specs.Prelude.{◌≡◌, ◌≢◌, ◌≤◌, true, length, IfOk, IfErr};
-ghost use Rattle.prolly_tool.specs.Input.{IsInputFault};
+ghost use Rattle.std.specs.Prelude.{◌≡◌, ◌≢◌, ◌≤◌, true, length, IfOk, OnOk, IfErr, IsErrOf};
+ghost use Rattle.prolly_tool.specs.Input.{IsReadWhole, IsInputFault};
 
 use crate::fault::Fault;
 use prolly_file::{Source, WholeFault, read_whole};
@@ -14,7 +14,9 @@ pub(crate) const INPUT_LIMIT: u32 = 1_073_741_824;
 pub(crate) fn input_of<S: Source>(alloc: Global, source: &mut S) -> Result<Vec<u8>, Fault>
     ensures whole { S.is_honest source.old ≡ true → IfOk result (λ bytes. bytes.items ≡ S.left source.old) }
     ensures within { IfOk result (λ bytes. length bytes.items ≤ 1073741824) }
+    ensures read_whole { S.is_honest source.old ≡ true → OnOk result (IsReadWhole (S.left source.old) (S.failures source.new ≢ S.failures source.old)) }
     ensures fault { S.is_honest source.old ≡ true → IfErr result (λ fault. IsInputFault (S.left source.old) (S.failures source.new ≢ S.failures source.old) fault) }
+    ensures read { S.failures source.new ≢ S.failures source.old → IsErrOf result (Fault.Run (RunFault.Read 0)) }
 {
     match read_whole(alloc, source, INPUT_LIMIT) {
         Ok(bytes) => Ok(bytes),

@@ -1,6 +1,6 @@
 //! The command `nth`: a pair by its number.
 ghost use Rattle.std.specs.Prelude.{◌≡◌, ◌≢◌, true, IfOk};
-ghost use Rattle.prolly_tool.specs.LookUps.{IsLookUp, ShowsPlace};
+ghost use Rattle.prolly_tool.specs.LookUps.{IsLookUp, ShowsPlace, ShowsFailedRead};
 
 use crate::answer::Answer;
 use crate::fault::Fault;
@@ -16,7 +16,8 @@ use std::alloc::{AllocError, Global};
 ///
 /// The file is checked first, as by `check`; the look-up itself skips by the counts of the pairs below.
 pub fn answer_nth<S: Source>(alloc: Global, source: &mut S, n: u64) -> Result<Answer, AllocError>
-    ensures { S.is_honest source.old ≡ true → IfOk result (IsLookUp (S.left source.old) (S.failures source.new ≢ S.failures source.old) (ShowsPlace n)) }
+    ensures shown { S.is_honest source.old ≡ true → IfOk result (IsLookUp (S.left source.old) (S.failures source.new ≢ S.failures source.old) (ShowsPlace n)) }
+    ensures read { S.failures source.new ≢ S.failures source.old → IfOk result ShowsFailedRead }
 {
     let tree = match check(alloc, source, INPUT_LIMIT) {
         Ok(tree) => tree,

@@ -1,5 +1,7 @@
 //! The command `pack`: a record file out of text.
-ghost use Rattle.std.specs.Prelude.{◌≡◌, ◌≢◌, ◌≤◌, ◌⊎◌, true, [], length, IfOk, IfErr, OnOk, OnErr};
+ghost use Rattle.std.specs.Prelude.{◌≡◌, ◌≢◌, ◌⊎◌, true, [], IfOk, IfErr, OnOk, OnErr, IsErrOf};
+ghost use Rattle.prolly_tool.specs.Answers.{ShowsFault};
+ghost use Rattle.prolly_tool.specs.Input.{IsReadWhole};
 ghost use Rattle.prolly_tool.specs.Outputs.{TookAll, TookPart, IsAnswer, IsCutShort};
 ghost use Rattle.prolly_tool.specs.Pack.{Packs, PacksTo, IsPackingFault};
 
@@ -31,14 +33,15 @@ pub fn answer_pack<S: Source, W: Sink>(
     sink: &mut W,
 ) -> Result<Answer, AllocError>
     ensures ok { S.is_honest source.old ≡ true → IfOk result (IsAnswer
-        (PacksTo (S.left source.old))
+        (PacksTo (S.left source.old) (S.failures source.new ≢ S.failures source.old))
         (IsPackingFault (S.left source.old) (S.failures source.new ≢ S.failures source.old))
         (λ file. TookAll W.taken W.is_keeping W.failures file sink.old sink.new)
         (λ file. TookPart W.taken W.is_keeping W.failures file sink.old sink.new)
         (sink.new ≡ sink.old)) }
     ensures err { S.is_honest source.old ≡ true → OnErr result ((sink.new ≡ sink.old) ⊎ IsCutShort
-        (PacksTo (S.left source.old))
+        (PacksTo (S.left source.old) (S.failures source.new ≢ S.failures source.old))
         (λ file. TookPart W.taken W.is_keeping W.failures file sink.old sink.new)) }
+    ensures read { S.failures source.new ≢ S.failures source.old → (sink.new ≡ sink.old) × IfOk result (λ answer. ShowsFault answer (Fault.Run (RunFault.Read 0))) }
 {
     let packed = match packed_of(alloc, source) {
         Ok(packed) => packed,
@@ -55,9 +58,10 @@ pub fn answer_pack<S: Source, W: Sink>(
 
 /// The record file of the lines that a source has left.
 fn packed_of<S: Source>(alloc: Global, source: &mut S) -> Result<Packed, Fault>
-    ensures within { S.is_honest source.old ≡ true → OnOk result (length (S.left source.old) ≤ 1073741824) }
+    ensures whole { S.is_honest source.old ≡ true → OnOk result (IsReadWhole (S.left source.old) (S.failures source.new ≢ S.failures source.old)) }
     ensures ok { S.is_honest source.old ≡ true → IfOk result (λ packed. Packs (S.left source.old) [] packed.file.items packed.count) }
     ensures err { S.is_honest source.old ≡ true → IfErr result (λ fault. IsPackingFault (S.left source.old) (S.failures source.new ≢ S.failures source.old) fault) }
+    ensures read { S.failures source.new ≢ S.failures source.old → IsErrOf result (Fault.Run (RunFault.Read 0)) }
 {
     let text = match input_of(alloc, source) {
         Ok(text) => text,

@@ -1,7 +1,7 @@
 //! The command `scan`: pairs from a key on.
 ghost use Rattle.std.specs.Prelude.{◌≡◌, ◌≢◌, true, IfOk, OnOk, ◌++◌, ◌∷◌, []};
 ghost use Rattle.std.specs.List.{flat_map};
-ghost use Rattle.prolly_tool.specs.LookUps.{IsLookUp, ShowsScan, pair_text};
+ghost use Rattle.prolly_tool.specs.LookUps.{IsLookUp, ShowsScan, ShowsFailedRead, pair_text};
 
 use crate::answer::Answer;
 use crate::fault::Fault;
@@ -23,7 +23,8 @@ pub fn answer_scan<S: Source>(
     from: &[u8],
     limit: u32,
 ) -> Result<Answer, AllocError>
-    ensures { S.is_honest source.old ≡ true → IfOk result (IsLookUp (S.left source.old) (S.failures source.new ≢ S.failures source.old) (ShowsScan from.now limit)) }
+    ensures shown { S.is_honest source.old ≡ true → IfOk result (IsLookUp (S.left source.old) (S.failures source.new ≢ S.failures source.old) (ShowsScan from.now limit)) }
+    ensures read { S.failures source.new ≢ S.failures source.old → IfOk result ShowsFailedRead }
 {
     let tree = match check(alloc, source, INPUT_LIMIT) {
         Ok(tree) => tree,

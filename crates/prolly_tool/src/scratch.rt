@@ -1,7 +1,8 @@
 //! The command `scratch`: the chunk file of one record file, in one thread.
-ghost use Rattle.std.specs.Prelude.{◌≡◌, ◌≢◌, ◌≤◌, ◌⊎◌, true, IfOk, IfErr, OnErr, OnOk};
+ghost use Rattle.std.specs.Prelude.{◌≡◌, ◌≢◌, ◌≤◌, ◌⊎◌, true, IfOk, IfErr, OnErr, OnOk, IsErrOf};
 ghost use Rattle.prolly_file.specs.Scratch.{keys_in};
 ghost use Rattle.prolly_entry.specs.Keys.{Rising};
+ghost use Rattle.prolly_tool.specs.Answers.{ShowsFault};
 ghost use Rattle.prolly_tool.specs.Outputs.{TookAll, TookPart, IfSink, OfSink, IsAnswer, IsCutShort};
 ghost use Rattle.prolly_tool.specs.Scratch.{HoldsPairs, MakesFile, Scratches, IsRecordsFault, IsScratchFault, run_fault};
 
@@ -44,14 +45,15 @@ pub fn answer_scratch<S: Source, W: Sink>(
 ) -> Result<Answer, AllocError>
     requires { bits ≤ 24 }
     ensures ok { S.is_honest source.old ≡ true → IfOk result (IsAnswer
-        (Scratches bits version (S.left source.old))
+        (Scratches bits version (S.left source.old) (S.failures source.new ≢ S.failures source.old))
         (IsScratchFault bits version (S.left source.old) (S.failures source.new ≢ S.failures source.old))
         (λ file. IfSink (TookAll W.taken W.is_keeping W.failures file) sink.old sink.new)
         (λ file. OfSink (TookPart W.taken W.is_keeping W.failures file) sink.old sink.new)
         (sink.new ≡ sink.old)) }
     ensures err { S.is_honest source.old ≡ true → OnErr result ((sink.new ≡ sink.old) ⊎ IsCutShort
-        (Scratches bits version (S.left source.old))
+        (Scratches bits version (S.left source.old) (S.failures source.new ≢ S.failures source.old))
         (λ file. OfSink (TookPart W.taken W.is_keeping W.failures file) sink.old sink.new)) }
+    ensures read { S.failures source.new ≢ S.failures source.old → (sink.new ≡ sink.old) × IfOk result (λ answer. ShowsFault answer (Fault.Run (RunFault.Read 0))) }
 {
     let tree = match tree_of(alloc, source, bits, version) {
         Ok(tree) => tree,
@@ -72,8 +74,9 @@ fn tree_of<S: Source>(
     version: Version,
 ) -> Result<Tree, Fault>
     requires { bits ≤ 24 }
-    ensures ok { S.is_honest source.old ≡ true → IfOk result (λ tree. MakesFile bits version (S.left source.old) tree.file.items tree.root.0) }
+    ensures ok { S.is_honest source.old ≡ true → IfOk result (λ tree. MakesFile bits version (S.left source.old) (S.failures source.new ≢ S.failures source.old) tree.file.items tree.root.0) }
     ensures err { S.is_honest source.old ≡ true → IfErr result (λ fault. IsScratchFault bits version (S.left source.old) (S.failures source.new ≢ S.failures source.old) fault) }
+    ensures read { S.failures source.new ≢ S.failures source.old → IsErrOf result (Fault.Run (RunFault.Read 0)) }
 {
     let pairs = match pairs_of(alloc, source) {
         Ok(pairs) => pairs,
@@ -92,8 +95,9 @@ fn tree_of<S: Source>(
 /// The pairs of the record file that a source has left.
 fn pairs_of<S: Source>(alloc: Global, source: &mut S) -> Result<Vec<Pair>, Fault>
     ensures rising { IfOk result (λ pairs. Rising (keys_in pairs.items)) }
-    ensures ok { S.is_honest source.old ≡ true → IfOk result (λ pairs. HoldsPairs (S.left source.old) pairs.items) }
+    ensures ok { S.is_honest source.old ≡ true → IfOk result (λ pairs. HoldsPairs (S.left source.old) (S.failures source.new ≢ S.failures source.old) pairs.items) }
     ensures err { S.is_honest source.old ≡ true → IfErr result (λ fault. IsRecordsFault (S.left source.old) (S.failures source.new ≢ S.failures source.old) fault) }
+    ensures read { S.failures source.new ≢ S.failures source.old → IsErrOf result (Fault.Run (RunFault.Read 0)) }
 {
     let input = match input_of(alloc, source) {
         Ok(input) => input,
