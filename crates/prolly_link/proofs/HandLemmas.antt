@@ -10,6 +10,7 @@ use Rattle.prolly_link.specs.Batches.{items_of}
 use Rattle.prolly_link.specs.Hands.{given_of, empty_after, IsInHand}
 use Rattle.prolly_link.specs.Draining.{Drains}
 use Rattle.prolly_link.proofs.BatchLemmas.{items_of-append, items_of_push}
+use Rattle.prolly_link.specs.declared.fault.End.{End}
 use Rattle.prolly_link.specs.declared.progress.Progress.{Progress}
 use Rattle.prolly_link.specs.declared.progress.Progress.TheVariants.{Open, Ended, Lost}
 
@@ -90,11 +91,16 @@ module _ {T : Type 0} where
     sym (append_assoc (before_rest (items_of came) left) left (items_of p.0)) ∙ ap (λ r. r ++ items_of p.0) (sym e) ∙ sym (items_of-append came p.0) ∙ ap items_of p.1,
   )
 
+  -- the items given begin those sent in full batches
+  pub given_begins_whole : (r : Receiving (List T)) (sent : List (List T)) (left : List T) (n : ℕ)
+      → IsInHand r left n → IsPrefix r.items sent → IsPrefix (given_of r left).items (items_of sent)
+  given_begins_whole r sent left n h p = given_begins_items r.items sent left h.ends_is p
+
   -- the items given begin those sent, in full batches and in an open one
   pub given_begins : (r : Receiving (List T)) (sent : List (List T)) (left pending : List T) (n : ℕ)
       → IsInHand r left n → IsPrefix r.items sent → IsPrefix (given_of r left).items (items_of sent ++ pending)
   given_begins r sent left pending n h p =
-      let begins = given_begins_items r.items sent left h.ends_is p in
+      let begins = given_begins_whole r sent left n h p in
       (begins.0 ++ pending, sym (append_assoc (before_rest (items_of r.items) left) begins.0 pending) ∙ ap (λ xs. xs ++ pending) begins.1)
 
   left_none_ended : (p : Progress) (left : List T) → empty_after p left ≡ true → p ≢ Open → left ≡ []
@@ -103,6 +109,13 @@ module _ {T : Type 0} where
   left_none_ended (Ended e) (x ∷ left) h o = cc
   left_none_ended Lost [] h o = refl
   left_none_ended Lost (x ∷ left) h o = cc
+
+  -- a receiver of batches that has an end gave all that was sent, where the batches that came are those that were sent
+  pub given_whole : (r : Receiving (List T)) (sent : List (List T)) (left : List T) (last : End) (n : ℕ) → IsInHand r left n
+      → ((e : End) → r.progress ≡ Ended e → (e ≡ last) × (r.items ≡ sent)) → (e : End) → r.progress ≡ Ended e → (e ≡ last) × ((given_of r left).items ≡ items_of sent)
+  given_whole r sent left last n h whole e ended =
+      let none = left_none_ended r.progress left h.empty_is (λ unended. cc (unended, ended)) in
+      ((whole e ended).0, given_all (items_of r.items) left h.ends_is none ∙ ap items_of (whole e ended).1)
 
   drained_items : (p after : Progress) (came got : List (List T)) (left : List T) → empty_after p left ≡ true → items_of came ≡ before_rest (items_of came) left ++ left
       → Drains p came after got → Drains p (before_rest (items_of came) left) after (items_of got)

@@ -2,3 +2,4 @@ pub mod MessageLemmas
 pub mod AgreementLemmas
 pub mod BatchLemmas
 pub mod HandLemmas
+pub mod PassingLemmas

@@ -2,12 +2,14 @@
 //!
 //! `link` carries items one by one over a bounded ring, and `batch_link` in batches. A worker is written over the traits
 //! `In` and `Out`, which `ListIn` and `ListOut` meet too, so that it can be run over lists in one thread. Contracts see an
-//! end as its link and the items that went through it. Where both ends have come back to one thread, `meet` and
-//! `meet_batches` show that what was received is what was sent.
+//! end as its link and the items that went through it. Where both ends are in one thread, `compare` and the like show that
+//! what was received, with its end, begins what was sent. Where both have given all, `meet` and `meet_batches` show that it
+//! is what was sent.
 #![tactic(auto)]
 
 mod batch;
 mod batch_closed;
+mod batch_closed_comparing;
 mod batch_comparing;
 mod batch_drained;
 mod batch_meeting;
@@ -15,6 +17,7 @@ mod batch_opening;
 mod batch_receiver;
 mod batch_sender;
 mod closed;
+mod closed_comparing;
 mod comparing;
 mod drained;
 mod fault;
@@ -35,6 +38,7 @@ mod rest;
 mod sender;
 
 pub use batch_closed::ClosedBatch;
+pub use batch_closed_comparing::compare_closed_batches;
 pub use batch_comparing::compare_batches;
 pub use batch_drained::{BatchDrained, EndedBatch, LostBatch};
 pub use batch_meeting::{MetBatch, meet_batches};
@@ -42,6 +46,7 @@ pub use batch_opening::batch_link;
 pub use batch_receiver::BatchReceiver;
 pub use batch_sender::BatchSender;
 pub use closed::ClosedSender;
+pub use closed_comparing::compare_closed;
 pub use comparing::compare;
 pub use drained::{Drained, EndedReceiver, LostReceiver};
 pub use fault::{End, RunFault};

@@ -1,10 +1,26 @@
-use Rattle.std.proofs.Common.{◌∙◌, ap, sym}
-use Rattle.rtrb.specs.Ring.{received as popped, known_items}
-use Rattle.prolly_link.specs.Messages.{items_in}
-use Rattle.prolly_link.proofs.MessageLemmas.{items_in-append}
+use Rattle.std.proofs.Common.{◌≡◌, true, ◌∙◌, ap}
+use Rattle.rtrb.specs.Ring.{sent as pushed, received as popped, known_items}
+use Rattle.prolly_link.specs.Agreement.{Agrees}
+use Rattle.prolly_link.specs.Messages.{items_in, is_open}
+use Rattle.prolly_link.proofs.PassingLemmas.{items_begin, not_ended, received_of_open}
 use Rattle.prolly_link.proofs.comparing.compare.Goals as goal
 
 pub returns-clause-prefix : goal.returns-clause-prefix
 returns-clause-prefix g c =
-    let known = known_items c.slots_beside.new.self in
-    (items_in known, sym (items_in-append (popped c.slots_beside.new.self) known) ∙ ap items_in c.slots_beside.ensures.fifo)
+    let after = c.slots_beside.new.self in
+    items_begin (popped after) (known_items after) (pushed c.slots_beside.new.producer) c.slots_beside.ensures.fifo
+
+pub returns-clause-no_end : goal.returns-clause-no_end
+returns-clause-no_end g c =
+    let after = c.slots_beside.new.self in
+    let sent = c.slots_beside.new.producer in
+    let progress = c.receiver.inside.progress in
+    let agrees : Agrees progress (popped after) = rw c.slots_beside.ensures.looked.1 c.receiver.invariant in
+    let unclosed : is_open (pushed sent) ≡ true = ap is_open c.slots_beside.ensures.producer.1 ∙ c.sender.invariant in
+    not_ended progress (popped after) (known_items after) (pushed sent) agrees unclosed c.slots_beside.ensures.fifo
+
+pub returns-clause-messages : goal.returns-clause-messages
+returns-clause-messages g c =
+    let after = c.slots_beside.new.self in
+    let sent = c.slots_beside.new.producer in
+    received_of_open c.receiver.inside.progress (items_in (popped after)) (items_in (pushed sent)) (returns-clause-prefix g c) (returns-clause-no_end g c)
