@@ -3,3 +3,4 @@ pub mod AgreementLemmas
 pub mod BatchLemmas
 pub mod HandLemmas
 pub mod PassingLemmas
+pub mod FollowingLemmas

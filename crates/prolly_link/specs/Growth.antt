@@ -16,7 +16,7 @@ module _ {T : Type 0} where
   drop-prefix (x ∷ xs) ys = drop-prefix xs ys
 
   -- what follows xs in zs, where zs begins with xs
-  rest_is : (xs ys zs : List T) → zs ≡ xs ++ ys → items_between xs zs ≡ ys
+  pub rest_is : (xs ys zs : List T) → zs ≡ xs ++ ys → items_between xs zs ≡ ys
   rest_is xs ys zs e = ap (drop (length xs)) e ∙ drop-prefix xs ys
 
   two_stretches : (xs ys zs p q : List T) → ys ≡ xs ++ p → zs ≡ ys ++ q → zs ≡ xs ++ (p ++ q)

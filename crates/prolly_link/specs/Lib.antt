@@ -5,6 +5,7 @@ pub mod Agreement
 pub mod Receipts
 pub mod Fronts
 pub mod Growth
+pub mod Following
 pub mod Passing
 pub mod Draining
 pub mod Remaining

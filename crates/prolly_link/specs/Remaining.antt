@@ -1,6 +1,7 @@
 -- What an end over a list has left: items and then an end, or the end alone again and again.
 use Rattle.std.specs.Prelude.{◌≡◌, Bool, true, false, List, [], ◌++◌}
 use Rattle.prolly_link.specs.Fronts.{before_rest}
+use Rattle.prolly_link.specs.Receipts.{HasEnded}
 use Rattle.prolly_link.specs.declared.fault.End.{End}
 use Rattle.prolly_link.specs.declared.progress.Progress.{Progress}
 use Rattle.prolly_link.specs.declared.progress.Progress.TheVariants.{Open, Ended}
@@ -32,3 +33,8 @@ module _ {T : Type 0} where
 
   abbrev pub LostFront : Remaining T → Remaining T → Type 0
   LostFront before after = (items_left before ≡ front_lost before after ++ items_left after) × (last_end after ≡ last_end before)
+
+  -- the same list later: it lost items at its front, and where it had given its end it stayed as it was
+  pub record IsLaterList (before after : Remaining T) : Type 0 where
+    pub lost : LostFront before after
+    pub stays : HasEnded (progress_of before) → after ≡ before

@@ -1,7 +1,7 @@
 // What a worker asks of an end that it receives from.
 ghost use Rattle.std.specs.Prelude.{◌≡◌, List, [], ◌++◌};
 ghost use Rattle.prolly_link.specs.Identity.{LinkId};
-ghost use Rattle.prolly_link.specs.Receipts.{given_items, progress_after, GivesAgain};
+ghost use Rattle.prolly_link.specs.Receipts.{given_items, progress_after, GivesAgain, HasEnded};
 ghost use Rattle.prolly_link.specs.declared.progress.Progress.{Progress};
 
 use crate::next::Next;
@@ -40,4 +40,10 @@ pub trait In<T> {
 
     /// What was received in two stretches is what was received in both.
     ghost received_both: { (a b c : Self) → Follows a b → Follows b c → received a c ≡ received a b ++ received b c };
+
+    /// Once an end has given its end, or `Lost`, nothing more is received.
+    ghost ended_gives_nothing: { (a b : Self) → Follows a b → HasEnded (progress a) → received a b ≡ [] };
+
+    /// Its end, or `Lost`, stays what it was.
+    ghost ended_stays: { (a b : Self) → Follows a b → HasEnded (progress a) → progress b ≡ progress a };
 }

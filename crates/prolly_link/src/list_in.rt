@@ -45,24 +45,28 @@ impl<T> ListIn<T> {
 
 impl<T> In<T> for ListIn<T> {
     ghost use Rattle.prolly_link.specs.Identity.{no_link};
-    ghost use Rattle.prolly_link.specs.Remaining.{progress_of, LostFront, front_lost};
-    ghost use Rattle.prolly_link.specs.RemainingLaws.{lost_nothing, lost_more};
+    ghost use Rattle.prolly_link.specs.Remaining.{progress_of, front_lost, IsLaterList};
+    ghost use Rattle.prolly_link.specs.RemainingLaws.{lost_nothing, lost_more, later_list_same, later_list_more, nothing_lost_after_end, read_stays};
 
     ghost link = { λ _. no_link };
 
     ghost progress = { progress_of };
 
-    ghost Follows = { LostFront };
+    ghost Follows = { IsLaterList };
 
     ghost received = { front_lost };
 
-    ghost stays = { λ a. (lost_nothing a).0 };
+    ghost stays = { later_list_same };
 
     ghost received_none = { λ a. (lost_nothing a).1 };
 
-    ghost goes_on = { λ a b c h k. (lost_more a b c h k).0 };
+    ghost goes_on = { later_list_more };
 
-    ghost received_both = { λ a b c h k. (lost_more a b c h k).1 };
+    ghost received_both = { λ a b c h k. (lost_more a b c h.lost k.lost).1 };
+
+    ghost ended_gives_nothing = { nothing_lost_after_end };
+
+    ghost ended_stays = { read_stays };
 
     fn recv<R: Wait>(&mut self, _rt: &R) -> Next<T> {
         if self.ended {

@@ -99,23 +99,28 @@ impl<T> Receiver<T> {
 }
 
 impl<T> In<T> for Receiver<T> {
-    ghost use Rattle.prolly_link.specs.Growth.{items_between, Grew, between_nothing, between_more};
+    ghost use Rattle.prolly_link.specs.Growth.{items_between, between_nothing};
+    ghost use Rattle.prolly_link.specs.Following.{IsLater, later_same, later_more, received_in_both, nothing_after_end};
 
     ghost link = { λ r. r.link };
 
     ghost progress = { λ r. r.progress };
 
-    ghost Follows = { λ a b. Grew a.items b.items };
+    ghost Follows = { IsLater };
 
     ghost received = { λ a b. items_between a.items b.items };
 
-    ghost stays = { λ a. (between_nothing a.items).0 };
+    ghost stays = { later_same };
 
     ghost received_none = { λ a. (between_nothing a.items).1 };
 
-    ghost goes_on = { λ a b c h k. (between_more a.items b.items c.items h k).0 };
+    ghost goes_on = { later_more };
 
-    ghost received_both = { λ a b c h k. (between_more a.items b.items c.items h k).1 };
+    ghost received_both = { received_in_both };
+
+    ghost ended_gives_nothing = { nothing_after_end };
+
+    ghost ended_stays = { λ a b h. h.progress_stays };
 
     fn recv<R: Wait>(&mut self, rt: &R) -> Next<T> {
         Receiver::recv(self, rt)

@@ -1,0 +1,28 @@
+-- A receiver once it gave one thing more.
+use Rattle.std.proofs.Common.{◌≡◌, [], ◌++◌, ap, sym, ◌∙◌}
+use Rattle.std.proofs.lemmas.List.{append-nil}
+use Rattle.prolly_link.specs.Views.{Receiving}
+use Rattle.prolly_link.specs.Receipts.{given_items, progress_after, GivesAgain, HasEnded}
+use Rattle.prolly_link.specs.Growth.{rest_is}
+use Rattle.prolly_link.specs.Following.{IsLater}
+use Rattle.prolly_link.specs.declared.next.Next.{Next}
+use Rattle.prolly_link.specs.declared.progress.Progress.{Progress}
+use Rattle.prolly_link.specs.declared.progress.Progress.TheVariants.{Open, Ended, Lost}
+
+module _ {T : Type 0} where
+  gives_nothing_again : (p : Progress) (n : Next T) → GivesAgain p n → HasEnded p → given_items n ≡ []
+  gives_nothing_again Open n h ended = absurd ended
+  gives_nothing_again (Ended e) n h ended = ap given_items h
+  gives_nothing_again Lost n h ended = ap given_items h
+
+  progress_again : (p : Progress) (n : Next T) → GivesAgain p n → HasEnded p → progress_after n ≡ p
+  progress_again Open n h ended = absurd ended
+  progress_again (Ended e) n h ended = ap progress_after h
+  progress_again Lost n h ended = ap progress_after h
+
+  pub later_by_one : (a b : Receiving T) (n : Next T) → b.items ≡ a.items ++ given_items n → b.progress ≡ progress_after n → GivesAgain a.progress n → IsLater a b
+  later_by_one a b n items progress again = record {
+    grew = items ∙ ap (λ xs. a.items ++ xs) (sym (rest_is a.items (given_items n) b.items items));
+    items_stay = λ ended. items ∙ ap (λ xs. a.items ++ xs) (gives_nothing_again a.progress n again ended) ∙ append-nil a.items;
+    progress_stays = λ ended. progress ∙ progress_again a.progress n again ended;
+  }
