@@ -2,6 +2,7 @@ pub mod Tops
 pub mod WritingSteps
 pub mod ForkSteps
 pub mod RanSteps
+pub mod Beginnings
 pub mod FirstOnes
 pub mod MergingSteps
 pub mod FeedingSteps

@@ -29,10 +29,10 @@ use Rattle.prolly_build.specs.Built.{IsCleanRun, IsRunOf, IsFileOf, IsTooTall, I
 use Rattle.prolly_build.specs.Settings.{Settings}
 use Rattle.prolly_build.specs.Writing.{Sunk, HasWritten, HasEnded, IsEndFault, IsWhole, IsTall, IsFailed, IsUnended, IsTopOf, tops_counted, frames_of}
 use Rattle.prolly_build.proofs.Tops.{frames_front}
-use Rattle.prolly_build.proofs.WritingSteps.{prefix_on}
+use Rattle.prolly_build.proofs.WritingSteps.{prefix_on, failed_part}
 
 -- the frames of the first chunks of a map's tree are a prefix of its file
-pub frames_are_first : (settings : Settings) (m : List Pair) (first : List Chunk) → IsPrefix first (chunks (sha512_cut settings.bits) settings.version m) →
+frames_are_first : (settings : Settings) (m : List Pair) (first : List Chunk) → IsPrefix first (chunks (sha512_cut settings.bits) settings.version m) →
     IsPrefix (frames_of (header settings.version settings.bits) first) (file (sha512_cut settings.bits) settings.version m)
 frames_are_first settings m first h =
     let head = header settings.version settings.bits in
@@ -187,7 +187,7 @@ module _ (settings : Settings) (some : 1 ≤ settings.stages) (most : settings.s
   }
     where
       begun : old.is_keeping ≡ true → TakesPrefix old.taken new.taken (tall_file settings m)
-      begun keeps = subst (λ (bytes : List ℕ). TakesPrefix old.taken new.taken bytes) begun_is (h.taken_is keeps)
+      begun keeps = subst (λ (bytes : List ℕ). TakesPrefix old.taken new.taken bytes) begun_is (failed_part h keeps)
   cut_off old new (inr h) = record {
     failed = h.failed;
     taken = λ keeps. subst (λ (bytes : List ℕ). TakesPrefix old.taken new.taken bytes) (file_is (is_tree h.few) h.before h.root h.whole) (h.taken_is keeps);

@@ -24,6 +24,7 @@ use Rattle.prolly_build.specs.declared.writing.Wrote.{Wrote}
 pub nothing_begun : (settings : Settings) (old : Sunk) → IsBegun settings old old
 nothing_begun settings old = record {
   chunks_begun = [];
+  small = tt;
   taken = λ k. record { part = []; grown = sym (append-nil old.taken); is_prefix = (frames_of (header settings.version settings.bits) [], refl) };
 }
 
@@ -33,9 +34,9 @@ all_taken {wanted} h = record { part = wanted; grown = h; is_prefix = ([], sym (
 -- a sink that the writer wrote to
 pub written_begun : (settings : Settings) (level : ℕ) (events : List Chunk) (old new : Sunk) (written : Written) →
     HasWritten (header settings.version settings.bits) level events old new written → IsBegun settings old new
-written_begun settings level events old new (Whole begun) h = record { chunks_begun = events; taken = λ k. all_taken (h.taken_is k) }
-written_begun settings level events old new TooTall h = record { chunks_begun = before_second level events; taken = λ k. all_taken (h.taken_is k) }
-written_begun settings level events old new Failed h = record { chunks_begun = before_second level events; taken = h.taken_is }
+written_begun settings level events old new (Whole begun) h = record { chunks_begun = events; small = h.small; taken = λ k. all_taken (h.taken_is k) }
+written_begun settings level events old new TooTall h = record { chunks_begun = before_second level events; small = h.small; taken = λ k. all_taken (h.taken_is k) }
+written_begun settings level events old new Failed h = record { chunks_begun = h.tried; small = h.small; taken = h.taken_is }
 
 -- and once the build has ended with another fault than a failed write
 pub ended_begun : (settings : Settings) (level : ℕ) (events : List Chunk) (old before after : Sunk) (written : Written) (end : End) (fault : RunFault) →
@@ -45,7 +46,7 @@ ended_begun settings level events old before after written (Fault f) fault h end
     subst (λ (s : Sunk). IsBegun settings old s) (sym end_is.1) (written_begun settings level events old before written h)
 ended_begun settings level events old before after written Clean fault h (inl failed) other = absurd (other failed.0)
 ended_begun settings level events old before after written Clean fault h (inr tall) other =
-    record { chunks_begun = before_second level events; taken = λ k. all_taken (tall.1.taken_is k) }
+    record { chunks_begun = before_second level events; small = tall.1.small; taken = λ k. all_taken (tall.1.taken_is k) }
 
 pub all_begun : (settings : Settings) (last : Receiving Chunk) (old new : Sunk) (wrote : Wrote) → IsWritten settings last old new wrote → IsBegun settings old new
 all_begun settings last old new wrote h = written_begun settings (settings.stages - 1) wrote.last.items old new wrote.written h.written

@@ -6,7 +6,7 @@ use Rattle.std.proofs.lemmas.List.Concat.{flat_map-append}
 use Rattle.prolly_entry.specs.Chunk.{Chunk, chunks}
 use Rattle.prolly_entry.specs.Cut.{Cut, sha512_cut}
 use Rattle.prolly_entry.specs.CutShort.{IsFrontOf, AreFrontsOf}
-use Rattle.prolly_entry.specs.File.{file, header}
+use Rattle.prolly_entry.specs.File.{header}
 use Rattle.prolly_entry.specs.Merge.{Input, stop, stop_fault, raw_merged_part, merged_part}
 use Rattle.prolly_entry.specs.Overlay.{raw_overlay, overlay, pairs_of_change, pairs_put, AllRising}
 use Rattle.prolly_entry.specs.Pair.{Pair}
@@ -42,8 +42,8 @@ use Rattle.prolly_build.specs.Stopped.{AreHonest}
 use Rattle.prolly_build.specs.Workers.{IsLoadedFrom}
 use Rattle.prolly_build.specs.Writing.{Sunk, frames_of}
 use Rattle.prolly_build.proofs.Loads.{begun, clean_end, one_read}
-use Rattle.prolly_build.proofs.Makings.{frames_are_first}
 use Rattle.prolly_build.proofs.Mergings.{Inputs, fault_of_end_of}
+use Rattle.prolly_build.proofs.Tops.{frames_front}
 use Rattle.prolly_build.proofs.WritingSteps.{prefix_on}
 
 -- ---- lists, and what was sent of them
@@ -209,7 +209,11 @@ untouched_refused is_honest left failures settings before old honest =
       are_good = has.1;
       pairs = [];
       first = (overlay has.0, refl);
-      taken = λ keeps. record { part = []; grown = sym (append-nil old.taken); is_prefix = (file (sha512_cut settings.bits) settings.version [], refl) };
+      taken = λ keeps. record {
+        part = [];
+        grown = sym (append-nil old.taken);
+        is_prefix = (frames_of (header settings.version settings.bits) (chunks (sha512_cut settings.bits) settings.version []), refl);
+      };
     }
 
 module _ {S : Type 0} (is_honest : S → Bool) (left : S → List ℕ) (failures : S → ℕ) (settings : Settings) (before after : List S) (count : ℕ) where
@@ -258,7 +262,7 @@ module _ {S : Type 0} (is_honest : S → Bool) (left : S → List ℕ) (failures
     are_good = h.are_good;
     pairs = h.pairs;
     first = h.first;
-    taken = λ keeps. prefix_on (file cut settings.version h.pairs) (took keeps) (frames_are_first settings h.pairs _ h.taken);
+    taken = λ keeps. prefix_on _ (took keeps) (frames_front (header settings.version settings.bits) _ (chunks cut settings.version h.pairs) h.taken);
   }
 
 -- the same over sources that were lent

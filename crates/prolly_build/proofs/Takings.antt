@@ -21,6 +21,7 @@ use Rattle.prolly_build.specs.Writing.{Sunk, HasWritten, IsEndFault, frames_of}
 use Rattle.prolly_build.proofs.Makings.{at_most_one}
 use Rattle.prolly_build.proofs.RanSteps.{all_taken}
 use Rattle.prolly_build.proofs.Tops.{second_all}
+use Rattle.prolly_build.proofs.WritingSteps.{failed_part}
 
 module _ (settings : Settings) (some : 1 ≤ settings.stages) (p : List Pair) (few : length p < 2 ^ 64) (events : List Chunk)
     (sent : events ≡ pipeline_events (settings.stages - 1) (sha512_cut settings.bits) settings.version faulty p) (old new : Sunk) where
@@ -52,7 +53,7 @@ module _ (settings : Settings) (some : 1 ≤ settings.stages) (p : List Pair) (f
   took_begun TooTall h = took_all h.taken_is
   took_begun Failed h = record {
     all = λ u k. absurd (h.failed u);
-    part = λ k. subst (λ (bytes : List ℕ). TakesPrefix old.taken new.taken bytes) begun_is (h.taken_is k);
+    part = λ k. subst (λ (bytes : List ℕ). TakesPrefix old.taken new.taken bytes) begun_is (failed_part h k);
   }
 
 -- what the sink took of events, of which the writer takes those before the second one of the last stage's level
@@ -64,7 +65,7 @@ took_events head level events old new (Whole begun) h keeps =
     let few : length (filter (has_level level) events) ≤ 1 = omega (arith, one, count) in
     all_taken (h.taken_is keeps ∙ ap (λ (es : List Chunk). old.taken ++ frames_of head es) (sym (second_all level events few)))
 took_events head level events old new TooTall h keeps = all_taken (h.taken_is keeps)
-took_events head level events old new Failed h keeps = h.taken_is keeps
+took_events head level events old new Failed h keeps = failed_part h keeps
 
 pub lost_is_no_memory : Lost ≡ Memory → ⊥
 lost_is_no_memory e = cc

@@ -1,10 +1,12 @@
 -- How the writer's state goes on.
-use Rattle.std.proofs.Common.{◌≡◌, ◌≢◌, ◌<◌, Option, Some, length, ℕ, suc, ◌≤◌, Bool, true, false, List, [], ◌∷◌, ◌++◌, refl, sym, ap, ◌∙◌, subst, arith, append_assoc}
+use Rattle.std.proofs.Common.{◌≡◌, ◌≢◌, ◌<◌, ◌^◌, Option, Some, length, ℕ, suc, ◌≤◌, Bool, true, false, List, [], ◌∷◌, ◌++◌, refl, sym, ap, ◌∙◌, subst, arith, append_assoc}
+use Rattle.std.proofs.lemmas.List.{append-nil}
 use Rattle.prolly_entry.specs.Chunk.{Chunk}
 use Rattle.prolly_entry.specs.File.{frame, end_record}
 use Rattle.prolly_entry.specs.Events.{has_level, greatest_count}
 use Rattle.prolly_entry.specs.Pipeline.{before_second}
 use Rattle.prolly_entry.specs.Prefix.{IsPrefix}
+use Rattle.prolly_entry.proofs.Groups.{all_append}
 use Rattle.prolly_entry.proofs.Prefixes.{count, count_true, count_false}
 use Rattle.prolly_entry.proofs.Writers.{within_is_prefix}
 use Rattle.prolly_file.specs.Sink.{TakesPrefix}
@@ -12,7 +14,7 @@ use Rattle.prolly_stage.proofs.Steps.{prefix_trans}
 use Rattle.prolly_build.specs.declared.writer.Begun.{Begun}
 use Rattle.prolly_build.specs.declared.writer.Top.{Top}
 use Rattle.prolly_build.specs.declared.writer.Written.{Written}
-use Rattle.prolly_build.specs.Writing.{Sunk, frames_of, tops_counted, IsTopOf, IsWhole, IsTall, IsFailed, IsUnended, HasWritten}
+use Rattle.prolly_build.specs.Writing.{Sunk, AreSmall, frames_of, tops_counted, IsTopOf, IsWhole, IsTall, IsFailed, IsUnended, HasWritten}
 use Rattle.prolly_build.proofs.Tops.{one_more, second_all, second_last, second_stays, frames_front, frames_more}
 
 -- too tall a tree stays so
@@ -20,6 +22,7 @@ pub tall_stays : {head : List ℕ} {level : ℕ} {events : List Chunk} {old new 
     IsTall head level (events ++ e ∷ []) old new
 tall_stays {head} {level} {events} {old} e h = let more = one_more level events e in let two = h.second in record {
   second = omega (arith, more, two);
+  small = subst AreSmall (sym (second_stays level events (e ∷ []) h.second)) h.small;
   unfailed = h.unfailed;
   taken_is = λ k. h.taken_is k ∙ ap (λ cs. old.taken ++ frames_of head cs) (sym (second_stays level events (e ∷ []) h.second));
   keeps = h.keeps;
@@ -38,9 +41,23 @@ pub failed_stays : {head : List ℕ} {level : ℕ} {events : List Chunk} {old ne
     IsFailed head level (events ++ e ∷ []) old new
 failed_stays {head} {level} {events} e h = record {
   failed = h.failed;
-  taken_is = λ k. prefix_on _ (h.taken_is k) (frames_front head _ _ (within_is_prefix (suc level) events (events ++ e ∷ []) (e ∷ [], refl)).0);
+  tried = h.tried;
+  small = h.small;
+  first = prefix_trans h.tried (before_second level events) (before_second level (events ++ e ∷ [])) h.first
+      (within_is_prefix (suc level) events (events ++ e ∷ []) (e ∷ [], refl)).0;
+  taken_is = h.taken_is;
   keeps = h.keeps;
 }
+
+-- and what was taken of it is a prefix of the frames of all that the writer takes
+pub failed_part : {head : List ℕ} {level : ℕ} {events : List Chunk} {old new : Sunk} → IsFailed head level events old new → old.is_keeping ≡ true →
+    TakesPrefix old.taken new.taken (frames_of head (before_second level events))
+failed_part {head} {level} {events} h k =
+    prefix_on (frames_of head (before_second level events)) (h.taken_is k) (frames_front head h.tried (before_second level events) h.first)
+
+-- a chunk more whose length its frame can spell
+pub small_more : (events : List Chunk) (e : Chunk) → AreSmall events → length e.bytes < 2 ^ 64 → AreSmall (events ++ e ∷ [])
+small_more events e h k = all_append (λ c. length c.bytes < 2 ^ 64) events (e ∷ []) h (k, tt)
 
 -- the second event of the last stage's level
 pub tall_now : {head : List ℕ} {level : ℕ} {events : List Chunk} {old new : Sunk} {begun : Begun} (e : Chunk) → IsWhole head level events old new begun →
@@ -50,6 +67,7 @@ tall_now {head} {level} {events} {old} e h top t =
     let more = one_more level events e in
     let its : count level (e ∷ []) ≡ suc (count level []) = count_true level e [] t in record {
       second = omega (arith, one, more, its);
+      small = subst AreSmall (sym (second_last level events e one t)) h.small;
       unfailed = h.unfailed;
       taken_is = λ k. h.taken_is k ∙ ap (λ cs. old.taken ++ frames_of head cs) (sym (second_last level events e one t));
       keeps = h.keeps;
@@ -89,12 +107,15 @@ part_behind old mid new before wanted e h = record {
 
 -- a frame fails
 pub failed_now : {head : List ℕ} {level : ℕ} {events : List Chunk} {old mid new : Sunk} {begun : Begun} (e : Chunk) (is_top : Bool) →
-    IsWhole head level events old mid begun → IsFew level events begun.has_top is_top e →
+    IsWhole head level events old mid begun → IsFew level events begun.has_top is_top e → length e.bytes < 2 ^ 64 →
     (mid.is_keeping ≡ true → TakesPrefix mid.taken new.taken (frame e)) → new.failures ≢ mid.failures → (mid.is_keeping ≡ true → new.is_keeping ≡ true) →
     IsFailed head level (events ++ e ∷ []) old new
-failed_now {head} {level} {events} {old} {mid} {new} {begun} e is_top h few part failed keeps = record {
+failed_now {head} {level} {events} {old} {mid} {new} {begun} e is_top h few short part failed keeps = record {
   failed = λ f. failed (f ∙ sym h.unfailed);
-  taken_is = λ k. subst (TakesPrefix old.taken new.taken) all (part_behind old.taken mid.taken new.taken (frames_of head events) (frame e) (h.taken_is k) (part (h.keeps k)));
+  tried = events ++ e ∷ [];
+  small = small_more events e h.small short;
+  first = ([], second_all level (events ++ e ∷ []) (low begun.has_top is_top h.few few) ∙ sym (append-nil (events ++ e ∷ [])));
+  taken_is = λ k. subst (TakesPrefix old.taken new.taken) (sym (frames_more head events e)) (part_behind old.taken mid.taken new.taken (frames_of head events) (frame e) (h.taken_is k) (part (h.keeps k)));
   keeps = λ k. keeps (h.keeps k);
 }
   where
@@ -103,9 +124,6 @@ failed_now {head} {level} {events} {old} {mid} {new} {begun} e is_top h few part
     low true false h k = let more = one_more level events e in let its = count_false level e [] k.0 in omega (arith, h, more, its)
     low false true h k = let more = one_more level events e in let its = count_true level e [] k.0 in omega (arith, h, more, its)
     low false false h k = let more = one_more level events e in let its = count_false level e [] k.0 in omega (arith, h, more, its)
-
-    all : frames_of head events ++ frame e ≡ frames_of head (before_second level (events ++ e ∷ []))
-    all = sym (frames_more head events e) ∙ ap (frames_of head) (sym (second_all level (events ++ e ∷ []) (low begun.has_top is_top h.few few)))
 
 -- the end record fails
 pub unended : {head : List ℕ} {level : ℕ} {events : List Chunk} {old mid new : Sunk} {begun : Begun} (top : Top) → IsWhole head level events old mid begun →

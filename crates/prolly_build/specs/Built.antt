@@ -1,12 +1,14 @@
 -- What a build has made of its sources.
 use Rattle.std.specs.Prelude.{◌≡◌, ◌≢◌, ◌<◌, ◌≤◌, ℕ, Bool, true, List, [], ◌∷◌, ◌++◌, length, None, ◌-◌}
+use Rattle.std.specs.List.{flat_map}
 use Rattle.prolly_entry.specs.Chunk.{Chunk, chunks}
 use Rattle.prolly_entry.specs.Cut.{sha512_cut}
-use Rattle.prolly_entry.specs.File.{file, header, root_reference}
+use Rattle.prolly_entry.specs.File.{file, frame, header, root_reference}
 use Rattle.prolly_entry.specs.Events.{clean}
 use Rattle.prolly_entry.specs.Overlay.{overlay}
 use Rattle.prolly_entry.specs.Pair.{Pair}
 use Rattle.prolly_entry.specs.Pipeline.{pipeline_events, within_stages}
+use Rattle.prolly_entry.specs.Prefix.{IsPrefix}
 use Rattle.prolly_entry.specs.Reading.{IsReading}
 use Rattle.prolly_entry.specs.Record.{Record}
 use Rattle.prolly_entry.specs.Tree.{level_count}
@@ -17,7 +19,7 @@ use Rattle.prolly_link.specs.declared.fault.RunFault.{RunFault}
 use Rattle.prolly_link.specs.declared.fault.RunFault.TheVariants as faults
 use Rattle.prolly_build.specs.declared.report.Report.{Report}
 use Rattle.prolly_build.specs.Settings.{Settings}
-use Rattle.prolly_build.specs.Writing.{Sunk, frames_of}
+use Rattle.prolly_build.specs.Writing.{Sunk, AreSmall, frames_of}
 
 -- The sink took the chunk file of a map, and the report is that of its tree, which has no more levels than there are stages.
 pub record IsFileOf (settings : Settings) (m : List Pair) (old new : Sunk) (report : Report) : Type 0 where
@@ -29,10 +31,16 @@ pub record IsFileOf (settings : Settings) (m : List Pair) (old new : Sunk) (repo
   pub pairs : report.pairs ≡ length m
   pub levels : report.levels ≡ level_count (sha512_cut settings.bits) settings.version m
 
--- The sink took a prefix of a header and of the frames of some chunks: no end record is begun.
+-- The sink took a prefix of a header and of the frames of some chunks, each of a length that its frame can spell: no end record is begun.
 pub record IsBegun (settings : Settings) (old new : Sunk) : Type 0 where
   pub chunks_begun : List Chunk
+  pub small : AreSmall chunks_begun
   pub taken : old.is_keeping ≡ true → TakesPrefix old.taken new.taken (frames_of (header settings.version settings.bits) chunks_begun)
+
+-- Law: what the sink took then has no header and frames with the first letter of an end record behind them in front, so no whole file.
+abbrev pub NoEndIsBegun : Settings → Sunk → Sunk → Type 0
+NoEndIsBegun settings old new = IsBegun settings old new → old.is_keeping ≡ true → (whole : List Chunk) (behind : List ℕ) → AreSmall whole →
+    IsPrefix (old.taken ++ (header settings.version settings.bits ++ (flat_map frame whole ++ 0x45 ∷ behind))) new.taken → ⊥
 
 -- The chunk file of a map up to, and without, the second chunk of the last stage's level: what is written of a tree that is too tall.
 abbrev pub tall_file : Settings → List Pair → List ℕ

@@ -1,7 +1,8 @@
 -- What a build leaves where a worker was refused memory.
 use Rattle.std.specs.Prelude.{◌≡◌, ℕ, true, List, [], ◌∷◌, Option}
+use Rattle.prolly_entry.specs.Chunk.{chunks}
 use Rattle.prolly_entry.specs.Cut.{sha512_cut}
-use Rattle.prolly_entry.specs.File.{file}
+use Rattle.prolly_entry.specs.File.{header}
 use Rattle.prolly_entry.specs.Overlay.{overlay}
 use Rattle.prolly_entry.specs.Pair.{Pair}
 use Rattle.prolly_entry.specs.Prefix.{IsPrefix}
@@ -10,7 +11,7 @@ use Rattle.prolly_entry.specs.Record.{Record}
 use Rattle.prolly_entry.specs.declared.flaw.Flaw.{Flaw}
 use Rattle.prolly_file.specs.Sink.{TakesPrefix}
 use Rattle.prolly_build.specs.Settings.{Settings}
-use Rattle.prolly_build.specs.Writing.{Sunk}
+use Rattle.prolly_build.specs.Writing.{Sunk, frames_of}
 
 module _ {S : Type 0} (left : S → List ℕ) where
   -- The records are the good ones of the bytes that the source had left, whatever follows them.
@@ -24,10 +25,12 @@ module _ {S : Type 0} (left : S → List ℕ) where
   AreGood limit (s ∷ ss) (g ∷ gs) = AreGoodOf limit s g × AreGood limit ss gs
   AreGood limit _ _ = ⊥
 
-  -- The sink took a prefix of the chunk file of the first pairs of the overlay of all good records.
+  -- The sink took a prefix of the header and of the frames of the tree's chunks, without the end record, of the first pairs of the overlay
+  -- of all good records.
   pub record IsRefused (settings : Settings) (before : List S) (old new : Sunk) : Type 0 where
     pub goods : List (List Record)
     pub are_good : AreGood settings.max_records before goods
     pub pairs : List Pair
     pub first : IsPrefix pairs (overlay goods)
-    pub taken : old.is_keeping ≡ true → TakesPrefix old.taken new.taken (file (sha512_cut settings.bits) settings.version pairs)
+    pub taken : old.is_keeping ≡ true → TakesPrefix old.taken new.taken
+        (frames_of (header settings.version settings.bits) (chunks (sha512_cut settings.bits) settings.version pairs))

@@ -1,10 +1,11 @@
 -- What the writer of a pipeline has written of the events that it received.
-use Rattle.std.specs.Prelude.{◌≡◌, ◌≢◌, ◌≤◌, ◌+◌, ◌⊎◌, ℕ, min, Bool, true, false, List, [], ◌∷◌, ◌++◌, length, Option, Some, None}
-use Rattle.std.specs.List.{flat_map, filter}
+use Rattle.std.specs.Prelude.{◌≡◌, ◌≢◌, ◌<◌, ◌≤◌, ◌+◌, ◌^◌, ◌⊎◌, ℕ, min, Bool, true, false, List, [], ◌∷◌, ◌++◌, length, Option, Some, None}
+use Rattle.std.specs.List.{flat_map, filter, AllByRecursion}
 use Rattle.prolly_entry.specs.Chunk.{Chunk}
 use Rattle.prolly_entry.specs.File.{frame, end_record}
 use Rattle.prolly_entry.specs.Events.{has_level, greatest_count}
 use Rattle.prolly_entry.specs.Pipeline.{before_second, HasSecond}
+use Rattle.prolly_entry.specs.Prefix.{IsPrefix}
 use Rattle.prolly_entry.specs.Reference.{reference_of}
 use Rattle.prolly_file.specs.Sink.{TakesPrefix}
 use Rattle.prolly_link.specs.declared.fault.End.{End}
@@ -31,6 +32,10 @@ sunk is_keeping taken failures sink = record { is_keeping = is_keeping sink; tak
 abbrev pub frames_of : List ℕ → List Chunk → List ℕ
 frames_of head chunks = head ++ flat_map frame chunks
 
+-- The length of each chunk can be written in the eight bytes of its frame, which no longer one can: its frame could spell any bytes.
+abbrev pub AreSmall : List Chunk → Type 0
+AreSmall chunks = AllByRecursion (λ c. length c.bytes < 2 ^ 64) chunks
+
 -- How many of the events have the level: none, or one.
 abbrev pub tops_counted : Bool → ℕ
 tops_counted true = 1
@@ -45,6 +50,7 @@ IsTopOf events (Some top) =
 -- All events are written, of which at most one is of the last stage's level.
 pub record IsWhole (head : List ℕ) (level : ℕ) (events : List Chunk) (old new : Sunk) (begun : Begun) : Type 0 where
   pub few : length (filter (has_level level) events) ≡ tops_counted begun.has_top
+  pub small : AreSmall events
   pub unfailed : new.failures ≡ old.failures
   pub taken_is : old.is_keeping ≡ true → new.taken ≡ old.taken ++ frames_of head events
   pub keeps : old.is_keeping ≡ true → new.is_keeping ≡ true
@@ -55,14 +61,18 @@ pub record IsWhole (head : List ℕ) (level : ℕ) (events : List Chunk) (old ne
 -- The events up to, and without, the second one of the last stage's level are written.
 pub record IsTall (head : List ℕ) (level : ℕ) (events : List Chunk) (old new : Sunk) : Type 0 where
   pub second : HasSecond level events
+  pub small : AreSmall (before_second level events)
   pub unfailed : new.failures ≡ old.failures
   pub taken_is : old.is_keeping ≡ true → new.taken ≡ old.taken ++ frames_of head (before_second level events)
   pub keeps : old.is_keeping ≡ true → new.is_keeping ≡ true
 
--- A write failed, and what was taken is a prefix of what was to be written.
+-- A write failed, and what was taken is a prefix of what was to be written till then, the first of the chunks.
 pub record IsFailed (head : List ℕ) (level : ℕ) (events : List Chunk) (old new : Sunk) : Type 0 where
   pub failed : new.failures ≢ old.failures
-  pub taken_is : old.is_keeping ≡ true → TakesPrefix old.taken new.taken (frames_of head (before_second level events))
+  pub tried : List Chunk
+  pub small : AreSmall tried
+  pub first : IsPrefix tried (before_second level events)
+  pub taken_is : old.is_keeping ≡ true → TakesPrefix old.taken new.taken (frames_of head tried)
   pub keeps : old.is_keeping ≡ true → new.is_keeping ≡ true
 
 -- The writer behind a last stage of this level, once it has received these events.

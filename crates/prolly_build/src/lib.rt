@@ -9,6 +9,7 @@ mod forks;
 mod fronts;
 mod gathering;
 mod halt;
+pub mod laws;
 mod links;
 mod load_all;
 mod loaders;
