@@ -20,6 +20,10 @@ use Rattle.prolly_build.specs.Ran.{AreLoaded}
 use Rattle.prolly_build.specs.Stopped.{IsReadingOf, IsFailureOf, CountFor, AreHonest, ending_told}
 use Rattle.prolly_build.specs.Workers.{IsLoadedFrom}
 
+-- what an honest source has left are bytes, by the law of sources
+abbrev pub LeftAreBytes : {S : Type 0} → (S → Bool) → (S → List ℕ) → Type 0
+LeftAreBytes {S} is_honest left = (s : S) → is_honest s ≡ true → All IsByte (left s)
+
 module _ {S : Type 0} (is_honest : S → Bool) (left : S → List ℕ) (failures : S → ℕ) (limit : ℕ) where
   -- what a file counts for, and what its loader sent of that
   record Counts (file : ℕ) (s t : S) (sent : Input RunFault) : Type 0 where
@@ -99,16 +103,16 @@ module _ {S : Type 0} (is_honest : S → Bool) (left : S → List ℕ) (failures
     pub count_for : CountFor left failures file limit ss ts inputs
     pub sent_of : AreSentOf faults.Memory inputs sent
 
-  pub all_count : (file : ℕ) (ss : List S) (os : List (Batching Record)) (ts : List S) (cs : List (Whole Record)) →
-      AreLoaded is_honest left failures limit file ss os ts cs → AreHonest is_honest left ss → AllCounts file ss ts (map sent_input cs)
-  all_count file [] [] [] [] h honest = record { inputs = []; count_for = tt; sent_of = tt }
-  all_count file [] [] [] (c ∷ cs) h honest = absurd h
-  all_count file [] [] (t ∷ ts) cs h honest = absurd h
-  all_count file [] (o ∷ os) ts cs h honest = absurd h
-  all_count file (s ∷ ss) [] ts cs h honest = absurd h
-  all_count file (s ∷ ss) (o ∷ os) [] cs h honest = absurd h
-  all_count file (s ∷ ss) (o ∷ os) (t ∷ ts) [] h honest = absurd h
-  all_count file (s ∷ ss) (o ∷ os) (t ∷ ts) (c ∷ cs) h honest =
-      let one = one_counts file s o t c h.0 honest.0.0 honest.0.1 in
-      let rest = all_count (file + 1) ss os ts cs h.1 honest.1 in
+  pub all_count : LeftAreBytes is_honest left → (file : ℕ) (ss : List S) (os : List (Batching Record)) (ts : List S) (cs : List (Whole Record)) →
+      AreLoaded is_honest left failures limit file ss os ts cs → AreHonest is_honest ss → AllCounts file ss ts (map sent_input cs)
+  all_count bytes file [] [] [] [] h honest = record { inputs = []; count_for = tt; sent_of = tt }
+  all_count bytes file [] [] [] (c ∷ cs) h honest = absurd h
+  all_count bytes file [] [] (t ∷ ts) cs h honest = absurd h
+  all_count bytes file [] (o ∷ os) ts cs h honest = absurd h
+  all_count bytes file (s ∷ ss) [] ts cs h honest = absurd h
+  all_count bytes file (s ∷ ss) (o ∷ os) [] cs h honest = absurd h
+  all_count bytes file (s ∷ ss) (o ∷ os) (t ∷ ts) [] h honest = absurd h
+  all_count bytes file (s ∷ ss) (o ∷ os) (t ∷ ts) (c ∷ cs) h honest =
+      let one = one_counts file s o t c h.0 honest.0 (bytes s honest.0) in
+      let rest = all_count bytes (file + 1) ss os ts cs h.1 honest.1 in
       record { inputs = one.input ∷ rest.inputs; count_for = (one.counts, rest.count_for); sent_of = (one.sent_of, rest.sent_of) }

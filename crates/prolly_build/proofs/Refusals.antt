@@ -41,6 +41,7 @@ use Rattle.prolly_build.specs.Staging.{HasStaged}
 use Rattle.prolly_build.specs.Stopped.{AreHonest}
 use Rattle.prolly_build.specs.Workers.{IsLoadedFrom}
 use Rattle.prolly_build.specs.Writing.{Sunk, frames_of}
+use Rattle.prolly_build.proofs.Counted.{LeftAreBytes}
 use Rattle.prolly_build.proofs.Loads.{begun, clean_end, one_read}
 use Rattle.prolly_build.proofs.Mergings.{Inputs, fault_of_end_of}
 use Rattle.prolly_build.proofs.Tops.{frames_front}
@@ -160,22 +161,22 @@ module _ {S : Type 0} (is_honest : S → Bool) (left : S → List ℕ) (failures
             (one_reading (left s) limit c.items good None ending ((one_read is_honest left failures limit file s o t c h (clean_end c.end e)).reading honest) reading).0;
       }
 
-  all_fronts : (file : ℕ) (ss : List S) (os : List (Batching Record)) (ts : List S) (cs : List (Whole Record)) →
-      AreLoaded is_honest left failures limit file ss os ts cs → AreHonest is_honest left ss → Good ss (map sent_input cs)
-  all_fronts file [] [] [] [] h honest = record { goods = []; are_good = tt; fronts = tt; rising = tt }
-  all_fronts file [] [] [] (c ∷ cs) h honest = absurd h
-  all_fronts file [] [] (t ∷ ts) cs h honest = absurd h
-  all_fronts file [] (o ∷ os) ts cs h honest = absurd h
-  all_fronts file (s ∷ ss) [] ts cs h honest = absurd h
-  all_fronts file (s ∷ ss) (o ∷ os) [] cs h honest = absurd h
-  all_fronts file (s ∷ ss) (o ∷ os) (t ∷ ts) [] h honest = absurd h
-  all_fronts file (s ∷ ss) (o ∷ os) (t ∷ ts) (c ∷ cs) h honest =
-      let has = reading_is (left s) limit honest.0.1 in
-      let rest = all_fronts (file + 1) ss os ts cs h.1 honest.1 in
+  all_fronts : LeftAreBytes is_honest left → (file : ℕ) (ss : List S) (os : List (Batching Record)) (ts : List S) (cs : List (Whole Record)) →
+      AreLoaded is_honest left failures limit file ss os ts cs → AreHonest is_honest ss → Good ss (map sent_input cs)
+  all_fronts bytes file [] [] [] [] h honest = record { goods = []; are_good = tt; fronts = tt; rising = tt }
+  all_fronts bytes file [] [] [] (c ∷ cs) h honest = absurd h
+  all_fronts bytes file [] [] (t ∷ ts) cs h honest = absurd h
+  all_fronts bytes file [] (o ∷ os) ts cs h honest = absurd h
+  all_fronts bytes file (s ∷ ss) [] ts cs h honest = absurd h
+  all_fronts bytes file (s ∷ ss) (o ∷ os) [] cs h honest = absurd h
+  all_fronts bytes file (s ∷ ss) (o ∷ os) (t ∷ ts) [] h honest = absurd h
+  all_fronts bytes file (s ∷ ss) (o ∷ os) (t ∷ ts) (c ∷ cs) h honest =
+      let has = reading_is (left s) limit (bytes s honest.0) in
+      let rest = all_fronts bytes (file + 1) ss os ts cs h.1 honest.1 in
       record {
         goods = has.good ∷ rest.goods;
         are_good = (record { ending = has.ending; reading = has.reading }, rest.are_good);
-        fronts = (one_front file s o t c h.0 honest.0.0 has.good has.ending has.reading, rest.fronts);
+        fronts = (one_front file s o t c h.0 honest.0 has.good has.ending has.reading, rest.fronts);
         rising = (has.reading.begins.rising, rest.rising);
       }
 
@@ -191,20 +192,20 @@ module _ {S : Type 0} (is_honest : S → Bool) (left : S → List ℕ) (failures
       omega (arith, one, rest, both, small)
 
   -- honest sources have good records
-  some_good : (ss : List S) → AreHonest is_honest left ss → (goods : List (List Record)) × AreGood left limit ss goods
-  some_good [] honest = ([], tt)
-  some_good (s ∷ ss) honest =
-      let has = reading_is (left s) limit honest.0.1 in
-      let rest = some_good ss honest.1 in
+  some_good : LeftAreBytes is_honest left → (ss : List S) → AreHonest is_honest ss → (goods : List (List Record)) × AreGood left limit ss goods
+  some_good bytes [] honest = ([], tt)
+  some_good bytes (s ∷ ss) honest =
+      let has = reading_is (left s) limit (bytes s honest.0) in
+      let rest = some_good bytes ss honest.1 in
       (has.good ∷ rest.0, (record { ending = has.ending; reading = has.reading }, rest.1))
 
 -- ---- all workers
 
 -- a sink that was left alone
-pub untouched_refused : {S : Type 0} (is_honest : S → Bool) (left : S → List ℕ) (failures : S → ℕ) (settings : Settings) (before : List S) (old : Sunk) →
-    AreHonest is_honest left before → IsRefused left settings before old old
-untouched_refused is_honest left failures settings before old honest =
-    let has = some_good is_honest left failures settings.max_records before honest in record {
+pub untouched_refused : {S : Type 0} (is_honest : S → Bool) (left : S → List ℕ) (failures : S → ℕ) → LeftAreBytes is_honest left → (settings : Settings) (before : List S) (old : Sunk) →
+    AreHonest is_honest before → IsRefused left settings before old old
+untouched_refused is_honest left failures bytes settings before old honest =
+    let has = some_good is_honest left failures settings.max_records bytes before honest in record {
       goods = has.0;
       are_good = has.1;
       pairs = [];
@@ -231,10 +232,10 @@ module _ {S : Type 0} (is_honest : S → Bool) (left : S → List ℕ) (failures
     pub first : IsPrefix pairs (overlay goods)
     pub taken : IsPrefix (before_second level events) (chunks cut settings.version pairs)
 
-  source_refused : AreLawful settings → length before ≤ 16 → AreHonest is_honest left before → (events : List Chunk) (end : End) →
+  source_refused : LeftAreBytes is_honest left → AreLawful settings → length before ≤ 16 → AreHonest is_honest before → (events : List Chunk) (end : End) →
       HasStaged is_honest left failures settings level before after events end count → end ≡ Fault Memory → IsRefusedRun events
-  source_refused lawful sixteen honest events end h end_is =
-      let sent = all_fronts is_honest left failures settings.max_records 0 before h.gathered.loader_outs after h.gathered.files h.gathered.loaded honest in
+  source_refused bytes lawful sixteen honest events end h end_is =
+      let sent = all_fronts is_honest left failures settings.max_records bytes 0 before h.gathered.loader_outs after h.gathered.files h.gathered.loaded honest in
       let files : AreSent (map sent_input h.gathered.files) (raw_overlay sent.goods) = record { lists = sent.goods; rising = sent.rising; fronts = sent.fronts; overlay_is = refl } in
       let inputs = joined_sent h.gathered.mergers (map sent_input h.gathered.files) h.gathered.inputs h.gathered.joined (raw_overlay sent.goods) files in
       let first = first_pairs h.gathered.inputs h.pairs h.pairs_end (raw_overlay sent.goods) inputs h.gathered.merges in
@@ -266,11 +267,11 @@ module _ {S : Type 0} (is_honest : S → Bool) (left : S → List ℕ) (failures
   }
 
 -- the same over sources that were lent
-pub lent_refused : {S : Type 0} (is_honest : S → Bool) (left : S → List ℕ) (failures : S → ℕ) (settings : Settings) (level : ℕ) (before lent after : List S) (count : ℕ) →
-    AreLawful settings → length before ≤ 16 → level + 1 ≡ settings.stages → lent ≡ before → AreHonest is_honest left before → (events : List Chunk) (end : End) →
+pub lent_refused : {S : Type 0} (is_honest : S → Bool) (left : S → List ℕ) (failures : S → ℕ) → LeftAreBytes is_honest left → (settings : Settings) (level : ℕ) (before lent after : List S) (count : ℕ) →
+    AreLawful settings → length before ≤ 16 → level + 1 ≡ settings.stages → lent ≡ before → AreHonest is_honest before → (events : List Chunk) (end : End) →
     HasStaged is_honest left failures settings level lent after events end count → end ≡ Fault Memory → IsRefusedRun is_honest left failures settings before after count events
-lent_refused {S} is_honest left failures settings level before lent after count lawful sixteen levels same honest events end h =
+lent_refused {S} is_honest left failures bytes settings level before lent after count lawful sixteen levels same honest events end h =
     let below : level ≡ settings.stages - 1 = omega (arith, levels) in
-    source_refused is_honest left failures settings before after count lawful sixteen honest events end
+    source_refused is_honest left failures settings before after count bytes lawful sixteen honest events end
     (subst (λ (l : ℕ). HasStaged is_honest left failures settings l before after events end count) below
     (subst (λ (ss : List S). HasStaged is_honest left failures settings level ss after events end count) same h))

@@ -26,7 +26,7 @@ use Rattle.prolly_build.specs.Merging.{MergesAll, sent_input}
 use Rattle.prolly_build.specs.Settings.{Settings, AreLawful}
 use Rattle.prolly_build.specs.Staging.{HasStaged}
 use Rattle.prolly_build.specs.Stopped.{CountFor, AreHonest}
-use Rattle.prolly_build.proofs.Counted.{all_count}
+use Rattle.prolly_build.proofs.Counted.{LeftAreBytes, all_count}
 use Rattle.prolly_build.proofs.Loads.{all_rise, all_few}
 use Rattle.prolly_build.proofs.Mergings.{Inputs, Rises, rises_all, joined_rises, all_front, all_both, fault_of_end_of}
 
@@ -119,17 +119,17 @@ module _ {S : Type 0} (is_honest : S → Bool) (left : S → List ℕ) (failures
     pub few : length (merged_part inputs) < 2 ^ 64
     pub sent : events ≡ pipeline_events (settings.stages - 1) (sha512_cut settings.bits) settings.version faulty (merged_part inputs)
 
-  gathered_stops : AreLawful settings → length before ≤ 16 → AreHonest is_honest left before → (pairs : List Pair) (end : End) (fault : RunFault) →
+  gathered_stops : LeftAreBytes is_honest left → AreLawful settings → length before ≤ 16 → AreHonest is_honest before → (pairs : List Pair) (end : End) (fault : RunFault) →
       IsGathered is_honest left failures settings.max_records before after pairs end count → end ≡ Fault fault → fault ≢ Memory →
       (events : List Chunk) → events ≡ pipeline_events (settings.stages - 1) (sha512_cut settings.bits) settings.version faulty pairs → IsStoppedRun events fault
-  gathered_stops lawful sixteen honest pairs end fault h end_is other events sent =
+  gathered_stops bytes lawful sixteen honest pairs end fault h end_is other events sent =
       let files = map sent_input h.files in
       let rises = all_rise is_honest left failures settings.max_records 0 before h.loader_outs after h.files h.loaded in
       let merges : MergesAll h.inputs pairs (Fault fault) = subst (λ (e : End). MergesAll h.inputs pairs e) end_is h.merges in
       let last = merged_stops h.inputs pairs fault other (merges (rises_all h.inputs (joined_rises h.mergers files h.inputs h.joined rises))) in
       let not_memory : last.0.fault ≢ Memory = λ e. other (sym last.2 ∙ e) in
       let down = joined_stops h.mergers files h.inputs h.joined rises last.0 last.1 not_memory in
-      let counts = all_count is_honest left failures settings.max_records 0 before h.loader_outs after h.files h.loaded honest in
+      let counts = all_count is_honest left failures settings.max_records bytes 0 before h.loader_outs after h.files h.loaded honest in
       let true_stop = cut_behind_stop RunFault Memory counts.inputs files last.0 (count_rises 0 before after counts.inputs counts.count_for) counts.sent_of down.0 not_memory in
       let part : merged_part counts.inputs ≡ pairs = ap pairs_put (true_stop.1 ∙ down.1) ∙ sym last.3 in
       let sent_part : merged_part files ≡ pairs = ap pairs_put down.1 ∙ sym last.3 in
@@ -144,9 +144,9 @@ module _ {S : Type 0} (is_honest : S → Bool) (left : S → List ℕ) (failures
         sent = sent ∙ ap (λ (ps : List Pair). pipeline_events (settings.stages - 1) (sha512_cut settings.bits) settings.version faulty ps) (sym part);
       }
 
-  pub source_stops : AreLawful settings → length before ≤ 16 → AreHonest is_honest left before → (events : List Chunk) (end : End) (fault : RunFault) →
+  pub source_stops : LeftAreBytes is_honest left → AreLawful settings → length before ≤ 16 → AreHonest is_honest before → (events : List Chunk) (end : End) (fault : RunFault) →
       HasStaged is_honest left failures settings (settings.stages - 1) before after events end count → end ≡ Fault fault → fault ≢ Memory → IsStoppedRun events fault
-  source_stops lawful sixteen honest events end fault h end_is other = go h.staged
+  source_stops bytes lawful sixteen honest events end fault h end_is other = go h.staged
     where
       stage : Closing → List Pair → List Chunk
       stage = pipeline_events (settings.stages - 1) (sha512_cut settings.bits) settings.version
@@ -155,15 +155,15 @@ module _ {S : Type 0} (is_honest : S → Bool) (left : S → List ℕ) (failures
       go (inr s) = absurd (other (same_fault fault Memory (sym end_is ∙ s.0)))
       go (inl s) =
           let pairs_end : h.pairs_end ≡ Fault fault = sym s.1 ∙ end_is in
-          gathered_stops lawful sixteen honest h.pairs h.pairs_end fault h.gathered pairs_end other events (s.0 ∙ ap (λ (x : End). stage (closing_of x) h.pairs) pairs_end)
+          gathered_stops bytes lawful sixteen honest h.pairs h.pairs_end fault h.gathered pairs_end other events (s.0 ∙ ap (λ (x : End). stage (closing_of x) h.pairs) pairs_end)
 
 -- the same over sources that were lent
-pub lent_stops : {S : Type 0} (is_honest : S → Bool) (left : S → List ℕ) (failures : S → ℕ) (settings : Settings) (level : ℕ) (before lent after : List S) (count : ℕ) →
-    AreLawful settings → length before ≤ 16 → level + 1 ≡ settings.stages → lent ≡ before → AreHonest is_honest left before →
+pub lent_stops : {S : Type 0} (is_honest : S → Bool) (left : S → List ℕ) (failures : S → ℕ) → LeftAreBytes is_honest left → (settings : Settings) (level : ℕ) (before lent after : List S) (count : ℕ) →
+    AreLawful settings → length before ≤ 16 → level + 1 ≡ settings.stages → lent ≡ before → AreHonest is_honest before →
     (events : List Chunk) (end : End) (fault : RunFault) → HasStaged is_honest left failures settings level lent after events end count → end ≡ Fault fault → fault ≢ Memory →
     IsStoppedRun is_honest left failures settings before after count events fault
-lent_stops {S} is_honest left failures settings level before lent after count lawful sixteen levels same honest events end fault h =
+lent_stops {S} is_honest left failures bytes settings level before lent after count lawful sixteen levels same honest events end fault h =
     let below : level ≡ settings.stages - 1 = omega (arith, levels) in
-    source_stops is_honest left failures settings before after count lawful sixteen honest events end fault
+    source_stops is_honest left failures settings before after count bytes lawful sixteen honest events end fault
     (subst (λ (l : ℕ). HasStaged is_honest left failures settings l before after events end count) below
     (subst (λ (ss : List S). HasStaged is_honest left failures settings level ss after events end count) same h))

@@ -77,23 +77,6 @@ tall_now {head} {level} {events} {old} e h top t =
 abbrev pub IsFew : ℕ → List Chunk → Bool → Bool → Chunk → Type 0
 IsFew level events has_top is_top e = (has_level level e ≡ is_top) × (is_top ≡ true → has_top ≡ false)
 
-few_more : (level : ℕ) (events : List Chunk) (has_top is_top both : Bool) (e : Chunk) → count level events ≡ tops_counted has_top →
-    IsFew level events has_top is_top e → (has_top ≡ true → both ≡ true) → (is_top ≡ true → both ≡ true) →
-    (has_top ≡ false → is_top ≡ false → both ≡ false) → count level (events ++ e ∷ []) ≡ tops_counted both
-few_more level events true true both e h k l m n = absurd (let f : true ≡ false = k.1 refl in apart f)
-  where
-    apart : true ≡ false → ⊥
-    apart f = cc
-few_more level events false true both e h k l m n =
-    let more = one_more level events e in let its = count_true level e [] k.0 in
-    let b : tops_counted both ≡ 1 = ap tops_counted (m refl) in omega (arith, h, more, its, b)
-few_more level events true false both e h k l m n =
-    let more = one_more level events e in let its = count_false level e [] k.0 in
-    let b : tops_counted both ≡ 1 = ap tops_counted (l refl) in omega (arith, h, more, its, b)
-few_more level events false false both e h k l m n =
-    let more = one_more level events e in let its = count_false level e [] k.0 in
-    let b : tops_counted both ≡ 0 = ap tops_counted (n refl refl) in omega (arith, h, more, its, b)
-
 one_at_most : (b : Bool) → tops_counted b ≤ 1
 one_at_most true = omega arith
 one_at_most false = omega arith

@@ -1,7 +1,6 @@
 -- What a build names, and what it leaves, where a record file is at fault.
-use Rattle.std.specs.Prelude.{◌≡◌, ◌≢◌, ◌⊎◌, ℕ, ◌+◌, Bool, true, List, [], ◌∷◌, ◌++◌, All, length, Option, Some, None}
+use Rattle.std.specs.Prelude.{◌≡◌, ◌≢◌, ◌⊎◌, ℕ, ◌+◌, Bool, true, List, [], ◌∷◌, ◌++◌, length, Option, Some, None}
 use Rattle.std.specs.List.{AllByRecursion}
-use Rattle.prolly_entry.specs.Byte.{IsByte}
 use Rattle.prolly_entry.specs.Chunk.{begun_chunks}
 use Rattle.prolly_entry.specs.Cut.{sha512_cut}
 use Rattle.prolly_entry.specs.File.{header}
@@ -54,9 +53,9 @@ module _ {S : Type 0} (left : S → List ℕ) (failures : S → ℕ) where
   CountFor file limit (s ∷ ss) (t ∷ ts) (i ∷ inputs) = (IsReadingOf file limit s i ⊎ IsFailureOf file limit s t i) × CountFor (file + 1) limit ss ts inputs
   CountFor file limit _ _ _ = ⊥
 
--- Honest sources of bytes.
-abbrev pub AreHonest : {S : Type 0} → (S → Bool) → (S → List ℕ) → List S → Type 0
-AreHonest is_honest left sources = AllByRecursion (λ s. (is_honest s ≡ true) × All IsByte (left s)) sources
+-- Honest sources.
+abbrev pub AreHonest : {S : Type 0} → (S → Bool) → List S → Type 0
+AreHonest is_honest sources = AllByRecursion (λ s. is_honest s ≡ true) sources
 
 -- What is written of the pairs that come before a fault: the header, and a frame for each chunk that they close, up to, and without, the
 -- second one of the last stage's level.

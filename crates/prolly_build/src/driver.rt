@@ -108,10 +108,10 @@ fn run_workers<R: Wait + Threads + Sync, S: Source + Send + Drop, W: Sink, G: Ga
     ensures begun { IfErr result (λ fault. fault ≢ Write → IsBegun config
         (sunk W.is_keeping W.taken W.failures sink.old)
         (sunk W.is_keeping W.taken W.failures sink.new)) }
-    ensures stopped { IfErr result (λ fault. IsFileFault fault → AreHonest S.is_honest S.left sources.old.items → IsStopped S.left S.failures config sources.old.items sources.new.items
+    ensures stopped { IfErr result (λ fault. IsFileFault fault → AreHonest S.is_honest sources.old.items → IsStopped S.left S.failures config sources.old.items sources.new.items
         (sunk W.is_keeping W.taken W.failures sink.old)
         (sunk W.is_keeping W.taken W.failures sink.new) fault) }
-    ensures refused { IfErr result (λ fault. fault ≡ Memory → AreHonest S.is_honest S.left sources.old.items → IsRefused S.left config sources.old.items
+    ensures refused { IfErr result (λ fault. fault ≡ Memory → AreHonest S.is_honest sources.old.items → IsRefused S.left config sources.old.items
         (sunk W.is_keeping W.taken W.failures sink.old)
         (sunk W.is_keeping W.taken W.failures sink.new)) }
     ensures err { IfErr result (IsRefusal (sink.new ≡ sink.old) (AreKept S.is_honest S.left S.failures sources.old.items sources.new.items)) }
@@ -193,10 +193,10 @@ pub fn build_with<R: Wait + Threads + Sync, S: Source + Send + Drop, W: Sink, G:
     ensures begun { IfErr result (λ fault. fault ≢ Write → IsBegun config.now
         (sunk W.is_keeping W.taken W.failures sink.old)
         (sunk W.is_keeping W.taken W.failures sink.new)) }
-    ensures stopped { IfErr result (λ fault. IsFileFault fault → AreHonest S.is_honest S.left sources.old.items → IsStopped S.left S.failures config.now sources.old.items sources.new.items
+    ensures stopped { IfErr result (λ fault. IsFileFault fault → AreHonest S.is_honest sources.old.items → IsStopped S.left S.failures config.now sources.old.items sources.new.items
         (sunk W.is_keeping W.taken W.failures sink.old)
         (sunk W.is_keeping W.taken W.failures sink.new) fault) }
-    ensures refused { IfErr result (λ fault. fault ≡ Memory → AreHonest S.is_honest S.left sources.old.items → IsRefused S.left config.now sources.old.items
+    ensures refused { IfErr result (λ fault. fault ≡ Memory → AreHonest S.is_honest sources.old.items → IsRefused S.left config.now sources.old.items
         (sunk W.is_keeping W.taken W.failures sink.old)
         (sunk W.is_keeping W.taken W.failures sink.new)) }
     ensures err { IfErr result (λ fault. IsAnswer (sink.new ≡ sink.old) (AreKept S.is_honest S.left S.failures sources.old.items sources.new.items) fault) }
@@ -231,10 +231,10 @@ pub fn build<R: Wait + Threads + Sync, S: Source + Send + Drop, W: Sink, G: Gate
     ensures begun { IfErr result (λ fault. fault ≢ Write → IsBegun config.now
         (sunk W.is_keeping W.taken W.failures sink.old)
         (sunk W.is_keeping W.taken W.failures sink.new)) }
-    ensures stopped { IfErr result (λ fault. IsFileFault fault → AreHonest S.is_honest S.left sources.old.items → IsStopped S.left S.failures config.now sources.old.items sources.new.items
+    ensures stopped { IfErr result (λ fault. IsFileFault fault → AreHonest S.is_honest sources.old.items → IsStopped S.left S.failures config.now sources.old.items sources.new.items
         (sunk W.is_keeping W.taken W.failures sink.old)
         (sunk W.is_keeping W.taken W.failures sink.new) fault) }
-    ensures refused { IfErr result (λ fault. fault ≡ Memory → AreHonest S.is_honest S.left sources.old.items → IsRefused S.left config.now sources.old.items
+    ensures refused { IfErr result (λ fault. fault ≡ Memory → AreHonest S.is_honest sources.old.items → IsRefused S.left config.now sources.old.items
         (sunk W.is_keeping W.taken W.failures sink.old)
         (sunk W.is_keeping W.taken W.failures sink.new)) }
     ensures err { IfErr result (λ fault. IsAnswer (sink.new ≡ sink.old) (AreKept S.is_honest S.left S.failures sources.old.items sources.new.items) fault) }

@@ -14,7 +14,8 @@ returns-in_default-clause-err g c =
 
 pub returns-in_default-clause-refused : goal.returns-in_default-clause-refused
 returns-in_default-clause-refused g c =
-    λ memory honest. untouched_refused g.S.Source.is_honest g.S.Source.left g.S.Source.failures _ c.args.sources.now.items _ honest
+    let source = g.met.S.Source g.world.𝓛 g.world.𝓜 g.world.𝓡 ((λ s x. x), (λ x. x), (λ x. x), λ x. x) in
+    λ memory honest. untouched_refused g.S.Source.is_honest g.S.Source.left g.S.Source.failures source.left_are_bytes _ c.args.sources.now.items _ honest
 
 pub returns-then-len-gt-FILES_LIMIT-clause-refused : goal.returns-then-len-gt-FILES_LIMIT-clause-refused
 returns-then-len-gt-FILES_LIMIT-clause-refused g c = λ memory. absurd (too_many_is_no_memory memory)

@@ -84,14 +84,15 @@ returns-in-Ok-clause-begun g c =
 
 pub returns-in-Ok-clause-stopped : goal.returns-in-Ok-clause-stopped
 returns-in-Ok-clause-stopped g c =
+    let source = g.met.S.Source g.world.𝓛 g.world.𝓜 g.world.𝓡 ((λ s x. x), (λ x. x), (λ x. x), λ x. x) in
     let written = at_ok _ _ _ c.in-Ok.is c.scoped-ran.ensures.1.1.0 in
     let named = IfErr-weaker c.finish.result _ _
     (λ fault h file honest. stopped fault file
-    (lent_stops g.S.Source.is_honest g.S.Source.left g.S.Source.failures _ _ c.args.sources.now.items c.replace-lent.result.items c.scoped-ran.result.1.items _ c.requires.lawful (omega (arith, c.requires.files, c.args.sources.now.ok.0)) c.requires.levels (ap (λ v. v.items) c.replace-lent.ensures.value) honest _ _ fault
+    (lent_stops g.S.Source.is_honest g.S.Source.left g.S.Source.failures source.left_are_bytes _ _ c.args.sources.now.items c.replace-lent.result.items c.scoped-ran.result.1.items _ c.requires.lawful (omega (arith, c.requires.files, c.args.sources.now.ok.0)) c.requires.levels (ap (λ v. v.items) c.replace-lent.ensures.value) honest _ _ fault
     (at_ok _ _ _ c.in-Ok.is c.scoped-ran.ensures.1.1.1.0) (h file).0) (h file).1)
     (c.finish.ensures.stopped _ written.written) in
     let back = c.sink-1.given.1 (sym c.scoped-ran.ensures.1.1.1.1.1.1) in
-    subst (λ (w : g.row.W.Denot). IfErr c.finish.result (λ fault. IsFileFault fault → AreHonest g.S.Source.is_honest g.S.Source.left c.args.sources.now.items →
+    subst (λ (w : g.row.W.Denot). IfErr c.finish.result (λ fault. IsFileFault fault → AreHonest g.S.Source.is_honest c.args.sources.now.items →
     IsStopped g.S.Source.left g.S.Source.failures c.args.config c.args.sources.now.items c.scoped-ran.result.1.items
     (sunk g.W.Sink.is_keeping g.W.Sink.taken g.W.Sink.failures c.args.sink.now)
     (sunk g.W.Sink.is_keeping g.W.Sink.taken g.W.Sink.failures w) fault)) (sym back) named
@@ -101,14 +102,15 @@ returns-in-Err-clause-stopped g c = λ file. absurd (halted_unstopped c.in-Err.h
 
 pub returns-in-Ok-clause-refused : goal.returns-in-Ok-clause-refused
 returns-in-Ok-clause-refused g c =
+    let source = g.met.S.Source g.world.𝓛 g.world.𝓜 g.world.𝓡 ((λ s x. x), (λ x. x), (λ x. x), λ x. x) in
     let written = at_ok _ _ _ c.in-Ok.is c.scoped-ran.ensures.1.1.0 in
     let left_behind = IfErr-weaker c.finish.result _ _
     (λ fault h memory honest. refused g.S.Source.is_honest g.S.Source.left g.S.Source.failures _ c.args.sources.now.items c.scoped-ran.result.1.items _
-    (lent_refused g.S.Source.is_honest g.S.Source.left g.S.Source.failures _ _ c.args.sources.now.items c.replace-lent.result.items c.scoped-ran.result.1.items _ c.requires.lawful (omega (arith, c.requires.files, c.args.sources.now.ok.0)) c.requires.levels (ap (λ v. v.items) c.replace-lent.ensures.value) honest _ _
+    (lent_refused g.S.Source.is_honest g.S.Source.left g.S.Source.failures source.left_are_bytes _ _ c.args.sources.now.items c.replace-lent.result.items c.scoped-ran.result.1.items _ c.requires.lawful (omega (arith, c.requires.files, c.args.sources.now.ok.0)) c.requires.levels (ap (λ v. v.items) c.replace-lent.ensures.value) honest _ _
     (at_ok _ _ _ c.in-Ok.is c.scoped-ran.ensures.1.1.1.0) (h memory).0) (h memory).1)
     (c.finish.ensures.refused _ written.written) in
     let back = c.sink-1.given.1 (sym c.scoped-ran.ensures.1.1.1.1.1.1) in
-    subst (λ (w : g.row.W.Denot). IfErr c.finish.result (λ fault. fault ≡ Memory → AreHonest g.S.Source.is_honest g.S.Source.left c.args.sources.now.items →
+    subst (λ (w : g.row.W.Denot). IfErr c.finish.result (λ fault. fault ≡ Memory → AreHonest g.S.Source.is_honest c.args.sources.now.items →
     IsRefused g.S.Source.left c.args.config c.args.sources.now.items
     (sunk g.W.Sink.is_keeping g.W.Sink.taken g.W.Sink.failures c.args.sink.now)
     (sunk g.W.Sink.is_keeping g.W.Sink.taken g.W.Sink.failures w))) (sym back) left_behind
