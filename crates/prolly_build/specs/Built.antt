@@ -37,7 +37,7 @@ pub record IsBegun (settings : Settings) (old new : Sunk) : Type 0 where
   pub small : AreSmall chunks_begun
   pub taken : old.is_keeping ≡ true → TakesPrefix old.taken new.taken (frames_of (header settings.version settings.bits) chunks_begun)
 
--- Law: what the sink took then has no header and frames with the first letter of an end record behind them in front, so no whole file.
+-- Law: what the sink took then does not begin with a header, frames and the first letter of an end record, so it begins with no whole file.
 abbrev pub NoEndIsBegun : Settings → Sunk → Sunk → Type 0
 NoEndIsBegun settings old new = IsBegun settings old new → old.is_keeping ≡ true → (whole : List Chunk) (behind : List ℕ) → AreSmall whole →
     IsPrefix (old.taken ++ (header settings.version settings.bits ++ (flat_map frame whole ++ 0x45 ∷ behind))) new.taken → ⊥

@@ -32,7 +32,7 @@ sunk is_keeping taken failures sink = record { is_keeping = is_keeping sink; tak
 abbrev pub frames_of : List ℕ → List Chunk → List ℕ
 frames_of head chunks = head ++ flat_map frame chunks
 
--- The length of each chunk can be written in the eight bytes of its frame, which no longer one can: its frame could spell any bytes.
+-- Each chunk is short enough for its frame to spell its length; the frame of a longer one could spell any bytes, also a whole file's.
 abbrev pub AreSmall : List Chunk → Type 0
 AreSmall chunks = AllByRecursion (λ c. length c.bytes < 2 ^ 64) chunks
 

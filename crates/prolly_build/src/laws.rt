@@ -3,8 +3,8 @@ ghost use Rattle.prolly_build.specs.Settings.{Settings};
 ghost use Rattle.prolly_build.specs.Writing.{Sunk};
 ghost use Rattle.prolly_build.specs.Built.{NoEndIsBegun};
 
-/// What a build that begins no end record lets a sink take has no whole chunk file in front, and no letter of an end
-/// record behind whole frames.
+/// What the sink took of a build that begins no end record does not begin with a header, frames and the first letter of
+/// an end record, so it begins with no whole chunk file.
 pub fn no_end_is_begun()
     ensures { (settings : Settings) (old new : Sunk) → NoEndIsBegun settings old new }
 {}
