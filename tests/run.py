@@ -13,6 +13,7 @@ from pathlib import Path
 
 import build
 import command_line
+import damaged
 import demo
 import growths
 import look_ups
@@ -45,7 +46,7 @@ def main():
 
 def all_runs(program, folder):
     """All runs: for each its name and its differences."""
-    for part in (command_line, pack, scratch, build, look_ups):
+    for part in (command_line, pack, scratch, build, look_ups, damaged):
         for case in part.cases(folder):
             yield case.name, run(program, case)
     for part in (growths, readme, demo):

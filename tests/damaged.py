@@ -1,0 +1,122 @@
+"""Chunk files of which one bit is turned, or the end is missing, and a second checker to compare with, written after
+docs/format.md and nothing else."""
+
+from harness import Case
+from scratch import ABC
+from trees import END_SIZE, chunk_file, tree
+
+HEADER_SIZE, KEY_LIMIT, VALUE_LIMIT, BITS_LIMIT = 6, 1_024, 65_536, 24
+
+
+class Fault(Exception):
+    """What is wrong with a file, as the program says it."""
+
+
+def cases(_):
+    """Each bit of a file of three pairs turned, and each of its first parts, in both formats."""
+    return [case for version in (1, 2) for case in turned(version) + cut(version)]
+
+
+def turned(version):
+    """A file in which one bit is turned."""
+    good = chunk_file(ABC, 0, version)
+    found = []
+    for place in range(len(good)):
+        for bit in range(8):
+            bad = good[:place] + bytes([good[place] ^ 1 << bit]) + good[place + 1 :]
+            found.append(checked(f"format {version}, byte {place}, bit {bit} turned", bad))
+    return found
+
+
+def cut(version):
+    """A file of which only the first bytes are there."""
+    good = chunk_file(ABC, 0, version)
+    return [checked(f"format {version}, {size} bytes", good[:size]) for size in range(len(good))]
+
+
+def checked(name, content):
+    """A file that is to be refused."""
+    return Case(f"check: {name}", ["check", "in.prl"], status=4, err=b"prolly: chunk file: " + fault_of(content) + b"\n", before={"in.prl": content})
+
+
+def fault_of(content):
+    """The first fault of a file that has one."""
+    try:
+        version, bits = read_header(content)
+        chunks, end = read_frames(content[HEADER_SIZE:])
+        pairs = pairs_in_order([read_chunk(chunk, number, version) for number, chunk in enumerate(chunks)])
+        compare(chunks, end, pairs, bits, version)
+    except Fault as fault:
+        return str(fault).encode()
+    raise AssertionError("a lawful file")
+
+
+def read_header(content):
+    """The version and the bits."""
+    lawful = [b"P", b"R", b"L", b"Y", b"\1\2", bytes(range(BITS_LIMIT + 1))]
+    for byte, allowed in zip(content, lawful, strict=False):
+        if byte not in allowed:
+            raise Fault("bad header")
+    if len(content) < HEADER_SIZE:
+        raise Fault("truncated")
+    return content[4], content[5]
+
+
+def read_frames(content):
+    """The chunks, and the end record."""
+    chunks, place = [], 0
+    while content[place : place + 1] == b"C":
+        length = int.from_bytes(content[place + 1 : place + 9], "big")
+        if len(content) < place + 9 or len(content) < place + 9 + length:
+            raise Fault("truncated")
+        chunks.append(content[place + 9 : place + 9 + length])
+        place += 9 + length
+    rest = content[place:]
+    if rest and rest[:1] != b"E":
+        raise Fault(f"bad frame {len(chunks)}")
+    if len(rest) < END_SIZE:
+        raise Fault("truncated")
+    if len(rest) > END_SIZE:
+        raise Fault("bytes after the end")
+    return chunks, rest
+
+
+def read_chunk(chunk, number, version):
+    """The pairs of a leaf; none of a node."""
+    if not chunk:
+        raise Fault(f"bad chunk {number}")
+    pairs, place = [], 1
+    while place < len(chunk):
+        length = int.from_bytes(chunk[place : place + 2], "big")
+        key = chunk[place + 2 : place + 2 + length]
+        behind = place + 2 + length
+        if chunk[0] == 0:
+            size = int.from_bytes(chunk[behind : behind + 4], "big")
+            pairs.append((number, key, chunk[behind + 4 : behind + 4 + size]))
+            is_lawful = size <= VALUE_LIMIT
+            place = behind + 4 + size
+        else:
+            is_lawful = True
+            place = behind + (20 if version == 1 else 28)
+        if length > KEY_LIMIT or not is_lawful or place > len(chunk):
+            raise Fault(f"bad chunk {number}")
+    return pairs
+
+
+def pairs_in_order(leaves):
+    """The pairs of all leaves, whose keys are to rise."""
+    pairs = [pair for leaf in leaves for pair in leaf]
+    for (_, before, _), (number, key, _) in zip(pairs, pairs[1:], strict=False):
+        if key <= before:
+            raise Fault(f"keys out of order in chunk {number}")
+    return [(key, value) for _, key, value in pairs]
+
+
+def compare(chunks, end, pairs, bits, version):
+    """The chunks and the end record beside those that the pairs make."""
+    lawful = [part.chunk for part in tree(pairs, bits, version).trees()]
+    for number in range(max(len(chunks), len(lawful))):
+        if chunks[number : number + 1] != lawful[number : number + 1]:
+            raise Fault(f"chunk {number} is not canonical")
+    if end != chunk_file(pairs, bits, version)[-END_SIZE:]:
+        raise Fault("bad end record")
