@@ -8,7 +8,7 @@ use Rattle.prolly_build.proofs.writer.write_events.Goals as goal
 pub loop-preserved : goal.loop-preserved
 loop-preserved g c = record {
   link = search rules;
-  follows = search rules;
+  follows = g.met.I.In.goes_on c.args.input.now c.loop.input c.recv.new.self c.loop.invariant.follows c.recv.ensures.follows;
   written = λ head old h. written_of head c.args.last_level _ (g.I.In.received c.args.input.now c.recv.new.self) old
       (sunk g.W.Sink.is_keeping g.W.Sink.taken g.W.Sink.failures c.push-written.new.sink) c.push-written.result
       (g.met.I.In.received_both c.args.input.now c.loop.input c.recv.new.self c.loop.invariant.follows c.recv.ensures.follows
