@@ -1,18 +1,15 @@
 -- Header and frames hold no end record.
 use Rattle.std.proofs.Common.{◌≡◌, ◌<◌, ◌^◌, ℕ, List, [], ◌∷◌, ◌++◌, length, refl, sym, ap, ◌∙◌, arith, append_assoc}
-use Rattle.std.specs.Int.{w64, to_be_bytes, from_be_bytes}
+use Rattle.std.specs.Int.{w64, to_be_bytes}
 use Rattle.std.specs.List.{flat_map}
 use Rattle.std.proofs.lemmas.List.{append_cancel_left}
-use Rattle.std.proofs.lemmas.Nat.{from_be_bytes-to_be_bytes_8}
 use Rattle.prolly_entry.specs.Chunk.{Chunk}
 use Rattle.prolly_entry.specs.File.{header, frame}
+use Rattle.prolly_entry.proofs.Files.{eight_bytes}
 use Rattle.prolly_entry.proofs.Spellings.{apart, cell, cells}
 use Rattle.prolly_build.specs.Settings.{Settings}
 use Rattle.prolly_build.specs.Built.{NoEndIsBegun}
 use Rattle.prolly_build.specs.Writing.{Sunk, AreSmall}
-
-eight_bytes : (m n : ℕ) → m < 2 ^ 64 → n < 2 ^ 64 → to_be_bytes w64 m ≡ to_be_bytes w64 n → m ≡ n
-eight_bytes m n h k e = sym (from_be_bytes-to_be_bytes_8 m h) ∙ ap (from_be_bytes w64) e ∙ from_be_bytes-to_be_bytes_8 n k
 
 -- a frame and what follows it
 one_frame : (c : Chunk) (more : List ℕ) → frame c ++ more ≡ 0x43 ∷ (to_be_bytes w64 (length c.bytes) ++ (c.bytes ++ more))

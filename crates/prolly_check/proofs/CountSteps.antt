@@ -19,7 +19,7 @@ use Rattle.prolly_check.specs.Counted.{Counts, CountsPast}
 use Rattle.prolly_check.proofs.ChildSteps.{ChildIs, child_is}
 use Rattle.prolly_check.proofs.EntrySteps.{some_left}
 use Rattle.prolly_check.proofs.FindSteps.{first_is}
-use Rattle.prolly_check.proofs.OneVerdict.{eight_bytes}
+use Rattle.prolly_entry.proofs.Files.{eight_bytes}
 
 -- ---- in a leaf
 

@@ -17,6 +17,7 @@ use Rattle.prolly_check.specs.Header.{header_tests, header_fault, version_of}
 use Rattle.prolly_check.specs.Frames.{has_no_frame, ending_of, IsSmall}
 use Rattle.prolly_check.specs.Entries.{Holds, AllHold, IsRead}
 use Rattle.prolly_check.specs.Verdict.{ReadVerdict, EndVerdict, FramesVerdict, HeaderVerdict, OneVerdict}
+use Rattle.prolly_entry.proofs.Files.{eight_bytes}
 use Rattle.prolly_entry.proofs.Spellings.{apart, cells}
 use Rattle.prolly_entry.proofs.Roots.{leaf_same}
 
@@ -27,9 +28,6 @@ tail_is : {A : Type 0} (x y : A) (xs ys : List A) → x ∷ xs ≡ y ∷ ys → 
 tail_is x y xs ys e = cc
 
 -- ---- the frames
-
-pub eight_bytes : (m n : ℕ) → m < 2 ^ 64 → n < 2 ^ 64 → to_be_bytes w64 m ≡ to_be_bytes w64 n → m ≡ n
-eight_bytes m n h k e = sym (from_be_bytes-to_be_bytes_8 m h) ∙ ap (from_be_bytes w64) e ∙ from_be_bytes-to_be_bytes_8 n k
 
 not_less : (a b : ℕ) → b ≤ a → nat_lt a b ≡ false
 not_less a b h = grind (arith, nat_tests)

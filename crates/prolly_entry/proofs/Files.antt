@@ -29,7 +29,7 @@ Small c = length c.bytes < 2 ^ 64
 
 -- ---- the frames tell the chunks' bytes
 
-eight_bytes : (m n : ℕ) → m < 2 ^ 64 → n < 2 ^ 64 → to_be_bytes w64 m ≡ to_be_bytes w64 n → m ≡ n
+pub eight_bytes : (m n : ℕ) → m < 2 ^ 64 → n < 2 ^ 64 → to_be_bytes w64 m ≡ to_be_bytes w64 n → m ≡ n
 eight_bytes m n h k e = sym (from_be_bytes-to_be_bytes_8 m h) ∙ ap (from_be_bytes w64) e ∙ from_be_bytes-to_be_bytes_8 n k
 
 payload : List ℕ → List ℕ

@@ -3,8 +3,9 @@ ghost use Rattle.std.specs.Prelude.{◌≡◌};
 use between::{copy_into_batches, copy_list, copy_out_of_batches};
 use copies::{Copies, copy_all};
 use prolly_link::{
-    BatchDrained, Drained, End, In, ListIn, ListOut, Next, Out, RunFault, batch_link, link, meet,
-    meet_batches, receive_rest,
+    BatchDrained, Drained, End, In, ListIn, ListOut, Next, Out, RunFault, batch_link, compare,
+    compare_batches, compare_closed, compare_closed_batches, link, meet, meet_batches,
+    receive_rest,
 };
 use std::process::Abort;
 use std::sync::Wait;
@@ -111,6 +112,56 @@ fn a_dropped_batch_sender_is_lost(rt: HostRuntime) -> Result<(), Fail> {
         &[Next::Item(1), Next::Item(2), Next::Lost, Next::Lost],
     );
     assert!(rt; matches!(receiver.drain(&rt), BatchDrained::Lost(_)));
+    Ok(())
+}
+
+// A comparison takes nothing out of the link, before the close, behind it, and behind the end.
+#[test]
+fn ends_are_compared_at_any_time(rt: HostRuntime) -> Result<(), Fail> {
+    let Ok((mut sender, mut receiver)) = link(rt.alloc(), 4) else {
+        return no_memory(&rt);
+    };
+    compare(&mut sender, &mut receiver);
+    sends(&rt, &mut sender, &[1, 2]);
+    receives(&rt, &mut receiver, &[Next::Item(1)]);
+    compare(&mut sender, &mut receiver);
+    let fault = End::Fault(RunFault::Write);
+    let mut closed = sender.close(&rt, fault);
+    compare_closed(&mut closed, &mut receiver);
+    receives(&rt, &mut receiver, &[Next::Item(2), Next::End(fault)]);
+    compare_closed(&mut closed, &mut receiver);
+    receives(&rt, &mut receiver, &[Next::End(fault)]);
+    match receiver.drain(&rt) {
+        Drained::Ended(ended) => drop(meet(closed, ended)),
+        Drained::Lost(_) => assert!(rt; false, "the sender had closed"),
+    }
+    Ok(())
+}
+
+// Also with a batch in hand, and with one that is open.
+#[test]
+fn ends_of_batches_are_compared_at_any_time(rt: HostRuntime) -> Result<(), Fail> {
+    let Ok((mut sender, mut receiver)) = batch_link(rt.alloc(), 4, 2) else {
+        return no_memory(&rt);
+    };
+    compare_batches(&mut sender, &mut receiver);
+    sends(&rt, &mut sender, &[1, 2, 3]);
+    receives(&rt, &mut receiver, &[Next::Item(1)]);
+    compare_batches(&mut sender, &mut receiver);
+    let fault = End::Fault(RunFault::Write);
+    let mut closed = sender.close(&rt, fault);
+    compare_closed_batches(&mut closed, &mut receiver);
+    receives(
+        &rt,
+        &mut receiver,
+        &[Next::Item(2), Next::Item(3), Next::End(fault)],
+    );
+    compare_closed_batches(&mut closed, &mut receiver);
+    receives(&rt, &mut receiver, &[Next::End(fault)]);
+    match receiver.drain(&rt) {
+        BatchDrained::Ended(ended) => drop(meet_batches(closed, ended)),
+        BatchDrained::Lost(_) => assert!(rt; false, "the sender had closed"),
+    }
     Ok(())
 }
 
