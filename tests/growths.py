@@ -11,9 +11,6 @@ from harness import NO_THREAD, SCARCE, file_differences, lay_out, shown
 from scratch import ABC
 from trees import END_SIZE, begun_file, chunk_file, overlay, record, records, report, root_text
 
-TOLD = 9
-"""The descriptor on which the allocator of refuse.c tells that it refused."""
-
 FIVE_IN_THREE = [[(b"a", b"1"), (b"d", b"1")], [(b"b", b"1")], [(b"c", b"1"), (b"e", b"1")]]
 
 OUT_OF_ORDER = [(b"5", b"1"), (b"3", b"1")]
@@ -133,9 +130,8 @@ def refuse(program, allocator, command, number):
             cwd=folder,
             input=command.input,
             capture_output=True,
-            env={"LD_PRELOAD": str(allocator), "REFUSE": str(number)},
-            preexec_fn=lambda: os.dup2(writer, TOLD),
-            pass_fds=[TOLD],
+            env={"LD_PRELOAD": str(allocator), "REFUSE": str(number), "TELL": str(writer)},
+            pass_fds=[writer],
             check=False,
         )
         os.close(writer)

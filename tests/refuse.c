@@ -1,6 +1,7 @@
 /* Refuses a program one growth of memory: the one whose number, counted from 1, stands in the variable REFUSE of its
- * environment. Then it writes a byte to descriptor 9. Loaded before the program (LD_PRELOAD), it stands before the
- * allocator of the C library, which is the program's own. What is asked for before `main` is not counted. */
+ * environment. Then it writes a byte to the descriptor in the variable TELL. Loaded before the program (LD_PRELOAD), it
+ * stands before the allocator of the C library, which is the program's own. What is asked for before `main` is not
+ * counted. */
 #include <errno.h>
 #include <malloc.h>
 #include <stdatomic.h>
@@ -8,23 +9,22 @@
 #include <stdlib.h>
 #include <unistd.h>
 
-enum { TOLD = 9 };
-
 void *__libc_malloc(size_t size);
 void *__libc_calloc(size_t count, size_t size);
 void *__libc_realloc(void *block, size_t size);
 void *__libc_memalign(size_t alignment, size_t size);
 
 static atomic_long growths_left;
+static int told;
 
 __attribute__((constructor)) static void begin(void) {
-    const char *number = getenv("REFUSE");
-    atomic_store(&growths_left, number ? atol(number) : 0);
+    told = atoi(getenv("TELL"));
+    atomic_store(&growths_left, atol(getenv("REFUSE")));
 }
 
 static int is_refused(void) {
     if (atomic_fetch_sub(&growths_left, 1) != 1) return 0;
-    if (write(TOLD, "!", 1) != 1) abort();
+    if (write(told, "!", 1) != 1) abort();
     errno = ENOMEM;
     return 1;
 }
