@@ -3,8 +3,8 @@
 
 Each case is a run with its words, input, output, error, status and files. What is wanted comes from
 docs/format.md, from a second builder written after it (trees.py), or, for texts of help, from texts/. Beside the
-cases there are runs in which each growth of memory is refused in turn, the examples of the README, and the
-demonstration.
+cases there are runs in which each growth of memory is refused in turn, the examples of the README, the
+demonstration, and code that must not compile.
 """
 
 import sys
@@ -17,6 +17,7 @@ import damaged
 import demo
 import growths
 import look_ups
+import misuse
 import pack
 import readme
 import scratch
@@ -49,7 +50,7 @@ def all_runs(program, folder):
     for part in (command_line, pack, scratch, build, look_ups, damaged):
         for case in part.cases(folder):
             yield case.name, run(program, case)
-    for part in (growths, readme, demo):
+    for part in (growths, readme, demo, misuse):
         yield from part.all_runs(program, folder)
 
 
