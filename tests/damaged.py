@@ -41,6 +41,13 @@ def checked(name, content):
 
 def fault_of(content):
     """The first fault of a file that has one."""
+    fault = lawful_or_fault(content)
+    assert fault is not None, "a lawful file"
+    return fault
+
+
+def lawful_or_fault(content):
+    """The first fault of a file, or none."""
     try:
         version, bits = read_header(content)
         chunks, end = read_frames(content[HEADER_SIZE:])
@@ -48,7 +55,7 @@ def fault_of(content):
         compare(chunks, end, pairs, bits, version)
     except Fault as fault:
         return str(fault).encode()
-    raise AssertionError("a lawful file")
+    return None
 
 
 def read_header(content):

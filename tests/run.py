@@ -1,10 +1,11 @@
 #!/usr/bin/env python3
-"""Tests the program as a user runs it: `tests/run.py PROGRAM`.
+"""Tests the program as a user runs it: `tests/run.py PROGRAM`, or over more random files than the gate has
+`tests/run.py PROGRAM --random SEED COUNT`.
 
 Each case is a run with its words, input, output, error, status and files. What is wanted comes from
 docs/format.md, from a second builder written after it (trees.py), or, for texts of help, from texts/. Beside the
 cases there are runs in which each growth of memory is refused in turn, the examples of the README, the
-demonstration, and code that must not compile.
+demonstration, code that must not compile, and random command lines over random files.
 """
 
 import sys
@@ -19,6 +20,7 @@ import growths
 import look_ups
 import misuse
 import pack
+import random_runs
 import readme
 import scratch
 from harness import run
@@ -47,7 +49,11 @@ def main():
 
 def all_runs(program, folder):
     """All runs: for each its name and its differences."""
-    for part in (command_line, pack, scratch, build, look_ups, damaged):
+    if sys.argv[2:3] == ["--random"]:
+        for case in random_runs.by_hand(sys.argv[3:]):
+            yield case.name, run(program, case)
+        return
+    for part in (command_line, pack, scratch, build, look_ups, damaged, random_runs):
         for case in part.cases(folder):
             yield case.name, run(program, case)
     for part in (growths, readme, demo, misuse):

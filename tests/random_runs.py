@@ -1,0 +1,237 @@
+"""Random command lines over random files, compared with the second builder, reader and checker. A seed decides them all."""
+
+import random
+import sys
+
+from damaged import lawful_or_fault
+from harness import Case
+from readings import merged, packed, read, stop_of
+from trees import REMOVED, begun_file, chunk_file, record, reference_text, report, root_text, tall_file, tree
+
+SEED, COUNT = 20_240_601, 500
+"""What the gate runs."""
+
+FILES_LIMIT = 16
+
+DEFAULTS = {"bits": 12, "format": 1}
+
+
+def cases(_):
+    """The runs of the gate."""
+    return runs(SEED, COUNT)
+
+
+def runs(seed, count):
+    """So many runs; a difference is named with the seed that brings it back."""
+    kinds = [build, build, build, scratch, pack, look_up, look_up]
+    for number in range(count):
+        chance = random.Random(f"{seed} {number}")
+        case = chance.choice(kinds)(chance)
+        case.name = f"random {seed}, run {number}, {case.words[0]}"
+        yield case
+
+
+# ---- what is random
+
+
+def key(chance):
+    """A key: mostly of few letters, so that files share keys."""
+    kind = chance.random()
+    if kind < 0.02:
+        return bytes([chance.randrange(256)]) * chance.choice([1_023, 1_024])
+    if kind < 0.1:
+        return chance.randbytes(chance.randrange(40))
+    return bytes(chance.choice(b"ab!") for _ in range(chance.randrange(6)))
+
+
+def value(chance):
+    """A value, or a removal."""
+    kind = chance.random()
+    if kind < 0.15:
+        return REMOVED
+    if kind < 0.16:
+        return chance.randbytes(chance.choice([65_535, 65_536]))
+    return chance.randbytes(chance.randrange(30))
+
+
+def changes(chance, most=60):
+    """Changes in the order of their keys."""
+    count = chance.choice([0, 1, 2, 3, chance.randrange(most)])
+    return sorted({key(chance): value(chance) for _ in range(count)}.items())
+
+
+def record_file(chance):
+    """A record file, which may be at fault."""
+    spelled = [record(*change) for change in changes(chance)]
+    kind = chance.random()
+    if kind < 0.05 and spelled:
+        spelled.insert(chance.randrange(len(spelled) + 1), chance.choice(spelled))
+    if kind < 0.1:
+        chance.shuffle(spelled)
+    content = b"".join(spelled)
+    if 0.1 < kind < 0.15:
+        content = content[: chance.randrange(len(content) + 1)]
+    if 0.15 < kind < 0.2:
+        content += chance.randbytes(chance.randrange(9))
+    if 0.2 < kind < 0.25 and content:
+        content = turned(chance, content)
+    return content
+
+
+def turned(chance, content):
+    """Bytes of which one bit is another."""
+    place = chance.randrange(len(content))
+    return content[:place] + bytes([content[place] ^ 1 << chance.randrange(8)]) + content[place + 1 :]
+
+
+def options(chance, names):
+    """Options and their numbers; those that are left out have their defaults."""
+    numbers = {
+        "bits": lambda: chance.choice([0, 0, 1, 1, 2, 3, 12, 24]),
+        "format": lambda: chance.choice([1, 2]),
+        "stages": lambda: chance.choice([1, 2, 3, 4, 6, 12]),
+        "capacity": lambda: chance.choice([1, 2, 64, 4_096]),
+        "batch": lambda: chance.choice([1, 2, 3, 16, 1_024]),
+        "max-records": lambda: chance.choice([1, 2, 10, 16_777_216]),
+    }
+    given = {name: numbers[name]() for name in names if chance.random() < (0.8 if name == "bits" else 0.3)}
+    return given, [word for name, number in given.items() for word in (f"--{name}", str(number))]
+
+
+# ---- the commands
+
+
+def build(chance):
+    """A build of up to 16 files, now and then of one more."""
+    count = chance.choice([0, 1, 1, 2, 2, 3, 4, 7, 16]) if chance.random() < 0.97 else FILES_LIMIT + 1
+    given, words = options(chance, ["bits", "format", "stages", "capacity", "batch", "max-records"])
+    files = {f"{number}.rec": record_file(chance) for number in range(count)}
+    out, status, error, left = built(list(files.values()), given)
+    return Case(
+        "",
+        ["build", *words, "out.prl", *files],
+        status=status,
+        out=out,
+        err=error,
+        before=files,
+        after={"out.prl": left},
+    )
+
+
+def built(files, given):
+    """What a build prints, its status, the line of its fault, and what is then in OUT."""
+    given = DEFAULTS | {"stages": 12, "max-records": 16_777_216} | given
+    bits, version, stages = given["bits"], given["format"], given["stages"]
+    if len(files) > FILES_LIMIT:
+        return b"", 3, b"prolly: too many files\n", b""
+    readings = [read(content, given["max-records"]) for content in files]
+    pairs, stop = merged(readings), stop_of(readings)
+    if stop is not None:
+        return b"", 3, b"prolly: " + readings[stop].line(stop) + b"\n", begun_file(pairs, bits, version, stages)
+    if tree(pairs, bits, version).level >= stages:
+        return b"", 7, b"prolly: tree too tall\n", tall_file(pairs, bits, version, stages)
+    return report(pairs, bits, version), 0, b"", chunk_file(pairs, bits, version)
+
+
+def scratch(chance):
+    """The tree of one file, written or not."""
+    given, words = options(chance, ["bits", "format"])
+    content = record_file(chance)
+    reading = read(content)
+    bits, version = (DEFAULTS | given)["bits"], (DEFAULTS | given)["format"]
+    pairs = merged([reading])
+    is_good = reading.flaw is None
+    is_written = chance.random() < 0.8
+    whole = chunk_file(pairs, bits, version) if is_good else b""
+    return Case(
+        "",
+        ["scratch", *words, *(["--out", "out.prl"] if is_written else [])],
+        content,
+        status=0 if is_good else 3,
+        out=root_text(pairs, bits, version) if is_good else b"",
+        err=b"" if is_good else b"prolly: " + reading.line(0) + b"\n",
+        after={"out.prl": whole} if is_written else {},
+    )
+
+
+def pack(chance):
+    """Lines of text, some of them at fault."""
+    text = b"\n".join(text_line(chance) for _ in range(chance.randrange(12))) + chance.choice([b"", b"\n"])
+    found, fault = packed(text)
+    return Case(
+        "",
+        ["pack", "out.rec"],
+        text,
+        status=0 if fault is None else 3,
+        out=b"%d\n" % len(found) if fault is None else b"",
+        err=b"" if fault is None else b"prolly: " + fault + b"\n",
+        after={"out.rec": b"".join(record(*change) for change in found) if fault is None else b""},
+    )
+
+
+def text_line(chance):
+    """A line for `pack`."""
+    found, put = key(chance), value(chance)
+    line = found.hex().encode() + b" " + (b"-" if put is REMOVED else put.hex().encode())
+    kind = chance.random()
+    if kind < 0.03:
+        return chance.choice([b"", b" ", b"61", b"61  31", b"6 31", b"61 3", b"61 31\r", b"g1 31", b"61 31 ", b"- 31"])
+    if kind < 0.04:
+        return b"61" * 1_025 + b" 31"
+    if kind < 0.05:
+        return b"61 " + b"31" * 65_537
+    return line.upper() if kind < 0.1 else line
+
+
+def look_up(chance):
+    """A command over a chunk file, which may be damaged."""
+    bits, version = chance.choice([0, 1, 2, 12, 24]), chance.choice([1, 2])
+    pairs = [change for change in changes(chance) if change[1] is not REMOVED]
+    content = chunk_file(pairs, bits, version)
+    kind = chance.random()
+    if kind < 0.15:
+        content = turned(chance, content)
+    if 0.15 < kind < 0.2:
+        content = content[: chance.randrange(len(content))]
+    fault = lawful_or_fault(content)
+    words, status, out, error = asked(chance, pairs, bits, version)
+    if fault is not None:
+        status, out, error = 4, b"", b"chunk file: " + fault
+    return Case(
+        "",
+        words,
+        status=status,
+        out=out,
+        err=b"prolly: " + error + b"\n" if error else b"",
+        before={"in.prl": content},
+    )
+
+
+def asked(chance, pairs, bits, version):
+    """A question, and what a lawful file of these pairs answers: the words, the status, the output and the fault."""
+    lines = [found.hex().encode() + b" " + put.hex().encode() + b"\n" for found, put in pairs]
+    wanted = chance.choice([key(chance), *(found for found, _ in pairs[:20])])
+    kind = chance.choice(["check", "get", "scan", "nth"])
+    if kind == "check":
+        top = tree(pairs, bits, version)
+        text = f"ok {reference_text(top.reference)} {bits} {len(list(top.trees()))}\n"
+        return ["check", "in.prl"], 0, text.encode(), b""
+    if kind == "get":
+        put = dict(pairs).get(wanted)
+        return ["get", "in.prl", wanted.hex()], *((1, b"", b"") if put is None else (0, put.hex().encode() + b"\n", b""))
+    if kind == "scan":
+        limit = chance.choice([0, 1, 5, 1_000_000])
+        from_key = [line for line, (found, _) in zip(lines, pairs, strict=True) if found >= wanted]
+        return ["scan", "in.prl", wanted.hex(), str(limit)], 0, b"".join(from_key[:limit]), b""
+    number = chance.randrange(len(pairs) + 2)
+    words = ["nth", "in.prl", str(number)]
+    if version == 1:
+        return words, 4, b"", b"chunk file: no counts"
+    return words, *((0, lines[number], b"") if number < len(lines) else (1, b"", b""))
+
+
+def by_hand(words):
+    """The runs of a seed and a count, as given on the command line of the tests."""
+    if len(words) != 2 or not words[1].isdigit():
+        sys.exit("usage: tests/run.py PROGRAM [--random SEED COUNT]")
+    return runs(words[0], int(words[1]))
