@@ -194,6 +194,9 @@ def look_up(chance):
     if 0.15 < kind < 0.2:
         content = content[: chance.randrange(len(content))]
     fault = lawful_or_fault(content)
+    if fault is None:
+        # A bit that is turned in the header may leave a lawful file, of other bits.
+        version, bits = content[4:6]
     words, status, out, error = asked(chance, pairs, bits, version)
     if fault is not None:
         status, out, error = 4, b"", b"chunk file: " + fault
