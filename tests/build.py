@@ -53,7 +53,7 @@ def refused(name, contents, line, left, status=3, bits=0, **numbers):
 
 def cases(folder):
     """All cases; files too large for a case's text are made in the folder."""
-    return trees() + faults() + named_faults() + limits() + devices() + scarce() + large(folder)
+    return trees() + faults() + named_faults() + limits() + names(folder) + devices() + scarce() + large(folder)
 
 
 def trees():
@@ -215,6 +215,47 @@ def limits():
         refused("a tall tree of two files", [records(FIVE), records(ABC)], tall, tall_file(FIVE, 0, stages=3), status=7, stages=3),
         refused("17 files", [records(ONE)] * 17, b"too many files", b""),
         refused("17 files with faults", [b"\0"] * 17, b"too many files", b""),
+    ]
+
+
+def names(folder):
+    """Files by other names, and numbers in other forms."""
+    content = records(ABC)
+    on_disk = folder / "abc.rec"
+    on_disk.write_bytes(content)
+    whole, told = chunk_file(ABC, 0), report(ABC, 0)
+    strange = ["a b.rec", "ü 漢.rec", "quo'te\".rec"]
+    return [
+        Case("build: OUT is the null device", ["build", "--bits", "0", "/dev/null", "0.rec"], out=told, before={"0.rec": content}),
+        Case(
+            "build: a record file on a pipe",
+            ["build", "--bits", "0", "out.prl", "/dev/stdin"],
+            content,
+            out=told,
+            after={"out.prl": whole},
+        ),
+        Case(
+            "build: a record file on standard input",
+            ["build", "--bits", "0", "out.prl", "/dev/stdin"],
+            on_disk,
+            out=told,
+            after={"out.prl": whole},
+        ),
+        *(
+            Case(f"build: the name {name}", ["build", "--bits", "0", f"{name}.prl", name], out=told, before={name: content}, after={f"{name}.prl": whole})
+            for name in strange
+        ),
+        Case(
+            "build: names that begin with a dash",
+            ["build", "--bits", "0", "--", "-out.prl", "-0.rec", "--bits"],
+            out=told,
+            before={"-0.rec": content, "--bits": content},
+            after={"-out.prl": whole},
+        ),
+        *(
+            Case(f"build: {' '.join(words)}", ["build", *words, "out.prl", "0.rec"], out=report(ABC, 4), before={"0.rec": content}, after={"out.prl": chunk_file(ABC, 4)})
+            for words in (["--bits=4"], ["--bits", "04"], ["--bits", "+4"])
+        ),
     ]
 
 
