@@ -1,3 +1,4 @@
+mod Kept
 pub mod ScriptReads
 pub mod Written
 pub mod Rises

@@ -6,6 +6,7 @@ pub mod Source
 pub mod FromRead
 pub mod Sink
 pub mod ToWrite
+pub mod Buffered
 pub mod Script
 pub mod Frame
 pub mod Writer

@@ -5,13 +5,14 @@ ghost use Rattle.prolly_file.specs.Known.{known_bytes, are_known_bytes};
 ghost use Rattle.prolly_file.specs.Source.{HandsOut};
 
 use crate::source::{Source, SourceFault};
+use crate::tries::read_again;
 use std::io::Read;
 
 /// A reader of std as a source. It is honest where the reader tells its bytes, and what it tells are
 /// bytes: of that std promises nothing.
 ///
-/// Every error of the reader is a `SourceFault`, also one that a second try might mend, as
-/// `Interrupted`. An `Ok(0)` for a buffer that has room is the end for good: a terminal, say, would
+/// A read that was interrupted is tried again; every other error of the reader is a `SourceFault`, also
+/// one that a second try might mend. An `Ok(0)` for a buffer that has room is the end for good: a terminal, say, would
 /// give more after it.
 #[derive(Drop)]
 pub struct FromRead<R> {
@@ -67,7 +68,7 @@ impl<R: Read> Source for FromRead<R> {
         if self.has_ended {
             return Ok(0);
         }
-        match self.reader.read(buf) {
+        match read_again(&mut self.reader, buf) {
             Ok(n) => {
                 self.has_ended = n == 0 && !buf.is_empty();
                 Ok(n)

@@ -1,6 +1,7 @@
 //! The devices that bytes come from and go to, and the writer of chunk files.
 #![tactic(auto)]
 
+mod buffered;
 mod countdown;
 mod frame;
 mod from_read;
@@ -11,10 +12,12 @@ mod script_source;
 mod sink;
 mod source;
 mod to_write;
+mod tries;
 mod whole;
 mod whole_file;
 mod writer;
 
+pub use buffered::Buffered;
 pub use frame::end_record;
 pub use from_read::FromRead;
 pub use plain::{ScratchFault, scratch, scratch_as};

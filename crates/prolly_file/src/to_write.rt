@@ -3,12 +3,13 @@ ghost use Rattle.std.specs.Prelude.{◌≡◌, is_some};
 ghost use Rattle.prolly_file.specs.Known.{known_bytes};
 
 use crate::sink::{Sink, SinkFault};
+use crate::tries::write_again;
 use std::io::Write;
 
 /// A writer of std as a sink. It keeps its bytes where the writer tells them.
 ///
-/// Every error of the writer is a `SinkFault`, also one that a second try might mend, as
-/// `Interrupted`.
+/// A write that was interrupted is tried again; every other error of the writer is a `SinkFault`, also
+/// one that a second try might mend.
 #[derive(Drop)]
 pub struct ToWrite<W> {
     writer: W,
@@ -39,7 +40,7 @@ impl<W: Write> Sink for ToWrite<W> {
     ghost is_keeping = { tells_bytes W.contents };
 
     fn write(&mut self, buf: &[u8]) -> Result<usize, SinkFault> {
-        match self.writer.write(buf) {
+        match write_again(&mut self.writer, buf) {
             Ok(n) => {
                 if n == 0 && !buf.is_empty() {
                     self.failures = self.failures.wrapping_add(1);

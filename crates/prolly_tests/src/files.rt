@@ -2,6 +2,7 @@
 use prolly_file::{Sink, SinkFault, Source, SourceFault};
 use std::process::Abort;
 
+mod buffers;
 mod chunk_files;
 mod plain;
 mod readers;

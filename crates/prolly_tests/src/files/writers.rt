@@ -5,7 +5,8 @@ use std::io;
 use std::io::{ErrorKind, Write};
 use std::test::Fail;
 
-/// A writer that counts its flushes, and fails at its second write and at its second flush.
+/// A writer that counts its calls. Its second write is interrupted, and its fourth fails, as does its
+/// second flush.
 #[derive(Drop)]
 struct Counts {
     writes: u8,
@@ -15,10 +16,11 @@ struct Counts {
 impl Write for Counts {
     fn write(&mut self, buf: &[u8]) -> io::Result<usize> {
         self.writes = self.writes.wrapping_add(1);
-        if self.writes == 2 {
-            return Err(io::Error::from(ErrorKind::Interrupted));
+        match self.writes {
+            2 => Err(io::Error::from(ErrorKind::Interrupted)),
+            4 => Err(io::Error::from(ErrorKind::InvalidData)),
+            _ => Ok(buf.len()),
         }
-        Ok(buf.len())
     }
 
     fn flush(&mut self) -> io::Result<()> {
@@ -41,13 +43,18 @@ fn writes_memory(rt: HostRuntime) -> Result<(), Fail> {
 }
 
 #[test]
-fn flushes_the_writer_and_errors_are_faults(rt: HostRuntime) {
+fn flushes_the_writer_and_errors_are_faults_but_interruptions(rt: HostRuntime) {
     let mut writer = Counts {
         writes: 0,
         flushes: 0,
     };
     let mut sink = ToWrite::new(&mut writer);
-    writes(&rt, &mut sink, b"abc", &[Ok(3), Err(SinkFault), Ok(3)]);
+    writes(
+        &rt,
+        &mut sink,
+        b"abc",
+        &[Ok(3), Ok(3), Err(SinkFault), Ok(3)],
+    );
     flushes(&rt, &mut sink, &[Ok(()), Err(SinkFault), Ok(())]);
-    assert_eq!(rt; writer.flushes, 3);
+    assert_eq!(rt; (writer.writes, writer.flushes), (5, 3));
 }

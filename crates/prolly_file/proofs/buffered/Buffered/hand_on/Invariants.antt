@@ -1,0 +1,17 @@
+use Rattle.std.proofs.Common.{◌≡◌, ◌≤◌, ◌-◌, ◌++◌, true, drop, vec_len}
+use Rattle.prolly_file.proofs.buffered.Buffered.hand_on.Given as goal
+
+-- what is held no more was taken by the other sink
+abbrev pub invariant-loop-self : goal.invariant-loop-self
+invariant-loop-self g l = record {
+  keeping : g.W.Sink.is_keeping l.initial.self.sink ≡ true → g.W.Sink.is_keeping l.self.sink ≡ true;
+  bytes : g.W.Sink.is_keeping l.initial.self.sink ≡ true
+      → g.W.Sink.taken l.self.sink ++ drop l.self.sent l.self.held.items
+      ≡ g.W.Sink.taken l.initial.self.sink ++ drop l.initial.self.sent l.initial.self.held.items;
+  held : l.self.held ≡ l.initial.self.held;
+  has_failed : l.self.has_failed ≡ l.initial.self.has_failed;
+  failures : l.self.failures ≡ l.initial.self.failures;
+}
+
+abbrev pub decreases-loop-self : goal.decreases-loop-self
+decreases-loop-self g l = vec_len l.self.held - l.self.sent

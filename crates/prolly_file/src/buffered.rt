@@ -1,0 +1,161 @@
+//! A sink that gathers small writes.
+ghost use Rattle.std.specs.Prelude.{◌≡◌, ◌≤◌, true, false, [], length, vec_len, IsErr, IfOk, OnOk, OnErr};
+ghost use Rattle.prolly_file.specs.Failures.{CountsFailure, after_failure};
+ghost use Rattle.prolly_file.specs.Sink.{Takes, CountsWriteFailure};
+
+use crate::sink::{Sink, SinkFault};
+use std::alloc::{AllocError, Global};
+
+/// A sink that gathers bytes, and hands them on to another sink in large writes.
+///
+/// What it holds is handed on where there is no room for more, and at a `flush`; what a dropped one
+/// still held is lost, so it is flushed at the end. Once the other sink has failed, or has taken none
+/// of some bytes, that sink is left alone: each further call answers `SinkFault`, and what was held
+/// stays here, since no one can tell whether the part before it is there.
+#[derive(Drop)]
+pub struct Buffered<W> {
+    sink: W,
+    /// What was taken since the last time that all of it had been handed on. It never grows beyond
+    /// the memory that it began with.
+    held: Vec<u8>,
+    /// How many bytes of these were handed on.
+    sent: usize,
+    ghost within: { sent ≤ vec_len held },
+    has_failed: bool,
+    failures: u64,
+}
+
+impl<W: Sink + Drop> Buffered<W> {
+    ghost use Rattle.prolly_file.specs.Buffered.{has_failed, sink_of};
+
+    /// A buffer of at least so many bytes before the sink. This is all the memory that it takes.
+    pub fn with_capacity(alloc: Global, capacity: usize, sink: W) -> Result<Buffered<W>, AllocError>
+        ensures taken { IfOk result (λ buffer. ⟦<Buffered<W> as Sink>⟧.taken buffer ≡ W.taken sink) }
+        ensures keeping { IfOk result (λ buffer. ⟦<Buffered<W> as Sink>⟧.is_keeping buffer ≡ W.is_keeping sink) }
+        ensures failures { IfOk result (λ buffer. ⟦<Buffered<W> as Sink>⟧.failures buffer ≡ 0) }
+        ensures sink { IfOk result (λ buffer. (sink_of buffer ≡ sink) × (has_failed buffer ≡ false)) }
+    {
+        Ok(Buffered {
+            sink,
+            held: Vec::with_capacity(alloc, capacity)?,
+            sent: 0,
+            has_failed: false,
+            failures: 0,
+        })
+    }
+}
+
+impl<W: Sink> Buffered<W> {
+    ghost use Rattle.prolly_file.specs.Buffered.{bytes_taken, has_failed, sink_of, IsEmptied};
+
+    /// The sink behind the buffer.
+    pub fn sink(&self) -> &W
+        ensures { result.now ≡ sink_of self.now }
+    {
+        &self.sink
+    }
+
+    /// Hands on all that is held.
+    fn hand_on(&mut self) -> Result<(), SinkFault>
+        ensures bytes { W.is_keeping (sink_of self.old) ≡ true → bytes_taken W.taken self.new ≡ bytes_taken W.taken self.old }
+        ensures keeping { W.is_keeping (sink_of self.old) ≡ true → W.is_keeping (sink_of self.new) ≡ true }
+        ensures failures { CountsFailure self.old.failures self.new.failures result }
+        ensures empty { OnOk result (IsEmptied self.old self.new) }
+        ensures failed { OnErr result (has_failed self.new ≡ true) }
+    {
+        while self.sent < self.held.len() {
+            match self.sink.write(&self.held[self.sent..]) {
+                Ok(0) | Err(_) => return Err(self.failed()),
+                Ok(count) => self.sent += count,
+            }
+        }
+        self.sent = 0;
+        self.held.clear();
+        Ok(())
+    }
+
+    /// Has the other sink take bytes, before which nothing is held.
+    fn pass(&mut self, buf: &[u8]) -> Result<usize, SinkFault>
+        requires { self.old.held.items ≡ [] }
+        ensures bound { IfOk result (λ n. n ≤ length buf.now) }
+        ensures bytes { W.is_keeping (sink_of self.old) ≡ true → Takes (bytes_taken W.taken self.old) (bytes_taken W.taken self.new) result buf.now }
+        ensures keeping { W.is_keeping (sink_of self.old) ≡ true → W.is_keeping (sink_of self.new) ≡ true }
+        ensures failures { CountsWriteFailure self.old.failures self.new.failures result buf.now }
+        ensures failed { OnErr result (has_failed self.new ≡ true) }
+    {
+        match self.sink.write(buf) {
+            Ok(0) if !buf.is_empty() => Err(self.failed()),
+            Ok(count) => Ok(count),
+            Err(_) => Err(self.failed()),
+        }
+    }
+
+    /// Notes that a call failed.
+    fn failed(&mut self) -> SinkFault
+        ensures { self.new ≡ record self.old { has_failed = true; failures = after_failure self.old.failures } }
+    {
+        self.has_failed = true;
+        self.failures = self.failures.wrapping_add(1);
+        SinkFault
+    }
+}
+
+impl<W: Sink> Sink for Buffered<W> {
+    ghost use Rattle.prolly_file.specs.Buffered.{bytes_taken, has_failed, is_keeping_of, failure_count, sink_of};
+
+    ghost taken = { bytes_taken W.taken };
+
+    ghost failures = { failure_count };
+
+    ghost is_keeping = { is_keeping_of W.is_keeping };
+
+    fn write(&mut self, buf: &[u8]) -> Result<usize, SinkFault>
+        ensures bound { IfOk result (λ n. n ≤ length buf.now) }
+        ensures bytes { W.is_keeping (sink_of self.old) ≡ true → Takes (bytes_taken W.taken self.old) (bytes_taken W.taken self.new) result buf.now }
+        ensures keeping { W.is_keeping (sink_of self.old) ≡ true → W.is_keeping (sink_of self.new) ≡ true }
+        ensures failures { CountsWriteFailure self.old.failures self.new.failures result buf.now }
+
+        // After a fault the other sink is left alone.
+        ensures failed { OnErr result (has_failed self.new ≡ true) }
+        ensures faulty { has_failed self.old ≡ true → IsErr result × (has_failed self.new ≡ true) }
+        ensures alone { has_failed self.old ≡ true → sink_of self.new ≡ sink_of self.old }
+    {
+        if self.has_failed {
+            return Err(self.failed());
+        }
+        if buf.len() > self.held.capacity() - self.held.len() {
+            self.hand_on()?;
+        }
+        if buf.len() >= self.held.capacity() {
+            return self.pass(buf);
+        }
+        match self.held.extend_from_slice(buf) {
+            Ok(()) => Ok(buf.len()),
+            Err(_) => unreachable!(),
+        }
+    }
+
+    /// Hands on all that is held, and flushes the other sink.
+    fn flush(&mut self) -> Result<(), SinkFault>
+        ensures bytes { W.is_keeping (sink_of self.old) ≡ true → bytes_taken W.taken self.new ≡ bytes_taken W.taken self.old }
+        ensures keeping { W.is_keeping (sink_of self.old) ≡ true → W.is_keeping (sink_of self.new) ≡ true }
+        ensures failures { CountsFailure self.old.failures self.new.failures result }
+
+        // The other sink has all that was taken.
+        ensures through { W.is_keeping (sink_of self.old) ≡ true → OnOk result (W.taken (sink_of self.new) ≡ bytes_taken W.taken self.new) }
+
+        // After a fault the other sink is left alone.
+        ensures failed { OnErr result (has_failed self.new ≡ true) }
+        ensures faulty { has_failed self.old ≡ true → IsErr result × (has_failed self.new ≡ true) }
+        ensures alone { has_failed self.old ≡ true → sink_of self.new ≡ sink_of self.old }
+    {
+        if self.has_failed {
+            return Err(self.failed());
+        }
+        self.hand_on()?;
+        match self.sink.flush() {
+            Ok(()) => Ok(()),
+            Err(_) => Err(self.failed()),
+        }
+    }
+}
