@@ -20,6 +20,7 @@ mod place;
 mod report;
 mod rings;
 mod site;
+mod stack;
 mod stages;
 mod tower;
 mod writer;

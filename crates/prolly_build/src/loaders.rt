@@ -3,6 +3,7 @@ ghost use Rattle.std.specs.Prelude.{◌≡◌, [], IfSome};
 ghost use Rattle.prolly_build.specs.Workers.{IsLoadedFrom};
 
 use crate::permit::{Permit, permitted};
+use crate::stack::worker_stack;
 use prolly_entry::Record;
 use prolly_file::Source;
 use prolly_link::{BatchSender, ClosedBatch};
@@ -70,8 +71,9 @@ pub(crate) fn start_loader<'s, E, R: Wait + Sync, G: Gate, P: Permit, S: Source 
         source: Snapshot::of(&source),
         out: Snapshot::of(&out),
     };
-    scope
-        .spawn_with(
+    worker_stack()
+        .spawn_scoped_with(
+            scope,
             promise,
             move || -> Loaded<S, ClosedBatch<Record>>
                 requires { out.items ≡ [] }

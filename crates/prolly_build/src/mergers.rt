@@ -4,6 +4,7 @@ ghost use Rattle.prolly_build.specs.Ran.{IsUnread};
 ghost use Rattle.prolly_build.specs.Merging.{IsMergedTwo, IsMerged};
 
 use crate::permit::{Permit, permitted};
+use crate::stack::worker_stack;
 use prolly_entry::{Pair, Record};
 use prolly_link::{BatchReceiver, BatchSender, ClosedBatch};
 use prolly_merge::{Merged, MergedTwo, merge, merge_two};
@@ -80,8 +81,9 @@ pub(crate) fn start_two<'s, E, R: Wait + Sync, G: Gate, P: Permit>(
         right: Snapshot::of(&right),
         out: Snapshot::of(&out),
     };
-    scope
-        .spawn_with(
+    worker_stack()
+        .spawn_scoped_with(
+            scope,
             promise,
             move || -> TwoEnds
                 requires { IsUnread left × IsUnread right × (out.items ≡ []) }
@@ -150,8 +152,9 @@ pub(crate) fn start_last<'s, E, R: Wait + Sync, G: Gate, P: Permit>(
         inputs: Snapshot::of(&inputs),
         out: Snapshot::of(&out),
     };
-    scope
-        .spawn_with(
+    worker_stack()
+        .spawn_scoped_with(
+            scope,
             promise,
             move || -> LastEnds
                 requires { All IsUnread inputs.items × (out.items ≡ []) }

@@ -6,6 +6,7 @@ ghost use Rattle.prolly_entry.specs.Cut.{sha512_cut};
 ghost use Rattle.prolly_build.specs.Workers.{IsStaged};
 
 use crate::permit::{Permit, permitted};
+use crate::stack::worker_stack;
 use prolly_chunk::ChunkEvent;
 use prolly_entry::{Pair, Sha512Cut, Version};
 use prolly_link::{BatchReceiver, BatchSender, ClosedBatch};
@@ -79,8 +80,9 @@ pub(crate) fn start_leaves<'s, E, R: Wait + Sync, G: Gate, P: Permit>(
         input: Snapshot::of(&input),
         out: Snapshot::of(&out),
     };
-    scope
-        .spawn_with(
+    worker_stack()
+        .spawn_scoped_with(
+            scope,
             promise,
             move || -> StageEnds<Pair>
                 requires { (input.items ≡ []) × (out.items ≡ []) }
@@ -157,8 +159,9 @@ pub(crate) fn start_nodes<'s, E, R: Wait + Sync, G: Gate, P: Permit>(
         input: Snapshot::of(&input),
         out: Snapshot::of(&out),
     };
-    scope
-        .spawn_with(
+    worker_stack()
+        .spawn_scoped_with(
+            scope,
             promise,
             move || -> StageEnds<ChunkEvent>
                 requires { (1 ≤ level) × (input.items ≡ []) × (out.items ≡ []) }
