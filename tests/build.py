@@ -213,8 +213,16 @@ def limits():
         refused("three levels and two stages", [records(ABC)], tall, tall_file(ABC, 0, stages=2), status=7, stages=2),
         refused("two levels and one stage", [records(ABC[:2])], tall, tall_file(ABC[:2], 0, stages=1), status=7, stages=1),
         refused("a tall tree of two files", [records(FIVE), records(ABC)], tall, tall_file(FIVE, 0, stages=3), status=7, stages=3),
-        refused("17 files", [records(ONE)] * 17, b"too many files", b""),
-        refused("17 files with faults", [b"\0"] * 17, b"too many files", b""),
+        *(
+            Case(
+                f"build: 17 files {kind}",
+                ["build", "out.prl", *named([content] * 17)],
+                status=3,
+                err=b"prolly: too many files\n",
+                before={**named([content] * 17), "out.prl": b"before"},
+            )
+            for kind, content in (("of a pair", records(ONE)), ("with faults", b"\0"))
+        ),
     ]
 
 
@@ -346,7 +354,7 @@ def devices():
             err=b"prolly: a thread could not be started\n",
             before=three,
             after={"out.prl": b""},
-            memory=20_000_000,
+            memory=6_000_000,
         ),
         Case(
             "build: too little memory for the links",
@@ -375,7 +383,7 @@ def scarce():
             memory=megabytes * 1_000_000,
             unfinished={"out.prl": whole[:-END_SIZE]},
         )
-        for megabytes in range(100, 400, 20)
+        for megabytes in range(10, 310, 20)
     ]
 
 

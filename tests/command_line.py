@@ -74,7 +74,7 @@ def usage_cases():
         wrong(["scratch", "--bits"], "a value is required for '--bits <Q>' but none was supplied"),
         wrong(["scratch", "--bits", "1", "--bits", "2"], "the argument '--bits <Q>' cannot be used multiple times", "scratch [OPTIONS]"),
         missing(["pack"], ["OUT"], "pack <OUT>"),
-        wrong(["pack", "a", "b"], "unexpected argument 'b' found", "pack <OUT>"),
+        wrong(["pack", "a", "b"], "unexpected argument 'b' found", "pack [OPTIONS] <OUT>"),
         missing(["build"], ["OUT"], "build <OUT> [FILES]..."),
         missing(["check"], ["FILE"], "check <FILE>"),
         missing(["get"], ["FILE", "HEXKEY"], "get <FILE> <HEXKEY>"),

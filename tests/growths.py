@@ -57,6 +57,7 @@ def commands():
         built("build of three pairs", [ABC]),
         built("build of three pairs in format 2", [ABC], version=2),
         built("build of three files", FIVE_IN_THREE),
+        kept("atomic build of three files", FIVE_IN_THREE),
         stopped(),
         Command("check", ["check", "abc.prl"], out=b"ok " + root_text(ABC, 0).strip() + b" 0 6\n", before=reads),
         Command("get", ["get", "abc.prl", "62"], out=b"31\n", before=reads),
@@ -81,6 +82,14 @@ def built(name, files, version=1):
         parts=first_parts(pairs, version),
         is_made_first=True,
     )
+
+
+def kept(name, files):
+    """The same with `--atomic` and `--sync`: what is not whole is not there."""
+    command = built(name, files)
+    command.words[1:1] = ["--atomic", "--sync"]
+    command.parts, command.is_made_first = [], False
+    return command
 
 
 def stopped():

@@ -107,23 +107,33 @@ def build(chance):
     given, words = options(chance, ["bits", "format", "stages", "capacity", "batch", "max-records"])
     files = {f"{number}.rec": record_file(chance) for number in range(count)}
     out, status, error, left = built(list(files.values()), given)
+    before, after, flags = written(chance, "out.prl", left, status)
     return Case(
         "",
-        ["build", *words, "out.prl", *files],
+        ["build", *words, *flags, "out.prl", *files],
         status=status,
         out=out,
         err=error,
-        before=files,
-        after={"out.prl": left},
+        before=files | before,
+        after=after,
     )
 
 
+def written(chance, name, left, status):
+    """What a file holds before a run that writes it, if it is there, and after it, and flags: with one of them the file is
+    after a fault as it was."""
+    flags = [flag for flag in ("--atomic", "--sync") if chance.random() < 0.2]
+    before = {name: chance.randbytes(20)} if chance.random() < 0.3 else {}
+    is_changed = left is not None and not ("--atomic" in flags and status)
+    return before, {name: left} if is_changed else {}, flags
+
+
 def built(files, given):
-    """What a build prints, its status, the line of its fault, and what is then in OUT."""
+    """What a build prints, its status, the line of its fault, and what is then in OUT, unless it is as it was."""
     given = DEFAULTS | {"stages": 12, "max-records": 16_777_216} | given
     bits, version, stages = given["bits"], given["format"], given["stages"]
     if len(files) > FILES_LIMIT:
-        return b"", 3, b"prolly: too many files\n", b""
+        return b"", 3, b"prolly: too many files\n", None
     readings = [read(content, given["max-records"]) for content in files]
     pairs, stop = merged(readings), stop_of(readings)
     if stop is not None:
@@ -143,14 +153,17 @@ def scratch(chance):
     is_good = reading.flaw is None
     is_written = chance.random() < 0.8
     whole = chunk_file(pairs, bits, version) if is_good else b""
+    status = 0 if is_good else 3
+    before, after, flags = written(chance, "out.prl", whole if is_written else None, status)
     return Case(
         "",
-        ["scratch", *words, *(["--out", "out.prl"] if is_written else [])],
+        ["scratch", *words, *flags, *(["--out", "out.prl"] if is_written else [])],
         content,
-        status=0 if is_good else 3,
+        status=status,
         out=root_text(pairs, bits, version) if is_good else b"",
         err=b"" if is_good else b"prolly: " + reading.line(0) + b"\n",
-        after={"out.prl": whole} if is_written else {},
+        before=before,
+        after=after,
     )
 
 
@@ -158,14 +171,18 @@ def pack(chance):
     """Lines of text, some of them at fault."""
     text = b"\n".join(text_line(chance) for _ in range(chance.randrange(12))) + chance.choice([b"", b"\n"])
     found, fault = packed(text)
+    status = 0 if fault is None else 3
+    whole = b"".join(record(*change) for change in found) if fault is None else b""
+    before, after, flags = written(chance, "out.rec", whole, status)
     return Case(
         "",
-        ["pack", "out.rec"],
+        ["pack", *flags, "out.rec"],
         text,
-        status=0 if fault is None else 3,
+        status=status,
         out=b"%d\n" % len(found) if fault is None else b"",
         err=b"" if fault is None else b"prolly: " + fault + b"\n",
-        after={"out.rec": b"".join(record(*change) for change in found) if fault is None else b""},
+        before=before,
+        after=after,
     )
 
 

@@ -4,8 +4,8 @@
 
 Each case is a run with its words, input, output, error, status and files. What is wanted comes from
 docs/format.md, from a second builder written after it (trees.py), or, for texts of help, from texts/. Beside the
-cases there are runs in which each growth of memory is refused in turn, the examples of the README, the
-demonstration, code that must not compile, and random command lines over random files.
+cases there are runs in which files may be lost, runs in which each growth of memory is refused in turn, the examples
+of the README, the demonstration, code that must not compile, and random command lines over random files.
 """
 
 import sys
@@ -16,6 +16,7 @@ import build
 import command_line
 import damaged
 import demo
+import files
 import growths
 import look_ups
 import misuse
@@ -56,7 +57,7 @@ def all_runs(program, folder):
     for part in (command_line, pack, scratch, build, look_ups, damaged, random_runs):
         for case in part.cases(folder):
             yield case.name, run(program, case)
-    for part in (growths, readme, demo, misuse):
+    for part in (files, growths, readme, demo, misuse):
         yield from part.all_runs(program, folder)
 
 

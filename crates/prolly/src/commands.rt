@@ -1,20 +1,22 @@
-//! The commands, each over the files that it names. Input files are opened in the order of the words,
-//! and then the output is made, before anything is read.
+//! The commands, each over the files that it names. What the words alone decide is told first; then input
+//! files are opened in the order of the words, and then the output is made, before anything is read.
 ghost use Rattle.std.specs.Prelude.{◌≤◌};
 ghost use Rattle.prolly_line.specs.Given.{IsWithinLimits};
 
-use prolly_build::build;
+use crate::file_id::{FileId, STDIN, STDOUT};
+use crate::output::{MakeFault, Output};
+use prolly_build::{FILES_LIMIT, build};
 use prolly_entry::Version;
-use prolly_file::{FromRead, Sink, ToWrite};
+use prolly_file::{Buffered, FromRead, Sink, ToWrite};
 use prolly_link::RunFault;
 use prolly_stage::OpenGate;
 use prolly_tool::{
-    Answer, Command, Config, answer_build, answer_check, answer_get, answer_nth, answer_pack,
-    answer_scan, answer_scratch,
+    Answer, Command, Config, Fault, NameFault, WriteMode, answer_build, answer_check, answer_get,
+    answer_nth, answer_pack, answer_scan, answer_scratch,
 };
 use std::alloc::AllocError;
 use std::fs;
-use std::io::BufWriter;
+use std::fs::File;
 use std::sync::Wait;
 use std::thread::Threads;
 
@@ -27,8 +29,19 @@ pub fn answer_of<T: Wait + Threads + Sync>(
     requires { IsWithinLimits command }
 {
     match command {
-        Command::Pack { out } => pack(rt, &out),
-        Command::Scratch { bits, version, out } => scratch(rt, bits, version, out.as_deref()),
+        Command::Pack { out, mode } => pack(rt, &out, mode),
+        Command::Scratch {
+            bits,
+            version,
+            out,
+            mode,
+        } => {
+            let version = Version::of(version).unwrap();
+            match out {
+                None => scratch(rt, bits, version),
+                Some(out) => scratch_to(rt, bits, version, &out, mode),
+            }
+        }
         Command::Build {
             bits,
             stages,
@@ -38,56 +51,51 @@ pub fn answer_of<T: Wait + Threads + Sync>(
             version,
             out,
             files,
+            mode,
         } => {
             let config = Config::new(bits, stages, capacity, max_records).unwrap();
             let config = config.with_batch(batch).unwrap();
             let config = config.with_version(version).unwrap();
-            build_from(rt, threads, &config, &out, &files)
+            build_from(rt, threads, &config, &out, &files, mode)
         }
         Command::Check { file } => match fs::open(rt, &file) {
             Ok(opened) => answer_check(rt.alloc(), &mut FromRead::new(opened)),
-            Err(_) => Answer::of_unopened(rt.alloc(), &file),
+            Err(_) => Answer::of_name(rt.alloc(), NameFault::CannotOpen, &file),
         },
         Command::Get { file, key } => match fs::open(rt, &file) {
             Ok(opened) => answer_get(rt.alloc(), &mut FromRead::new(opened), &key),
-            Err(_) => Answer::of_unopened(rt.alloc(), &file),
+            Err(_) => Answer::of_name(rt.alloc(), NameFault::CannotOpen, &file),
         },
         Command::Scan { file, from, limit } => match fs::open(rt, &file) {
             Ok(opened) => answer_scan(rt.alloc(), &mut FromRead::new(opened), &from, limit),
-            Err(_) => Answer::of_unopened(rt.alloc(), &file),
+            Err(_) => Answer::of_name(rt.alloc(), NameFault::CannotOpen, &file),
         },
         Command::Nth { file, n } => match fs::open(rt, &file) {
             Ok(opened) => answer_nth(rt.alloc(), &mut FromRead::new(opened), n),
-            Err(_) => Answer::of_unopened(rt.alloc(), &file),
+            Err(_) => Answer::of_name(rt.alloc(), NameFault::CannotOpen, &file),
         },
     }
 }
 
-/// `pack OUT`
-fn pack(rt: &HostRuntime, out: &str) -> Result<Answer, AllocError> {
-    let Ok(file) = fs::create(rt, out) else {
-        return Answer::of_unopened(rt.alloc(), out);
+/// `pack [--atomic] [--sync] OUT`
+fn pack(rt: &HostRuntime, out: &str, mode: WriteMode) -> Result<Answer, AllocError> {
+    let output = match output_beside_streams(rt, out, mode)? {
+        Ok(output) => output,
+        Err(refusal) => return Ok(refusal),
     };
-    answer_pack(
+    let answer = answer_pack(
         rt.alloc(),
         &mut FromRead::new(rt.stdin()),
-        &mut ToWrite::new(file),
-    )
+        &mut ToWrite::new(output.file()),
+    );
+    output.finish(rt, out, answer)
 }
 
-/// `scratch [--bits Q] [--format V] [--out FILE]`
-fn scratch(rt: &HostRuntime, bits: u8, version: u8, out: Option<&str>) -> Result<Answer, AllocError>
+/// `scratch [--bits Q] [--format V]`
+fn scratch(rt: &HostRuntime, bits: u8, version: Version) -> Result<Answer, AllocError>
     requires bits { bits ≤ 24 }
-    requires version { (1 ≤ version) × (version ≤ 2) }
 {
-    let version = Version::of(version).unwrap();
-    let mut sink = match out {
-        None => None,
-        Some(name) => match fs::create(rt, name) {
-            Ok(file) => Some(ToWrite::new(file)),
-            Err(_) => return Answer::of_unopened(rt.alloc(), name),
-        },
-    };
+    let mut sink: Option<ToWrite<&File>> = None;
     answer_scratch(
         rt.alloc(),
         &mut FromRead::new(rt.stdin()),
@@ -97,40 +105,107 @@ fn scratch(rt: &HostRuntime, bits: u8, version: u8, out: Option<&str>) -> Result
     )
 }
 
-/// How many bytes are written to a chunk file at once.
-const OUTPUT_BYTES: usize = 65_536;
+/// `scratch [--bits Q] [--format V] --out FILE [--atomic] [--sync]`
+fn scratch_to(
+    rt: &HostRuntime,
+    bits: u8,
+    version: Version,
+    out: &str,
+    mode: WriteMode,
+) -> Result<Answer, AllocError>
+    requires bits { bits ≤ 24 }
+{
+    let output = match output_beside_streams(rt, out, mode)? {
+        Ok(output) => output,
+        Err(refusal) => return Ok(refusal),
+    };
+    let answer = answer_scratch(
+        rt.alloc(),
+        &mut FromRead::new(rt.stdin()),
+        bits,
+        version,
+        &mut Some(ToWrite::new(output.file())),
+    );
+    output.finish(rt, out, answer)
+}
 
-/// `build [--bits Q] [--stages S] [--capacity C] [--max-records M] [--batch B] [--format V] OUT [FILES...]`
+/// The output of a command that reads standard input, or the answer where there can be none.
+fn output_beside_streams(
+    rt: &HostRuntime,
+    out: &str,
+    mode: WriteMode,
+) -> Result<Result<Output, Answer>, AllocError> {
+    let target = FileId::at(rt, out);
+    if target.is_some() && target == FileId::at(rt, STDIN) {
+        let refusal = Answer::of_name(rt.alloc(), NameFault::IsInput, "standard input")?;
+        return Ok(Err(refusal));
+    }
+    output_of(rt, out, target, mode)
+}
+
+/// The output of a command whose inputs are other files than OUT, or the answer where there can be none.
+fn output_of(
+    rt: &HostRuntime,
+    out: &str,
+    target: Option<FileId>,
+    mode: WriteMode,
+) -> Result<Result<Output, Answer>, AllocError> {
+    if target.is_some() && target == FileId::at(rt, STDOUT) {
+        return Ok(Err(Answer::of_fault(rt.alloc(), Fault::OutIsStdout)?));
+    }
+    match Output::make(rt, out, mode) {
+        Ok(output) => Ok(Ok(output)),
+        Err(MakeFault::Memory) => Err(AllocError),
+        Err(MakeFault::Name(fault)) => Ok(Err(Answer::of_name(rt.alloc(), fault, out)?)),
+    }
+}
+
+/// `build [--bits Q] [--stages S] [--capacity C] [--max-records M] [--batch B] [--format V] [--atomic]
+/// [--sync] OUT [FILES...]`
 fn build_from<T: Wait + Threads + Sync>(
     rt: &HostRuntime,
     threads: &T,
     config: &Config,
     out: &str,
     files: &[String],
+    mode: WriteMode,
 ) -> Result<Answer, AllocError> {
+    if files.len() > FILES_LIMIT {
+        return Answer::of_fault(rt.alloc(), Fault::Run(RunFault::TooManyFiles));
+    }
+    let target = FileId::at(rt, out);
     let mut sources = Vec::with_capacity(rt.alloc(), files.len())?;
     for name in files {
-        match fs::open(rt, name.as_str()) {
-            Ok(file) => sources.push(FromRead::new(file))?,
-            Err(_) => return Answer::of_unopened(rt.alloc(), name),
+        let Ok(file) = fs::open(rt, name.as_str()) else {
+            return Answer::of_name(rt.alloc(), NameFault::CannotOpen, name);
+        };
+        if target.is_some() && target == FileId::of(file.metadata()) {
+            return Answer::of_name(rt.alloc(), NameFault::IsInput, name);
         }
+        sources.push(FromRead::new(file))?;
     }
-    let Ok(file) = fs::create(rt, out) else {
-        return Answer::of_unopened(rt.alloc(), out);
+    let output = match output_of(rt, out, target, mode)? {
+        Ok(output) => output,
+        Err(refusal) => return Ok(refusal),
     };
-    let Ok(writer) = BufWriter::with_capacity(rt.alloc(), OUTPUT_BYTES, file) else {
-        return Err(AllocError);
-    };
-    let mut sink = ToWrite::new(writer);
-    let built = build(
-        threads,
-        rt.alloc(),
-        config,
-        &mut sources,
-        &mut sink,
-        &OpenGate,
-    );
-    // What was written is in the file also after a fault. That a tree was made is told only once all of it
+    let answer = build_into(rt, threads, config, &mut sources, output.file());
+    output.finish(rt, out, answer)
+}
+
+/// How many bytes are written to a chunk file at once.
+const OUTPUT_BYTES: usize = 65_536;
+
+/// Builds the tree of the sources into the file.
+fn build_into<T: Wait + Threads + Sync>(
+    rt: &HostRuntime,
+    threads: &T,
+    config: &Config,
+    sources: &mut Vec<FromRead<File>>,
+    file: &File,
+) -> Result<Answer, AllocError> {
+    let mut sink = Buffered::with_capacity(rt.alloc(), OUTPUT_BYTES, ToWrite::new(file))?;
+    let built = build(threads, rt.alloc(), config, sources, &mut sink, &OpenGate);
+    // What was taken is in the file also after a fault. That a tree was made is told only once all of it
     // is there.
     let built = match (built, sink.flush()) {
         (Ok(_), Err(_)) => Err(RunFault::Write),

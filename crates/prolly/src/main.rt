@@ -3,6 +3,8 @@
 #![tactic(auto)]
 
 mod commands;
+mod file_id;
+mod output;
 mod words;
 
 use crate::commands::answer_of;

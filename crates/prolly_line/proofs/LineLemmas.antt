@@ -86,9 +86,9 @@ pub limits_kept : (given : Text × List Row) (answer : Result Command ParseFault
 limits_kept given (Ok command) fields = go command fields
   where
     go : (command : Command) → HasFields command given → IsWithinLimits command
-    go (Pack out) h = tt
-    go (Scratch bits version out) h = (h.1.2, h.2.1, h.2.2)
-    go (Build bits stages capacity max_records batch version out files) h =
+    go (Pack out mode) h = tt
+    go (Scratch bits version out mode) h = (h.1.2, h.2.1, h.2.2)
+    go (Build bits stages capacity max_records batch version out files mode) h =
         (h.1.2, h.2.1, h.2.2, h.3.1, h.3.2, h.4.1, h.4.2, h.5.1, h.5.2, h.6.1, h.6.2)
     go (Check file) h = tt
     go (Get file key) h = h.2.2.1

@@ -58,17 +58,18 @@ all_accepted i p (v ∷ vs) h =
     let two = none_in (value_kinds i p v) (values_kinds i p vs) h in
     both (accepts i p v) (list_all (accepts i p) vs) (accepted i p v two.0) (all_accepted i p vs two.1)
 
--- an argument that takes values or asks for help
+-- an argument that has values, its own or those that stand for a use, or asks for help
 abbrev pub takes_value : ArgAction → Bool
 takes_value Set = true
 takes_value Append = true
+takes_value SetTrue = true
 takes_value x = is_request x
 
 -- each use of the argument has a value
 abbrev pub wants_value : Rule → Bool
 wants_value a = nat_lt 0 (unwrap_or_range a.range).start_inclusive
 
--- the argument is the one of its id, and takes values or asks for help
+-- the argument is the one of its id, and has values or asks for help
 abbrev pub IsSound : List Rule → Rule → Type 0
 IsSound c a = (arg_by_id c a.id ≡ Some a) × (takes_value (action_of a) ≡ true)
 
@@ -144,7 +145,9 @@ used_passed c again a values rows sound fault all =
         more_passed c a CommandLine (values_or_missing a values) (without a.id rows) sound.0 (set_passed (values_or_missing a values) f) s
         (none_left (HasPassed c) a.id rows all)
     go Append t s f = more_passed c a CommandLine (values_or_missing a values) rows sound.0 (all_accepted _ _ (values_or_missing a values) f) s all
-    go SetTrue t s f = cc
+    go SetTrue t s f =
+        more_passed c a CommandLine (values_or_missing a values) (without a.id rows) sound.0 (set_passed (values_or_missing a values) f) s
+        (none_left (HasPassed c) a.id rows all)
     go SetFalse t s f = cc
     go Count t s f = cc
     go Help t s f = all

@@ -31,7 +31,7 @@ pack_found = refl
 
 pack_sound : IsSoundShape pack_shape
 unfolding clap_on_literals pack_shape
-pack_sound = ((refl, refl), ((refl, refl), tt))
+pack_sound = ((refl, refl), ((refl, refl), ((refl, refl), ((refl, refl), tt))))
 
 pub record TakesPack (rows : List Row) : Type 0 where
   pub out : HasWord (codes "out") rows
@@ -55,7 +55,7 @@ scratch_found = refl
 
 scratch_sound : IsSoundShape scratch_shape
 unfolding clap_on_literals scratch_shape
-scratch_sound = ((refl, refl), ((refl, refl), ((refl, refl), ((refl, refl), tt))))
+scratch_sound = ((refl, refl), ((refl, refl), ((refl, refl), ((refl, refl), ((refl, refl), ((refl, refl), tt))))))
 
 pub record TakesScratch (rows : List Row) : Type 0 where
   pub bits : HasNumber (codes "bits") 0 24 rows
@@ -81,7 +81,37 @@ build_found = refl
 
 build_sound : IsSoundShape build_shape
 unfolding clap_on_literals build_shape
-build_sound = ((refl, refl), ((refl, refl), ((refl, refl), ((refl, refl), ((refl, refl), ((refl, refl), ((refl, refl), ((refl, refl), ((refl, refl), tt)))))))))
+build_sound = (
+  (refl, refl),
+  (
+    (refl, refl),
+    (
+      (refl, refl),
+      (
+        (refl, refl),
+        (
+          (refl, refl),
+          (
+            (refl, refl),
+            (
+              (refl, refl),
+              (
+                (refl, refl),
+                (
+                  (refl, refl),
+                  (
+                    (refl, refl),
+                    ((refl, refl), tt),
+                  ),
+                ),
+              ),
+            ),
+          ),
+        ),
+      ),
+    ),
+  ),
+)
 
 pub record TakesBuild (rows : List Row) : Type 0 where
   pub bits : HasNumber (codes "bits") 0 24 rows

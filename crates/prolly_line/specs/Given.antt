@@ -1,5 +1,5 @@
 -- Which command the words give, and how they are refused.
-use Rattle.std.specs.Prelude.{◌≡◌, ◌≢◌, ◌≤◌, ⊤, ℕ, ◌⊎◌, Ok, Option, Some, List, [], length, map, option_map, string_bytes, codes, unwrap_or}
+use Rattle.std.specs.Prelude.{◌≡◌, ◌≢◌, ◌≤◌, ◌↔◌, IsTrue, ⊤, ℕ, ◌⊎◌, Ok, Option, Some, List, [], length, map, option_map, string_bytes, codes, unwrap_or}
 use Rattle.hex.specs.Hex.{decode_of}
 use Rattle.std.specs.Str.Parse.{digits_value, without_leading_plus}
 use Rattle.clap.specs.Words.{IsAmong, Row, Text, all_of, first_of, one_of}
@@ -7,6 +7,7 @@ use Rattle.clap.specs.declared.error.kind.ErrorKind.{ErrorKind}
 use Rattle.clap.specs.declared.error.kind.ErrorKind.TheVariants.{DisplayHelp, OutOfMemory}
 use Rattle.prolly_line.specs.Line.{line_faults, line_given}
 use Rattle.prolly_line.specs.declared.command.Command.{Command}
+use Rattle.prolly_line.specs.declared.command.WriteMode.{WriteMode}
 use Rattle.prolly_line.specs.declared.command.Command.TheVariants.{Pack, Scratch, Build, Check, Get, Scan, Nth}
 use Rattle.prolly_line.specs.declared.command.ParseFault.{ParseFault}
 use Rattle.prolly_line.specs.declared.command.ParseFault.TheVariants.{Memory, Usage, Help, BadKey}
@@ -37,6 +38,15 @@ GivesOption rows name word = first_of name rows ≡ word
 abbrev pub GivesWords : List Row → Text → List Text → Type 0
 GivesWords rows name words = unwrap_or (all_of name rows) [] ≡ words
 
+-- the words have the flag of this name: the row of a flag has `true` then, and else `false`
+abbrev pub HasFlag : List Row → Text → Type 0
+HasFlag rows name = first_of name rows ≡ Some (codes "true")
+
+-- an output is written in this mode: each half of it is on where the words have its flag
+abbrev pub GivesMode : List Row → WriteMode → Type 0
+GivesMode rows mode =
+    (IsTrue mode.atomic ↔ HasFlag rows (codes "atomic")) × (IsTrue mode.sync ↔ HasFlag rows (codes "sync"))
+
 -- the text is that of a key: hexadecimal, of at most 1,024 bytes
 abbrev pub IsKeyText : Text → List ℕ → Type 0
 IsKeyText text key = (decode_of text ≡ Ok key) × (length key ≤ 1024)
@@ -54,14 +64,17 @@ GivesBadKey rows =
 
 -- the command has the fields that a subcommand, by its name, and its rows give
 abbrev pub HasFields : Command → Text × List Row → Type 0
-HasFields (Pack out) given =
-    (given.0 ≡ codes "pack") × GivesWord given.1 (codes "out") (string_bytes out)
-HasFields (Scratch bits version out) given =
+HasFields (Pack out mode) given =
+    (given.0 ≡ codes "pack")
+    × GivesWord given.1 (codes "out") (string_bytes out)
+    × GivesMode given.1 mode
+HasFields (Scratch bits version out mode) given =
     (given.0 ≡ codes "scratch")
     × GivesNumber given.1 (codes "bits") 0 24 bits
     × GivesNumber given.1 (codes "format") 1 2 version
     × GivesOption given.1 (codes "out") (option_map string_bytes out)
-HasFields (Build bits stages capacity max_records batch version out files) given =
+    × GivesMode given.1 mode
+HasFields (Build bits stages capacity max_records batch version out files mode) given =
     (given.0 ≡ codes "build")
     × GivesNumber given.1 (codes "bits") 0 24 bits
     × GivesNumber given.1 (codes "stages") 1 12 stages
@@ -71,6 +84,7 @@ HasFields (Build bits stages capacity max_records batch version out files) given
     × GivesNumber given.1 (codes "format") 1 2 version
     × GivesWord given.1 (codes "out") (string_bytes out)
     × GivesWords given.1 (codes "files") (map string_bytes files.items)
+    × GivesMode given.1 mode
 HasFields (Check file) given =
     (given.0 ≡ codes "check") × GivesWord given.1 (codes "file") (string_bytes file)
 HasFields (Get file key) given =
@@ -95,9 +109,9 @@ IsGivenBy words command =
 
 -- the numbers of the command, and the length of its key, are within their limits
 abbrev pub IsWithinLimits : Command → Type 0
-IsWithinLimits (Pack out) = ⊤
-IsWithinLimits (Scratch bits version out) = (bits ≤ 24) × (1 ≤ version) × (version ≤ 2)
-IsWithinLimits (Build bits stages capacity max_records batch version out files) =
+IsWithinLimits (Pack out mode) = ⊤
+IsWithinLimits (Scratch bits version out mode) = (bits ≤ 24) × (1 ≤ version) × (version ≤ 2)
+IsWithinLimits (Build bits stages capacity max_records batch version out files mode) =
     (bits ≤ 24)
     × (1 ≤ stages) × (stages ≤ 12)
     × (1 ≤ capacity) × (capacity ≤ 4096)

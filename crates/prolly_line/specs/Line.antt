@@ -3,6 +3,7 @@ use Rattle.std.specs.Prelude.{ℕ, pos, true, Option, Some, List, [], ◌∷◌,
 use Rattle.clap.specs.Words.{App, Kinds, Row, Rule, Text, fault_of, new_app, new_rule, subcommand_of, with_rule, with_subcommand}
 use Rattle.clap.specs.Lexer.{usize_max}
 use Rattle.clap.specs.Simple.{on_top}
+use Rattle.clap.specs.declared.builder.action.ArgAction.TheVariants.{SetTrue}
 use Rattle.clap.specs.declared.builder.value_parser.ValueParser.TheVariants.{Signed}
 
 -- ---- arguments
@@ -17,6 +18,10 @@ number_option name least most default = record (option_rule name) {
   parser = Some (Signed (pos least) (pos most));
   defaults = default ∷ [];
 }
+
+-- `--NAME`
+abbrev pub flag : Text → Rule
+flag name = record (new_rule name) { long = Some name; action = Some SetTrue }
 
 -- a word that has to be there
 abbrev pub word_rule : Text → Rule
@@ -54,6 +59,12 @@ format_option = number_option (codes "format") 1 2 (codes "1")
 abbrev pub out_option : Rule
 out_option = option_rule (codes "out")
 
+abbrev pub atomic_flag : Rule
+atomic_flag = flag (codes "atomic")
+
+abbrev pub sync_flag : Rule
+sync_flag = flag (codes "sync")
+
 abbrev pub out_word : Rule
 out_word = word_rule (codes "out")
 
@@ -74,19 +85,21 @@ files_words = words_rule (codes "files")
 
 -- ---- subcommands
 
--- `pack OUT`
+-- `pack [--atomic] [--sync] OUT`
 abbrev pub pack_line : App
-pack_line = with_rule (new_app (codes "pack")) out_word
+pack_line = with_rule (with_rule (with_rule (new_app (codes "pack")) atomic_flag) sync_flag) out_word
 
--- `scratch [--bits Q] [--format V] [--out FILE]`
+-- `scratch [--bits Q] [--format V] [--out FILE] [--atomic] [--sync]`
 abbrev pub scratch_line : App
-scratch_line = with_rule (with_rule (with_rule (new_app (codes "scratch")) bits_option) format_option) out_option
+scratch_line = with_rule (with_rule (with_rule (with_rule (with_rule (new_app (codes "scratch"))
+    bits_option) format_option) out_option) atomic_flag) sync_flag
 
--- `build [--bits Q] [--stages S] [--capacity C] [--max-records M] [--batch B] [--format V] OUT [FILES...]`
+-- `build [--bits Q] [--stages S] [--capacity C] [--max-records M] [--batch B] [--format V] [--atomic] [--sync] OUT
+-- [FILES...]`
 abbrev pub build_line : App
-build_line = with_rule (with_rule (with_rule (with_rule (with_rule (with_rule (with_rule (with_rule
+build_line = with_rule (with_rule (with_rule (with_rule (with_rule (with_rule (with_rule (with_rule (with_rule (with_rule
     (new_app (codes "build")) bits_option) stages_option) capacity_option) max_records_option) batch_option)
-    format_option) out_word) files_words
+    format_option) atomic_flag) sync_flag) out_word) files_words
 
 -- `check FILE`
 abbrev pub check_line : App

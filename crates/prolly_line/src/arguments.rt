@@ -1,13 +1,14 @@
 //! The options and words of the subcommands, each with the rule that clap reads it by.
 ghost use Rattle.std.specs.Prelude.{◌≡◌, false};
 ghost use Rattle.clap.specs.Words.{rule_of};
-ghost use Rattle.prolly_line.specs.Line.{batch_option, bits_option, capacity_option, file_word};
-ghost use Rattle.prolly_line.specs.Line.{files_words, format_option, key_word, limit_word};
+ghost use Rattle.prolly_line.specs.Line.{atomic_flag, batch_option, bits_option, capacity_option};
+ghost use Rattle.prolly_line.specs.Line.{file_word, files_words, flag, format_option, key_word};
+ghost use Rattle.prolly_line.specs.Line.{limit_word};
 ghost use Rattle.prolly_line.specs.Line.{max_records_option, n_word, number_option, number_word};
-ghost use Rattle.prolly_line.specs.Line.{out_option, out_word, stages_option, word_rule};
+ghost use Rattle.prolly_line.specs.Line.{out_option, out_word, stages_option, sync_flag, word_rule};
 
-use clap::Arg;
 use clap::builder::ValueParser;
+use clap::{Arg, ArgAction};
 use std::alloc::Global;
 
 // `--NAME VALUE_NAME`, for a number from `least` to `most`.
@@ -27,6 +28,14 @@ fn number_option<'a>(
         .value_name(value_name)
         .value_parser(ValueParser::signed(i64::from(least), i64::from(most)))
         .default_value(default)
+}
+
+// `--NAME`
+fn flag<'a>(alloc: Global, name: &'a str) -> Arg<'a>
+    ensures rule { rule_of result ≡ flag name.now }
+    ensures local { result.global ≡ false }
+{
+    Arg::new(alloc, name).long(name).action(ArgAction::SetTrue)
 }
 
 // A word that has to be there.
@@ -123,6 +132,24 @@ pub(crate) fn out_option<'a>(alloc: Global) -> Arg<'a>
         .long("out")
         .value_name("FILE")
         .help("Write the tree to FILE, a chunk file")
+}
+
+/// `--atomic`
+pub(crate) fn atomic_flag<'a>(alloc: Global) -> Arg<'a>
+    ensures rule { rule_of result ≡ atomic_flag }
+    ensures local { result.global ≡ false }
+{
+    flag(alloc, "atomic").help(
+        "Write a file beside the output, and put it in its place once it is whole",
+    )
+}
+
+/// `--sync`
+pub(crate) fn sync_flag<'a>(alloc: Global) -> Arg<'a>
+    ensures rule { rule_of result ≡ sync_flag }
+    ensures local { result.global ≡ false }
+{
+    flag(alloc, "sync").help("Print the answer only once the output is on the disk")
 }
 
 /// `OUT`, the file that a subcommand makes; `what` says for its help what that is.

@@ -11,18 +11,30 @@ use clap::ArgMatches;
 use clap::error::ErrorKind;
 use std::alloc::{AllocError, Global};
 
+/// How an output is written.
+#[derive(Clone, Copy, Debug, PartialEq, Eq)]
+pub struct WriteMode {
+    /// A file beside the output is written, and takes its place once it is whole.
+    pub atomic: bool,
+    /// The command is done only once the output is on the disk.
+    pub sync: bool,
+}
+
 /// What the program is asked to do. File names are the words as they stand.
 #[derive(Drop)]
 pub enum Command {
     /// Make a record file of the lines of standard input.
     Pack {
         out: String,
+        mode: WriteMode,
     },
-    /// Make the tree of one record file, which comes from standard input.
+    /// Make the tree of one record file, which comes from standard input. Without an output its
+    /// mode says nothing.
     Scratch {
         bits: u8,
         version: u8,
         out: Option<String>,
+        mode: WriteMode,
     },
     /// Make the tree of record files, in threads.
     Build {
@@ -34,6 +46,7 @@ pub enum Command {
         version: u8,
         out: String,
         files: Vec<String>,
+        mode: WriteMode,
     },
     /// Say whether a file is a lawful chunk file.
     Check {

@@ -4,20 +4,21 @@ ghost use Rattle.std.specs.Prelude.{codes};
 ghost use Rattle.prolly_line.specs.Accepted.{Answers, IsAccepted, rows_in};
 
 use crate::command::{Command, ParseFault};
-use crate::values::{byte_of, key_of, number_of, option_of, text_of, texts_of};
+use crate::values::{byte_of, key_of, mode_of, number_of, option_of, text_of, texts_of};
 use clap::ArgMatches;
 use std::alloc::Global;
 
-/// `pack OUT`
+/// `pack [--atomic] [--sync] OUT`
 pub(crate) fn pack(alloc: Global, given: &ArgMatches<'_>) -> Result<Command, ParseFault>
     requires { IsAccepted (codes "pack", rows_in given.now) }
     ensures { Answers (codes "pack", rows_in given.now) result }
 {
     let out = text_of(alloc, given, "out")?;
-    Ok(Command::Pack { out })
+    let mode = mode_of(given);
+    Ok(Command::Pack { out, mode })
 }
 
-/// `scratch [--bits Q] [--format V] [--out FILE]`
+/// `scratch [--bits Q] [--format V] [--out FILE] [--atomic] [--sync]`
 pub(crate) fn scratch(alloc: Global, given: &ArgMatches<'_>) -> Result<Command, ParseFault>
     requires { IsAccepted (codes "scratch", rows_in given.now) }
     ensures { Answers (codes "scratch", rows_in given.now) result }
@@ -25,11 +26,17 @@ pub(crate) fn scratch(alloc: Global, given: &ArgMatches<'_>) -> Result<Command, 
     let bits = byte_of(given, "bits");
     let version = byte_of(given, "format");
     let out = option_of(alloc, given, "out")?;
-    Ok(Command::Scratch { bits, version, out })
+    let mode = mode_of(given);
+    Ok(Command::Scratch {
+        bits,
+        version,
+        out,
+        mode,
+    })
 }
 
-/// `build [--bits Q] [--stages S] [--capacity C] [--max-records M] [--batch B] [--format V] OUT
-/// [FILES...]`
+/// `build [--bits Q] [--stages S] [--capacity C] [--max-records M] [--batch B] [--format V] [--atomic]
+/// [--sync] OUT [FILES...]`
 pub(crate) fn build(alloc: Global, given: &ArgMatches<'_>) -> Result<Command, ParseFault>
     requires { IsAccepted (codes "build", rows_in given.now) }
     ensures { Answers (codes "build", rows_in given.now) result }
@@ -42,6 +49,7 @@ pub(crate) fn build(alloc: Global, given: &ArgMatches<'_>) -> Result<Command, Pa
     let version = byte_of(given, "format");
     let out = text_of(alloc, given, "out")?;
     let files = texts_of(alloc, given, "files")?;
+    let mode = mode_of(given);
     Ok(Command::Build {
         bits,
         stages,
@@ -51,6 +59,7 @@ pub(crate) fn build(alloc: Global, given: &ArgMatches<'_>) -> Result<Command, Pa
         version,
         out,
         files,
+        mode,
     })
 }
 

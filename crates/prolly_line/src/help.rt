@@ -13,7 +13,16 @@ Two kinds of files are used. A record file is a binary file of pairs, a key with
 its value, and removals, a key to be taken away, with strictly rising keys. A
 chunk file holds a whole tree, and so all pairs of a map.
 
-Keys have at most 1,024 bytes, values at most 65,536.";
+Keys have at most 1,024 bytes, values at most 65,536.
+
+A file that a command writes is made before the input is read, and what it held
+is gone; after a fault it holds no more than a first part. With --atomic a file
+beside it is written, under its name and `.0.tmp` (or the next number that is
+free), which takes its place once it is whole: after any fault the file is as it
+was. Only a run that is killed may leave the other one behind. With --sync the
+answer is printed once the file and its name are on the disk; without it, once
+the system has taken them, which a loss of power may undo. A file that is also
+an input is not written, but refused.";
 
 pub(crate) const PROGRAM_EXAMPLE: &str = "Example, from two lines of text to a look-up:
   printf '61 31\\n62 32\\n' | prolly pack ab.rec
@@ -37,7 +46,7 @@ Prints the number of records.
 
 OUT is made before the input is read. After a fault it is left empty; where
 writing it failed, with the first part of the record file; and where standard
-output alone failed, whole.";
+output alone failed, whole. With --atomic it is as it was, but for the last.";
 
 pub(crate) const PACK_EXAMPLE: &str = "Example: put 31 at 61, and take 62 away
   printf '61 31\\n62 -\\n' | prolly pack changes.rec";
@@ -51,7 +60,8 @@ them or `build` did, at equal --bits and --format.
 
 With --out, FILE is made before the input is read. After a fault it is left
 empty; where writing it failed, with the first part of the chunk file; and where
-standard output alone failed, whole.";
+standard output alone failed, whole. With --atomic it is as it was, but for the
+last.";
 
 pub(crate) const SCRATCH_EXAMPLE: &str = "Example:
   prolly scratch --out ab.prl < ab.rec";
@@ -64,9 +74,16 @@ pair replaces the value, its removal takes the key away.
 
 Prints the text of the root and the numbers of chunks, pairs and levels.
 
+OUT comes first: `prolly build *.rec` takes the first of these files for OUT,
+and what it held is gone. An OUT that is among FILES is refused.
+
 OUT is made once all files are open, before any is read. After a fault it holds
 no more than the first part of a chunk file, which `check` calls truncated; only
-where nothing but its line could not be made or printed is it whole.
+where nothing but its line could not be made or printed is it whole. With
+--atomic it is as it was, unless only standard output failed.
+
+No command reads a chunk file of more than 1,073,741,824 bytes, which about
+28,200,000 records of 38 bytes make.
 
 --bits and --format decide what the chunk file holds. --stages and --max-records
 are limits: a tree of more levels, or a file of more records, is refused.

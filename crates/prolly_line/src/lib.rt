@@ -13,4 +13,4 @@ mod line;
 mod subcommands;
 mod values;
 
-pub use command::{Command, ParseFault, parse};
+pub use command::{Command, ParseFault, WriteMode, parse};

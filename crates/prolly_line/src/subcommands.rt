@@ -10,22 +10,24 @@ use crate::{arguments, help};
 use clap::Command;
 use std::alloc::{AllocError, Global};
 
-/// `pack OUT`
+/// `pack [--atomic] [--sync] OUT`
 pub(crate) fn pack_line<'a>(alloc: Global) -> Result<Command<'a>, AllocError>
     ensures line { IfOk result (λ c. app_of c ≡ pack_line) }
     ensures local { IfOk result (λ c. (fields_of c).has_globals ≡ false) }
 {
-    described(
+    let line = described(
         alloc,
         "pack",
         "Make a record file from lines of text",
         help::PACK,
         help::PACK_EXAMPLE,
     )
-    .arg(arguments::out_word(alloc, "The record file to make"))
+    .arg(arguments::atomic_flag(alloc));
+    let line = with_argument(line, arguments::sync_flag(alloc));
+    with_argument(line, arguments::out_word(alloc, "The record file to make"))
 }
 
-/// `scratch [--bits Q] [--format V] [--out FILE]`
+/// `scratch [--bits Q] [--format V] [--out FILE] [--atomic] [--sync]`
 pub(crate) fn scratch_line<'a>(alloc: Global) -> Result<Command<'a>, AllocError>
     ensures line { IfOk result (λ c. app_of c ≡ scratch_line) }
     ensures local { IfOk result (λ c. (fields_of c).has_globals ≡ false) }
@@ -39,11 +41,13 @@ pub(crate) fn scratch_line<'a>(alloc: Global) -> Result<Command<'a>, AllocError>
     )
     .arg(arguments::bits_option(alloc));
     let line = with_argument(line, arguments::format_option(alloc));
-    with_argument(line, arguments::out_option(alloc))
+    let line = with_argument(line, arguments::out_option(alloc));
+    let line = with_argument(line, arguments::atomic_flag(alloc));
+    with_argument(line, arguments::sync_flag(alloc))
 }
 
-/// `build [--bits Q] [--stages S] [--capacity C] [--max-records M] [--batch B] [--format V] OUT
-/// [FILES...]`
+/// `build [--bits Q] [--stages S] [--capacity C] [--max-records M] [--batch B] [--format V] [--atomic]
+/// [--sync] OUT [FILES...]`
 pub(crate) fn build_line<'a>(alloc: Global) -> Result<Command<'a>, AllocError>
     ensures line { IfOk result (λ c. app_of c ≡ build_line) }
     ensures local { IfOk result (λ c. (fields_of c).has_globals ≡ false) }
@@ -61,6 +65,8 @@ pub(crate) fn build_line<'a>(alloc: Global) -> Result<Command<'a>, AllocError>
     let line = with_argument(line, arguments::max_records_option(alloc));
     let line = with_argument(line, arguments::batch_option(alloc));
     let line = with_argument(line, arguments::format_option(alloc));
+    let line = with_argument(line, arguments::atomic_flag(alloc));
+    let line = with_argument(line, arguments::sync_flag(alloc));
     let line = with_argument(line, arguments::out_word(alloc, "The chunk file to make"));
     with_argument(line, arguments::files_words(alloc))
 }

@@ -1,12 +1,13 @@
 //! The values of one option or word, from what clap found.
 ghost use Rattle.std.specs.Prelude.{◌≡◌, ◌⊎◌, Some, IfOk, IfErr, ℕ, List, map, string_bytes};
-ghost use Rattle.std.specs.Prelude.{option_map, codes};
+ghost use Rattle.std.specs.Prelude.{option_map, codes, IsTrue, ◌↔◌};
 ghost use Rattle.clap.specs.Words.{first_of};
-ghost use Rattle.prolly_line.specs.Given.{GivesKey, GivesOption, GivesWord, GivesWords, IsKeyText};
+ghost use Rattle.prolly_line.specs.Given.{GivesKey, GivesMode, GivesOption, GivesWord, GivesWords};
+ghost use Rattle.prolly_line.specs.Given.{HasFlag, IsKeyText};
 ghost use Rattle.prolly_line.specs.Accepted.{HasNumber, HasWord, IsRefusedKey, ReadsNumber, rows_in};
 ghost use Rattle.prolly_line.specs.declared.command.ParseFault.TheVariants.{BadKey, Memory};
 
-use crate::command::ParseFault;
+use crate::command::{ParseFault, WriteMode};
 use clap::ArgMatches;
 use hex::FromHexError;
 use std::alloc::{AllocError, Global};
@@ -62,6 +63,26 @@ pub(crate) fn option_of(
     match given.get_str(name) {
         None => Ok(None),
         Some(word) => Ok(Some(String::from_str(alloc, word)?)),
+    }
+}
+
+// Whether the words have a flag: clap writes `true` under its name then, and `false` else.
+fn flag_of(given: &ArgMatches<'_>, name: &str) -> bool
+    ensures { IsTrue result ↔ HasFlag (rows_in given.now) name.now }
+{
+    match given.get_str(name) {
+        Some(value) => value == "true",
+        None => false,
+    }
+}
+
+/// How the output is to be written.
+pub(crate) fn mode_of(given: &ArgMatches<'_>) -> WriteMode
+    ensures { GivesMode (rows_in given.now) result }
+{
+    WriteMode {
+        atomic: flag_of(given, "atomic"),
+        sync: flag_of(given, "sync"),
     }
 }
 

@@ -1,6 +1,6 @@
 //! The command line in use: that words are taken, which no clause can promise, since memory may run
 //! out, and what they come to as a person reads them.
-use prolly_line::{Command, ParseFault, parse};
+use prolly_line::{Command, ParseFault, WriteMode, parse};
 use std::alloc::{AllocError, Global};
 use std::test::Fail;
 
@@ -39,15 +39,34 @@ fn settings_shown(
     )
 }
 
+// A mode, as the flags that give it.
+fn mode_shown(mode: &WriteMode) -> &'static str {
+    match (mode.atomic, mode.sync) {
+        (false, false) => "",
+        (true, false) => " atomic",
+        (false, true) => " sync",
+        (true, true) => " atomic sync",
+    }
+}
+
 // The command of a line that is taken, as one text.
 fn shown(alloc: Global, line: &str) -> Result<String, Fail> {
     let Ok(command) = answer(alloc, line)? else {
         return Err(Fail::from("the words were refused"));
     };
     let text = match &command {
-        Command::Pack { out } => format!(in alloc; "pack {out:?}")?,
-        Command::Scratch { bits, version, out } => {
-            format!(in alloc; "scratch bits={bits} version={version} out={out:?}")?
+        Command::Pack { out, mode } => {
+            let mode = mode_shown(mode);
+            format!(in alloc; "pack {out:?}{mode}")?
+        }
+        Command::Scratch {
+            bits,
+            version,
+            out,
+            mode,
+        } => {
+            let mode = mode_shown(mode);
+            format!(in alloc; "scratch bits={bits} version={version} out={out:?}{mode}")?
         }
         Command::Build {
             bits,
@@ -58,7 +77,9 @@ fn shown(alloc: Global, line: &str) -> Result<String, Fail> {
             version,
             out,
             files,
+            mode,
         } => {
+            let mode = mode_shown(mode);
             let settings = settings_shown(
                 alloc,
                 *bits,
@@ -68,7 +89,7 @@ fn shown(alloc: Global, line: &str) -> Result<String, Fail> {
                 *batch,
                 *version,
             )?;
-            format!(in alloc; "build {settings} out={out:?} files={files:?}")?
+            format!(in alloc; "build {settings} out={out:?} files={files:?}{mode}")?
         }
         Command::Check { file } => format!(in alloc; "check {file:?}")?,
         Command::Get { file, key } => format!(in alloc; "get {file:?} {key:?}")?,
@@ -85,7 +106,16 @@ fn commands_have_their_fields(rt: HostRuntime) -> Result<(), Fail> {
     let alloc = rt.alloc();
     let cases = [
         ("pack a.rec", "pack \"a.rec\""),
+        ("pack --sync a.rec --atomic", "pack \"a.rec\" atomic sync"),
         ("scratch", "scratch bits=12 version=1 out=None"),
+        (
+            "scratch --sync --out a.prl",
+            "scratch bits=12 version=1 out=Some(\"a.prl\") sync",
+        ),
+        (
+            "build --atomic out.prl",
+            "build bits=12 stages=12 capacity=64 max_records=16777216 batch=16 version=1 out=\"out.prl\" files=[] atomic",
+        ),
         (
             "scratch --bits 24 --format 2 --out a.prl",
             "scratch bits=24 version=2 out=Some(\"a.prl\")",
@@ -116,6 +146,8 @@ fn words_out_of_range_are_usage(rt: HostRuntime) -> Result<(), Fail> {
     let lines = [
         "",
         "pack",
+        "pack --sync --sync a.rec",
+        "scratch --atomic=true",
         "scratch --bits 25",
         "build --stages 0 out.prl",
         "scan a.prl 00 1000001",

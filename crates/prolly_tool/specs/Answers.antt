@@ -1,12 +1,14 @@
 -- What the program prints.
-use Rattle.std.specs.Prelude.{◌≡◌, ℕ, List, [], ◌∷◌, ◌++◌, codes, string_bytes}
+use Rattle.std.specs.Prelude.{◌≡◌, ℕ, List, [], ◌∷◌, ◌++◌, string_bytes}
 use Rattle.prolly_line.specs.declared.command.ParseFault.{ParseFault}
 use Rattle.prolly_line.specs.declared.command.ParseFault.TheVariants.{Memory, Usage, Help, BadKey as BadKeyWord}
 use Rattle.prolly_link.specs.declared.fault.RunFault.TheVariants.{Memory as OutOfMemory}
 use Rattle.prolly_tool.specs.declared.answer.Answer.{Answer}
 use Rattle.prolly_tool.specs.declared.fault.Fault.{Fault}
+use Rattle.prolly_tool.specs.declared.name_fault.NameFault.{NameFault}
 use Rattle.prolly_tool.specs.declared.fault.Fault.TheVariants.{Run, BadKey}
 use Rattle.prolly_tool.specs.Faults.{fault_text, fault_status, fault_line}
+use Rattle.prolly_tool.specs.Names.{name_fault_text, shown_name}
 
 -- The answer has this status, and these bytes for standard output and standard error.
 pub record Shows (answer : Answer) (status : ℕ) (out err : List ℕ) : Type 0 where
@@ -26,9 +28,9 @@ ShowsNothing answer = Shows answer 1 [] []
 abbrev pub ShowsFault : Answer → Fault → Type 0
 ShowsFault answer fault = Shows answer (fault_status fault) [] (fault_line (fault_text fault))
 
--- The line of a file that can't be opened or made.
-abbrev pub unopened_text : List ℕ → List ℕ
-unopened_text name = codes "cannot open " ++ name
+-- Not done, since a file that the words name is at fault: a line that ends with its name, and the status of a device's fault.
+abbrev pub ShowsName : Answer → NameFault → List ℕ → Type 0
+ShowsName answer fault name = Shows answer 5 [] (fault_line (name_fault_text fault ++ shown_name name))
 
 -- The words give no command. What clap says of them is shown as it words it: help that was asked for on standard output, and what
 -- is wrong with the words on standard error.

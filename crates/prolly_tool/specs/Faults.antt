@@ -8,7 +8,7 @@ use Rattle.prolly_check.specs.declared.fault.CheckFault.TheVariants as checks
 use Rattle.prolly_tool.specs.declared.pack.PackFault.{PackFault}
 use Rattle.prolly_tool.specs.declared.pack.PackFault.TheVariants as packs
 use Rattle.prolly_tool.specs.declared.fault.Fault.{Fault}
-use Rattle.prolly_tool.specs.declared.fault.Fault.TheVariants.{Run, Pack, Check, NoCounts, InputTooLong, BadKey, NotUnicode}
+use Rattle.prolly_tool.specs.declared.fault.Fault.TheVariants.{Run, Pack, Check, NoCounts, InputTooLong, BadKey, NotUnicode, OutIsStdout}
 
 -- What is said of a record of a file.
 abbrev pub record_text : ℕ → ℕ → List ℕ → List ℕ
@@ -57,6 +57,7 @@ fault_text NoCounts = codes "chunk file: no counts"
 fault_text InputTooLong = codes "input too long"
 fault_text BadKey = codes "not a key in hexadecimal"
 fault_text NotUnicode = codes "a word is not UTF-8"
+fault_text OutIsStdout = codes "OUT is also standard output"
 
 -- 2: usage. 3: the input is at fault. 4: a chunk file is. 5: a device is. 6: memory or a thread. 7: the tree is too tall.
 abbrev pub run_status : RunFault → ℕ
@@ -95,6 +96,7 @@ fault_status NoCounts = 4
 fault_status InputTooLong = 5
 fault_status BadKey = 2
 fault_status NotUnicode = 2
+fault_status OutIsStdout = 5
 
 -- The line of a fault on standard error: the program's name, the text, a newline.
 abbrev pub fault_line : List ℕ → List ℕ

@@ -4,6 +4,7 @@ pub mod Outputs
 pub mod Scratch
 pub mod Pack
 pub mod Faults
+pub mod Names
 pub mod Answers
 pub mod Build
 pub mod LookUps

@@ -1,9 +1,10 @@
 //! What the program prints.
-ghost use Rattle.std.specs.Prelude.{◌≡◌, [], IfOk, OnOk, ◌∷◌, ◌++◌};
-ghost use Rattle.prolly_tool.specs.Answers.{Shows, ShowsNothing, ShowsLine, ShowsFault, ShowsRefusal, unopened_text};
-ghost use Rattle.prolly_tool.specs.Faults.{fault_line};
+ghost use Rattle.std.specs.Prelude.{IfOk};
+ghost use Rattle.prolly_tool.specs.Answers.{ShowsNothing, ShowsLine, ShowsFault, ShowsName, ShowsRefusal};
 
 use crate::fault::Fault;
+use crate::line_parts::append_name;
+use crate::name_fault::NameFault;
 use prolly_line::ParseFault;
 use prolly_link::RunFault;
 use std::alloc::{AllocError, Global};
@@ -57,16 +58,21 @@ impl Answer {
         })
     }
 
-    /// The answer of a command whose file can't be opened or made: a line that names it, and the
-    /// status of a device's fault.
-    pub fn of_unopened(alloc: Global, name: &str) -> Result<Answer, AllocError>
-        ensures { IfOk result (λ answer. Shows answer 5 [] (fault_line (unopened_text name.now))) }
+    /// The answer of a command that is not done since a file that the words name is at fault: a line
+    /// with its name, in which control bytes and backslashes are escaped, so that it stays one line and
+    /// names one file.
+    pub fn of_name(alloc: Global, fault: NameFault, name: &str) -> Result<Answer, AllocError>
+        ensures { IfOk result (λ answer. ShowsName answer fault name.now) }
     {
-        let line = format!(in alloc; "prolly: cannot open {name}\n")?;
+        let mut line = Vec::new(alloc);
+        line.extend_from_slice(b"prolly: ")?;
+        line.extend_from_slice(fault.text().as_bytes())?;
+        append_name(alloc, &mut line, name)?;
+        line.extend_from_slice(b"\n")?;
         Ok(Answer {
             status: 5,
             out: Vec::new(alloc),
-            err: line.into_bytes(),
+            err: line,
         })
     }
 

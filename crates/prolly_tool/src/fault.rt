@@ -26,6 +26,8 @@ pub enum Fault {
     BadKey,
     /// A word of the command line is not UTF-8.
     NotUnicode,
+    /// The output is the file to which standard output goes.
+    OutIsStdout,
 }
 
 impl Fault {
@@ -40,7 +42,7 @@ impl Fault {
             Fault::Check(CheckFault::Memory) => 6,
             Fault::Check(CheckFault::Read) => 5,
             Fault::Check(_) | Fault::NoCounts => 4,
-            Fault::InputTooLong => 5,
+            Fault::InputTooLong | Fault::OutIsStdout => 5,
             Fault::BadKey | Fault::NotUnicode => 2,
         }
     }
@@ -74,6 +76,7 @@ impl Display for Fault {
             Fault::InputTooLong => f.write_str("input too long"),
             Fault::BadKey => f.write_str("not a key in hexadecimal"),
             Fault::NotUnicode => f.write_str("a word is not UTF-8"),
+            Fault::OutIsStdout => f.write_str("OUT is also standard output"),
         }
     }
 }

@@ -21,4 +21,5 @@ returns c =
       c.byte_of-bits.ensures 0 24 (omega arith) takes.bits,
       c.byte_of-version.ensures 1 2 (omega arith) takes.format,
       c.in_ok-out.ensures,
+      c.mode_of-mode.ensures,
     )

@@ -11,7 +11,9 @@ returns-clause-line c =
     let with_max_records = c.with_argument-line-3.ensures.line _ _ with_capacity c.max_records_option.ensures.rule c.max_records_option.ensures.local in
     let with_batch = c.with_argument-line-4.ensures.line _ _ with_max_records c.batch_option.ensures.rule c.batch_option.ensures.local in
     let with_format = c.with_argument-line-5.ensures.line _ _ with_batch c.format_option.ensures.rule c.format_option.ensures.local in
-    let with_out = c.with_argument-line-6.ensures.line _ _ with_format c.out_word.ensures.rule c.out_word.ensures.local in
+    let with_atomic = c.with_argument-line-6.ensures.line _ _ with_format c.atomic_flag.ensures.rule c.atomic_flag.ensures.local in
+    let with_sync = c.with_argument-line-7.ensures.line _ _ with_atomic c.sync_flag.ensures.rule c.sync_flag.ensures.local in
+    let with_out = c.with_argument-line-8.ensures.line _ _ with_sync c.out_word.ensures.rule c.out_word.ensures.local in
     c.with_argument.ensures.line _ _ with_out c.files_words.ensures.rule c.files_words.ensures.local
 
 pub returns-clause-local : goal.returns-clause-local
@@ -22,5 +24,7 @@ returns-clause-local c =
     let with_max_records = c.with_argument-line-3.ensures.local with_capacity c.max_records_option.ensures.local in
     let with_batch = c.with_argument-line-4.ensures.local with_max_records c.batch_option.ensures.local in
     let with_format = c.with_argument-line-5.ensures.local with_batch c.format_option.ensures.local in
-    let with_out = c.with_argument-line-6.ensures.local with_format c.out_word.ensures.local in
+    let with_atomic = c.with_argument-line-6.ensures.local with_format c.atomic_flag.ensures.local in
+    let with_sync = c.with_argument-line-7.ensures.local with_atomic c.sync_flag.ensures.local in
+    let with_out = c.with_argument-line-8.ensures.local with_sync c.out_word.ensures.local in
     c.with_argument.ensures.local with_out c.files_words.ensures.local

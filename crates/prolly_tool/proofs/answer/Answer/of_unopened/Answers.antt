@@ -1,5 +1,0 @@
-use Rattle.std.proofs.Common.{rules}
-use Rattle.prolly_tool.proofs.answer.Answer.of_unopened.Goals as goal
-
-pub returns : goal.returns
-returns c = search rules

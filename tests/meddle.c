@@ -1,0 +1,71 @@
+/* Stands between a program and the system (LD_PRELOAD), and makes calls of the program's fail. In the environment:
+ *
+ * FAIL="CALL NUMBER ERROR"  the call of this name whose number, counted from 1, is NUMBER fails with the error, which is
+ *                           a number, and is not made. Calls are counted by their name.
+ * INTERRUPT=N               every read and write but each Nth fails with EINTR, and is not made; N is at least 2.
+ * TELL=DESCRIPTOR           each call that is made or made to fail is written there, a line: its name, and for one on a
+ *                           descriptor the number of that.
+ */
+#define _GNU_SOURCE
+#include <errno.h>
+#include <stdarg.h>
+#include <stdatomic.h>
+#include <stdio.h>
+#include <stdlib.h>
+#include <string.h>
+#include <sys/stat.h>
+#include <sys/syscall.h>
+#include <sys/types.h>
+#include <unistd.h>
+
+static char call_to_fail[16];
+static long number_to_fail, error_to_give, interrupt_but;
+static int told = -1;
+static atomic_long count_of_named, count_of_moves;
+
+__attribute__((constructor)) static void begin(void) {
+    const char *fail = getenv("FAIL"), *interrupt = getenv("INTERRUPT"), *tell = getenv("TELL");
+    if (fail && sscanf(fail, "%15s %ld %ld", call_to_fail, &number_to_fail, &error_to_give) != 3) abort();
+    if (interrupt) interrupt_but = atol(interrupt);
+    if (tell) told = atoi(tell);
+}
+
+static void tell(const char *name, int descriptor) {
+    char line[48];
+    int length = snprintf(line, sizeof line, descriptor < 0 ? "%s\n" : "%s %d\n", name, descriptor);
+    if (told >= 0 && syscall(SYS_write, told, line, length) != length) abort();
+}
+
+/* Whether the call is to fail; errno says how. */
+static int is_to_fail(const char *name, int descriptor) {
+    tell(name, descriptor);
+    if (strcmp(name, call_to_fail) != 0 || atomic_fetch_add(&count_of_named, 1) + 1 != number_to_fail) return 0;
+    errno = error_to_give;
+    return 1;
+}
+
+static int is_interrupted(void) {
+    if (interrupt_but == 0 || (atomic_fetch_add(&count_of_moves, 1) + 1) % interrupt_but == 0) return 0;
+    errno = EINTR;
+    return 1;
+}
+
+ssize_t read(int descriptor, void *bytes, size_t count) {
+    if (is_interrupted() || is_to_fail("read", descriptor)) return -1;
+    return syscall(SYS_read, descriptor, bytes, count);
+}
+
+ssize_t write(int descriptor, const void *bytes, size_t count) {
+    if (is_interrupted() || is_to_fail("write", descriptor)) return -1;
+    return syscall(SYS_write, descriptor, bytes, count);
+}
+
+int fsync(int descriptor) { return is_to_fail("fsync", descriptor) ? -1 : (int)syscall(SYS_fsync, descriptor); }
+
+int fchmod(int descriptor, mode_t mode) {
+    return is_to_fail("fchmod", descriptor) ? -1 : (int)syscall(SYS_fchmod, descriptor, mode);
+}
+
+int rename(const char *from, const char *to) {
+    return is_to_fail("rename", -1) ? -1 : (int)syscall(SYS_rename, from, to);
+}
