@@ -1,4 +1,4 @@
-use Rattle.std.proofs.Common.{◌≡◌, ◌≤◌, ◌-◌, ◌++◌, true, drop, vec_len}
+use Rattle.std.proofs.Common.{◌≡◌, ◌-◌, ◌++◌, true, drop, vec_len}
 use Rattle.prolly_file.proofs.buffered.Buffered.hand_on.Given as goal
 
 -- what is held no more was taken by the other sink
