@@ -39,7 +39,7 @@ impl Model for Pair {
 }
 
 impl Pair {
-    ghost use Rattle.std.specs.Prelude.{◌≤◌, ◌<◌, ◌↔◌, length, vec_len, Err, IfOk, IfSome};
+    ghost use Rattle.std.specs.Prelude.{◌≤◌, ◌<◌, ◌+◌, ◌↔◌, length, vec_len, Err, IfOk, IfSome};
     ghost use Rattle.prolly_entry.specs.Spelling.{pair_spelling};
     ghost use Rattle.prolly_entry.specs.Storage.{IsCarried};
 
@@ -101,6 +101,13 @@ impl Pair {
         ensures { IfSome result (λ spelling. spelling.now ≡ pair_spelling self.now) }
     {
         self.storage.spelling()
+    }
+
+    /// How many bytes key and value have together.
+    pub fn size(&self) -> usize
+        ensures { result ≡ length self.now.key + length self.now.value }
+    {
+        self.key().len() + self.value().len()
     }
 
     /// The key.

@@ -31,8 +31,8 @@ impl Model for Record {
 }
 
 impl Record {
-    ghost use Rattle.std.specs.Prelude.{◌≤◌, ◌<◌, ◌↔◌, length, vec_len, None, Some, Err, IfOk};
-    ghost use Rattle.std.specs.Option.{option_copied, option_map};
+    ghost use Rattle.std.specs.Prelude.{◌≤◌, ◌<◌, ◌+◌, ◌↔◌, [], length, vec_len, None, Some, Err, IfOk};
+    ghost use Rattle.std.specs.Option.{option_copied, option_map, unwrap_or};
     ghost use Rattle.prolly_entry.specs.Record.{IsChange};
 
     /// The record that puts a pair.
@@ -79,6 +79,16 @@ impl Record {
             Change::Remove(key) => Record {
                 change: Change::Remove(key),
             },
+        }
+    }
+
+    /// How many bytes the key has, together with the value that is put.
+    pub fn size(&self) -> usize
+        ensures { result ≡ length self.now.key + length (unwrap_or self.now.value []) }
+    {
+        match &self.change {
+            Change::Put(pair) => pair.size(),
+            Change::Remove(key) => key.len(),
         }
     }
 

@@ -14,4 +14,3 @@ pub mod Batches
 pub mod OpenBatches
 pub mod Hands
 pub mod BatchDraining
-pub mod Waiting

@@ -11,6 +11,8 @@ use std::vec::IntoIter;
 pub(crate) struct Batch<T> {
     items: Vec<T>,
     limit: usize,
+    // As many as the sender was told of.
+    bytes: usize,
 }
 
 impl<T> Model for Batch<T> {
@@ -24,12 +26,21 @@ impl<T> Model for Batch<T> {
 }
 
 impl<T> Batch<T> {
-    pub(crate) fn new(items: Vec<T>, limit: usize) -> Batch<T>
+    pub(crate) fn new(items: Vec<T>, limit: usize, bytes: usize) -> Batch<T>
         requires least { 1 ≤ vec_len items }
         requires most { vec_len items ≤ limit }
         ensures { result ≡ items.items }
     {
-        Batch { items, limit }
+        Batch {
+            items,
+            limit,
+            bytes,
+        }
+    }
+
+    /// How many bytes the items take, so far as the sender was told.
+    pub(crate) fn bytes(&self) -> usize {
+        self.bytes
     }
 }
 
@@ -39,7 +50,11 @@ impl<T: Drop> Batch<T> {
         ensures items { self ≡ result.0 ∷ into_iter_items result.1 }
         ensures counted { into_iter_len result.1 ≡ length (into_iter_items result.1) }
     {
-        let Batch { items, limit: _ } = self;
+        let Batch {
+            items,
+            limit: _,
+            bytes: _,
+        } = self;
         let mut rest = items.into_iter();
         let Some(first) = rest.next() else {
             unreachable!()

@@ -3,8 +3,10 @@ ghost use Rattle.std.specs.Prelude.{◌≡◌, ◌≤◌, [], IfOk};
 
 use crate::batch_receiver::BatchReceiver;
 use crate::batch_sender::BatchSender;
+use crate::in_flight::InFlight;
 use crate::opening::{LinkFault, link};
 use crate::progress::Progress;
+use crate::shared::shared;
 use std::alloc::Global;
 
 /// The two ends of a new link whose messages are batches of up to `batch` items, with room for `capacity` messages. It
@@ -27,17 +29,23 @@ pub fn batch_link<T: Send + Drop>(
     let Ok(pending) = Vec::with_capacity(alloc, batch) else {
         return Err(LinkFault::Memory);
     };
+    let Ok((sent, received)) = shared(alloc, InFlight::new(capacity)) else {
+        return Err(LinkFault::Memory);
+    };
     let (sender, receiver) = link(alloc, capacity)?;
     Ok((
         BatchSender {
             sender,
             pending,
             size: batch,
+            bytes: 0,
+            in_flight: sent,
             alloc,
         },
         BatchReceiver {
             receiver,
             hand: Vec::new(alloc).into_iter(),
+            in_flight: received,
         },
     ))
 }

@@ -5,12 +5,13 @@ ghost use Rattle.prolly_link.specs.Receipts.{given_items, progress_after, GivesA
 use crate::batch::Batch;
 use crate::batch_drained::{BatchDrained, EndedBatch, LostBatch};
 use crate::drained::Drained;
+use crate::in_flight::InFlight;
 use crate::input::In;
 use crate::next::Next;
 use crate::receiver::Receiver;
 use std::alloc::Global;
 use std::marker::Model;
-use std::sync::Wait;
+use std::sync::{Arc, Wait};
 use std::vec::IntoIter;
 
 /// The receiving end of a batch link. Contracts see its link, the items that it has given, oldest first, and how far it
@@ -20,6 +21,7 @@ pub struct BatchReceiver<T> {
     pub(crate) receiver: Receiver<Batch<T>>,
     // What is left of the batch that came last.
     pub(crate) hand: IntoIter<T, Global>,
+    pub(crate) in_flight: Arc<InFlight>,
 }
 
 impl<T> Model for BatchReceiver<T> {
@@ -49,6 +51,8 @@ impl<T: Drop> BatchReceiver<T> {
             Some(item) => Next::Item(item),
             None => match self.receiver.recv(rt) {
                 Next::Item(batch) => {
+                    self.in_flight
+                        .remove(self.receiver.patience(), batch.bytes());
                     let (first, rest) = batch.into_first();
                     self.hand = rest;
                     Next::Item(first)
@@ -63,7 +67,12 @@ impl<T: Drop> BatchReceiver<T> {
     pub fn drain<R: Wait>(self, rt: &R) -> BatchDrained<T>
         ensures { IsBatchDrainOf self result }
     {
-        let BatchReceiver { receiver, hand: _ } = self;
+        let BatchReceiver {
+            receiver,
+            hand: _,
+            in_flight,
+        } = self;
+        in_flight.lift(receiver.patience());
         match receiver.drain(rt) {
             Drained::Ended(receiver) => BatchDrained::Ended(EndedBatch { receiver }),
             Drained::Lost(receiver) => BatchDrained::Lost(LostBatch { receiver }),

@@ -5,12 +5,14 @@ ghost use Rattle.prolly_link.specs.Batches.{items_of};
 use crate::batch::Batch;
 use crate::batch_closed::ClosedBatch;
 use crate::fault::End;
+use crate::in_flight::{InFlight, LARGE_BATCH_BYTES};
 use crate::output::Out;
+use crate::push::Wake;
 use crate::sender::Sender;
 use std::alloc::{AllocError, Global};
 use std::marker::Model;
 use std::mem;
-use std::sync::Wait;
+use std::sync::{Arc, Wait};
 
 /// The sending end of a batch link. Contracts see its link, the items that were given to `send`, oldest first, and for
 /// how many more it has taken room.
@@ -20,12 +22,16 @@ pub struct BatchSender<T> {
     // The items of the open batch: it has room for `size` of them, or has not begun.
     pub(crate) pending: Vec<T>,
     pub(crate) size: usize,
+    // How many bytes they take, so far as it was told.
+    pub(crate) bytes: usize,
+    pub(crate) in_flight: Arc<InFlight>,
     pub(crate) alloc: Global,
 }
 
 impl<T> Model for BatchSender<T> {
-    ghost use Rattle.std.specs.Prelude.{vec_len, vec_capacity};
+    ghost use Rattle.std.specs.Prelude.{◌<◌, vec_len, vec_capacity};
     ghost use Rattle.prolly_link.specs.Views.{Batching};
+    ghost use Rattle.prolly_link.specs.declared.in_flight.TheConstants.{LARGE_BATCH_BYTES};
 
     ghost Value = { Batching T };
 
@@ -33,7 +39,7 @@ impl<T> Model for BatchSender<T> {
 
     ghost view = { λ s. batching_of s.sender s.pending.items (room_of s.size (vec_capacity s.pending) (vec_len s.pending)) };
 
-    ghost invariant = { λ s. IsOpenBatch s.size (vec_capacity s.pending) (vec_len s.pending) };
+    ghost invariant = { λ s. IsOpenBatch s.size (vec_capacity s.pending) (vec_len s.pending) × (s.bytes < LARGE_BATCH_BYTES) };
 }
 
 // Takes the room of a batch, unless it was taken before.
@@ -49,9 +55,16 @@ fn take_room<T>(batch: &mut Vec<T>, size: usize) -> Result<(), AllocError>
     batch.try_reserve_exact(size)
 }
 
-// Sends a batch where it has items.
+// Sends a batch where it has items. A large one waits until no more than the link's bound is in flight with it.
 #[tactic(auto, using(crate::proofs::BatchLemmas::items_of_push))]
-fn send_items<T: Drop, R: Wait>(rt: &R, sender: &mut Sender<Batch<T>>, items: Vec<T>, size: usize)
+fn send_items<T: Drop, R: Wait>(
+    rt: &R,
+    sender: &mut Sender<Batch<T>>,
+    in_flight: &InFlight,
+    items: Vec<T>,
+    size: usize,
+    bytes: usize,
+)
     requires { vec_len items ≤ size }
     ensures link { sender.new.link ≡ sender.old.link }
     ensures items { items_of sender.new.items ≡ items_of sender.old.items ++ items.items }
@@ -59,7 +72,13 @@ fn send_items<T: Drop, R: Wait>(rt: &R, sender: &mut Sender<Batch<T>>, items: Ve
     if items.is_empty() {
         return;
     }
-    sender.put(rt, Batch::new(items, size));
+    let wake = if bytes >= LARGE_BATCH_BYTES {
+        in_flight.add(rt, &sender.patience, bytes);
+        Wake::AtOnce
+    } else {
+        Wake::AtHalf
+    };
+    sender.put(rt, Batch::new(items, size, bytes), wake);
 }
 
 impl<T: Drop> BatchSender<T> {
@@ -72,15 +91,37 @@ impl<T: Drop> BatchSender<T> {
         ensures err { IfErr result (λ back. (back ≡ item) × (self.new ≡ self.old)) }
         ensures accepts { 0 < self.old.room → IsOk result }
     {
+        self.send_sized(rt, item, 0)
+    }
+
+    /// As `send`, of an item that takes so many bytes. A batch of 64 KiB or more is sent before it is full, and waits where the
+    /// link holds as many bytes of such batches as its room is for batches of 64 KiB.
+    pub fn send_sized<R: Wait>(&mut self, rt: &R, item: T, bytes: usize) -> Result<(), T>
+        ensures link { self.new.link ≡ self.old.link }
+        ensures ok { OnOk result (self.new.items ≡ self.old.items ++ item ∷ []) }
+        ensures room { OnOk result (bytes ≡ 0 → self.old.room ≤ self.new.room + 1) }
+        ensures err { IfErr result (λ back. (back ≡ item) × (self.new ≡ self.old)) }
+        ensures accepts { 0 < self.old.room → IsOk result }
+    {
         if let Err(_) = take_room(&mut self.pending, self.size) {
             return Err(item);
         }
         self.pending.push_reserved(item);
-        if self.pending.len() < self.size {
+        let bytes = self.bytes.saturating_add(bytes);
+        if self.pending.len() < self.size && bytes < LARGE_BATCH_BYTES {
+            self.bytes = bytes;
             return Ok(());
         }
-        let full = mem::replace(&mut self.pending, Vec::new(self.alloc));
-        send_items(rt, &mut self.sender, full, self.size);
+        let batch = mem::replace(&mut self.pending, Vec::new(self.alloc));
+        self.bytes = 0;
+        send_items(
+            rt,
+            &mut self.sender,
+            &self.in_flight,
+            batch,
+            self.size,
+            bytes,
+        );
         self.sender.look_ahead();
         Ok(())
     }
@@ -95,9 +136,11 @@ impl<T: Drop> BatchSender<T> {
             mut sender,
             pending,
             size,
+            bytes,
+            in_flight,
             alloc: _,
         } = self;
-        send_items(rt, &mut sender, pending, size);
+        send_items(rt, &mut sender, &in_flight, pending, size, bytes);
         ClosedBatch {
             sender: sender.close(rt, end),
         }
@@ -119,6 +162,10 @@ impl<T: Drop> Out<T> for BatchSender<T> {
 
     fn send<R: Wait>(&mut self, rt: &R, item: T) -> Result<(), T> {
         BatchSender::send(self, rt, item)
+    }
+
+    fn send_sized<R: Wait>(&mut self, rt: &R, item: T, bytes: usize) -> Result<(), T> {
+        BatchSender::send_sized(self, rt, item, bytes)
     }
 
     fn is_ahead(&self) -> bool {

@@ -26,16 +26,19 @@ pub fn link<T: Send + Drop>(
     ensures received { IfOk result (λ ends. ends.1.items ≡ []) }
     ensures progress { IfOk result (λ ends. ends.1.progress ≡ Progress.Open) }
 {
+    let Ok((sending, receiving)) = Patience::pair(alloc) else {
+        return Err(LinkFault::Memory);
+    };
     match RingBuffer::new(alloc, capacity) {
         Ok((producer, consumer)) => Ok((
             Sender {
                 ring: producer,
-                patience: Patience::new(),
+                patience: sending,
             },
             Receiver {
                 ring: consumer,
                 progress: Progress::Open,
-                patience: Patience::new(),
+                patience: receiving,
             },
         )),
         Err(_) => Err(LinkFault::Memory),

@@ -7,10 +7,11 @@ use crate::patience::Patience;
 use rtrb::Consumer;
 use std::sync::Wait;
 
-/// Pops a message, waiting for one. `None` where the ring is empty and its producer was dropped.
+/// Pops a message, waiting for one. `None` where the ring is empty and its producer was dropped. A producer that sleeps is
+/// woken once half of the ring is empty.
 pub(crate) fn pop_waiting<M, R: Wait>(
     rt: &R,
-    patience: &mut Patience,
+    patience: &Patience,
     ring: &mut Consumer<M>,
 ) -> Option<M>
     ensures link { consumer_link ring.new ≡ consumer_link ring.old }
@@ -22,8 +23,10 @@ pub(crate) fn pop_waiting<M, R: Wait>(
         // Asked before the pop: all that a producer pushed before it was dropped is then in the ring.
         let abandoned = ring.is_abandoned();
         if let Ok(message) = ring.pop() {
-            let filled = ring.cached_slots().saturating_add(1);
-            patience.learn(round, filled, ring.capacity());
+            patience.end_wait(round);
+            if patience.peer_sleeps() && ring.slots() <= ring.capacity() / 2 {
+                patience.wake_peer();
+            }
             return Some(message);
         }
         if abandoned {

@@ -7,12 +7,22 @@ use crate::patience::Patience;
 use rtrb::{Producer, PushError};
 use std::sync::Wait;
 
+/// When a consumer that sleeps is woken for a message.
+#[derive(Clone, Copy, PartialEq, Eq)]
+pub(crate) enum Wake {
+    /// At once: there is much to do for it, or nothing comes after it.
+    AtOnce,
+    /// Once half of the ring is full, so that one system call serves many messages.
+    AtHalf,
+}
+
 /// Pushes a message, waiting for room.
 pub(crate) fn push_waiting<M, R: Wait>(
     rt: &R,
-    patience: &mut Patience,
+    patience: &Patience,
     ring: &mut Producer<M>,
     message: M,
+    wake: Wake,
 )
     ensures link { producer_link ring.new ≡ producer_link ring.old }
     ensures pushed { pushed ring.new ≡ pushed ring.old ++ message ∷ [] }
@@ -22,8 +32,12 @@ pub(crate) fn push_waiting<M, R: Wait>(
     for _ in rt.forever() {
         match ring.push(message) {
             Ok(()) => {
-                let emptied = ring.cached_slots().saturating_add(1);
-                patience.learn(round, emptied, ring.capacity());
+                patience.end_wait(round);
+                if patience.peer_sleeps()
+                    && (wake == Wake::AtOnce || ring.slots() <= ring.capacity() / 2)
+                {
+                    patience.wake_peer();
+                }
                 return;
             }
             Err(PushError::Full(back)) => message = back,

@@ -53,7 +53,7 @@ impl<T> Receiver<T> {
             Progress::Ended(end) => return Next::End(end),
             Progress::Lost => return Next::Lost,
         }
-        match pop_waiting(rt, &mut self.patience, &mut self.ring) {
+        match pop_waiting(rt, &self.patience, &mut self.ring) {
             Some(Message::Item(item)) => Next::Item(item),
             Some(Message::Last(end)) => {
                 self.progress = Progress::Ended(end);
@@ -64,6 +64,11 @@ impl<T> Receiver<T> {
                 Next::Lost
             }
         }
+    }
+
+    // How it waits.
+    pub(crate) fn patience(&self) -> &Patience {
+        &self.patience
     }
 
     /// Receives until the end, and lets the items go.

@@ -6,7 +6,7 @@ use crate::fault::End;
 use crate::message::Message;
 use crate::output::Out;
 use crate::patience::Patience;
-use crate::push::push_waiting;
+use crate::push::{Wake, push_waiting};
 use rtrb::Producer;
 use std::marker::Model;
 use std::sync::Wait;
@@ -36,11 +36,12 @@ impl<T> Model for Sender<T> {
 impl<T> Sender<T> {
     // Sends an item, waiting for room.
     #[tactic(auto, using(crate::proofs::MessageLemmas::messages))]
-    pub(crate) fn put<R: Wait>(&mut self, rt: &R, item: T)
+    pub(crate) fn put<R: Wait>(&mut self, rt: &R, item: T, wake: Wake)
         ensures link { self.new.link ≡ self.old.link }
         ensures items { self.new.items ≡ self.old.items ++ item ∷ [] }
     {
-        push_waiting(rt, &mut self.patience, &mut self.ring, Message::Item(item));
+        let message = Message::Item(item);
+        push_waiting(rt, &self.patience, &mut self.ring, message, wake);
     }
 
     // Looks again how far behind the receiver is, where it seemed to be far.
@@ -58,7 +59,7 @@ impl<T> Sender<T> {
         ensures link { self.new.link ≡ self.old.link }
         ensures items { self.new.items ≡ self.old.items ++ item ∷ [] }
     {
-        self.put(rt, item);
+        self.put(rt, item, Wake::AtHalf);
         Ok(())
     }
 
@@ -69,11 +70,8 @@ impl<T> Sender<T> {
         ensures items { result.items ≡ self.items }
         ensures end { result.end ≡ end }
     {
-        let Sender {
-            mut ring,
-            mut patience,
-        } = self;
-        push_waiting(rt, &mut patience, &mut ring, Message::Last(end));
+        let Sender { mut ring, patience } = self;
+        push_waiting(rt, &patience, &mut ring, Message::Last(end), Wake::AtOnce);
         ClosedSender { ring }
     }
 }

@@ -35,7 +35,8 @@ pub(crate) fn send_records<R: Wait, S: Source, O: Out<Record>>(
     loop {
         match take_record(alloc, &mut buffer, limit, count) {
             Ok(Taken::Record(record)) => {
-                if let Err(_) = out.send(rt, prepared(record, out.is_ahead())) {
+                let size = record.size();
+                if let Err(_) = out.send_sized(rt, prepared(record, out.is_ahead()), size) {
                     return End::Fault(RunFault::Memory);
                 }
                 count += 1;

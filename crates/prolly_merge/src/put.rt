@@ -23,7 +23,8 @@ pub(crate) fn send_put<O: Out<Pair>, R: Wait>(
     let Some(pair) = merged.into_pair() else {
         return Ok(pairs);
     };
-    match out.send(rt, prepared(pair, out.is_ahead())) {
+    let size = pair.size();
+    match out.send_sized(rt, prepared(pair, out.is_ahead()), size) {
         Ok(()) => Ok(pairs.saturating_add(1)),
         Err(_) => Err(AllocError),
     }

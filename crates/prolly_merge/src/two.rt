@@ -69,7 +69,8 @@ fn send_two<I: In<Record>, O: Out<Record>, R: Wait>(
     for _ in rt.forever() {
         match next_of_two(rt, left, right) {
             Step::Send(record) => {
-                if let Err(_) = out.send(rt, record) {
+                let size = record.size();
+                if let Err(_) = out.send_sized(rt, record, size) {
                     return (items, End::Fault(RunFault::Memory));
                 }
                 items = items.saturating_add(1);

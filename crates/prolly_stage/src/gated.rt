@@ -54,8 +54,13 @@ impl<'a, G: Ask, O> Gated<'a, G, O> {
         self.gate.ask(rt, self.worker, self.next);
     }
 
-    /// Sends the next item, which the gate has opened for.
-    pub(crate) fn send_next<T, R: Wait>(&mut self, rt: &R, item: T) -> Result<(), T>
+    /// Sends the next item, which takes so many bytes, and which the gate has opened for.
+    pub(crate) fn send_next<T, R: Wait>(
+        &mut self,
+        rt: &R,
+        item: T,
+        bytes: usize,
+    ) -> Result<(), T>
     where
         O: Out<T>,
         requires { G.HasOpened self.old.gate self.old.worker self.old.next }
@@ -67,7 +72,7 @@ impl<'a, G: Ask, O> Gated<'a, G, O> {
         ensures next { self.new.next ≡ one_more self.old.next }
     {
         self.next = self.next.saturating_add(1);
-        self.out.send(rt, item)
+        self.out.send_sized(rt, item, bytes)
     }
 
     /// Whether the output's receiver is far behind.

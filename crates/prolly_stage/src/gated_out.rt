@@ -31,8 +31,21 @@ impl<'a, T, G: Gate, O: Out<T>> Out<T> for Gated<'a, G, O> {
         ensures gate { self.new.gate ≡ self.old.gate }
         ensures next { self.new.next ≡ one_more self.old.next }
     {
+        self.send_sized(rt, item, 0)
+    }
+
+    /// Asks the gate, and then sends.
+    fn send_sized<R: Wait>(&mut self, rt: &R, item: T, bytes: usize) -> Result<(), T>
+        ensures link { O.link self.new.out ≡ O.link self.old.out }
+        ensures ok { OnOk result (O.sent self.new.out ≡ O.sent self.old.out ++ item ∷ []) }
+        ensures err { IfErr result (λ back. (back ≡ item) × (O.sent self.new.out ≡ O.sent self.old.out)) }
+        ensures asked { G.HasOpened self.old.gate self.old.worker self.old.next }
+        ensures worker { self.new.worker ≡ self.old.worker }
+        ensures gate { self.new.gate ≡ self.old.gate }
+        ensures next { self.new.next ≡ one_more self.old.next }
+    {
         self.ask(rt);
-        self.send_next(rt, item)
+        self.send_next(rt, item, bytes)
     }
 
     fn is_ahead(&self) -> bool {

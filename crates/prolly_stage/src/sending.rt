@@ -17,7 +17,8 @@ pub(crate) fn send_event<O: Out<ChunkEvent>, R: Wait>(
     ensures ok { OnOk result (O.sent out.new ≡ O.sent out.old ++ event ∷ []) }
     ensures err { OnErr result (O.sent out.new ≡ O.sent out.old) }
 {
-    match out.send(rt, event) {
+    let size = event.bytes().len();
+    match out.send_sized(rt, event, size) {
         Ok(()) => Ok(()),
         Err(_) => Err(AllocError),
     }

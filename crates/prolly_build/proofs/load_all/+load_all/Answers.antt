@@ -1,9 +1,12 @@
 use Rattle.std.proofs.lemmas.Grind.{common_steps}
 use Rattle.std.proofs.Common.{refl, arith}
 use Rattle.prolly_build.specs.Ran.{IsUnsent}
-use Rattle.prolly_build.proofs.FirstOnes.{all_rest}
+use Rattle.prolly_build.proofs.FirstOnes.{all_first, all_rest}
 use Rattle.prolly_build.proofs.RanSteps.{nothing_begun}
 use Rattle.prolly_build.proofs.load_all.+load_all.Goals as goal
+
+pub start_loader-requires-after_bounds : goal.start_loader-requires-after_bounds
+start_loader-requires-after_bounds g t c κs within = all_first IsUnsent _ _ _ c.in-Some.ensures.items c.requires.unsent
 
 pub load_all-wrote-requires-clause-unsent : goal.load_all-wrote-requires-clause-unsent
 load_all-wrote-requires-clause-unsent g t c κs within = all_rest IsUnsent _ _ _ c.in-Some.ensures.items c.requires.unsent

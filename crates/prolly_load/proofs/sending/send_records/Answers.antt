@@ -33,20 +33,20 @@ loop-record-preserved-in-Ok-Record g c =
     let l = c.loop-record in record {
       under_way = one_sent (g.S.Source.is_honest c.args.source.now) c.args.limit l.count l.buffer c.take_record.new.buffer
           (g.S.Source.left c.args.source.now) (g.S.Source.left l.source) (g.O.Out.sent c.args.out.now) (g.O.Out.sent l.out)
-          (g.O.Out.sent c.send.new.self) c.in-Ok-Record.record l.invariant.under_way
+          (g.O.Out.sent c.send_sized.new.self) c.in-Ok-Record.record l.invariant.under_way
           (record_taken c.args.limit l.count l.buffer c.take_record.new.buffer c.in-Ok-Record.field-0 c.in-Ok-Record.record c.in-Ok-Record.ensures c.in-Ok-Record.field-0-is)
-          (c.in_default-send.ensures.ok ∙ ap (λ r. g.O.Out.sent l.out ++ r ∷ []) c.prepared.ensures);
-      link = c.send.ensures.link ∙ l.invariant.link;
+          (c.in_default-send_sized.ensures.ok ∙ ap (λ r. g.O.Out.sent l.out ++ r ∷ []) c.prepared.ensures);
+      link = c.send_sized.ensures.link ∙ l.invariant.link;
       honest = l.invariant.honest;
       steady = l.invariant.steady;
       failures = l.invariant.failures;
     }
 
-pub returns-in-Err-send-clause-loaded : goal.returns-in-Err-send-clause-loaded
-returns-in-Err-send-clause-loaded g c =
+pub returns-in-Err-send_sized-clause-loaded : goal.returns-in-Err-send_sized-clause-loaded
+returns-in-Err-send_sized-clause-loaded g c =
     let l = c.loop-record in
     refused_ends c.args.file c.args.limit (g.S.Source.is_honest c.args.source.now) l.count l.buffer (g.S.Source.left c.args.source.now) (g.S.Source.left l.source)
-    (g.O.Out.sent c.args.out.now) (g.O.Out.sent l.out) (g.O.Out.sent c.send.new.self) l.invariant.under_way c.in-Err-send.ensures.err.1
+    (g.O.Out.sent c.args.out.now) (g.O.Out.sent l.out) (g.O.Out.sent c.send_sized.new.self) l.invariant.under_way c.in-Err-send_sized.ensures.err.1
 
 pub returns-in-Err-clause-loaded : goal.returns-in-Err-clause-loaded
 returns-in-Err-clause-loaded g c =

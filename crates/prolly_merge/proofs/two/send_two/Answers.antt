@@ -33,8 +33,8 @@ loop-preserved g c =
     let sent = g.O.Out.sent c.args.out.now in
     record {
       advance = step_advances g.I.In.link g.I.In.progress g.I.In.Follows g.I.In.received g.met.I.In.goes_on g.met.I.In.received_both os ms ns r i.advance c.in-Send.ensures;
-      out_link = c.send.ensures.link ∙ i.out_link;
-      items = count_more sent (g.O.Out.sent c.loop.out) (g.O.Out.sent c.send.new.self) (r ∷ []) c.loop.items c.saturating_add-items.result i.items ok c.saturating_add-items.ensures;
+      out_link = c.send_sized.ensures.link ∙ i.out_link;
+      items = count_more sent (g.O.Out.sent c.loop.out) (g.O.Out.sent c.send_sized.new.self) (r ∷ []) c.loop.items c.saturating_add-items.result i.items ok c.saturating_add-items.ensures;
       first = (
         i.first.0 ++ r ∷ [],
         ok ∙ ap (λ x. x ++ r ∷ []) i.first.1 ∙ append_assoc sent i.first.0 (r ∷ []),

@@ -1,9 +1,9 @@
 use Rattle.std.proofs.lemmas.Grind.{common_steps}
 use Rattle.std.proofs.Common.{arith, rules}
-use Rattle.prolly_link.proofs.batch_sender.BatchSender.send.Goals as goal
+use Rattle.prolly_link.proofs.batch_sender.BatchSender.send_sized.Goals as goal
 
-pub returns-then-len-self-clause-ok : goal.returns-then-len-self-clause-ok
-returns-then-len-self-clause-ok g c = grind (arith, common_steps) steps 2000000
+pub returns-then-bytes-lt-LARGE_BATCH_BYTES-clause-ok : goal.returns-then-bytes-lt-LARGE_BATCH_BYTES-clause-ok
+returns-then-bytes-lt-LARGE_BATCH_BYTES-clause-ok g c = grind (arith, common_steps) steps 2000000
 
 pub returns-in-Err-clause-ok : goal.returns-in-Err-clause-ok
 returns-in-Err-clause-ok g c = search rules
