@@ -1,5 +1,7 @@
 // The end of a batch link that receives.
 ghost use Rattle.std.specs.Prelude.{◌≡◌, ◌++◌};
+ghost use Rattle.std.specs.Vec.Iter.{into_iter_items, into_iter_len};
+ghost use Rattle.prolly_link.specs.Hands.{given_of, IsInHand};
 ghost use Rattle.prolly_link.specs.Receipts.{given_items, progress_after, GivesAgain};
 
 use crate::batch::Batch;
@@ -37,6 +39,36 @@ impl<T> Model for BatchReceiver<T> {
     ghost invariant = { λ r. IsInHand r.receiver (into_iter_items r.hand) (into_iter_len r.hand) };
 }
 
+// The first item of the next batch, of which the others are in hand then, or the end. It stands apart so that what all other
+// items take stays small.
+#[inline(never)]
+fn recv_batch<T: Drop, R: Wait>(
+    rt: &R,
+    receiver: &mut Receiver<Batch<T>>,
+    in_flight: &InFlight,
+    hand: &mut IntoIter<T, Global>,
+) -> Next<T>
+    requires hand { IsInHand receiver.old (into_iter_items hand.old) (into_iter_len hand.old) }
+    requires empty { into_iter_len hand.old ≡ 0 }
+    ensures hand { IsInHand receiver.new (into_iter_items hand.new) (into_iter_len hand.new) }
+    ensures link { receiver.new.link ≡ receiver.old.link }
+    ensures items { (given_of receiver.new (into_iter_items hand.new)).items
+        ≡ (given_of receiver.old (into_iter_items hand.old)).items ++ given_items result }
+    ensures progress { receiver.new.progress ≡ progress_after result }
+    ensures again { GivesAgain receiver.old.progress result }
+{
+    match receiver.recv(rt) {
+        Next::Item(batch) => {
+            in_flight.remove(receiver.patience(), batch.bytes());
+            let (first, rest) = batch.into_first();
+            *hand = rest;
+            Next::Item(first)
+        }
+        Next::End(end) => Next::End(end),
+        Next::Lost => Next::Lost,
+    }
+}
+
 impl<T: Drop> BatchReceiver<T> {
     ghost use Rattle.prolly_link.specs.BatchDraining.{IsBatchDrainOf};
 
@@ -49,17 +81,7 @@ impl<T: Drop> BatchReceiver<T> {
     {
         match self.hand.next() {
             Some(item) => Next::Item(item),
-            None => match self.receiver.recv(rt) {
-                Next::Item(batch) => {
-                    self.in_flight
-                        .remove(self.receiver.patience(), batch.bytes());
-                    let (first, rest) = batch.into_first();
-                    self.hand = rest;
-                    Next::Item(first)
-                }
-                Next::End(end) => Next::End(end),
-                Next::Lost => Next::Lost,
-            },
+            None => recv_batch(rt, &mut self.receiver, &self.in_flight, &mut self.hand),
         }
     }
 

@@ -103,6 +103,26 @@ impl<T: Drop> BatchSender<T> {
         ensures err { IfErr result (λ back. (back ≡ item) × (self.new ≡ self.old)) }
         ensures accepts { 0 < self.old.room → IsOk result }
     {
+        let held = self.bytes.saturating_add(bytes);
+        let has_room = self.pending.capacity() >= self.size && self.pending.len() + 1 < self.size;
+        if has_room && held < LARGE_BATCH_BYTES {
+            self.pending.push_reserved(item);
+            self.bytes = held;
+            return Ok(());
+        }
+        self.send_at_an_edge(rt, item, bytes)
+    }
+
+    // As `send_sized`, where a batch may begin or end with the item. It stands apart so that what all other items take
+    // stays small.
+    #[inline(never)]
+    fn send_at_an_edge<R: Wait>(&mut self, rt: &R, item: T, bytes: usize) -> Result<(), T>
+        ensures link { self.new.link ≡ self.old.link }
+        ensures ok { OnOk result (self.new.items ≡ self.old.items ++ item ∷ []) }
+        ensures room { OnOk result (bytes ≡ 0 → self.old.room ≤ self.new.room + 1) }
+        ensures err { IfErr result (λ back. (back ≡ item) × (self.new ≡ self.old)) }
+        ensures accepts { 0 < self.old.room → IsOk result }
+    {
         if let Err(_) = take_room(&mut self.pending, self.size) {
             return Err(item);
         }

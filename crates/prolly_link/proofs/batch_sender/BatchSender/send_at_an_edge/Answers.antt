@@ -1,6 +1,6 @@
 use Rattle.std.proofs.lemmas.Grind.{common_steps}
 use Rattle.std.proofs.Common.{arith, rules}
-use Rattle.prolly_link.proofs.batch_sender.BatchSender.send_sized.Goals as goal
+use Rattle.prolly_link.proofs.batch_sender.BatchSender.send_at_an_edge.Goals as goal
 
 pub returns-then-bytes-lt-LARGE_BATCH_BYTES-clause-ok : goal.returns-then-bytes-lt-LARGE_BATCH_BYTES-clause-ok
 returns-then-bytes-lt-LARGE_BATCH_BYTES-clause-ok g c = grind (arith, common_steps) steps 2000000
