@@ -2,21 +2,18 @@
 use crate::bell::Bell;
 use crate::shared::shared;
 use std::alloc::{AllocError, Global};
+use std::hint;
 use std::sync::{Arc, Wait};
 use std::time::Duration;
-use std::{hint, thread};
 
-/// Rounds of a wait that only look again.
-const LOOKS: u32 = 64;
-
-/// Rounds, those included, in which an end stays awake and gives the turn to other threads. From then on it sleeps.
-const AWAKE: u32 = 66;
+/// Rounds of a wait that only look again: one or two microseconds. From then on it sleeps.
+const LOOKS: u32 = 32;
 
 /// How long the first sleep of a wait is at most. Each further one is up to twice as long as the one before.
-const FIRST_SLEEP_MILLIS: u64 = 2;
+const FIRST_SLEEP_MILLIS: u64 = 16;
 
-/// Enough of them to come from 2 milliseconds to 128.
-const MOST_DOUBLINGS: u32 = 6;
+/// Enough of them to come from 16 milliseconds to 128.
+const MOST_DOUBLINGS: u32 = 3;
 
 /// How an end waits: it looks for a while, then it sleeps until the other end wakes it.
 ///
@@ -52,10 +49,8 @@ impl Patience {
     pub(crate) fn pause<R: Wait>(&self, rt: &R, round: u32) {
         if round < LOOKS {
             hint::spin_loop();
-        } else if round < AWAKE {
-            thread::yield_now();
         } else if self.own.is_asleep() {
-            let doublings = (round - AWAKE).min(MOST_DOUBLINGS);
+            let doublings = (round - LOOKS).min(MOST_DOUBLINGS);
             self.own
                 .sleep(rt, Duration::from_millis(FIRST_SLEEP_MILLIS << doublings));
         } else {
@@ -65,7 +60,7 @@ impl Patience {
 
     /// The end of a wait of so many rounds.
     pub(crate) fn end_wait(&self, rounds: u32) {
-        if rounds > AWAKE {
+        if rounds > LOOKS {
             self.own.get_up();
         }
     }
