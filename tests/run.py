@@ -1,11 +1,12 @@
 #!/usr/bin/env python3
 """Tests the program as a user runs it: `tests/run.py PROGRAM`, or over more random files than the gate has
-`tests/run.py PROGRAM --random SEED COUNT`.
+`tests/run.py PROGRAM --random SEED COUNT`, or to look for builds that hang `tests/run.py PROGRAM --links COUNT`.
 
 Each case is a run with its words, input, output, error, status and files. What is wanted comes from
 docs/format.md, from a second builder written after it (trees.py), or, for texts of help, from texts/. Beside the
-cases there are runs in which files may be lost, runs in which each growth of memory is refused in turn, the examples
-of the README, the demonstration, code that must not compile, and random command lines over random files.
+cases there are runs in which files may be lost, runs whose workers wait for one another, runs in which each growth of
+memory is refused in turn, the examples of the README, the demonstration, code that must not compile, and random command
+lines over random files.
 """
 
 import sys
@@ -18,6 +19,7 @@ import damaged
 import demo
 import files
 import growths
+import links
 import look_ups
 import misuse
 import pack
@@ -54,10 +56,13 @@ def all_runs(program, folder):
         for case in random_runs.by_hand(sys.argv[3:]):
             yield case.name, run(program, case)
         return
+    if sys.argv[2:3] == ["--links"]:
+        yield from links.by_hand(program, int(sys.argv[3]))
+        return
     for part in (command_line, pack, scratch, build, look_ups, damaged, random_runs):
         for case in part.cases(folder):
             yield case.name, run(program, case)
-    for part in (files, growths, readme, demo, misuse):
+    for part in (files, links, growths, readme, demo, misuse):
         yield from part.all_runs(program, folder)
 
 
