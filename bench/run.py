@@ -1,126 +1,163 @@
 #!/usr/bin/env python3
-"""How long the program takes: `bench/run.py PROGRAM PARTS`.
+"""How long the program takes: `bench/run.py PROGRAM PARTS [TURNS]`.
 
-PARTS is the program that times the parts. Machines are noisy, so what is compared runs in turn, several
-times, and the medians are compared. Peaks are those of the processes, as the system tells them.
+PARTS is the program that times the parts. Machines are noisy, so what is compared runs in turn, TURNS times (nine, if it
+is not said), and a ratio is taken within a turn. What is shown are medians; in brackets the least and the most. A ratio
+`of hashes` is beside the hashes alone that the tree takes, in one thread. Switches of threads are those that they asked
+for, by waiting, and those that they did not.
 """
 
-import ctypes
 import os
 import re
-import statistics
 import subprocess
 import sys
 import tempfile
-import time
+from dataclasses import dataclass
 from pathlib import Path
+from statistics import median
+
+# The tests measure runs, too.
+sys.path.append(str(Path(__file__).resolve().parents[1] / "tests"))
+from measured import run, run_over_pipe  # noqa: E402
 
 RECORDS = 1_000_000
-TURNS = 9
-LATE_MILLISECONDS = (0, 2, 8)
+SHORT_VALUE = 16
 
-# The number of `prctl` that sets how much later than asked for the kernel may end a thread's sleep.
-PR_SET_TIMERSLACK = 29
+MORE_RECORDS = 16_000_000
+
+LONG_RECORDS = 200_000
+LONG_VALUE = 1_024
+
+LONGEST_RECORDS = 16_384
+LONGEST_VALUE = 65_536
+
+LATE_MILLISECONDS = (0, 2, 8)
+"""By how much the kernel may end a thread's sleep late, as on a guest whose idle cores the host lends to others."""
+
+SECONDS_OF_WAITING = 3
+"""How long a build waits for a pipe that gives a record a second."""
+
+WRITTEN_AT_ONCE = 256
+"""Records that are written with one call."""
 
 
 def main():
-    """Runs all."""
+    """Shows all."""
     program, parts = (str(Path(name).resolve()) for name in sys.argv[1:3])
+    turns = int(sys.argv[3]) if len(sys.argv) > 3 else 9
+    print(f"{turns} turns; the least peak memory that can be told is {run(['/bin/true']).peak / 1e6:.0f} MB")
     with tempfile.TemporaryDirectory() as folder:
         os.chdir(folder)
-        write_records("records", range(RECORDS))
-        compare_commands(program, parts)
-        show_memory(program)
-        show_late_wakes(program)
-        compare_worker(parts, "load", str(RECORDS), "records")
-    for words in (["merge-of-2", str(RECORDS)], ["merge-of-16", str(RECORDS)], ["leaves", "100"]):
-        compare_worker(parts, *words)
-    for words in (["scratch", "100000"], ["scratch", "1000000"]):
-        print(output(parts, *words))
-    for kind in ("link", "batches-of-16", "batches-of-64"):
-        print(output(parts, kind, "1000000"))
-    _, seconds, _ = measured([parts, "wait", "1"], subprocess.DEVNULL)
-    print(f"a receiver that waits for a second: {seconds:.2f} s of processor time")
+        show_commands(program, parts, turns)
+        show_builds(program, parts, turns)
+        show_long_builds(program, parts, turns)
+        show_growth(program, parts, turns)
+        show_longest_values(program)
+        show_waiting(program, parts)
+        show_workers(parts, turns)
+        show_links(parts)
 
 
-def write_records(name, numbers):
-    """A record file of pairs of 38 bytes whose keys are these numbers."""
-    with open(name, "wb") as file:
+# ---- record files
+
+
+def write_records(name, numbers, value_bytes=SHORT_VALUE):
+    """A record file whose keys are these numbers, with values of so many bytes."""
+    value = value_bytes.to_bytes(4, "big") + b"\x5a" * value_bytes
+    with open(name, "wb", buffering=WRITTEN_AT_ONCE * (len(value) + 18)) as file:
         for number in numbers:
-            file.write(b"\0\x10" + number.to_bytes(16, "big") + b"\0\0\0\x10" + b"\x5a" * 16)
+            file.write(spelled(number, value))
 
 
-def write_parts(count):
-    """The same records in so many files, each with every so manieth record. Gives the files' names."""
-    names = [f"{place} of {count}" for place in range(count)]
+def spelled(number, value):
+    """The record of a number, with a value behind its length."""
+    return b"\0\x10" + number.to_bytes(16, "big") + value
+
+
+def write_parts(files, count, value_bytes=SHORT_VALUE):
+    """So many records in so many files, each with every so manieth record. Gives the files' names."""
+    names = [f"{place} of {files} of {count} of {value_bytes}" for place in range(files)]
     for place, name in enumerate(names):
-        write_records(name, range(place, RECORDS, count))
+        write_records(name, range(place, count, files), value_bytes)
     return names
 
 
-def compare_commands(program, parts):
-    """`scratch`, `build`, `check` and `get` beside the hashes alone that the tree takes."""
-    key = (RECORDS // 2).to_bytes(16, "big").hex()
-    commands = {
-        "scratch": ["scratch", "--out", "tree"],
-        "build of 4": ["build", "tree", *write_parts(4)],
-        "build of 16": ["build", "tree", *write_parts(16)],
-        "build": ["build", "tree", "records"],
-        "check": ["check", "tree"],
-        "get": ["get", "tree", key],
-    }
-    hashing, times, peaks = [], {name: [] for name in commands}, {name: 0 for name in commands}
-    for _ in range(TURNS):
-        hashing.append(int(re.search(r"(\d+) ms", output(parts, "hash", str(RECORDS)))[1]) / 1000)
-        for name, words in commands.items():
-            with open("records", "rb") as records:
-                seconds, _, peak = measured([program, *words], records)
-            times[name].append(seconds)
-            peaks[name] = max(peaks[name], peak)
-    print(f"{RECORDS} records of 38 bytes, {TURNS} turns, medians and (least to most):")
-    print(f"  hashes alone       {spread(hashing)}")
-    for name in commands:
-        of_hashes = statistics.median(times[name]) / statistics.median(hashing)
-        of_scratch = statistics.median(times[name]) / statistics.median(times["scratch"])
+def remove(names):
+    """Removes files."""
+    for name in names:
+        os.remove(name)
+
+
+# ---- runs in turn
+
+
+@dataclass
+class Command:
+    """A command that is measured."""
+
+    words: list
+    stdin: str = os.devnull
+    """The file that it reads."""
+    late: float = 0
+    """By how many seconds its sleeps may end late."""
+    cores: tuple = ()
+    """The cores that it runs on; none stand for all."""
+
+    def run(self):
+        """Runs it."""
+        with open(self.stdin, "rb") as stdin:
+            done = run(self.words, stdin=stdin, late=self.late, cores=self.cores)
+        if done.status != 0:
+            sys.exit(f"{self.words} failed: {done.err.decode()}")
+        return done
+
+
+@dataclass
+class Figures:
+    """The runs of some commands in turn, and the seconds of the hashes alone in each turn."""
+
+    hashing: list
+    runs: dict
+
+    def show(self, name, *beside):
+        """A line for a command, with its times beside those of others."""
+        runs = self.runs[name]
+        seconds = [done.seconds for done in runs]
+        ratios = [f"{ratio(seconds, self.hashing)} of hashes"]
+        ratios += [f"{ratio(seconds, [done.seconds for done in self.runs[other]])} of {other}" for other in beside]
+        busy = [done.busy for done in runs]
         print(
-            f"  prolly {name:11} {spread(times[name])}, {of_hashes:.2f} times the hashes, {of_scratch:.2f} times scratch;"
-            f" peak memory {peaks[name] / 1e6:.0f} MB, {peaks[name] / os.path.getsize('records'):.1f} times the records"
+            f"  {name:28} {spread(seconds)}, {', '.join(ratios)};"
+            f" processor {median(busy):.2f} s, {ratio(busy, self.hashing)} of hashes;"
+            f" switches {median(done.given for done in runs):.0f} + {median(done.lost for done in runs):.0f};"
+            f" peak {max(done.peak for done in runs) / 1e6:.0f} MB"
         )
 
-
-def show_memory(program):
-    """The memory of a build of four times as many records."""
-    write_records("many", range(4 * RECORDS))
-    seconds, _, peak = measured([program, "build", "tree", "many"], subprocess.DEVNULL)
-    os.remove("many")
-    print(f"prolly build of {4 * RECORDS} records: {seconds:.2f} s, peak memory {peak / 1e6:.0f} MB")
+    def show_hashes(self, title):
+        """A line for what is compared, and for the hashes alone."""
+        print(f"{title}:")
+        print(f"  {'hashes alone':28} {spread(self.hashing)}")
 
 
-def show_late_wakes(program):
-    """Builds whose threads are woken late, as on a guest whose idle cores the host lends to others."""
-    command = [program, "build", "tree", "records"]
-    for late in LATE_MILLISECONDS:
-        runs = [measured(command, subprocess.DEVNULL, late) for _ in range(TURNS)]
-        seconds, busy = [run[0] for run in runs], [run[1] for run in runs]
-        print(
-            f"prolly build, naps up to {late} ms longer: {spread(seconds)}, processor time {statistics.median(busy):.2f} s"
-        )
+def in_turn(parts, commands, turns, *hashed):
+    """Runs commands in turn, each turn behind the hashes alone of so many pairs."""
+    figures = Figures([], {name: [] for name in commands})
+    for _ in range(turns):
+        told = output(parts, "hash", *map(str, hashed))
+        figures.hashing.append(int(re.search(r"(\d+) ms", told)[1]) / 1000)
+        for name, command in commands.items():
+            figures.runs[name].append(command.run())
+    return figures
 
 
-def compare_worker(parts, *words):
-    """A worker of a build, over lists in one thread, beside the hashes that the part of the tree takes."""
-    lines = [output(parts, *words) for _ in range(TURNS)]
-    working = [int(re.search(r": (\d+) ms", line)[1]) / 1000 for line in lines]
-    hashing = [int(re.search(r"hash (\d+) ms", line)[1]) / 1000 for line in lines]
-    ratio = statistics.median(working) / statistics.median(hashing)
-    print(f"{lines[0].split(':')[0]}: {spread(working)}, hashes alone {spread(hashing)}, {ratio:.2f} of it")
-    for note in set(re.findall(r"least read but the last \d+ bytes", lines[0])):
-        print(f"  {note}")
+def ratio(seconds, others):
+    """How times are beside others of the same turns."""
+    return f"{median(one / other for one, other in zip(seconds, others, strict=True)):.2f}"
 
 
 def spread(seconds):
-    """A median with its spread."""
-    return f"{statistics.median(seconds):.2f} s ({min(seconds):.2f} to {max(seconds):.2f})"
+    """A median with the least and the most."""
+    return f"{median(seconds):.2f} s ({min(seconds):.2f} to {max(seconds):.2f})"
 
 
 def output(*command):
@@ -128,19 +165,126 @@ def output(*command):
     return subprocess.run(command, check=True, capture_output=True, text=True).stdout.strip()
 
 
-def measured(command, stdin, late=0):
-    """A run's seconds, its seconds of processor time, and its peak memory in bytes. Its sleeps may end so many
-    milliseconds late."""
+def build(program, names, out="tree"):
+    """The words of a build."""
+    return [program, "build", out, *names]
 
-    def allow_late_wakes():
-        ctypes.CDLL(None).prctl(PR_SET_TIMERSLACK, ctypes.c_ulong(late * 1_000_000))
 
-    start = time.monotonic()
-    child = subprocess.Popen(command, stdin=stdin, stdout=subprocess.DEVNULL, preexec_fn=allow_late_wakes if late else None)
-    _, status, usage = os.wait4(child.pid, 0)
-    if status != 0:
-        sys.exit(f"{command} failed")
-    return time.monotonic() - start, usage.ru_utime + usage.ru_stime, usage.ru_maxrss * 1024
+def late_builds(program, kinds):
+    """A build of each kind, by each lateness of sleeps."""
+    return {
+        f"{kind}, sleeps {late} ms late": Command(build(program, names), late=late / 1000)
+        for late in LATE_MILLISECONDS
+        for kind, names in kinds.items()
+    }
+
+
+# ---- what is shown
+
+
+def show_commands(program, parts, turns):
+    """`scratch`, `build`, `check` and `get`."""
+    write_records("records", range(RECORDS))
+    key = (RECORDS // 2).to_bytes(16, "big").hex()
+    commands = {
+        "scratch": Command([program, "scratch", "--out", "tree"], stdin="records"),
+        "build": Command(build(program, ["records"])),
+        "check": Command([program, "check", "tree"]),
+        "get": Command([program, "get", "tree", key]),
+    }
+    figures = in_turn(parts, commands, turns, RECORDS)
+    figures.show_hashes(f"{RECORDS} records of 38 bytes")
+    figures.show("scratch")
+    for name in ("build", "check", "get"):
+        figures.show(name, "scratch")
+    print(f"  the records have {os.path.getsize('records') / 1e6:.0f} MB, the tree {os.path.getsize('tree') / 1e6:.0f} MB")
+    remove(["records", "tree"])
+
+
+def show_builds(program, parts, turns):
+    """Builds of the same records in more and more files, with timers that are late, and on two cores."""
+    kinds = {kind: write_parts(files, RECORDS) for kind, files in (("1 file", 1), ("4 files", 4), ("16 files", 16))}
+    cores = tuple(sorted(os.sched_getaffinity(0))[:2])
+    commands = {"1 file, two cores": Command(build(program, kinds["1 file"]), cores=cores), **late_builds(program, kinds)}
+    figures = in_turn(parts, commands, turns, RECORDS)
+    figures.show_hashes(f"builds of {RECORDS} records of 38 bytes")
+    for name in commands:
+        figures.show(name)
+    remove(["tree", *(name for names in kinds.values() for name in names)])
+
+
+def show_long_builds(program, parts, turns):
+    """Builds of longer values."""
+    kinds = {"4 files": write_parts(4, LONG_RECORDS, LONG_VALUE)}
+    commands = late_builds(program, kinds)
+    figures = in_turn(parts, commands, turns, LONG_RECORDS, LONG_VALUE)
+    figures.show_hashes(f"builds of {LONG_RECORDS} records with values of {LONG_VALUE} bytes")
+    for name in commands:
+        figures.show(name)
+    remove(["tree", *kinds["4 files"]])
+
+
+def show_growth(program, parts, turns):
+    """A build of many more records beside one of fewer."""
+    counts = (RECORDS, MORE_RECORDS)
+    kinds = {f"{count} records": write_parts(16, count) for count in counts}
+    few, many = kinds
+    figures = in_turn(parts, {kind: Command(build(program, kinds[kind])) for kind in kinds}, turns, RECORDS)
+    figures.show_hashes(f"builds of 16 files, beside the hashes of {RECORDS} records")
+    figures.show(few)
+    figures.show(many, few)
+    remove(["tree", *kinds[few], *kinds[many]])
+
+
+def show_longest_values(program):
+    """The memory of builds of the longest values."""
+    print(f"builds of {LONGEST_RECORDS} records with values of {LONGEST_VALUE} bytes at --bits 4, one run each:")
+    for files in (1, 16):
+        names = write_parts(files, LONGEST_RECORDS, LONGEST_VALUE)
+        done = Command([program, "build", "--bits", "4", os.devnull, *names]).run()
+        print(f"  in {files}: peak {done.peak / 1e6:.0f} MB, {done.seconds:.2f} s, processor {done.busy:.2f} s")
+        remove(names)
+
+
+def show_waiting(program, parts):
+    """The processor time of an end that waits for a second, and of a build that waits for a pipe."""
+    waiting = Command([parts, "wait", "1"]).run()
+    print(f"a receiver that waits for a second: processor {waiting.busy:.3f} s")
+    value = SHORT_VALUE.to_bytes(4, "big") + b"\x5a" * SHORT_VALUE
+    records = [spelled(number, value) for number in range(SECONDS_OF_WAITING)]
+    Path("at once").write_bytes(b"".join(records))
+    at_once = Command(build(program, ["at once"])).run()
+    slowly = run_over_pipe(build(program, ["pipe"]), "pipe", records, 1)
+    print(
+        f"a build of {SECONDS_OF_WAITING} records, one a second: processor {slowly.busy:.3f} s,"
+        f" switches {slowly.given} + {slowly.lost}; from a file {at_once.busy:.3f} s, {at_once.given} + {at_once.lost}"
+    )
+
+
+def show_workers(parts, turns):
+    """The workers of a build, over lists in one thread."""
+    write_records("records", range(RECORDS))
+    show_worker(parts, turns, "load", str(RECORDS), "records")
+    for words in (["merge-of-2", str(RECORDS)], ["merge-of-16", str(RECORDS)], ["leaves", "100"]):
+        show_worker(parts, turns, *words)
+    for count in ("100000", "1000000"):
+        print(output(parts, "scratch", count))
+
+
+def show_worker(parts, turns, *words):
+    """A worker, beside the hashes that its part of the tree takes."""
+    lines = [output(parts, *words) for _ in range(turns)]
+    working = [int(re.search(r": (\d+) ms", line)[1]) / 1000 for line in lines]
+    hashing = [int(re.search(r"hash (\d+) ms", line)[1]) / 1000 for line in lines]
+    print(f"{lines[0].split(':')[0]}: {spread(working)}, hashes alone {spread(hashing)}, {ratio(working, hashing)} of it")
+    for note in set(re.findall(r"least read but the last \d+ bytes", lines[0])):
+        print(f"  {note}")
+
+
+def show_links(parts):
+    """What an item costs that goes over a link."""
+    for kind in ("link", "batches-of-16", "batches-of-64"):
+        print(output(parts, kind, "1000000"))
 
 
 if __name__ == "__main__":

@@ -3,12 +3,11 @@ it; nobody waits for ever; waiting takes next to no time of the processor; and w
 
 import os
 import tempfile
-import time
 from functools import partial
 from pathlib import Path
 
 from harness import file_differences, lay_out, shown
-from measured import HUNG, Measured, run
+from measured import HUNG, run, run_over_pipe
 from scratch import numbered
 from trees import begun_file, chunk_file, record, records, report
 
@@ -116,16 +115,10 @@ def waits_cheaply(program, folder):
     """A build over a pipe that gives a record a second takes little more of the processor than one over a file."""
     pairs = numbered(SLOW_PAIRS)
     lay_out(folder, {"0.rec": records(pairs)})
-    os.mkfifo(folder / "slow")
-    at_once = run([program, "build", "--bits", "0", "out.prl", "0.rec"], LONGEST, folder=folder)
-    # Open for both, since opening it for writing alone waits for a reader.
-    pipe = os.open(folder / "slow", os.O_RDWR)
-    begun = Measured([program, "build", "--bits", "0", "out.prl", "slow"], folder=folder)
-    for pair in pairs:
-        time.sleep(PACE)
-        os.write(pipe, record(*pair))
-    os.close(pipe)
-    slowly = begun.finish(LONGEST)
+    build = [program, "build", "--bits", "0", "out.prl"]
+    at_once = run([*build, "0.rec"], LONGEST, folder=folder)
+    spelled = [record(*pair) for pair in pairs]
+    slowly = run_over_pipe([*build, "slow"], folder / "slow", spelled, PACE, LONGEST, folder=folder)
     differences = answer_differences(at_once, report(pairs, 0)) + answer_differences(slowly, report(pairs, 0))
     if slowly.busy - at_once.busy > WAITING_BUSY:
         differences.append(f"{slowly.busy:.3f} s of processor time, {at_once.busy:.3f} s from a file")

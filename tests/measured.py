@@ -4,6 +4,7 @@ import os
 import signal
 import subprocess
 import sys
+import time
 from dataclasses import dataclass
 from pathlib import Path
 
@@ -67,3 +68,16 @@ class Measured:
 def run(command, longest=None, **how):
     """Runs a command to its end, or for so many seconds and then ends it. Gives the run."""
     return Measured(command, **how).finish(longest)
+
+
+def run_over_pipe(command, pipe, parts, pace, longest=None, **how):
+    """Runs a command that reads a pipe, a path, which gives it these parts, one after each so many seconds. Gives the run."""
+    os.mkfifo(pipe)
+    # Open for both, since opening it for writing alone waits for a reader.
+    both = os.open(pipe, os.O_RDWR)
+    begun = Measured(command, **how)
+    for part in parts:
+        time.sleep(pace)
+        os.write(both, part)
+    os.close(both)
+    return begun.finish(longest)

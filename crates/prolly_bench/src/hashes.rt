@@ -1,46 +1,55 @@
 //! The hashes alone that a tree takes, to compare with.
-use crate::samples::numbered_entry;
+use crate::samples::{Entry, VALUE_BYTES};
 use anyhow::Result;
 use sha2::{Digest, Sha512};
+use std::alloc::{AllocError, Global};
 use std::io::Print;
 use std::time::{Clock, Instant};
 
 /// How many entries a chunk has: as many as one is cut by 12 bits of a hash on average.
 const CHUNK_ENTRIES: u32 = 4_096;
 
-/// Times what the format asks to be hashed of so many pairs of 38 bytes: each entry by itself, and the
-/// bytes of each leaf. The nodes above are left out; they are less than a thousandth.
-pub fn time_hashes<R: Print + Clock>(rt: &R, count: u32) -> Result<()> {
+/// Times what the format asks to be hashed of so many pairs with keys of 16 bytes and values of so many: each entry by
+/// itself, and the bytes of each leaf. The nodes above are left out; they are less than a thousandth.
+pub fn time_hashes<R: Print + Clock>(
+    rt: &R,
+    alloc: Global,
+    count: u32,
+    value_bytes: u32,
+) -> Result<()> {
     let start = Instant::now(rt)?;
-    let sum = hash_all(count);
+    let sum = hash_all(alloc, count, value_bytes)?;
     let millis = start.elapsed(rt)?.as_millis();
     println!(rt; "hash {count} pairs: {millis} ms, sum {sum}")?;
     Ok(())
 }
 
 /// Hashes all, and gives a sum of bytes of the hashes, so that no hash is left out.
-pub fn hash_all(count: u32) -> u32 {
+pub fn hash_all(alloc: Global, count: u32, value_bytes: u32) -> Result<u32, AllocError> {
+    let mut entry = Entry::new(alloc, value_bytes)?;
     let mut sum = 0u32;
     let mut chunk = Sha512::new();
     chunk.update(&[0]);
     for number in 0..count {
-        let entry = numbered_entry(number);
-        sum = sum.wrapping_add(u32::from(Sha512::digest(&entry)[0]));
-        chunk.update(&entry);
+        entry.spell(number)?;
+        sum = sum.wrapping_add(u32::from(Sha512::digest(entry.bytes())[0]));
+        chunk.update(entry.bytes());
         if number % CHUNK_ENTRIES == CHUNK_ENTRIES - 1 {
             sum = sum.wrapping_add(u32::from(chunk.finalize()[0]));
             chunk = Sha512::new();
             chunk.update(&[0]);
         }
     }
-    sum.wrapping_add(u32::from(chunk.finalize()[0]))
+    Ok(sum.wrapping_add(u32::from(chunk.finalize()[0])))
 }
 
 /// Hashes each entry by itself, and gives a sum of bytes of the hashes.
-pub fn hash_entries(count: u32) -> u32 {
+pub fn hash_entries(alloc: Global, count: u32) -> Result<u32, AllocError> {
+    let mut entry = Entry::new(alloc, VALUE_BYTES)?;
     let mut sum = 0u32;
     for number in 0..count {
-        sum = sum.wrapping_add(u32::from(Sha512::digest(&numbered_entry(number))[0]));
+        entry.spell(number)?;
+        sum = sum.wrapping_add(u32::from(Sha512::digest(entry.bytes())[0]));
     }
-    sum
+    Ok(sum)
 }

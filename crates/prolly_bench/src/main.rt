@@ -10,7 +10,7 @@ mod workers;
 
 use crate::hashes::time_hashes;
 use crate::links::{time_batches, time_link, wait_a_second};
-use crate::samples::numbered_pairs;
+use crate::samples::{VALUE_BYTES, numbered_pairs};
 use crate::workers::{time_leaves, time_load, time_merge};
 use anyhow::{Context, Result, bail};
 use prolly_entry::Sha512Cut;
@@ -21,7 +21,7 @@ use std::io::Print;
 use std::time::{Clock, Instant};
 
 const USAGE: &str =
-    "prolly_bench hash PAIRS | scratch PAIRS | load RECORDS FILE | merge-of-2 RECORDS | merge-of-16 RECORDS | leaves PARTS | link ITEMS | batches-of-16 ITEMS | batches-of-64 ITEMS | wait 1";
+    "prolly_bench hash PAIRS [VALUE_BYTES] | scratch PAIRS | load RECORDS FILE | merge-of-2 RECORDS | merge-of-16 RECORDS | leaves PARTS | link ITEMS | batches-of-16 ITEMS | batches-of-64 ITEMS | wait 1";
 
 /// The bits of the cut: about one entry in 4,096 ends a chunk.
 const BITS: u8 = 12;
@@ -38,7 +38,13 @@ fn main(rt: HostRuntime) -> Result<()> {
     };
     let count: u32 = count.parse().context("the count is a number")?;
     match what.as_str() {
-        "hash" => time_hashes(&rt, count),
+        "hash" => {
+            let value_bytes = match words.next() {
+                Some(word) => word.parse().context("the bytes of a value are a number")?,
+                None => VALUE_BYTES,
+            };
+            time_hashes(&rt, rt.alloc(), count, value_bytes)
+        }
         "scratch" => time_scratch(&rt, rt.alloc(), count),
         "load" => match words.next() {
             Some(name) => time_load(&rt, rt.alloc(), &name, count),

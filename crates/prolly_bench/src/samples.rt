@@ -1,7 +1,10 @@
-//! What is timed: numbered entries of 38 bytes, whose keys rise.
+//! What is timed: numbered entries, whose keys of 16 bytes rise.
 use anyhow::{Result, bail};
 use prolly_entry::{Pair, Record};
-use std::alloc::Global;
+use std::alloc::{AllocError, Global};
+
+/// How many bytes the values have, so that an entry has 38, where nothing else is asked for.
+pub const VALUE_BYTES: u32 = 16;
 
 /// The key of 16 bytes of a number.
 pub fn numbered_key(number: u32) -> [u8; 16] {
@@ -10,14 +13,40 @@ pub fn numbered_key(number: u32) -> [u8; 16] {
     key
 }
 
-/// The spelling of the pair of a number: a key and a value of 16 bytes.
-pub fn numbered_entry(number: u32) -> [u8; 38] {
-    let mut entry = [0; 38];
-    entry[1] = 16;
-    entry[2..18].copy_from_slice(&numbered_key(number));
-    entry[21] = 16;
-    entry[22..38].copy_from_slice(&[0x5A; 16]);
-    entry
+/// The spelling of a numbered pair, in a buffer that is used again for the next one.
+#[derive(Drop)]
+pub struct Entry {
+    spelling: Vec<u8>,
+    value: Vec<u8>,
+    value_bytes: u32,
+}
+
+impl Entry {
+    /// One whose value has so many bytes.
+    pub fn new(alloc: Global, value_bytes: u32) -> Result<Entry, AllocError> {
+        let mut value = Vec::new(alloc);
+        value.resize(value_bytes as usize, 0x5A)?;
+        Ok(Entry {
+            spelling: Vec::new(alloc),
+            value,
+            value_bytes,
+        })
+    }
+
+    /// Makes it that of a number.
+    pub fn spell(&mut self, number: u32) -> Result<(), AllocError> {
+        self.spelling.clear();
+        self.spelling.extend_from_slice(&[0, 16])?;
+        self.spelling.extend_from_slice(&numbered_key(number))?;
+        self.spelling
+            .extend_from_slice(&self.value_bytes.to_be_bytes())?;
+        self.spelling.extend_from_slice(&self.value)
+    }
+
+    /// Its bytes.
+    pub fn bytes(&self) -> &[u8] {
+        &self.spelling
+    }
 }
 
 /// So many pairs.

@@ -1,6 +1,6 @@
 //! What the workers of a build cost by themselves, over lists in one thread.
 use crate::hashes::{hash_all, hash_entries};
-use crate::samples::{numbered_pairs, numbered_records};
+use crate::samples::{VALUE_BYTES, numbered_pairs, numbered_records};
 use crate::watched::Watched;
 use anyhow::{Result, bail};
 use prolly_entry::Sha512Cut;
@@ -33,7 +33,7 @@ pub fn time_load<R: Print + Clock + Files + Wait>(
     count: u32,
 ) -> Result<()> {
     let start = Instant::now(rt)?;
-    let sum = hash_entries(count);
+    let sum = hash_entries(alloc, count)?;
     let hashing = start.elapsed(rt)?.as_millis();
     let source = Watched::new(FromRead::new(fs::open(rt, name)?));
     let start = Instant::now(rt)?;
@@ -58,7 +58,7 @@ pub fn time_merge<R: Print + Clock + Wait>(
     count: u32,
 ) -> Result<()> {
     let start = Instant::now(rt)?;
-    let sum = hash_entries(count);
+    let sum = hash_entries(alloc, count)?;
     let hashing = start.elapsed(rt)?.as_millis();
     let mut inputs = Vec::new(alloc);
     for first in 0..lists {
@@ -89,7 +89,7 @@ pub fn time_leaves<R: Print + Clock + Wait>(rt: &R, alloc: Global, parts: u32) -
     };
     let count = parts.saturating_mul(PART_PAIRS);
     let start = Instant::now(rt)?;
-    let sum = hash_all(count);
+    let sum = hash_all(alloc, count, VALUE_BYTES)?;
     let hashing = start.elapsed(rt)?.as_millis();
     let mut cutting = Duration::ZERO;
     for _ in 0..parts {
