@@ -18,6 +18,7 @@ mod between;
 mod copies;
 mod gather;
 mod numbers;
+mod waiting;
 
 // Fails unless each of these items is taken.
 fn sends<O: Out<u32>>(rt: &(impl Abort + Wait), out: &mut O, items: &[u32])
