@@ -2,12 +2,14 @@
 it; nobody waits for ever; waiting takes next to no time of the processor; and what waits takes a bounded memory."""
 
 import os
+import select
 import tempfile
+import time
 from functools import partial
 from pathlib import Path
 
 from harness import file_differences, lay_out, shown
-from measured import HUNG, run, run_over_pipe
+from measured import HUNG, Measured, run, run_over_pipe
 from scratch import numbered
 from trees import begun_file, chunk_file, record, records, report
 
@@ -36,17 +38,28 @@ PACE = 1.0
 
 SLOW_PAIRS = 3
 
-WAITING_BUSY = 0.1
-"""Seconds of processor time that the waiting for a slow file may take in all. Measured is a tenth of it."""
+WAITING_SWITCHES = 600
+"""How often the threads of a build may give the processor away while they wait for a slow file. There are 15 of them, of
+which each wakes eight times; if they looked each millisecond, it were 45,000 times."""
+
+WAITING_BUSY = 1.0
+"""Seconds of processor time that it may take in all: a third of what a thread takes that does not sleep. An idle machine
+takes a hundredth of a second for it, one whose cores are lent to others a millisecond for each switch."""
 
 LONG_VALUE = 65_536
 """The greatest length of a value."""
 
 LONG_PAIRS = 1_024
-"""Pairs of long values, 67 MB in all: a build that held them all would take twice as much, since it makes chunks of them."""
+"""Pairs of long values, 67 MB in all."""
 
-MOST_MEMORY = 64_000_000
-"""What a build of them may take."""
+MORE_LONG_PAIRS = 2 * LONG_PAIRS
+"""More of them than a build has room for."""
+
+STANDSTILL = 3.0
+"""Seconds that the output of a build stands still, so that all its links fill."""
+
+MOST_MEMORY = 80_000_000
+"""What such a build may take. Measured is half to two thirds of it."""
 
 FEW_LARGE = ["--capacity", "4", "--batch", "1024"]
 """The words of a build whose links have room for more items than there are, but for little of long ones."""
@@ -68,9 +81,9 @@ def dealt(pairs, files):
     return {f"{place}.rec": records(pairs[place::files]) for place in range(files)}
 
 
-def long_pairs():
+def long_pairs(count=LONG_PAIRS):
     """Pairs whose values are long."""
-    return [(number.to_bytes(16, "big"), bytes([number % 251]) * LONG_VALUE) for number in range(LONG_PAIRS)]
+    return [(number.to_bytes(16, "big"), bytes([number % 251]) * LONG_VALUE) for number in range(count)]
 
 
 def two_cores():
@@ -120,8 +133,9 @@ def waits_cheaply(program, folder):
     spelled = [record(*pair) for pair in pairs]
     slowly = run_over_pipe([*build, "slow"], folder / "slow", spelled, PACE, LONGEST, folder=folder)
     differences = answer_differences(at_once, report(pairs, 0)) + answer_differences(slowly, report(pairs, 0))
-    if slowly.busy - at_once.busy > WAITING_BUSY:
-        differences.append(f"{slowly.busy:.3f} s of processor time, {at_once.busy:.3f} s from a file")
+    if slowly.given - at_once.given > WAITING_SWITCHES or slowly.busy - at_once.busy > WAITING_BUSY:
+        differences.append(f"{slowly.given} switches, {slowly.busy:.3f} s of processor time;")
+        differences.append(f"from a file {at_once.given} switches, {at_once.busy:.3f} s")
     return differences
 
 
@@ -129,12 +143,23 @@ def waits_cheaply(program, folder):
 
 
 def is_bounded(program, folder, files, options):
-    """A build of long values takes less memory than they have."""
-    pairs = long_pairs()
-    lay_out(folder, dealt(pairs, files))
-    names = [f"{place}.rec" for place in range(files)]
-    done = run([program, "build", "--bits", "4", *options, "out.prl", *names], LONGEST_LARGE, folder=folder)
+    """A build of long values, into a pipe that stands still for a while, takes less memory than they have."""
+    pairs = long_pairs(MORE_LONG_PAIRS)
+    inputs = dealt(pairs, files)
+    lay_out(folder, inputs)
+    os.mkfifo(folder / "out")
+    # At once, while nobody writes it yet.
+    reader = os.open(folder / "out", os.O_RDONLY | os.O_NONBLOCK)
+    begun = Measured([program, "build", "--bits", "4", *options, "out", *inputs], folder=folder)
+    select.select([reader], [], [], LONGEST)
+    time.sleep(STANDSTILL)
+    os.set_blocking(reader, True)
+    with open(reader, "rb") as pipe:
+        built = pipe.read()
+    done = begun.finish(LONGEST_LARGE)
     differences = answer_differences(done, report(pairs, 4))
+    if built != chunk_file(pairs, 4):
+        differences.append(f"another file of {len(built)} bytes")
     if done.peak > MOST_MEMORY:
         differences.append(f"peak memory {done.peak / 1e6:.0f} MB")
     return differences

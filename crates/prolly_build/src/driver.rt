@@ -171,7 +171,7 @@ fn run_workers<R: Wait + Threads + Sync, S: Source + Send + Drop, W: Sink, G: Ga
 /// Takes the hash of each entry and of each chunk: that of a chunk in the thread of the level above, or in
 /// the caller's where there is none, that of a child's entry in the thread of its level, and that of a pair
 /// where there is time for it, in its loader, in the last merger or in the thread of the leaves. Takes the
-/// memory of the links, as many items as capacity and batch allow for each, of long ones up to 128 KiB for each
+/// memory of the links, as many items as capacity and batch allow for each, of long ones up to 96 KiB for each
 /// message of its capacity; of one buffer a file; and of one open chunk a level: whatever number of records the files
 /// have.
 pub fn build_with<R: Wait + Threads + Sync, S: Source + Send + Drop, W: Sink, G: Gate, P: Permit>(

@@ -16,7 +16,7 @@ use Rattle.prolly_link.specs.declared.progress.Progress.TheVariants.{Open, Ended
 
 module _ {T : Type 0} where
   -- an item goes from the front of what is left to the end of what was given
-  given_one : (all left rest : List T) (x : T) → all ≡ before_rest all left ++ left → left ≡ x ∷ rest → before_rest all rest ≡ before_rest all left ++ x ∷ []
+  pub given_one : (all left rest : List T) (x : T) → all ≡ before_rest all left ++ left → left ≡ x ∷ rest → before_rest all rest ≡ before_rest all left ++ x ∷ []
   given_one all left rest x e is =
       front_is (before_rest all left ++ x ∷ []) rest all (e ∙ ap (λ r. before_rest all left ++ r) is ∙ sym (append_assoc (before_rest all left) (x ∷ []) rest))
 
@@ -56,8 +56,8 @@ module _ {T : Type 0} where
 
   -- what is left in hand once `next` of it answered o
   pub hand_after : (r : Receiving (List T)) (left rest : List T) (n m : ℕ) (o : Option T) → IsInHand r left n → left ≡ option_to_list o ++ rest
-      → MatchOption o ((n ≡ 0) × (m ≡ 0)) (λ x. (left ≡ x ∷ rest) × (m + 1 ≡ n)) → IsInHand r rest m
-  hand_after r left rest n m (Some x) h is k = took_one r left rest x n m h k.0 k.1
+      → MatchOption o ((n ≡ 0) × (m ≡ 0)) (λ x. m + 1 ≡ n) → IsInHand r rest m
+  hand_after r left rest n m (Some x) h is k = took_one r left rest x n m h is k
   hand_after r left rest n m None h is k = took_none r left rest n m h is k.0 k.1
 
   no_items : (left : List T) (n : ℕ) → n ≡ length left → n ≡ 0 → left ≡ []

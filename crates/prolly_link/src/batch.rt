@@ -1,10 +1,10 @@
 // What the ring of a batch link carries.
 ghost use Rattle.std.specs.Prelude.{◌≡◌, ◌≤◌, ◌∷◌, length, vec_len};
-ghost use Rattle.std.specs.Vec.Iter.{into_iter_items, into_iter_len};
+ghost use Rattle.std.specs.VecDeque.{deque_len};
 
 use std::alloc::Global;
+use std::collections::VecDeque;
 use std::marker::Model;
-use std::vec::IntoIter;
 
 /// Items that go over a ring together: one at least, and no more than `limit`. Contracts see it as those items.
 #[derive(Drop)]
@@ -46,17 +46,17 @@ impl<T> Batch<T> {
 
 impl<T: Drop> Batch<T> {
     /// The first item, and the others in their order.
-    pub(crate) fn into_first(self) -> (T, IntoIter<T, Global>)
-        ensures items { self ≡ result.0 ∷ into_iter_items result.1 }
-        ensures counted { into_iter_len result.1 ≡ length (into_iter_items result.1) }
+    pub(crate) fn into_first(self) -> (T, VecDeque<T, Global>)
+        ensures items { self ≡ result.0 ∷ result.1.items }
+        ensures counted { deque_len result.1 ≡ length result.1.items }
     {
         let Batch {
             items,
             limit: _,
             bytes: _,
         } = self;
-        let mut rest = items.into_iter();
-        let Some(first) = rest.next() else {
+        let mut rest = VecDeque::from_vec(items);
+        let Some(first) = rest.pop_front() else {
             unreachable!()
         };
         (first, rest)

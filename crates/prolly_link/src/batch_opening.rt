@@ -7,7 +7,9 @@ use crate::in_flight::InFlight;
 use crate::opening::{LinkFault, link};
 use crate::progress::Progress;
 use crate::shared::shared;
+use rtrb::RingBuffer;
 use std::alloc::Global;
+use std::collections::VecDeque;
 
 /// The two ends of a new link whose messages are batches of up to `batch` items, with room for `capacity` messages. It
 /// takes the memory of the first batch.
@@ -32,6 +34,9 @@ pub fn batch_link<T: Send + Drop>(
     let Ok((sent, received)) = shared(alloc, InFlight::new(capacity)) else {
         return Err(LinkFault::Memory);
     };
+    let Ok((spent, spares)) = RingBuffer::new(alloc, capacity) else {
+        return Err(LinkFault::Memory);
+    };
     let (sender, receiver) = link(alloc, capacity)?;
     Ok((
         BatchSender {
@@ -39,12 +44,14 @@ pub fn batch_link<T: Send + Drop>(
             pending,
             size: batch,
             bytes: 0,
+            spares,
             in_flight: sent,
             alloc,
         },
         BatchReceiver {
             receiver,
-            hand: Vec::new(alloc).into_iter(),
+            hand: VecDeque::new(alloc),
+            spent,
             in_flight: received,
         },
     ))

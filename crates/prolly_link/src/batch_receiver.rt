@@ -1,6 +1,6 @@
 // The end of a batch link that receives.
 ghost use Rattle.std.specs.Prelude.{◌≡◌, ◌++◌};
-ghost use Rattle.std.specs.Vec.Iter.{into_iter_items, into_iter_len};
+ghost use Rattle.std.specs.VecDeque.{deque_len};
 ghost use Rattle.prolly_link.specs.Hands.{given_of, IsInHand};
 ghost use Rattle.prolly_link.specs.Receipts.{given_items, progress_after, GivesAgain};
 
@@ -11,10 +11,12 @@ use crate::in_flight::InFlight;
 use crate::input::In;
 use crate::next::Next;
 use crate::receiver::Receiver;
+use rtrb::Producer;
 use std::alloc::Global;
+use std::collections::VecDeque;
 use std::marker::Model;
+use std::mem;
 use std::sync::{Arc, Wait};
-use std::vec::IntoIter;
 
 /// The receiving end of a batch link. Contracts see its link, the items that it has given, oldest first, and how far it
 /// has come.
@@ -22,38 +24,40 @@ use std::vec::IntoIter;
 pub struct BatchReceiver<T> {
     pub(crate) receiver: Receiver<Batch<T>>,
     // What is left of the batch that came last.
-    pub(crate) hand: IntoIter<T, Global>,
+    pub(crate) hand: VecDeque<T, Global>,
+    // The way back to the sender for the memory of batches that are given away.
+    pub(crate) spent: Producer<Vec<T>>,
     pub(crate) in_flight: Arc<InFlight>,
 }
 
 impl<T> Model for BatchReceiver<T> {
-    ghost use Rattle.std.specs.Vec.Iter.{into_iter_items, into_iter_len};
+    ghost use Rattle.std.specs.VecDeque.{deque_len};
     ghost use Rattle.prolly_link.specs.Views.{Receiving};
 
     ghost Value = { Receiving T };
 
     ghost use Rattle.prolly_link.specs.Hands.{given_of, IsInHand};
 
-    ghost view = { λ r. given_of r.receiver (into_iter_items r.hand) };
+    ghost view = { λ r. given_of r.receiver r.hand.items };
 
-    ghost invariant = { λ r. IsInHand r.receiver (into_iter_items r.hand) (into_iter_len r.hand) };
+    ghost invariant = { λ r. IsInHand r.receiver r.hand.items (deque_len r.hand) };
 }
 
-// The first item of the next batch, of which the others are in hand then, or the end. It stands apart so that what all other
-// items take stays small.
+// The first item of the next batch, of which the others are in hand then, or the end. The memory of the batch that was in hand
+// goes back to the sender, if there is room on the way. It stands apart so that what all other items take stays small.
 #[inline(never)]
 fn recv_batch<T: Drop, R: Wait>(
     rt: &R,
     receiver: &mut Receiver<Batch<T>>,
     in_flight: &InFlight,
-    hand: &mut IntoIter<T, Global>,
+    hand: &mut VecDeque<T, Global>,
+    spent: &mut Producer<Vec<T>>,
 ) -> Next<T>
-    requires hand { IsInHand receiver.old (into_iter_items hand.old) (into_iter_len hand.old) }
-    requires empty { into_iter_len hand.old ≡ 0 }
-    ensures hand { IsInHand receiver.new (into_iter_items hand.new) (into_iter_len hand.new) }
+    requires hand { IsInHand receiver.old hand.old.items (deque_len hand.old) }
+    requires empty { deque_len hand.old ≡ 0 }
+    ensures hand { IsInHand receiver.new hand.new.items (deque_len hand.new) }
     ensures link { receiver.new.link ≡ receiver.old.link }
-    ensures items { (given_of receiver.new (into_iter_items hand.new)).items
-        ≡ (given_of receiver.old (into_iter_items hand.old)).items ++ given_items result }
+    ensures items { (given_of receiver.new hand.new.items).items ≡ (given_of receiver.old hand.old.items).items ++ given_items result }
     ensures progress { receiver.new.progress ≡ progress_after result }
     ensures again { GivesAgain receiver.old.progress result }
 {
@@ -61,7 +65,7 @@ fn recv_batch<T: Drop, R: Wait>(
         Next::Item(batch) => {
             in_flight.remove(receiver.patience(), batch.bytes());
             let (first, rest) = batch.into_first();
-            *hand = rest;
+            drop(spent.push(mem::replace(hand, rest).into_vec()));
             Next::Item(first)
         }
         Next::End(end) => Next::End(end),
@@ -79,9 +83,15 @@ impl<T: Drop> BatchReceiver<T> {
         ensures progress { self.new.progress ≡ progress_after result }
         ensures again { GivesAgain self.old.progress result }
     {
-        match self.hand.next() {
+        match self.hand.pop_front() {
             Some(item) => Next::Item(item),
-            None => recv_batch(rt, &mut self.receiver, &self.in_flight, &mut self.hand),
+            None => recv_batch(
+                rt,
+                &mut self.receiver,
+                &self.in_flight,
+                &mut self.hand,
+                &mut self.spent,
+            ),
         }
     }
 
@@ -92,6 +102,7 @@ impl<T: Drop> BatchReceiver<T> {
         let BatchReceiver {
             receiver,
             hand: _,
+            spent: _,
             in_flight,
         } = self;
         in_flight.lift(receiver.patience());

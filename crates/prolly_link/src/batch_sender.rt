@@ -9,6 +9,7 @@ use crate::in_flight::{InFlight, LARGE_BATCH_BYTES};
 use crate::output::Out;
 use crate::push::Wake;
 use crate::sender::Sender;
+use rtrb::Consumer;
 use std::alloc::{AllocError, Global};
 use std::marker::Model;
 use std::mem;
@@ -24,6 +25,8 @@ pub struct BatchSender<T> {
     pub(crate) size: usize,
     // How many bytes they take, so far as it was told.
     pub(crate) bytes: usize,
+    // The memory of batches that the receiver gave back.
+    pub(crate) spares: Consumer<Vec<T>>,
     pub(crate) in_flight: Arc<InFlight>,
     pub(crate) alloc: Global,
 }
@@ -42,8 +45,13 @@ impl<T> Model for BatchSender<T> {
     ghost invariant = { λ s. IsOpenBatch s.size (vec_capacity s.pending) (vec_len s.pending) × (s.bytes < LARGE_BATCH_BYTES) };
 }
 
-// Takes the room of a batch, unless it was taken before.
-fn take_room<T>(batch: &mut Vec<T>, size: usize) -> Result<(), AllocError>
+// Takes the room of a batch, unless it was taken before. It takes memory that came back from the receiver, where there is some.
+fn take_room<T: Drop>(
+    batch: &mut Vec<T>,
+    spares: &mut Consumer<Vec<T>>,
+    size: usize,
+) -> Result<(), AllocError>
+    requires { 0 < vec_len batch.old → size ≤ vec_capacity batch.old }
     ensures items { batch.new.items ≡ batch.old.items }
     ensures len { vec_len batch.new ≡ vec_len batch.old }
     ensures ok { OnOk result (size ≤ vec_capacity batch.new) }
@@ -52,7 +60,14 @@ fn take_room<T>(batch: &mut Vec<T>, size: usize) -> Result<(), AllocError>
     if batch.capacity() >= size {
         return Ok(());
     }
-    batch.try_reserve_exact(size)
+    match spares.pop() {
+        Ok(mut spare) if spare.capacity() >= size => {
+            spare.clear();
+            *batch = spare;
+            Ok(())
+        }
+        _ => batch.try_reserve_exact(size),
+    }
 }
 
 // Sends a batch where it has items. A large one waits until no more than the link's bound is in flight with it.
@@ -95,7 +110,7 @@ impl<T: Drop> BatchSender<T> {
     }
 
     /// As `send`, of an item that takes so many bytes. A batch of 64 KiB or more is sent before it is full, and waits where the
-    /// link holds as many bytes of such batches as its room is for batches of 64 KiB.
+    /// link holds 32 KiB of such batches for each message that it has room for.
     pub fn send_sized<R: Wait>(&mut self, rt: &R, item: T, bytes: usize) -> Result<(), T>
         ensures link { self.new.link ≡ self.old.link }
         ensures ok { OnOk result (self.new.items ≡ self.old.items ++ item ∷ []) }
@@ -123,7 +138,7 @@ impl<T: Drop> BatchSender<T> {
         ensures err { IfErr result (λ back. (back ≡ item) × (self.new ≡ self.old)) }
         ensures accepts { 0 < self.old.room → IsOk result }
     {
-        if let Err(_) = take_room(&mut self.pending, self.size) {
+        if let Err(_) = take_room(&mut self.pending, &mut self.spares, self.size) {
             return Err(item);
         }
         self.pending.push_reserved(item);
@@ -157,6 +172,7 @@ impl<T: Drop> BatchSender<T> {
             pending,
             size,
             bytes,
+            spares: _,
             in_flight,
             alloc: _,
         } = self;

@@ -6,10 +6,13 @@ use std::sync::atomic::{AtomicU64, Ordering};
 /// From so many bytes on a batch is large.
 pub(crate) const LARGE_BATCH_BYTES: usize = 65_536;
 
+/// How many bytes of large batches a link holds for each message that it has room for.
+const BYTES_A_MESSAGE: u64 = 32_768;
+
 /// The bytes of the large batches of a link that were sent and not yet received. Its ends share it.
 ///
 /// A link holds as many batches as it has room for. Those that are not large are bounded by that. Of the large ones it
-/// holds no more bytes than so many of the smallest large ones have, or a single one.
+/// holds no more bytes than half as many of the smallest large ones have, or a single one.
 #[derive(Drop)]
 pub(crate) struct InFlight {
     bytes: AtomicU64,
@@ -21,7 +24,7 @@ impl InFlight {
     pub(crate) fn new(capacity: usize) -> InFlight {
         InFlight {
             bytes: AtomicU64::new(0),
-            most: AtomicU64::new((capacity as u64).saturating_mul(LARGE_BATCH_BYTES as u64)),
+            most: AtomicU64::new((capacity as u64).saturating_mul(BYTES_A_MESSAGE)),
         }
     }
 

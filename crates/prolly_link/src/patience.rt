@@ -12,8 +12,8 @@ const LOOKS: u32 = 32;
 /// How long the first sleep of a wait is at most. Each further one is up to twice as long as the one before.
 const FIRST_SLEEP_MILLIS: u64 = 16;
 
-/// Enough of them to come from 16 milliseconds to 128.
-const MOST_DOUBLINGS: u32 = 3;
+/// Enough of them to come from 16 milliseconds to a second.
+const MOST_DOUBLINGS: u32 = 6;
 
 /// How an end waits: it looks for a while, then it sleeps until the other end wakes it.
 ///

@@ -11,7 +11,7 @@ use std::thread;
 use std::thread::Threads;
 use std::time::{Clock, Duration};
 
-// Long enough for an end that waits to come to its longest sleeps.
+// Long enough for an end that waits to come to long sleeps.
 const LONG_MILLIS: u64 = 300;
 
 // From so many bytes on an item is sent alone.

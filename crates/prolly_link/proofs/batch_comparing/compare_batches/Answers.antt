@@ -1,5 +1,5 @@
 use Rattle.std.proofs.Common.{◌++◌}
-use Rattle.std.specs.Vec.Iter.{into_iter_items, into_iter_len}
+use Rattle.std.specs.VecDeque.{deque_len}
 use Rattle.prolly_link.specs.Batches.{items_of}
 use Rattle.prolly_link.specs.Hands.{given_of, IsInHand}
 use Rattle.prolly_link.proofs.HandLemmas.{given_begins}
@@ -10,8 +10,8 @@ pub returns-clause-prefix : goal.returns-clause-prefix
 returns-clause-prefix g c =
     let came = c.compare.new.receiver in
     let hand = c.receiver.inside.hand in
-    let in_hand : IsInHand came (into_iter_items hand) (into_iter_len hand) = rw c.compare.ensures.receiver c.receiver.invariant in
-    given_begins came c.compare.new.sender.items (into_iter_items hand) c.sender.inside.pending.items (into_iter_len hand) in_hand c.compare.ensures.prefix
+    let in_hand : IsInHand came hand.items (deque_len hand) = rw c.compare.ensures.receiver c.receiver.invariant in
+    given_begins came c.compare.new.sender.items hand.items c.sender.inside.pending.items (deque_len hand) in_hand c.compare.ensures.prefix
 
 pub returns-clause-no_end : goal.returns-clause-no_end
 returns-clause-no_end g c = c.compare.ensures.no_end
@@ -19,6 +19,6 @@ returns-clause-no_end g c = c.compare.ensures.no_end
 pub returns-clause-messages : goal.returns-clause-messages
 returns-clause-messages g c =
     let came = c.compare.new.receiver in
-    let given = given_of came (into_iter_items c.receiver.inside.hand) in
+    let given = given_of came c.receiver.inside.hand.items in
     let sent = items_of c.compare.new.sender.items ++ c.sender.inside.pending.items in
     received_of_open came.progress given.items sent (returns-clause-prefix g c) (returns-clause-no_end g c)

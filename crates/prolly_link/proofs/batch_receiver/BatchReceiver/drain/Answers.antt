@@ -1,4 +1,4 @@
-use Rattle.std.specs.Vec.Iter.{into_iter_items, into_iter_len}
+use Rattle.std.specs.VecDeque.{deque_len}
 use Rattle.prolly_link.specs.declared.progress.Progress.TheVariants.{Ended, Lost}
 use Rattle.prolly_link.proofs.HandLemmas.{drained_batches}
 use Rattle.prolly_link.proofs.batch_receiver.BatchReceiver.drain.Goals as goal
@@ -9,7 +9,7 @@ returns-in-Ended g c =
     let ended = c.in-Ended.receiver in
     rw (← c.self.view_is) (
       c.in-Ended.ensures.0,
-      drained_batches c.self.inside.receiver (Ended ended.end) ended.items (into_iter_items hand) (into_iter_len hand) c.self.invariant c.in-Ended.ensures.1,
+      drained_batches c.self.inside.receiver (Ended ended.end) ended.items hand.items (deque_len hand) c.self.invariant c.in-Ended.ensures.1,
     )
 
 pub returns : goal.returns
@@ -18,5 +18,5 @@ returns g c =
     let lost = c.in-Lost.receiver in
     rw (← c.self.view_is) (
       c.in-Lost.ensures.0,
-      drained_batches c.self.inside.receiver Lost lost.items (into_iter_items hand) (into_iter_len hand) c.self.invariant c.in-Lost.ensures.1,
+      drained_batches c.self.inside.receiver Lost lost.items hand.items (deque_len hand) c.self.invariant c.in-Lost.ensures.1,
     )
