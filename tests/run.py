@@ -17,6 +17,7 @@ import build
 import command_line
 import damaged
 import demo
+import examples
 import files
 import growths
 import links
@@ -24,7 +25,6 @@ import look_ups
 import misuse
 import pack
 import random_runs
-import readme
 import scratch
 from harness import run
 from trees import chunk_file
@@ -62,7 +62,7 @@ def all_runs(program, folder):
     for part in (command_line, pack, scratch, build, look_ups, damaged, random_runs):
         for case in part.cases(folder):
             yield case.name, run(program, case)
-    for part in (files, links, growths, readme, demo, misuse):
+    for part in (files, links, growths, examples, demo, misuse):
         yield from part.all_runs(program, folder)
 
 

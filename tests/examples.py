@@ -1,4 +1,4 @@
-"""The examples of the README, run in their order in one folder."""
+"""The examples of the README, and of the page of commands that goes on from there, run in their order in one folder."""
 
 import os
 import subprocess
@@ -7,14 +7,16 @@ from pathlib import Path
 
 from harness import shown
 
-README = Path(__file__).parent.parent / "README.md"
+PAGES = ["README.md", "docs/commands.md"]
 
 
 def all_runs(program, _):
     """Runs the examples, and gives for each command its name and its differences."""
     with tempfile.TemporaryDirectory() as folder:
         path = f"{Path(program).parent}{os.pathsep}{os.environ['PATH']}"
-        for command, wanted in examples(README.read_text()):
+        top = Path(__file__).parent.parent
+        pages = "".join((top / page).read_text() for page in PAGES)
+        for command, wanted in commands_of(pages):
             done = subprocess.run(
                 ["bash", "-o", "pipefail", "-c", command],
                 cwd=folder,
@@ -28,10 +30,10 @@ def all_runs(program, _):
                 differences.append(f"status {done.returncode}, standard error {shown(done.stderr)}")
             if done.stdout != wanted:
                 differences.append(f"standard output {shown(done.stdout)}, wanted {shown(wanted)}")
-            yield f"README: {command[:60]}", differences
+            yield f"example: {command[:60]}", differences
 
 
-def examples(text):
+def commands_of(text):
     """The commands in the text's blocks of a console, each with what it is to print."""
     found, within = [], False
     for line in text.splitlines():
