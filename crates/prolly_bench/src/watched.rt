@@ -28,13 +28,7 @@ impl<S> Watched<S> {
 }
 
 impl<S: Source> Source for Watched<S> {
-    ghost left = { λ w. S.left w.source };
-
-    ghost failures = { λ w. S.failures w.source };
-
-    ghost is_honest = { λ w. S.is_honest w.source };
-
-    ghost is_steady = { λ w. S.is_steady w.source };
+    ghost seen = { λ w. S.seen w.source };
 
     ghost left_are_bytes = { λ w. S.left_are_bytes w.source };
 

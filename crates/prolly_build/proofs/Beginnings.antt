@@ -7,9 +7,10 @@ use Rattle.prolly_entry.specs.Chunk.{Chunk}
 use Rattle.prolly_entry.specs.File.{header, frame}
 use Rattle.prolly_entry.proofs.Files.{eight_bytes}
 use Rattle.prolly_entry.proofs.Spellings.{apart, cell, cells}
+use Rattle.prolly_file.specs.Sink.{SinkView}
 use Rattle.prolly_build.specs.Settings.{Settings}
 use Rattle.prolly_build.specs.Built.{NoEndIsBegun}
-use Rattle.prolly_build.specs.Writing.{Sunk, AreSmall}
+use Rattle.prolly_build.specs.Writing.{AreSmall}
 
 -- a frame and what follows it
 one_frame : (c : Chunk) (more : List ℕ) → frame c ++ more ≡ 0x43 ∷ (to_be_bytes w64 (length c.bytes) ++ (c.bytes ++ more))
@@ -38,7 +39,7 @@ no_end_in_frames (c ∷ cs) (d ∷ ds) behind h k e =
     let chunks = apart d.bytes c.bytes (flat_map frame ds) more (eight_bytes (length d.bytes) (length c.bytes) k.0 h.0 lengths.front) lengths.rest in
     no_end_in_frames cs ds behind h.1 k.1 chunks.rest
 
-pub no_end_is_begun : (settings : Settings) (old new : Sunk) → NoEndIsBegun settings old new
+pub no_end_is_begun : (settings : Settings) (old new : SinkView) → NoEndIsBegun settings old new
 no_end_is_begun settings old new begun keeps whole behind small is =
     let head = header settings.version settings.bits in
     let taken = begun.taken keeps in

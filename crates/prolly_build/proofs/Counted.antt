@@ -8,6 +8,7 @@ use Rattle.prolly_entry.specs.Record.{Record}
 use Rattle.prolly_entry.specs.declared.flaw.Flaw.{Flaw}
 use Rattle.prolly_entry.specs.declared.flaw.Flaw.TheVariants as flaws
 use Rattle.prolly_entry.proofs.Readings.{reading_is}
+use Rattle.prolly_file.specs.Source.{SourceView}
 use Rattle.prolly_link.specs.Views.{Batching, Whole}
 use Rattle.prolly_link.specs.declared.fault.End.{End}
 use Rattle.prolly_link.specs.declared.fault.End.TheVariants.{Clean, Fault}
@@ -21,18 +22,18 @@ use Rattle.prolly_build.specs.Stopped.{IsReadingOf, IsFailureOf, CountFor, AreHo
 use Rattle.prolly_build.specs.Workers.{IsLoadedFrom}
 
 -- what an honest source has left are bytes, by the law of sources
-abbrev pub LeftAreBytes : {S : Type 0} → (S → Bool) → (S → List ℕ) → Type 0
-LeftAreBytes {S} is_honest left = (s : S) → is_honest s ≡ true → All IsByte (left s)
+abbrev pub LeftAreBytes : {S : Type 0} → (S → SourceView) → Type 0
+LeftAreBytes {S} seen = (s : S) → (seen s).is_honest ≡ true → All IsByte (seen s).left
 
-module _ {S : Type 0} (is_honest : S → Bool) (left : S → List ℕ) (failures : S → ℕ) (limit : ℕ) where
+module _ {S : Type 0} (seen : S → SourceView) (limit : ℕ) where
   -- what a file counts for, and what its loader sent of that
   record Counts (file : ℕ) (s t : S) (sent : Input RunFault) : Type 0 where
     input : Input RunFault
-    counts : IsReadingOf left failures file limit s input ⊎ IsFailureOf left failures file limit s t input
+    counts : IsReadingOf seen file limit s input ⊎ IsFailureOf seen file limit s t input
     sent_of : IsSentOf faults.Memory input sent
 
   -- a reading that was sent whole
-  whole : (file : ℕ) (s t : S) (records : List Record) (ending : Option Flaw) (end : End) → IsReading (left s) limit records ending →
+  whole : (file : ℕ) (s t : S) (records : List Record) (ending : Option Flaw) (end : End) → IsReading (seen s).left limit records ending →
       fault_of end ≡ ending_told file (length records) ending → Counts file s t (input_of records end)
   whole file s t records ending end h told = record {
     input = input_of records end;
@@ -44,11 +45,11 @@ module _ {S : Type 0} (is_honest : S → Bool) (left : S → List ℕ) (failures
       ◌≡◌ {A = Option RunFault} (Some (make f place)) (Some (make file (length records)))
   same_file f file place records make e k = ap (λ (n : ℕ). Some (make n place)) e ∙ ap (λ (n : ℕ). Some (make file n)) k
 
-  one_fault : (file : ℕ) (s t : S) (records : List Record) (handed : List ℕ) (fault : RunFault) → All IsByte (left s) → left s ≡ handed ++ left t →
-      FailsAs file limit handed records fault → (Fault fault ≢ Fault (faults.Read file) → FailsAs file limit (left s) records fault) →
-      (Fault fault ≡ Fault (faults.Read file) → failures t ≢ failures s) → Counts file s t (input_of records (Fault fault))
+  one_fault : (file : ℕ) (s t : S) (records : List Record) (handed : List ℕ) (fault : RunFault) → All IsByte (seen s).left → (seen s).left ≡ handed ++ (seen t).left →
+      FailsAs file limit handed records fault → (Fault fault ≢ Fault (faults.Read file) → FailsAs file limit (seen s).left records fault) →
+      (Fault fault ≡ Fault (faults.Read file) → (seen t).failures ≢ (seen s).failures) → Counts file s t (input_of records (Fault fault))
   one_fault file s t records handed faults.Memory bytes kept ends all failed =
-      let has = reading_is (left s) limit bytes in
+      let has = reading_is (seen s).left limit bytes in
       let first = all (λ e. cc) in
       record {
         input = record { records = has.good; fault = ending_told file (length has.good) has.ending };
@@ -82,16 +83,16 @@ module _ {S : Type 0} (is_honest : S → Bool) (left : S → List ℕ) (failures
   one_fault file s t records handed faults.Lost bytes kept ends all failed = absurd ends
   one_fault file s t records handed faults.TooManyFiles bytes kept ends all failed = absurd ends
 
-  one_end : (file : ℕ) (s t : S) (records : List Record) (handed : List ℕ) (end : End) → All IsByte (left s) → left s ≡ handed ++ left t →
-      EndsAs file limit handed records end → (end ≢ Fault (faults.Read file) → EndsAs file limit (left s) records end) →
-      (end ≡ Fault (faults.Read file) → failures t ≢ failures s) → Counts file s t (input_of records end)
+  one_end : (file : ℕ) (s t : S) (records : List Record) (handed : List ℕ) (end : End) → All IsByte (seen s).left → (seen s).left ≡ handed ++ (seen t).left →
+      EndsAs file limit handed records end → (end ≢ Fault (faults.Read file) → EndsAs file limit (seen s).left records end) →
+      (end ≡ Fault (faults.Read file) → (seen t).failures ≢ (seen s).failures) → Counts file s t (input_of records end)
   one_end file s t records handed Clean bytes kept ends all failed = whole file s t records None Clean (all (λ e. cc)) refl
   one_end file s t records handed (Fault fault) bytes kept ends all failed = one_fault file s t records handed fault bytes kept ends all failed
 
   abbrev One : ℕ → S → Batching Record → S → Whole Record → Type 0
-  One file s o t c = IsLoadedFrom is_honest left failures file limit s o t c
+  One file s o t c = IsLoadedFrom seen file limit s o t c
 
-  one_counts : (file : ℕ) (s : S) (o : Batching Record) (t : S) (c : Whole Record) → One file s o t c → is_honest s ≡ true → All IsByte (left s) → Counts file s t (sent_input c)
+  one_counts : (file : ℕ) (s : S) (o : Batching Record) (t : S) (c : Whole Record) → One file s o t c → (seen s).is_honest ≡ true → All IsByte (seen s).left → Counts file s t (sent_input c)
   one_counts file s o t c h honest bytes =
       subst (λ (rs : List Record). Counts file s t (input_of rs c.end)) (sym h.loaded.sent)
       (one_end file s t h.loaded.records h.loaded.handed c.end bytes (h.loaded.kept honest) h.loaded.ends (h.loaded.whole honest) h.read.0)
@@ -100,11 +101,11 @@ module _ {S : Type 0} (is_honest : S → Bool) (left : S → List ℕ) (failures
 
   pub record AllCounts (file : ℕ) (ss ts : List S) (sent : List (Input RunFault)) : Type 0 where
     pub inputs : List (Input RunFault)
-    pub count_for : CountFor left failures file limit ss ts inputs
+    pub count_for : CountFor seen file limit ss ts inputs
     pub sent_of : AreSentOf faults.Memory inputs sent
 
-  pub all_count : LeftAreBytes is_honest left → (file : ℕ) (ss : List S) (os : List (Batching Record)) (ts : List S) (cs : List (Whole Record)) →
-      AreLoaded is_honest left failures limit file ss os ts cs → AreHonest is_honest ss → AllCounts file ss ts (map sent_input cs)
+  pub all_count : LeftAreBytes seen → (file : ℕ) (ss : List S) (os : List (Batching Record)) (ts : List S) (cs : List (Whole Record)) →
+      AreLoaded seen limit file ss os ts cs → AreHonest seen ss → AllCounts file ss ts (map sent_input cs)
   all_count bytes file [] [] [] [] h honest = record { inputs = []; count_for = tt; sent_of = tt }
   all_count bytes file [] [] [] (c ∷ cs) h honest = absurd h
   all_count bytes file [] [] (t ∷ ts) cs h honest = absurd h

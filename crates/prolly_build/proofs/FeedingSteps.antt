@@ -2,6 +2,7 @@
 use Rattle.std.proofs.Common.{◌≡◌, ℕ, zero, suc, ◌+◌, Bool, List, [], ◌∷◌, All, map, refl, ap, sym, subst, ◌∙◌}
 use Rattle.prolly_entry.specs.Merge.{Input}
 use Rattle.prolly_entry.specs.Record.{Record}
+use Rattle.prolly_file.specs.Source.{SourceView}
 use Rattle.prolly_link.specs.Views.{Receiving, Batching, Whole}
 use Rattle.prolly_link.specs.Receipts.{HasEnded, end_given}
 use Rattle.prolly_link.specs.declared.fault.RunFault.{RunFault}
@@ -19,9 +20,9 @@ pub met_input : (r : Receiving Record) (c : Whole Record) → r.items ≡ c.item
 met_input r c items progress =
     ap (λ (xs : List Record). input_of xs (end_given r.progress)) items ∙ ap (λ p. input_of c.items (end_given p)) progress
 
-module _ {S : Type 0} (is_honest : S → Bool) (left : S → List ℕ) (failures : S → ℕ) (limit : ℕ) where
+module _ {S : Type 0} (seen : S → SourceView) (limit : ℕ) where
   loaded_links : (file : ℕ) (ss : List S) (os : List (Batching Record)) (ts : List S) (cs : List (Whole Record)) →
-      AreLoaded is_honest left failures limit file ss os ts cs → map (λ c. c.link) cs ≡ map (λ o. o.link) os
+      AreLoaded seen limit file ss os ts cs → map (λ c. c.link) cs ≡ map (λ o. o.link) os
   loaded_links file [] [] [] [] h = refl
   loaded_links file [] [] [] (c ∷ cs) h = absurd h
   loaded_links file [] [] (t ∷ ts) cs h = absurd h
@@ -34,7 +35,7 @@ module _ {S : Type 0} (is_honest : S → Bool) (left : S → List ℕ) (failures
 
   -- loaders alone
   pub fed_by_loaders : (ss : List S) (os : List (Batching Record)) (ts : List S) (cs : List (Whole Record)) →
-      AreLoaded is_honest left failures limit 0 ss os ts cs → IsFed is_honest left failures limit ss ts os cs
+      AreLoaded seen limit 0 ss os ts cs → IsFed seen limit ss ts os cs
   fed_by_loaders ss os ts cs h = record {
     links = loaded_links 0 ss os ts cs h;
     loader_outs = os;
@@ -47,9 +48,9 @@ module _ {S : Type 0} (is_honest : S → Bool) (left : S → List ℕ) (failures
   -- one merger of two more
   pub fed_by_merger : (ss ts : List S) (outs outs' : List (Batching Record)) (closed closed' : List (Whole Record)) (at : ℕ)
       (out left_out right_out : Batching Record) (sent left_sent right_sent : Whole Record) →
-      IsFed is_honest left failures limit ss ts outs' closed' → IsForked at outs out outs' left_out right_out → IsForked at closed sent closed' left_sent right_sent →
+      IsFed seen limit ss ts outs' closed' → IsForked at outs out outs' left_out right_out → IsForked at closed sent closed' left_sent right_sent →
       sent.link ≡ out.link → MergesTwo (sent_input left_sent) (sent_input right_sent) sent.items sent.end →
-      IsFed is_honest left failures limit ss ts outs closed
+      IsFed seen limit ss ts outs closed
   fed_by_merger ss ts outs outs' closed closed' at out left_out right_out sent left_sent right_sent fed fork fork' writes merges = record {
     links = (forked_maps (λ (c : Whole Record). c.link) (λ (o : Batching Record). o.link) fork' fork fed.links).2 writes;
     loader_outs = fed.loader_outs;

@@ -5,6 +5,7 @@ use Rattle.std.proofs.lemmas.List.{length-append}
 use Rattle.prolly_entry.specs.Merge.{Input}
 use Rattle.prolly_entry.specs.Reading.{Begins, IsReading}
 use Rattle.prolly_entry.specs.Record.{Record}
+use Rattle.prolly_file.specs.Source.{SourceView}
 use Rattle.prolly_link.specs.Views.{Batching, Whole}
 use Rattle.prolly_link.specs.declared.fault.End.{End}
 use Rattle.prolly_link.specs.declared.fault.End.TheVariants.{Clean, Fault}
@@ -66,9 +67,9 @@ pub clean_end : (end : End) → fault_of end ≡ None → end ≡ Clean
 clean_end Clean e = refl
 clean_end (Fault f) e = absurd cc
 
-module _ {S : Type 0} (is_honest : S → Bool) (left : S → List ℕ) (failures : S → ℕ) (limit : ℕ) where
+module _ {S : Type 0} (seen : S → SourceView) (limit : ℕ) where
   abbrev One : ℕ → S → Batching Record → S → Whole Record → Type 0
-  One file s o t c = IsLoadedFrom is_honest left failures file limit s o t c
+  One file s o t c = IsLoadedFrom seen file limit s o t c
 
   pub begun : (file : ℕ) (s : S) (o : Batching Record) (t : S) (c : Whole Record) (h : One file s o t c) → Begun h.loaded.handed limit c.items
   begun file s o t c h =
@@ -77,21 +78,21 @@ module _ {S : Type 0} (is_honest : S → Bool) (left : S → List ℕ) (failures
   not_read : (file : ℕ) (end : End) → end ≡ Clean → end ≡ Fault (faults.Read file) → ⊥
   not_read file end e f = cc
 
-  pub one_read : (file : ℕ) (s : S) (o : Batching Record) (t : S) (c : Whole Record) → One file s o t c → c.end ≡ Clean → IsRead is_honest left failures limit s t c.items
+  pub one_read : (file : ℕ) (s : S) (o : Batching Record) (t : S) (c : Whole Record) → One file s o t c → c.end ≡ Clean → IsRead seen limit s t c.items
   one_read file s o t c h clean = record {
     reading = (λ honest.
-        subst (λ (rs : List Record). IsReading (left s) limit rs None) (sym h.loaded.sent)
-        (subst (λ (e : End). EndsAs file limit (left s) h.loaded.records e) clean (h.loaded.whole honest (not_read file c.end clean))));
+        subst (λ (rs : List Record). IsReading (seen s).left limit rs None) (sym h.loaded.sent)
+        (subst (λ (e : End). EndsAs file limit (seen s).left h.loaded.records e) clean (h.loaded.whole honest (not_read file c.end clean))));
     unfailed = h.unfailed (not_read file c.end clean);
   }
 
-  one_kept : (file : ℕ) (s : S) (o : Batching Record) (t : S) (c : Whole Record) → One file s o t c → IsKept is_honest left failures s t
+  one_kept : (file : ℕ) (s : S) (o : Batching Record) (t : S) (c : Whole Record) → One file s o t c → IsKept seen s t
   one_kept file s o t c h = record { honest = h.honest; handed = h.loaded.handed; rest = h.loaded.kept }
 
   -- ---- all loaders
 
   abbrev All : ℕ → List S → List (Batching Record) → List S → List (Whole Record) → Type 0
-  All file ss os ts cs = AreLoaded is_honest left failures limit file ss os ts cs
+  All file ss os ts cs = AreLoaded seen limit file ss os ts cs
 
   -- what holds of one loader's output holds of all
   all_sent : (P : Whole Record → Type 0) → ((file : ℕ) (s : S) (o : Batching Record) (t : S) (c : Whole Record) → One file s o t c → P c) →
@@ -119,7 +120,7 @@ module _ {S : Type 0} (is_honest : S → Bool) (left : S → List ℕ) (failures
       of_inputs (FaultsOnly IsInputFault) cs
       (all_sent (λ c. FaultsOnly IsInputFault (sent_input c)) (λ f s o t c k. end_only f limit k.loaded.handed k.loaded.records c.end k.loaded.ends) file ss os ts cs h)
 
-  pub all_kept : (file : ℕ) (ss : List S) (os : List (Batching Record)) (ts : List S) (cs : List (Whole Record)) → All file ss os ts cs → AreKept is_honest left failures ss ts
+  pub all_kept : (file : ℕ) (ss : List S) (os : List (Batching Record)) (ts : List S) (cs : List (Whole Record)) → All file ss os ts cs → AreKept seen ss ts
   all_kept file [] [] [] [] h = tt
   all_kept file [] [] [] (c ∷ cs) h = absurd h
   all_kept file [] [] (t ∷ ts) cs h = absurd h
@@ -130,7 +131,7 @@ module _ {S : Type 0} (is_honest : S → Bool) (left : S → List ℕ) (failures
   all_kept file (s ∷ ss) (o ∷ os) (t ∷ ts) (c ∷ cs) h = (one_kept file s o t c h.0, all_kept (file + 1) ss os ts cs h.1)
 
   pub all_read : (file : ℕ) (ss : List S) (os : List (Batching Record)) (ts : List S) (cs : List (Whole Record)) → All file ss os ts cs →
-      AllByRecursion EndsClean (map sent_input cs) → AreRead is_honest left failures limit ss ts (lists_of (map sent_input cs))
+      AllByRecursion EndsClean (map sent_input cs) → AreRead seen limit ss ts (lists_of (map sent_input cs))
   all_read file [] [] [] [] h clean = tt
   all_read file [] [] [] (c ∷ cs) h clean = absurd h
   all_read file [] [] (t ∷ ts) cs h clean = absurd h
@@ -157,6 +158,6 @@ module _ {S : Type 0} (is_honest : S → Bool) (left : S → List ℕ) (failures
       omega (arith, one, rest, both, small)
 
 -- sources that nobody read are there
-pub same_kept : {S : Type 0} (is_honest : S → Bool) (left : S → List ℕ) (failures : S → ℕ) (ss : List S) → AreKept is_honest left failures ss ss
-same_kept is_honest left failures [] = tt
-same_kept is_honest left failures (s ∷ ss) = (record { honest = λ h. h; handed = []; rest = λ h. refl }, same_kept is_honest left failures ss)
+pub same_kept : {S : Type 0} (seen : S → SourceView) (ss : List S) → AreKept seen ss ss
+same_kept seen [] = tt
+same_kept seen (s ∷ ss) = (record { honest = λ h. h; handed = []; rest = λ h. refl }, same_kept seen ss)

@@ -15,7 +15,7 @@ use Rattle.prolly_entry.specs.Tree.{tree_of, level_count}
 use Rattle.prolly_entry.proofs.Composition.{composition, enough_stages}
 use Rattle.prolly_entry.proofs.Sizes.{few_chunks}
 use Rattle.prolly_entry.proofs.Writers.{within_is_prefix}
-use Rattle.prolly_file.specs.Sink.{TakesPrefix}
+use Rattle.prolly_file.specs.Sink.{SinkView, TakesPrefix}
 use Rattle.prolly_link.specs.declared.fault.End.{End}
 use Rattle.prolly_link.specs.declared.fault.End.TheVariants.{Clean, Fault}
 use Rattle.prolly_link.specs.declared.fault.RunFault.{RunFault}
@@ -27,7 +27,7 @@ use Rattle.prolly_build.specs.declared.writer.Written.{Written}
 use Rattle.prolly_build.specs.declared.writer.Written.TheVariants.{Whole}
 use Rattle.prolly_build.specs.Built.{IsCleanRun, IsRunOf, IsFileOf, IsTooTall, IsCutOff, IsUnmadeOf, tall_file, IsInputEnd, IsInputFault, IsStartFault, IsWriterFault}
 use Rattle.prolly_build.specs.Settings.{Settings}
-use Rattle.prolly_build.specs.Writing.{Sunk, HasWritten, HasEnded, IsEndFault, IsWhole, IsTall, IsFailed, IsUnended, IsTopOf, tops_counted, frames_of}
+use Rattle.prolly_build.specs.Writing.{HasWritten, HasEnded, IsEndFault, IsWhole, IsTall, IsFailed, IsUnended, IsTopOf, tops_counted, frames_of}
 use Rattle.prolly_build.proofs.Tops.{frames_front}
 use Rattle.prolly_build.proofs.WritingSteps.{prefix_on, failed_part}
 
@@ -91,7 +91,7 @@ module _ (settings : Settings) (some : 1 ≤ settings.stages) (most : settings.s
         root_last = enough.2.1;
       }
 
-  module _ (head : List ℕ) (old new : Sunk) where
+  module _ (head : List ℕ) (old new : SinkView) where
     whole_few : (begun : Begun) → IsWhole head level events old new begun → length (filter (has_level level) events) ≤ 1
     whole_few begun whole = let h = whole.few in let k = at_most_one begun.has_top in omega (arith, h, k)
 
@@ -139,7 +139,7 @@ module _ (settings : Settings) (some : 1 ≤ settings.stages) (most : settings.s
       ∙ ap (λ (c : Chunk). frames_of file_head (chunks cut settings.version m) ++ end_record (reference_of c.bytes) (length (chunks cut settings.version m))) (root_is tree before root whole)
 
   -- once the end record is written, the file of the map is
-  pub file_made : (old new : Sunk) (report : Report) → HasEnded file_head level events old new count report → IsFileOf settings m old new report
+  pub file_made : (old new : SinkView) (report : Report) → HasEnded file_head level events old new count report → IsFileOf settings m old new report
   file_made old new report h =
       let tree = is_tree h.few in
       let root_is = root_is tree h.before h.root h.whole in
@@ -170,7 +170,7 @@ module _ (settings : Settings) (some : 1 ≤ settings.stages) (most : settings.s
       let all = chunks cut settings.version m in
       frames_are_first settings m (within_stages settings.stages all) (within_is_prefix settings.stages all all ([], sym (append-nil all))).1
 
-  too_tall : (old new : Sunk) → IsTall file_head level events old new → IsTooTall settings m old new
+  too_tall : (old new : SinkView) → IsTall file_head level events old new → IsTooTall settings m old new
   too_tall old new h =
       let second = (composition cut settings.version m few level).1 in
       record {
@@ -179,7 +179,7 @@ module _ (settings : Settings) (some : 1 ≤ settings.stages) (most : settings.s
         taken = λ keeps. h.taken_is keeps ∙ ap (λ (bytes : List ℕ). old.taken ++ bytes) begun_is;
       }
 
-  cut_off : (old new : Sunk) → IsFailed file_head level events old new ⊎ IsUnended file_head level events old new → IsCutOff settings m old new
+  cut_off : (old new : SinkView) → IsFailed file_head level events old new ⊎ IsUnended file_head level events old new → IsCutOff settings m old new
   cut_off old new (inl h) = record {
     failed = h.failed;
     taken = λ keeps. prefix_on (file cut settings.version m) (begun keeps) tall_is_prefix;
@@ -195,13 +195,13 @@ module _ (settings : Settings) (some : 1 ≤ settings.stages) (most : settings.s
   }
 
   -- why the file of the map was not made
-  pub unmade : (old before after : Sunk) (fault : RunFault) → IsEndFault file_head level events old before after Clean fault → IsUnmadeOf settings m old after fault
+  pub unmade : (old before after : SinkView) (fault : RunFault) → IsEndFault file_head level events old before after Clean fault → IsUnmadeOf settings m old after fault
   unmade old before after fault (inl h) = subst (λ (f : RunFault). IsUnmadeOf settings m old after f) (sym h.0) (cut_off old after h.1)
   unmade old before after fault (inr h) = subst (λ (f : RunFault). IsUnmadeOf settings m old after f) (sym h.0) (too_tall old after h.1)
 
 -- the same at any end, which a fault of the writer rules out but for a clean one
 pub unmade_at : (settings : Settings) (some : 1 ≤ settings.stages) (most : settings.stages ≤ 12) (m : List Pair) (events : List Chunk) (count : ℕ) (end : End) →
-    IsRunOf settings m events end count → IsInputEnd end → (old before after : Sunk) (fault : RunFault) →
+    IsRunOf settings m events end count → IsInputEnd end → (old before after : SinkView) (fault : RunFault) →
     IsEndFault (header settings.version settings.bits) (settings.stages - 1) events old before after end fault → IsWriterFault fault →
     (end ≡ Clean) × IsUnmadeOf settings m old after fault
 unmade_at settings some most m events count (Fault f) run input old before after fault h writer = absurd (apart f (subst IsWriterFault h.0 writer) input)
@@ -222,7 +222,7 @@ unmade_at settings some most m events count (Fault f) run input old before after
 unmade_at settings some most m events count Clean run input old before after fault h writer = (refl, unmade settings some most m events count (run refl) old before after fault h)
 
 -- the fault of a finished build is that of the end that the workers sent, or one of the writer
-pub no_start_fault : (head : List ℕ) (last_level : ℕ) (events : List Chunk) (old before after : Sunk) (end : End) (fault : RunFault) → IsInputEnd end →
+pub no_start_fault : (head : List ℕ) (last_level : ℕ) (events : List Chunk) (old before after : SinkView) (end : End) (fault : RunFault) → IsInputEnd end →
     IsEndFault head last_level events old before after end fault → IsStartFault fault → ⊥
 no_start_fault head last_level events old before after (Fault f) fault input h start = apart f (subst IsStartFault h.0 start) input
   where

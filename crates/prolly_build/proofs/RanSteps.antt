@@ -4,7 +4,7 @@ use Rattle.std.proofs.lemmas.List.{append-nil}
 use Rattle.prolly_entry.specs.Chunk.{Chunk}
 use Rattle.prolly_entry.specs.File.{header}
 use Rattle.prolly_entry.specs.Pipeline.{before_second}
-use Rattle.prolly_file.specs.Sink.{TakesPrefix}
+use Rattle.prolly_file.specs.Sink.{SinkView, TakesPrefix}
 use Rattle.prolly_link.specs.Views.{Receiving}
 use Rattle.prolly_link.specs.Receipts.{HasEnded, end_given}
 use Rattle.prolly_link.specs.Growth.{items_between}
@@ -14,14 +14,14 @@ use Rattle.prolly_link.specs.declared.fault.RunFault.{RunFault}
 use Rattle.prolly_link.specs.declared.fault.RunFault.TheVariants.{Write}
 use Rattle.prolly_build.specs.Settings.{Settings}
 use Rattle.prolly_build.specs.Built.{IsBegun}
-use Rattle.prolly_build.specs.Writing.{Sunk, HasWritten, IsEndFault, frames_of}
+use Rattle.prolly_build.specs.Writing.{HasWritten, IsEndFault, frames_of}
 use Rattle.prolly_build.specs.Ran.{IsWritten}
 use Rattle.prolly_build.specs.declared.writer.Written.{Written}
 use Rattle.prolly_build.specs.declared.writer.Written.TheVariants.{Whole, TooTall, Failed}
 use Rattle.prolly_build.specs.declared.writing.Wrote.{Wrote}
 
 -- a sink that was left alone
-pub nothing_begun : (settings : Settings) (old : Sunk) → IsBegun settings old old
+pub nothing_begun : (settings : Settings) (old : SinkView) → IsBegun settings old old
 nothing_begun settings old = record {
   chunks_begun = [];
   small = tt;
@@ -32,23 +32,23 @@ pub all_taken : {old new wanted : List ℕ} → new ≡ old ++ wanted → TakesP
 all_taken {wanted} h = record { part = wanted; grown = h; is_prefix = ([], sym (append-nil wanted)) }
 
 -- a sink that the writer wrote to
-pub written_begun : (settings : Settings) (level : ℕ) (events : List Chunk) (old new : Sunk) (written : Written) →
+pub written_begun : (settings : Settings) (level : ℕ) (events : List Chunk) (old new : SinkView) (written : Written) →
     HasWritten (header settings.version settings.bits) level events old new written → IsBegun settings old new
 written_begun settings level events old new (Whole begun) h = record { chunks_begun = events; small = h.small; taken = λ k. all_taken (h.taken_is k) }
 written_begun settings level events old new TooTall h = record { chunks_begun = before_second level events; small = h.small; taken = λ k. all_taken (h.taken_is k) }
 written_begun settings level events old new Failed h = record { chunks_begun = h.tried; small = h.small; taken = h.taken_is }
 
 -- and once the build has ended with another fault than a failed write
-pub ended_begun : (settings : Settings) (level : ℕ) (events : List Chunk) (old before after : Sunk) (written : Written) (end : End) (fault : RunFault) →
+pub ended_begun : (settings : Settings) (level : ℕ) (events : List Chunk) (old before after : SinkView) (written : Written) (end : End) (fault : RunFault) →
     HasWritten (header settings.version settings.bits) level events old before written →
     IsEndFault (header settings.version settings.bits) level events old before after end fault → fault ≢ Write → IsBegun settings old after
 ended_begun settings level events old before after written (Fault f) fault h end_is other =
-    subst (λ (s : Sunk). IsBegun settings old s) (sym end_is.1) (written_begun settings level events old before written h)
+    subst (λ (s : SinkView). IsBegun settings old s) (sym end_is.1) (written_begun settings level events old before written h)
 ended_begun settings level events old before after written Clean fault h (inl failed) other = absurd (other failed.0)
 ended_begun settings level events old before after written Clean fault h (inr tall) other =
     record { chunks_begun = before_second level events; small = tall.1.small; taken = λ k. all_taken (tall.1.taken_is k) }
 
-pub all_begun : (settings : Settings) (last : Receiving Chunk) (old new : Sunk) (wrote : Wrote) → IsWritten settings last old new wrote → IsBegun settings old new
+pub all_begun : (settings : Settings) (last : Receiving Chunk) (old new : SinkView) (wrote : Wrote) → IsWritten settings last old new wrote → IsBegun settings old new
 all_begun settings last old new wrote h = written_begun settings (settings.stages - 1) wrote.last.items old new wrote.written h.written
 
 -- a receiver that had given nothing has given all that it gave since
@@ -56,7 +56,7 @@ between_all : (before after : List Chunk) → before ≡ [] → items_between be
 between_all before after e = ap (λ (xs : List Chunk). items_between xs after) e
 
 -- the writer received all of the last link
-pub all_written : (settings : Settings) (last : Receiving Chunk) (old new : Sunk) (after : Receiving Chunk) (end : End) (written : Written)
+pub all_written : (settings : Settings) (last : Receiving Chunk) (old new : SinkView) (after : Receiving Chunk) (end : End) (written : Written)
     (bits level : ℕ) → after.link ≡ last.link → HasEnded after.progress → end ≡ end_given after.progress → bits ≡ settings.bits → level ≡ settings.stages - 1 →
     last.items ≡ [] → HasWritten (header settings.version bits) level (items_between last.items after.items) old new written →
     IsWritten settings last old new (record { last = after; end = end; written = written })

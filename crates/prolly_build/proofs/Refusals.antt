@@ -22,7 +22,8 @@ use Rattle.prolly_entry.proofs.MergedParts.{overlay_is_small}
 use Rattle.prolly_entry.proofs.Orders.{begins_all, first_are_good, one_reading}
 use Rattle.prolly_entry.proofs.Readings.{reading_is}
 use Rattle.prolly_entry.proofs.Writers.{within_is_prefix}
-use Rattle.prolly_file.specs.Sink.{TakesPrefix}
+use Rattle.prolly_file.specs.Source.{SourceView}
+use Rattle.prolly_file.specs.Sink.{SinkView, TakesPrefix}
 use Rattle.prolly_link.specs.Views.{Batching, Whole}
 use Rattle.prolly_link.specs.declared.fault.End.{End}
 use Rattle.prolly_link.specs.declared.fault.End.TheVariants.{Fault}
@@ -40,7 +41,7 @@ use Rattle.prolly_build.specs.Settings.{Settings, AreLawful}
 use Rattle.prolly_build.specs.Staging.{HasStaged}
 use Rattle.prolly_build.specs.Stopped.{AreHonest}
 use Rattle.prolly_build.specs.Workers.{IsLoadedFrom}
-use Rattle.prolly_build.specs.Writing.{Sunk, frames_of}
+use Rattle.prolly_build.specs.Writing.{frames_of}
 use Rattle.prolly_build.proofs.Counted.{LeftAreBytes}
 use Rattle.prolly_build.proofs.Loads.{begun, clean_end, one_read}
 use Rattle.prolly_build.proofs.Mergings.{Inputs, fault_of_end_of}
@@ -142,27 +143,27 @@ first_pairs inputs pairs end whole h merges = go (merges (all_rising h.lists inp
 
 -- ---- the loaders
 
-module _ {S : Type 0} (is_honest : S → Bool) (left : S → List ℕ) (failures : S → ℕ) (limit : ℕ) where
+module _ {S : Type 0} (seen : S → SourceView) (limit : ℕ) where
   -- the good records of the files, and what was sent of them
   record Good (ss : List S) (sent : Inputs) : Type 0 where
     goods : List (List Record)
-    are_good : AreGood left limit ss goods
+    are_good : AreGood seen limit ss goods
     fronts : AreFrontsOf goods sent
     rising : AllRising goods
 
   -- what a loader sent are the first good records of its file
-  one_front : (file : ℕ) (s : S) (o : Batching Record) (t : S) (c : Whole Record) → IsLoadedFrom is_honest left failures file limit s o t c → is_honest s ≡ true →
-      (good : List Record) (ending : Option Flaw) → IsReading (left s) limit good ending → IsFrontOf good (sent_input c)
+  one_front : (file : ℕ) (s : S) (o : Batching Record) (t : S) (c : Whole Record) → IsLoadedFrom seen file limit s o t c → (seen s).is_honest ≡ true →
+      (good : List Record) (ending : Option Flaw) → IsReading (seen s).left limit good ending → IsFrontOf good (sent_input c)
   one_front file s o t c h honest good ending reading =
-      let sent = begun is_honest left failures limit file s o t c h in record {
-        first = first_are_good (left s) limit c.items (sent.rest ++ left t) good ending
-            (begins_all (left s) h.loaded.handed (left t) limit c.items sent.rest sent.begins (h.loaded.kept honest)) reading;
+      let sent = begun seen limit file s o t c h in record {
+        first = first_are_good (seen s).left limit c.items (sent.rest ++ (seen t).left) good ending
+            (begins_all (seen s).left h.loaded.handed (seen t).left limit c.items sent.rest sent.begins (h.loaded.kept honest)) reading;
         all = λ e.
-            (one_reading (left s) limit c.items good None ending ((one_read is_honest left failures limit file s o t c h (clean_end c.end e)).reading honest) reading).0;
+            (one_reading (seen s).left limit c.items good None ending ((one_read seen limit file s o t c h (clean_end c.end e)).reading honest) reading).0;
       }
 
-  all_fronts : LeftAreBytes is_honest left → (file : ℕ) (ss : List S) (os : List (Batching Record)) (ts : List S) (cs : List (Whole Record)) →
-      AreLoaded is_honest left failures limit file ss os ts cs → AreHonest is_honest ss → Good ss (map sent_input cs)
+  all_fronts : LeftAreBytes seen → (file : ℕ) (ss : List S) (os : List (Batching Record)) (ts : List S) (cs : List (Whole Record)) →
+      AreLoaded seen limit file ss os ts cs → AreHonest seen ss → Good ss (map sent_input cs)
   all_fronts bytes file [] [] [] [] h honest = record { goods = []; are_good = tt; fronts = tt; rising = tt }
   all_fronts bytes file [] [] [] (c ∷ cs) h honest = absurd h
   all_fronts bytes file [] [] (t ∷ ts) cs h honest = absurd h
@@ -171,7 +172,7 @@ module _ {S : Type 0} (is_honest : S → Bool) (left : S → List ℕ) (failures
   all_fronts bytes file (s ∷ ss) (o ∷ os) [] cs h honest = absurd h
   all_fronts bytes file (s ∷ ss) (o ∷ os) (t ∷ ts) [] h honest = absurd h
   all_fronts bytes file (s ∷ ss) (o ∷ os) (t ∷ ts) (c ∷ cs) h honest =
-      let has = reading_is (left s) limit (bytes s honest.0) in
+      let has = reading_is (seen s).left limit (bytes s honest.0) in
       let rest = all_fronts bytes (file + 1) ss os ts cs h.1 honest.1 in
       record {
         goods = has.good ∷ rest.goods;
@@ -181,7 +182,7 @@ module _ {S : Type 0} (is_honest : S → Bool) (left : S → List ℕ) (failures
       }
 
   -- n files have at most n times as many good records as one may have
-  good_few : (ss : List S) (goods : List (List Record)) → AreGood left limit ss goods → limit ≤ 16777216 → length (flat_map (λ records. records) goods) ≤ length ss * 16777216
+  good_few : (ss : List S) (goods : List (List Record)) → AreGood seen limit ss goods → limit ≤ 16777216 → length (flat_map (λ records. records) goods) ≤ length ss * 16777216
   good_few [] [] h small = omega arith
   good_few [] (g ∷ goods) h small = absurd h
   good_few (s ∷ ss) [] h small = absurd h
@@ -192,20 +193,20 @@ module _ {S : Type 0} (is_honest : S → Bool) (left : S → List ℕ) (failures
       omega (arith, one, rest, both, small)
 
   -- honest sources have good records
-  some_good : LeftAreBytes is_honest left → (ss : List S) → AreHonest is_honest ss → (goods : List (List Record)) × AreGood left limit ss goods
+  some_good : LeftAreBytes seen → (ss : List S) → AreHonest seen ss → (goods : List (List Record)) × AreGood seen limit ss goods
   some_good bytes [] honest = ([], tt)
   some_good bytes (s ∷ ss) honest =
-      let has = reading_is (left s) limit (bytes s honest.0) in
+      let has = reading_is (seen s).left limit (bytes s honest.0) in
       let rest = some_good bytes ss honest.1 in
       (has.good ∷ rest.0, (record { ending = has.ending; reading = has.reading }, rest.1))
 
 -- ---- all workers
 
 -- a sink that was left alone
-pub untouched_refused : {S : Type 0} (is_honest : S → Bool) (left : S → List ℕ) (failures : S → ℕ) → LeftAreBytes is_honest left → (settings : Settings) (before : List S) (old : Sunk) →
-    AreHonest is_honest before → IsRefused left settings before old old
-untouched_refused is_honest left failures bytes settings before old honest =
-    let has = some_good is_honest left failures settings.max_records bytes before honest in record {
+pub untouched_refused : {S : Type 0} (seen : S → SourceView) → LeftAreBytes seen → (settings : Settings) (before : List S) (old : SinkView) →
+    AreHonest seen before → IsRefused seen settings before old old
+untouched_refused seen bytes settings before old honest =
+    let has = some_good seen settings.max_records bytes before honest in record {
       goods = has.0;
       are_good = has.1;
       pairs = [];
@@ -217,7 +218,7 @@ untouched_refused is_honest left failures bytes settings before old honest =
       };
     }
 
-module _ {S : Type 0} (is_honest : S → Bool) (left : S → List ℕ) (failures : S → ℕ) (settings : Settings) (before after : List S) (count : ℕ) where
+module _ {S : Type 0} (seen : S → SourceView) (settings : Settings) (before after : List S) (count : ℕ) where
   abbrev cut : Cut
   cut = sha512_cut settings.bits
 
@@ -227,19 +228,19 @@ module _ {S : Type 0} (is_honest : S → Bool) (left : S → List ℕ) (failures
   -- what the last stage sent, by the first pairs of the overlay of all good records
   pub record IsRefusedRun (events : List Chunk) : Type 0 where
     pub goods : List (List Record)
-    pub are_good : AreGood left settings.max_records before goods
+    pub are_good : AreGood seen settings.max_records before goods
     pub pairs : List Pair
     pub first : IsPrefix pairs (overlay goods)
     pub taken : IsPrefix (before_second level events) (chunks cut settings.version pairs)
 
-  source_refused : LeftAreBytes is_honest left → AreLawful settings → length before ≤ 16 → AreHonest is_honest before → (events : List Chunk) (end : End) →
-      HasStaged is_honest left failures settings level before after events end count → end ≡ Fault Memory → IsRefusedRun events
+  source_refused : LeftAreBytes seen → AreLawful settings → length before ≤ 16 → AreHonest seen before → (events : List Chunk) (end : End) →
+      HasStaged seen settings level before after events end count → end ≡ Fault Memory → IsRefusedRun events
   source_refused bytes lawful sixteen honest events end h end_is =
-      let sent = all_fronts is_honest left failures settings.max_records bytes 0 before h.gathered.loader_outs after h.gathered.files h.gathered.loaded honest in
+      let sent = all_fronts seen settings.max_records bytes 0 before h.gathered.loader_outs after h.gathered.files h.gathered.loaded honest in
       let files : AreSent (map sent_input h.gathered.files) (raw_overlay sent.goods) = record { lists = sent.goods; rising = sent.rising; fronts = sent.fronts; overlay_is = refl } in
       let inputs = joined_sent h.gathered.mergers (map sent_input h.gathered.files) h.gathered.inputs h.gathered.joined (raw_overlay sent.goods) files in
       let first = first_pairs h.gathered.inputs h.pairs h.pairs_end (raw_overlay sent.goods) inputs h.gathered.merges in
-      let all = good_few is_honest left failures settings.max_records before sent.goods sent.are_good lawful.max_records.1 in
+      let all = good_few seen settings.max_records before sent.goods sent.are_good lawful.max_records.1 in
       let small = overlay_is_small sent.goods in
       let more : length (overlay sent.goods) ≡ length (h.pairs ++ first.0) = ap (λ (ps : List Pair). length ps) first.1 in
       let sum = length-append h.pairs first.0 in
@@ -256,8 +257,8 @@ module _ {S : Type 0} (is_honest : S → Bool) (left : S → List ℕ) (failures
       }
 
   -- what the sink took of that
-  pub refused : {old new : Sunk} {events : List Chunk} → IsRefusedRun events →
-      (old.is_keeping ≡ true → TakesPrefix old.taken new.taken (frames_of (header settings.version settings.bits) (before_second level events))) → IsRefused left settings before old new
+  pub refused : {old new : SinkView} {events : List Chunk} → IsRefusedRun events →
+      (old.is_keeping ≡ true → TakesPrefix old.taken new.taken (frames_of (header settings.version settings.bits) (before_second level events))) → IsRefused seen settings before old new
   refused h took = record {
     goods = h.goods;
     are_good = h.are_good;
@@ -267,11 +268,11 @@ module _ {S : Type 0} (is_honest : S → Bool) (left : S → List ℕ) (failures
   }
 
 -- the same over sources that were lent
-pub lent_refused : {S : Type 0} (is_honest : S → Bool) (left : S → List ℕ) (failures : S → ℕ) → LeftAreBytes is_honest left → (settings : Settings) (level : ℕ) (before lent after : List S) (count : ℕ) →
-    AreLawful settings → length before ≤ 16 → level + 1 ≡ settings.stages → lent ≡ before → AreHonest is_honest before → (events : List Chunk) (end : End) →
-    HasStaged is_honest left failures settings level lent after events end count → end ≡ Fault Memory → IsRefusedRun is_honest left failures settings before after count events
-lent_refused {S} is_honest left failures bytes settings level before lent after count lawful sixteen levels same honest events end h =
+pub lent_refused : {S : Type 0} (seen : S → SourceView) → LeftAreBytes seen → (settings : Settings) (level : ℕ) (before lent after : List S) (count : ℕ) →
+    AreLawful settings → length before ≤ 16 → level + 1 ≡ settings.stages → lent ≡ before → AreHonest seen before → (events : List Chunk) (end : End) →
+    HasStaged seen settings level lent after events end count → end ≡ Fault Memory → IsRefusedRun seen settings before after count events
+lent_refused {S} seen bytes settings level before lent after count lawful sixteen levels same honest events end h =
     let below : level ≡ settings.stages - 1 = omega (arith, levels) in
-    source_refused is_honest left failures settings before after count bytes lawful sixteen honest events end
-    (subst (λ (l : ℕ). HasStaged is_honest left failures settings l before after events end count) below
-    (subst (λ (ss : List S). HasStaged is_honest left failures settings level ss after events end count) same h))
+    source_refused seen settings before after count bytes lawful sixteen honest events end
+    (subst (λ (l : ℕ). HasStaged seen settings l before after events end count) below
+    (subst (λ (ss : List S). HasStaged seen settings level ss after events end count) same h))

@@ -9,6 +9,8 @@ use Rattle.prolly_entry.specs.Pair.{Pair}
 use Rattle.prolly_entry.specs.Pipeline.{pipeline_events}
 use Rattle.prolly_entry.specs.Record.{Record}
 use Rattle.prolly_entry.proofs.MergedParts.{overlay_is_small}
+use Rattle.prolly_file.specs.Source.{SourceView}
+use Rattle.prolly_file.specs.Sink.{SinkView}
 use Rattle.prolly_link.specs.declared.fault.End.{End}
 use Rattle.prolly_link.specs.declared.fault.End.TheVariants.{Clean, Fault}
 use Rattle.prolly_link.specs.declared.fault.RunFault.{RunFault}
@@ -19,10 +21,9 @@ use Rattle.prolly_build.specs.Ran.{IsHaltFault}
 use Rattle.prolly_merge.specs.Inputs.{fault_of, lists_of}
 use Rattle.prolly_merge.specs.Sent.{Counts}
 use Rattle.prolly_stage.specs.Sends.{Sends, closing_of}
-use Rattle.prolly_build.specs.Built.{AreRead, AreKept, IsBuilt, IsFileOf, IsUnmade, IsUnmadeOf, IsRunOf, IsInputFault, IsInputEnd, IsStartFault, IsWriterFault, IsRefusal}
+use Rattle.prolly_build.specs.Built.{AreRead, AreKept, IsBuilt, IsFileOf, IsUnmade, IsUnmadeOf, IsRunOf, IsInputFault, IsInputEnd, IsStartFault, IsWriterFault}
 use Rattle.prolly_build.specs.Stopped.{IsFileFault, IsStopped, TookBegun}
 use Rattle.prolly_build.specs.declared.report.Report.{Report}
-use Rattle.prolly_build.specs.Writing.{Sunk}
 use Rattle.prolly_build.specs.Gathering.{IsGathered}
 use Rattle.prolly_build.specs.Merging.{MergesAll, sent_input}
 use Rattle.prolly_build.specs.Settings.{Settings, AreLawful}
@@ -37,20 +38,20 @@ input_end : (end : End) → IfFault IsInputFault (fault_of end) → IsInputEnd e
 input_end Clean h = tt
 input_end (Fault f) h = h
 
-module _ {S : Type 0} (is_honest : S → Bool) (left : S → List ℕ) (failures : S → ℕ) (settings : Settings) (before after : List S) (count : ℕ) where
+module _ {S : Type 0} (seen : S → SourceView) (settings : Settings) (before after : List S) (count : ℕ) where
   -- what the last stage sent, by what the loaders sent
   pub record IsSourceRun (events : List Chunk) (end : End) : Type 0 where
     pub goods : List (List Record)
-    pub kept : AreKept is_honest left failures before after
+    pub kept : AreKept seen before after
     pub input : IsInputEnd end
-    pub read : end ≡ Clean → AreRead is_honest left failures settings.max_records before after goods
+    pub read : end ≡ Clean → AreRead seen settings.max_records before after goods
     pub run : IsRunOf settings (overlay goods) events end count
 
   -- the end of the pairs is one that workers may send
-  pairs_input : (pairs : List Pair) (end : End) → IsGathered is_honest left failures settings.max_records before after pairs end count → IsInputEnd end
+  pairs_input : (pairs : List Pair) (end : End) → IsGathered seen settings.max_records before after pairs end count → IsInputEnd end
   pairs_input pairs end h =
-      let rises = all_rise is_honest left failures settings.max_records 0 before h.loader_outs after h.files h.loaded in
-      let only = all_only is_honest left failures settings.max_records 0 before h.loader_outs after h.files h.loaded in
+      let rises = all_rise seen settings.max_records 0 before h.loader_outs after h.files h.loaded in
+      let only = all_only seen settings.max_records 0 before h.loader_outs after h.files h.loaded in
       let inputs_rise = joined_rises h.mergers (map sent_input h.files) h.inputs h.joined rises in
       input_end end
       (sends_only IsInputFault tt h.inputs (merged_part h.inputs) pairs end (h.merges (rises_all h.inputs inputs_rise))
@@ -58,23 +59,23 @@ module _ {S : Type 0} (is_honest : S → Bool) (left : S → List ℕ) (failures
 
   -- the pairs of a clean end are the overlay of the files, and few
   record ArePairs (goods : List (List Record)) (pairs : List Pair) : Type 0 where
-    read : AreRead is_honest left failures settings.max_records before after goods
+    read : AreRead seen settings.max_records before after goods
     pairs_are : pairs ≡ overlay goods
     few : length (overlay goods) ≤ 268435456
     counted : count ≡ length (overlay goods)
 
-  clean_gathered : AreLawful settings → length before ≤ 16 → (pairs : List Pair) (end : End) (h : IsGathered is_honest left failures settings.max_records before after pairs end count) →
+  clean_gathered : AreLawful settings → length before ≤ 16 → (pairs : List Pair) (end : End) (h : IsGathered seen settings.max_records before after pairs end count) →
       end ≡ Clean → ArePairs (lists_of (map sent_input h.files)) pairs
   clean_gathered lawful sixteen pairs end h end_is =
-      let rises = all_rise is_honest left failures settings.max_records 0 before h.loader_outs after h.files h.loaded in
+      let rises = all_rise seen settings.max_records 0 before h.loader_outs after h.files h.loaded in
       let merges : MergesAll h.inputs pairs Clean = subst (λ (e : End). MergesAll h.inputs pairs e) end_is h.merges in
       let p = clean_pairs h.mergers (map sent_input h.files) h.inputs pairs h.joined rises merges in
       let small = overlay_is_small (lists_of (map sent_input h.files)) in
-      let all = all_few is_honest left failures settings.max_records 0 before h.loader_outs after h.files h.loaded lawful.max_records.1 in
+      let all = all_few seen settings.max_records 0 before h.loader_outs after h.files h.loaded lawful.max_records.1 in
       let few : length (overlay (lists_of (map sent_input h.files))) ≤ 268435456 = omega (arith, small, all, sixteen) in
       let n : length pairs ≡ length (overlay (lists_of (map sent_input h.files))) = ap (λ (ps : List Pair). length ps) p.1 in
       record {
-        read = all_read is_honest left failures settings.max_records 0 before h.loader_outs after h.files h.loaded p.0;
+        read = all_read seen settings.max_records 0 before h.loader_outs after h.files h.loaded p.0;
         pairs_are = p.1;
         few = few;
         counted = counted pairs (overlay (lists_of (map sent_input h.files))) h.counts n few;
@@ -87,10 +88,10 @@ module _ {S : Type 0} (is_honest : S → Bool) (left : S → List ℕ) (failures
           omega (arith, k, l, n, few)
 
   pub source_run : AreLawful settings → length before ≤ 16 → (events : List Chunk) (end : End) →
-      HasStaged is_honest left failures settings (settings.stages - 1) before after events end count → IsSourceRun events end
+      HasStaged seen settings (settings.stages - 1) before after events end count → IsSourceRun events end
   source_run lawful sixteen events end h = record {
     goods = lists_of (map sent_input h.gathered.files);
-    kept = all_kept is_honest left failures settings.max_records 0 before h.gathered.loader_outs after h.gathered.files h.gathered.loaded;
+    kept = all_kept seen settings.max_records 0 before h.gathered.loader_outs after h.gathered.files h.gathered.loaded;
     input = input_of_end h.staged;
     read = λ e. (clean_gathered lawful sixteen h.pairs h.pairs_end h.gathered (pairs_clean e h.staged).0).read;
     run = λ e.
@@ -120,33 +121,30 @@ module _ {S : Type 0} (is_honest : S → Bool) (left : S → List ℕ) (failures
           apart x = cc
 
 -- the same over sources that were lent, where the level is one less than the number of stages
-pub lent_run : {S : Type 0} (is_honest : S → Bool) (left : S → List ℕ) (failures : S → ℕ) (settings : Settings) (level : ℕ) (before lent after : List S) (count : ℕ) →
+pub lent_run : {S : Type 0} (seen : S → SourceView) (settings : Settings) (level : ℕ) (before lent after : List S) (count : ℕ) →
     AreLawful settings → length before ≤ 16 → level + 1 ≡ settings.stages → lent ≡ before → (events : List Chunk) (end : End) →
-    HasStaged is_honest left failures settings level lent after events end count → IsSourceRun is_honest left failures settings before after count events end
-lent_run {S} is_honest left failures settings level before lent after count lawful sixteen levels same events end h =
+    HasStaged seen settings level lent after events end count → IsSourceRun seen settings before after count events end
+lent_run {S} seen settings level before lent after count lawful sixteen levels same events end h =
     let below : level ≡ settings.stages - 1 = omega (arith, levels) in
-    source_run is_honest left failures settings before after count lawful sixteen events end
-    (subst (λ (l : ℕ). HasStaged is_honest left failures settings l before after events end count) below
-    (subst (λ (ss : List S). HasStaged is_honest left failures settings level ss after events end count) same h))
+    source_run seen settings before after count lawful sixteen events end
+    (subst (λ (l : ℕ). HasStaged seen settings l before after events end count) below
+    (subst (λ (ss : List S). HasStaged seen settings level ss after events end count) same h))
 
 -- the file of what the sources hold
-pub built : {S : Type 0} {is_honest : S → Bool} {left : S → List ℕ} {failures : S → ℕ} {settings : Settings} {before after : List S} {old new : Sunk} {report : Report} →
-    (goods : List (List Record)) → AreRead is_honest left failures settings.max_records before after goods → IsFileOf settings (overlay goods) old new report →
-    IsBuilt is_honest left failures settings before after old new report
+pub built : {S : Type 0} {seen : S → SourceView} {settings : Settings} {before after : List S} {old new : SinkView} {report : Report} →
+    (goods : List (List Record)) → AreRead seen settings.max_records before after goods → IsFileOf settings (overlay goods) old new report →
+    IsBuilt seen settings before after old new report
 built goods read made = record { goods = goods; read = read; made = made }
 
 -- why there is none
-pub not_built : {S : Type 0} {is_honest : S → Bool} {left : S → List ℕ} {failures : S → ℕ} {settings : Settings} {before after : List S} {old new : Sunk} {fault : RunFault} →
-    (goods : List (List Record)) → AreRead is_honest left failures settings.max_records before after goods → IsUnmadeOf settings (overlay goods) old new fault →
-    IsUnmade is_honest left failures settings before after old new fault
+pub not_built : {S : Type 0} {seen : S → SourceView} {settings : Settings} {before after : List S} {old new : SinkView} {fault : RunFault} →
+    (goods : List (List Record)) → AreRead seen settings.max_records before after goods → IsUnmadeOf settings (overlay goods) old new fault →
+    IsUnmade seen settings before after old new fault
 not_built goods read unmade = record { goods = goods; read = read; unmade = unmade }
 
--- a fault of a finished build is none that starts nothing
-pub finished_refusal : {untouched kept : Type 0} (fault : RunFault) → (IsStartFault fault → ⊥) → kept → IsRefusal untouched kept fault
-finished_refusal fault h k = record {
-  answer = record { sink = λ s. absurd (h s); sources = λ a b. k };
-  started = λ e. h (subst IsStartFault (sym e) tt);
-}
+-- a fault of a finished build is none that starts nothing, so there were not too many files
+pub not_counted : (fault : RunFault) → (IsStartFault fault → ⊥) → fault ≢ TooManyFiles
+not_counted fault h e = h (subst IsStartFault (sym e) tt)
 
 no_thread_is_no_count : NoThread ≡ TooManyFiles → ⊥
 no_thread_is_no_count e = cc
@@ -155,10 +153,10 @@ lost_is_no_count : Lost ≡ TooManyFiles → ⊥
 lost_is_no_count e = cc
 
 -- why the fault of a file is named
-pub stopped : {S : Type 0} {is_honest : S → Bool} {left : S → List ℕ} {failures : S → ℕ} {settings : Settings} {before after : List S} {old new : Sunk} {count : ℕ}
-    {events : List Chunk} (fault : RunFault) → IsFileFault fault → (fault ≢ Memory → IsStoppedRun is_honest left failures settings before after count events fault) →
+pub stopped : {S : Type 0} {seen : S → SourceView} {settings : Settings} {before after : List S} {old new : SinkView} {count : ℕ}
+    {events : List Chunk} (fault : RunFault) → IsFileFault fault → (fault ≢ Memory → IsStoppedRun seen settings before after count events fault) →
     ((p : List Pair) → length p < 2 ^ 64 → events ≡ pipeline_events (settings.stages - 1) (sha512_cut settings.bits) settings.version faulty p → TookBegun settings p old new) →
-    IsStopped left failures settings before after old new fault
+    IsStopped seen settings before after old new fault
 stopped fault file run took =
     let h = run (λ e. subst IsFileFault e file) in
     record { inputs = h.inputs; count_for = h.count_for; named = h.named; took = took (merged_part h.inputs) h.few h.sent }
@@ -181,13 +179,22 @@ pub halted_unmade : (halt : Halt) (fault : RunFault) → IsHaltFault halt fault 
 halted_unmade NoThread_halt fault is w = subst IsWriterFault is w
 halted_unmade Lost_halt fault is w = subst IsWriterFault is w
 
--- where the workers were halted for want of a thread, the sink is as it was
+-- a halt is not that of too many files
+pub halted_counted : (halt : Halt) (fault : RunFault) → IsHaltFault halt fault → fault ≢ TooManyFiles
+halted_counted NoThread_halt fault is e = no_thread_is_no_count (sym is ∙ e)
+halted_counted Lost_halt fault is e = lost_is_no_count (sym is ∙ e)
+
+-- what is known after a halt: of want of a thread that the sink is as it was; of no halt that the sources are there
+pub record IsRefusal (untouched kept : Type 0) (fault : RunFault) : Type 0 where
+  pub unstarted : IsStartFault fault → untouched
+  pub left_behind : fault ≢ NoThread → fault ≢ Lost → kept
+
 pub halted_refusal : {untouched kept : Type 0} (halt : Halt) (fault : RunFault) → IsHaltFault halt fault → (halt ≡ NoThread_halt → untouched) → IsRefusal untouched kept fault
 halted_refusal {untouched} {kept} NoThread_halt fault is h = subst (λ f. IsRefusal untouched kept f) (sym is) (record {
-  answer = record { sink = λ s. h refl; sources = λ a b. absurd (a refl) };
-  started = no_thread_is_no_count;
+  unstarted = λ s. h refl;
+  left_behind = λ a b. absurd (a refl);
 })
 halted_refusal {untouched} {kept} Lost_halt fault is h = subst (λ f. IsRefusal untouched kept f) (sym is) (record {
-  answer = record { sink = λ s. absurd s; sources = λ a b. absurd (b refl) };
-  started = lost_is_no_count;
+  unstarted = λ s. absurd s;
+  left_behind = λ a b. absurd (b refl);
 })

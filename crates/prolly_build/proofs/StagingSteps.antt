@@ -6,6 +6,7 @@ use Rattle.prolly_entry.specs.Cut.{sha512_cut}
 use Rattle.prolly_entry.specs.Events.{Closing, leaf_events, inner_events}
 use Rattle.prolly_entry.specs.Pair.{Pair}
 use Rattle.prolly_entry.specs.Pipeline.{pipeline_events}
+use Rattle.prolly_file.specs.Source.{SourceView}
 use Rattle.prolly_link.specs.Views.{Receiving, Batching, Whole}
 use Rattle.prolly_link.specs.Receipts.{end_given}
 use Rattle.prolly_link.specs.declared.fault.End.{End}
@@ -25,12 +26,12 @@ sends_met {A} stage input out ended closed sent h met =
     subst (λ (xs : List A). Sends stage xs sent.end [] closed.items closed.end) met.0
     (subst (λ (e : End). Sends stage ended.items e [] closed.items closed.end) (ap end_given met.1) h.sends)
 
-module _ {S : Type 0} (is_honest : S → Bool) (left : S → List ℕ) (failures : S → ℕ) (settings : Settings) (before after : List S) (count : ℕ) where
+module _ {S : Type 0} (seen : S → SourceView) (settings : Settings) (before after : List S) (count : ℕ) where
   pub leaves_staged : (cut : ℕ) → cut ≡ settings.bits → (input : Receiving Pair) (out : Batching Chunk) (ended : Receiving Pair) (closed : Whole Chunk) (sent : Whole Pair) →
-      IsGathered is_honest left failures settings.max_records before after sent.items sent.end count →
+      IsGathered seen settings.max_records before after sent.items sent.end count →
       IsStaged (leaf_events (sha512_cut cut) settings.version) input out ended closed →
       (ended.items ≡ sent.items) × (ended.progress ≡ Ended sent.end) →
-      HasStaged is_honest left failures settings 0 before after closed.items closed.end count
+      HasStaged seen settings 0 before after closed.items closed.end count
   leaves_staged cut cut_is input out ended closed sent gathered h met = record {
     pairs = sent.items;
     pairs_end = sent.end;
@@ -41,10 +42,10 @@ module _ {S : Type 0} (is_honest : S → Bool) (left : S → List ℕ) (failures
 
   pub nodes_staged : (n level top cut : ℕ) (version : Version) → level ≡ n + 1 → top ≡ n + 1 → cut ≡ settings.bits → version ≡ settings.version →
       (input : Receiving Chunk) (out : Batching Chunk) (ended : Receiving Chunk) (closed : Whole Chunk) (sent : Whole Chunk) →
-      HasStaged is_honest left failures settings n before after sent.items sent.end count →
+      HasStaged seen settings n before after sent.items sent.end count →
       IsStaged (inner_events level (sha512_cut cut) version) input out ended closed →
       (ended.items ≡ sent.items) × (ended.progress ≡ Ended sent.end) →
-      HasStaged is_honest left failures settings top before after closed.items closed.end count
+      HasStaged seen settings top before after closed.items closed.end count
   nodes_staged n level top cut version level_is top_is cut_is version_is input out ended closed sent below h met =
       let mine : Sends (inner_events (suc n) (sha512_cut settings.bits) settings.version) sent.items sent.end [] closed.items closed.end =
       subst (λ (l : ℕ). Sends (inner_events l (sha512_cut settings.bits) settings.version) sent.items sent.end [] closed.items closed.end) (level_is ∙ add-one n)

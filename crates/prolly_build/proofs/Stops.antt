@@ -13,6 +13,7 @@ use Rattle.prolly_entry.specs.Record.{Record}
 use Rattle.prolly_entry.proofs.CutShort.{cut_behind_stop}
 use Rattle.prolly_entry.proofs.Joins.{merge_joined}
 use Rattle.prolly_entry.proofs.MergedParts.{merged_part_rises, merged_part_is_small}
+use Rattle.prolly_file.specs.Source.{SourceView}
 use Rattle.prolly_link.specs.declared.fault.End.{End}
 use Rattle.prolly_link.specs.declared.fault.End.TheVariants.{Clean, Fault}
 use Rattle.prolly_link.specs.declared.fault.RunFault.{RunFault}
@@ -101,8 +102,8 @@ merged_stops inputs pairs fault other (inr h) = absurd (other (same_fault fault 
 
 -- ---- all workers
 
-module _ {S : Type 0} (is_honest : S → Bool) (left : S → List ℕ) (failures : S → ℕ) (settings : Settings) (before after : List S) (count : ℕ) where
-  count_rises : (file : ℕ) (ss ts : List S) (inputs : Inputs) → CountFor left failures file settings.max_records ss ts inputs → AllRising (lists_of inputs)
+module _ {S : Type 0} (seen : S → SourceView) (settings : Settings) (before after : List S) (count : ℕ) where
+  count_rises : (file : ℕ) (ss ts : List S) (inputs : Inputs) → CountFor seen file settings.max_records ss ts inputs → AllRising (lists_of inputs)
   count_rises file [] [] [] h = tt
   count_rises file [] [] (i ∷ is) h = absurd h
   count_rises file [] (t ∷ ts) is h = absurd h
@@ -114,27 +115,27 @@ module _ {S : Type 0} (is_honest : S → Bool) (left : S → List ℕ) (failures
   -- what the last stage sent before the fault of a file
   pub record IsStoppedRun (events : List Chunk) (fault : RunFault) : Type 0 where
     pub inputs : List (Input RunFault)
-    pub count_for : CountFor left failures 0 settings.max_records before after inputs
+    pub count_for : CountFor seen 0 settings.max_records before after inputs
     pub named : stop_fault (stop inputs) ≡ Some fault
     pub few : length (merged_part inputs) < 2 ^ 64
     pub sent : events ≡ pipeline_events (settings.stages - 1) (sha512_cut settings.bits) settings.version faulty (merged_part inputs)
 
-  gathered_stops : LeftAreBytes is_honest left → AreLawful settings → length before ≤ 16 → AreHonest is_honest before → (pairs : List Pair) (end : End) (fault : RunFault) →
-      IsGathered is_honest left failures settings.max_records before after pairs end count → end ≡ Fault fault → fault ≢ Memory →
+  gathered_stops : LeftAreBytes seen → AreLawful settings → length before ≤ 16 → AreHonest seen before → (pairs : List Pair) (end : End) (fault : RunFault) →
+      IsGathered seen settings.max_records before after pairs end count → end ≡ Fault fault → fault ≢ Memory →
       (events : List Chunk) → events ≡ pipeline_events (settings.stages - 1) (sha512_cut settings.bits) settings.version faulty pairs → IsStoppedRun events fault
   gathered_stops bytes lawful sixteen honest pairs end fault h end_is other events sent =
       let files = map sent_input h.files in
-      let rises = all_rise is_honest left failures settings.max_records 0 before h.loader_outs after h.files h.loaded in
+      let rises = all_rise seen settings.max_records 0 before h.loader_outs after h.files h.loaded in
       let merges : MergesAll h.inputs pairs (Fault fault) = subst (λ (e : End). MergesAll h.inputs pairs e) end_is h.merges in
       let last = merged_stops h.inputs pairs fault other (merges (rises_all h.inputs (joined_rises h.mergers files h.inputs h.joined rises))) in
       let not_memory : last.0.fault ≢ Memory = λ e. other (sym last.2 ∙ e) in
       let down = joined_stops h.mergers files h.inputs h.joined rises last.0 last.1 not_memory in
-      let counts = all_count is_honest left failures settings.max_records bytes 0 before h.loader_outs after h.files h.loaded honest in
+      let counts = all_count seen settings.max_records bytes 0 before h.loader_outs after h.files h.loaded honest in
       let true_stop = cut_behind_stop RunFault Memory counts.inputs files last.0 (count_rises 0 before after counts.inputs counts.count_for) counts.sent_of down.0 not_memory in
       let part : merged_part counts.inputs ≡ pairs = ap pairs_put (true_stop.1 ∙ down.1) ∙ sym last.3 in
       let sent_part : merged_part files ≡ pairs = ap pairs_put down.1 ∙ sym last.3 in
       let small = merged_part_is_small RunFault files in
-      let all = all_few is_honest left failures settings.max_records 0 before h.loader_outs after h.files h.loaded lawful.max_records.1 in
+      let all = all_few seen settings.max_records 0 before h.loader_outs after h.files h.loaded lawful.max_records.1 in
       let n : length (merged_part counts.inputs) ≡ length (merged_part files) = ap (λ (ps : List Pair). length ps) (part ∙ sym sent_part) in
       record {
         inputs = counts.inputs;
@@ -144,8 +145,8 @@ module _ {S : Type 0} (is_honest : S → Bool) (left : S → List ℕ) (failures
         sent = sent ∙ ap (λ (ps : List Pair). pipeline_events (settings.stages - 1) (sha512_cut settings.bits) settings.version faulty ps) (sym part);
       }
 
-  pub source_stops : LeftAreBytes is_honest left → AreLawful settings → length before ≤ 16 → AreHonest is_honest before → (events : List Chunk) (end : End) (fault : RunFault) →
-      HasStaged is_honest left failures settings (settings.stages - 1) before after events end count → end ≡ Fault fault → fault ≢ Memory → IsStoppedRun events fault
+  pub source_stops : LeftAreBytes seen → AreLawful settings → length before ≤ 16 → AreHonest seen before → (events : List Chunk) (end : End) (fault : RunFault) →
+      HasStaged seen settings (settings.stages - 1) before after events end count → end ≡ Fault fault → fault ≢ Memory → IsStoppedRun events fault
   source_stops bytes lawful sixteen honest events end fault h end_is other = go h.staged
     where
       stage : Closing → List Pair → List Chunk
@@ -158,12 +159,12 @@ module _ {S : Type 0} (is_honest : S → Bool) (left : S → List ℕ) (failures
           gathered_stops bytes lawful sixteen honest h.pairs h.pairs_end fault h.gathered pairs_end other events (s.0 ∙ ap (λ (x : End). stage (closing_of x) h.pairs) pairs_end)
 
 -- the same over sources that were lent
-pub lent_stops : {S : Type 0} (is_honest : S → Bool) (left : S → List ℕ) (failures : S → ℕ) → LeftAreBytes is_honest left → (settings : Settings) (level : ℕ) (before lent after : List S) (count : ℕ) →
-    AreLawful settings → length before ≤ 16 → level + 1 ≡ settings.stages → lent ≡ before → AreHonest is_honest before →
-    (events : List Chunk) (end : End) (fault : RunFault) → HasStaged is_honest left failures settings level lent after events end count → end ≡ Fault fault → fault ≢ Memory →
-    IsStoppedRun is_honest left failures settings before after count events fault
-lent_stops {S} is_honest left failures bytes settings level before lent after count lawful sixteen levels same honest events end fault h =
+pub lent_stops : {S : Type 0} (seen : S → SourceView) → LeftAreBytes seen → (settings : Settings) (level : ℕ) (before lent after : List S) (count : ℕ) →
+    AreLawful settings → length before ≤ 16 → level + 1 ≡ settings.stages → lent ≡ before → AreHonest seen before →
+    (events : List Chunk) (end : End) (fault : RunFault) → HasStaged seen settings level lent after events end count → end ≡ Fault fault → fault ≢ Memory →
+    IsStoppedRun seen settings before after count events fault
+lent_stops {S} seen bytes settings level before lent after count lawful sixteen levels same honest events end fault h =
     let below : level ≡ settings.stages - 1 = omega (arith, levels) in
-    source_stops is_honest left failures settings before after count bytes lawful sixteen honest events end fault
-    (subst (λ (l : ℕ). HasStaged is_honest left failures settings l before after events end count) below
-    (subst (λ (ss : List S). HasStaged is_honest left failures settings level ss after events end count) same h))
+    source_stops seen settings before after count bytes lawful sixteen honest events end fault
+    (subst (λ (l : ℕ). HasStaged seen settings l before after events end count) below
+    (subst (λ (ss : List S). HasStaged seen settings level ss after events end count) same h))

@@ -8,7 +8,7 @@ use Rattle.prolly_entry.specs.File.{header}
 use Rattle.prolly_entry.specs.Pair.{Pair}
 use Rattle.prolly_entry.specs.Pipeline.{pipeline_events, before_second, within_stages}
 use Rattle.prolly_entry.proofs.Composition.{composition}
-use Rattle.prolly_file.specs.Sink.{TakesPrefix}
+use Rattle.prolly_file.specs.Sink.{SinkView, TakesPrefix}
 use Rattle.prolly_link.specs.declared.fault.End.{End}
 use Rattle.prolly_link.specs.declared.fault.End.TheVariants.{Clean, Fault}
 use Rattle.prolly_link.specs.declared.fault.RunFault.{RunFault}
@@ -17,14 +17,14 @@ use Rattle.prolly_build.specs.declared.writer.Written.{Written}
 use Rattle.prolly_build.specs.declared.writer.Written.TheVariants.{Whole, TooTall, Failed}
 use Rattle.prolly_build.specs.Settings.{Settings}
 use Rattle.prolly_build.specs.Stopped.{IsFileFault, TookBegun, begun_of}
-use Rattle.prolly_build.specs.Writing.{Sunk, HasWritten, IsEndFault, frames_of}
+use Rattle.prolly_build.specs.Writing.{HasWritten, IsEndFault, frames_of}
 use Rattle.prolly_build.proofs.Makings.{at_most_one}
 use Rattle.prolly_build.proofs.RanSteps.{all_taken}
 use Rattle.prolly_build.proofs.Tops.{second_all}
 use Rattle.prolly_build.proofs.WritingSteps.{failed_part}
 
 module _ (settings : Settings) (some : 1 ≤ settings.stages) (p : List Pair) (few : length p < 2 ^ 64) (events : List Chunk)
-    (sent : events ≡ pipeline_events (settings.stages - 1) (sha512_cut settings.bits) settings.version faulty p) (old new : Sunk) where
+    (sent : events ≡ pipeline_events (settings.stages - 1) (sha512_cut settings.bits) settings.version faulty p) (old new : SinkView) where
   abbrev level : ℕ
   level = settings.stages - 1
 
@@ -57,7 +57,7 @@ module _ (settings : Settings) (some : 1 ≤ settings.stages) (p : List Pair) (f
   }
 
 -- what the sink took of events, of which the writer takes those before the second one of the last stage's level
-took_events : (head : List ℕ) (level : ℕ) (events : List Chunk) (old new : Sunk) (written : Written) → HasWritten head level events old new written →
+took_events : (head : List ℕ) (level : ℕ) (events : List Chunk) (old new : SinkView) (written : Written) → HasWritten head level events old new written →
     old.is_keeping ≡ true → TakesPrefix old.taken new.taken (frames_of head (before_second level events))
 took_events head level events old new (Whole begun) h keeps =
     let one = at_most_one begun.has_top in
@@ -71,12 +71,12 @@ pub lost_is_no_memory : Lost ≡ Memory → ⊥
 lost_is_no_memory e = cc
 
 -- what is known where a build names want of memory
-pub refused_at : (head : List ℕ) (level : ℕ) (events : List Chunk) (old before after : Sunk) (written : Written) (end : End) (fault : RunFault) →
+pub refused_at : (head : List ℕ) (level : ℕ) (events : List Chunk) (old before after : SinkView) (written : Written) (end : End) (fault : RunFault) →
     HasWritten head level events old before written → IsEndFault head level events old before after end fault → fault ≡ Memory →
     (end ≡ Fault Memory) × (old.is_keeping ≡ true → TakesPrefix old.taken after.taken (frames_of head (before_second level events)))
 refused_at head level events old before after written (Fault f) fault h is memory = (
   ap Fault (sym is.0 ∙ memory),
-  subst (λ (s : Sunk). old.is_keeping ≡ true → TakesPrefix old.taken s.taken (frames_of head (before_second level events))) (sym is.1)
+  subst (λ (s : SinkView). old.is_keeping ≡ true → TakesPrefix old.taken s.taken (frames_of head (before_second level events))) (sym is.1)
       (took_events head level events old before written h),
 )
 refused_at head level events old before after written Clean fault h (inl failed) memory = absurd (apart (sym failed.0 ∙ memory))
@@ -89,12 +89,12 @@ refused_at head level events old before after written Clean fault h (inr tall) m
     apart e = cc
 
 -- what is known where a build names the fault of a file
-pub stopped_at : (settings : Settings) (some : 1 ≤ settings.stages) (events : List Chunk) (old before after : Sunk) (written : Written) (end : End) (fault : RunFault) →
+pub stopped_at : (settings : Settings) (some : 1 ≤ settings.stages) (events : List Chunk) (old before after : SinkView) (written : Written) (end : End) (fault : RunFault) →
     HasWritten (header settings.version settings.bits) (settings.stages - 1) events old before written →
     IsEndFault (header settings.version settings.bits) (settings.stages - 1) events old before after end fault → IsFileFault fault →
     (end ≡ Fault fault) × ((p : List Pair) → length p < 2 ^ 64 →
     events ≡ pipeline_events (settings.stages - 1) (sha512_cut settings.bits) settings.version faulty p → TookBegun settings p old after)
 stopped_at settings some events old before after written (Fault f) fault h is file =
-    (ap Fault (sym is.0), λ p few sent. subst (λ (s : Sunk). TookBegun settings p old s) (sym is.1) (took_begun settings some p few events sent old before written h))
+    (ap Fault (sym is.0), λ p few sent. subst (λ (s : SinkView). TookBegun settings p old s) (sym is.1) (took_begun settings some p few events sent old before written h))
 stopped_at settings some events old before after written Clean fault h (inl failed) file = absurd (subst IsFileFault failed.0 file)
 stopped_at settings some events old before after written Clean fault h (inr tall) file = absurd (subst IsFileFault tall.0 file)

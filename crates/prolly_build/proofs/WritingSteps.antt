@@ -9,16 +9,16 @@ use Rattle.prolly_entry.specs.Prefix.{IsPrefix}
 use Rattle.prolly_entry.proofs.Groups.{all_append}
 use Rattle.prolly_entry.proofs.Prefixes.{count, count_true, count_false}
 use Rattle.prolly_entry.proofs.Writers.{within_is_prefix}
-use Rattle.prolly_file.specs.Sink.{TakesPrefix}
+use Rattle.prolly_file.specs.Sink.{SinkView, TakesPrefix}
 use Rattle.prolly_stage.proofs.Steps.{prefix_trans}
 use Rattle.prolly_build.specs.declared.writer.Begun.{Begun}
 use Rattle.prolly_build.specs.declared.writer.Top.{Top}
 use Rattle.prolly_build.specs.declared.writer.Written.{Written}
-use Rattle.prolly_build.specs.Writing.{Sunk, AreSmall, frames_of, tops_counted, IsTopOf, IsWhole, IsTall, IsFailed, IsUnended, HasWritten}
+use Rattle.prolly_build.specs.Writing.{AreSmall, frames_of, tops_counted, IsTopOf, IsWhole, IsTall, IsFailed, IsUnended, HasWritten}
 use Rattle.prolly_build.proofs.Tops.{one_more, second_all, second_last, second_stays, frames_front, frames_more}
 
 -- too tall a tree stays so
-pub tall_stays : {head : List ℕ} {level : ℕ} {events : List Chunk} {old new : Sunk} (e : Chunk) → IsTall head level events old new →
+pub tall_stays : {head : List ℕ} {level : ℕ} {events : List Chunk} {old new : SinkView} (e : Chunk) → IsTall head level events old new →
     IsTall head level (events ++ e ∷ []) old new
 tall_stays {head} {level} {events} {old} e h = let more = one_more level events e in let two = h.second in record {
   second = omega (arith, more, two);
@@ -37,7 +37,7 @@ prefix_on {wanted} more h k = record {
 }
 
 -- so does a failed file
-pub failed_stays : {head : List ℕ} {level : ℕ} {events : List Chunk} {old new : Sunk} (e : Chunk) → IsFailed head level events old new →
+pub failed_stays : {head : List ℕ} {level : ℕ} {events : List Chunk} {old new : SinkView} (e : Chunk) → IsFailed head level events old new →
     IsFailed head level (events ++ e ∷ []) old new
 failed_stays {head} {level} {events} e h = record {
   failed = h.failed;
@@ -50,7 +50,7 @@ failed_stays {head} {level} {events} e h = record {
 }
 
 -- and what was taken of it is a prefix of the frames of all that the writer takes
-pub failed_part : {head : List ℕ} {level : ℕ} {events : List Chunk} {old new : Sunk} → IsFailed head level events old new → old.is_keeping ≡ true →
+pub failed_part : {head : List ℕ} {level : ℕ} {events : List Chunk} {old new : SinkView} → IsFailed head level events old new → old.is_keeping ≡ true →
     TakesPrefix old.taken new.taken (frames_of head (before_second level events))
 failed_part {head} {level} {events} h k =
     prefix_on (frames_of head (before_second level events)) (h.taken_is k) (frames_front head h.tried (before_second level events) h.first)
@@ -60,7 +60,7 @@ pub small_more : (events : List Chunk) (e : Chunk) → AreSmall events → lengt
 small_more events e h k = all_append (λ c. length c.bytes < 2 ^ 64) events (e ∷ []) h (k, tt)
 
 -- the second event of the last stage's level
-pub tall_now : {head : List ℕ} {level : ℕ} {events : List Chunk} {old new : Sunk} {begun : Begun} (e : Chunk) → IsWhole head level events old new begun →
+pub tall_now : {head : List ℕ} {level : ℕ} {events : List Chunk} {old new : SinkView} {begun : Begun} (e : Chunk) → IsWhole head level events old new begun →
     begun.has_top ≡ true → has_level level e ≡ true → IsTall head level (events ++ e ∷ []) old new
 tall_now {head} {level} {events} {old} e h top t =
     let one : count level events ≡ 1 = h.few ∙ ap tops_counted top in
@@ -89,7 +89,7 @@ part_behind old mid new before wanted e h = record {
 }
 
 -- a frame fails
-pub failed_now : {head : List ℕ} {level : ℕ} {events : List Chunk} {old mid new : Sunk} {begun : Begun} (e : Chunk) (is_top : Bool) →
+pub failed_now : {head : List ℕ} {level : ℕ} {events : List Chunk} {old mid new : SinkView} {begun : Begun} (e : Chunk) (is_top : Bool) →
     IsWhole head level events old mid begun → IsFew level events begun.has_top is_top e → length e.bytes < 2 ^ 64 →
     (mid.is_keeping ≡ true → TakesPrefix mid.taken new.taken (frame e)) → new.failures ≢ mid.failures → (mid.is_keeping ≡ true → new.is_keeping ≡ true) →
     IsFailed head level (events ++ e ∷ []) old new
@@ -109,7 +109,7 @@ failed_now {head} {level} {events} {old} {mid} {new} {begun} e is_top h few shor
     low false false h k = let more = one_more level events e in let its = count_false level e [] k.0 in omega (arith, h, more, its)
 
 -- the end record fails
-pub unended : {head : List ℕ} {level : ℕ} {events : List Chunk} {old mid new : Sunk} {begun : Begun} (top : Top) → IsWhole head level events old mid begun →
+pub unended : {head : List ℕ} {level : ℕ} {events : List Chunk} {old mid new : SinkView} {begun : Begun} (top : Top) → IsWhole head level events old mid begun →
     begun.top ≡ Some top → begun.file.chunks < greatest_count →
     (mid.is_keeping ≡ true → TakesPrefix mid.taken new.taken (end_record top.root.0 begun.file.chunks)) → new.failures ≢ mid.failures →
     IsUnended head level events old new
@@ -132,6 +132,6 @@ unended {head} {level} {events} {old} {mid} {new} {begun} top h top_is few part 
     }
 
 -- the same events
-pub written_of : (head : List ℕ) (level : ℕ) (es more : List Chunk) (old new : Sunk) (written : Written) → more ≡ es → HasWritten head level es old new written →
+pub written_of : (head : List ℕ) (level : ℕ) (es more : List Chunk) (old new : SinkView) (written : Written) → more ≡ es → HasWritten head level es old new written →
     HasWritten head level more old new written
 written_of head level es more old new written e h = subst (λ (cs : List Chunk). HasWritten head level cs old new written) (sym e) h

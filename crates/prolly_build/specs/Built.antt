@@ -12,17 +12,18 @@ use Rattle.prolly_entry.specs.Prefix.{IsPrefix}
 use Rattle.prolly_entry.specs.Reading.{IsReading}
 use Rattle.prolly_entry.specs.Record.{Record}
 use Rattle.prolly_entry.specs.Tree.{level_count}
-use Rattle.prolly_file.specs.Sink.{TakesPrefix}
+use Rattle.prolly_file.specs.Source.{SourceView}
+use Rattle.prolly_file.specs.Sink.{SinkView, TakesPrefix}
 use Rattle.prolly_link.specs.declared.fault.End.{End}
 use Rattle.prolly_link.specs.declared.fault.End.TheVariants.{Clean, Fault}
 use Rattle.prolly_link.specs.declared.fault.RunFault.{RunFault}
 use Rattle.prolly_link.specs.declared.fault.RunFault.TheVariants as faults
 use Rattle.prolly_build.specs.declared.report.Report.{Report}
 use Rattle.prolly_build.specs.Settings.{Settings}
-use Rattle.prolly_build.specs.Writing.{Sunk, AreSmall, frames_of}
+use Rattle.prolly_build.specs.Writing.{AreSmall, frames_of}
 
 -- The sink took the chunk file of a map, and the report is that of its tree, which has no more levels than there are stages.
-pub record IsFileOf (settings : Settings) (m : List Pair) (old new : Sunk) (report : Report) : Type 0 where
+pub record IsFileOf (settings : Settings) (m : List Pair) (old new : SinkView) (report : Report) : Type 0 where
   pub stages : level_count (sha512_cut settings.bits) settings.version m ≤ settings.stages
   pub taken : old.is_keeping ≡ true → new.taken ≡ old.taken ++ file (sha512_cut settings.bits) settings.version m
   pub unfailed : new.failures ≡ old.failures
@@ -32,13 +33,13 @@ pub record IsFileOf (settings : Settings) (m : List Pair) (old new : Sunk) (repo
   pub levels : report.levels ≡ level_count (sha512_cut settings.bits) settings.version m
 
 -- The sink took a prefix of a header and of the frames of some chunks, each of a length that its frame can spell: no end record is begun.
-pub record IsBegun (settings : Settings) (old new : Sunk) : Type 0 where
+pub record IsBegun (settings : Settings) (old new : SinkView) : Type 0 where
   pub chunks_begun : List Chunk
   pub small : AreSmall chunks_begun
   pub taken : old.is_keeping ≡ true → TakesPrefix old.taken new.taken (frames_of (header settings.version settings.bits) chunks_begun)
 
 -- Law: what the sink took then does not begin with a header, frames and the first letter of an end record, so it begins with no whole file.
-abbrev pub NoEndIsBegun : Settings → Sunk → Sunk → Type 0
+abbrev pub NoEndIsBegun : Settings → SinkView → SinkView → Type 0
 NoEndIsBegun settings old new = IsBegun settings old new → old.is_keeping ≡ true → (whole : List Chunk) (behind : List ℕ) → AreSmall whole →
     IsPrefix (old.taken ++ (header settings.version settings.bits ++ (flat_map frame whole ++ 0x45 ∷ behind))) new.taken → ⊥
 
@@ -48,13 +49,13 @@ tall_file settings m =
     frames_of (header settings.version settings.bits) (within_stages settings.stages (chunks (sha512_cut settings.bits) settings.version m))
 
 -- The tree of a map has more levels than there are stages. The sink has not failed, and took the file up to there.
-pub record IsTooTall (settings : Settings) (m : List Pair) (old new : Sunk) : Type 0 where
+pub record IsTooTall (settings : Settings) (m : List Pair) (old new : SinkView) : Type 0 where
   pub levels : settings.stages < level_count (sha512_cut settings.bits) settings.version m
   pub unfailed : new.failures ≡ old.failures
   pub taken : old.is_keeping ≡ true → new.taken ≡ old.taken ++ tall_file settings m
 
 -- The sink failed, and took a prefix of the file of a map; of a tree that is too tall, a prefix of what is written of it.
-pub record IsCutOff (settings : Settings) (m : List Pair) (old new : Sunk) : Type 0 where
+pub record IsCutOff (settings : Settings) (m : List Pair) (old new : SinkView) : Type 0 where
   pub failed : new.failures ≢ old.failures
   pub taken : old.is_keeping ≡ true → TakesPrefix old.taken new.taken (file (sha512_cut settings.bits) settings.version m)
   pub tall : settings.stages < level_count (sha512_cut settings.bits) settings.version m → old.is_keeping ≡ true →
@@ -67,7 +68,7 @@ IsWriterFault faults.TooTall = Unit {0}
 IsWriterFault _ = ⊥
 
 -- Why the file of a map was not made, at a fault of the writer, and what the sink took of it.
-abbrev pub IsUnmadeOf : Settings → List Pair → Sunk → Sunk → RunFault → Type 0
+abbrev pub IsUnmadeOf : Settings → List Pair → SinkView → SinkView → RunFault → Type 0
 IsUnmadeOf settings m old new faults.Write = IsCutOff settings m old new
 IsUnmadeOf settings m old new faults.TooTall = IsTooTall settings m old new
 IsUnmadeOf settings m old new _ = ⊥
@@ -81,11 +82,11 @@ pub record IsCleanRun (settings : Settings) (m : List Pair) (events : List Chunk
 abbrev pub IsRunOf : Settings → List Pair → List Chunk → End → ℕ → Type 0
 IsRunOf settings m events end count = end ≡ Clean → IsCleanRun settings m events count
 
-module _ {S : Type 0} (is_honest : S → Bool) (left : S → List ℕ) (failures : S → ℕ) where
+module _ {S : Type 0} (seen : S → SourceView) where
   -- No read of the source failed, and the bytes that it had left are these records, one after another, and nothing else.
   pub record IsRead (limit : ℕ) (before after : S) (good : List Record) : Type 0 where
-    pub reading : is_honest before ≡ true → IsReading (left before) limit good None
-    pub unfailed : failures after ≡ failures before
+    pub reading : (seen before).is_honest ≡ true → IsReading (seen before).left limit good None
+    pub unfailed : (seen after).failures ≡ (seen before).failures
 
   -- So it is with each source, in its place.
   abbrev pub AreRead : ℕ → List S → List S → List (List Record) → Type 0
@@ -95,9 +96,9 @@ module _ {S : Type 0} (is_honest : S → Bool) (left : S → List ℕ) (failures
 
   -- The source is there as its loader left it: behind some bytes that it handed out are those that it has left.
   pub record IsKept (before after : S) : Type 0 where
-    pub honest : is_honest before ≡ true → is_honest after ≡ true
+    pub honest : (seen before).is_honest ≡ true → (seen after).is_honest ≡ true
     pub handed : List ℕ
-    pub rest : is_honest before ≡ true → left before ≡ handed ++ left after
+    pub rest : (seen before).is_honest ≡ true → (seen before).left ≡ handed ++ (seen after).left
 
   -- The sources are there, each in its place.
   abbrev pub AreKept : List S → List S → Type 0
@@ -106,13 +107,13 @@ module _ {S : Type 0} (is_honest : S → Bool) (left : S → List ℕ) (failures
   AreKept _ _ = ⊥
 
   -- The sources were read, each to its end, and the file of the overlay of their records was made.
-  pub record IsBuilt (settings : Settings) (before after : List S) (old new : Sunk) (report : Report) : Type 0 where
+  pub record IsBuilt (settings : Settings) (before after : List S) (old new : SinkView) (report : Report) : Type 0 where
     pub goods : List (List Record)
     pub read : AreRead settings.max_records before after goods
     pub made : IsFileOf settings (overlay goods) old new report
 
   -- The sources were read, each to its end, and the file of the overlay of their records was not made, for this fault of the writer.
-  pub record IsUnmade (settings : Settings) (before after : List S) (old new : Sunk) (fault : RunFault) : Type 0 where
+  pub record IsUnmade (settings : Settings) (before after : List S) (old new : SinkView) (fault : RunFault) : Type 0 where
     pub goods : List (List Record)
     pub read : AreRead settings.max_records before after goods
     pub unmade : IsUnmadeOf settings (overlay goods) old new fault
@@ -138,14 +139,3 @@ abbrev pub IsStartFault : RunFault → Type 0
 IsStartFault faults.NoThread = Unit {0}
 IsStartFault faults.TooManyFiles = Unit {0}
 IsStartFault _ = ⊥
-
--- What is known after a fault: where no worker ran to its end for want of a thread, and where there were too many files, that the sink is
--- as it was; and after every fault but want of a thread and a lost worker, that the sources are there.
-pub record IsAnswer (untouched kept : Type 0) (fault : RunFault) : Type 0 where
-  pub sink : IsStartFault fault → untouched
-  pub sources : fault ≢ faults.NoThread → fault ≢ faults.Lost → kept
-
--- So it is where the workers were started, which rules out that there were too many files.
-pub record IsRefusal (untouched kept : Type 0) (fault : RunFault) : Type 0 where
-  pub answer : IsAnswer untouched kept fault
-  pub started : fault ≢ faults.TooManyFiles

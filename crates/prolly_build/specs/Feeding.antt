@@ -2,6 +2,7 @@
 use Rattle.std.specs.Prelude.{◌≡◌, ℕ, zero, suc, Bool, List, map}
 use Rattle.prolly_entry.specs.Merge.{Input}
 use Rattle.prolly_entry.specs.Record.{Record}
+use Rattle.prolly_file.specs.Source.{SourceView}
 use Rattle.prolly_link.specs.Views.{Batching, Whole}
 use Rattle.prolly_link.specs.declared.fault.End.{End}
 use Rattle.prolly_link.specs.declared.fault.RunFault.{RunFault}
@@ -26,11 +27,11 @@ Joined zero files inputs = inputs ≡ files
 Joined (suc n) files inputs = (before : List (Input RunFault)) × Joined n files before × IsJoint before inputs
 
 -- The outputs carried what mergers of two made of what the loaders sent of the sources, from the first file on.
-pub record IsFed {S : Type 0} (is_honest : S → Bool) (left : S → List ℕ) (failures : S → ℕ) (limit : ℕ) (before after : List S)
+pub record IsFed {S : Type 0} (seen : S → SourceView) (limit : ℕ) (before after : List S)
     (outs : List (Batching Record)) (closed : List (Whole Record)) : Type 0 where
   pub links : map (λ c. c.link) closed ≡ map (λ o. o.link) outs
   pub loader_outs : List (Batching Record)
   pub files : List (Whole Record)
-  pub loaded : AreLoaded is_honest left failures limit 0 before loader_outs after files
+  pub loaded : AreLoaded seen limit 0 before loader_outs after files
   pub mergers : ℕ
   pub joined : Joined mergers (map sent_input files) (map sent_input closed)

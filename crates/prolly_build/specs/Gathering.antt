@@ -2,6 +2,7 @@
 use Rattle.std.specs.Prelude.{ℕ, Bool, List, [], map}
 use Rattle.prolly_entry.specs.Merge.{Input}
 use Rattle.prolly_entry.specs.Pair.{Pair}
+use Rattle.prolly_file.specs.Source.{SourceView}
 use Rattle.prolly_link.specs.Views.{Batching, Whole}
 use Rattle.prolly_link.specs.declared.fault.End.{End}
 use Rattle.prolly_link.specs.declared.fault.RunFault.{RunFault}
@@ -12,11 +13,11 @@ use Rattle.prolly_build.specs.Merging.{MergesAll, sent_input}
 use Rattle.prolly_build.specs.Ran.{AreLoaded}
 
 -- The last merger sent these pairs, with this end, of its inputs, which mergers of two made out of what the loaders sent of the sources.
-pub record IsGathered {S : Type 0} (is_honest : S → Bool) (left : S → List ℕ) (failures : S → ℕ) (limit : ℕ) (before after : List S)
+pub record IsGathered {S : Type 0} (seen : S → SourceView) (limit : ℕ) (before after : List S)
     (pairs : List Pair) (end : End) (count : ℕ) : Type 0 where
   pub loader_outs : List (Batching Record)
   pub files : List (Whole Record)
-  pub loaded : AreLoaded is_honest left failures limit 0 before loader_outs after files
+  pub loaded : AreLoaded seen limit 0 before loader_outs after files
   pub mergers : ℕ
   pub inputs : List (Input RunFault)
   pub joined : Joined mergers (map sent_input files) inputs

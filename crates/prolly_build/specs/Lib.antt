@@ -10,3 +10,4 @@ pub mod Staging
 pub mod Built
 pub mod Stopped
 pub mod Refused
+pub mod Outcome

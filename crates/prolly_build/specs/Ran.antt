@@ -3,6 +3,8 @@ use Rattle.std.specs.Prelude.{◌≡◌, ℕ, ◌-◌, ◌+◌, Bool, List, [], 
 use Rattle.prolly_entry.specs.Chunk.{Chunk}
 use Rattle.prolly_entry.specs.Record.{Record}
 use Rattle.prolly_entry.specs.File.{header}
+use Rattle.prolly_file.specs.Source.{SourceView}
+use Rattle.prolly_file.specs.Sink.{SinkView}
 use Rattle.prolly_link.specs.Views.{Receiving, Batching, Whole}
 use Rattle.prolly_link.specs.Receipts.{HasEnded, end_given}
 use Rattle.prolly_link.specs.declared.progress.Progress.TheVariants.{Open}
@@ -11,23 +13,23 @@ use Rattle.prolly_link.specs.declared.fault.RunFault.TheVariants.{NoThread as No
 use Rattle.prolly_build.specs.declared.halt.Halt.{Halt}
 use Rattle.prolly_build.specs.declared.halt.Halt.TheVariants.{NoThread, Lost}
 use Rattle.prolly_build.specs.Settings.{Settings}
-use Rattle.prolly_build.specs.Writing.{Sunk, HasWritten}
+use Rattle.prolly_build.specs.Writing.{HasWritten}
 use Rattle.prolly_build.specs.Workers.{IsLoadedFrom}
 use Rattle.prolly_build.specs.declared.writing.Wrote.{Wrote}
 
 -- The writer has received the last link to its end, and has written what it received.
-pub record IsWritten (settings : Settings) (last : Receiving Chunk) (old new : Sunk) (wrote : Wrote) : Type 0 where
+pub record IsWritten (settings : Settings) (last : Receiving Chunk) (old new : SinkView) (wrote : Wrote) : Type 0 where
   pub link : wrote.last.link ≡ last.link
   pub has_ended : HasEnded wrote.last.progress
   pub end_is : wrote.end ≡ end_given wrote.last.progress
   pub written : HasWritten (header settings.version settings.bits) (settings.stages - 1) wrote.last.items old new wrote.written
 
 -- Each source was loaded into the output of its place, the first one being file number `file`.
-abbrev pub AreLoaded : {S : Type 0} → (S → Bool) → (S → List ℕ) → (S → ℕ) → ℕ → ℕ → List S → List (Batching Record) → List S → List (Whole Record) → Type 0
-AreLoaded is_honest left failures limit file [] [] [] [] = Unit {0}
-AreLoaded is_honest left failures limit file (s ∷ ss) (o ∷ os) (t ∷ ts) (c ∷ cs) =
-    IsLoadedFrom is_honest left failures file limit s o t c × AreLoaded is_honest left failures limit (file + 1) ss os ts cs
-AreLoaded is_honest left failures limit file _ _ _ _ = ⊥
+abbrev pub AreLoaded : {S : Type 0} → (S → SourceView) → ℕ → ℕ → List S → List (Batching Record) → List S → List (Whole Record) → Type 0
+AreLoaded seen limit file [] [] [] [] = Unit {0}
+AreLoaded seen limit file (s ∷ ss) (o ∷ os) (t ∷ ts) (c ∷ cs) =
+    IsLoadedFrom seen file limit s o t c × AreLoaded seen limit (file + 1) ss os ts cs
+AreLoaded seen limit file _ _ _ _ = ⊥
 
 -- Nothing was sent yet.
 abbrev pub IsUnsent : {T : Type 0} → Batching T → Type 0

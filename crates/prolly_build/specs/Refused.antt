@@ -9,15 +9,16 @@ use Rattle.prolly_entry.specs.Prefix.{IsPrefix}
 use Rattle.prolly_entry.specs.Reading.{IsReading}
 use Rattle.prolly_entry.specs.Record.{Record}
 use Rattle.prolly_entry.specs.declared.flaw.Flaw.{Flaw}
-use Rattle.prolly_file.specs.Sink.{TakesPrefix}
+use Rattle.prolly_file.specs.Source.{SourceView}
+use Rattle.prolly_file.specs.Sink.{SinkView, TakesPrefix}
 use Rattle.prolly_build.specs.Settings.{Settings}
-use Rattle.prolly_build.specs.Writing.{Sunk, frames_of}
+use Rattle.prolly_build.specs.Writing.{frames_of}
 
-module _ {S : Type 0} (left : S → List ℕ) where
+module _ {S : Type 0} (seen : S → SourceView) where
   -- The records are the good ones of the bytes that the source had left, whatever follows them.
   pub record AreGoodOf (limit : ℕ) (before : S) (good : List Record) : Type 0 where
     pub ending : Option Flaw
-    pub reading : IsReading (left before) limit good ending
+    pub reading : IsReading (seen before).left limit good ending
 
   -- So it is with each source, in its place.
   abbrev pub AreGood : ℕ → List S → List (List Record) → Type 0
@@ -27,7 +28,7 @@ module _ {S : Type 0} (left : S → List ℕ) where
 
   -- The sink took a prefix of the header and of the frames of the tree's chunks, without the end record, of the first pairs of the overlay
   -- of all good records.
-  pub record IsRefused (settings : Settings) (before : List S) (old new : Sunk) : Type 0 where
+  pub record IsRefused (settings : Settings) (before : List S) (old new : SinkView) : Type 0 where
     pub goods : List (List Record)
     pub are_good : AreGood settings.max_records before goods
     pub pairs : List Pair

@@ -9,13 +9,14 @@ use Rattle.prolly_entry.specs.Pair.{Pair}
 use Rattle.prolly_entry.specs.Pipeline.{within_stages}
 use Rattle.prolly_entry.specs.Reading.{IsReading}
 use Rattle.prolly_entry.specs.declared.flaw.Flaw.{Flaw}
-use Rattle.prolly_file.specs.Sink.{TakesPrefix}
+use Rattle.prolly_file.specs.Source.{SourceView}
+use Rattle.prolly_file.specs.Sink.{SinkView, TakesPrefix}
 use Rattle.prolly_link.specs.declared.fault.RunFault.{RunFault}
 use Rattle.prolly_link.specs.declared.fault.RunFault.TheVariants as faults
 use Rattle.prolly_load.specs.Fault.{fault_of as fault_of_flaw}
 use Rattle.prolly_load.specs.Loading.{IsReadTo}
 use Rattle.prolly_build.specs.Settings.{Settings}
-use Rattle.prolly_build.specs.Writing.{Sunk, frames_of}
+use Rattle.prolly_build.specs.Writing.{frames_of}
 
 -- How the ending of a file's reading is told: not at all where it is clean, else as the flaw of the record at this place.
 abbrev pub ending_told : ℕ → ℕ → Option Flaw → Option RunFault
@@ -32,18 +33,18 @@ IsFileFault (faults.OutOfOrder f place) = Unit {0}
 IsFileFault (faults.TooManyRecords f) = Unit {0}
 IsFileFault _ = ⊥
 
-module _ {S : Type 0} (left : S → List ℕ) (failures : S → ℕ) where
+module _ {S : Type 0} (seen : S → SourceView) where
   -- The reading of the bytes that the source had left, with what it ends in.
   pub record IsReadingOf (file limit : ℕ) (before : S) (input : Input RunFault) : Type 0 where
     pub ending : Option Flaw
-    pub reading : IsReading (left before) limit input.records ending
+    pub reading : IsReading (seen before).left limit input.records ending
     pub told : input.fault ≡ ending_told file (length input.records) ending
 
   -- The source failed: the records of the bytes that it had handed out till then, with a failed read.
   pub record IsFailureOf (file limit : ℕ) (before after : S) (input : Input RunFault) : Type 0 where
-    pub failed : failures after ≢ failures before
+    pub failed : (seen after).failures ≢ (seen before).failures
     pub handed : List ℕ
-    pub kept : left before ≡ handed ++ left after
+    pub kept : (seen before).left ≡ handed ++ (seen after).left
     pub read : IsReadTo handed limit input.records
     pub told : input.fault ≡ Some (faults.Read file)
 
@@ -54,8 +55,8 @@ module _ {S : Type 0} (left : S → List ℕ) (failures : S → ℕ) where
   CountFor file limit _ _ _ = ⊥
 
 -- Honest sources.
-abbrev pub AreHonest : {S : Type 0} → (S → Bool) → List S → Type 0
-AreHonest is_honest sources = AllByRecursion (λ s. is_honest s ≡ true) sources
+abbrev pub AreHonest : {S : Type 0} → (S → SourceView) → List S → Type 0
+AreHonest seen sources = AllByRecursion (λ s. (seen s).is_honest ≡ true) sources
 
 -- What is written of the pairs that come before a fault: the header, and a frame for each chunk that they close, up to, and without, the
 -- second one of the last stage's level.
@@ -64,14 +65,14 @@ begun_of settings p =
     frames_of (header settings.version settings.bits) (within_stages settings.stages (begun_chunks (sha512_cut settings.bits) settings.version p))
 
 -- The sink took just that, or, where it failed, a prefix of it.
-pub record TookBegun (settings : Settings) (p : List Pair) (old new : Sunk) : Type 0 where
+pub record TookBegun (settings : Settings) (p : List Pair) (old new : SinkView) : Type 0 where
   pub all : new.failures ≡ old.failures → old.is_keeping ≡ true → new.taken ≡ old.taken ++ begun_of settings p
   pub part : old.is_keeping ≡ true → TakesPrefix old.taken new.taken (begun_of settings p)
 
 -- The fault is the stop of what the files count for, and the sink took what the pairs before it begin.
-pub record IsStopped {S : Type 0} (left : S → List ℕ) (failures : S → ℕ) (settings : Settings) (before after : List S) (old new : Sunk)
+pub record IsStopped {S : Type 0} (seen : S → SourceView) (settings : Settings) (before after : List S) (old new : SinkView)
     (fault : RunFault) : Type 0 where
   pub inputs : List (Input RunFault)
-  pub count_for : CountFor left failures 0 settings.max_records before after inputs
+  pub count_for : CountFor seen 0 settings.max_records before after inputs
   pub named : stop_fault (stop inputs) ≡ Some fault
   pub took : TookBegun settings (merged_part inputs) old new

@@ -2,6 +2,7 @@
 use Rattle.std.specs.Prelude.{◌≡◌, ◌≢◌, ◌↔◌, ℕ, Bool, true, List, []}
 use Rattle.prolly_entry.specs.Chunk.{Chunk}
 use Rattle.prolly_entry.specs.Events.{Closing}
+use Rattle.prolly_file.specs.Source.{SourceView}
 use Rattle.prolly_link.specs.Views.{Receiving, Batching, Whole}
 use Rattle.prolly_link.specs.Receipts.{HasEnded, end_given}
 use Rattle.prolly_link.specs.declared.fault.End.TheVariants.{Fault}
@@ -19,10 +20,10 @@ pub record IsStaged {A : Type 0} (stage : Closing → List A → List Chunk) (in
 
 -- The source was loaded into the output, whose link is kept: what was sent and the end are what the bytes come to, and the end tells a
 -- failed read exactly where a read failed. An honest source stays honest.
-pub record IsLoadedFrom {S : Type 0} (is_honest : S → Bool) (left : S → List ℕ) (failures : S → ℕ) (file limit : ℕ) (source : S) (out : Batching Record)
+pub record IsLoadedFrom {S : Type 0} (seen : S → SourceView) (file limit : ℕ) (source : S) (out : Batching Record)
     (source' : S) (closed : Whole Record) : Type 0 where
   pub writes : closed.link ≡ out.link
-  pub loaded : IsLoaded file limit (is_honest source) (left source) (left source') [] closed.items closed.end
-  pub read : (closed.end ≡ Fault (Read file)) ↔ (failures source' ≢ failures source)
-  pub unfailed : closed.end ≢ Fault (Read file) → failures source' ≡ failures source
-  pub honest : is_honest source ≡ true → is_honest source' ≡ true
+  pub loaded : IsLoaded file limit (seen source).is_honest (seen source).left (seen source').left [] closed.items closed.end
+  pub read : (closed.end ≡ Fault (Read file)) ↔ ((seen source').failures ≢ (seen source).failures)
+  pub unfailed : closed.end ≢ Fault (Read file) → (seen source').failures ≡ (seen source).failures
+  pub honest : (seen source).is_honest ≡ true → (seen source').is_honest ≡ true

@@ -7,7 +7,7 @@ use Rattle.prolly_entry.specs.Events.{has_level, greatest_count}
 use Rattle.prolly_entry.specs.Pipeline.{before_second, HasSecond}
 use Rattle.prolly_entry.specs.Prefix.{IsPrefix}
 use Rattle.prolly_entry.specs.Reference.{reference_of}
-use Rattle.prolly_file.specs.Sink.{TakesPrefix}
+use Rattle.prolly_file.specs.Sink.{SinkView, TakesPrefix}
 use Rattle.prolly_link.specs.declared.fault.End.{End}
 use Rattle.prolly_link.specs.declared.fault.End.TheVariants.{Clean, Fault}
 use Rattle.prolly_link.specs.declared.fault.RunFault.{RunFault}
@@ -17,16 +17,6 @@ use Rattle.prolly_build.specs.declared.writer.Begun.{Begun}
 use Rattle.prolly_build.specs.declared.writer.Top.{Top}
 use Rattle.prolly_build.specs.declared.writer.Written.{Written}
 use Rattle.prolly_build.specs.declared.writer.Written.TheVariants.{Whole, TooTall, Failed}
-
--- What a contract sees of a sink: whether it keeps what it took, what it took, and its failures.
-pub record Sunk : Type 0 where
-  pub is_keeping : Bool
-  pub taken : List ℕ
-  pub failures : ℕ
-
--- A sink as a contract sees it, by what its type tells of it: these three functions.
-abbrev pub sunk : {W : Type 0} → (W → Bool) → (W → List ℕ) → (W → ℕ) → W → Sunk
-sunk is_keeping taken failures sink = record { is_keeping = is_keeping sink; taken = taken sink; failures = failures sink }
 
 -- The header and a frame for each chunk.
 abbrev pub frames_of : List ℕ → List Chunk → List ℕ
@@ -48,7 +38,7 @@ IsTopOf events (Some top) =
     (before : List Chunk) × (last : Chunk) × (events ≡ before ++ last ∷ []) × (top.root.0 ≡ reference_of last.bytes) × (top.level ≡ last.level)
 
 -- All events are written, of which at most one is of the last stage's level.
-pub record IsWhole (head : List ℕ) (level : ℕ) (events : List Chunk) (old new : Sunk) (begun : Begun) : Type 0 where
+pub record IsWhole (head : List ℕ) (level : ℕ) (events : List Chunk) (old new : SinkView) (begun : Begun) : Type 0 where
   pub few : length (filter (has_level level) events) ≡ tops_counted begun.has_top
   pub small : AreSmall events
   pub unfailed : new.failures ≡ old.failures
@@ -59,7 +49,7 @@ pub record IsWhole (head : List ℕ) (level : ℕ) (events : List Chunk) (old ne
   pub top_is : IsTopOf events begun.top
 
 -- The events up to, and without, the second one of the last stage's level are written.
-pub record IsTall (head : List ℕ) (level : ℕ) (events : List Chunk) (old new : Sunk) : Type 0 where
+pub record IsTall (head : List ℕ) (level : ℕ) (events : List Chunk) (old new : SinkView) : Type 0 where
   pub second : HasSecond level events
   pub small : AreSmall (before_second level events)
   pub unfailed : new.failures ≡ old.failures
@@ -67,7 +57,7 @@ pub record IsTall (head : List ℕ) (level : ℕ) (events : List Chunk) (old new
   pub keeps : old.is_keeping ≡ true → new.is_keeping ≡ true
 
 -- A write failed, and what was taken is a prefix of what was to be written till then, the first of the chunks.
-pub record IsFailed (head : List ℕ) (level : ℕ) (events : List Chunk) (old new : Sunk) : Type 0 where
+pub record IsFailed (head : List ℕ) (level : ℕ) (events : List Chunk) (old new : SinkView) : Type 0 where
   pub failed : new.failures ≢ old.failures
   pub tried : List Chunk
   pub small : AreSmall tried
@@ -76,7 +66,7 @@ pub record IsFailed (head : List ℕ) (level : ℕ) (events : List Chunk) (old n
   pub keeps : old.is_keeping ≡ true → new.is_keeping ≡ true
 
 -- The writer behind a last stage of this level, once it has received these events.
-abbrev pub HasWritten : List ℕ → ℕ → List Chunk → Sunk → Sunk → Written → Type 0
+abbrev pub HasWritten : List ℕ → ℕ → List Chunk → SinkView → SinkView → Written → Type 0
 HasWritten head level events old new (Whole begun) = IsWhole head level events old new begun
 HasWritten head level events old new TooTall = IsTall head level events old new
 HasWritten head level events old new Failed = IsFailed head level events old new
@@ -84,7 +74,7 @@ HasWritten head level events old new Failed = IsFailed head level events old new
 -- ---- the end
 
 -- All events are written, and then the end record, and the report is that of the last event.
-pub record HasEnded (head : List ℕ) (level : ℕ) (events : List Chunk) (old new : Sunk) (pairs : ℕ) (report : Report) : Type 0 where
+pub record HasEnded (head : List ℕ) (level : ℕ) (events : List Chunk) (old new : SinkView) (pairs : ℕ) (report : Report) : Type 0 where
   pub before : List Chunk
   pub root : Chunk
   pub whole : events ≡ before ++ root ∷ []
@@ -97,7 +87,7 @@ pub record HasEnded (head : List ℕ) (level : ℕ) (events : List Chunk) (old n
   pub levels_are : report.levels ≡ min 255 (root.level + 1)
 
 -- All events are written, of which at most one is of the last stage's level, and the end record failed.
-pub record IsUnended (head : List ℕ) (level : ℕ) (events : List Chunk) (old new : Sunk) : Type 0 where
+pub record IsUnended (head : List ℕ) (level : ℕ) (events : List Chunk) (old new : SinkView) : Type 0 where
   pub before : List Chunk
   pub root : Chunk
   pub whole : events ≡ before ++ root ∷ []
@@ -107,7 +97,7 @@ pub record IsUnended (head : List ℕ) (level : ℕ) (events : List Chunk) (old 
 
 -- Why nothing was made: the fault that came with the last link's end, which leaves the sink alone; or, at a clean end, a frame or the end
 -- record that failed, or a second event of the last stage's level, at which nothing more was written.
-abbrev pub IsEndFault : List ℕ → ℕ → List Chunk → Sunk → Sunk → Sunk → End → RunFault → Type 0
+abbrev pub IsEndFault : List ℕ → ℕ → List Chunk → SinkView → SinkView → SinkView → End → RunFault → Type 0
 IsEndFault head level events old before after (Fault fault) answer = (answer ≡ fault) × (after ≡ before)
 IsEndFault head level events old before after Clean answer =
     ((answer ≡ Write) × (IsFailed head level events old after ⊎ IsUnended head level events old after))

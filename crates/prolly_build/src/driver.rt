@@ -1,14 +1,12 @@
 //! The pipelined build.
-ghost use Rattle.std.specs.Prelude.{◌≡◌, ◌≢◌, ◌+◌, ◌<◌, ◌≤◌, ◌↔◌, [], Err, vec_len, IfOk, IfErr, OnOk};
-ghost use Rattle.prolly_link.specs.declared.fault.RunFault.TheVariants.{Memory, TooManyFiles, Write};
+ghost use Rattle.std.specs.Prelude.{◌≡◌, ◌≢◌, ◌+◌, ◌<◌, ◌≤◌, ◌↔◌, Err, vec_len, IfOk, IfErr};
+ghost use Rattle.prolly_link.specs.declared.fault.RunFault.TheVariants.{TooManyFiles};
 ghost use Rattle.prolly_build.specs.Settings.{AreLawful};
-ghost use Rattle.prolly_build.specs.Writing.{sunk};
 ghost use Rattle.prolly_build.specs.Ran.{IsWritten};
 ghost use Rattle.prolly_build.specs.Staging.{HasStaged};
 ghost use Rattle.prolly_build.specs.declared.halt.Halt.TheVariants.{NoThread};
-ghost use Rattle.prolly_build.specs.Built.{IsBegun, IsBuilt, IsUnmade, AreKept, IsAnswer, IsRefusal, IsWriterFault};
-ghost use Rattle.prolly_build.specs.Refused.{IsRefused};
-ghost use Rattle.prolly_build.specs.Stopped.{AreHonest, IsFileFault, IsStopped};
+ghost use Rattle.prolly_build.specs.Built.{IsBegun};
+ghost use Rattle.prolly_build.specs.Outcome.{IsOutcome};
 
 use crate::config::Config;
 use crate::finishing::finish;
@@ -54,13 +52,11 @@ fn run_in<
     requires files { (rings.feed.files ≡ vec_len sources.old) × (vec_len sources.old ≤ 16) }
     ensures link { IfOk result (λ ran. ran.out.link ≡ ran.wrote.last.link) }
     ensures written { IfOk result (λ ran. IsWritten config rings.last.receiver
-        (sunk W.is_keeping W.taken W.failures sink.old)
-        (sunk W.is_keeping W.taken W.failures sink.new) ran.wrote) }
-    ensures staged { IfOk result (λ ran. HasStaged S.is_honest S.left S.failures config (vec_len rings.events) sources.old.items sources.new.items ran.out.items ran.out.end ran.pairs) }
+        (W.seen sink.old) (W.seen sink.new) ran.wrote) }
+    ensures staged { IfOk result (λ ran. HasStaged S.seen config (vec_len rings.events) sources.old.items sources.new.items ran.out.items ran.out.end ran.pairs) }
     ensures refused { IfErr result (λ halt. halt ≡ NoThread → sink.new ≡ sink.old) }
     ensures begun { IfErr result (λ halt. IsBegun config
-        (sunk W.is_keeping W.taken W.failures sink.old)
-        (sunk W.is_keeping W.taken W.failures sink.new)) }
+        (W.seen sink.old) (W.seen sink.new)) }
 {
     let Rings {
         last,
@@ -98,23 +94,9 @@ fn run_workers<R: Wait + Threads + Sync, S: Source + Send + Drop, W: Sink, G: Ga
     requires lawful { AreLawful config }
     requires levels { vec_len rings.events + 1 ≡ config.stages }
     requires files { (rings.feed.files ≡ vec_len sources.old) × (vec_len sources.old ≤ 16) }
-    ensures ok { IfOk result (IsBuilt S.is_honest S.left S.failures config sources.old.items sources.new.items
-        (sunk W.is_keeping W.taken W.failures sink.old)
-        (sunk W.is_keeping W.taken W.failures sink.new)) }
-    ensures kept { OnOk result (AreKept S.is_honest S.left S.failures sources.old.items sources.new.items) }
-    ensures unmade { IfErr result (λ fault. IsWriterFault fault → IsUnmade S.is_honest S.left S.failures config sources.old.items sources.new.items
-        (sunk W.is_keeping W.taken W.failures sink.old)
-        (sunk W.is_keeping W.taken W.failures sink.new) fault) }
-    ensures begun { IfErr result (λ fault. fault ≢ Write → IsBegun config
-        (sunk W.is_keeping W.taken W.failures sink.old)
-        (sunk W.is_keeping W.taken W.failures sink.new)) }
-    ensures stopped { IfErr result (λ fault. IsFileFault fault → AreHonest S.is_honest sources.old.items → IsStopped S.left S.failures config sources.old.items sources.new.items
-        (sunk W.is_keeping W.taken W.failures sink.old)
-        (sunk W.is_keeping W.taken W.failures sink.new) fault) }
-    ensures refused { IfErr result (λ fault. fault ≡ Memory → AreHonest S.is_honest sources.old.items → IsRefused S.left config sources.old.items
-        (sunk W.is_keeping W.taken W.failures sink.old)
-        (sunk W.is_keeping W.taken W.failures sink.new)) }
-    ensures err { IfErr result (IsRefusal (sink.new ≡ sink.old) (AreKept S.is_honest S.left S.failures sources.old.items sources.new.items)) }
+    ensures outcome { IsOutcome S.seen config sources.old.items sources.new.items (W.seen sink.old) (W.seen sink.new)
+        (sink.new ≡ sink.old) result }
+    ensures started { IfErr result (λ fault. fault ≢ TooManyFiles) }
 {
     let mut lent = mem::replace(sources, Vec::new(alloc));
     let (ran, back, sink) = thread::scope(
@@ -124,13 +106,11 @@ fn run_workers<R: Wait + Threads + Sync, S: Source + Send + Drop, W: Sink, G: Ga
             requires { (vec_len rings.events < 12) × (rings.feed.files ≡ vec_len lent) × (vec_len lent ≤ 16) }
             ensures link { IfOk result.0 (λ ran. ran.out.link ≡ ran.wrote.last.link) }
             ensures written { IfOk result.0 (λ ran. IsWritten config rings.last.receiver
-                (sunk W.is_keeping W.taken W.failures sink.entry.now)
-                (sunk W.is_keeping W.taken W.failures result.2.now) ran.wrote) }
-            ensures staged { IfOk result.0 (λ ran. HasStaged S.is_honest S.left S.failures config (vec_len rings.events) lent.items result.1.items ran.out.items ran.out.end ran.pairs) }
+                (W.seen sink.entry.now) (W.seen result.2.now) ran.wrote) }
+            ensures staged { IfOk result.0 (λ ran. HasStaged S.seen config (vec_len rings.events) lent.items result.1.items ran.out.items ran.out.end ran.pairs) }
             ensures refused { IfErr result.0 (λ halt. halt ≡ NoThread → result.2.now ≡ sink.entry.now) }
             ensures begun { IfErr result.0 (λ halt. IsBegun config
-                (sunk W.is_keeping W.taken W.failures sink.entry.now)
-                (sunk W.is_keeping W.taken W.failures result.2.now)) }
+                (W.seen sink.entry.now) (W.seen result.2.now)) }
             ensures same { result.2.ghost_name ≡ sink.entry.ghost_name }
         {
             let ran = run_in(
@@ -184,23 +164,8 @@ pub fn build_with<R: Wait + Threads + Sync, S: Source + Send + Drop, W: Sink, G:
     permit: &P,
 ) -> Result<Report, RunFault>
     ensures too_many { (result ≡ Err TooManyFiles) ↔ (16 < vec_len sources.old) }
-    ensures ok { IfOk result (IsBuilt S.is_honest S.left S.failures config.now sources.old.items sources.new.items
-        (sunk W.is_keeping W.taken W.failures sink.old)
-        (sunk W.is_keeping W.taken W.failures sink.new)) }
-    ensures kept { OnOk result (AreKept S.is_honest S.left S.failures sources.old.items sources.new.items) }
-    ensures unmade { IfErr result (λ fault. IsWriterFault fault → IsUnmade S.is_honest S.left S.failures config.now sources.old.items sources.new.items
-        (sunk W.is_keeping W.taken W.failures sink.old)
-        (sunk W.is_keeping W.taken W.failures sink.new) fault) }
-    ensures begun { IfErr result (λ fault. fault ≢ Write → IsBegun config.now
-        (sunk W.is_keeping W.taken W.failures sink.old)
-        (sunk W.is_keeping W.taken W.failures sink.new)) }
-    ensures stopped { IfErr result (λ fault. IsFileFault fault → AreHonest S.is_honest sources.old.items → IsStopped S.left S.failures config.now sources.old.items sources.new.items
-        (sunk W.is_keeping W.taken W.failures sink.old)
-        (sunk W.is_keeping W.taken W.failures sink.new) fault) }
-    ensures refused { IfErr result (λ fault. fault ≡ Memory → AreHonest S.is_honest sources.old.items → IsRefused S.left config.now sources.old.items
-        (sunk W.is_keeping W.taken W.failures sink.old)
-        (sunk W.is_keeping W.taken W.failures sink.new)) }
-    ensures err { IfErr result (λ fault. IsAnswer (sink.new ≡ sink.old) (AreKept S.is_honest S.left S.failures sources.old.items sources.new.items) fault) }
+    ensures outcome { IsOutcome S.seen config.now sources.old.items sources.new.items (W.seen sink.old) (W.seen sink.new)
+        (sink.new ≡ sink.old) result }
 {
     if sources.len() > FILES_LIMIT {
         return Err(RunFault::TooManyFiles);
@@ -222,23 +187,8 @@ pub fn build<R: Wait + Threads + Sync, S: Source + Send + Drop, W: Sink, G: Gate
     gate: &G,
 ) -> Result<Report, RunFault>
     ensures too_many { (result ≡ Err TooManyFiles) ↔ (16 < vec_len sources.old) }
-    ensures ok { IfOk result (IsBuilt S.is_honest S.left S.failures config.now sources.old.items sources.new.items
-        (sunk W.is_keeping W.taken W.failures sink.old)
-        (sunk W.is_keeping W.taken W.failures sink.new)) }
-    ensures kept { OnOk result (AreKept S.is_honest S.left S.failures sources.old.items sources.new.items) }
-    ensures unmade { IfErr result (λ fault. IsWriterFault fault → IsUnmade S.is_honest S.left S.failures config.now sources.old.items sources.new.items
-        (sunk W.is_keeping W.taken W.failures sink.old)
-        (sunk W.is_keeping W.taken W.failures sink.new) fault) }
-    ensures begun { IfErr result (λ fault. fault ≢ Write → IsBegun config.now
-        (sunk W.is_keeping W.taken W.failures sink.old)
-        (sunk W.is_keeping W.taken W.failures sink.new)) }
-    ensures stopped { IfErr result (λ fault. IsFileFault fault → AreHonest S.is_honest sources.old.items → IsStopped S.left S.failures config.now sources.old.items sources.new.items
-        (sunk W.is_keeping W.taken W.failures sink.old)
-        (sunk W.is_keeping W.taken W.failures sink.new) fault) }
-    ensures refused { IfErr result (λ fault. fault ≡ Memory → AreHonest S.is_honest sources.old.items → IsRefused S.left config.now sources.old.items
-        (sunk W.is_keeping W.taken W.failures sink.old)
-        (sunk W.is_keeping W.taken W.failures sink.new)) }
-    ensures err { IfErr result (λ fault. IsAnswer (sink.new ≡ sink.old) (AreKept S.is_honest S.left S.failures sources.old.items sources.new.items) fault) }
+    ensures outcome { IsOutcome S.seen config.now sources.old.items sources.new.items (W.seen sink.old) (W.seen sink.new)
+        (sink.new ≡ sink.old) result }
 {
     build_with(rt, alloc, config, sources, sink, gate, &AllStart)
 }

@@ -2,11 +2,12 @@
 ghost use Rattle.std.specs.Prelude.{◌≡◌, ◌≢◌, ◌<◌, ℕ, List, Some, IfOk, IfErr, OnOk};
 ghost use Rattle.prolly_entry.specs.Chunk.{Chunk};
 ghost use Rattle.prolly_entry.specs.Events.{greatest_count};
+ghost use Rattle.prolly_file.specs.Sink.{SinkView};
 ghost use Rattle.prolly_link.specs.declared.fault.End.TheVariants.{Clean};
 ghost use Rattle.prolly_build.specs.declared.writer.Begun.{Begun as BegunValue};
 ghost use Rattle.prolly_build.specs.declared.writer.Top.{Top as TopValue};
 ghost use Rattle.prolly_build.specs.declared.writer.Written.TheVariants.{Whole};
-ghost use Rattle.prolly_build.specs.Writing.{Sunk, sunk, HasWritten, HasEnded, IsEndFault};
+ghost use Rattle.prolly_build.specs.Writing.{HasWritten, HasEnded, IsEndFault};
 
 use crate::report::Report;
 use crate::writer::{Begun, Written};
@@ -23,15 +24,14 @@ pub(crate) fn end_build<W: Sink>(
 ) -> Result<Report, RunFault>
     requires few { (begun : BegunValue) → written ≡ Whole begun → end ≡ Clean → begun.file.chunks < greatest_count }
     requires some { (begun : BegunValue) → written ≡ Whole begun → end ≡ Clean → (top : TopValue) × (begun.top ≡ Some top) }
-    ensures ok { (head : List ℕ) (level : ℕ) (events : List Chunk) (old : Sunk) →
-        HasWritten head level events old (sunk W.is_keeping W.taken W.failures sink.old) written →
-        IfOk result (HasEnded head level events old (sunk W.is_keeping W.taken W.failures sink.new) pairs) }
+    ensures ok { (head : List ℕ) (level : ℕ) (events : List Chunk) (old : SinkView) →
+        HasWritten head level events old (W.seen sink.old) written →
+        IfOk result (HasEnded head level events old (W.seen sink.new) pairs) }
     ensures clean { OnOk result (end ≡ Clean) }
-    ensures err { (head : List ℕ) (level : ℕ) (events : List Chunk) (old : Sunk) →
-        HasWritten head level events old (sunk W.is_keeping W.taken W.failures sink.old) written →
+    ensures err { (head : List ℕ) (level : ℕ) (events : List Chunk) (old : SinkView) →
+        HasWritten head level events old (W.seen sink.old) written →
         IfErr result (λ fault. IsEndFault head level events old
-        (sunk W.is_keeping W.taken W.failures sink.old)
-        (sunk W.is_keeping W.taken W.failures sink.new) end fault) }
+        (W.seen sink.old) (W.seen sink.new) end fault) }
 {
     match (end, written) {
         (End::Fault(fault), _) => Err(fault),
@@ -45,14 +45,13 @@ pub(crate) fn end_build<W: Sink>(
 fn end_file<W: Sink>(sink: &mut W, begun: Begun, pairs: u64) -> Result<Report, RunFault>
     requires few { begun.file.chunks < greatest_count }
     requires some { (top : TopValue) × (begun.top ≡ Some top) }
-    ensures ok { (head : List ℕ) (level : ℕ) (events : List Chunk) (old : Sunk) →
-        HasWritten head level events old (sunk W.is_keeping W.taken W.failures sink.old) (Whole begun) →
-        IfOk result (HasEnded head level events old (sunk W.is_keeping W.taken W.failures sink.new) pairs) }
-    ensures err { (head : List ℕ) (level : ℕ) (events : List Chunk) (old : Sunk) →
-        HasWritten head level events old (sunk W.is_keeping W.taken W.failures sink.old) (Whole begun) →
+    ensures ok { (head : List ℕ) (level : ℕ) (events : List Chunk) (old : SinkView) →
+        HasWritten head level events old (W.seen sink.old) (Whole begun) →
+        IfOk result (HasEnded head level events old (W.seen sink.new) pairs) }
+    ensures err { (head : List ℕ) (level : ℕ) (events : List Chunk) (old : SinkView) →
+        HasWritten head level events old (W.seen sink.old) (Whole begun) →
         IfErr result (λ fault. IsEndFault head level events old
-        (sunk W.is_keeping W.taken W.failures sink.old)
-        (sunk W.is_keeping W.taken W.failures sink.new) Clean fault) }
+        (W.seen sink.old) (W.seen sink.new) Clean fault) }
 {
     let Begun {
         file,

@@ -5,12 +5,12 @@ ghost use Rattle.prolly_entry.specs.Events.{faulty};
 ghost use Rattle.prolly_entry.specs.File.{header};
 ghost use Rattle.prolly_entry.specs.Pair.{Pair as PairValue};
 ghost use Rattle.prolly_entry.specs.Pipeline.{pipeline_events, before_second};
-ghost use Rattle.prolly_file.specs.Sink.{TakesPrefix};
+ghost use Rattle.prolly_file.specs.Sink.{SinkView, TakesPrefix};
 ghost use Rattle.prolly_link.specs.Receipts.{HasEnded, end_given};
 ghost use Rattle.prolly_link.specs.declared.fault.End.TheVariants.{Clean, Fault};
 ghost use Rattle.prolly_link.specs.declared.fault.RunFault.TheVariants.{Memory, Write};
 ghost use Rattle.prolly_build.specs.Settings.{AreLawful};
-ghost use Rattle.prolly_build.specs.Writing.{Sunk, sunk, HasWritten, frames_of};
+ghost use Rattle.prolly_build.specs.Writing.{HasWritten, frames_of};
 ghost use Rattle.prolly_build.specs.Built.{IsBegun, IsRunOf, IsFileOf, IsUnmadeOf, IsInputEnd, IsStartFault, IsWriterFault};
 ghost use Rattle.prolly_build.specs.Stopped.{IsFileFault, TookBegun};
 
@@ -37,31 +37,31 @@ pub(crate) fn finish<R: Wait, W: Sink>(
     requires end { ran.wrote.end ≡ end_given ran.wrote.last.progress }
     requires run { (m : List PairValue) × IsRunOf config m ran.out.items ran.out.end ran.pairs }
     requires faults { IsInputEnd ran.out.end }
-    requires written { (old : Sunk) × HasWritten (header config.version config.bits) (config.stages - 1) ran.wrote.last.items old
-        (sunk W.is_keeping W.taken W.failures sink.old) ran.wrote.written }
-    ensures ok { (m : List PairValue) (old : Sunk) → IsRunOf config m ran.out.items ran.out.end ran.pairs →
+    requires written { (old : SinkView) × HasWritten (header config.version config.bits) (config.stages - 1) ran.wrote.last.items old
+        (W.seen sink.old) ran.wrote.written }
+    ensures ok { (m : List PairValue) (old : SinkView) → IsRunOf config m ran.out.items ran.out.end ran.pairs →
         HasWritten (header config.version config.bits) (config.stages - 1) ran.wrote.last.items old
-        (sunk W.is_keeping W.taken W.failures sink.old) ran.wrote.written →
-        IfOk result (IsFileOf config m old (sunk W.is_keeping W.taken W.failures sink.new)) }
+        (W.seen sink.old) ran.wrote.written →
+        IfOk result (IsFileOf config m old (W.seen sink.new)) }
     ensures clean { OnOk result (ran.out.end ≡ Clean) }
-    ensures unmade { (m : List PairValue) (old : Sunk) → IsRunOf config m ran.out.items ran.out.end ran.pairs →
+    ensures unmade { (m : List PairValue) (old : SinkView) → IsRunOf config m ran.out.items ran.out.end ran.pairs →
         HasWritten (header config.version config.bits) (config.stages - 1) ran.wrote.last.items old
-        (sunk W.is_keeping W.taken W.failures sink.old) ran.wrote.written →
+        (W.seen sink.old) ran.wrote.written →
         IfErr result (λ fault. IsWriterFault fault → (ran.out.end ≡ Clean)
-        × IsUnmadeOf config m old (sunk W.is_keeping W.taken W.failures sink.new) fault) }
-    ensures begun { (old : Sunk) → HasWritten (header config.version config.bits) (config.stages - 1) ran.wrote.last.items old
-        (sunk W.is_keeping W.taken W.failures sink.old) ran.wrote.written →
+        × IsUnmadeOf config m old (W.seen sink.new) fault) }
+    ensures begun { (old : SinkView) → HasWritten (header config.version config.bits) (config.stages - 1) ran.wrote.last.items old
+        (W.seen sink.old) ran.wrote.written →
         IfErr result (λ fault. fault ≢ Write
-        → IsBegun config old (sunk W.is_keeping W.taken W.failures sink.new)) }
-    ensures stopped { (old : Sunk) → HasWritten (header config.version config.bits) (config.stages - 1) ran.wrote.last.items old
-        (sunk W.is_keeping W.taken W.failures sink.old) ran.wrote.written →
+        → IsBegun config old (W.seen sink.new)) }
+    ensures stopped { (old : SinkView) → HasWritten (header config.version config.bits) (config.stages - 1) ran.wrote.last.items old
+        (W.seen sink.old) ran.wrote.written →
         IfErr result (λ fault. IsFileFault fault → (ran.out.end ≡ Fault fault) × ((p : List PairValue) → length p < 2 ^ 64 →
         ran.out.items ≡ pipeline_events (config.stages - 1) (sha512_cut config.bits) config.version faulty p →
-        TookBegun config p old (sunk W.is_keeping W.taken W.failures sink.new))) }
-    ensures refused { (old : Sunk) → HasWritten (header config.version config.bits) (config.stages - 1) ran.wrote.last.items old
-        (sunk W.is_keeping W.taken W.failures sink.old) ran.wrote.written →
+        TookBegun config p old (W.seen sink.new))) }
+    ensures refused { (old : SinkView) → HasWritten (header config.version config.bits) (config.stages - 1) ran.wrote.last.items old
+        (W.seen sink.old) ran.wrote.written →
         IfErr result (λ fault. fault ≡ Memory → (ran.out.end ≡ Fault Memory) × (old.is_keeping ≡ true →
-        TakesPrefix old.taken (W.taken sink.new) (frames_of (header config.version config.bits) (before_second (config.stages - 1) ran.out.items)))) }
+        TakesPrefix old.taken (W.seen sink.new).taken (frames_of (header config.version config.bits) (before_second (config.stages - 1) ran.out.items)))) }
     ensures err { IfErr result (λ fault. IsStartFault fault → ⊥) }
 {
     let Ran { out, pairs, wrote } = ran;

@@ -2,7 +2,6 @@
 ghost use Rattle.std.specs.Prelude.{◌≡◌, ◌+◌, ◌<◌, ◌≤◌, [], All, map, vec_len, vec_capacity, IsTrue, IfOk, IfErr};
 ghost use Rattle.prolly_link.specs.Receipts.{HasEnded};
 ghost use Rattle.prolly_build.specs.Built.{IsBegun};
-ghost use Rattle.prolly_build.specs.Writing.{sunk};
 ghost use Rattle.prolly_build.specs.Ran.{IsWritten, IsUnsent, IsUnread};
 ghost use Rattle.prolly_build.specs.Merging.{received_input, sent_input};
 ghost use Rattle.prolly_build.specs.Gathering.{IsGathered};
@@ -97,14 +96,12 @@ pub(crate) fn gather<
     requires unread { last.items ≡ [] }
     ensures link { IfOk result (λ gathered. gathered.out.link ≡ out.link) }
     ensures written { IfOk result (λ gathered. IsWritten site.now.config last
-        (sunk W.is_keeping W.taken W.failures sink.old)
-        (sunk W.is_keeping W.taken W.failures sink.new) gathered.wrote) }
-    ensures gathered { IfOk result (λ gathered. IsGathered S.is_honest S.left S.failures site.now.config.max_records
+        (W.seen sink.old) (W.seen sink.new) gathered.wrote) }
+    ensures gathered { IfOk result (λ gathered. IsGathered S.seen site.now.config.max_records
         sources.old.items sources.new.items gathered.out.items gathered.out.end gathered.pairs) }
     ensures refused { IfErr result (λ halt. halt ≡ NoThread → sink.new ≡ sink.old) }
     ensures begun { IfErr result (λ halt. IsBegun site.now.config
-        (sunk W.is_keeping W.taken W.failures sink.old)
-        (sunk W.is_keeping W.taken W.failures sink.new)) }
+        (W.seen sink.old) (W.seen sink.new)) }
 {
     let Feed {
         files: _,

@@ -1,7 +1,6 @@
 //! The loaders of all files, and the writer below them.
 ghost use Rattle.std.specs.Prelude.{◌≡◌, ◌+◌, ◌<◌, ◌≤◌, [], All, vec_len, vec_capacity, IfOk, IfErr, OnOk};
 ghost use Rattle.prolly_build.specs.Built.{IsBegun};
-ghost use Rattle.prolly_build.specs.Writing.{sunk};
 ghost use Rattle.prolly_build.specs.Ran.{IsWritten, IsUnsent, AreLoaded};
 ghost use Rattle.prolly_build.specs.declared.halt.Halt.TheVariants.{NoThread};
 
@@ -45,13 +44,11 @@ pub(crate) fn load_all<
     requires unsent { All IsUnsent outs.items }
     requires unread { last.items ≡ [] }
     ensures written { IfOk result (IsWritten site.now.config last
-        (sunk W.is_keeping W.taken W.failures sink.old)
-        (sunk W.is_keeping W.taken W.failures sink.new)) }
-    ensures loaded { OnOk result (AreLoaded S.is_honest S.left S.failures site.now.config.max_records file sources.old.items outs.items sources.new.items closed.new.items) }
+        (W.seen sink.old) (W.seen sink.new)) }
+    ensures loaded { OnOk result (AreLoaded S.seen site.now.config.max_records file sources.old.items outs.items sources.new.items closed.new.items) }
     ensures refused { IfErr result (λ halt. halt ≡ NoThread → sink.new ≡ sink.old) }
     ensures begun { IfErr result (λ halt. IsBegun site.now.config
-        (sunk W.is_keeping W.taken W.failures sink.old)
-        (sunk W.is_keeping W.taken W.failures sink.new)) }
+        (W.seen sink.old) (W.seen sink.new)) }
     ensures fewer { (vec_len sources.new ≤ vec_len sources.old) × (vec_capacity sources.old ≤ vec_capacity sources.new) }
     ensures filled { (vec_len closed.new ≤ vec_len closed.old + vec_len outs) × (vec_capacity closed.old ≤ vec_capacity closed.new) }
 {

@@ -26,7 +26,7 @@ pub(crate) struct LoadPromise<S> {
 impl<S: Source> Promise<Loaded<S, ClosedBatch<Record>>> for LoadPromise<S> {
     ghost use Rattle.prolly_build.specs.Workers.{IsLoadedFrom};
 
-    ghost kept_by = { λ p loaded. IsLoadedFrom S.is_honest S.left S.failures p.file p.limit p.source.value p.out.value loaded.source loaded.out };
+    ghost kept_by = { λ p loaded. IsLoadedFrom S.seen p.file p.limit p.source.value p.out.value loaded.source loaded.out };
 }
 
 /// A loader, on the thread that it is called on.
@@ -40,7 +40,7 @@ fn run_loader<R: Wait, G: Gate, S: Source>(
     out: BatchSender<Record>,
 ) -> Loaded<S, ClosedBatch<Record>>
     requires { out.items ≡ [] }
-    ensures { IsLoadedFrom S.is_honest S.left S.failures file limit source out result.source result.out }
+    ensures { IsLoadedFrom S.seen file limit source out result.source result.out }
 {
     let out = Gated::new(out, Worker::Loader(file), gate);
     load(rt, alloc, file, source, limit, out)
@@ -77,7 +77,7 @@ pub(crate) fn start_loader<'s, E, R: Wait + Sync, G: Gate, P: Permit, S: Source 
             promise,
             move || -> Loaded<S, ClosedBatch<Record>>
                 requires { out.items ≡ [] }
-                ensures { IsLoadedFrom S.is_honest S.left S.failures file limit source out result.source result.out }
+                ensures { IsLoadedFrom S.seen file limit source out result.source result.out }
             { run_loader(rt, alloc, gate, file, limit, source, out) },
         )
         .ok()

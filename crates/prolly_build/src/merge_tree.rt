@@ -1,7 +1,6 @@
 //! The tree of mergers of two, and the loaders below it.
 ghost use Rattle.std.specs.Prelude.{◌≡◌, ◌+◌, ◌<◌, ◌≤◌, [], All, vec_len, vec_capacity, IfOk, IfErr, OnOk};
 ghost use Rattle.prolly_build.specs.Built.{IsBegun};
-ghost use Rattle.prolly_build.specs.Writing.{sunk};
 ghost use Rattle.prolly_build.specs.Ran.{IsWritten, IsUnsent};
 ghost use Rattle.prolly_build.specs.Feeding.{IsFed};
 ghost use Rattle.prolly_build.specs.declared.halt.Halt.TheVariants.{NoThread};
@@ -57,13 +56,11 @@ pub(crate) fn merge_tree<
     requires unsent { All IsUnsent outs.items }
     requires unread { last.items ≡ [] }
     ensures written { IfOk result (IsWritten site.now.config last
-        (sunk W.is_keeping W.taken W.failures sink.old)
-        (sunk W.is_keeping W.taken W.failures sink.new)) }
-    ensures fed { OnOk result (IsFed S.is_honest S.left S.failures site.now.config.max_records sources.old.items sources.new.items outs.items closed.new.items) }
+        (W.seen sink.old) (W.seen sink.new)) }
+    ensures fed { OnOk result (IsFed S.seen site.now.config.max_records sources.old.items sources.new.items outs.items closed.new.items) }
     ensures refused { IfErr result (λ halt. halt ≡ NoThread → sink.new ≡ sink.old) }
     ensures begun { IfErr result (λ halt. IsBegun site.now.config
-        (sunk W.is_keeping W.taken W.failures sink.old)
-        (sunk W.is_keeping W.taken W.failures sink.new)) }
+        (W.seen sink.old) (W.seen sink.new)) }
 {
     let mut forks = forks;
     let mut outs = outs;

@@ -1,7 +1,6 @@
 //! The stages, one above the other, and all workers below them.
 ghost use Rattle.std.specs.Prelude.{◌≡◌, ◌<◌, ◌≤◌, [], vec_len, IfOk, IfErr};
 ghost use Rattle.prolly_build.specs.Built.{IsBegun};
-ghost use Rattle.prolly_build.specs.Writing.{sunk};
 ghost use Rattle.prolly_build.specs.Ran.{IsWritten};
 ghost use Rattle.prolly_build.specs.Staging.{HasStaged};
 ghost use Rattle.prolly_build.specs.declared.halt.Halt.TheVariants.{NoThread};
@@ -54,13 +53,11 @@ fn run_from_leaves<
     requires unread { last.items ≡ [] }
     ensures link { IfOk result (λ ran. ran.out.link ≡ out.link) }
     ensures written { IfOk result (λ ran. IsWritten site.now.config last
-        (sunk W.is_keeping W.taken W.failures sink.old)
-        (sunk W.is_keeping W.taken W.failures sink.new) ran.wrote) }
-    ensures staged { IfOk result (λ ran. HasStaged S.is_honest S.left S.failures site.now.config 0 sources.old.items sources.new.items ran.out.items ran.out.end ran.pairs) }
+        (W.seen sink.old) (W.seen sink.new) ran.wrote) }
+    ensures staged { IfOk result (λ ran. HasStaged S.seen site.now.config 0 sources.old.items sources.new.items ran.out.items ran.out.end ran.pairs) }
     ensures refused { IfErr result (λ halt. halt ≡ NoThread → sink.new ≡ sink.old) }
     ensures begun { IfErr result (λ halt. IsBegun site.now.config
-        (sunk W.is_keeping W.taken W.failures sink.old)
-        (sunk W.is_keeping W.taken W.failures sink.new)) }
+        (W.seen sink.old) (W.seen sink.new)) }
 {
     let NewLink { sender, receiver } = pairs;
     let cut = site.config.cut();
@@ -123,13 +120,11 @@ pub(crate) fn run_from_top<
     requires unread { last.items ≡ [] }
     ensures link { IfOk result (λ ran. ran.out.link ≡ out.link) }
     ensures written { IfOk result (λ ran. IsWritten site.now.config last
-        (sunk W.is_keeping W.taken W.failures sink.old)
-        (sunk W.is_keeping W.taken W.failures sink.new) ran.wrote) }
-    ensures staged { IfOk result (λ ran. HasStaged S.is_honest S.left S.failures site.now.config (vec_len events) sources.old.items sources.new.items ran.out.items ran.out.end ran.pairs) }
+        (W.seen sink.old) (W.seen sink.new) ran.wrote) }
+    ensures staged { IfOk result (λ ran. HasStaged S.seen site.now.config (vec_len events) sources.old.items sources.new.items ran.out.items ran.out.end ran.pairs) }
     ensures refused { IfErr result (λ halt. halt ≡ NoThread → sink.new ≡ sink.old) }
     ensures begun { IfErr result (λ halt. IsBegun site.now.config
-        (sunk W.is_keeping W.taken W.failures sink.old)
-        (sunk W.is_keeping W.taken W.failures sink.new)) }
+        (W.seen sink.old) (W.seen sink.new)) }
 {
     let mut events = events;
     let Some(link) = events.pop() else {

@@ -2,8 +2,9 @@
 ghost use Rattle.std.specs.Prelude.{◌≡◌, ◌≤◌, ℕ, List, [], ◌∷◌, ◌++◌};
 ghost use Rattle.prolly_entry.specs.Chunk.{Chunk};
 ghost use Rattle.prolly_entry.specs.File.{header};
+ghost use Rattle.prolly_file.specs.Sink.{SinkView};
 ghost use Rattle.prolly_link.specs.Receipts.{HasEnded, end_given};
-ghost use Rattle.prolly_build.specs.Writing.{Sunk, sunk, HasWritten};
+ghost use Rattle.prolly_build.specs.Writing.{HasWritten};
 
 use prolly_chunk::ChunkEvent;
 use prolly_entry::{Ref, Version};
@@ -43,8 +44,7 @@ impl Written {
     /// Writes the header.
     pub(crate) fn begin<W: Sink>(sink: &mut W, version: Version, bits: u8) -> Written
         ensures { (level : ℕ) → HasWritten (header version bits) level []
-            (sunk W.is_keeping W.taken W.failures sink.old)
-            (sunk W.is_keeping W.taken W.failures sink.new) result }
+            (W.seen sink.old) (W.seen sink.new) result }
     {
         match FileWriter::begin_as(sink, version, bits) {
             Ok(file) => Written::Whole(Begun {
@@ -59,9 +59,9 @@ impl Written {
     /// Writes the chunk of an event, unless a second one of the last stage's level came, or a write
     /// failed.
     pub(crate) fn push<W: Sink>(self, sink: &mut W, last_level: u8, event: &ChunkEvent) -> Written
-        ensures { (head : List ℕ) (events : List Chunk) (old : Sunk) →
-            HasWritten head last_level events old (sunk W.is_keeping W.taken W.failures sink.old) self →
-            HasWritten head last_level (events ++ event.now ∷ []) old (sunk W.is_keeping W.taken W.failures sink.new) result }
+        ensures { (head : List ℕ) (events : List Chunk) (old : SinkView) →
+            HasWritten head last_level events old (W.seen sink.old) self →
+            HasWritten head last_level (events ++ event.now ∷ []) old (W.seen sink.new) result }
     {
         match self {
             Written::Whole(begun) => begun.push(sink, last_level, event),
@@ -73,9 +73,9 @@ impl Written {
 
 impl Begun {
     fn push<W: Sink>(self, sink: &mut W, last_level: u8, event: &ChunkEvent) -> Written
-        ensures { (head : List ℕ) (events : List Chunk) (old : Sunk) →
-            HasWritten head last_level events old (sunk W.is_keeping W.taken W.failures sink.old) (Written.Whole self) →
-            HasWritten head last_level (events ++ event.now ∷ []) old (sunk W.is_keeping W.taken W.failures sink.new) result }
+        ensures { (head : List ℕ) (events : List Chunk) (old : SinkView) →
+            HasWritten head last_level events old (W.seen sink.old) (Written.Whole self) →
+            HasWritten head last_level (events ++ event.now ∷ []) old (W.seen sink.new) result }
     {
         let is_top = event.level() == last_level;
         if is_top && self.has_top {
@@ -112,9 +112,9 @@ pub(crate) fn write_events<I: In<ChunkEvent>, W: Sink, R: Wait>(
     ensures follows { I.Follows input.old input.new }
     ensures ended { HasEnded (I.progress input.new) }
     ensures end { result.1 ≡ end_given (I.progress input.new) }
-    ensures written { (head : List ℕ) (old : Sunk) →
-        HasWritten head last_level [] old (sunk W.is_keeping W.taken W.failures sink.old) begun →
-        HasWritten head last_level (I.received input.old input.new) old (sunk W.is_keeping W.taken W.failures sink.new) result.0 }
+    ensures written { (head : List ℕ) (old : SinkView) →
+        HasWritten head last_level [] old (W.seen sink.old) begun →
+        HasWritten head last_level (I.received input.old input.new) old (W.seen sink.new) result.0 }
 {
     let mut written = begun;
     for _ in rt.forever() {

@@ -1,6 +1,5 @@
 //! The writer's thread, which is the caller's.
 ghost use Rattle.std.specs.Prelude.{◌≡◌, []};
-ghost use Rattle.prolly_build.specs.Writing.{sunk};
 ghost use Rattle.prolly_build.specs.Ran.{IsWritten};
 
 use crate::config::Config;
@@ -28,8 +27,7 @@ pub(crate) fn write_all<R: Wait, W: Sink>(
 ) -> Wrote
     requires { last.items ≡ [] }
     ensures { IsWritten config last
-        (sunk W.is_keeping W.taken W.failures sink.old)
-        (sunk W.is_keeping W.taken W.failures sink.new) result }
+        (W.seen sink.old) (W.seen sink.new) result }
 {
     let begun = Written::begin(sink, config.version(), config.bits());
     let mut last = last;

@@ -22,23 +22,23 @@ use std::alloc::Global;
 /// chunks are rebuilt one open chunk of each level, and then the index of the references.
 pub fn check<S: Source>(alloc: Global, source: &mut S, max_bytes: u32) -> Result<Tree, CheckFault>
     // What is accepted are the bytes of the source, and they are the file of a map.
-    ensures same { S.is_honest source.old ≡ true → IfOk result (λ tree. tree ≡ S.left source.old) }
+    ensures same { (S.seen source.old).is_honest ≡ true → IfOk result (λ tree. tree ≡ (S.seen source.old).left) }
     ensures accepted { IfOk result (λ tree. IsFile tree) }
     ensures within { IfOk result (λ tree. length tree ≤ max_bytes) }
 
     // No file of a map is refused, but for want of memory or a failed read.
-    ensures files { S.is_honest source.old ≡ true → (content : Content) → IsFileOf (S.left source.old) content →
-        length (S.left source.old) ≤ max_bytes →
+    ensures files { (S.seen source.old).is_honest ≡ true → (content : Content) → IsFileOf (S.seen source.old).left content →
+        length (S.seen source.old).left ≤ max_bytes →
         IfErr result (λ fault. (fault ≡ CheckFault.Memory) ⊎ (fault ≡ CheckFault.Read)) }
 
     // Other bytes are refused by their first fault, and only bytes within the limit have a fault.
-    ensures refused { S.is_honest source.old ≡ true → IfErr result (IsRefusal (S.left source.old) max_bytes) }
+    ensures refused { (S.seen source.old).is_honest ≡ true → IfErr result (IsRefusal (S.seen source.old).left max_bytes) }
 
     // A failed read is told as one, whatever else would follow it.
-    ensures read { IsErrOf result CheckFault.Read ↔ (S.failures source.new ≢ S.failures source.old) }
-    ensures unfailed { OnOk result (S.failures source.new ≡ S.failures source.old) }
-    ensures honest { S.is_honest source.old ≡ true → S.is_honest source.new ≡ true }
-    ensures steady { S.is_steady source.old ≡ true → S.is_steady source.new ≡ true }
+    ensures read { IsErrOf result CheckFault.Read ↔ ((S.seen source.new).failures ≢ (S.seen source.old).failures) }
+    ensures unfailed { OnOk result ((S.seen source.new).failures ≡ (S.seen source.old).failures) }
+    ensures honest { (S.seen source.old).is_honest ≡ true → (S.seen source.new).is_honest ≡ true }
+    ensures steady { (S.seen source.old).is_steady ≡ true → (S.seen source.new).is_steady ≡ true }
 {
     let bytes = match read_whole(alloc, source, max_bytes) {
         Ok(bytes) => bytes,

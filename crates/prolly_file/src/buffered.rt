@@ -30,9 +30,9 @@ impl<W: Sink + Drop> Buffered<W> {
 
     /// A buffer of at least so many bytes before the sink. This is all the memory that it takes.
     pub fn with_capacity(alloc: Global, capacity: usize, sink: W) -> Result<Buffered<W>, AllocError>
-        ensures taken { IfOk result (λ buffer. ⟦<Buffered<W> as Sink>⟧.taken buffer ≡ W.taken sink) }
-        ensures keeping { IfOk result (λ buffer. ⟦<Buffered<W> as Sink>⟧.is_keeping buffer ≡ W.is_keeping sink) }
-        ensures failures { IfOk result (λ buffer. ⟦<Buffered<W> as Sink>⟧.failures buffer ≡ 0) }
+        ensures taken { IfOk result (λ buffer. (⟦<Buffered<W> as Sink>⟧.seen buffer).taken ≡ (W.seen sink).taken) }
+        ensures keeping { IfOk result (λ buffer. (⟦<Buffered<W> as Sink>⟧.seen buffer).is_keeping ≡ (W.seen sink).is_keeping) }
+        ensures failures { IfOk result (λ buffer. (⟦<Buffered<W> as Sink>⟧.seen buffer).failures ≡ 0) }
         ensures sink { IfOk result (λ buffer. (sink_of buffer ≡ sink) × (has_failed buffer ≡ false)) }
     {
         Ok(Buffered {
@@ -57,8 +57,8 @@ impl<W: Sink> Buffered<W> {
 
     /// Hands on all that is held.
     fn hand_on(&mut self) -> Result<(), SinkFault>
-        ensures bytes { W.is_keeping (sink_of self.old) ≡ true → bytes_taken W.taken self.new ≡ bytes_taken W.taken self.old }
-        ensures keeping { W.is_keeping (sink_of self.old) ≡ true → W.is_keeping (sink_of self.new) ≡ true }
+        ensures bytes { (W.seen (sink_of self.old)).is_keeping ≡ true → bytes_taken W.seen self.new ≡ bytes_taken W.seen self.old }
+        ensures keeping { (W.seen (sink_of self.old)).is_keeping ≡ true → (W.seen (sink_of self.new)).is_keeping ≡ true }
         ensures failures { CountsFailure self.old.failures self.new.failures result }
         ensures empty { OnOk result (IsEmptied self.old self.new) }
         ensures failed { OnErr result (has_failed self.new ≡ true) }
@@ -78,8 +78,8 @@ impl<W: Sink> Buffered<W> {
     fn pass(&mut self, buf: &[u8]) -> Result<usize, SinkFault>
         requires { self.old.held.items ≡ [] }
         ensures bound { IfOk result (λ n. n ≤ length buf.now) }
-        ensures bytes { W.is_keeping (sink_of self.old) ≡ true → Takes (bytes_taken W.taken self.old) (bytes_taken W.taken self.new) result buf.now }
-        ensures keeping { W.is_keeping (sink_of self.old) ≡ true → W.is_keeping (sink_of self.new) ≡ true }
+        ensures bytes { (W.seen (sink_of self.old)).is_keeping ≡ true → Takes (bytes_taken W.seen self.old) (bytes_taken W.seen self.new) result buf.now }
+        ensures keeping { (W.seen (sink_of self.old)).is_keeping ≡ true → (W.seen (sink_of self.new)).is_keeping ≡ true }
         ensures failures { CountsWriteFailure self.old.failures self.new.failures result buf.now }
         ensures failed { OnErr result (has_failed self.new ≡ true) }
     {
@@ -101,18 +101,14 @@ impl<W: Sink> Buffered<W> {
 }
 
 impl<W: Sink> Sink for Buffered<W> {
-    ghost use Rattle.prolly_file.specs.Buffered.{bytes_taken, has_failed, is_keeping_of, failure_count, sink_of};
+    ghost use Rattle.prolly_file.specs.Buffered.{bytes_taken, has_failed, seen_before, sink_of};
 
-    ghost taken = { bytes_taken W.taken };
-
-    ghost failures = { failure_count };
-
-    ghost is_keeping = { is_keeping_of W.is_keeping };
+    ghost seen = { seen_before W.seen };
 
     fn write(&mut self, buf: &[u8]) -> Result<usize, SinkFault>
         ensures bound { IfOk result (λ n. n ≤ length buf.now) }
-        ensures bytes { W.is_keeping (sink_of self.old) ≡ true → Takes (bytes_taken W.taken self.old) (bytes_taken W.taken self.new) result buf.now }
-        ensures keeping { W.is_keeping (sink_of self.old) ≡ true → W.is_keeping (sink_of self.new) ≡ true }
+        ensures bytes { (W.seen (sink_of self.old)).is_keeping ≡ true → Takes (bytes_taken W.seen self.old) (bytes_taken W.seen self.new) result buf.now }
+        ensures keeping { (W.seen (sink_of self.old)).is_keeping ≡ true → (W.seen (sink_of self.new)).is_keeping ≡ true }
         ensures failures { CountsWriteFailure self.old.failures self.new.failures result buf.now }
 
         // After a fault the other sink is left alone.
@@ -137,12 +133,12 @@ impl<W: Sink> Sink for Buffered<W> {
 
     /// Hands on all that is held, and flushes the other sink.
     fn flush(&mut self) -> Result<(), SinkFault>
-        ensures bytes { W.is_keeping (sink_of self.old) ≡ true → bytes_taken W.taken self.new ≡ bytes_taken W.taken self.old }
-        ensures keeping { W.is_keeping (sink_of self.old) ≡ true → W.is_keeping (sink_of self.new) ≡ true }
+        ensures bytes { (W.seen (sink_of self.old)).is_keeping ≡ true → bytes_taken W.seen self.new ≡ bytes_taken W.seen self.old }
+        ensures keeping { (W.seen (sink_of self.old)).is_keeping ≡ true → (W.seen (sink_of self.new)).is_keeping ≡ true }
         ensures failures { CountsFailure self.old.failures self.new.failures result }
 
         // The other sink has all that was taken.
-        ensures through { W.is_keeping (sink_of self.old) ≡ true → OnOk result (W.taken (sink_of self.new) ≡ bytes_taken W.taken self.new) }
+        ensures through { (W.seen (sink_of self.old)).is_keeping ≡ true → OnOk result ((W.seen (sink_of self.new)).taken ≡ bytes_taken W.seen self.new) }
 
         // After a fault the other sink is left alone.
         ensures failed { OnErr result (has_failed self.new ≡ true) }

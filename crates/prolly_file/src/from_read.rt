@@ -26,9 +26,9 @@ impl<R: Read> FromRead<R> {
 
     /// A source of what the reader has left. It reads nothing yet.
     pub fn new(reader: R) -> FromRead<R>
-        ensures left { ⟦<FromRead<R> as Source>⟧.left result ≡ known_bytes (R.remaining reader) }
-        ensures honest { ⟦<FromRead<R> as Source>⟧.is_honest result ≡ are_known_bytes (R.remaining reader) }
-        ensures failures { ⟦<FromRead<R> as Source>⟧.failures result ≡ 0 }
+        ensures left { (⟦<FromRead<R> as Source>⟧.seen result).left ≡ known_bytes (R.remaining reader) }
+        ensures honest { (⟦<FromRead<R> as Source>⟧.seen result).is_honest ≡ are_known_bytes (R.remaining reader) }
+        ensures failures { (⟦<FromRead<R> as Source>⟧.seen result).failures ≡ 0 }
         ensures begun { has_ended result ≡ false }
     {
         FromRead {
@@ -40,24 +40,18 @@ impl<R: Read> FromRead<R> {
 }
 
 impl<R: Read> Source for FromRead<R> {
-    ghost use Rattle.prolly_file.specs.FromRead.{has_ended, bytes_left, tells_bytes, failure_count};
+    ghost use Rattle.prolly_file.specs.FromRead.{has_ended, seen_of};
     ghost use Rattle.prolly_file.specs.BytesLaws.{bytes_left_are_bytes};
 
-    ghost left = { bytes_left R.remaining };
-
-    ghost failures = { failure_count };
-
-    ghost is_honest = { tells_bytes R.remaining };
-
-    ghost is_steady = { λ s. false };
+    ghost seen = { seen_of R.remaining };
 
     ghost left_are_bytes = { λ s told. bytes_left_are_bytes s.has_ended (R.remaining s.reader) told };
 
     fn read(&mut self, buf: &mut [u8]) -> Result<usize, SourceFault>
         ensures bound { IfOk result (λ n. n ≤ length buf.new) }
-        ensures bytes { tells_bytes R.remaining self.old ≡ true → HandsOut (bytes_left R.remaining self.old) (bytes_left R.remaining self.new) result buf.new }
-        ensures honest { tells_bytes R.remaining self.old ≡ true → tells_bytes R.remaining self.new ≡ true }
-        ensures failures { CountsFailure (failure_count self.old) (failure_count self.new) result }
+        ensures bytes { (seen_of R.remaining self.old).is_honest ≡ true → HandsOut (seen_of R.remaining self.old).left (seen_of R.remaining self.new).left result buf.new }
+        ensures honest { (seen_of R.remaining self.old).is_honest ≡ true → (seen_of R.remaining self.new).is_honest ≡ true }
+        ensures failures { CountsFailure self.old.failures self.new.failures result }
 
         // Once it has ended, the reader is left alone.
         ensures over { has_ended self.old ≡ true → (result ≡ Ok 0) × (self.new ≡ self.old) }

@@ -51,11 +51,7 @@ impl ScriptSink {
 }
 
 impl Sink for ScriptSink {
-    ghost taken = { λ s. s.taken };
-
-    ghost failures = { λ s. s.failures };
-
-    ghost is_keeping = { λ s. true };
+    ghost seen = { λ s. record { is_keeping = true; taken = s.taken; failures = s.failures } };
 
     fn write(&mut self, buf: &[u8]) -> Result<usize, SinkFault>
         ensures bound { IfOk result (λ n. n ≤ length buf.now) }

@@ -37,7 +37,7 @@ impl ScriptSource {
     pub fn new(bytes: Vec<u8>, step: usize, fail_at: Option<u64>) -> ScriptSource
         requires { 0 < step }
         ensures script { result ≡ record { left = bytes.items; step = step; until_failure = fail_at; failures = 0 } }
-        ensures honest { ⟦<ScriptSource as Source>⟧.is_honest result ≡ true }
+        ensures honest { (⟦<ScriptSource as Source>⟧.seen result).is_honest ≡ true }
     {
         ScriptSource {
             bytes,
@@ -53,13 +53,7 @@ impl Source for ScriptSource {
     ghost use Rattle.std.proofs.Common.{rules};
     ghost use Rattle.prolly_file.specs.BytesLaws.{bytes_from_test};
 
-    ghost left = { λ s. s.left };
-
-    ghost failures = { λ s. s.failures };
-
-    ghost is_honest = { λ s. are_bytes s.left };
-
-    ghost is_steady = { λ s. not (is_some s.until_failure) };
+    ghost seen = { λ s. record { is_honest = are_bytes s.left; is_steady = not (is_some s.until_failure); left = s.left; failures = s.failures } };
 
     ghost left_are_bytes = { Prim.search (rules, bytes_from_test) };
 

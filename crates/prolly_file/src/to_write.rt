@@ -19,9 +19,9 @@ pub struct ToWrite<W> {
 impl<W: Write> ToWrite<W> {
     /// A sink into the writer, behind the bytes that it holds already.
     pub fn new(writer: W) -> ToWrite<W>
-        ensures taken { ⟦<ToWrite<W> as Sink>⟧.taken result ≡ known_bytes (W.contents writer) }
-        ensures keeping { ⟦<ToWrite<W> as Sink>⟧.is_keeping result ≡ is_some (W.contents writer) }
-        ensures failures { ⟦<ToWrite<W> as Sink>⟧.failures result ≡ 0 }
+        ensures taken { (⟦<ToWrite<W> as Sink>⟧.seen result).taken ≡ known_bytes (W.contents writer) }
+        ensures keeping { (⟦<ToWrite<W> as Sink>⟧.seen result).is_keeping ≡ is_some (W.contents writer) }
+        ensures failures { (⟦<ToWrite<W> as Sink>⟧.seen result).failures ≡ 0 }
     {
         ToWrite {
             writer,
@@ -31,13 +31,9 @@ impl<W: Write> ToWrite<W> {
 }
 
 impl<W: Write> Sink for ToWrite<W> {
-    ghost use Rattle.prolly_file.specs.ToWrite.{bytes_taken, tells_bytes, failure_count};
+    ghost use Rattle.prolly_file.specs.ToWrite.{seen_of};
 
-    ghost taken = { bytes_taken W.contents };
-
-    ghost failures = { failure_count };
-
-    ghost is_keeping = { tells_bytes W.contents };
+    ghost seen = { seen_of W.contents };
 
     fn write(&mut self, buf: &[u8]) -> Result<usize, SinkFault> {
         match write_again(&mut self.writer, buf) {

@@ -37,15 +37,15 @@ pub fn read_whole<S: Source>(
     source: &mut S,
     max_bytes: u32,
 ) -> Result<Vec<u8>, WholeFault>
-    ensures whole { S.is_honest source.old ≡ true → IfOk result (λ bytes. bytes.items ≡ S.left source.old) }
-    ensures end { S.is_honest source.old ≡ true → OnOk result (S.left source.new ≡ []) }
+    ensures whole { (S.seen source.old).is_honest ≡ true → IfOk result (λ bytes. bytes.items ≡ (S.seen source.old).left) }
+    ensures end { (S.seen source.old).is_honest ≡ true → OnOk result ((S.seen source.new).left ≡ []) }
     ensures within { IfOk result (λ bytes. vec_len bytes ≤ max_bytes) }
-    ensures too_long { S.is_honest source.old ≡ true → IsErrOf result WholeFault.TooLong → max_bytes < length (S.left source.old) }
-    ensures read { IsErrOf result WholeFault.Read ↔ (S.failures source.new ≢ S.failures source.old) }
-    ensures unfailed { OnOk result (S.failures source.new ≡ S.failures source.old) }
-    ensures never { S.is_steady source.old ≡ true → S.failures source.new ≡ S.failures source.old }
-    ensures honest { S.is_honest source.old ≡ true → S.is_honest source.new ≡ true }
-    ensures steady { S.is_steady source.old ≡ true → S.is_steady source.new ≡ true }
+    ensures too_long { (S.seen source.old).is_honest ≡ true → IsErrOf result WholeFault.TooLong → max_bytes < length (S.seen source.old).left }
+    ensures read { IsErrOf result WholeFault.Read ↔ ((S.seen source.new).failures ≢ (S.seen source.old).failures) }
+    ensures unfailed { OnOk result ((S.seen source.new).failures ≡ (S.seen source.old).failures) }
+    ensures never { (S.seen source.old).is_steady ≡ true → (S.seen source.new).failures ≡ (S.seen source.old).failures }
+    ensures honest { (S.seen source.old).is_honest ≡ true → (S.seen source.new).is_honest ≡ true }
+    ensures steady { (S.seen source.old).is_steady ≡ true → (S.seen source.new).is_steady ≡ true }
 {
     let mut whole = Vec::new(alloc);
     let mut part = part_buffer(alloc)?;

@@ -97,11 +97,11 @@ impl Buffer {
     pub(crate) fn fill<S: Source>(&mut self, source: &mut S) -> Result<usize, SourceFault>
         requires { length self.old.unparsed < RECORD_BYTES }
         ensures last_key { self.new.last_key ≡ self.old.last_key }
-        ensures fills { Fills (S.is_honest source.old) (S.left source.old) (S.left source.new) self.old.unparsed self.new.unparsed result }
-        ensures honest { S.is_honest source.old ≡ true → S.is_honest source.new ≡ true }
-        ensures steady { S.is_steady source.old ≡ true → S.is_steady source.new ≡ true }
-        ensures failures { CountsFailure (S.failures source.old) (S.failures source.new) result }
-        ensures succeeds { S.is_steady source.old ≡ true → IsOk result }
+        ensures fills { Fills (S.seen source.old).is_honest (S.seen source.old).left (S.seen source.new).left self.old.unparsed self.new.unparsed result }
+        ensures honest { (S.seen source.old).is_honest ≡ true → (S.seen source.new).is_honest ≡ true }
+        ensures steady { (S.seen source.old).is_steady ≡ true → (S.seen source.new).is_steady ≡ true }
+        ensures failures { CountsFailure (S.seen source.old).failures (S.seen source.new).failures result }
+        ensures succeeds { (S.seen source.old).is_steady ≡ true → IsOk result }
     {
         self.make_room();
         let count = read_behind(source, self.bytes.as_mut_slice(), self.unparsed)?;
@@ -167,11 +167,11 @@ fn read_behind<S: Source>(
     ensures size { length bytes.new ≡ length bytes.old }
     ensures bound { IfOk result (λ count. unparsed.end + count ≤ length bytes.old) }
     ensures before { take unparsed.end bytes.new ≡ take unparsed.end bytes.old }
-    ensures fills { let grown = record unparsed { end = unparsed.end + result_unwrap_or result 0 } in Fills (S.is_honest source.old) (S.left source.old) (S.left source.new) (part bytes.old unparsed) (part bytes.new grown) result }
-    ensures honest { S.is_honest source.old ≡ true → S.is_honest source.new ≡ true }
-    ensures steady { S.is_steady source.old ≡ true → S.is_steady source.new ≡ true }
-    ensures failures { CountsFailure (S.failures source.old) (S.failures source.new) result }
-    ensures succeeds { S.is_steady source.old ≡ true → IsOk result }
+    ensures fills { let grown = record unparsed { end = unparsed.end + result_unwrap_or result 0 } in Fills (S.seen source.old).is_honest (S.seen source.old).left (S.seen source.new).left (part bytes.old unparsed) (part bytes.new grown) result }
+    ensures honest { (S.seen source.old).is_honest ≡ true → (S.seen source.new).is_honest ≡ true }
+    ensures steady { (S.seen source.old).is_steady ≡ true → (S.seen source.new).is_steady ≡ true }
+    ensures failures { CountsFailure (S.seen source.old).failures (S.seen source.new).failures result }
+    ensures succeeds { (S.seen source.old).is_steady ≡ true → IsOk result }
 {
     source.read(&mut bytes[unparsed.end..])
 }

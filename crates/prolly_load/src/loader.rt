@@ -40,14 +40,14 @@ pub fn load<R: Wait, S: Source, O: Out<Record>>(
     mut out: O,
 ) -> Loaded<S, O::Closed>
     ensures link { O.closed_link result.out ≡ O.link out }
-    ensures loaded { IsLoaded file limit (S.is_honest source) (S.left source) (S.left result.source) (O.sent out) (O.all_sent result.out) (O.end_sent result.out) }
+    ensures loaded { IsLoaded file limit (S.seen source).is_honest (S.seen source).left (S.seen result.source).left (O.sent out) (O.all_sent result.out) (O.end_sent result.out) }
 
     // A failed read is told, and nothing else is told as one.
-    ensures read { (O.end_sent result.out ≡ Fault (Read file)) ↔ (S.failures result.source ≢ S.failures source) }
-    ensures unfailed { O.end_sent result.out ≢ Fault (Read file) → S.failures result.source ≡ S.failures source }
-    ensures never { S.is_steady source ≡ true → S.failures result.source ≡ S.failures source }
-    ensures honest { S.is_honest source ≡ true → S.is_honest result.source ≡ true }
-    ensures steady { S.is_steady source ≡ true → S.is_steady result.source ≡ true }
+    ensures read { (O.end_sent result.out ≡ Fault (Read file)) ↔ ((S.seen result.source).failures ≢ (S.seen source).failures) }
+    ensures unfailed { O.end_sent result.out ≢ Fault (Read file) → (S.seen result.source).failures ≡ (S.seen source).failures }
+    ensures never { (S.seen source).is_steady ≡ true → (S.seen result.source).failures ≡ (S.seen source).failures }
+    ensures honest { (S.seen source).is_honest ≡ true → (S.seen result.source).is_honest ≡ true }
+    ensures steady { (S.seen source).is_steady ≡ true → (S.seen result.source).is_steady ≡ true }
 {
     let end = send_records(rt, alloc, file, &mut source, limit, &mut out);
     Loaded {

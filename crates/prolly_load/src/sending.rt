@@ -21,12 +21,12 @@ pub(crate) fn send_records<R: Wait, S: Source, O: Out<Record>>(
     out: &mut O,
 ) -> End
     ensures link { O.link out.new ≡ O.link out.old }
-    ensures loaded { IsLoaded file limit (S.is_honest source.old) (S.left source.old) (S.left source.new) (O.sent out.old) (O.sent out.new) result }
-    ensures read { (result ≡ End.Fault (RunFault.Read file)) ↔ (S.failures source.new ≢ S.failures source.old) }
-    ensures unfailed { result ≢ End.Fault (RunFault.Read file) → S.failures source.new ≡ S.failures source.old }
-    ensures never { S.is_steady source.old ≡ true → S.failures source.new ≡ S.failures source.old }
-    ensures honest { S.is_honest source.old ≡ true → S.is_honest source.new ≡ true }
-    ensures steady { S.is_steady source.old ≡ true → S.is_steady source.new ≡ true }
+    ensures loaded { IsLoaded file limit (S.seen source.old).is_honest (S.seen source.old).left (S.seen source.new).left (O.sent out.old) (O.sent out.new) result }
+    ensures read { (result ≡ End.Fault (RunFault.Read file)) ↔ ((S.seen source.new).failures ≢ (S.seen source.old).failures) }
+    ensures unfailed { result ≢ End.Fault (RunFault.Read file) → (S.seen source.new).failures ≡ (S.seen source.old).failures }
+    ensures never { (S.seen source.old).is_steady ≡ true → (S.seen source.new).failures ≡ (S.seen source.old).failures }
+    ensures honest { (S.seen source.old).is_honest ≡ true → (S.seen source.new).is_honest ≡ true }
+    ensures steady { (S.seen source.old).is_steady ≡ true → (S.seen source.new).is_steady ≡ true }
 {
     let Ok(mut buffer) = Buffer::new(alloc) else {
         return End::Fault(RunFault::Memory);

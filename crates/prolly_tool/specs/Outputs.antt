@@ -1,6 +1,6 @@
 -- What a command that makes a file does to the sink that it is lent, and what it answers.
-use Rattle.std.specs.Prelude.{◌≡◌, ◌≢◌, ℕ, ◌⊎◌, Bool, true, List, ◌++◌, Option, Some, None}
-use Rattle.prolly_file.specs.Sink.{TakesPrefix}
+use Rattle.std.specs.Prelude.{◌≡◌, ◌≢◌, ℕ, ◌⊎◌, true, List, ◌++◌, Option, Some, None}
+use Rattle.prolly_file.specs.Sink.{SinkView, TakesPrefix}
 use Rattle.prolly_link.specs.declared.fault.RunFault.TheVariants.{Write}
 use Rattle.prolly_tool.specs.declared.answer.Answer.{Answer}
 use Rattle.prolly_tool.specs.declared.fault.Fault.{Fault}
@@ -10,14 +10,14 @@ use Rattle.prolly_tool.specs.Answers.{ShowsLine, ShowsFault}
 -- ---- sinks
 
 -- The sink took all of these bytes, and no call of it failed.
-pub record TookAll {W : Type 0} (taken : W → List ℕ) (is_keeping : W → Bool) (failures : W → ℕ) (bytes : List ℕ) (old new : W) : Type 0 where
-  pub unfailed : failures new ≡ failures old
-  pub took : is_keeping old ≡ true → taken new ≡ taken old ++ bytes
+pub record TookAll {W : Type 0} (seen : W → SinkView) (bytes : List ℕ) (old new : W) : Type 0 where
+  pub unfailed : (seen new).failures ≡ (seen old).failures
+  pub took : (seen old).is_keeping ≡ true → (seen new).taken ≡ (seen old).taken ++ bytes
 
 -- A call of the sink failed, and it took a prefix of these bytes.
-pub record TookPart {W : Type 0} (taken : W → List ℕ) (is_keeping : W → Bool) (failures : W → ℕ) (bytes : List ℕ) (old new : W) : Type 0 where
-  pub failed : failures new ≢ failures old
-  pub took : is_keeping old ≡ true → TakesPrefix (taken old) (taken new) bytes
+pub record TookPart {W : Type 0} (seen : W → SinkView) (bytes : List ℕ) (old new : W) : Type 0 where
+  pub failed : (seen new).failures ≢ (seen old).failures
+  pub took : (seen old).is_keeping ≡ true → TakesPrefix (seen old).taken (seen new).taken bytes
 
 -- This happened to the sink, if there is one.
 abbrev pub IfSink : {W : Type 0} → (W → W → Type 0) → Option W → Option W → Type 0

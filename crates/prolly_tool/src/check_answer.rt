@@ -19,8 +19,8 @@ use std::alloc::{AllocError, Global};
 /// Takes time linear in the file, but for an index of the references. The file and its chunks' places are
 /// held in memory.
 pub fn answer_check<S: Source>(alloc: Global, source: &mut S) -> Result<Answer, AllocError>
-    ensures shown { S.is_honest source.old ≡ true → IfOk result (IsLookUp (S.left source.old) (S.failures source.new ≢ S.failures source.old) ShowsCheck) }
-    ensures read { S.failures source.new ≢ S.failures source.old → IfOk result ShowsFailedRead }
+    ensures shown { (S.seen source.old).is_honest ≡ true → IfOk result (IsLookUp (S.seen source.old).left ((S.seen source.new).failures ≢ (S.seen source.old).failures) ShowsCheck) }
+    ensures read { (S.seen source.new).failures ≢ (S.seen source.old).failures → IfOk result ShowsFailedRead }
 {
     let tree = match check(alloc, source, INPUT_LIMIT) {
         Ok(tree) => tree,

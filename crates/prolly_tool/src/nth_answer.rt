@@ -16,8 +16,8 @@ use std::alloc::{AllocError, Global};
 ///
 /// The file is checked first, as by `check`; the look-up itself skips by the counts of the pairs below.
 pub fn answer_nth<S: Source>(alloc: Global, source: &mut S, n: u64) -> Result<Answer, AllocError>
-    ensures shown { S.is_honest source.old ≡ true → IfOk result (IsLookUp (S.left source.old) (S.failures source.new ≢ S.failures source.old) (ShowsPlace n)) }
-    ensures read { S.failures source.new ≢ S.failures source.old → IfOk result ShowsFailedRead }
+    ensures shown { (S.seen source.old).is_honest ≡ true → IfOk result (IsLookUp (S.seen source.old).left ((S.seen source.new).failures ≢ (S.seen source.old).failures) (ShowsPlace n)) }
+    ensures read { (S.seen source.new).failures ≢ (S.seen source.old).failures → IfOk result ShowsFailedRead }
 {
     let tree = match check(alloc, source, INPUT_LIMIT) {
         Ok(tree) => tree,

@@ -32,16 +32,16 @@ pub fn answer_pack<S: Source, W: Sink>(
     source: &mut S,
     sink: &mut W,
 ) -> Result<Answer, AllocError>
-    ensures ok { S.is_honest source.old ≡ true → IfOk result (IsAnswer
-        (PacksTo (S.left source.old) (S.failures source.new ≢ S.failures source.old))
-        (IsPackingFault (S.left source.old) (S.failures source.new ≢ S.failures source.old))
-        (λ file. TookAll W.taken W.is_keeping W.failures file sink.old sink.new)
-        (λ file. TookPart W.taken W.is_keeping W.failures file sink.old sink.new)
+    ensures ok { (S.seen source.old).is_honest ≡ true → IfOk result (IsAnswer
+        (PacksTo (S.seen source.old).left ((S.seen source.new).failures ≢ (S.seen source.old).failures))
+        (IsPackingFault (S.seen source.old).left ((S.seen source.new).failures ≢ (S.seen source.old).failures))
+        (λ file. TookAll W.seen file sink.old sink.new)
+        (λ file. TookPart W.seen file sink.old sink.new)
         (sink.new ≡ sink.old)) }
-    ensures err { S.is_honest source.old ≡ true → OnErr result ((sink.new ≡ sink.old) ⊎ IsCutShort
-        (PacksTo (S.left source.old) (S.failures source.new ≢ S.failures source.old))
-        (λ file. TookPart W.taken W.is_keeping W.failures file sink.old sink.new)) }
-    ensures read { S.failures source.new ≢ S.failures source.old → (sink.new ≡ sink.old) × IfOk result (λ answer. ShowsFault answer (Fault.Run (RunFault.Read 0))) }
+    ensures err { (S.seen source.old).is_honest ≡ true → OnErr result ((sink.new ≡ sink.old) ⊎ IsCutShort
+        (PacksTo (S.seen source.old).left ((S.seen source.new).failures ≢ (S.seen source.old).failures))
+        (λ file. TookPart W.seen file sink.old sink.new)) }
+    ensures read { (S.seen source.new).failures ≢ (S.seen source.old).failures → (sink.new ≡ sink.old) × IfOk result (λ answer. ShowsFault answer (Fault.Run (RunFault.Read 0))) }
 {
     let packed = match packed_of(alloc, source) {
         Ok(packed) => packed,
@@ -58,10 +58,10 @@ pub fn answer_pack<S: Source, W: Sink>(
 
 /// The record file of the lines that a source has left.
 fn packed_of<S: Source>(alloc: Global, source: &mut S) -> Result<Packed, Fault>
-    ensures whole { S.is_honest source.old ≡ true → OnOk result (IsReadWhole (S.left source.old) (S.failures source.new ≢ S.failures source.old)) }
-    ensures ok { S.is_honest source.old ≡ true → IfOk result (λ packed. Packs (S.left source.old) [] packed.file.items packed.count) }
-    ensures err { S.is_honest source.old ≡ true → IfErr result (λ fault. IsPackingFault (S.left source.old) (S.failures source.new ≢ S.failures source.old) fault) }
-    ensures read { S.failures source.new ≢ S.failures source.old → IsErrOf result (Fault.Run (RunFault.Read 0)) }
+    ensures whole { (S.seen source.old).is_honest ≡ true → OnOk result (IsReadWhole (S.seen source.old).left ((S.seen source.new).failures ≢ (S.seen source.old).failures)) }
+    ensures ok { (S.seen source.old).is_honest ≡ true → IfOk result (λ packed. Packs (S.seen source.old).left [] packed.file.items packed.count) }
+    ensures err { (S.seen source.old).is_honest ≡ true → IfErr result (λ fault. IsPackingFault (S.seen source.old).left ((S.seen source.new).failures ≢ (S.seen source.old).failures) fault) }
+    ensures read { (S.seen source.new).failures ≢ (S.seen source.old).failures → IsErrOf result (Fault.Run (RunFault.Read 0)) }
 {
     let text = match input_of(alloc, source) {
         Ok(text) => text,

@@ -23,8 +23,8 @@ pub fn answer_scan<S: Source>(
     from: &[u8],
     limit: u32,
 ) -> Result<Answer, AllocError>
-    ensures shown { S.is_honest source.old ≡ true → IfOk result (IsLookUp (S.left source.old) (S.failures source.new ≢ S.failures source.old) (ShowsScan from.now limit)) }
-    ensures read { S.failures source.new ≢ S.failures source.old → IfOk result ShowsFailedRead }
+    ensures shown { (S.seen source.old).is_honest ≡ true → IfOk result (IsLookUp (S.seen source.old).left ((S.seen source.new).failures ≢ (S.seen source.old).failures) (ShowsScan from.now limit)) }
+    ensures read { (S.seen source.new).failures ≢ (S.seen source.old).failures → IfOk result ShowsFailedRead }
 {
     let tree = match check(alloc, source, INPUT_LIMIT) {
         Ok(tree) => tree,

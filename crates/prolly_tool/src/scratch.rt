@@ -44,16 +44,16 @@ pub fn answer_scratch<S: Source, W: Sink>(
     sink: &mut Option<W>,
 ) -> Result<Answer, AllocError>
     requires { bits ≤ 24 }
-    ensures ok { S.is_honest source.old ≡ true → IfOk result (IsAnswer
-        (Scratches bits version (S.left source.old) (S.failures source.new ≢ S.failures source.old))
-        (IsScratchFault bits version (S.left source.old) (S.failures source.new ≢ S.failures source.old))
-        (λ file. IfSink (TookAll W.taken W.is_keeping W.failures file) sink.old sink.new)
-        (λ file. OfSink (TookPart W.taken W.is_keeping W.failures file) sink.old sink.new)
+    ensures ok { (S.seen source.old).is_honest ≡ true → IfOk result (IsAnswer
+        (Scratches bits version (S.seen source.old).left ((S.seen source.new).failures ≢ (S.seen source.old).failures))
+        (IsScratchFault bits version (S.seen source.old).left ((S.seen source.new).failures ≢ (S.seen source.old).failures))
+        (λ file. IfSink (TookAll W.seen file) sink.old sink.new)
+        (λ file. OfSink (TookPart W.seen file) sink.old sink.new)
         (sink.new ≡ sink.old)) }
-    ensures err { S.is_honest source.old ≡ true → OnErr result ((sink.new ≡ sink.old) ⊎ IsCutShort
-        (Scratches bits version (S.left source.old) (S.failures source.new ≢ S.failures source.old))
-        (λ file. OfSink (TookPart W.taken W.is_keeping W.failures file) sink.old sink.new)) }
-    ensures read { S.failures source.new ≢ S.failures source.old → (sink.new ≡ sink.old) × IfOk result (λ answer. ShowsFault answer (Fault.Run (RunFault.Read 0))) }
+    ensures err { (S.seen source.old).is_honest ≡ true → OnErr result ((sink.new ≡ sink.old) ⊎ IsCutShort
+        (Scratches bits version (S.seen source.old).left ((S.seen source.new).failures ≢ (S.seen source.old).failures))
+        (λ file. OfSink (TookPart W.seen file) sink.old sink.new)) }
+    ensures read { (S.seen source.new).failures ≢ (S.seen source.old).failures → (sink.new ≡ sink.old) × IfOk result (λ answer. ShowsFault answer (Fault.Run (RunFault.Read 0))) }
 {
     let tree = match tree_of(alloc, source, bits, version) {
         Ok(tree) => tree,
@@ -74,9 +74,9 @@ fn tree_of<S: Source>(
     version: Version,
 ) -> Result<Tree, Fault>
     requires { bits ≤ 24 }
-    ensures ok { S.is_honest source.old ≡ true → IfOk result (λ tree. MakesFile bits version (S.left source.old) (S.failures source.new ≢ S.failures source.old) tree.file.items tree.root.0) }
-    ensures err { S.is_honest source.old ≡ true → IfErr result (λ fault. IsScratchFault bits version (S.left source.old) (S.failures source.new ≢ S.failures source.old) fault) }
-    ensures read { S.failures source.new ≢ S.failures source.old → IsErrOf result (Fault.Run (RunFault.Read 0)) }
+    ensures ok { (S.seen source.old).is_honest ≡ true → IfOk result (λ tree. MakesFile bits version (S.seen source.old).left ((S.seen source.new).failures ≢ (S.seen source.old).failures) tree.file.items tree.root.0) }
+    ensures err { (S.seen source.old).is_honest ≡ true → IfErr result (λ fault. IsScratchFault bits version (S.seen source.old).left ((S.seen source.new).failures ≢ (S.seen source.old).failures) fault) }
+    ensures read { (S.seen source.new).failures ≢ (S.seen source.old).failures → IsErrOf result (Fault.Run (RunFault.Read 0)) }
 {
     let pairs = match pairs_of(alloc, source) {
         Ok(pairs) => pairs,
@@ -95,9 +95,9 @@ fn tree_of<S: Source>(
 /// The pairs of the record file that a source has left.
 fn pairs_of<S: Source>(alloc: Global, source: &mut S) -> Result<Vec<Pair>, Fault>
     ensures rising { IfOk result (λ pairs. Rising (keys_in pairs.items)) }
-    ensures ok { S.is_honest source.old ≡ true → IfOk result (λ pairs. HoldsPairs (S.left source.old) (S.failures source.new ≢ S.failures source.old) pairs.items) }
-    ensures err { S.is_honest source.old ≡ true → IfErr result (λ fault. IsRecordsFault (S.left source.old) (S.failures source.new ≢ S.failures source.old) fault) }
-    ensures read { S.failures source.new ≢ S.failures source.old → IsErrOf result (Fault.Run (RunFault.Read 0)) }
+    ensures ok { (S.seen source.old).is_honest ≡ true → IfOk result (λ pairs. HoldsPairs (S.seen source.old).left ((S.seen source.new).failures ≢ (S.seen source.old).failures) pairs.items) }
+    ensures err { (S.seen source.old).is_honest ≡ true → IfErr result (λ fault. IsRecordsFault (S.seen source.old).left ((S.seen source.new).failures ≢ (S.seen source.old).failures) fault) }
+    ensures read { (S.seen source.new).failures ≢ (S.seen source.old).failures → IsErrOf result (Fault.Run (RunFault.Read 0)) }
 {
     let input = match input_of(alloc, source) {
         Ok(input) => input,
@@ -125,8 +125,8 @@ fn run_fault(fault: RecordFault) -> RunFault
 
 /// Writes bytes to the sink, if there is one.
 fn write_to<W: Sink>(sink: &mut Option<W>, bytes: &[u8]) -> Result<(), WriteFault>
-    ensures ok { OnOk result (IfSink (TookAll W.taken W.is_keeping W.failures bytes.now) sink.old sink.new) }
-    ensures err { OnErr result (OfSink (TookPart W.taken W.is_keeping W.failures bytes.now) sink.old sink.new) }
+    ensures ok { OnOk result (IfSink (TookAll W.seen bytes.now) sink.old sink.new) }
+    ensures err { OnErr result (OfSink (TookPart W.seen bytes.now) sink.old sink.new) }
 {
     match sink {
         None => Ok(()),

@@ -68,13 +68,7 @@ impl Source for Zeros {
     ghost use Rattle.std.proofs.Common.{rules};
     ghost use Rattle.std.specs.Prelude.{[], true, false};
 
-    ghost left = { λ _. [] };
-
-    ghost failures = { λ _. 0 };
-
-    ghost is_honest = { λ _. false };
-
-    ghost is_steady = { λ _. true };
+    ghost seen = { λ _. record { is_honest = false; is_steady = true; left = []; failures = 0 } };
 
     ghost left_are_bytes = { Prim.search rules };
 

@@ -11,13 +11,7 @@ impl Source for Zeros {
     ghost use Rattle.std.proofs.Common.{rules};
     ghost use Rattle.std.specs.Prelude.{[], true, false};
 
-    ghost left = { λ _. [] };
-
-    ghost failures = { λ _. 0 };
-
-    ghost is_honest = { λ _. false };
-
-    ghost is_steady = { λ _. true };
+    ghost seen = { λ _. record { is_honest = false; is_steady = true; left = []; failures = 0 } };
 
     ghost left_are_bytes = { Prim.search rules };
 
@@ -50,15 +44,8 @@ impl Watched {
 
 impl Source for Watched {
     ghost use Rattle.prolly_file.specs.BytesLaws.{bytes_from_test};
-    ghost use Rattle.std.specs.Prelude.{not, is_some};
 
-    ghost left = { λ s. s.script.left };
-
-    ghost failures = { λ s. s.script.failures };
-
-    ghost is_honest = { λ s. ⟦<ScriptSource as Source>⟧.is_honest s.script };
-
-    ghost is_steady = { λ s. not (is_some s.script.until_failure) };
+    ghost seen = { λ s. ⟦<ScriptSource as Source>⟧.seen s.script };
 
     ghost left_are_bytes = { λ s. bytes_from_test s.script.left };
 

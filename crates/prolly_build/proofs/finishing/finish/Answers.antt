@@ -2,11 +2,12 @@ use Rattle.std.proofs.Common.{◌≡◌, ◌-◌, ap, sym, subst, ◌∙◌, Lis
 use Rattle.std.proofs.lemmas.Result.{on_ok_weaker, IfErr-weaker}
 use Rattle.prolly_entry.specs.Chunk.{Chunk}
 use Rattle.prolly_entry.specs.File.{header}
+use Rattle.prolly_file.specs.Sink.{SinkView}
 use Rattle.prolly_link.specs.Receipts.{end_given}
 use Rattle.prolly_link.specs.declared.fault.End.{End}
 use Rattle.prolly_link.specs.declared.fault.End.TheVariants.{Clean}
 use Rattle.prolly_build.specs.Built.{IsInputEnd}
-use Rattle.prolly_build.specs.Writing.{Sunk, HasWritten, IsEndFault, sunk}
+use Rattle.prolly_build.specs.Writing.{HasWritten, IsEndFault}
 use Rattle.prolly_build.proofs.RanSteps.{written_begun, ended_begun}
 use Rattle.prolly_build.proofs.Takings.{lost_is_no_memory, refused_at, stopped_at}
 use Rattle.prolly_build.proofs.Makings.{few_written, some_written, file_made, no_start_fault, unmade_at, if_ok}
@@ -16,7 +17,7 @@ pub end_build-requires-clause-few : goal.end_build-requires-clause-few
 end_build-requires-clause-few g c = λ begun is clean.
     let met = c.has_met.ensures c.if-has_met.true c.requires.ended in
     let out_clean : c.args.ran.out.end ≡ Clean = sym (c.requires.end ∙ ap end_given met.1) ∙ clean in
-    let now : Sunk = sunk g.W.Sink.is_keeping g.W.Sink.taken g.W.Sink.failures c.args.sink.now in
+    let now : SinkView = g.W.Sink.seen c.args.sink.now in
     let head = header c.args.config.version c.args.config.bits in
     few_written c.args.config c.requires.lawful.stages.0 c.requires.lawful.stages.1 c.requires.run.0 c.args.ran.out.items c.args.ran.pairs (c.requires.run.1 out_clean)
     head c.requires.written.0 now c.args.ran.wrote.written begun is
@@ -26,7 +27,7 @@ pub end_build-requires-clause-some : goal.end_build-requires-clause-some
 end_build-requires-clause-some g c = λ begun is clean.
     let met = c.has_met.ensures c.if-has_met.true c.requires.ended in
     let out_clean : c.args.ran.out.end ≡ Clean = sym (c.requires.end ∙ ap end_given met.1) ∙ clean in
-    let now : Sunk = sunk g.W.Sink.is_keeping g.W.Sink.taken g.W.Sink.failures c.args.sink.now in
+    let now : SinkView = g.W.Sink.seen c.args.sink.now in
     let head = header c.args.config.version c.args.config.bits in
     some_written c.args.config c.requires.lawful.stages.0 c.requires.lawful.stages.1 c.requires.run.0 c.args.ran.out.items c.args.ran.pairs (c.requires.run.1 out_clean)
     head c.requires.written.0 now c.args.ran.wrote.written begun is
@@ -35,7 +36,7 @@ end_build-requires-clause-some g c = λ begun is clean.
 pub returns-then-has_met-clause-ok : goal.returns-then-has_met-clause-ok
 returns-then-has_met-clause-ok g c = λ m old run written.
     let met = c.has_met.ensures c.if-has_met.true c.requires.ended in
-    let now : Sunk = sunk g.W.Sink.is_keeping g.W.Sink.taken g.W.Sink.failures c.args.sink.now in
+    let now : SinkView = g.W.Sink.seen c.args.sink.now in
     let head = header c.args.config.version c.args.config.bits in
     let level = c.args.config.stages - 1 in
     if_ok c.end_build.result _ _ _
@@ -64,9 +65,9 @@ returns-then-has_met-clause-clean g c =
 pub returns-then-has_met-clause-unmade : goal.returns-then-has_met-clause-unmade
 returns-then-has_met-clause-unmade g c = λ m old run written.
     let met = c.has_met.ensures c.if-has_met.true c.requires.ended in
-    let now : Sunk = sunk g.W.Sink.is_keeping g.W.Sink.taken g.W.Sink.failures c.args.sink.now in
+    let now : SinkView = g.W.Sink.seen c.args.sink.now in
     let head = header c.args.config.version c.args.config.bits in
-    let after : Sunk = sunk g.W.Sink.is_keeping g.W.Sink.taken g.W.Sink.failures c.end_build.new.sink in
+    let after : SinkView = g.W.Sink.seen c.end_build.new.sink in
     let level = c.args.config.stages - 1 in
     IfErr-weaker c.end_build.result _ _
     (λ fault h. unmade_at c.args.config c.requires.lawful.stages.0 c.requires.lawful.stages.1 m c.args.ran.out.items c.args.ran.pairs c.args.ran.out.end run c.requires.faults old now after fault
@@ -76,8 +77,8 @@ returns-then-has_met-clause-unmade g c = λ m old run written.
 
 pub returns-then-has_met-clause-begun : goal.returns-then-has_met-clause-begun
 returns-then-has_met-clause-begun g c = λ old written.
-    let now : Sunk = sunk g.W.Sink.is_keeping g.W.Sink.taken g.W.Sink.failures c.args.sink.now in
-    let after : Sunk = sunk g.W.Sink.is_keeping g.W.Sink.taken g.W.Sink.failures c.end_build.new.sink in
+    let now : SinkView = g.W.Sink.seen c.args.sink.now in
+    let after : SinkView = g.W.Sink.seen c.end_build.new.sink in
     let level = c.args.config.stages - 1 in
     IfErr-weaker c.end_build.result _ _
     (λ fault h other. ended_begun c.args.config level c.args.ran.wrote.last.items old now after c.args.ran.wrote.written c.args.ran.wrote.end fault written h other)
@@ -90,8 +91,8 @@ returns-else-has_met-clause-begun g c = λ old written other.
 pub returns-then-has_met-clause-stopped : goal.returns-then-has_met-clause-stopped
 returns-then-has_met-clause-stopped g c = λ old written.
     let met = c.has_met.ensures c.if-has_met.true c.requires.ended in
-    let now : Sunk = sunk g.W.Sink.is_keeping g.W.Sink.taken g.W.Sink.failures c.args.sink.now in
-    let after : Sunk = sunk g.W.Sink.is_keeping g.W.Sink.taken g.W.Sink.failures c.end_build.new.sink in
+    let now : SinkView = g.W.Sink.seen c.args.sink.now in
+    let after : SinkView = g.W.Sink.seen c.end_build.new.sink in
     let head = header c.args.config.version c.args.config.bits in
     let level = c.args.config.stages - 1 in
     IfErr-weaker c.end_build.result _ _
@@ -104,8 +105,8 @@ returns-then-has_met-clause-stopped g c = λ old written.
 pub returns-then-has_met-clause-refused : goal.returns-then-has_met-clause-refused
 returns-then-has_met-clause-refused g c = λ old written.
     let met = c.has_met.ensures c.if-has_met.true c.requires.ended in
-    let now : Sunk = sunk g.W.Sink.is_keeping g.W.Sink.taken g.W.Sink.failures c.args.sink.now in
-    let after : Sunk = sunk g.W.Sink.is_keeping g.W.Sink.taken g.W.Sink.failures c.end_build.new.sink in
+    let now : SinkView = g.W.Sink.seen c.args.sink.now in
+    let after : SinkView = g.W.Sink.seen c.end_build.new.sink in
     let head = header c.args.config.version c.args.config.bits in
     let level = c.args.config.stages - 1 in
     IfErr-weaker c.end_build.result _ _

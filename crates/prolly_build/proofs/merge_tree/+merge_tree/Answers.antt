@@ -16,7 +16,7 @@ returns-in-Err g t c = record { written = tt; fed = tt; refused = c.in-Err.ensur
 
 pub returns-in_default-clause-fed : goal.returns-in_default-clause-fed
 returns-in_default-clause-fed g t c =
-    on_ok_weaker c.load_all.result (fed_by_loaders g.S.Source.is_honest g.S.Source.left g.S.Source.failures _ _ _ _ _) c.load_all.ensures.loaded
+    on_ok_weaker c.load_all.result (fed_by_loaders g.S.Source.seen _ _ _ _ _) c.load_all.ensures.loaded
 
 pub start_two-requires-after_bounds : goal.start_two-requires-after_bounds
 start_two-requires-after_bounds g t c κs within =
@@ -43,7 +43,7 @@ has_met-right_met-requires g t c =
 
 pub returns-then-right_met-clause-fed : goal.returns-then-right_met-clause-fed
 returns-then-right_met-clause-fed g t c =
-    fed_by_merger g.S.Source.is_honest g.S.Source.left g.S.Source.failures _ _ _ _ _ _ _ _ _ _ _ _ _ _
+    fed_by_merger g.S.Source.seen _ _ _ _ _ _ _ _ _ _ _ _ _ _
     c.in-Ok.ensures.fed c.fork_at-out.ensures.items c.join_at-left_sent.ensures.items
     (c.join-left.ensures.writes ∙ ap (λ o. o.link) c.in-Some-start_two.ensures.out)
     (merges_met c.join-left.result.left c.join-left.result.right c.join_at-left_sent.result.0 c.join_at-left_sent.result.1 c.join-left.result.out c.join-left.ensures.merges

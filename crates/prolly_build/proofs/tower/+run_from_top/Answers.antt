@@ -11,7 +11,7 @@ returns-in-Err g t c = record { link = tt; written = tt; staged = tt; refused = 
 
 pub returns-then-has_met-clause-staged : goal.returns-then-has_met-clause-staged
 returns-then-has_met-clause-staged g t c =
-    nodes_staged g.S.Source.is_honest g.S.Source.left g.S.Source.failures c.args.site.now.config _ _ _
+    nodes_staged g.S.Source.seen c.args.site.now.config _ _ _
     (vec_len c.pop.new.self) c.in-Some-start_nodes.handle.promise.level (vec_len c.args.events) _ _
     (c.in-Some-start_nodes.ensures.level ∙ (omega (arith, c.len.ensures)))
     (omega (arith, c.in-Some.ensures.cases))

@@ -15,12 +15,12 @@ returns-clause-within g c = search rules
 
 pub returns-clause-files : goal.returns-clause-files
 returns-clause-files g c = λ honest content f within. IfErr-weaker c.of.result _ _
-    (λ fault h. not_refused (g.S.Source.left c.args.source.now) content c.args.max_bytes (omega arith) f within fault
-    (refusal c.in-Ok.bytes.items (g.S.Source.left c.args.source.now) c.args.max_bytes fault (search rules) (c.in-Ok.ensures.whole honest) h)) c.of.ensures.err
+    (λ fault h. not_refused (g.S.Source.seen c.args.source.now).left content c.args.max_bytes (omega arith) f within fault
+    (refusal c.in-Ok.bytes.items (g.S.Source.seen c.args.source.now).left c.args.max_bytes fault (search rules) (c.in-Ok.ensures.whole honest) h)) c.of.ensures.err
 
 pub returns-clause-refused : goal.returns-clause-refused
 returns-clause-refused g c = λ honest. IfErr-weaker c.of.result _ _
-    (λ fault h. refusal c.in-Ok.bytes.items (g.S.Source.left c.args.source.now) c.args.max_bytes fault (search rules) (c.in-Ok.ensures.whole honest) h) c.of.ensures.err
+    (λ fault h. refusal c.in-Ok.bytes.items (g.S.Source.seen c.args.source.now).left c.args.max_bytes fault (search rules) (c.in-Ok.ensures.whole honest) h) c.of.ensures.err
 
 pub returns-clause-read : goal.returns-clause-read
 returns-clause-read g c = (

@@ -3,10 +3,10 @@ use Rattle.prolly_file.proofs.whole.read_whole.Given as goal
 
 abbrev pub invariant-loop-count : goal.invariant-loop-count
 invariant-loop-count g l = record {
-  honest : g.S.Source.is_honest l.initial.source ≡ true → g.S.Source.is_honest l.source ≡ true;
-  bytes : g.S.Source.is_honest l.initial.source ≡ true → g.S.Source.left l.initial.source ≡ l.whole.items ++ g.S.Source.left l.source;
-  failures : g.S.Source.failures l.source ≡ g.S.Source.failures l.initial.source;
-  steady : g.S.Source.is_steady l.initial.source ≡ true → g.S.Source.is_steady l.source ≡ true;
+  honest : (g.S.Source.seen l.initial.source).is_honest ≡ true → (g.S.Source.seen l.source).is_honest ≡ true;
+  bytes : (g.S.Source.seen l.initial.source).is_honest ≡ true → (g.S.Source.seen l.initial.source).left ≡ l.whole.items ++ (g.S.Source.seen l.source).left;
+  failures : (g.S.Source.seen l.source).failures ≡ (g.S.Source.seen l.initial.source).failures;
+  steady : (g.S.Source.seen l.initial.source).is_steady ≡ true → (g.S.Source.seen l.source).is_steady ≡ true;
   within : vec_len l.whole ≤ l.max_bytes;
   room : 0 < vec_len l.part;
 }
