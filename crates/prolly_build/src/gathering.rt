@@ -111,16 +111,7 @@ pub(crate) fn gather<
         closed,
     } = feed;
     let number = forks.len() as u32;
-    let Some(handle) = start_last(
-        site.scope,
-        site.rt,
-        site.alloc,
-        site.gate,
-        site.permit,
-        number,
-        inputs,
-        out,
-    ) else {
+    let Some(handle) = start_last(site, number, inputs, out) else {
         close_all(site.rt, outs);
         return Err(refuse(site.rt, (forks, closed), last));
     };

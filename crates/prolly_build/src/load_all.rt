@@ -59,18 +59,7 @@ pub(crate) fn load_all<
     let Some(source) = pop_first(sources) else {
         unreachable!()
     };
-    let limit = site.config.max_records();
-    let Some(handle) = start_loader(
-        site.scope,
-        site.rt,
-        site.alloc,
-        site.gate,
-        site.permit,
-        file,
-        limit,
-        source,
-        out,
-    ) else {
+    let Some(handle) = start_loader(site, file, source, out) else {
         close_all(site.rt, outs);
         return Err(refuse(site.rt, (), last));
     };

@@ -3,6 +3,7 @@ ghost use Rattle.std.specs.Prelude.{◌≡◌, [], IfSome};
 ghost use Rattle.prolly_build.specs.Workers.{IsLoadedFrom};
 
 use crate::permit::{Permit, permitted};
+use crate::site::Site;
 use crate::stack::worker_stack;
 use prolly_entry::Record;
 use prolly_file::Source;
@@ -12,7 +13,7 @@ use prolly_stage::{Gate, Gated, Worker};
 use std::alloc::Global;
 use std::snapshot::Snapshot;
 use std::sync::Wait;
-use std::thread::{Promise, PromisedHandle, Scope};
+use std::thread::{Promise, PromisedHandle};
 
 /// What a loader promises.
 #[derive(Drop)]
@@ -49,22 +50,19 @@ fn run_loader<R: Wait, G: Gate, S: Source>(
 /// Starts a loader. `None` where it may not start, and its output is closed and its source dropped, or where no
 /// thread can be had, and both are dropped.
 pub(crate) fn start_loader<'s, E, R: Wait + Sync, G: Gate, P: Permit, S: Source + Send + Drop + 's>(
-    scope: &'s Scope<'s, E>,
-    rt: &'s R,
-    alloc: Global,
-    gate: &'s G,
-    permit: &P,
+    site: &Site<'s, '_, E, R, G, P>,
     file: u32,
-    limit: u32,
     source: S,
     out: BatchSender<Record>,
 ) -> Option<PromisedHandle<Loaded<S, ClosedBatch<Record>>, LoadPromise<S>>>
     requires { out.items ≡ [] }
-    ensures file { IfSome result (λ handle. (handle.promise.file ≡ file) × (handle.promise.limit ≡ limit)) }
+    ensures file { IfSome result (λ handle. (handle.promise.file ≡ file) × (handle.promise.limit ≡ site.now.config.max_records)) }
     ensures source { IfSome result (λ handle. handle.promise.source.value ≡ source) }
     ensures out { IfSome result (λ handle. handle.promise.out.value ≡ out) }
 {
-    let out = permitted(rt, permit, Worker::Loader(file), out)?;
+    let (rt, alloc, gate) = (site.rt, site.alloc, site.gate);
+    let limit = site.config.max_records();
+    let out = permitted(rt, site.permit, Worker::Loader(file), out)?;
     let promise = LoadPromise {
         file,
         limit,
@@ -73,7 +71,7 @@ pub(crate) fn start_loader<'s, E, R: Wait + Sync, G: Gate, P: Permit, S: Source 
     };
     worker_stack()
         .spawn_scoped_with(
-            scope,
+            site.scope,
             promise,
             move || -> Loaded<S, ClosedBatch<Record>>
                 requires { out.items ≡ [] }

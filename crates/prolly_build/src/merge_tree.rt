@@ -80,16 +80,7 @@ pub(crate) fn merge_tree<
     } = right;
     let out = fork_at(&mut outs, place, left_out, right_out);
     let number = number as u32;
-    let Some(handle) = start_two(
-        site.scope,
-        site.rt,
-        site.gate,
-        site.permit,
-        number,
-        left,
-        right,
-        out,
-    ) else {
+    let Some(handle) = start_two(site, number, left, right, out) else {
         close_all(site.rt, outs);
         return Err(refuse(site.rt, forks, last));
     };

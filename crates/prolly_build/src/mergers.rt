@@ -4,6 +4,7 @@ ghost use Rattle.prolly_build.specs.Ran.{IsUnread};
 ghost use Rattle.prolly_build.specs.Merging.{IsMergedTwo, IsMerged};
 
 use crate::permit::{Permit, permitted};
+use crate::site::Site;
 use crate::stack::worker_stack;
 use prolly_entry::{Pair, Record};
 use prolly_link::{BatchReceiver, BatchSender, ClosedBatch};
@@ -12,7 +13,7 @@ use prolly_stage::{Gate, Gated, Worker};
 use std::alloc::Global;
 use std::snapshot::Snapshot;
 use std::sync::Wait;
-use std::thread::{Promise, PromisedHandle, Scope};
+use std::thread::{Promise, PromisedHandle};
 
 /// The ends that a merger of two gives back.
 #[derive(Drop)]
@@ -61,10 +62,7 @@ fn run_two<R: Wait, G: Gate>(
 /// Starts a merger of two. `None` where it may not start, and its output is closed, or where no thread can be had,
 /// and its ends are dropped.
 pub(crate) fn start_two<'s, E, R: Wait + Sync, G: Gate, P: Permit>(
-    scope: &'s Scope<'s, E>,
-    rt: &'s R,
-    gate: &'s G,
-    permit: &P,
+    site: &Site<'s, '_, E, R, G, P>,
     number: u32,
     left: BatchReceiver<Record>,
     right: BatchReceiver<Record>,
@@ -75,7 +73,8 @@ pub(crate) fn start_two<'s, E, R: Wait + Sync, G: Gate, P: Permit>(
     ensures right { IfSome result (λ handle. handle.promise.right.value ≡ right) }
     ensures out { IfSome result (λ handle. handle.promise.out.value ≡ out) }
 {
-    let out = permitted(rt, permit, Worker::Merger(number), out)?;
+    let (rt, gate) = (site.rt, site.gate);
+    let out = permitted(rt, site.permit, Worker::Merger(number), out)?;
     let promise = TwoPromise {
         left: Snapshot::of(&left),
         right: Snapshot::of(&right),
@@ -83,7 +82,7 @@ pub(crate) fn start_two<'s, E, R: Wait + Sync, G: Gate, P: Permit>(
     };
     worker_stack()
         .spawn_scoped_with(
-            scope,
+            site.scope,
             promise,
             move || -> TwoEnds
                 requires { IsUnread left × IsUnread right × (out.items ≡ []) }
@@ -134,11 +133,7 @@ fn run_last<R: Wait, G: Gate>(
 /// Starts the last merger. `None` where it may not start, and its output is closed, or where no thread can be had,
 /// and its ends are dropped.
 pub(crate) fn start_last<'s, E, R: Wait + Sync, G: Gate, P: Permit>(
-    scope: &'s Scope<'s, E>,
-    rt: &'s R,
-    alloc: Global,
-    gate: &'s G,
-    permit: &P,
+    site: &Site<'s, '_, E, R, G, P>,
     number: u32,
     inputs: Vec<BatchReceiver<Record>>,
     out: BatchSender<Pair>,
@@ -147,14 +142,15 @@ pub(crate) fn start_last<'s, E, R: Wait + Sync, G: Gate, P: Permit>(
     ensures inputs { IfSome result (λ handle. handle.promise.inputs.value ≡ inputs) }
     ensures out { IfSome result (λ handle. handle.promise.out.value ≡ out) }
 {
-    let out = permitted(rt, permit, Worker::Merger(number), out)?;
+    let (rt, alloc, gate) = (site.rt, site.alloc, site.gate);
+    let out = permitted(rt, site.permit, Worker::Merger(number), out)?;
     let promise = LastPromise {
         inputs: Snapshot::of(&inputs),
         out: Snapshot::of(&out),
     };
     worker_stack()
         .spawn_scoped_with(
-            scope,
+            site.scope,
             promise,
             move || -> LastEnds
                 requires { All IsUnread inputs.items × (out.items ≡ []) }

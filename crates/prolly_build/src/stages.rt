@@ -6,6 +6,7 @@ ghost use Rattle.prolly_entry.specs.Cut.{sha512_cut};
 ghost use Rattle.prolly_build.specs.Workers.{IsStaged};
 
 use crate::permit::{Permit, permitted};
+use crate::site::Site;
 use crate::stack::worker_stack;
 use prolly_chunk::ChunkEvent;
 use prolly_entry::{Pair, Sha512Cut, Version};
@@ -14,7 +15,7 @@ use prolly_stage::{Gate, Gated, Staged, Worker, inner_stage_as, leaf_stage};
 use std::alloc::Global;
 use std::snapshot::Snapshot;
 use std::sync::Wait;
-use std::thread::{Promise, PromisedHandle, Scope};
+use std::thread::{Promise, PromisedHandle};
 
 /// The ends that a stage gives back.
 #[derive(Drop)]
@@ -60,21 +61,18 @@ fn run_leaves<R: Wait, G: Gate>(
 /// Starts the stage of the leaves. `None` where it may not start, and its output is closed, or where no thread
 /// can be had, and its ends are dropped.
 pub(crate) fn start_leaves<'s, E, R: Wait + Sync, G: Gate, P: Permit>(
-    scope: &'s Scope<'s, E>,
-    rt: &'s R,
-    alloc: Global,
-    gate: &'s G,
-    permit: &P,
-    cut: Sha512Cut,
+    site: &Site<'s, '_, E, R, G, P>,
     input: BatchReceiver<Pair>,
     out: BatchSender<ChunkEvent>,
 ) -> Option<PromisedHandle<StageEnds<Pair>, LeafPromise>>
     requires { (input.items ≡ []) × (out.items ≡ []) }
-    ensures cut { IfSome result (λ handle. handle.promise.cut ≡ cut) }
+    ensures cut { IfSome result (λ handle. handle.promise.cut ≡ site.now.config.bits) }
     ensures input { IfSome result (λ handle. handle.promise.input.value ≡ input) }
     ensures out { IfSome result (λ handle. handle.promise.out.value ≡ out) }
 {
-    let out = permitted(rt, permit, Worker::Stage(0), out)?;
+    let (rt, alloc, gate) = (site.rt, site.alloc, site.gate);
+    let cut = site.config.cut();
+    let out = permitted(rt, site.permit, Worker::Stage(0), out)?;
     let promise = LeafPromise {
         cut,
         input: Snapshot::of(&input),
@@ -82,7 +80,7 @@ pub(crate) fn start_leaves<'s, E, R: Wait + Sync, G: Gate, P: Permit>(
     };
     worker_stack()
         .spawn_scoped_with(
-            scope,
+            site.scope,
             promise,
             move || -> StageEnds<Pair>
                 requires { (input.items ≡ []) × (out.items ≡ []) }
@@ -133,25 +131,22 @@ fn run_nodes<R: Wait, G: Gate>(
 /// Starts the stage of the nodes of a level. `None` where it may not start, and its output is closed, or where
 /// no thread can be had, and its ends are dropped.
 pub(crate) fn start_nodes<'s, E, R: Wait + Sync, G: Gate, P: Permit>(
-    scope: &'s Scope<'s, E>,
-    rt: &'s R,
-    alloc: Global,
-    gate: &'s G,
-    permit: &P,
+    site: &Site<'s, '_, E, R, G, P>,
     level: u8,
-    cut: Sha512Cut,
-    version: Version,
     input: BatchReceiver<ChunkEvent>,
     out: BatchSender<ChunkEvent>,
 ) -> Option<PromisedHandle<StageEnds<ChunkEvent>, NodesPromise>>
     requires level { 1 ≤ level }
     requires fresh { (input.items ≡ []) × (out.items ≡ []) }
     ensures level { IfSome result (λ handle. handle.promise.level ≡ level) }
-    ensures cut { IfSome result (λ handle. (handle.promise.cut ≡ cut) × (handle.promise.version ≡ version)) }
+    ensures cut { IfSome result (λ handle. (handle.promise.cut ≡ site.now.config.bits) × (handle.promise.version ≡ site.now.config.version)) }
     ensures input { IfSome result (λ handle. handle.promise.input.value ≡ input) }
     ensures out { IfSome result (λ handle. handle.promise.out.value ≡ out) }
 {
-    let out = permitted(rt, permit, Worker::Stage(u32::from(level)), out)?;
+    let (rt, alloc, gate) = (site.rt, site.alloc, site.gate);
+    let cut = site.config.cut();
+    let version = site.config.version();
+    let out = permitted(rt, site.permit, Worker::Stage(u32::from(level)), out)?;
     let promise = NodesPromise {
         level,
         cut,
@@ -161,7 +156,7 @@ pub(crate) fn start_nodes<'s, E, R: Wait + Sync, G: Gate, P: Permit>(
     };
     worker_stack()
         .spawn_scoped_with(
-            scope,
+            site.scope,
             promise,
             move || -> StageEnds<ChunkEvent>
                 requires { (1 ≤ level) × (input.items ≡ []) × (out.items ≡ []) }

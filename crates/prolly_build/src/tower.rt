@@ -60,17 +60,7 @@ fn run_from_leaves<
         (W.seen sink.old) (W.seen sink.new)) }
 {
     let NewLink { sender, receiver } = pairs;
-    let cut = site.config.cut();
-    let Some(handle) = start_leaves(
-        site.scope,
-        site.rt,
-        site.alloc,
-        site.gate,
-        site.permit,
-        cut,
-        receiver,
-        out,
-    ) else {
+    let Some(handle) = start_leaves(site, receiver, out) else {
         return Err(refuse(site.rt, (feed, sender), last));
     };
     let gathered = gather(site, feed, sender, sources, last, sink);
@@ -132,20 +122,7 @@ pub(crate) fn run_from_top<
     };
     let level = events.len() as u8 + 1;
     let NewLink { sender, receiver } = link;
-    let cut = site.config.cut();
-    let version = site.config.version();
-    let Some(handle) = start_nodes(
-        site.scope,
-        site.rt,
-        site.alloc,
-        site.gate,
-        site.permit,
-        level,
-        cut,
-        version,
-        receiver,
-        out,
-    ) else {
+    let Some(handle) = start_nodes(site, level, receiver, out) else {
         return Err(refuse(site.rt, (events, pairs, feed, sender), last));
     };
     let ran = run_from_top(site, events, pairs, feed, sender, sources, last, sink);

@@ -15,7 +15,7 @@ returns-then-has_met-clause-staged g t c =
     (vec_len c.pop.new.self) c.in-Some-start_nodes.handle.promise.level (vec_len c.args.events) _ _
     (c.in-Some-start_nodes.ensures.level ∙ (omega (arith, c.len.ensures)))
     (omega (arith, c.in-Some.ensures.cases))
-    (c.in-Some-start_nodes.ensures.cut.0 ∙ c.cut-cut.ensures) (c.in-Some-start_nodes.ensures.cut.1 ∙ c.version-version.ensures)
+    c.in-Some-start_nodes.ensures.cut.0 c.in-Some-start_nodes.ensures.cut.1
     _ _ c.join-input.result.input c.join-input.result.out c.in-Ok.ran.out c.in-Ok.ensures.staged c.join-input.ensures
     (c.has_met.ensures c.if-has_met.true c.join-input.ensures.has_ended)
 

@@ -22,7 +22,7 @@ returns-then-has_met-clause-link g c =
 pub returns-then-has_met-clause-staged : goal.returns-then-has_met-clause-staged
 returns-then-has_met-clause-staged g c =
     let stage = c.join-input.ensures c.args.site.now.config.version in
-    leaves_staged g.S.Source.seen c.args.site.now.config _ _ _ _ (c.in-Some.ensures.cut ∙ c.cut-cut.ensures)
+    leaves_staged g.S.Source.seen c.args.site.now.config _ _ _ _ c.in-Some.ensures.cut
     _ _ c.join-input.result.input c.join-input.result.out c.in-Ok.gathered.out c.in-Ok.ensures.gathered stage (c.has_met.ensures c.if-has_met.true stage.has_ended)
 
 pub returns-else-has_met-clause-begun : goal.returns-else-has_met-clause-begun
