@@ -1,4 +1,4 @@
-// What the ring of a batch link carries.
+//! What the ring of a batch link carries.
 ghost use Rattle.std.specs.Prelude.{◌≡◌, ◌≤◌, ◌∷◌, length, vec_len};
 ghost use Rattle.std.specs.VecDeque.{deque_len};
 

@@ -1,4 +1,4 @@
-// A sender of batches that has sent the end.
+//! A sender of batches that has sent the end.
 use crate::batch::Batch;
 use crate::closed::ClosedSender;
 use std::marker::Model;

@@ -1,4 +1,4 @@
-// A closed sender of batches and its receiver side by side, while messages are on their way.
+//! A closed sender of batches and its receiver side by side, while messages are on their way.
 ghost use Rattle.std.specs.Prelude.{◌≡◌};
 ghost use mathlib.Core.List.{IsPrefix};
 ghost use Rattle.prolly_link.specs.Passing.{closed_messages, IsReceivedOf};

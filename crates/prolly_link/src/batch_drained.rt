@@ -1,4 +1,4 @@
-// What is left of a receiver of batches that has given all that it can.
+//! What is left of a receiver of batches that has given all that it can.
 use crate::batch::Batch;
 use crate::drained::{EndedReceiver, LostReceiver};
 use std::marker::Model;

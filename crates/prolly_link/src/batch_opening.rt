@@ -1,4 +1,4 @@
-// The making of a batch link.
+//! The making of a batch link.
 ghost use Rattle.std.specs.Prelude.{◌≡◌, ◌≤◌, [], IfOk};
 
 use crate::batch_receiver::BatchReceiver;

@@ -1,4 +1,4 @@
-// The end of a batch link that receives.
+//! The end of a batch link that receives.
 ghost use Rattle.std.specs.Prelude.{◌≡◌, ◌++◌};
 ghost use Rattle.std.specs.VecDeque.{deque_len};
 ghost use Rattle.prolly_link.specs.Hands.{given_of, IsInHand};

@@ -1,4 +1,4 @@
-// The end of a batch link that sends.
+//! The end of a batch link that sends.
 ghost use Rattle.std.specs.Prelude.{◌≡◌, ◌<◌, ◌≤◌, ◌+◌, [], ◌∷◌, ◌++◌, OnOk, OnErr, IsOk, IfErr, vec_len, vec_capacity};
 ghost use Rattle.prolly_link.specs.Batches.{items_of};
 

@@ -1,4 +1,4 @@
-// A sender that has sent the end.
+//! A sender that has sent the end.
 use crate::message::Message;
 use rtrb::Producer;
 use std::marker::Model;

@@ -1,4 +1,4 @@
-// The two ends of a link side by side, while items are on their way.
+//! The two ends of a link side by side, while items are on their way.
 ghost use Rattle.std.specs.Prelude.{◌≡◌, ◌≢◌};
 ghost use mathlib.Core.List.{IsPrefix};
 ghost use Rattle.prolly_link.specs.Passing.{open_messages, IsReceivedOf};

@@ -1,4 +1,4 @@
-// What is left of a receiver that has given all that it can.
+//! What is left of a receiver that has given all that it can.
 use crate::message::Message;
 use rtrb::Consumer;
 use std::marker::Model;

@@ -1,4 +1,4 @@
-// How a list of items ends.
+//! How a list of items ends.
 
 /// Why a run has no answer. `file` is the number of a record file, and `place` that of a record in it.
 #[derive(Clone, Copy, PartialEq, Eq, Debug)]

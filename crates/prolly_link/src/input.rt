@@ -1,4 +1,4 @@
-// What a worker asks of an end that it receives from.
+//! What a worker asks of an end that it receives from.
 ghost use Rattle.std.specs.Prelude.{◌≡◌, List, [], ◌++◌};
 ghost use Rattle.prolly_link.specs.Identity.{LinkId};
 ghost use Rattle.prolly_link.specs.Receipts.{given_items, progress_after, GivesAgain, HasEnded};

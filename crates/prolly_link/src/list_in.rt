@@ -1,4 +1,4 @@
-// An end over a list, which gives its items.
+//! An end over a list, which gives its items.
 ghost use Rattle.std.specs.Prelude.{◌≡◌};
 ghost use Rattle.prolly_link.specs.Remaining.{Unread};
 

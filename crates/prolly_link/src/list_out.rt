@@ -1,4 +1,4 @@
-// An end over a list, which keeps what is sent.
+//! An end over a list, which keeps what is sent.
 ghost use Rattle.std.specs.Prelude.{◌≡◌, []};
 
 use crate::fault::End;

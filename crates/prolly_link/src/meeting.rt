@@ -1,4 +1,4 @@
-// The meeting of the two ends of a link, in one thread again.
+//! The meeting of the two ends of a link, in one thread again.
 ghost use Rattle.std.specs.Prelude.{◌≡◌};
 
 use crate::closed::ClosedSender;

@@ -1,4 +1,4 @@
-// What a ring carries.
+//! What a ring carries.
 use crate::fault::End;
 
 /// An item, or the end.

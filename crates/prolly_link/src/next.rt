@@ -1,4 +1,4 @@
-// What a receiver gives.
+//! What a receiver gives.
 use crate::fault::End;
 
 /// An item, or why there is none.

@@ -1,4 +1,4 @@
-// The making of a link.
+//! The making of a link.
 ghost use Rattle.std.specs.Prelude.{◌≡◌, ◌≤◌, [], IfOk};
 
 use crate::patience::Patience;

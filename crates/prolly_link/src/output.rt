@@ -1,4 +1,4 @@
-// What a worker asks of an end that it sends to.
+//! What a worker asks of an end that it sends to.
 ghost use Rattle.std.specs.Prelude.{◌≡◌, List, [], ◌∷◌, ◌++◌, OnOk, IfErr};
 ghost use Rattle.prolly_link.specs.Identity.{LinkId};
 ghost use Rattle.prolly_link.specs.declared.fault.End.{End};

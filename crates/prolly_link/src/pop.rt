@@ -1,4 +1,4 @@
-// Waiting for a message in a ring.
+//! Waiting for a message in a ring.
 ghost use Rattle.std.specs.Prelude.{◌≡◌, [], ◌∷◌, ◌++◌, IfNone, IfSome};
 ghost use Rattle.rtrb.specs.Ring.{received as popped};
 ghost use Rattle.prolly_link.specs.Identity.{consumer_link};

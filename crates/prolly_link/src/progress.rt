@@ -1,4 +1,4 @@
-// How far a receiver has come.
+//! How far a receiver has come.
 use crate::fault::End;
 
 /// Whether a receiver has given its end, or that it has lost its sender.

@@ -1,4 +1,4 @@
-// Waiting for room in a ring.
+//! Waiting for room in a ring.
 ghost use Rattle.std.specs.Prelude.{◌≡◌, [], ◌∷◌, ◌++◌};
 ghost use Rattle.rtrb.specs.Ring.{sent as pushed};
 ghost use Rattle.prolly_link.specs.Identity.{producer_link};

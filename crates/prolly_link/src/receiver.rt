@@ -1,4 +1,4 @@
-// The end of a link that receives.
+//! The end of a link that receives.
 ghost use Rattle.std.specs.Prelude.{◌≡◌, ◌++◌};
 ghost use Rattle.prolly_link.specs.Receipts.{given_items, progress_after, GivesAgain};
 

@@ -1,4 +1,4 @@
-// The rest of an input that a worker does not need any more.
+//! The rest of an input that a worker does not need any more.
 ghost use Rattle.std.specs.Prelude.{◌≡◌};
 ghost use Rattle.prolly_link.specs.Receipts.{HasEnded};
 

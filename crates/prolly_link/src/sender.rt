@@ -1,4 +1,4 @@
-// The end of a link that sends.
+//! The end of a link that sends.
 ghost use Rattle.std.specs.Prelude.{◌≡◌, [], ◌∷◌, ◌++◌, IsOk};
 
 use crate::closed::ClosedSender;

@@ -1,4 +1,4 @@
-// Which of many inputs is next.
+//! Which of many inputs is next.
 ghost use Rattle.std.specs.Prelude.{◌≡◌, ◌+◌, ◌<◌, Some, length, slice_get, take};
 ghost use Rattle.prolly_merge.specs.Choices.{IsChoice, IsLeast};
 

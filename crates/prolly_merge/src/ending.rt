@@ -1,4 +1,4 @@
-// What the inputs of a merger still give once it is done.
+//! What the inputs of a merger still give once it is done.
 ghost use Rattle.std.specs.Prelude.{◌≡◌, length};
 ghost use Rattle.prolly_merge.specs.Each.{Each};
 ghost use Rattle.prolly_merge.specs.Inputs.{Ends};

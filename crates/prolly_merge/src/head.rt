@@ -1,4 +1,4 @@
-// The head of an input.
+//! The head of an input.
 ghost use Rattle.std.specs.Prelude.{◌≡◌};
 ghost use Rattle.prolly_merge.specs.Heads.{in_hand, IsHeld};
 

@@ -1,4 +1,4 @@
-// Many inputs into one.
+//! Many inputs into one.
 ghost use Rattle.std.specs.Prelude.{◌≡◌, ◌++◌, List, length};
 ghost use Rattle.prolly_entry.specs.Record.{Record as RecordValue};
 ghost use Rattle.prolly_entry.specs.Overlay.{AllRising, pairs_put};

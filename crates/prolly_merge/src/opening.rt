@@ -1,4 +1,4 @@
-// The first heads of many inputs.
+//! The first heads of many inputs.
 ghost use Rattle.std.specs.Prelude.{◌≡◌, None, length, vec_len, IfSome};
 ghost use Rattle.prolly_merge.specs.Each.{Each};
 ghost use Rattle.prolly_merge.specs.PeekedInputs.{peeked_of, Opens};

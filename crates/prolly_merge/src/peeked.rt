@@ -1,4 +1,4 @@
-// An input beside its head.
+//! An input beside its head.
 ghost use Rattle.std.specs.Prelude.{◌≡◌};
 ghost use Rattle.prolly_merge.specs.Heads.{in_hand, IsHeld};
 ghost use Rattle.prolly_merge.specs.PeekedInputs.{Advances, Opens, Finishes};

@@ -1,4 +1,4 @@
-// What a merger sends of a record.
+//! What a merger sends of a record.
 ghost use Rattle.std.specs.Prelude.{◌≡◌, ◌+◌, ◌++◌, OnOk, OnErr, IfOk, length, min};
 ghost use Rattle.prolly_entry.specs.Overlay.{pairs_of_change};
 

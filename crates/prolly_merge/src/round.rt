@@ -1,4 +1,4 @@
-// A round of a merger of many inputs.
+//! A round of a merger of many inputs.
 ghost use Rattle.std.specs.Prelude.{◌≡◌, ◌<◌, ◌≤◌, Some, length, slice_get, slice_set};
 ghost use Rattle.prolly_merge.specs.Each.{EachUpto};
 ghost use Rattle.prolly_merge.specs.Heads.{in_hand, has_key};

@@ -1,4 +1,4 @@
-// What a merger does next.
+//! What a merger does next.
 use prolly_entry::Record;
 use prolly_link::End;
 

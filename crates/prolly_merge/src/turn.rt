@@ -1,4 +1,4 @@
-// Which of two inputs is next.
+//! Which of two inputs is next.
 ghost use Rattle.prolly_merge.specs.Turns.{IsTurn};
 
 use crate::head::Head;

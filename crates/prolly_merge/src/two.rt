@@ -1,4 +1,4 @@
-// Two inputs into one.
+//! Two inputs into one.
 ghost use Rattle.std.specs.Prelude.{◌≡◌, List, [], ◌∷◌, ◌++◌};
 ghost use Rattle.prolly_entry.specs.Record.{Record as RecordValue};
 ghost use Rattle.prolly_entry.specs.Overlay.{AllRising};

@@ -1,1 +1,2 @@
+-- One number more.
 pub mod NumberLemmas

@@ -1,3 +1,4 @@
+//! The build, as its tests call it.
 use crate::shared::expect_bytes;
 use prolly_build::{Config, Permit, Report, build, build_with};
 use prolly_entry::{Pair, Sha512Cut, Version};

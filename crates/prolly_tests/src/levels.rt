@@ -1,3 +1,4 @@
+//! The levels of leaves and of nodes, entry by entry.
 ghost use Rattle.std.specs.Prelude.{◌≤◌};
 
 use crate::shared::{expect_bytes, joined, pairs_of};

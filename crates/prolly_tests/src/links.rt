@@ -1,3 +1,4 @@
+//! Links in use: what arrives, how far a sender is ahead, and what is found where an end is gone.
 ghost use Rattle.std.specs.Prelude.{◌≡◌};
 
 use between::{copy_into_batches, copy_list, copy_out_of_batches};

@@ -1,3 +1,4 @@
+//! The loader, over sources that end and fail in many ways.
 use prolly_entry::{Record, append_record};
 use prolly_file::{FromRead, ScriptSource, Source};
 use prolly_link::{ClosedList, End, ListOut, RunFault};

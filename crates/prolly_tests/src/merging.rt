@@ -1,3 +1,4 @@
+//! The mergers, over lists and over links.
 use crate::shared::expect_bytes;
 use prolly_entry::{Pair, Record};
 use prolly_link::{ClosedList, End, ListIn, ListOut, Out, Receiver, RunFault, link};

@@ -1,3 +1,4 @@
+//! The stages, over lists and over links.
 ghost use Rattle.std.specs.Prelude.{◌≡◌, []};
 
 use crate::shared::{expect_bytes, pairs_of};

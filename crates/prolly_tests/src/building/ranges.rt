@@ -1,3 +1,4 @@
+//! The ranges of the settings of a build.
 use prolly_build::{Config, ConfigFault};
 
 #[test]

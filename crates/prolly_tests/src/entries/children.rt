@@ -1,3 +1,4 @@
+//! Child entries, as they are spelled.
 use prolly_entry::{ChildAt, Version, front_child, front_child_as};
 
 /// A child whose greatest key is `a` and whose reference begins the SHA-512 of `abc`, with a count

@@ -1,3 +1,4 @@
+//! Boundaries, as they follow from printed digests.
 use prolly_entry::{Cut, KeyCut, Sha512Cut};
 use sha2::{Digest, Sha512};
 use std::test::Fail;

@@ -1,3 +1,4 @@
+//! What bytes begin with.
 use prolly_entry::{Front, FrontRecord, front_pair, front_record};
 
 #[test]

@@ -1,3 +1,4 @@
+//! The order of keys.
 use prolly_entry::key_order;
 use std::cmp::Ordering;
 

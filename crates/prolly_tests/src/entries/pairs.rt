@@ -1,3 +1,4 @@
+//! Pairs, and their copies.
 use crate::shared::expect_bytes;
 use prolly_entry::{Pair, VALUE_LIMIT};
 use std::test::Fail;

@@ -1,3 +1,4 @@
+//! Record files, as they are read.
 use crate::shared::expect_bytes;
 use prolly_entry::{RecordFault, records};
 use std::alloc::Global;

@@ -1,3 +1,4 @@
+//! References and their texts.
 use prolly_entry::Ref;
 
 /// What a message hashes to, by another program, and the text of that.

@@ -1,3 +1,4 @@
+//! Entries, as they are spelled.
 use crate::shared::{expect_bytes, expect_length};
 use prolly_entry::{
     Pair, Record, Ref, Version, append_child, append_child_as, append_pair, append_record,

@@ -1,3 +1,4 @@
+//! A sink that gathers small writes.
 use super::{flushes, writes};
 use crate::shared::expect_bytes;
 use prolly_file::{Buffered, ScriptSink, SinkFault};

@@ -1,3 +1,4 @@
+//! The writer of chunk files.
 use crate::shared::{expect_bytes, expect_length, joined};
 use prolly_entry::Ref;
 use prolly_file::{FileWriter, ScriptSink, Sink, ToWrite, WriteFault};

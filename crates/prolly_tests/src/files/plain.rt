@@ -1,3 +1,4 @@
+//! The plain builder.
 use crate::shared::{chunk_file, expect_bytes, expect_length, pairs_of};
 use prolly_entry::{Cut, KeyCut, Ref, Sha512Cut, Version};
 use prolly_file::{ScratchFault, scratch, scratch_as};

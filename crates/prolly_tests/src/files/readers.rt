@@ -1,3 +1,4 @@
+//! A reader of std as a source.
 use super::reads;
 use crate::shared::expect_bytes;
 use prolly_file::{FromRead, SourceFault};

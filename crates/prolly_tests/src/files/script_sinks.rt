@@ -1,3 +1,4 @@
+//! Sinks that follow a script.
 use super::{flushes, writes};
 use crate::shared::expect_bytes;
 use prolly_file::{ScriptSink, SinkFault};

@@ -1,3 +1,4 @@
+//! Sources that follow a script.
 use super::reads;
 use crate::shared::expect_bytes;
 use prolly_file::{ScriptSource, SourceFault};

@@ -1,3 +1,4 @@
+//! Sources that are read to their end.
 use prolly_file::{FromRead, ScriptSource, Source, WholeFault, read_whole};
 use std::alloc::Global;
 use std::process::Abort;

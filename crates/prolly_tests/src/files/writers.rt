@@ -1,3 +1,4 @@
+//! A writer of std as a sink.
 use super::{flushes, writes};
 use crate::shared::expect_bytes;
 use prolly_file::{SinkFault, ToWrite};

@@ -1,4 +1,4 @@
-// Numbers that one thread sends and another receives.
+//! Numbers that one thread sends and another receives.
 ghost use Rattle.std.specs.Prelude.{◌≡◌, ◌++◌, IfOk};
 ghost use Rattle.std.specs.List.{range_with_len};
 ghost use Rattle.prolly_link.specs.declared.fault.End.TheVariants.{Clean};

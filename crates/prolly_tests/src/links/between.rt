@@ -1,4 +1,4 @@
-// The worker between ends of each kind.
+//! The worker between ends of each kind.
 ghost use Rattle.std.specs.Prelude.{◌≡◌, ◌≢◌, []};
 ghost use Rattle.prolly_link.specs.Receipts.{end_given};
 

@@ -1,4 +1,4 @@
-// A worker that sends what it receives.
+//! A worker that sends what it receives.
 ghost use Rattle.std.specs.Prelude.{◌≡◌, ◌≢◌, ◌++◌};
 ghost use Rattle.prolly_link.specs.Receipts.{HasEnded, end_given};
 

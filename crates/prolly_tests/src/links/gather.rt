@@ -1,4 +1,4 @@
-// A worker that keeps what it receives.
+//! A worker that keeps what it receives.
 ghost use Rattle.std.specs.Prelude.{◌≡◌, IfOk};
 
 use prolly_link::{End, In, Next, Progress, RunFault, receive_rest};

@@ -1,4 +1,4 @@
-// A worker that sends numbers.
+//! A worker that sends numbers.
 ghost use Rattle.std.specs.Prelude.{◌≡◌, ◌++◌};
 ghost use Rattle.std.specs.List.{range_with_len};
 

@@ -1,4 +1,4 @@
-// What ends the wait of an end that sleeps, and what a sender of large items waits for.
+//! What ends the wait of an end that sleeps, and what a sender of large items waits for.
 ghost use Rattle.std.specs.Prelude.{◌≤◌};
 
 use super::{no_memory, receives};

@@ -1,3 +1,4 @@
+//! What `build` answers.
 use super::expect_answer;
 use prolly_entry::Ref;
 use prolly_link::RunFault;

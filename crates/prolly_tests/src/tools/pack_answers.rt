@@ -1,3 +1,4 @@
+//! What `pack` answers.
 use super::expect_answer;
 use crate::shared::expect_bytes;
 use prolly_file::{FromRead, ScriptSink};

@@ -1,3 +1,4 @@
+//! Lines of text, as they are packed.
 use crate::shared::{expect_bytes, joined};
 use prolly_tool::{PackFault, pack_lines};
 use std::alloc::Global;

@@ -1,3 +1,4 @@
+//! What `scratch` answers.
 use super::expect_answer;
 use crate::shared::expect_bytes;
 use prolly_entry::Version;
