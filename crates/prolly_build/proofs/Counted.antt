@@ -1,5 +1,5 @@
 -- What the files of a build count for, by what the loaders sent of them.
-use Rattle.std.proofs.Common.{◌≡◌, ◌≢◌, ◌+◌, ◌⊎◌, ℕ, Bool, true, List, [], ◌∷◌, ◌++◌, All, map, length, Option, Some, None, inl, inr, refl, ap, sym, subst, ◌∙◌}
+use Rattle.std.proofs.Common.{◌≡◌, ◌≢◌, ◌+◌, ◌⊎◌, ℕ, true, List, [], ◌∷◌, ◌++◌, All, map, length, Option, Some, None, inl, inr, refl, ap, sym, subst, ◌∙◌}
 use Rattle.prolly_entry.specs.Byte.{IsByte}
 use Rattle.prolly_entry.specs.CutShort.{IsSentOf, AreSentOf}
 use Rattle.prolly_entry.specs.Merge.{Input}

@@ -1,5 +1,5 @@
 -- How the records of the files reach the last merger.
-use Rattle.std.proofs.Common.{◌≡◌, ℕ, zero, suc, ◌+◌, Bool, List, [], ◌∷◌, All, map, refl, ap, sym, subst, ◌∙◌}
+use Rattle.std.proofs.Common.{◌≡◌, ℕ, zero, suc, ◌+◌, List, [], ◌∷◌, All, map, refl, ap, sym, subst, ◌∙◌}
 use Rattle.prolly_entry.specs.Merge.{Input}
 use Rattle.prolly_entry.specs.Record.{Record}
 use Rattle.prolly_file.specs.Source.{SourceView}

@@ -1,5 +1,5 @@
 -- What a build has made of its sources.
-use Rattle.std.specs.Prelude.{◌≡◌, ◌≢◌, ◌<◌, ◌≤◌, ℕ, Bool, true, List, [], ◌∷◌, ◌++◌, length, None, ◌-◌}
+use Rattle.std.specs.Prelude.{◌≡◌, ◌≢◌, ◌<◌, ◌≤◌, ℕ, true, List, [], ◌∷◌, ◌++◌, length, None, ◌-◌}
 use Rattle.std.specs.List.{flat_map}
 use Rattle.prolly_entry.specs.Chunk.{Chunk, chunks}
 use Rattle.prolly_entry.specs.Cut.{sha512_cut}

@@ -1,5 +1,5 @@
 -- How the records of the files reach the last merger.
-use Rattle.std.specs.Prelude.{◌≡◌, ℕ, zero, suc, Bool, List, map}
+use Rattle.std.specs.Prelude.{◌≡◌, ℕ, zero, suc, List, map}
 use Rattle.prolly_entry.specs.Merge.{Input}
 use Rattle.prolly_entry.specs.Record.{Record}
 use Rattle.prolly_file.specs.Source.{SourceView}

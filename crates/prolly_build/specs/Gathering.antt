@@ -1,5 +1,5 @@
 -- What the last merger sent of the files.
-use Rattle.std.specs.Prelude.{ℕ, Bool, List, [], map}
+use Rattle.std.specs.Prelude.{ℕ, List, [], map}
 use Rattle.prolly_entry.specs.Merge.{Input}
 use Rattle.prolly_entry.specs.Pair.{Pair}
 use Rattle.prolly_file.specs.Source.{SourceView}

@@ -1,5 +1,5 @@
 -- What the stages of a build sent of the files.
-use Rattle.std.specs.Prelude.{ℕ, Bool, List, []}
+use Rattle.std.specs.Prelude.{ℕ, List, []}
 use Rattle.prolly_entry.specs.Chunk.{Chunk}
 use Rattle.prolly_entry.specs.Cut.{sha512_cut}
 use Rattle.prolly_entry.specs.Pair.{Pair}

@@ -1,5 +1,5 @@
 -- What a build names, and what it leaves, where a record file is at fault.
-use Rattle.std.specs.Prelude.{◌≡◌, ◌≢◌, ◌⊎◌, ℕ, ◌+◌, Bool, true, List, [], ◌∷◌, ◌++◌, length, Option, Some, None}
+use Rattle.std.specs.Prelude.{◌≡◌, ◌≢◌, ◌⊎◌, ℕ, ◌+◌, true, List, [], ◌∷◌, ◌++◌, length, Option, Some, None}
 use Rattle.std.specs.List.{AllByRecursion}
 use Rattle.prolly_entry.specs.Chunk.{begun_chunks}
 use Rattle.prolly_entry.specs.Cut.{sha512_cut}

@@ -1,56 +1,38 @@
 -- What a chunk file says.
 pub mod Content
-
 -- The header of a chunk file, its first six bytes.
 pub mod Header
-
 -- The frames of a chunk file, and what follows them.
 pub mod Frames
-
 -- Where the chunks of a file lie in its bytes.
 pub mod Spans
-
 -- The entries that chunks hold.
 pub mod Entries
-
 -- Refusals of the checker.
 pub mod Refusal
-
 -- Chunks that are a level and whole lawful entries of that level's kind.
 pub mod Whole
-
 -- The order of keys that are read one after another.
 pub mod Order
-
 -- What is wrong with the pairs and the chunks of a file that is well formed: the first fault.
 pub mod Judged
-
 -- The one file that pairs have.
 pub mod Canonical
-
 -- Which bytes are the file of a map, and which fault others have.
 pub mod Verdict
-
 -- Finding chunks by their references.
 pub mod Index
-
 -- What is kept of a file that was accepted.
 pub mod Checked
-
 -- What a refusal says of the bytes that were to be checked.
 pub mod Check
-
 -- The chunk of the root.
 pub mod Root
-
 -- How a look-up goes down a tree.
 pub mod Descent
-
 -- How a pair is found by its number.
 pub mod Counted
-
 -- Where a scan begins.
 pub mod Scanned
-
 -- Rebuilding the chunks of pairs one by one, by levels that stand one above another.
 pub mod Rebuilt

@@ -1,8 +1,6 @@
 -- How a chunk is filled entry by entry.
 pub mod Chunk
-
 -- The level of the leaves, as a machine that takes pairs one by one.
 pub mod LeafLevel
-
 -- A level of nodes, as a machine that takes events one by one.
 pub mod NodeLevel

@@ -1,14 +1,10 @@
 -- Known bytes that were kept first, and then read or written.
 mod Kept
-
 -- What a script hands out of its bytes, from a place on.
 pub mod ScriptReads
-
 -- Bytes that are written one part after another.
 pub mod Written
-
 -- Pairs whose keys rise, one pair after another.
 pub mod Rises
-
 -- The levels of a tree, and its file.
 pub mod TreeChunks

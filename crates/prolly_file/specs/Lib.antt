@@ -1,41 +1,28 @@
 -- How a device counts its failures.
 pub mod Failures
-
 -- Which numbers are bytes.
 pub mod Bytes
-
 -- The bytes of a reader or a writer of std, which tells them or does not.
 pub mod Known
-
 -- What the test of bytes tells.
 pub mod BytesLaws
-
 -- What a contract sees of a source, and what a read does to the bytes that it has left.
 pub mod Source
-
 -- What a clause reads of a `FromRead`.
 pub mod FromRead
-
 -- What a contract sees of a sink, and what a write does to the bytes that it took.
 pub mod Sink
-
 -- What a clause reads of a `ToWrite`.
 pub mod ToWrite
-
 -- What a clause reads of a `Buffered`.
 pub mod Buffered
-
 -- The devices in memory that follow a script.
 pub mod Script
-
 -- The frame of a chunk, over the chunk's bytes.
 pub mod Frame
-
 -- How far a writer of a chunk file is.
 pub mod Writer
-
 -- What the plain builder answers.
 pub mod Scratch
-
 -- What making the levels of a tree may come to.
 pub mod Levels

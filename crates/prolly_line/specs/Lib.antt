@@ -1,8 +1,6 @@
 -- The command line, in the words of clap's model of commands.
 pub mod Line
-
 -- Which command the words give, and how they are refused.
 pub mod Given
-
 -- What stands in the rows of a subcommand whose words clap takes, and what is made of them.
 pub mod Accepted

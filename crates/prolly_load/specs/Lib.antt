@@ -1,17 +1,12 @@
 -- Places of bytes.
 pub mod Span
-
 -- What a buffer holds.
 pub mod Buffered
-
 -- What a read adds to the unparsed bytes.
 pub mod Filling
-
 -- What is taken out of the unparsed bytes.
 pub mod Taking
-
 -- How a flaw of a record file is told on a link.
 pub mod Fault
-
 -- What a loader sends of a record file, and how it ends.
 pub mod Loading

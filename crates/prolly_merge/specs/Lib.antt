@@ -1,26 +1,18 @@
 -- Relations between the values of two lists, place by place.
 pub mod Each
-
 -- What the inputs of a merger gave, as the inputs that a merged part is made of.
 pub mod Inputs
-
 -- What a merger sent.
 pub mod Sent
-
 -- The heads of inputs: what each of them gave last.
 pub mod Heads
-
 -- How far a merger has come.
 pub mod Places
-
 -- Inputs beside their heads, and how they go on.
 pub mod PeekedInputs
-
 -- One step of a merger.
 pub mod Steps
-
 -- Which of two inputs is next.
 pub mod Turns
-
 -- Which of many inputs is next.
 pub mod Choices

@@ -1,29 +1,20 @@
 -- Lines of text, and the records that they stand for. (This project's format.)
 pub mod Lines
-
 -- How a command reads its input, and what it says of one that it can't read whole.
 pub mod Input
-
 -- What a command that makes a file does to the sink that it is lent, and what it answers.
 pub mod Outputs
-
 -- What the command `scratch` answers.
 pub mod Scratch
-
 -- What packing a text comes to.
 pub mod Pack
-
 -- The line and the status of each fault. (This project's texts.)
 pub mod Faults
-
 -- How a line names a file. (This project's texts.)
 pub mod Names
-
 -- What the program prints.
 pub mod Answers
-
 -- What the command `build` prints.
 pub mod Build
-
 -- What the commands that read a chunk file print.
 pub mod LookUps
