@@ -98,6 +98,8 @@ class Command:
     words: list
     stdin: str = os.devnull
     """The file that it reads."""
+    makes: str = ""
+    """The file that it makes, if any. It is removed before: to give back what a large one has takes time."""
     late: float = 0
     """By how many seconds its sleeps may end late."""
     cores: tuple = ()
@@ -105,6 +107,8 @@ class Command:
 
     def run(self):
         """Runs it."""
+        if self.makes:
+            Path(self.makes).unlink(missing_ok=True)
         with open(self.stdin, "rb") as stdin:
             done = run(self.words, stdin=stdin, late=self.late, cores=self.cores)
         if done.status != 0:
@@ -170,10 +174,15 @@ def build(program, names, out="tree"):
     return [program, "build", out, *names]
 
 
+def building(program, names, **how):
+    """A build that makes a new file."""
+    return Command(build(program, names), makes="tree", **how)
+
+
 def late_builds(program, kinds):
     """A build of each kind, by each lateness of sleeps."""
     return {
-        f"{kind}, sleeps {late} ms late": Command(build(program, names), late=late / 1000)
+        f"{kind}, sleeps {late} ms late": building(program, names, late=late / 1000)
         for late in LATE_MILLISECONDS
         for kind, names in kinds.items()
     }
@@ -187,8 +196,8 @@ def show_commands(program, parts, turns):
     write_records("records", range(RECORDS))
     key = (RECORDS // 2).to_bytes(16, "big").hex()
     commands = {
-        "scratch": Command([program, "scratch", "--out", "tree"], stdin="records"),
-        "build": Command(build(program, ["records"])),
+        "scratch": Command([program, "scratch", "--out", "tree"], stdin="records", makes="tree"),
+        "build": building(program, ["records"]),
         "check": Command([program, "check", "tree"]),
         "get": Command([program, "get", "tree", key]),
     }
@@ -205,7 +214,7 @@ def show_builds(program, parts, turns):
     """Builds of the same records in more and more files, with timers that are late, and on two cores."""
     kinds = {kind: write_parts(files, RECORDS) for kind, files in (("1 file", 1), ("4 files", 4), ("16 files", 16))}
     cores = tuple(sorted(os.sched_getaffinity(0))[:2])
-    commands = {"1 file, two cores": Command(build(program, kinds["1 file"]), cores=cores), **late_builds(program, kinds)}
+    commands = {"1 file, two cores": building(program, kinds["1 file"], cores=cores), **late_builds(program, kinds)}
     figures = in_turn(parts, commands, turns, RECORDS)
     figures.show_hashes(f"builds of {RECORDS} records of 38 bytes")
     for name in commands:
@@ -229,7 +238,7 @@ def show_growth(program, parts, turns):
     counts = (RECORDS, MORE_RECORDS)
     kinds = {f"{count} records": write_parts(16, count) for count in counts}
     few, many = kinds
-    figures = in_turn(parts, {kind: Command(build(program, kinds[kind])) for kind in kinds}, turns, RECORDS)
+    figures = in_turn(parts, {kind: building(program, names) for kind, names in kinds.items()}, turns, RECORDS)
     figures.show_hashes(f"builds of 16 files, beside the hashes of {RECORDS} records")
     figures.show(few)
     figures.show(many, few)
