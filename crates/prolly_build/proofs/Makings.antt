@@ -21,10 +21,10 @@ use Rattle.prolly_link.specs.declared.fault.End.TheVariants.{Clean, Fault}
 use Rattle.prolly_link.specs.declared.fault.RunFault.{RunFault}
 use Rattle.prolly_link.specs.declared.fault.RunFault.TheVariants.{Memory, Read, Truncated, KeyTooLong, ValueTooLong, OutOfOrder, TooManyRecords, Write, TooTall, NoThread, Lost, TooManyFiles}
 use Rattle.prolly_build.specs.declared.report.Report.{Report}
-use Rattle.prolly_build.specs.declared.writer.Begun.{Begun}
-use Rattle.prolly_build.specs.declared.writer.Top.{Top}
-use Rattle.prolly_build.specs.declared.writer.Written.{Written}
-use Rattle.prolly_build.specs.declared.writer.Written.TheVariants.{Whole}
+use Rattle.prolly_build.specs.declared.run.written.Begun.{Begun}
+use Rattle.prolly_build.specs.declared.run.written.Top.{Top}
+use Rattle.prolly_build.specs.declared.run.written.Written.{Written}
+use Rattle.prolly_build.specs.declared.run.written.Written.TheVariants.{Whole}
 use Rattle.prolly_build.specs.Built.{IsCleanRun, IsRunOf, IsFileOf, IsTooTall, IsCutOff, IsUnmadeOf, tall_file, IsInputEnd, IsInputFault, IsStartFault, IsWriterFault}
 use Rattle.prolly_build.specs.Settings.{Settings}
 use Rattle.prolly_build.specs.Writing.{HasWritten, HasEnded, IsEndFault, IsWhole, IsTall, IsFailed, IsUnended, IsTopOf, tops_counted, frames_of}

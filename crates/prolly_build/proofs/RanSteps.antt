@@ -16,9 +16,9 @@ use Rattle.prolly_build.specs.Settings.{Settings}
 use Rattle.prolly_build.specs.Built.{IsBegun}
 use Rattle.prolly_build.specs.Writing.{HasWritten, IsEndFault, frames_of}
 use Rattle.prolly_build.specs.Ran.{IsWritten}
-use Rattle.prolly_build.specs.declared.writer.Written.{Written}
-use Rattle.prolly_build.specs.declared.writer.Written.TheVariants.{Whole, TooTall, Failed}
-use Rattle.prolly_build.specs.declared.writing.Wrote.{Wrote}
+use Rattle.prolly_build.specs.declared.run.written.Written.{Written}
+use Rattle.prolly_build.specs.declared.run.written.Written.TheVariants.{Whole, TooTall, Failed}
+use Rattle.prolly_build.specs.declared.run.writer.Wrote.{Wrote}
 
 -- a sink that was left alone
 pub nothing_begun : (settings : Settings) (old : SinkView) → IsBegun settings old old

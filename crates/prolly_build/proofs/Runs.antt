@@ -15,8 +15,8 @@ use Rattle.prolly_link.specs.declared.fault.End.{End}
 use Rattle.prolly_link.specs.declared.fault.End.TheVariants.{Clean, Fault}
 use Rattle.prolly_link.specs.declared.fault.RunFault.{RunFault}
 use Rattle.prolly_link.specs.declared.fault.RunFault.TheVariants.{Memory, NoThread, Lost, TooManyFiles}
-use Rattle.prolly_build.specs.declared.halt.Halt.{Halt}
-use Rattle.prolly_build.specs.declared.halt.Halt.TheVariants.{NoThread as NoThread_halt, Lost as Lost_halt}
+use Rattle.prolly_build.specs.declared.end.halt.Halt.{Halt}
+use Rattle.prolly_build.specs.declared.end.halt.Halt.TheVariants.{NoThread as NoThread_halt, Lost as Lost_halt}
 use Rattle.prolly_build.specs.Ran.{IsHaltFault}
 use Rattle.prolly_merge.specs.Inputs.{fault_of, lists_of}
 use Rattle.prolly_merge.specs.Sent.{Counts}

@@ -13,8 +13,8 @@ use Rattle.prolly_link.specs.declared.fault.End.{End}
 use Rattle.prolly_link.specs.declared.fault.End.TheVariants.{Clean, Fault}
 use Rattle.prolly_link.specs.declared.fault.RunFault.{RunFault}
 use Rattle.prolly_link.specs.declared.fault.RunFault.TheVariants.{Memory, Write, TooTall as TooTall_fault, Lost}
-use Rattle.prolly_build.specs.declared.writer.Written.{Written}
-use Rattle.prolly_build.specs.declared.writer.Written.TheVariants.{Whole, TooTall, Failed}
+use Rattle.prolly_build.specs.declared.run.written.Written.{Written}
+use Rattle.prolly_build.specs.declared.run.written.Written.TheVariants.{Whole, TooTall, Failed}
 use Rattle.prolly_build.specs.Settings.{Settings}
 use Rattle.prolly_build.specs.Stopped.{IsFileFault, TookBegun, begun_of}
 use Rattle.prolly_build.specs.Writing.{HasWritten, IsEndFault, frames_of}

@@ -11,9 +11,9 @@ use Rattle.prolly_entry.proofs.Prefixes.{count, count_true, count_false}
 use Rattle.prolly_entry.proofs.Writers.{within_is_prefix}
 use Rattle.prolly_file.specs.Sink.{SinkView, TakesPrefix}
 use Rattle.prolly_stage.proofs.Steps.{prefix_trans}
-use Rattle.prolly_build.specs.declared.writer.Begun.{Begun}
-use Rattle.prolly_build.specs.declared.writer.Top.{Top}
-use Rattle.prolly_build.specs.declared.writer.Written.{Written}
+use Rattle.prolly_build.specs.declared.run.written.Begun.{Begun}
+use Rattle.prolly_build.specs.declared.run.written.Top.{Top}
+use Rattle.prolly_build.specs.declared.run.written.Written.{Written}
 use Rattle.prolly_build.specs.Writing.{AreSmall, frames_of, tops_counted, IsTopOf, IsWhole, IsTall, IsFailed, IsUnended, HasWritten}
 use Rattle.prolly_build.proofs.Tops.{one_more, second_all, second_last, second_stays, frames_front, frames_more}
 

@@ -10,12 +10,12 @@ use Rattle.prolly_link.specs.Receipts.{HasEnded, end_given}
 use Rattle.prolly_link.specs.declared.progress.Progress.TheVariants.{Open}
 use Rattle.prolly_link.specs.declared.fault.RunFault.{RunFault}
 use Rattle.prolly_link.specs.declared.fault.RunFault.TheVariants.{NoThread as NoThread_fault, Lost as Lost_fault}
-use Rattle.prolly_build.specs.declared.halt.Halt.{Halt}
-use Rattle.prolly_build.specs.declared.halt.Halt.TheVariants.{NoThread, Lost}
+use Rattle.prolly_build.specs.declared.end.halt.Halt.{Halt}
+use Rattle.prolly_build.specs.declared.end.halt.Halt.TheVariants.{NoThread, Lost}
 use Rattle.prolly_build.specs.Settings.{Settings}
 use Rattle.prolly_build.specs.Writing.{HasWritten}
 use Rattle.prolly_build.specs.Workers.{IsLoadedFrom}
-use Rattle.prolly_build.specs.declared.writing.Wrote.{Wrote}
+use Rattle.prolly_build.specs.declared.run.writer.Wrote.{Wrote}
 
 -- The writer has received the last link to its end, and has written what it received.
 pub record IsWritten (settings : Settings) (last : Receiving Chunk) (old new : SinkView) (wrote : Wrote) : Type 0 where

@@ -13,10 +13,10 @@ use Rattle.prolly_link.specs.declared.fault.End.TheVariants.{Clean, Fault}
 use Rattle.prolly_link.specs.declared.fault.RunFault.{RunFault}
 use Rattle.prolly_link.specs.declared.fault.RunFault.TheVariants.{Write, TooTall as TooTall_fault}
 use Rattle.prolly_build.specs.declared.report.Report.{Report}
-use Rattle.prolly_build.specs.declared.writer.Begun.{Begun}
-use Rattle.prolly_build.specs.declared.writer.Top.{Top}
-use Rattle.prolly_build.specs.declared.writer.Written.{Written}
-use Rattle.prolly_build.specs.declared.writer.Written.TheVariants.{Whole, TooTall, Failed}
+use Rattle.prolly_build.specs.declared.run.written.Begun.{Begun}
+use Rattle.prolly_build.specs.declared.run.written.Top.{Top}
+use Rattle.prolly_build.specs.declared.run.written.Written.{Written}
+use Rattle.prolly_build.specs.declared.run.written.Written.TheVariants.{Whole, TooTall, Failed}
 
 -- The header and a frame for each chunk.
 abbrev pub frames_of : List ℕ → List Chunk → List ℕ

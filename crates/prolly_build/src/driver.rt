@@ -4,19 +4,19 @@ ghost use Rattle.prolly_link.specs.declared.fault.RunFault.TheVariants.{TooManyF
 ghost use Rattle.prolly_build.specs.Settings.{AreLawful};
 ghost use Rattle.prolly_build.specs.Ran.{IsWritten};
 ghost use Rattle.prolly_build.specs.Staging.{HasStaged};
-ghost use Rattle.prolly_build.specs.declared.halt.Halt.TheVariants.{NoThread};
+ghost use Rattle.prolly_build.specs.declared.end.halt.Halt.TheVariants.{NoThread};
 ghost use Rattle.prolly_build.specs.Built.{IsBegun};
 ghost use Rattle.prolly_build.specs.Outcome.{IsOutcome};
 
 use crate::config::Config;
-use crate::finishing::finish;
-use crate::halt::Halt;
-use crate::links::NewLink;
-use crate::permit::{AllStart, Permit};
+use crate::end::answer::finish;
+use crate::end::halt::Halt;
+use crate::links::link::NewLink;
+use crate::links::rings::Rings;
 use crate::report::Report;
-use crate::rings::Rings;
-use crate::site::Site;
-use crate::tower::{Ran, run_from_top};
+use crate::run::stages::{Ran, run_from_top};
+use crate::start::permit::{AllStart, Permit};
+use crate::start::site::Site;
 use prolly_file::{Sink, Source};
 use prolly_link::RunFault;
 use prolly_stage::Gate;

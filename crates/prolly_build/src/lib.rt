@@ -3,30 +3,14 @@
 
 mod config;
 mod driver;
-mod ending;
-mod finishing;
-mod forks;
-mod fronts;
-mod gathering;
-mod halt;
+mod end;
 pub mod laws;
 mod links;
-mod load_all;
-mod loaders;
-mod merge_tree;
-mod mergers;
-mod permit;
-mod place;
 mod report;
-mod rings;
-mod site;
-mod stack;
-mod stages;
-mod tower;
-mod writer;
-mod writing;
+mod run;
+mod start;
 
 pub use config::{Config, ConfigFault};
 pub use driver::{FILES_LIMIT, build, build_with};
-pub use permit::{AllStart, Permit};
 pub use report::Report;
+pub use start::permit::{AllStart, Permit};

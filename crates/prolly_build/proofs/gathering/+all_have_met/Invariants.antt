@@ -1,5 +1,0 @@
-use Rattle.std.proofs.Common.{vec_len}
-use Rattle.prolly_build.proofs.gathering.+all_have_met.Given as goal
-
-abbrev pub decreases-all_have_met : goal.decreases-all_have_met
-decreases-all_have_met g l = vec_len l.closed

@@ -1,5 +1,0 @@
-use Rattle.std.proofs.Common.{rules}
-use Rattle.prolly_build.proofs.halt.Halt.fault.Goals as goal
-
-pub returns-in-NoThread : goal.returns-in-NoThread
-returns-in-NoThread c = search rules

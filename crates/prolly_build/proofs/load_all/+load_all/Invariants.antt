@@ -1,5 +1,0 @@
-use Rattle.std.proofs.Common.{vec_len}
-use Rattle.prolly_build.proofs.load_all.+load_all.Given as goal
-
-abbrev pub decreases-load_all : goal.decreases-load_all
-decreases-load_all g l = vec_len l.outs

@@ -1,0 +1,112 @@
+//! The last merger, and all workers below it.
+ghost use Rattle.std.specs.Prelude.{◌≡◌, ◌+◌, ◌<◌, ◌≤◌, [], All, map, vec_len, vec_capacity, IsTrue, IfOk, IfErr};
+ghost use Rattle.prolly_link.specs.Receipts.{HasEnded};
+ghost use Rattle.prolly_build.specs.Built.{IsBegun};
+ghost use Rattle.prolly_build.specs.Ran.{IsWritten, IsUnsent, IsUnread};
+ghost use Rattle.prolly_build.specs.Merging.{received_input, sent_input};
+ghost use Rattle.prolly_build.specs.Gathering.{IsGathered};
+ghost use Rattle.prolly_build.specs.declared.end.halt.Halt.TheVariants.{NoThread};
+
+use crate::end::halt::{Halt, close_all, refuse};
+use crate::links::feed::Feed;
+use crate::links::link::has_met;
+use crate::run::lists::pop_first;
+use crate::run::merger_tree::merge_tree;
+use crate::run::writer::Wrote;
+use crate::start::mergers::{LastEnds, start_last};
+use crate::start::permit::Permit;
+use crate::start::site::Site;
+use prolly_chunk::ChunkEvent;
+use prolly_entry::{Pair, Record};
+use prolly_file::{Sink, Source};
+use prolly_link::{BatchReceiver, BatchSender, ClosedBatch};
+use prolly_stage::Gate;
+use std::sync::Wait;
+use std::thread::Threads;
+
+/// What the workers up to the last merger gave back: its closed output, how many pairs it sent, and what
+/// the writer gave.
+#[derive(Drop)]
+pub(crate) struct Gathered {
+    pub out: ClosedBatch<Pair>,
+    pub pairs: u64,
+    pub wrote: Wrote,
+}
+
+/// Meets the ends of each link. `false` where a receiver has lost its sender.
+fn all_have_met<R: Wait>(
+    rt: &R,
+    closed: Vec<ClosedBatch<Record>>,
+    inputs: Vec<BatchReceiver<Record>>,
+) -> bool
+    requires { map (λ c. c.link) closed.items ≡ map (λ r. r.link) inputs.items }
+    ensures { IsTrue result → All (λ r. HasEnded r.progress) inputs.items → map received_input inputs.items ≡ map sent_input closed.items }
+{
+    let mut closed = closed;
+    let mut inputs = inputs;
+    match (pop_first(&mut closed), pop_first(&mut inputs)) {
+        (Some(sender), Some(receiver)) => {
+            let first = has_met(rt, sender, receiver);
+            let others = all_have_met(rt, closed, inputs);
+            first && others
+        }
+        _ => true,
+    }
+}
+
+/// Starts the last merger, then all workers below it, writes, joins them, and meets their links.
+#[tactic(auto, using(crate::proofs::RanSteps::nothing_begun))]
+pub(crate) fn gather<
+    's,
+    E,
+    R: Wait + Threads + Sync,
+    G: Gate,
+    P: Permit,
+    S: Source + Send + Drop + 's,
+    W: Sink,
+>(
+    site: &Site<'s, '_, E, R, G, P>,
+    feed: Feed,
+    out: BatchSender<Pair>,
+    sources: &mut Vec<S>,
+    last: BatchReceiver<ChunkEvent>,
+    sink: &mut W,
+) -> Result<Gathered, Halt>
+    requires files { (feed.files ≡ vec_len sources.old) × (vec_len sources.old ≤ 16) }
+    requires unsent { out.items ≡ [] }
+    requires unread { last.items ≡ [] }
+    ensures link { IfOk result (λ gathered. gathered.out.link ≡ out.link) }
+    ensures written { IfOk result (λ gathered. IsWritten site.now.config last
+        (W.seen sink.old) (W.seen sink.new) gathered.wrote) }
+    ensures gathered { IfOk result (λ gathered. IsGathered S.seen site.now.config.max_records
+        sources.old.items sources.new.items gathered.out.items gathered.out.end gathered.pairs) }
+    ensures refused { IfErr result (λ halt. halt ≡ NoThread → sink.new ≡ sink.old) }
+    ensures begun { IfErr result (λ halt. IsBegun site.now.config
+        (W.seen sink.old) (W.seen sink.new)) }
+{
+    let Feed {
+        files: _,
+        forks,
+        outs,
+        inputs,
+        closed,
+    } = feed;
+    let number = forks.len() as u32;
+    let Some(handle) = start_last(site, number, inputs, out) else {
+        close_all(site.rt, outs);
+        return Err(refuse(site.rt, (forks, closed), last));
+    };
+    let mut closed = closed;
+    let wrote = merge_tree(site, forks, outs, sources, &mut closed, last, sink);
+    let LastEnds { inputs, out, pairs } = handle.join(site.rt);
+    match wrote {
+        Ok(wrote) => {
+            if all_have_met(site.rt, closed, inputs) {
+                Ok(Gathered { out, pairs, wrote })
+            } else {
+                Err(Halt::Lost)
+            }
+        }
+        Err(halt) => Err(halt),
+    }
+}

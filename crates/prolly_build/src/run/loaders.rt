@@ -1,0 +1,71 @@
+//! The loaders of all files, and the writer below them.
+ghost use Rattle.std.specs.Prelude.{◌≡◌, ◌+◌, ◌<◌, ◌≤◌, [], All, vec_len, vec_capacity, IfOk, IfErr, OnOk};
+ghost use Rattle.prolly_build.specs.Built.{IsBegun};
+ghost use Rattle.prolly_build.specs.Ran.{IsWritten, IsUnsent, AreLoaded};
+ghost use Rattle.prolly_build.specs.declared.end.halt.Halt.TheVariants.{NoThread};
+
+use crate::end::halt::{Halt, close_all, refuse};
+use crate::run::lists::{pop_first, push_first};
+use crate::run::writer::{Wrote, write_all};
+use crate::start::loaders::start_loader;
+use crate::start::permit::Permit;
+use crate::start::site::Site;
+use prolly_chunk::ChunkEvent;
+use prolly_entry::Record;
+use prolly_file::{Sink, Source};
+use prolly_link::{BatchReceiver, BatchSender, ClosedBatch};
+use prolly_load::Loaded;
+use prolly_stage::Gate;
+use std::sync::Wait;
+use std::thread::Threads;
+
+/// Starts a loader for each source, from file number `file` on, then writes, and joins them.
+#[tactic(auto, using(crate::proofs::RanSteps::nothing_begun))]
+pub(crate) fn load_all<
+    's,
+    E,
+    R: Wait + Threads + Sync,
+    G: Gate,
+    P: Permit,
+    S: Source + Send + Drop + 's,
+    W: Sink,
+>(
+    site: &Site<'s, '_, E, R, G, P>,
+    file: u32,
+    outs: Vec<BatchSender<Record>>,
+    sources: &mut Vec<S>,
+    closed: &mut Vec<ClosedBatch<Record>>,
+    last: BatchReceiver<ChunkEvent>,
+    sink: &mut W,
+) -> Result<Wrote, Halt>
+    requires numbers { file + vec_len outs ≤ 16 }
+    requires each { vec_len outs ≡ vec_len sources.old }
+    requires room { (closed.old.items ≡ []) × (vec_len outs ≤ vec_capacity closed.old) }
+    requires unsent { All IsUnsent outs.items }
+    requires unread { last.items ≡ [] }
+    ensures written { IfOk result (IsWritten site.now.config last
+        (W.seen sink.old) (W.seen sink.new)) }
+    ensures loaded { OnOk result (AreLoaded S.seen site.now.config.max_records file sources.old.items outs.items sources.new.items closed.new.items) }
+    ensures refused { IfErr result (λ halt. halt ≡ NoThread → sink.new ≡ sink.old) }
+    ensures begun { IfErr result (λ halt. IsBegun site.now.config
+        (W.seen sink.old) (W.seen sink.new)) }
+    ensures fewer { (vec_len sources.new ≤ vec_len sources.old) × (vec_capacity sources.old ≤ vec_capacity sources.new) }
+    ensures filled { (vec_len closed.new ≤ vec_len closed.old + vec_len outs) × (vec_capacity closed.old ≤ vec_capacity closed.new) }
+{
+    let mut outs = outs;
+    let Some(out) = pop_first(&mut outs) else {
+        return Ok(write_all(site.rt, site.config, last, sink));
+    };
+    let Some(source) = pop_first(sources) else {
+        unreachable!()
+    };
+    let Some(handle) = start_loader(site, file, source, out) else {
+        close_all(site.rt, outs);
+        return Err(refuse(site.rt, (), last));
+    };
+    let wrote = load_all(site, file + 1, outs, sources, closed, last, sink);
+    let Loaded { source, out } = handle.join(site.rt);
+    push_first(sources, source);
+    push_first(closed, out);
+    wrote
+}

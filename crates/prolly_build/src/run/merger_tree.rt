@@ -1,0 +1,96 @@
+//! The tree of mergers of two, and the loaders below it.
+ghost use Rattle.std.specs.Prelude.{◌≡◌, ◌+◌, ◌<◌, ◌≤◌, [], All, vec_len, vec_capacity, IfOk, IfErr, OnOk};
+ghost use Rattle.prolly_build.specs.Built.{IsBegun};
+ghost use Rattle.prolly_build.specs.Ran.{IsWritten, IsUnsent};
+ghost use Rattle.prolly_build.specs.Feeding.{IsFed};
+ghost use Rattle.prolly_build.specs.declared.end.halt.Halt.TheVariants.{NoThread};
+
+use crate::end::halt::{Halt, close_all, refuse};
+use crate::links::fork::Fork;
+use crate::links::link::{NewLink, has_met};
+use crate::run::lists::{fork_at, join_at};
+use crate::run::loaders::load_all;
+use crate::run::merger_place::place_of_merger;
+use crate::run::writer::Wrote;
+use crate::start::mergers::{TwoEnds, start_two};
+use crate::start::permit::Permit;
+use crate::start::site::Site;
+use prolly_chunk::ChunkEvent;
+use prolly_entry::Record;
+use prolly_file::{Sink, Source};
+use prolly_link::{BatchReceiver, BatchSender, ClosedBatch};
+use prolly_stage::Gate;
+use std::sync::Wait;
+use std::thread::Threads;
+
+/// Starts a merger of two for each fork, the last one first, then loads and writes, joins the mergers, and
+/// meets the links into them. The outputs are those that feed the last merger.
+#[tactic(auto, using(crate::proofs::RanSteps::nothing_begun))]
+pub(crate) fn merge_tree<
+    's,
+    E,
+    R: Wait + Threads + Sync,
+    G: Gate,
+    P: Permit,
+    S: Source + Send + Drop + 's,
+    W: Sink,
+>(
+    site: &Site<'s, '_, E, R, G, P>,
+    forks: Vec<Fork>,
+    outs: Vec<BatchSender<Record>>,
+    sources: &mut Vec<S>,
+    closed: &mut Vec<ClosedBatch<Record>>,
+    last: BatchReceiver<ChunkEvent>,
+    sink: &mut W,
+) -> Result<Wrote, Halt>
+    requires few { vec_len sources.old ≤ 16 }
+    requires each { vec_len outs + vec_len forks ≡ vec_len sources.old }
+    requires two { 0 < vec_len forks → 2 ≤ vec_len outs }
+    requires room { (closed.old.items ≡ []) × (vec_len sources.old ≤ vec_capacity closed.old) × (vec_len sources.old ≤ vec_capacity outs) }
+    requires unsent { All IsUnsent outs.items }
+    requires unread { last.items ≡ [] }
+    ensures written { IfOk result (IsWritten site.now.config last
+        (W.seen sink.old) (W.seen sink.new)) }
+    ensures fed { OnOk result (IsFed S.seen site.now.config.max_records sources.old.items sources.new.items outs.items closed.new.items) }
+    ensures refused { IfErr result (λ halt. halt ≡ NoThread → sink.new ≡ sink.old) }
+    ensures begun { IfErr result (λ halt. IsBegun site.now.config
+        (W.seen sink.old) (W.seen sink.new)) }
+{
+    let mut forks = forks;
+    let mut outs = outs;
+    let Some(fork) = forks.pop() else {
+        return load_all(site, 0, outs, sources, closed, last, sink);
+    };
+    let number = forks.len();
+    let place = place_of_merger(sources.len(), number);
+    let Fork { left, right } = fork;
+    let NewLink {
+        sender: left_out,
+        receiver: left,
+    } = left;
+    let NewLink {
+        sender: right_out,
+        receiver: right,
+    } = right;
+    let out = fork_at(&mut outs, place, left_out, right_out);
+    let number = number as u32;
+    let Some(handle) = start_two(site, number, left, right, out) else {
+        close_all(site.rt, outs);
+        return Err(refuse(site.rt, forks, last));
+    };
+    let wrote = merge_tree(site, forks, outs, sources, closed, last, sink);
+    let TwoEnds { left, right, out } = handle.join(site.rt);
+    match wrote {
+        Ok(wrote) => {
+            let (left_sent, right_sent) = join_at(closed, place, out);
+            let left_met = has_met(site.rt, left_sent, left);
+            let right_met = has_met(site.rt, right_sent, right);
+            if left_met && right_met {
+                Ok(wrote)
+            } else {
+                Err(Halt::Lost)
+            }
+        }
+        Err(halt) => Err(halt),
+    }
+}

@@ -1,0 +1,146 @@
+//! The stages, one above the other, and all workers below them.
+ghost use Rattle.std.specs.Prelude.{◌≡◌, ◌<◌, ◌≤◌, [], vec_len, IfOk, IfErr};
+ghost use Rattle.prolly_build.specs.Built.{IsBegun};
+ghost use Rattle.prolly_build.specs.Ran.{IsWritten};
+ghost use Rattle.prolly_build.specs.Staging.{HasStaged};
+ghost use Rattle.prolly_build.specs.declared.end.halt.Halt.TheVariants.{NoThread};
+
+use crate::end::halt::{Halt, refuse};
+use crate::links::feed::Feed;
+use crate::links::link::{NewLink, has_met};
+use crate::run::last_merger::{Gathered, gather};
+use crate::run::writer::Wrote;
+use crate::start::permit::Permit;
+use crate::start::site::Site;
+use crate::start::stages::{StageEnds, start_leaves, start_nodes};
+use prolly_chunk::ChunkEvent;
+use prolly_entry::Pair;
+use prolly_file::{Sink, Source};
+use prolly_link::{BatchReceiver, BatchSender, ClosedBatch};
+use prolly_stage::Gate;
+use std::sync::Wait;
+use std::thread::Threads;
+
+/// What the workers up to a stage gave back: its closed output, how many pairs the last merger sent, and
+/// what the writer gave.
+#[derive(Drop)]
+pub(crate) struct Ran {
+    pub out: ClosedBatch<ChunkEvent>,
+    pub pairs: u64,
+    pub wrote: Wrote,
+}
+
+/// Starts the stage of the leaves, then all workers below it, writes, joins it, and meets the link into it.
+#[tactic(auto, using(crate::proofs::RanSteps::nothing_begun))]
+fn run_from_leaves<
+    's,
+    E,
+    R: Wait + Threads + Sync,
+    G: Gate,
+    P: Permit,
+    S: Source + Send + Drop + 's,
+    W: Sink,
+>(
+    site: &Site<'s, '_, E, R, G, P>,
+    pairs: NewLink<Pair>,
+    feed: Feed,
+    out: BatchSender<ChunkEvent>,
+    sources: &mut Vec<S>,
+    last: BatchReceiver<ChunkEvent>,
+    sink: &mut W,
+) -> Result<Ran, Halt>
+    requires files { (feed.files ≡ vec_len sources.old) × (vec_len sources.old ≤ 16) }
+    requires unsent { out.items ≡ [] }
+    requires unread { last.items ≡ [] }
+    ensures link { IfOk result (λ ran. ran.out.link ≡ out.link) }
+    ensures written { IfOk result (λ ran. IsWritten site.now.config last
+        (W.seen sink.old) (W.seen sink.new) ran.wrote) }
+    ensures staged { IfOk result (λ ran. HasStaged S.seen site.now.config 0 sources.old.items sources.new.items ran.out.items ran.out.end ran.pairs) }
+    ensures refused { IfErr result (λ halt. halt ≡ NoThread → sink.new ≡ sink.old) }
+    ensures begun { IfErr result (λ halt. IsBegun site.now.config
+        (W.seen sink.old) (W.seen sink.new)) }
+{
+    let NewLink { sender, receiver } = pairs;
+    let Some(handle) = start_leaves(site, receiver, out) else {
+        return Err(refuse(site.rt, (feed, sender), last));
+    };
+    let gathered = gather(site, feed, sender, sources, last, sink);
+    let StageEnds { input, out } = handle.join(site.rt);
+    match gathered {
+        Ok(gathered) => {
+            let Gathered {
+                out: sent,
+                pairs,
+                wrote,
+            } = gathered;
+            if has_met(site.rt, sent, input) {
+                Ok(Ran { out, pairs, wrote })
+            } else {
+                Err(Halt::Lost)
+            }
+        }
+        Err(halt) => Err(halt),
+    }
+}
+
+/// Starts a stage of nodes for each link, the highest one first, then all workers below them, writes, joins
+/// the stages, and meets the links into them. The output is that of the highest stage, whose level is the
+/// number of the links.
+#[tactic(auto, using(crate::proofs::RanSteps::nothing_begun))]
+pub(crate) fn run_from_top<
+    's,
+    E,
+    R: Wait + Threads + Sync,
+    G: Gate,
+    P: Permit,
+    S: Source + Send + Drop + 's,
+    W: Sink,
+>(
+    site: &Site<'s, '_, E, R, G, P>,
+    events: Vec<NewLink<ChunkEvent>>,
+    pairs: NewLink<Pair>,
+    feed: Feed,
+    out: BatchSender<ChunkEvent>,
+    sources: &mut Vec<S>,
+    last: BatchReceiver<ChunkEvent>,
+    sink: &mut W,
+) -> Result<Ran, Halt>
+    requires levels { vec_len events < 12 }
+    requires files { (feed.files ≡ vec_len sources.old) × (vec_len sources.old ≤ 16) }
+    requires unsent { out.items ≡ [] }
+    requires unread { last.items ≡ [] }
+    ensures link { IfOk result (λ ran. ran.out.link ≡ out.link) }
+    ensures written { IfOk result (λ ran. IsWritten site.now.config last
+        (W.seen sink.old) (W.seen sink.new) ran.wrote) }
+    ensures staged { IfOk result (λ ran. HasStaged S.seen site.now.config (vec_len events) sources.old.items sources.new.items ran.out.items ran.out.end ran.pairs) }
+    ensures refused { IfErr result (λ halt. halt ≡ NoThread → sink.new ≡ sink.old) }
+    ensures begun { IfErr result (λ halt. IsBegun site.now.config
+        (W.seen sink.old) (W.seen sink.new)) }
+{
+    let mut events = events;
+    let Some(link) = events.pop() else {
+        return run_from_leaves(site, pairs, feed, out, sources, last, sink);
+    };
+    let level = events.len() as u8 + 1;
+    let NewLink { sender, receiver } = link;
+    let Some(handle) = start_nodes(site, level, receiver, out) else {
+        return Err(refuse(site.rt, (events, pairs, feed, sender), last));
+    };
+    let ran = run_from_top(site, events, pairs, feed, sender, sources, last, sink);
+    let StageEnds { input, out } = handle.join(site.rt);
+    match ran {
+        Ok(ran) => {
+            let Ran {
+                out: sent,
+                pairs,
+                wrote,
+            } = ran;
+            if has_met(site.rt, sent, input) {
+                Ok(Ran { out, pairs, wrote })
+            } else {
+                Err(Halt::Lost)
+            }
+        }
+        Err(halt) => Err(halt),
+    }
+}
