@@ -1,5 +1,5 @@
 -- What the driver's parts give back.
-use Rattle.std.proofs.Common.{◌≡◌, ℕ, ◌-◌, List, [], ◌++◌, ◌≢◌, inl, inr, refl, sym, subst, ap}
+use Rattle.std.proofs.Common.{◌≡◌, ℕ, ◌-◌, List, [], ◌++◌, ◌≢◌, inl, inr, refl, sym, subst, ap, Err}
 use Rattle.std.proofs.lemmas.List.{append-nil}
 use Rattle.prolly_entry.specs.Chunk.{Chunk}
 use Rattle.prolly_entry.specs.File.{header}
@@ -15,7 +15,8 @@ use Rattle.prolly_link.specs.declared.fault.RunFault.TheVariants.{Write}
 use Rattle.prolly_build.specs.Settings.{Settings}
 use Rattle.prolly_build.specs.Built.{IsBegun}
 use Rattle.prolly_build.specs.Writing.{HasWritten, IsEndFault, frames_of}
-use Rattle.prolly_build.specs.Ran.{IsWritten}
+use Rattle.prolly_build.specs.Ran.{IsWritten, HandsOn}
+use Rattle.prolly_build.specs.declared.end.halt.Halt.TheVariants.{NoThread, Lost}
 use Rattle.prolly_build.specs.declared.run.written.Written.{Written}
 use Rattle.prolly_build.specs.declared.run.written.Written.TheVariants.{Whole, TooTall, Failed}
 use Rattle.prolly_build.specs.declared.run.writer.Wrote.{Wrote}
@@ -50,6 +51,18 @@ ended_begun settings level events old before after written Clean fault h (inr ta
 
 pub all_begun : (settings : Settings) (last : Receiving Chunk) (old new : SinkView) (wrote : Wrote) → IsWritten settings last old new wrote → IsBegun settings old new
 all_begun settings last old new wrote h = written_begun settings (settings.stages - 1) wrote.last.items old new wrote.written h.written
+
+-- a level that could not meet a link, above a writer that wrote
+pub unmet_hands_on : {T : Type 0} (settings : Settings) (last : Receiving Chunk) (old new : SinkView) (untouched : Type 0) (got : Wrote) (none : T → Wrote) →
+    IsWritten settings last old new got → HandsOn settings last old new untouched (Err Lost) none
+unmet_hands_on settings last old new untouched got none h = record {
+  written = tt;
+  refused = λ e. absurd (lost_is_started e);
+  begun = all_begun settings last old new got h;
+}
+  where
+    lost_is_started : Lost ≡ NoThread → ⊥
+    lost_is_started e = cc
 
 -- a receiver that had given nothing has given all that it gave since
 between_all : (before after : List Chunk) → before ≡ [] → items_between before after ≡ after

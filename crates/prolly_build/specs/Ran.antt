@@ -1,5 +1,5 @@
 -- What the driver's parts give back.
-use Rattle.std.specs.Prelude.{◌≡◌, ℕ, ◌-◌, ◌+◌, List, [], ◌∷◌}
+use Rattle.std.specs.Prelude.{◌≡◌, ℕ, ◌-◌, ◌+◌, List, [], ◌∷◌, Result, IfOk, IfErr}
 use Rattle.prolly_entry.specs.Chunk.{Chunk}
 use Rattle.prolly_entry.specs.Record.{Record}
 use Rattle.prolly_entry.specs.File.{header}
@@ -13,6 +13,7 @@ use Rattle.prolly_link.specs.declared.fault.RunFault.TheVariants.{NoThread as No
 use Rattle.prolly_build.specs.declared.end.halt.Halt.{Halt}
 use Rattle.prolly_build.specs.declared.end.halt.Halt.TheVariants.{NoThread, Lost}
 use Rattle.prolly_build.specs.Settings.{Settings}
+use Rattle.prolly_build.specs.Built.{IsBegun}
 use Rattle.prolly_build.specs.Writing.{HasWritten}
 use Rattle.prolly_build.specs.Workers.{IsLoadedFrom}
 use Rattle.prolly_build.specs.declared.run.writer.Wrote.{Wrote}
@@ -23,6 +24,16 @@ pub record IsWritten (settings : Settings) (last : Receiving Chunk) (old new : S
   pub has_ended : HasEnded wrote.last.progress
   pub end_is : wrote.end ≡ end_given wrote.last.progress
   pub written : HasWritten (header settings.version settings.bits) (settings.stages - 1) wrote.last.items old new wrote.written
+
+-- What each level of the run hands on of the writer at its bottom, whose part of the result `wrote` names.
+pub record HandsOn {T : Type 0} (settings : Settings) (last : Receiving Chunk) (old new : SinkView) (untouched : Type 0)
+    (result : Result T Halt) (wrote : T → Wrote) : Type 0 where
+  -- All workers were met: the writer has received the last link to its end, and has written what it received.
+  pub written : IfOk result (λ t. IsWritten settings last old new (wrote t))
+  -- A worker was not started: the sink is as it was.
+  pub refused : IfErr result (λ halt. halt ≡ NoThread → untouched)
+  -- Some worker was not started or not met: no end record is begun.
+  pub begun : IfErr result (λ halt. IsBegun settings old new)
 
 -- Each source was loaded into the output of its place, the first one being file number `file`.
 abbrev pub AreLoaded : {S : Type 0} → (S → SourceView) → ℕ → ℕ → List S → List (Batching Record) → List S → List (Whole Record) → Type 0

@@ -2,10 +2,8 @@
 ghost use Rattle.std.specs.Prelude.{◌≡◌, ◌≢◌, ◌+◌, ◌<◌, ◌≤◌, ◌↔◌, Err, vec_len, IfOk, IfErr};
 ghost use Rattle.prolly_link.specs.declared.fault.RunFault.TheVariants.{TooManyFiles};
 ghost use Rattle.prolly_build.specs.Settings.{AreLawful};
-ghost use Rattle.prolly_build.specs.Ran.{IsWritten};
+ghost use Rattle.prolly_build.specs.Ran.{HandsOn};
 ghost use Rattle.prolly_build.specs.Staging.{HasStaged};
-ghost use Rattle.prolly_build.specs.declared.end.halt.Halt.TheVariants.{NoThread};
-ghost use Rattle.prolly_build.specs.Built.{IsBegun};
 ghost use Rattle.prolly_build.specs.Outcome.{IsOutcome};
 
 use crate::config::Config;
@@ -51,12 +49,9 @@ fn run_in<
     requires levels { vec_len rings.events < 12 }
     requires files { (rings.feed.files ≡ vec_len sources.old) × (vec_len sources.old ≤ 16) }
     ensures link { IfOk result (λ ran. ran.out.link ≡ ran.wrote.last.link) }
-    ensures written { IfOk result (λ ran. IsWritten config rings.last.receiver
-        (W.seen sink.old) (W.seen sink.new) ran.wrote) }
+    ensures hands_on { HandsOn config rings.last.receiver
+        (W.seen sink.old) (W.seen sink.new) (sink.new ≡ sink.old) result (λ ran. ran.wrote) }
     ensures staged { IfOk result (λ ran. HasStaged S.seen config (vec_len rings.events) sources.old.items sources.new.items ran.out.items ran.out.end ran.pairs) }
-    ensures refused { IfErr result (λ halt. halt ≡ NoThread → sink.new ≡ sink.old) }
-    ensures begun { IfErr result (λ halt. IsBegun config
-        (W.seen sink.old) (W.seen sink.new)) }
 {
     let Rings {
         last,
@@ -105,12 +100,9 @@ fn run_workers<R: Wait + Threads + Sync, S: Source + Send + Drop, W: Sink, G: Ga
         move |scope| -> (Result<Ran, Halt>, Vec<S>, &mut W)
             requires { (vec_len rings.events < 12) × (rings.feed.files ≡ vec_len lent) × (vec_len lent ≤ 16) }
             ensures link { IfOk result.0 (λ ran. ran.out.link ≡ ran.wrote.last.link) }
-            ensures written { IfOk result.0 (λ ran. IsWritten config rings.last.receiver
-                (W.seen sink.entry.now) (W.seen result.2.now) ran.wrote) }
+            ensures hands_on { HandsOn config rings.last.receiver (W.seen sink.entry.now) (W.seen result.2.now)
+                (result.2.now ≡ sink.entry.now) result.0 (λ ran. ran.wrote) }
             ensures staged { IfOk result.0 (λ ran. HasStaged S.seen config (vec_len rings.events) lent.items result.1.items ran.out.items ran.out.end ran.pairs) }
-            ensures refused { IfErr result.0 (λ halt. halt ≡ NoThread → result.2.now ≡ sink.entry.now) }
-            ensures begun { IfErr result.0 (λ halt. IsBegun config
-                (W.seen sink.entry.now) (W.seen result.2.now)) }
             ensures same { result.2.ghost_name ≡ sink.entry.ghost_name }
         {
             let ran = run_in(

@@ -1,11 +1,9 @@
 //! The last merger, and all workers below it.
-ghost use Rattle.std.specs.Prelude.{◌≡◌, ◌+◌, ◌<◌, ◌≤◌, [], All, map, vec_len, vec_capacity, IsTrue, IfOk, IfErr};
+ghost use Rattle.std.specs.Prelude.{◌≡◌, ◌+◌, ◌<◌, ◌≤◌, [], All, map, vec_len, vec_capacity, IsTrue, IfOk};
 ghost use Rattle.prolly_link.specs.Receipts.{HasEnded};
-ghost use Rattle.prolly_build.specs.Built.{IsBegun};
-ghost use Rattle.prolly_build.specs.Ran.{IsWritten, IsUnsent, IsUnread};
+ghost use Rattle.prolly_build.specs.Ran.{HandsOn, IsUnsent, IsUnread};
 ghost use Rattle.prolly_build.specs.Merging.{received_input, sent_input};
 ghost use Rattle.prolly_build.specs.Gathering.{IsGathered};
-ghost use Rattle.prolly_build.specs.declared.end.halt.Halt.TheVariants.{NoThread};
 
 use crate::end::halt::{Halt, close_all, refuse};
 use crate::links::feed::Feed;
@@ -76,13 +74,10 @@ pub(crate) fn gather<
     requires unsent { out.items ≡ [] }
     requires unread { last.items ≡ [] }
     ensures link { IfOk result (λ gathered. gathered.out.link ≡ out.link) }
-    ensures written { IfOk result (λ gathered. IsWritten site.now.config last
-        (W.seen sink.old) (W.seen sink.new) gathered.wrote) }
+    ensures hands_on { HandsOn site.now.config last
+        (W.seen sink.old) (W.seen sink.new) (sink.new ≡ sink.old) result (λ gathered. gathered.wrote) }
     ensures gathered { IfOk result (λ gathered. IsGathered S.seen site.now.config.max_records
         sources.old.items sources.new.items gathered.out.items gathered.out.end gathered.pairs) }
-    ensures refused { IfErr result (λ halt. halt ≡ NoThread → sink.new ≡ sink.old) }
-    ensures begun { IfErr result (λ halt. IsBegun site.now.config
-        (W.seen sink.old) (W.seen sink.new)) }
 {
     let Feed {
         files: _,

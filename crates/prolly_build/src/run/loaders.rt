@@ -1,8 +1,6 @@
 //! The loaders of all files, and the writer below them.
-ghost use Rattle.std.specs.Prelude.{◌≡◌, ◌+◌, ◌<◌, ◌≤◌, [], All, vec_len, vec_capacity, IfOk, IfErr, OnOk};
-ghost use Rattle.prolly_build.specs.Built.{IsBegun};
-ghost use Rattle.prolly_build.specs.Ran.{IsWritten, IsUnsent, AreLoaded};
-ghost use Rattle.prolly_build.specs.declared.end.halt.Halt.TheVariants.{NoThread};
+ghost use Rattle.std.specs.Prelude.{◌≡◌, ◌+◌, ◌<◌, ◌≤◌, [], All, vec_len, vec_capacity, OnOk};
+ghost use Rattle.prolly_build.specs.Ran.{HandsOn, IsUnsent, AreLoaded};
 
 use crate::end::halt::{Halt, close_all, refuse};
 use crate::run::lists::{pop_first, push_first};
@@ -43,12 +41,9 @@ pub(crate) fn load_all<
     requires room { (closed.old.items ≡ []) × (vec_len outs ≤ vec_capacity closed.old) }
     requires unsent { All IsUnsent outs.items }
     requires unread { last.items ≡ [] }
-    ensures written { IfOk result (IsWritten site.now.config last
-        (W.seen sink.old) (W.seen sink.new)) }
+    ensures hands_on { HandsOn site.now.config last
+        (W.seen sink.old) (W.seen sink.new) (sink.new ≡ sink.old) result (λ wrote. wrote) }
     ensures loaded { OnOk result (AreLoaded S.seen site.now.config.max_records file sources.old.items outs.items sources.new.items closed.new.items) }
-    ensures refused { IfErr result (λ halt. halt ≡ NoThread → sink.new ≡ sink.old) }
-    ensures begun { IfErr result (λ halt. IsBegun site.now.config
-        (W.seen sink.old) (W.seen sink.new)) }
     ensures fewer { (vec_len sources.new ≤ vec_len sources.old) × (vec_capacity sources.old ≤ vec_capacity sources.new) }
     ensures filled { (vec_len closed.new ≤ vec_len closed.old + vec_len outs) × (vec_capacity closed.old ≤ vec_capacity closed.new) }
 {

@@ -1,9 +1,7 @@
 //! The tree of mergers of two, and the loaders below it.
-ghost use Rattle.std.specs.Prelude.{◌≡◌, ◌+◌, ◌<◌, ◌≤◌, [], All, vec_len, vec_capacity, IfOk, IfErr, OnOk};
-ghost use Rattle.prolly_build.specs.Built.{IsBegun};
-ghost use Rattle.prolly_build.specs.Ran.{IsWritten, IsUnsent};
+ghost use Rattle.std.specs.Prelude.{◌≡◌, ◌+◌, ◌<◌, ◌≤◌, [], All, vec_len, vec_capacity, OnOk};
+ghost use Rattle.prolly_build.specs.Ran.{HandsOn, IsUnsent};
 ghost use Rattle.prolly_build.specs.Feeding.{IsFed};
-ghost use Rattle.prolly_build.specs.declared.end.halt.Halt.TheVariants.{NoThread};
 
 use crate::end::halt::{Halt, close_all, refuse};
 use crate::links::fork::Fork;
@@ -49,12 +47,9 @@ pub(crate) fn merge_tree<
     requires room { (closed.old.items ≡ []) × (vec_len sources.old ≤ vec_capacity closed.old) × (vec_len sources.old ≤ vec_capacity outs) }
     requires unsent { All IsUnsent outs.items }
     requires unread { last.items ≡ [] }
-    ensures written { IfOk result (IsWritten site.now.config last
-        (W.seen sink.old) (W.seen sink.new)) }
+    ensures hands_on { HandsOn site.now.config last
+        (W.seen sink.old) (W.seen sink.new) (sink.new ≡ sink.old) result (λ wrote. wrote) }
     ensures fed { OnOk result (IsFed S.seen site.now.config.max_records sources.old.items sources.new.items outs.items closed.new.items) }
-    ensures refused { IfErr result (λ halt. halt ≡ NoThread → sink.new ≡ sink.old) }
-    ensures begun { IfErr result (λ halt. IsBegun site.now.config
-        (W.seen sink.old) (W.seen sink.new)) }
 {
     let mut forks = forks;
     let mut outs = outs;

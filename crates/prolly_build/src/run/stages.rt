@@ -1,9 +1,7 @@
 //! The stages, one above the other, and all workers below them.
-ghost use Rattle.std.specs.Prelude.{◌≡◌, ◌<◌, ◌≤◌, [], vec_len, IfOk, IfErr};
-ghost use Rattle.prolly_build.specs.Built.{IsBegun};
-ghost use Rattle.prolly_build.specs.Ran.{IsWritten};
+ghost use Rattle.std.specs.Prelude.{◌≡◌, ◌<◌, ◌≤◌, [], vec_len, IfOk};
+ghost use Rattle.prolly_build.specs.Ran.{HandsOn};
 ghost use Rattle.prolly_build.specs.Staging.{HasStaged};
-ghost use Rattle.prolly_build.specs.declared.end.halt.Halt.TheVariants.{NoThread};
 
 use crate::end::halt::{Halt, refuse};
 use crate::links::feed::Feed;
@@ -53,12 +51,9 @@ fn run_from_leaves<
     requires unsent { out.items ≡ [] }
     requires unread { last.items ≡ [] }
     ensures link { IfOk result (λ ran. ran.out.link ≡ out.link) }
-    ensures written { IfOk result (λ ran. IsWritten site.now.config last
-        (W.seen sink.old) (W.seen sink.new) ran.wrote) }
+    ensures hands_on { HandsOn site.now.config last
+        (W.seen sink.old) (W.seen sink.new) (sink.new ≡ sink.old) result (λ ran. ran.wrote) }
     ensures staged { IfOk result (λ ran. HasStaged S.seen site.now.config 0 sources.old.items sources.new.items ran.out.items ran.out.end ran.pairs) }
-    ensures refused { IfErr result (λ halt. halt ≡ NoThread → sink.new ≡ sink.old) }
-    ensures begun { IfErr result (λ halt. IsBegun site.now.config
-        (W.seen sink.old) (W.seen sink.new)) }
 {
     let NewLink { sender, receiver } = pairs;
     let Some(handle) = start_leaves(site, receiver, out) else {
@@ -110,12 +105,9 @@ pub(crate) fn run_from_top<
     requires unsent { out.items ≡ [] }
     requires unread { last.items ≡ [] }
     ensures link { IfOk result (λ ran. ran.out.link ≡ out.link) }
-    ensures written { IfOk result (λ ran. IsWritten site.now.config last
-        (W.seen sink.old) (W.seen sink.new) ran.wrote) }
+    ensures hands_on { HandsOn site.now.config last
+        (W.seen sink.old) (W.seen sink.new) (sink.new ≡ sink.old) result (λ ran. ran.wrote) }
     ensures staged { IfOk result (λ ran. HasStaged S.seen site.now.config (vec_len events) sources.old.items sources.new.items ran.out.items ran.out.end ran.pairs) }
-    ensures refused { IfErr result (λ halt. halt ≡ NoThread → sink.new ≡ sink.old) }
-    ensures begun { IfErr result (λ halt. IsBegun site.now.config
-        (W.seen sink.old) (W.seen sink.new)) }
 {
     let mut events = events;
     let Some(link) = events.pop() else {

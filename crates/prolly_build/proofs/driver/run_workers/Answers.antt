@@ -1,7 +1,8 @@
-use Rattle.std.proofs.Common.{◌≡◌, ap, sym, subst, ◌∙◌, arith, OnOk, rules}
+use Rattle.std.proofs.Common.{◌≡◌, ap, sym, subst, ◌∙◌, arith, OnOk}
 use Rattle.std.proofs.lemmas.Result.{IfErr-weaker}
 use Rattle.prolly_entry.specs.Overlay.{overlay}
 use Rattle.prolly_link.specs.declared.fault.End.TheVariants.{Clean}
+use Rattle.prolly_build.specs.Built.{IsBegun}
 use Rattle.prolly_build.specs.Outcome.{IsOutcome}
 use Rattle.prolly_build.proofs.Makings.{at_ok, at_err, if_ok, if_ok_any}
 use Rattle.prolly_build.proofs.Runs.{lent_run, built, not_built, halted_counted, halted_refusal, not_counted, halted_unmade, halted_unrefused, halted_unstopped, stopped}
@@ -23,7 +24,7 @@ finish-requires-clause-faults g c =
 
 pub finish-requires-clause-written : goal.finish-requires-clause-written
 finish-requires-clause-written g c =
-    let written = at_ok _ _ _ c.in-Ok.is c.scoped-ran.ensures.1.1.0 in
+    let written = at_ok _ _ _ c.in-Ok.is c.scoped-ran.ensures.1.1.0.written in
     (_, written.written)
 
 pub returns-in-Ok-clause-outcome : goal.returns-in-Ok-clause-outcome
@@ -34,9 +35,9 @@ returns-in-Ok-clause-outcome g c =
     let staged = at_ok _ _ _ c.in-Ok.is c.scoped-ran.ensures.1.1.1.0 in
     let r = lent_run g.S.Source.seen _ _ c.args.sources.now.items c.replace-lent.result.items c.scoped-ran.result.1.items _ c.requires.lawful
     (omega (arith, c.requires.files, c.args.sources.now.ok.0)) c.requires.levels (ap (λ v. v.items) c.replace-lent.ensures.value) _ _ staged in
-    let written = at_ok _ _ _ c.in-Ok.is c.scoped-ran.ensures.1.1.0 in
+    let written = at_ok _ _ _ c.in-Ok.is c.scoped-ran.ensures.1.1.0.written in
     let clean : OnOk c.finish.result (c.in-Ok.ran.out.end ≡ Clean) = c.finish.ensures.clean in
-    let back = c.sink-1.given.1 (sym c.scoped-ran.ensures.1.1.1.1.1.1) in
+    let back = c.sink-1.given.1 (sym c.scoped-ran.ensures.1.1.1.1) in
     subst (λ (w : g.row.W.Denot). IsOutcome g.S.Source.seen c.args.config before after (g.W.Sink.seen c.args.sink.now) (g.W.Sink.seen w)
     (w ≡ c.args.sink.now) c.finish.result) (sym back) (record {
       built = if_ok c.finish.result _ _ _ (λ clean report file. built r.goods (r.read clean) file) clean
@@ -62,8 +63,8 @@ returns-in-Ok-clause-started g c = IfErr-weaker c.finish.result _ _ not_counted 
 
 pub returns-in-Err-clause-outcome : goal.returns-in-Err-clause-outcome
 returns-in-Err-clause-outcome g c =
-    let e = at_err _ _ _ c.in-Err.is c.scoped-ran.ensures.1.1.1.1.0 in
-    let back = c.in-Err.sink-in-Err-1-own.given.1 (sym c.scoped-ran.ensures.1.1.1.1.1.1) in
+    let e = at_err _ _ _ c.in-Err.is c.scoped-ran.ensures.1.1.0.refused in
+    let back = c.in-Err.sink-in-Err-1-own.given.1 (sym c.scoped-ran.ensures.1.1.1.1) in
     let halted = halted_refusal c.in-Err.halt c.fault.result c.fault.ensures (λ n. back ∙ e n) in
     record {
       built = tt;
@@ -71,7 +72,8 @@ returns-in-Err-clause-outcome g c =
       unmade = λ w. absurd (halted_unmade c.in-Err.halt c.fault.result c.fault.ensures w);
       stopped = λ file. absurd (halted_unstopped c.in-Err.halt c.fault.result c.fault.ensures file);
       refused = λ memory. absurd (halted_unrefused c.in-Err.halt c.fault.result c.fault.ensures memory);
-      begun = search rules;
+      begun = λ other. subst (λ (w : g.row.W.Denot). IsBegun c.args.config (g.W.Sink.seen c.args.sink.now) (g.W.Sink.seen w)) (sym back)
+          (at_err _ _ _ c.in-Err.is c.scoped-ran.ensures.1.1.0.begun);
       unstarted = halted.unstarted;
       left_behind = halted.left_behind;
     }

@@ -11,17 +11,11 @@ start_loader-requires-after_bounds g t c κs within = all_first IsUnsent _ _ _ c
 pub load_all-wrote-requires-clause-unsent : goal.load_all-wrote-requires-clause-unsent
 load_all-wrote-requires-clause-unsent g t c κs within = all_rest IsUnsent _ _ _ c.in-Some.ensures.items c.requires.unsent
 
-pub returns-in_default-start_loader-clause-written : goal.returns-in_default-start_loader-clause-written
-returns-in_default-start_loader-clause-written g t c = tt
+pub returns-in_default-start_loader-clause-hands_on : goal.returns-in_default-start_loader-clause-hands_on
+returns-in_default-start_loader-clause-hands_on g t c = record { written = tt; refused = λ _. refl; begun = nothing_begun c.args.site.now.config _ }
 
 pub returns-in_default-start_loader-clause-loaded : goal.returns-in_default-start_loader-clause-loaded
 returns-in_default-start_loader-clause-loaded g t c = tt
-
-pub returns-in_default-start_loader-clause-refused : goal.returns-in_default-start_loader-clause-refused
-returns-in_default-start_loader-clause-refused g t c = λ _. refl
-
-pub returns-in_default-start_loader-clause-begun : goal.returns-in_default-start_loader-clause-begun
-returns-in_default-start_loader-clause-begun g t c = nothing_begun c.args.site.now.config _
 
 pub returns-in_default-clause-loaded : goal.returns-in_default-clause-loaded
 returns-in_default-clause-loaded g t c = grind (arith, common_steps) steps 2000000

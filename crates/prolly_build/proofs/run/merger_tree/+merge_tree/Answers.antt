@@ -4,15 +4,15 @@ use Rattle.prolly_entry.specs.Record.{Record}
 use Rattle.prolly_link.specs.Views.{Batching, Whole}
 use Rattle.prolly_build.specs.Ran.{IsUnsent}
 use Rattle.prolly_build.proofs.ForkSteps.{forked_one, forked_all, forked_maps, same_length}
-use Rattle.prolly_build.proofs.RanSteps.{all_begun, nothing_begun}
+use Rattle.prolly_build.proofs.RanSteps.{nothing_begun, unmet_hands_on}
 use Rattle.prolly_build.proofs.FeedingSteps.{fed_by_loaders, fed_by_merger, merges_met}
 use Rattle.prolly_build.proofs.run.merger_tree.+merge_tree.Goals as goal
 
 pub returns-in_default-start_two : goal.returns-in_default-start_two
-returns-in_default-start_two g t c = record { written = tt; fed = tt; refused = λ _. refl; begun = nothing_begun c.args.site.now.config _ }
+returns-in_default-start_two g t c = record { fed = tt; hands_on = record { written = tt; refused = λ _. refl; begun = nothing_begun c.args.site.now.config _ } }
 
 pub returns-in-Err : goal.returns-in-Err
-returns-in-Err g t c = record { written = tt; fed = tt; refused = c.in-Err.ensures.refused; begun = c.in-Err.ensures.begun }
+returns-in-Err g t c = record { fed = tt; hands_on = c.in-Err.ensures.hands_on }
 
 pub returns-in_default-clause-fed : goal.returns-in_default-clause-fed
 returns-in_default-clause-fed g t c =
@@ -50,5 +50,5 @@ returns-then-right_met-clause-fed g t c =
     (c.has_met-left_met.ensures c.if-left_met.true c.join-left.ensures.left_ended)
     (c.has_met-right_met.ensures c.if-right_met.true c.join-left.ensures.right_ended))
 
-pub returns-else-left_met-clause-begun : goal.returns-else-left_met-clause-begun
-returns-else-left_met-clause-begun g t c = all_begun c.args.site.now.config _ _ _ _ c.in-Ok.ensures.written
+pub returns-else-left_met-clause-hands_on : goal.returns-else-left_met-clause-hands_on
+returns-else-left_met-clause-hands_on g t c = unmet_hands_on _ _ _ _ _ _ _ c.in-Ok.ensures.hands_on.written

@@ -1,13 +1,13 @@
 use Rattle.std.proofs.Common.{◌∙◌, vec_len, arith, refl}
-use Rattle.prolly_build.proofs.RanSteps.{all_begun, nothing_begun}
+use Rattle.prolly_build.proofs.RanSteps.{nothing_begun, unmet_hands_on}
 use Rattle.prolly_build.proofs.StagingSteps.{nodes_staged}
 use Rattle.prolly_build.proofs.run.stages.+run_from_top.Goals as goal
 
 pub returns-in_default-start_nodes : goal.returns-in_default-start_nodes
-returns-in_default-start_nodes g t c = record { link = tt; written = tt; staged = tt; refused = λ _. refl; begun = nothing_begun c.args.site.now.config _ }
+returns-in_default-start_nodes g t c = record { link = tt; staged = tt; hands_on = record { written = tt; refused = λ _. refl; begun = nothing_begun c.args.site.now.config _ } }
 
 pub returns-in-Err : goal.returns-in-Err
-returns-in-Err g t c = record { link = tt; written = tt; staged = tt; refused = c.in-Err.ensures.refused; begun = c.in-Err.ensures.begun }
+returns-in-Err g t c = record { link = tt; staged = tt; hands_on = c.in-Err.ensures.hands_on }
 
 pub returns-then-has_met-clause-staged : goal.returns-then-has_met-clause-staged
 returns-then-has_met-clause-staged g t c =
@@ -19,5 +19,5 @@ returns-then-has_met-clause-staged g t c =
     _ _ c.join-input.result.input c.join-input.result.out c.in-Ok.ran.out c.in-Ok.ensures.staged c.join-input.ensures
     (c.has_met.ensures c.if-has_met.true c.join-input.ensures.has_ended)
 
-pub returns-else-has_met-clause-begun : goal.returns-else-has_met-clause-begun
-returns-else-has_met-clause-begun g t c = all_begun c.args.site.now.config _ _ _ _ c.in-Ok.ensures.written
+pub returns-else-has_met-clause-hands_on : goal.returns-else-has_met-clause-hands_on
+returns-else-has_met-clause-hands_on g t c = unmet_hands_on _ _ _ _ _ _ _ c.in-Ok.ensures.hands_on.written

@@ -1,13 +1,13 @@
 use Rattle.std.proofs.Common.{ap, ◌∙◌, sym, refl}
-use Rattle.prolly_build.proofs.RanSteps.{all_begun, nothing_begun}
+use Rattle.prolly_build.proofs.RanSteps.{nothing_begun, unmet_hands_on}
 use Rattle.prolly_build.proofs.StagingSteps.{leaves_staged}
 use Rattle.prolly_build.proofs.run.stages.run_from_leaves.Goals as goal
 
 pub returns-in_default : goal.returns-in_default
-returns-in_default g c = record { link = tt; written = tt; staged = tt; refused = λ _. refl; begun = nothing_begun c.args.site.now.config _ }
+returns-in_default g c = record { link = tt; staged = tt; hands_on = record { written = tt; refused = λ _. refl; begun = nothing_begun c.args.site.now.config _ } }
 
 pub returns-in-Err : goal.returns-in-Err
-returns-in-Err g c = record { link = tt; written = tt; staged = tt; refused = c.in-Err.ensures.refused; begun = c.in-Err.ensures.begun }
+returns-in-Err g c = record { link = tt; staged = tt; hands_on = record { written = tt; refused = c.in-Err.ensures.hands_on.refused; begun = c.in-Err.ensures.hands_on.begun } }
 
 pub has_met-requires : goal.has_met-requires
 has_met-requires g c =
@@ -25,5 +25,5 @@ returns-then-has_met-clause-staged g c =
     leaves_staged g.S.Source.seen c.args.site.now.config _ _ _ _ c.in-Some.ensures.cut
     _ _ c.join-input.result.input c.join-input.result.out c.in-Ok.gathered.out c.in-Ok.ensures.gathered stage (c.has_met.ensures c.if-has_met.true stage.has_ended)
 
-pub returns-else-has_met-clause-begun : goal.returns-else-has_met-clause-begun
-returns-else-has_met-clause-begun g c = all_begun c.args.site.now.config _ _ _ _ c.in-Ok.ensures.written
+pub returns-else-has_met-clause-hands_on : goal.returns-else-has_met-clause-hands_on
+returns-else-has_met-clause-hands_on g c = unmet_hands_on _ _ _ _ _ _ _ c.in-Ok.ensures.hands_on.written
