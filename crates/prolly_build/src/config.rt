@@ -126,7 +126,7 @@ impl Config {
     /// The level of the last stage.
     pub(crate) fn last_level(&self) -> u8
         ensures value { result ≡ self.now.stages - 1 }
-        ensures range { (1 ≤ self.now.stages) × (self.now.stages ≤ 12) }
+        ensures lawful { AreLawful self.now }
     {
         self.stages - 1
     }
@@ -150,13 +150,6 @@ impl Config {
         ensures { (1 ≤ result) × (result ≤ 4096) }
     {
         self.capacity as usize
-    }
-
-    /// Does nothing: that its numbers are within their ranges is known of every value.
-    pub(crate) fn know_ranges(&self)
-        ensures { AreLawful self.now }
-    {
-        let _ = &self.bits;
     }
 
     /// How many items a message has at most.

@@ -165,7 +165,6 @@ pub fn build_with<R: Wait + Threads + Sync, S: Source + Send + Drop, W: Sink, G:
     let Ok(rings) = Rings::new(alloc, config, sources.len()) else {
         return Err(RunFault::Memory);
     };
-    config.know_ranges();
     run_workers(rt, alloc, *config, rings, sources, sink, gate, permit)
 }
 

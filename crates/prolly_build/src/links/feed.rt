@@ -60,8 +60,7 @@ fn new_heads(
 }
 
 /// Those links for so many files. The last merger has two inputs where there are two files or more, and one
-/// merger of two stands below it
-/// for each file more than two.
+/// merger of two stands below it for each file more than two.
 pub(crate) fn new_feed(alloc: Global, config: &Config, files: usize) -> Result<Feed, AllocError>
     ensures { IfOk result (λ feed. feed.files ≡ files) }
 {

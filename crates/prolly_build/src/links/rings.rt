@@ -1,5 +1,6 @@
 //! All links of a build, which are made before a worker starts.
 ghost use Rattle.std.specs.Prelude.{◌≡◌, ◌+◌, vec_len, IfOk};
+ghost use Rattle.prolly_build.specs.Settings.{AreLawful};
 
 use crate::config::Config;
 use crate::links::feed::{Feed, new_feed};
@@ -25,6 +26,7 @@ impl Rings {
     /// New links for so many files. Each has the memory of its ring and of one message.
     pub(crate) fn new(alloc: Global, config: &Config, files: usize) -> Result<Rings, AllocError>
         ensures files { IfOk result (λ rings. rings.feed.files ≡ files) }
+        ensures lawful { IfOk result (λ _. AreLawful config.now) }
         ensures levels { IfOk result (λ rings. vec_len rings.events + 1 ≡ config.now.stages) }
     {
         let ends = both(new_link(alloc, config), new_link(alloc, config));

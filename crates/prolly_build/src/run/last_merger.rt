@@ -34,14 +34,12 @@ pub(crate) struct Gathered {
 /// Meets the ends of each link. `false` where a receiver has lost its sender.
 fn all_have_met<R: Wait>(
     rt: &R,
-    closed: Vec<ClosedBatch<Record>>,
-    inputs: Vec<BatchReceiver<Record>>,
+    mut closed: Vec<ClosedBatch<Record>>,
+    mut inputs: Vec<BatchReceiver<Record>>,
 ) -> bool
     requires { map (λ c. c.link) closed.items ≡ map (λ r. r.link) inputs.items }
     ensures { IsTrue result → All (λ r. HasEnded r.progress) inputs.items → map received_input inputs.items ≡ map sent_input closed.items }
 {
-    let mut closed = closed;
-    let mut inputs = inputs;
     match (pop_first(&mut closed), pop_first(&mut inputs)) {
         (Some(sender), Some(receiver)) => {
             let first = has_met(rt, sender, receiver);
@@ -84,14 +82,13 @@ pub(crate) fn gather<
         forks,
         outs,
         inputs,
-        closed,
+        mut closed,
     } = feed;
     let number = forks.len() as u32;
     let Some(handle) = start_last(site, number, inputs, out) else {
         close_all(site.rt, outs);
         return Err(refuse(site.rt, (forks, closed), last));
     };
-    let mut closed = closed;
     let wrote = merge_tree(site, forks, outs, sources, &mut closed, last, sink);
     let LastEnds { inputs, out, pairs } = handle.join(site.rt);
     match wrote {

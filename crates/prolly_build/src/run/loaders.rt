@@ -30,7 +30,7 @@ pub(crate) fn load_all<
 >(
     site: &Site<'s, '_, E, R, G, P>,
     file: u32,
-    outs: Vec<BatchSender<Record>>,
+    mut outs: Vec<BatchSender<Record>>,
     sources: &mut Vec<S>,
     closed: &mut Vec<ClosedBatch<Record>>,
     last: BatchReceiver<ChunkEvent>,
@@ -47,7 +47,6 @@ pub(crate) fn load_all<
     ensures fewer { (vec_len sources.new ≤ vec_len sources.old) × (vec_capacity sources.old ≤ vec_capacity sources.new) }
     ensures filled { (vec_len closed.new ≤ vec_len closed.old + vec_len outs) × (vec_capacity closed.old ≤ vec_capacity closed.new) }
 {
-    let mut outs = outs;
     let Some(out) = pop_first(&mut outs) else {
         return Ok(write_all(site.rt, site.config, last, sink));
     };

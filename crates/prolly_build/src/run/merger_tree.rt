@@ -34,8 +34,8 @@ pub(crate) fn merge_tree<
     W: Sink,
 >(
     site: &Site<'s, '_, E, R, G, P>,
-    forks: Vec<Fork>,
-    outs: Vec<BatchSender<Record>>,
+    mut forks: Vec<Fork>,
+    mut outs: Vec<BatchSender<Record>>,
     sources: &mut Vec<S>,
     closed: &mut Vec<ClosedBatch<Record>>,
     last: BatchReceiver<ChunkEvent>,
@@ -51,8 +51,6 @@ pub(crate) fn merge_tree<
         (W.seen sink.old) (W.seen sink.new) (sink.new ≡ sink.old) result (λ wrote. wrote) }
     ensures fed { OnOk result (IsFed S.seen site.now.config.max_records sources.old.items sources.new.items outs.items closed.new.items) }
 {
-    let mut forks = forks;
-    let mut outs = outs;
     let Some(fork) = forks.pop() else {
         return load_all(site, 0, outs, sources, closed, last, sink);
     };

@@ -92,7 +92,7 @@ pub(crate) fn run_from_top<
     W: Sink,
 >(
     site: &Site<'s, '_, E, R, G, P>,
-    events: Vec<NewLink<ChunkEvent>>,
+    mut events: Vec<NewLink<ChunkEvent>>,
     pairs: NewLink<Pair>,
     feed: Feed,
     out: BatchSender<ChunkEvent>,
@@ -109,7 +109,6 @@ pub(crate) fn run_from_top<
         (W.seen sink.old) (W.seen sink.new) (sink.new ≡ sink.old) result (λ ran. ran.wrote) }
     ensures staged { IfOk result (λ ran. HasStaged S.seen site.now.config (vec_len events) sources.old.items sources.new.items ran.out.items ran.out.end ran.pairs) }
 {
-    let mut events = events;
     let Some(link) = events.pop() else {
         return run_from_leaves(site, pairs, feed, out, sources, last, sink);
     };

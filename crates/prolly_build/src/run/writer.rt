@@ -25,7 +25,7 @@ pub(crate) struct Wrote {
 pub(crate) fn write_all<R: Wait, W: Sink>(
     rt: &R,
     config: Config,
-    last: BatchReceiver<ChunkEvent>,
+    mut last: BatchReceiver<ChunkEvent>,
     sink: &mut W,
 ) -> Wrote
     requires { last.items ≡ [] }
@@ -33,7 +33,6 @@ pub(crate) fn write_all<R: Wait, W: Sink>(
         (W.seen sink.old) (W.seen sink.new) result }
 {
     let begun = Written::begin(sink, config.version(), config.bits());
-    let mut last = last;
     let (written, end) = write_events(rt, &mut last, sink, config.last_level(), begun);
     Wrote { last, end, written }
 }
