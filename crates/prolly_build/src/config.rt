@@ -31,9 +31,9 @@ pub enum ConfigFault {
     BadVersion,
 }
 
-/// What a build is set to. Bits and version decide what the chunk file holds; stages and the greatest
-/// number of records are limits; capacity and batch change only memory and time: a link holds at most
-/// their product of items, and larger batches cost less an item.
+/// What a build is set to. Bits and version decide what the chunk file holds; stages and the
+/// greatest number of records are limits; capacity and batch change only memory and time: a link
+/// holds at most their product of items, and larger batches cost less an item.
 #[derive(Clone, Copy, Debug, PartialEq, Eq)]
 pub struct Config {
     bits: u8,
@@ -49,19 +49,41 @@ impl Model for Config {
 
     ghost Value = { Settings };
 
-    ghost view = { λ c. record { bits = c.bits; stages = c.stages; capacity = c.capacity; max_records = c.max_records; batch = c.batch; version = c.version } };
+    ghost view = { λ c. record {
+      bits = c.bits;
+      stages = c.stages;
+      capacity = c.capacity;
+      max_records = c.max_records;
+      batch = c.batch;
+      version = c.version;
+    } };
 
-    ghost invariant = { λ c. AreLawful (record { bits = c.bits; stages = c.stages; capacity = c.capacity; max_records = c.max_records; batch = c.batch; version = c.version }) };
+    ghost invariant = { λ c. AreLawful (record {
+      bits = c.bits;
+      stages = c.stages;
+      capacity = c.capacity;
+      max_records = c.max_records;
+      batch = c.batch;
+      version = c.version;
+    }) };
 
-    ghost inverse = { λ s. record { bits = s.bits; stages = s.stages; capacity = s.capacity; max_records = s.max_records; batch = s.batch; version = s.version } };
+    ghost inverse = { λ s. record {
+      bits = s.bits;
+      stages = s.stages;
+      capacity = s.capacity;
+      max_records = s.max_records;
+      batch = s.batch;
+      version = s.version;
+    } };
 }
 
 impl Config {
-    /// The bits of the cut (0 to 24), the greatest number of levels (1 to 12), how many messages a link
-    /// holds (1 to 4,096) and how many records a file has at most (1 to 16,777,216). The first number
-    /// that is outside its range is told. Each message has one item, and the version is One.
+    /// The bits of the cut (0 to 24), the greatest number of levels (1 to 12), how many messages a
+    /// link holds (1 to 4,096) and how many records a file has at most (1 to 16,777,216). The first
+    /// number that is outside its range is told. Each message has one item, and the version is One.
     pub fn new(bits: u8, stages: u8, capacity: u32, max_records: u32) -> Result<Config, ConfigFault>
-        ensures ok { IfOk result (λ config. config ≡ first_settings bits stages capacity max_records) }
+        ensures ok { IfOk result
+            (λ config. config ≡ first_settings bits stages capacity max_records) }
         ensures err { IfErr result (IsConfigFault bits stages capacity max_records) }
     {
         if bits > 24 {
@@ -99,7 +121,8 @@ impl Config {
 
     /// The same with the version of the chunk file that a byte stands for (1 or 2).
     pub fn with_version(self, version: u8) -> Result<Config, ConfigFault>
-        ensures ok { IfOk result (λ config. (config ≡ record self { version = config.version }) × (version_byte config.version ≡ version)) }
+        ensures ok { IfOk result (λ config. (config ≡ record self { version = config.version }) ×
+            (version_byte config.version ≡ version)) }
         ensures err { IfErr result (λ fault. (fault ≡ BadVersion) × (version ≢ 1) × (version ≢ 2)) }
     {
         match Version::of(version) {

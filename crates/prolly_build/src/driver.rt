@@ -51,7 +51,8 @@ fn run_in<
     ensures link { IfOk result (λ ran. ran.out.link ≡ ran.wrote.last.link) }
     ensures hands_on { HandsOn config rings.last.receiver
         (W.seen sink.old) (W.seen sink.new) (sink.new ≡ sink.old) result (λ ran. ran.wrote) }
-    ensures staged { IfOk result (λ ran. HasStaged S.seen config (vec_len rings.events) sources.old.items sources.new.items ran.out.items ran.out.end ran.pairs) }
+    ensures staged { IfOk result (λ ran. HasStaged S.seen config (vec_len rings.events)
+        sources.old.items sources.new.items ran.out.items ran.out.end ran.pairs) }
 {
     let Rings {
         last,
@@ -74,8 +75,8 @@ fn run_in<
     run_from_top(&site, events, pairs, feed, out, sources, last, sink)
 }
 
-/// Runs all workers over these links, and the writer on this thread, until all of them have ended; then ends
-/// the file.
+/// Runs all workers over these links, and the writer on this thread, until all of them have ended;
+/// then ends the file.
 fn run_workers<R: Wait + Threads + Sync, S: Source + Send + Drop, W: Sink, G: Gate, P: Permit>(
     rt: &R,
     alloc: Global,
@@ -89,7 +90,8 @@ fn run_workers<R: Wait + Threads + Sync, S: Source + Send + Drop, W: Sink, G: Ga
     requires lawful { AreLawful config }
     requires levels { vec_len rings.events + 1 ≡ config.stages }
     requires files { (rings.feed.files ≡ vec_len sources.old) × (vec_len sources.old ≤ 16) }
-    ensures outcome { IsOutcome S.seen config sources.old.items sources.new.items (W.seen sink.old) (W.seen sink.new)
+    ensures outcome { IsOutcome S.seen config sources.old.items sources.new.items (W.seen sink.old)
+        (W.seen sink.new)
         (sink.new ≡ sink.old) result }
     ensures started { IfErr result (λ fault. fault ≢ TooManyFiles) }
 {
@@ -98,11 +100,14 @@ fn run_workers<R: Wait + Threads + Sync, S: Source + Send + Drop, W: Sink, G: Ga
         thread::scope_env(),
         rt,
         move |scope| -> (Result<Ran, Halt>, Vec<S>, &mut W)
-            requires { (vec_len rings.events < 12) × (rings.feed.files ≡ vec_len lent) × (vec_len lent ≤ 16) }
+            requires { (vec_len rings.events < 12) × (rings.feed.files ≡ vec_len lent) ×
+                (vec_len lent ≤ 16) }
             ensures link { IfOk result.0 (λ ran. ran.out.link ≡ ran.wrote.last.link) }
-            ensures hands_on { HandsOn config rings.last.receiver (W.seen sink.entry.now) (W.seen result.2.now)
+            ensures hands_on { HandsOn config rings.last.receiver (W.seen sink.entry.now)
+                (W.seen result.2.now)
                 (result.2.now ≡ sink.entry.now) result.0 (λ ran. ran.wrote) }
-            ensures staged { IfOk result.0 (λ ran. HasStaged S.seen config (vec_len rings.events) lent.items result.1.items ran.out.items ran.out.end ran.pairs) }
+            ensures staged { IfOk result.0 (λ ran. HasStaged S.seen config (vec_len rings.events)
+                lent.items result.1.items ran.out.items ran.out.end ran.pairs) }
             ensures same { result.2.ghost_name ≡ sink.entry.ghost_name }
         {
             let ran = run_in(
@@ -118,34 +123,35 @@ fn run_workers<R: Wait + Threads + Sync, S: Source + Send + Drop, W: Sink, G: Ga
     }
 }
 
-/// Builds the chunk file of the overlay of record files: each file is read and checked in a thread of its
-/// own, the files are merged by a tree of threads, and each level of the tree of chunks is cut in a thread of
-/// its own, while this thread writes the chunks as they come. A later file wins a key, and a removal takes
-/// the key of earlier files away. Source number i is file i.
+/// Builds the chunk file of the overlay of record files: each file is read and checked in a thread
+/// of its own, the files are merged by a tree of threads, and each level of the tree of chunks is
+/// cut in a thread of its own, while this thread writes the chunks as they come. A later file wins
+/// a key, and a removal takes the key of earlier files away. Source number i is file i.
 ///
 /// The answer is the first of these that holds:
 ///
-/// - `TooManyFiles`, for more than 16 sources, and `Memory`, where the links can't be made: nothing was
-///   started, and nothing is written.
-/// - `NoThread`, where a worker may not start or no thread can be had for it. Those that run have ended, and
-///   nothing is written.
-/// - A fault of a record file: of all files that have one, that of the file whose last good key is least, of
-///   equal ones the first. `Memory`, where a worker was refused memory. `Lost`, where a worker was lost.
+/// - `TooManyFiles`, for more than 16 sources, and `Memory`, where the links can't be made: nothing
+///   was started, and nothing is written.
+/// - `NoThread`, where a worker may not start or no thread can be had for it. Those that run have
+///   ended, and nothing is written.
+/// - A fault of a record file: of all files that have one, that of the file whose last good key is
+///   least, of equal ones the first. `Memory`, where a worker was refused memory. `Lost`, where a
+///   worker was lost.
 /// - `Write`, where the sink failed.
 /// - `TooTall`, where the tree has more levels than there are stages.
 ///
-/// After a fault the sink holds the beginning of a file, and nothing of its end record; after `Write` that
-/// may have been begun. After every answer but `NoThread` and `Lost` the sources are there in their order,
-/// each as its loader left it; after those two some may be gone.
+/// After a fault the sink holds the beginning of a file, and nothing of its end record; after
+/// `Write` that may have been begun. After every answer but `NoThread` and `Lost` the sources are
+/// there in their order, each as its loader left it; after those two some may be gone.
 ///
 /// Before a worker sends an item `gate` is asked, and before a worker is started `permit`.
 ///
-/// Takes the hash of each entry and of each chunk: that of a chunk in the thread of the level above, or in
-/// the caller's where there is none, that of a child's entry in the thread of its level, and that of a pair
-/// where there is time for it, in its loader, in the last merger or in the thread of the leaves. Takes the
-/// memory of the links, as many items as capacity and batch allow for each, of long ones up to 96 KiB for each
-/// message of its capacity; of one buffer a file; and of one open chunk a level: whatever number of records the files
-/// have.
+/// Takes the hash of each entry and of each chunk: that of a chunk in the thread of the level
+/// above, or in the caller's where there is none, that of a child's entry in the thread of its
+/// level, and that of a pair where there is time for it, in its loader, in the last merger or in
+/// the thread of the leaves. Takes the memory of the links, as many items as capacity and batch
+/// allow for each, of long ones up to 96 KiB for each message of its capacity; of one buffer a
+/// file; and of one open chunk a level: whatever number of records the files have.
 pub fn build_with<R: Wait + Threads + Sync, S: Source + Send + Drop, W: Sink, G: Gate, P: Permit>(
     rt: &R,
     alloc: Global,
@@ -156,7 +162,8 @@ pub fn build_with<R: Wait + Threads + Sync, S: Source + Send + Drop, W: Sink, G:
     permit: &P,
 ) -> Result<Report, RunFault>
     ensures too_many { (result ≡ Err TooManyFiles) ↔ (16 < vec_len sources.old) }
-    ensures outcome { IsOutcome S.seen config.now sources.old.items sources.new.items (W.seen sink.old) (W.seen sink.new)
+    ensures outcome { IsOutcome S.seen config.now sources.old.items sources.new.items
+        (W.seen sink.old) (W.seen sink.new)
         (sink.new ≡ sink.old) result }
 {
     if sources.len() > FILES_LIMIT {
@@ -178,7 +185,8 @@ pub fn build<R: Wait + Threads + Sync, S: Source + Send + Drop, W: Sink, G: Gate
     gate: &G,
 ) -> Result<Report, RunFault>
     ensures too_many { (result ≡ Err TooManyFiles) ↔ (16 < vec_len sources.old) }
-    ensures outcome { IsOutcome S.seen config.now sources.old.items sources.new.items (W.seen sink.old) (W.seen sink.new)
+    ensures outcome { IsOutcome S.seen config.now sources.old.items sources.new.items
+        (W.seen sink.old) (W.seen sink.new)
         (sink.new ≡ sink.old) result }
 {
     build_with(rt, alloc, config, sources, sink, gate, &AllStart)

@@ -1,4 +1,5 @@
-//! The start of each kind of worker, in a function of its own: what the worker promises, and its thread.
+//! The start of each kind of worker, in a function of its own: what the worker promises, and its
+//! thread.
 pub(crate) mod loaders;
 pub(crate) mod mergers;
 pub(crate) mod permit;

@@ -37,31 +37,41 @@ pub(crate) fn finish<R: Wait, W: Sink>(
     requires end { ran.wrote.end ≡ end_given ran.wrote.last.progress }
     requires run { (m : List PairValue) × IsRunOf config m ran.out.items ran.out.end ran.pairs }
     requires faults { IsInputEnd ran.out.end }
-    requires written { (old : SinkView) × HasWritten (header config.version config.bits) (config.stages - 1) ran.wrote.last.items old
+    requires written { (old : SinkView) × HasWritten (header config.version config.bits)
+        (config.stages - 1) ran.wrote.last.items old
         (W.seen sink.old) ran.wrote.written }
-    ensures ok { (m : List PairValue) (old : SinkView) → IsRunOf config m ran.out.items ran.out.end ran.pairs →
+    ensures ok { (m : List PairValue) (old : SinkView) →
+        IsRunOf config m ran.out.items ran.out.end ran.pairs →
         HasWritten (header config.version config.bits) (config.stages - 1) ran.wrote.last.items old
         (W.seen sink.old) ran.wrote.written →
         IfOk result (IsFileOf config m old (W.seen sink.new)) }
     ensures clean { OnOk result (ran.out.end ≡ Clean) }
-    ensures unmade { (m : List PairValue) (old : SinkView) → IsRunOf config m ran.out.items ran.out.end ran.pairs →
+    ensures unmade { (m : List PairValue) (old : SinkView) →
+        IsRunOf config m ran.out.items ran.out.end ran.pairs →
         HasWritten (header config.version config.bits) (config.stages - 1) ran.wrote.last.items old
         (W.seen sink.old) ran.wrote.written →
         IfErr result (λ fault. IsWriterFault fault → (ran.out.end ≡ Clean)
         × IsUnmadeOf config m old (W.seen sink.new) fault) }
-    ensures begun { (old : SinkView) → HasWritten (header config.version config.bits) (config.stages - 1) ran.wrote.last.items old
+    ensures begun { (old : SinkView) → HasWritten (header config.version config.bits)
+        (config.stages - 1) ran.wrote.last.items old
         (W.seen sink.old) ran.wrote.written →
         IfErr result (λ fault. fault ≢ Write
         → IsBegun config old (W.seen sink.new)) }
-    ensures stopped { (old : SinkView) → HasWritten (header config.version config.bits) (config.stages - 1) ran.wrote.last.items old
+    ensures stopped { (old : SinkView) → HasWritten (header config.version config.bits)
+        (config.stages - 1) ran.wrote.last.items old
         (W.seen sink.old) ran.wrote.written →
-        IfErr result (λ fault. IsFileFault fault → (ran.out.end ≡ Fault fault) × ((p : List PairValue) → length p < 2 ^ 64 →
-        ran.out.items ≡ pipeline_events (config.stages - 1) (sha512_cut config.bits) config.version faulty p →
+        IfErr result (λ fault. IsFileFault fault → (ran.out.end ≡ Fault fault) ×
+        ((p : List PairValue) → length p < 2 ^ 64 →
+        ran.out.items ≡ pipeline_events (config.stages - 1) (sha512_cut config.bits)
+        config.version faulty p →
         TookBegun config p old (W.seen sink.new))) }
-    ensures refused { (old : SinkView) → HasWritten (header config.version config.bits) (config.stages - 1) ran.wrote.last.items old
+    ensures refused { (old : SinkView) → HasWritten (header config.version config.bits)
+        (config.stages - 1) ran.wrote.last.items old
         (W.seen sink.old) ran.wrote.written →
-        IfErr result (λ fault. fault ≡ Memory → (ran.out.end ≡ Fault Memory) × (old.is_keeping ≡ true →
-        TakesPrefix old.taken (W.seen sink.new).taken (frames_of (header config.version config.bits) (before_second (config.stages - 1) ran.out.items)))) }
+        IfErr result (λ fault. fault ≡ Memory → (ran.out.end ≡ Fault Memory) ×
+        (old.is_keeping ≡ true →
+        TakesPrefix old.taken (W.seen sink.new).taken (frames_of (header config.version config.bits)
+        (before_second (config.stages - 1) ran.out.items)))) }
     ensures err { IfErr result (λ fault. IsStartFault fault → ⊥) }
 {
     let Ran { out, pairs, wrote } = ran;

@@ -14,16 +14,19 @@ use crate::run::written::{Begun, Written};
 use prolly_file::Sink;
 use prolly_link::{End, RunFault};
 
-/// What the build answers once all workers have ended: the fault that came through the last link, or
-/// else that a write failed, that the tree is too tall, or what was made, with the end record written.
+/// What the build answers once all workers have ended: the fault that came through the last link,
+/// or else that a write failed, that the tree is too tall, or what was made, with the end record
+/// written.
 pub(crate) fn end_build<W: Sink>(
     sink: &mut W,
     written: Written,
     end: End,
     pairs: u64,
 ) -> Result<Report, RunFault>
-    requires few { (begun : BegunValue) → written ≡ Whole begun → end ≡ Clean → begun.file.chunks < greatest_count }
-    requires some { (begun : BegunValue) → written ≡ Whole begun → end ≡ Clean → (top : TopValue) × (begun.top ≡ Some top) }
+    requires few { (begun : BegunValue) → written ≡ Whole begun → end ≡ Clean →
+        begun.file.chunks < greatest_count }
+    requires some { (begun : BegunValue) → written ≡ Whole begun → end ≡ Clean → (top : TopValue) ×
+        (begun.top ≡ Some top) }
     ensures ok { (head : List ℕ) (level : ℕ) (events : List Chunk) (old : SinkView) →
         HasWritten head level events old (W.seen sink.old) written →
         IfOk result (HasEnded head level events old (W.seen sink.new) pairs) }

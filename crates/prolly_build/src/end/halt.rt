@@ -26,8 +26,8 @@ impl Halt {
     }
 }
 
-/// Drops what the workers that are not started would have had, receives the last link to its end, and writes
-/// nothing.
+/// Drops what the workers that are not started would have had, receives the last link to its end,
+/// and writes nothing.
 pub(crate) fn refuse<T: Drop, U: Drop, R: Wait>(rt: &R, unused: U, last: BatchReceiver<T>) -> Halt
     ensures { result ≡ Halt.NoThread }
 {

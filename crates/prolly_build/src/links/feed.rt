@@ -23,7 +23,8 @@ pub(crate) struct Feed {
     pub closed: Vec<ClosedBatch<Record>>,
     ghost each: { vec_len outs + vec_len forks ≡ files },
     ghost two: { 0 < vec_len forks → 2 ≤ vec_len outs },
-    ghost room: { (closed.items ≡ []) × (files ≤ vec_capacity closed) × (files ≤ vec_capacity outs) },
+    ghost room: { (closed.items ≡ []) × (files ≤ vec_capacity closed) ×
+        (files ≤ vec_capacity outs) },
     ghost unsent: { All IsUnsent outs.items },
     ghost unread: { All IsUnread inputs.items },
     ghost paired: { map (λ o. o.link) outs.items ≡ map (λ r. r.link) inputs.items },
@@ -59,8 +60,8 @@ fn new_heads(
     Ok(Heads { outs, inputs })
 }
 
-/// Those links for so many files. The last merger has two inputs where there are two files or more, and one
-/// merger of two stands below it for each file more than two.
+/// Those links for so many files. The last merger has two inputs where there are two files or more,
+/// and one merger of two stands below it for each file more than two.
 pub(crate) fn new_feed(alloc: Global, config: &Config, files: usize) -> Result<Feed, AllocError>
     ensures { IfOk result (λ feed. feed.files ≡ files) }
 {

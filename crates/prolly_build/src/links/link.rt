@@ -20,7 +20,8 @@ pub(crate) struct NewLink<T> {
     ghost unreceived: { (receiver.items ≡ []) × (receiver.progress ≡ Open) },
 }
 
-/// A new link, with room for as many messages, and messages of as many items, as the build is set to.
+/// A new link, with room for as many messages, and messages of as many items, as the build is set
+/// to.
 pub(crate) fn new_link<T: Send + Drop>(
     alloc: Global,
     config: &Config,
@@ -31,8 +32,8 @@ pub(crate) fn new_link<T: Send + Drop>(
     }
 }
 
-// Two values, where there was memory for both. What is dropped else is one step of the proof here; among links
-// each of their fields is a few.
+// Two values, where there was memory for both. What is dropped else is one step of the proof here;
+// among links each of their fields is a few.
 pub(crate) fn both<A: Drop, B: Drop>(
     a: Result<A, AllocError>,
     b: Result<B, AllocError>,
@@ -42,15 +43,16 @@ pub(crate) fn both<A: Drop, B: Drop>(
     Ok((a?, b?))
 }
 
-/// Meets the ends of a link: what was received is what was sent. `false` where the receiver has lost
-/// its sender.
+/// Meets the ends of a link: what was received is what was sent. `false` where the receiver has
+/// lost its sender.
 pub(crate) fn has_met<T: Drop, R: Wait>(
     rt: &R,
     sender: ClosedBatch<T>,
     receiver: BatchReceiver<T>,
 ) -> bool
     requires { sender.link ≡ receiver.link }
-    ensures { IsTrue result → HasEnded receiver.progress → (receiver.items ≡ sender.items) × (receiver.progress ≡ Ended sender.end) }
+    ensures { IsTrue result → HasEnded receiver.progress → (receiver.items ≡ sender.items) ×
+        (receiver.progress ≡ Ended sender.end) }
 {
     match receiver.drain(rt) {
         BatchDrained::Ended(ended) => {

@@ -22,8 +22,8 @@ use prolly_stage::Gate;
 use std::sync::Wait;
 use std::thread::Threads;
 
-/// What the workers up to the last merger gave back: its closed output, how many pairs it sent, and what
-/// the writer gave.
+/// What the workers up to the last merger gave back: its closed output, how many pairs it sent, and
+/// what the writer gave.
 #[derive(Drop)]
 pub(crate) struct Gathered {
     pub out: ClosedBatch<Pair>,
@@ -38,7 +38,8 @@ fn all_have_met<R: Wait>(
     mut inputs: Vec<BatchReceiver<Record>>,
 ) -> bool
     requires { map (λ c. c.link) closed.items ≡ map (λ r. r.link) inputs.items }
-    ensures { IsTrue result → All (λ r. HasEnded r.progress) inputs.items → map received_input inputs.items ≡ map sent_input closed.items }
+    ensures { IsTrue result → All (λ r. HasEnded r.progress) inputs.items →
+        map received_input inputs.items ≡ map sent_input closed.items }
 {
     match (pop_first(&mut closed), pop_first(&mut inputs)) {
         (Some(sender), Some(receiver)) => {
@@ -73,7 +74,8 @@ pub(crate) fn gather<
     requires unread { last.items ≡ [] }
     ensures link { IfOk result (λ gathered. gathered.out.link ≡ out.link) }
     ensures hands_on { HandsOn site.now.config last
-        (W.seen sink.old) (W.seen sink.new) (sink.new ≡ sink.old) result (λ gathered. gathered.wrote) }
+        (W.seen sink.old) (W.seen sink.new) (sink.new ≡ sink.old) result
+        (λ gathered. gathered.wrote) }
     ensures gathered { IfOk result (λ gathered. IsGathered S.seen site.now.config.max_records
         sources.old.items sources.new.items gathered.out.items gathered.out.end gathered.pairs) }
 {

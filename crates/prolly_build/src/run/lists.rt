@@ -1,13 +1,15 @@
-//! The lists of the recursion: the front of a vector, and one element in the place of two. They are few and
-//! short, so that moving the rest costs nothing.
+//! The lists of the recursion: the front of a vector, and one element in the place of two. They are
+//! few and short, so that moving the rest costs nothing.
 ghost use Rattle.std.specs.Prelude.{◌≡◌, ◌+◌, ◌<◌, ◌≤◌, ◌∷◌, [], MatchOption, vec_len, vec_capacity};
 ghost use Rattle.prolly_build.specs.Forks.{IsForked};
 
 /// Takes the first element.
 pub(crate) fn pop_first<T>(list: &mut Vec<T>) -> Option<T>
-    ensures items { MatchOption result ((list.old.items ≡ []) × (list.new.items ≡ [])) (λ first. list.old.items ≡ first ∷ list.new.items) }
+    ensures items { MatchOption result ((list.old.items ≡ []) ×
+        (list.new.items ≡ [])) (λ first. list.old.items ≡ first ∷ list.new.items) }
     ensures capacity { vec_capacity list.new ≡ vec_capacity list.old }
-    ensures len { MatchOption result (vec_len list.new ≡ 0) (λ _. vec_len list.old ≡ vec_len list.new + 1) }
+    ensures len { MatchOption result (vec_len list.new ≡ 0)
+        (λ _. vec_len list.old ≡ vec_len list.new + 1) }
 {
     if list.is_empty() {
         return None;

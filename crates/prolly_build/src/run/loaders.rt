@@ -43,9 +43,12 @@ pub(crate) fn load_all<
     requires unread { last.items ≡ [] }
     ensures hands_on { HandsOn site.now.config last
         (W.seen sink.old) (W.seen sink.new) (sink.new ≡ sink.old) result (λ wrote. wrote) }
-    ensures loaded { OnOk result (AreLoaded S.seen site.now.config.max_records file sources.old.items outs.items sources.new.items closed.new.items) }
-    ensures fewer { (vec_len sources.new ≤ vec_len sources.old) × (vec_capacity sources.old ≤ vec_capacity sources.new) }
-    ensures filled { (vec_len closed.new ≤ vec_len closed.old + vec_len outs) × (vec_capacity closed.old ≤ vec_capacity closed.new) }
+    ensures loaded { OnOk result (AreLoaded S.seen site.now.config.max_records file
+        sources.old.items outs.items sources.new.items closed.new.items) }
+    ensures fewer { (vec_len sources.new ≤ vec_len sources.old) ×
+        (vec_capacity sources.old ≤ vec_capacity sources.new) }
+    ensures filled { (vec_len closed.new ≤ vec_len closed.old + vec_len outs) ×
+        (vec_capacity closed.old ≤ vec_capacity closed.new) }
 {
     let Some(out) = pop_first(&mut outs) else {
         return Ok(write_all(site.rt, site.config, last, sink));

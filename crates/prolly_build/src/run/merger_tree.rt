@@ -21,8 +21,8 @@ use prolly_stage::Gate;
 use std::sync::Wait;
 use std::thread::Threads;
 
-/// Starts a merger of two for each fork, the last one first, then loads and writes, joins the mergers, and
-/// meets the links into them. The outputs are those that feed the last merger.
+/// Starts a merger of two for each fork, the last one first, then loads and writes, joins the
+/// mergers, and meets the links into them. The outputs are those that feed the last merger.
 #[tactic(auto, using(crate::proofs::RanSteps::nothing_begun))]
 pub(crate) fn merge_tree<
     's,
@@ -44,12 +44,14 @@ pub(crate) fn merge_tree<
     requires few { vec_len sources.old ≤ 16 }
     requires each { vec_len outs + vec_len forks ≡ vec_len sources.old }
     requires two { 0 < vec_len forks → 2 ≤ vec_len outs }
-    requires room { (closed.old.items ≡ []) × (vec_len sources.old ≤ vec_capacity closed.old) × (vec_len sources.old ≤ vec_capacity outs) }
+    requires room { (closed.old.items ≡ []) × (vec_len sources.old ≤ vec_capacity closed.old) ×
+        (vec_len sources.old ≤ vec_capacity outs) }
     requires unsent { All IsUnsent outs.items }
     requires unread { last.items ≡ [] }
     ensures hands_on { HandsOn site.now.config last
         (W.seen sink.old) (W.seen sink.new) (sink.new ≡ sink.old) result (λ wrote. wrote) }
-    ensures fed { OnOk result (IsFed S.seen site.now.config.max_records sources.old.items sources.new.items outs.items closed.new.items) }
+    ensures fed { OnOk result (IsFed S.seen site.now.config.max_records sources.old.items
+        sources.new.items outs.items closed.new.items) }
 {
     let Some(fork) = forks.pop() else {
         return load_all(site, 0, outs, sources, closed, last, sink);

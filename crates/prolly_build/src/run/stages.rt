@@ -19,8 +19,8 @@ use prolly_stage::Gate;
 use std::sync::Wait;
 use std::thread::Threads;
 
-/// What the workers up to a stage gave back: its closed output, how many pairs the last merger sent, and
-/// what the writer gave.
+/// What the workers up to a stage gave back: its closed output, how many pairs the last merger
+/// sent, and what the writer gave.
 #[derive(Drop)]
 pub(crate) struct Ran {
     pub out: ClosedBatch<ChunkEvent>,
@@ -28,7 +28,8 @@ pub(crate) struct Ran {
     pub wrote: Wrote,
 }
 
-/// Starts the stage of the leaves, then all workers below it, writes, joins it, and meets the link into it.
+/// Starts the stage of the leaves, then all workers below it, writes, joins it, and meets the link
+/// into it.
 #[tactic(auto, using(crate::proofs::RanSteps::nothing_begun))]
 fn run_from_leaves<
     's,
@@ -53,7 +54,8 @@ fn run_from_leaves<
     ensures link { IfOk result (λ ran. ran.out.link ≡ out.link) }
     ensures hands_on { HandsOn site.now.config last
         (W.seen sink.old) (W.seen sink.new) (sink.new ≡ sink.old) result (λ ran. ran.wrote) }
-    ensures staged { IfOk result (λ ran. HasStaged S.seen site.now.config 0 sources.old.items sources.new.items ran.out.items ran.out.end ran.pairs) }
+    ensures staged { IfOk result (λ ran. HasStaged S.seen site.now.config 0 sources.old.items
+        sources.new.items ran.out.items ran.out.end ran.pairs) }
 {
     let NewLink { sender, receiver } = pairs;
     let Some(handle) = start_leaves(site, receiver, out) else {
@@ -78,9 +80,9 @@ fn run_from_leaves<
     }
 }
 
-/// Starts a stage of nodes for each link, the highest one first, then all workers below them, writes, joins
-/// the stages, and meets the links into them. The output is that of the highest stage, whose level is the
-/// number of the links.
+/// Starts a stage of nodes for each link, the highest one first, then all workers below them,
+/// writes, joins the stages, and meets the links into them. The output is that of the highest
+/// stage, whose level is the number of the links.
 #[tactic(auto, using(crate::proofs::RanSteps::nothing_begun))]
 pub(crate) fn run_from_top<
     's,
@@ -107,7 +109,8 @@ pub(crate) fn run_from_top<
     ensures link { IfOk result (λ ran. ran.out.link ≡ out.link) }
     ensures hands_on { HandsOn site.now.config last
         (W.seen sink.old) (W.seen sink.new) (sink.new ≡ sink.old) result (λ ran. ran.wrote) }
-    ensures staged { IfOk result (λ ran. HasStaged S.seen site.now.config (vec_len events) sources.old.items sources.new.items ran.out.items ran.out.end ran.pairs) }
+    ensures staged { IfOk result (λ ran. HasStaged S.seen site.now.config (vec_len events)
+        sources.old.items sources.new.items ran.out.items ran.out.end ran.pairs) }
 {
     let Some(link) = events.pop() else {
         return run_from_leaves(site, pairs, feed, out, sources, last, sink);

@@ -1,4 +1,5 @@
-//! The writer at the end of the pipeline, on the caller's thread: it writes the chunks that the last stage sends.
+//! The writer at the end of the pipeline, on the caller's thread: it writes the chunks that the
+//! last stage sends.
 ghost use Rattle.std.specs.Prelude.{◌≡◌, ℕ, List, []};
 ghost use Rattle.prolly_file.specs.Sink.{SinkView};
 ghost use Rattle.prolly_link.specs.Receipts.{HasEnded, end_given};
@@ -12,8 +13,8 @@ use prolly_file::Sink;
 use prolly_link::{BatchReceiver, End, In, Next, RunFault};
 use std::sync::Wait;
 
-/// What the writer gives back: the last link's receiver, which has ended, with its end, and how far the
-/// file came.
+/// What the writer gives back: the last link's receiver, which has ended, with its end, and how far
+/// the file came.
 #[derive(Drop)]
 pub(crate) struct Wrote {
     pub last: BatchReceiver<ChunkEvent>,

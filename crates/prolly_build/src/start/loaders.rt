@@ -27,7 +27,8 @@ pub(crate) struct LoadPromise<S> {
 impl<S: Source> Promise<Loaded<S, ClosedBatch<Record>>> for LoadPromise<S> {
     ghost use Rattle.prolly_build.specs.Workers.{IsLoadedFrom};
 
-    ghost kept_by = { λ p loaded. IsLoadedFrom S.seen p.file p.limit p.source.value p.out.value loaded.source loaded.out };
+    ghost kept_by = { λ p loaded. IsLoadedFrom S.seen p.file p.limit p.source.value p.out.value
+        loaded.source loaded.out };
 }
 
 /// A loader, on the thread that it is called on.
@@ -47,8 +48,8 @@ fn run_loader<R: Wait, G: Gate, S: Source>(
     load(rt, alloc, file, source, limit, out)
 }
 
-/// Starts a loader. `None` where it may not start, and its output is closed and its source dropped, or where no
-/// thread can be had, and both are dropped.
+/// Starts a loader. `None` where it may not start, and its output is closed and its source dropped,
+/// or where no thread can be had, and both are dropped.
 pub(crate) fn start_loader<'s, E, R: Wait + Sync, G: Gate, P: Permit, S: Source + Send + Drop + 's>(
     site: &Site<'s, '_, E, R, G, P>,
     file: u32,
@@ -56,7 +57,8 @@ pub(crate) fn start_loader<'s, E, R: Wait + Sync, G: Gate, P: Permit, S: Source 
     out: BatchSender<Record>,
 ) -> Option<PromisedHandle<Loaded<S, ClosedBatch<Record>>, LoadPromise<S>>>
     requires { out.items ≡ [] }
-    ensures file { IfSome result (λ handle. (handle.promise.file ≡ file) × (handle.promise.limit ≡ site.now.config.max_records)) }
+    ensures file { IfSome result (λ handle. (handle.promise.file ≡ file) ×
+        (handle.promise.limit ≡ site.now.config.max_records)) }
     ensures source { IfSome result (λ handle. handle.promise.source.value ≡ source) }
     ensures out { IfSome result (λ handle. handle.promise.out.value ≡ out) }
 {

@@ -34,7 +34,8 @@ pub(crate) struct TwoPromise {
 impl Promise<TwoEnds> for TwoPromise {
     ghost use Rattle.prolly_build.specs.Merging.{IsMergedTwo};
 
-    ghost kept_by = { λ p ends. IsMergedTwo p.left.value p.right.value p.out.value ends.left ends.right ends.out };
+    ghost kept_by = { λ p ends. IsMergedTwo p.left.value p.right.value p.out.value ends.left
+        ends.right ends.out };
 }
 
 /// A merger of two, on the thread that it is called on.
@@ -59,8 +60,8 @@ fn run_two<R: Wait, G: Gate>(
     TwoEnds { left, right, out }
 }
 
-/// Starts a merger of two. `None` where it may not start, and its output is closed, or where no thread can be had,
-/// and its ends are dropped.
+/// Starts a merger of two. `None` where it may not start, and its output is closed, or where no
+/// thread can be had, and its ends are dropped.
 pub(crate) fn start_two<'s, E, R: Wait + Sync, G: Gate, P: Permit>(
     site: &Site<'s, '_, E, R, G, P>,
     number: u32,
@@ -110,7 +111,8 @@ pub(crate) struct LastPromise {
 impl Promise<LastEnds> for LastPromise {
     ghost use Rattle.prolly_build.specs.Merging.{IsMerged};
 
-    ghost kept_by = { λ p ends. IsMerged p.inputs.value.items p.out.value ends.inputs.items ends.out ends.pairs };
+    ghost kept_by = { λ p ends. IsMerged p.inputs.value.items p.out.value ends.inputs.items ends.out
+        ends.pairs };
 }
 
 /// The last merger, on the thread that it is called on.
@@ -130,8 +132,8 @@ fn run_last<R: Wait, G: Gate>(
     LastEnds { inputs, out, pairs }
 }
 
-/// Starts the last merger. `None` where it may not start, and its output is closed, or where no thread can be had,
-/// and its ends are dropped.
+/// Starts the last merger. `None` where it may not start, and its output is closed, or where no
+/// thread can be had, and its ends are dropped.
 pub(crate) fn start_last<'s, E, R: Wait + Sync, G: Gate, P: Permit>(
     site: &Site<'s, '_, E, R, G, P>,
     number: u32,

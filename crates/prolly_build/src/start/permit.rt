@@ -5,10 +5,11 @@ use prolly_link::{BatchSender, End, RunFault};
 use prolly_stage::Worker;
 use std::sync::Wait;
 
-/// What a build asks before it starts a worker, on the caller's thread, so that a test can refuse one.
+/// What a build asks before it starts a worker, on the caller's thread, so that a test can refuse
+/// one.
 pub trait Permit {
-    /// Whether the worker may start. Where it may not, no further one is asked for, those that run end,
-    /// and the build answers that a thread could not be started.
+    /// Whether the worker may start. Where it may not, no further one is asked for, those that run
+    /// end, and the build answers that a thread could not be started.
     fn may_start(&self, worker: Worker) -> bool;
 }
 
@@ -22,7 +23,8 @@ impl Permit for AllStart {
     }
 }
 
-/// The output of a worker that may start. `None` where it may not: the output is closed with that fault.
+/// The output of a worker that may start. `None` where it may not: the output is closed with that
+/// fault.
 pub(crate) fn permitted<T: Drop, R: Wait, P: Permit>(
     rt: &R,
     permit: &P,

@@ -38,7 +38,8 @@ impl Promise<StageEnds<Pair>> for LeafPromise {
     ghost use Rattle.prolly_entry.specs.Cut.{sha512_cut};
     ghost use Rattle.prolly_build.specs.Workers.{IsStaged};
 
-    ghost kept_by = { λ p ends. (version : VersionValue) → IsStaged (leaf_events (sha512_cut p.cut) version) p.input.value p.out.value ends.input ends.out };
+    ghost kept_by = { λ p ends. (version : VersionValue) → IsStaged (leaf_events (sha512_cut p.cut)
+        version) p.input.value p.out.value ends.input ends.out };
 }
 
 /// The stage of the leaves, on the thread that it is called on.
@@ -51,15 +52,16 @@ fn run_leaves<R: Wait, G: Gate>(
     out: BatchSender<ChunkEvent>,
 ) -> StageEnds<Pair>
     requires { (input.items ≡ []) × (out.items ≡ []) }
-    ensures { (version : VersionValue) → IsStaged (leaf_events (sha512_cut cut) version) input out result.input result.out }
+    ensures { (version : VersionValue) → IsStaged (leaf_events (sha512_cut cut) version)
+        input out result.input result.out }
 {
     let out = Gated::new(out, Worker::Stage(0), gate);
     let Staged { input, out } = leaf_stage(rt, alloc, cut, input, out);
     StageEnds { input, out }
 }
 
-/// Starts the stage of the leaves. `None` where it may not start, and its output is closed, or where no thread
-/// can be had, and its ends are dropped.
+/// Starts the stage of the leaves. `None` where it may not start, and its output is closed, or
+/// where no thread can be had, and its ends are dropped.
 pub(crate) fn start_leaves<'s, E, R: Wait + Sync, G: Gate, P: Permit>(
     site: &Site<'s, '_, E, R, G, P>,
     input: BatchReceiver<Pair>,
@@ -84,7 +86,8 @@ pub(crate) fn start_leaves<'s, E, R: Wait + Sync, G: Gate, P: Permit>(
             promise,
             move || -> StageEnds<Pair>
                 requires { (input.items ≡ []) × (out.items ≡ []) }
-                ensures { (version : VersionValue) → IsStaged (leaf_events (sha512_cut cut) version) input out result.input result.out }
+                ensures { (version : VersionValue) → IsStaged (leaf_events (sha512_cut cut) version)
+                    input out result.input result.out }
             { run_leaves(rt, alloc, gate, cut, input, out) },
         )
         .ok()
@@ -105,7 +108,8 @@ impl Promise<StageEnds<ChunkEvent>> for NodesPromise {
     ghost use Rattle.prolly_entry.specs.Cut.{sha512_cut};
     ghost use Rattle.prolly_build.specs.Workers.{IsStaged};
 
-    ghost kept_by = { λ p ends. IsStaged (inner_events p.level (sha512_cut p.cut) p.version) p.input.value p.out.value ends.input ends.out };
+    ghost kept_by = { λ p ends. IsStaged (inner_events p.level (sha512_cut p.cut) p.version)
+        p.input.value p.out.value ends.input ends.out };
 }
 
 /// The stage of the nodes of a level, on the thread that it is called on.
@@ -121,15 +125,16 @@ fn run_nodes<R: Wait, G: Gate>(
 ) -> StageEnds<ChunkEvent>
     requires level { 1 ≤ level }
     requires fresh { (input.items ≡ []) × (out.items ≡ []) }
-    ensures { IsStaged (inner_events level (sha512_cut cut) version) input out result.input result.out }
+    ensures { IsStaged (inner_events level (sha512_cut cut) version)
+        input out result.input result.out }
 {
     let out = Gated::new(out, Worker::Stage(u32::from(level)), gate);
     let Staged { input, out } = inner_stage_as(rt, alloc, version, level, cut, input, out);
     StageEnds { input, out }
 }
 
-/// Starts the stage of the nodes of a level. `None` where it may not start, and its output is closed, or where
-/// no thread can be had, and its ends are dropped.
+/// Starts the stage of the nodes of a level. `None` where it may not start, and its output is
+/// closed, or where no thread can be had, and its ends are dropped.
 pub(crate) fn start_nodes<'s, E, R: Wait + Sync, G: Gate, P: Permit>(
     site: &Site<'s, '_, E, R, G, P>,
     level: u8,
@@ -139,7 +144,8 @@ pub(crate) fn start_nodes<'s, E, R: Wait + Sync, G: Gate, P: Permit>(
     requires level { 1 ≤ level }
     requires fresh { (input.items ≡ []) × (out.items ≡ []) }
     ensures level { IfSome result (λ handle. handle.promise.level ≡ level) }
-    ensures cut { IfSome result (λ handle. (handle.promise.cut ≡ site.now.config.bits) × (handle.promise.version ≡ site.now.config.version)) }
+    ensures cut { IfSome result (λ handle. (handle.promise.cut ≡ site.now.config.bits) ×
+        (handle.promise.version ≡ site.now.config.version)) }
     ensures input { IfSome result (λ handle. handle.promise.input.value ≡ input) }
     ensures out { IfSome result (λ handle. handle.promise.out.value ≡ out) }
 {
@@ -160,7 +166,8 @@ pub(crate) fn start_nodes<'s, E, R: Wait + Sync, G: Gate, P: Permit>(
             promise,
             move || -> StageEnds<ChunkEvent>
                 requires { (1 ≤ level) × (input.items ≡ []) × (out.items ≡ []) }
-                ensures { IsStaged (inner_events level (sha512_cut cut) version) input out result.input result.out }
+                ensures { IsStaged (inner_events level (sha512_cut cut) version)
+                    input out result.input result.out }
             { run_nodes(rt, alloc, gate, level, cut, version, input, out) },
         )
         .ok()
