@@ -21,15 +21,15 @@ use Rattle.prolly_check.specs.declared.fault.CheckFault.TheVariants as faults
 use Rattle.prolly_check.proofs.Acceptance.{bytes_in, difference_same}
 use Rattle.prolly_check.specs.declared.fault.CheckFault.{CheckFault}
 use Rattle.prolly_check.specs.Judged.{difference, chunk_bytes}
-use Rattle.prolly_check.specs.Rebuilt.{node_levels, sent_through, sent_of, IsBehind, AreBehind, AreFirst, DifferAs, DifferBy, PassesOn, FaultPassing, MaybePasses, MaybeFault, IsEnding, EndsAt, FaultAtEnd}
-use Rattle.prolly_check.proofs.Rebuilds.{sent_goes_on, differ_more}
+use Rattle.prolly_check.specs.Rebuilt.{node_levels, sent_through, sent_of, IsBehind, AreBehind, AreBelow, AreFirst, DifferAs, DifferBy, PassesOn, FaultPassing, MaybePasses, MaybeFault, IsEnding, EndsAt, FaultAtEnd}
+use Rattle.prolly_check.proofs.Rebuilds.{sent_goes_on, differ_more, ended_below, leaf_below}
 
 -- ---- a last chunk
 
 pub maybe_none : (chunks : List (List ℕ)) (nodes : List (NodeState ℕ)) (number : ℕ) → MaybePasses chunks nodes nodes None number number
 maybe_none chunks nodes number = record {
   size = refl;
-  so = λ bits version level events behind first. record {
+  so = λ bits version level events below behind first. record {
     behind = subst (AreBehind bits version level nodes) (sym (append-nil events)) behind;
     first = subst (λ es. AreFirst chunks number (sent_through (sha512_cut bits) version level (length nodes) es)) (sym (append-nil events)) first;
   };
@@ -42,8 +42,8 @@ maybe_some chunks nodes nodes' event number next passed =
     let size : length nodes' ≡ length nodes = ap length q.is ∙ q.size in
     record {
       size = size;
-      so = λ bits version level events behind first.
-          let a = q.so bits version level events behind first in
+      so = λ bits version level events below behind first.
+          let a = q.so bits version level events below.0 behind first in
           record {
             behind = subst (λ ns. AreBehind bits version level ns (events ++ event ∷ [])) same a.0;
             first = subst (λ n. AreFirst chunks next (sent_through (sha512_cut bits) version level n (events ++ event ∷ []))) (sym size) a.1;
@@ -51,7 +51,7 @@ maybe_some chunks nodes nodes' event number next passed =
     }
 
 pub maybe_fault : (chunks : List (List ℕ)) (nodes : List (NodeState ℕ)) (event : Chunk) (number : ℕ) (fault : CheckFault) → FaultPassing chunks nodes 0 event number fault → MaybeFault chunks nodes (Some event) number fault
-maybe_fault chunks nodes event number fault h bits version level events behind first = h [] nodes refl refl bits version level events behind first
+maybe_fault chunks nodes event number fault h bits version level events below behind first = h [] nodes refl refl bits version level events below.0 behind first
 
 -- ---- level by level
 
@@ -108,10 +108,13 @@ module _ (bits : ℕ) (version : Version) (pairs : List Pair) where
           ≡ inner_events (suc b.level) (sha512_cut bits) version faulty (pipeline_events b.level (sha512_cut bits) version clean pairs) ++ option_to_list last
       closes = ends bits version (suc b.level) (pipeline_events b.level (sha512_cut bits) version clean pairs) b.behind.0
 
+      below : AreBelow (suc (suc b.level)) (option_to_list last)
+      below = ended_below (sha512_cut bits) version (suc b.level) (pipeline_events b.level (sha512_cut bits) version clean pairs) last closes
+
       pub ending_goes_on : (rest' : List (NodeState ℕ)) (next : ℕ) → MaybePasses chunks rest rest' last number next → IsEnding bits version chunks pairs rest' next
       ending_goes_on rest' next m =
           let inner = inner_events (suc b.level) (sha512_cut bits) version faulty (pipeline_events b.level (sha512_cut bits) version clean pairs) in
-          let p = m.so bits version (suc (suc b.level)) inner b.behind.1 b.first in
+          let p = m.so bits version (suc (suc b.level)) inner below b.behind.1 b.first in
           let size = m.size in
           let count = b.count in
           record {
@@ -124,7 +127,7 @@ module _ (bits : ℕ) (version : Version) (pairs : List Pair) where
       pub ending_fault : (fault : CheckFault) → MaybeFault chunks rest last number fault → FaultAtEnd bits version chunks pairs fault
       ending_fault fault h =
           let inner = inner_events (suc b.level) (sha512_cut bits) version faulty (pipeline_events b.level (sha512_cut bits) version clean pairs) in
-          let d = h bits version (suc (suc b.level)) inner b.behind.1 b.first in
+          let d = h bits version (suc (suc b.level)) inner below b.behind.1 b.first in
           let count = b.count in
           differ_at_end (suc b.level) (length rest) fault (omega arith)
           (subst (λ es. DifferAs chunks (sent_through (sha512_cut bits) version (suc (suc b.level)) (length rest) es) fault) (sym closes) d)
@@ -156,9 +159,12 @@ module _ (bits : ℕ) (version : Version) (chunks' : List (List ℕ)) (pairs : L
   first : AreFirst chunks' number (sent_through (sha512_cut bits) version 1 (length nodes) (leaf_events (sha512_cut bits) version faulty pairs))
   first = subst (λ n. AreFirst chunks' number (sent_through (sha512_cut bits) version 1 n (leaf_events (sha512_cut bits) version faulty pairs))) (sym b.count) b.first
 
+  last_below : AreBelow 1 (option_to_list last)
+  last_below = leaf_below (sha512_cut bits) version clean pairs (leaf_events (sha512_cut bits) version faulty pairs) last leaves_end
+
   pub nodes_end : (nodes' : List (NodeState ℕ)) (next : ℕ) → MaybePasses chunks' nodes nodes' last number next → IsEnding bits version chunks' pairs nodes' next
   nodes_end nodes' next m =
-      let p = m.so bits version 1 (leaf_events (sha512_cut bits) version faulty pairs) b.nodes_are first in
+      let p = m.so bits version 1 (leaf_events (sha512_cut bits) version faulty pairs) last_below b.nodes_are first in
       let size = m.size in
       let count = b.count in
       record {
@@ -172,7 +178,7 @@ module _ (bits : ℕ) (version : Version) (chunks' : List (List ℕ)) (pairs : L
   leaf_end_fault fault h =
       let count = b.count in
       differ_at_end bits version pairs chunks' 0 (length nodes) fault (omega arith)
-      (subst (λ es. DifferAs chunks' (sent_through (sha512_cut bits) version 1 (length nodes) es) fault) (sym leaves_end) (h bits version 1 (leaf_events (sha512_cut bits) version faulty pairs) b.nodes_are first))
+      (subst (λ es. DifferAs chunks' (sent_through (sha512_cut bits) version 1 (length nodes) es) fault) (sym leaves_end) (h bits version 1 (leaf_events (sha512_cut bits) version faulty pairs) last_below b.nodes_are first))
 
 -- so many levels are enough
 levels_enough : (cut : Cut) (version : Version) (pairs : List Pair) → length pairs < 2 ^ 64 → level_count cut version pairs ≤ suc node_levels

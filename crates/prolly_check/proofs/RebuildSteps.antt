@@ -18,8 +18,8 @@ use Rattle.prolly_entry.proofs.Prefixes.{fault_is_prefix}
 use Rattle.prolly_chunk.specs.LeafLevel.{LeafState, LeafBegins, LeafTakes}
 use Rattle.prolly_chunk.specs.NodeLevel.{NodeState, NodeBegins}
 use Rattle.prolly_check.specs.declared.fault.CheckFault.{CheckFault}
-use Rattle.prolly_check.specs.Rebuilt.{node_levels, sent_through, sent_of, AreBehind, AreFirst, AreUnused, IsBehind, DifferAs, DifferBy, PassesOn, FaultPassing}
-use Rattle.prolly_check.proofs.Rebuilds.{sent_differs_more}
+use Rattle.prolly_check.specs.Rebuilt.{node_levels, sent_through, sent_of, AreBehind, AreBelow, AreFirst, AreUnused, IsBehind, DifferAs, DifferBy, PassesOn, FaultPassing}
+use Rattle.prolly_check.proofs.Rebuilds.{sent_differs_more, leaf_below}
 use Rattle.std.specs.Option.{option_to_list}
 use Rattle.std.proofs.lemmas.List.{take_at, drop-drop, drop_all}
 
@@ -73,10 +73,14 @@ module _ (chunks : List (List ℕ)) (pair : Pair) (leaf leaf' : LeafState ℕ) (
     sends_one : leaf_events (sha512_cut bits) version faulty (pairs ++ pair ∷ []) ≡ leaf_events (sha512_cut bits) version faulty pairs ++ event ∷ []
     sends_one = sends ∙ ap (λ c. leaf_events (sha512_cut bits) version faulty pairs ++ option_to_list c) some
 
+    lower : event.level < 1
+    lower =
+        let h : AreBelow 1 (event ∷ []) = leaf_below (sha512_cut bits) version faulty (pairs ++ pair ∷ []) (leaf_events (sha512_cut bits) version faulty pairs) (Some event) sends_one in h.0
+
     pub added_some : (nodes' : List (NodeState ℕ)) (next : ℕ) → PassesOn chunks nodes nodes' 0 event number next → IsBehind bits version chunks (pairs ++ pair ∷ []) leaf' nodes' next
     added_some nodes' next passed =
         let q = passed [] nodes refl refl in
-        let a = q.so bits version 1 (leaf_events (sha512_cut bits) version faulty pairs) b.nodes_are
+        let a = q.so bits version 1 (leaf_events (sha512_cut bits) version faulty pairs) lower b.nodes_are
         (subst (λ n. AreFirst chunks number (sent_through (sha512_cut bits) version 1 n (leaf_events (sha512_cut bits) version faulty pairs))) (sym b.count) b.first) in
         let same : q.above ≡ nodes' = sym q.is in
         record {
@@ -89,7 +93,7 @@ module _ (chunks : List (List ℕ)) (pair : Pair) (leaf leaf' : LeafState ℕ) (
 
     pub added_fault : (fault : CheckFault) → FaultPassing chunks nodes 0 event number fault → DifferBy bits version chunks (pairs ++ pair ∷ []) fault
     added_fault fault h =
-        let d = h [] nodes refl refl bits version 1 (leaf_events (sha512_cut bits) version faulty pairs) b.nodes_are
+        let d = h [] nodes refl refl bits version 1 (leaf_events (sha512_cut bits) version faulty pairs) lower b.nodes_are
         (subst (λ n. AreFirst chunks number (sent_through (sha512_cut bits) version 1 n (leaf_events (sha512_cut bits) version faulty pairs))) (sym b.count) b.first) in
         subst (λ es. DifferAs chunks (sent_through (sha512_cut bits) version 1 node_levels es) fault) (sym sends_one)
         (subst (λ n. DifferAs chunks (sent_through (sha512_cut bits) version 1 n (leaf_events (sha512_cut bits) version faulty pairs ++ event ∷ [])) fault) b.count d)

@@ -1,22 +1,29 @@
 -- Events that pass levels of nodes, and the chunks of a file.
-use Rattle.std.proofs.Common.{◌≡◌, ℕ, zero, suc, ◌+◌, ◌<◌, ◌≤◌, List, [], ◌∷◌, ◌++◌, length, take, get_or, Option, Some, None, refl, sym, ap, ◌∙◌, subst, arith, append_assoc, append-nil}
+use Rattle.std.proofs.Common.{◌≡◌, ℕ, zero, suc, ◌+◌, ◌<◌, ◌≤◌, Bool, true, false, cond, ◌&&◌, nat_le, List, [], ◌∷◌, ◌++◌, length, map, take, get_or, Option, Some, None, refl, sym, ap, ◌∙◌, subst, arith, append_assoc, append-nil}
 use Rattle.std.specs.Prelude.{slice_set}
 use Rattle.std.proofs.Math.Seq.{set-append_seam}
 use Rattle.std.proofs.lemmas.Bool.{cond-true, cond-false}
-use Rattle.std.proofs.lemmas.List.{length-append}
+use Rattle.std.proofs.lemmas.List.{length-append, append_cancel_left}
 use Rattle.std.proofs.lemmas.Slice.Eq.{bytes_eq-Decides}
 use Rattle.std.specs.Str.{bytes_eq}
+use Rattle.std.specs.List.{filter}
 use Rattle.std.specs.Option.{option_to_list}
 use Rattle.prolly_entry.specs.declared.version.Version.{Version}
 use Rattle.prolly_entry.specs.Cut.{Cut, sha512_cut}
-use Rattle.prolly_entry.specs.Chunk.{Chunk}
-use Rattle.prolly_entry.specs.Events.{faulty, inner_events}
+use Rattle.prolly_entry.specs.Pair.{Pair}
+use Rattle.prolly_entry.specs.Split.{is_closed, closed_groups, open_groups, open_entries}
+use Rattle.prolly_entry.specs.Tree.{leaves, pair_is_boundary}
+use Rattle.prolly_entry.specs.Chunk.{Chunk, chunk_of}
+use Rattle.prolly_entry.specs.Events.{Closing, clean, faulty, leaf_events, inner_events, group_event, event_is_boundary, has_level}
+use Rattle.prolly_entry.proofs.Groups.{all_back}
 use Rattle.prolly_entry.proofs.Prefixes.{fault_is_prefix}
-use Rattle.prolly_chunk.specs.NodeLevel.{NodeState, NodeTakes}
+use Rattle.prolly_entry.proofs.Steps.{stage_step}
+use Rattle.prolly_chunk.specs.NodeLevel.{NodeState, NodeTakes, node_level}
+use Rattle.prolly_chunk.proofs.Nodes.{node_passes}
 use Rattle.prolly_check.specs.declared.fault.CheckFault.{CheckFault}
 use Rattle.prolly_check.specs.declared.fault.CheckFault.TheVariants as faults
 use Rattle.prolly_check.specs.Judged.{difference}
-use Rattle.prolly_check.specs.Rebuilt.{sent_through, AreBehind, AreFirst, DifferAs, MovesOn, FaultHere, TakenBy, TakesAt, PassedOn, PassesOn, FaultPassing}
+use Rattle.prolly_check.specs.Rebuilt.{sent_through, AreBehind, AreBelow, AreFirst, DifferAs, MovesOn, FaultHere, TakenBy, TakesAt, PassedOn, PassesOn, FaultPassing}
 use Rattle.prolly_check.proofs.Acceptance.{bytes_in, bytes_append}
 use Rattle.prolly_check.proofs.CanonicalSteps.{false_is}
 
@@ -81,121 +88,216 @@ differ_here chunks number sent event fault within f a more =
     ∙ ap (λ cs. difference 0 cs chunks) (append_assoc (take number chunks) (event.bytes ∷ []) more)
     ∙ differs_at chunks 0 number event.bytes more within f.differs ∙ ap Some (let e : 0 + number ≡ number = omega arith in ap faults.NotCanonical e ∙ sym f.is)
 
+-- ---- what the levels do with an event
+
+-- a level sends the event on first, and then perhaps a node
+record SendsFirst (cut : Cut) (version : Version) (level : ℕ) (events : List Chunk) (event : Chunk) : Type 0 where
+  rest : List Chunk
+  is : inner_events level cut version faulty (events ++ event ∷ []) ≡ (inner_events level cut version faulty events ++ event ∷ []) ++ rest
+
+sends_first : (cut : Cut) (version : Version) (level : ℕ) (events : List Chunk) (event : Chunk) → SendsFirst cut version level events event
+sends_first cut version zero events event = record { rest = []; is = sym (append-nil (events ++ event ∷ [])) }
+sends_first cut version (suc below) events event = record {
+  rest = _;
+  is = (stage_step below (group_event version (suc below)) (event_is_boundary cut version) events event).0
+      ∙ sym (append_assoc (inner_events (suc below) cut version faulty events) (event ∷ []) _);
+}
+
+-- so do all levels together
+record SentFirst (cut : Cut) (version : Version) (level count : ℕ) (events : List Chunk) (event : Chunk) : Type 0 where
+  rest : List Chunk
+  is : sent_through cut version level count (events ++ event ∷ []) ≡ (sent_through cut version level count events ++ event ∷ []) ++ rest
+
+sent_first : (cut : Cut) (version : Version) (level count : ℕ) (events : List Chunk) (event : Chunk) → SentFirst cut version level count events event
+sent_first cut version level zero events event = record { rest = []; is = sym (append-nil (events ++ event ∷ [])) }
+sent_first cut version level (suc count) events event =
+    let inner = inner_events level cut version faulty events in
+    let s = sends_first cut version level events event in
+    let g = sent_goes_on cut version (suc level) count (inner ++ event ∷ []) s.rest in
+    let o = sent_first cut version (suc level) count inner event in
+    record {
+      rest = o.rest ++ g.rest;
+      is = ap (sent_through cut version (suc level) count) s.is ∙ g.is ∙ ap (λ es. es ++ g.rest) o.is
+          ∙ append_assoc (sent_through cut version (suc level) count inner ++ event ∷ []) o.rest g.rest;
+    }
+
+-- a level that is not the next above an event sends it on, and stays as it is
+forwards : (bits : ℕ) (version : Version) (level : ℕ) (events : List Chunk) (event : Chunk) → suc event.level < level →
+    NodeTakes sha512_cut (node_level sha512_cut bits version level events) (node_level sha512_cut bits version level events) event None
+forwards bits version level events event h =
+    let state = node_level sha512_cut bits version level events in
+    node_passes sha512_cut state state.node event refl (omega arith) (λ e. omega arith)
+
+-- so do all levels above it
+pub behind_on : (bits : ℕ) (version : Version) (level : ℕ) (states : List (NodeState ℕ)) (events : List Chunk) (event : Chunk) → suc event.level < level →
+    AreBehind bits version level states events → AreBehind bits version level states (events ++ event ∷ [])
+behind_on bits version level [] events event h b = tt
+behind_on bits version level (s ∷ states) events event h b =
+    let t = forwards bits version level events event h in (
+      b.0 ∙ t.state bits version level events refl,
+      subst (AreBehind bits version (suc level) states) (sym (t.events bits version level events refl))
+          (behind_on bits version (suc level) states (inner_events level (sha512_cut bits) version faulty events) event (omega arith) b.1),
+    )
+
+sent_on : (bits : ℕ) (version : Version) (level count : ℕ) (events : List Chunk) (event : Chunk) → suc event.level < level →
+    sent_through (sha512_cut bits) version level count (events ++ event ∷ []) ≡ sent_through (sha512_cut bits) version level count events ++ event ∷ []
+sent_on bits version level zero events event h = refl
+sent_on bits version level (suc count) events event h =
+    ap (sent_through (sha512_cut bits) version (suc level) count) ((forwards bits version level events event h).events bits version level events refl)
+    ∙ sent_on bits version (suc level) count (inner_events level (sha512_cut bits) version faulty events) event (omega arith)
+
+-- ---- the level of what a level closes
+
+grouped_below : (version : Version) (level : ℕ) (b : Bool) (groups : List (List Chunk)) → AreBelow (suc level) (cond b (map (group_event version level) groups) [])
+grouped_below version level false groups = tt
+grouped_below version level true [] = tt
+grouped_below version level true (g ∷ groups) = (omega arith, grouped_below version level true groups)
+
+pub closed_below : (cut : Cut) (version : Version) (level : ℕ) (events : List Chunk) (event : Chunk) (closed : Option Chunk) →
+    inner_events level cut version faulty (events ++ event ∷ []) ≡ inner_events level cut version faulty events ++ event ∷ option_to_list closed →
+    AreBelow (suc level) (option_to_list closed)
+closed_below cut version zero events event closed e =
+    let h : event ∷ [] ≡ event ∷ option_to_list closed = append_cancel_left events (event ∷ []) (event ∷ option_to_list closed) e in
+    let none : [] ≡ option_to_list closed = cc in
+    subst (AreBelow 1) none tt
+closed_below cut version (suc below) events event closed e =
+    let test = event_is_boundary cut version in
+    let event_of = group_event version (suc below) in
+    let group = open_entries test 2 (filter (has_level below) events) ++ event ∷ [] in
+    let b = has_level below event && is_closed test 2 group in
+    let h : event ∷ cond b (event_of group ∷ []) [] ≡ event ∷ option_to_list closed =
+    append_cancel_left (inner_events (suc below) cut version faulty events) (event ∷ cond b (event_of group ∷ []) []) (event ∷ option_to_list closed)
+    (sym (stage_step below event_of test events event).0 ∙ e) in
+    let same : cond b (event_of group ∷ []) [] ≡ option_to_list closed = cc in
+    subst (AreBelow (suc (suc below))) same (grouped_below version (suc below) b (group ∷ []))
+
+pub ended_below : (cut : Cut) (version : Version) (level : ℕ) (events : List Chunk) (last : Option Chunk) →
+    inner_events level cut version clean events ≡ inner_events level cut version faulty events ++ option_to_list last → AreBelow (suc level) (option_to_list last)
+ended_below cut version zero events last e =
+    subst (AreBelow 1) (append_cancel_left events [] (option_to_list last) (append-nil events ∙ e)) tt
+ended_below cut version (suc below) events last e =
+    let test = event_is_boundary cut version in
+    let event_of = group_event version (suc below) in
+    let entries = filter (has_level below) events in
+    let b = nat_le 2 (length entries) in
+    let same = append_cancel_left (inner_events (suc below) cut version faulty events) (cond b (map event_of (open_groups test 2 entries)) []) (option_to_list last)
+    (sym (stage_step below event_of test events (group_event version 0 [])).1 ∙ e) in
+    subst (AreBelow (suc (suc below))) same (grouped_below version (suc below) b (open_groups test 2 entries))
+
+leaves_below : (version : Version) (leaves : List (List Pair)) → AreBelow 1 (map (chunk_of version 0) leaves)
+leaves_below version [] = tt
+leaves_below version (l ∷ leaves) = (omega arith, leaves_below version leaves)
+
+pub leaf_below : (cut : Cut) (version : Version) (closing : Closing) (pairs : List Pair) (sent : List Chunk) (last : Option Chunk) →
+    leaf_events cut version closing pairs ≡ sent ++ option_to_list last → AreBelow 1 (option_to_list last)
+leaf_below cut version closing pairs sent last e =
+    all_back (λ c. c.level < 1) sent (option_to_list last) (subst (AreBelow 1) e (all closing))
+  where
+    all : (closing : Closing) → AreBelow 1 (leaf_events cut version closing pairs)
+    all clean = leaves_below version (leaves cut pairs)
+    all faulty = leaves_below version (closed_groups (pair_is_boundary cut) 1 pairs)
+
 -- ---- an event on its way
 
--- beyond the last level
-nothing_after : (before after old : List (NodeState ℕ)) (place : ℕ) → old ≡ before ++ after → length before ≡ place → length old ≤ place → after ≡ []
-nothing_after before [] old place e f h = refl
-nothing_after before (s ∷ after) old place e f h = absurd (omega (arith, ap length e, length-append before (s ∷ after)))
-
-pub fault_top : (chunks : List (List ℕ)) (old : List (NodeState ℕ)) (place : ℕ) (event : Chunk) (number : ℕ) (fault : CheckFault) → length old ≤ place → number ≤ length chunks → FaultHere chunks number event.bytes fault →
+-- the file has another chunk in its place
+pub fault_first : (chunks : List (List ℕ)) (old : List (NodeState ℕ)) (place : ℕ) (event : Chunk) (number : ℕ) (fault : CheckFault) → number ≤ length chunks → FaultHere chunks number event.bytes fault →
     FaultPassing chunks old place event number fault
-fault_top chunks old place event number fault h within m before after e f bits version level events =
-    let none = nothing_after before after old place e f h in
-    subst (λ a. AreBehind bits version level a events → AreFirst chunks number (sent_through (sha512_cut bits) version level (length a) events) →
-    DifferAs chunks (sent_through (sha512_cut bits) version level (length a) (events ++ event ∷ [])) fault) (sym none)
-    (λ behind first. differ_here chunks number events event fault within m first)
+fault_first chunks old place event number fault within here before after e f bits version level events lower behind first =
+    let sent = sent_through (sha512_cut bits) version level (length after) in
+    let o = sent_first (sha512_cut bits) version level (length after) events event in
+    differ_more chunks (sent events ++ event ∷ []) o.rest (sent (events ++ event ∷ [])) fault o.is (differ_here chunks number (sent events) event fault within here first)
 
--- through a level, and then those above it
-module _ (chunks : List (List ℕ)) (old mid : List (NodeState ℕ)) (place : ℕ) (event : Chunk) (closed : Option Chunk) (number : ℕ) (within : place < length old) (taken : TakesAt old mid place event closed) where
-  -- the level, and the levels above it
-  record Parted (before after : List (NodeState ℕ)) : Type 0 where
-    state : NodeState ℕ
-    above : List (NodeState ℕ)
-    is : after ≡ state ∷ above
-    took : TakenBy before above state mid event closed
+-- the chunk is there, and goes on
+module _ (chunks : List (List ℕ)) (old : List (NodeState ℕ)) (place : ℕ) (event : Chunk) (number next : ℕ) (there : MovesOn chunks number next event.bytes) where
+  -- the next level takes it, and those above let it pass
+  module _ (mid : List (NodeState ℕ)) (closed : Option Chunk) (within : place < length old) (taken : TakesAt old mid place event closed) where
+    -- the level, and the levels above it
+    record Parted (before after : List (NodeState ℕ)) : Type 0 where
+      state : NodeState ℕ
+      above : List (NodeState ℕ)
+      is : after ≡ state ∷ above
+      took : TakenBy before above state mid event closed
 
-  parted : (before after : List (NodeState ℕ)) → old ≡ before ++ after → length before ≡ place → Parted before after
-  parted before [] e f = absurd (omega (arith, ap length e, length-append before []))
-  parted before (s ∷ after) e f = record { state = s; above = after; is = refl; took = taken before after s e f }
+    parted : (before after : List (NodeState ℕ)) → old ≡ before ++ after → length before ≡ place → Parted before after
+    parted before [] e f = absurd (omega (arith, ap length e, length-append before []))
+    parted before (s ∷ after) e f = record { state = s; above = after; is = refl; took = taken before after s e f }
 
-  -- what the level sends of the event
-  module _ (before after : List (NodeState ℕ)) (p : Parted before after) (bits : ℕ) (version : Version) (level : ℕ) (events : List Chunk) (behind : AreBehind bits version level after events) where
-    known : AreBehind bits version level (p.state ∷ p.above) events
-    known = subst (λ a. AreBehind bits version level a events) p.is behind
+    -- what then stands behind what the level sends of the event
+    record Stepped (before after : List (NodeState ℕ)) (bits : ℕ) (version : Version) (level : ℕ) (events : List Chunk) (p : Parted before after) : Type 0 where
+      state : p.took.state ≡ node_level sha512_cut bits version level (events ++ event ∷ [])
+      sends : inner_events level (sha512_cut bits) version faulty (events ++ event ∷ []) ≡ (inner_events level (sha512_cut bits) version faulty events ++ event ∷ []) ++ option_to_list closed
+      below : AreBelow (suc level) (option_to_list closed)
+      behind : AreBehind bits version (suc level) p.above (inner_events level (sha512_cut bits) version faulty events ++ event ∷ [])
+      first : AreFirst chunks next (sent_through (sha512_cut bits) version (suc level) (length p.above) (inner_events level (sha512_cut bits) version faulty events ++ event ∷ []))
 
-    sends : inner_events level (sha512_cut bits) version faulty (events ++ event ∷ []) ≡ (inner_events level (sha512_cut bits) version faulty events ++ event ∷ []) ++ option_to_list closed
-    sends = p.took.takes.events bits version level events known.0
-        ∙ sym (append_assoc (inner_events level (sha512_cut bits) version faulty events) (event ∷ []) (option_to_list closed))
-
-  pub fault_first : (fault : CheckFault) → FaultPassing chunks mid (place + 1) event number fault → FaultPassing chunks old place event number fault
-  fault_first fault h before after e f bits version level events behind first =
-      let p = parted before after e f in
-      let inner = inner_events level (sha512_cut bits) version faulty in
-      let k = known before after p bits version level events behind in
-      let d : DifferAs chunks (sent_through (sha512_cut bits) version (suc level) (length p.above) (inner events ++ event ∷ [])) fault =
-      h (before ++ p.took.state ∷ []) p.above (p.took.is ∙ sym (append_assoc before (p.took.state ∷ []) p.above)) (omega (arith, f, length-append before (p.took.state ∷ [])))
-      bits version (suc level) (inner events) k.1 (subst (λ a. AreFirst chunks number (sent_through (sha512_cut bits) version level (length a) events)) p.is first) in
-      subst (λ a. DifferAs chunks (sent_through (sha512_cut bits) version level (length a) (events ++ event ∷ [])) fault) (sym p.is)
-      (subst (λ es. DifferAs chunks (sent_through (sha512_cut bits) version (suc level) (length p.above) es) fault) (sym (sends before after p bits version level events behind))
-      (sent_differs_more chunks (sha512_cut bits) version (suc level) (length p.above) (inner events ++ event ∷ []) (option_to_list closed) fault d))
-
-  module _ (new : List (NodeState ℕ)) (next : ℕ) (passed : PassesOn chunks mid new (place + 1) event number next) where
-    -- the event passed the levels above
-    once : (before after : List (NodeState ℕ)) → length before ≡ place → (p : Parted before after) → PassedOn chunks (before ++ p.took.state ∷ []) p.above new event number next
-    once before after f p = passed (before ++ p.took.state ∷ []) p.above (p.took.is ∙ sym (append_assoc before (p.took.state ∷ []) p.above)) (omega (arith, f, length-append before (p.took.state ∷ [])))
-
-    pub passed_once : closed ≡ None → PassesOn chunks old new place event number next
-    passed_once none before after e f =
-        let p = parted before after e f in
-        let q = once before after f p in
-        let size = q.size in
+    stepped : (before after : List (NodeState ℕ)) (p : Parted before after) (bits : ℕ) (version : Version) (level : ℕ) (events : List Chunk) → event.level < level → AreBehind bits version level after events →
+        AreFirst chunks number (sent_through (sha512_cut bits) version level (length after) events) → Stepped before after bits version level events p
+    stepped before after p bits version level events lower behind first =
+        let inner = inner_events level (sha512_cut bits) version faulty in
+        let k : AreBehind bits version level (p.state ∷ p.above) events = subst (λ a. AreBehind bits version level a events) p.is behind in
+        let sends = p.took.takes.events bits version level events k.0 in
         record {
-          above = p.took.state ∷ q.above;
-          is = q.is ∙ append_assoc before (p.took.state ∷ []) q.above;
-          size = ap suc q.size ∙ ap length (sym p.is);
-          so = λ bits version level events behind first.
+          state = p.took.takes.state bits version level events k.0;
+          sends = sends ∙ sym (append_assoc (inner events) (event ∷ []) (option_to_list closed));
+          below = closed_below (sha512_cut bits) version level events event closed sends;
+          behind = behind_on bits version (suc level) p.above (inner events) event (omega arith) k.1;
+          first = subst (AreFirst chunks next) (sym (sent_on bits version (suc level) (length p.above) (inner events) event (omega arith)))
+              (first_more chunks number next (sent_through (sha512_cut bits) version (suc level) (length p.above) (inner events)) event there
+              (subst (λ a. AreFirst chunks number (sent_through (sha512_cut bits) version level (length a) events)) p.is first));
+        }
+
+    -- it closes no node
+    pub passed_once : closed ≡ None → PassesOn chunks old mid place event number next
+    passed_once none before after e f =
+        let p = parted before after e f in record {
+          above = p.took.state ∷ p.above;
+          is = p.took.is;
+          size = ap length (sym p.is);
+          so = λ bits version level events lower behind first.
+              let s = stepped before after p bits version level events lower behind first in
               let inner = inner_events level (sha512_cut bits) version faulty in
-              let k = known before after p bits version level events behind in
-              let a = q.so bits version (suc level) (inner events) k.1 (subst (λ a. AreFirst chunks number (sent_through (sha512_cut bits) version level (length a) events)) p.is first) in
               let sent : inner (events ++ event ∷ []) ≡ inner events ++ event ∷ [] =
-              sends before after p bits version level events behind ∙ ap (λ c. (inner events ++ event ∷ []) ++ option_to_list c) none ∙ append-nil (inner events ++ event ∷ []) in (
-                (p.took.takes.state bits version level events k.0, subst (AreBehind bits version (suc level) q.above) (sym sent) a.0),
+              s.sends ∙ ap (λ c. (inner events ++ event ∷ []) ++ option_to_list c) none ∙ append-nil (inner events ++ event ∷ []) in (
+                (s.state, subst (AreBehind bits version (suc level) p.above) (sym sent) s.behind),
                 subst (λ b. AreFirst chunks next (sent_through (sha512_cut bits) version level (length b) (events ++ event ∷ []))) (sym p.is)
-                    (subst (λ es. AreFirst chunks next (sent_through (sha512_cut bits) version (suc level) (length p.above) es)) (sym sent) a.1),
+                    (subst (λ es. AreFirst chunks next (sent_through (sha512_cut bits) version (suc level) (length p.above) es)) (sym sent) s.first),
               );
         }
 
-    module _ (behind : Chunk) (some : closed ≡ Some behind) where
-      sends_two : (before after : List (NodeState ℕ)) (p : Parted before after) (bits : ℕ) (version : Version) (level : ℕ) (events : List Chunk) → AreBehind bits version level after events →
-          inner_events level (sha512_cut bits) version faulty (events ++ event ∷ []) ≡ (inner_events level (sha512_cut bits) version faulty events ++ event ∷ []) ++ behind ∷ []
-      sends_two before after p bits version level events b =
-          sends before after p bits version level events b
-          ∙ ap (λ c. (inner_events level (sha512_cut bits) version faulty events ++ event ∷ []) ++ option_to_list c) some
+    -- it closes a node, which goes on from the level above
+    module _ (node : Chunk) (some : closed ≡ Some node) where
+      sends_two : (before after : List (NodeState ℕ)) (p : Parted before after) (bits : ℕ) (version : Version) (level : ℕ) (events : List Chunk) → Stepped before after bits version level events p →
+          inner_events level (sha512_cut bits) version faulty (events ++ event ∷ []) ≡ (inner_events level (sha512_cut bits) version faulty events ++ event ∷ []) ++ node ∷ []
+      sends_two before after p bits version level events s =
+          s.sends ∙ ap (λ c. (inner_events level (sha512_cut bits) version faulty events ++ event ∷ []) ++ option_to_list c) some
 
-      pub fault_second : (fault : CheckFault) → FaultPassing chunks new (place + 1) behind next fault → FaultPassing chunks old place event number fault
-      fault_second fault h before after e f bits version level events b first =
+      lower_node : (level : ℕ) → AreBelow (suc level) (option_to_list closed) → node.level < suc level
+      lower_node level h = let h' : AreBelow (suc level) (node ∷ []) = subst (λ c. AreBelow (suc level) (option_to_list c)) some h in h'.0
+
+      pub fault_second : (fault : CheckFault) → FaultPassing chunks mid (place + 1) node next fault → FaultPassing chunks old place event number fault
+      fault_second fault h before after e f bits version level events lower behind first =
           let p = parted before after e f in
-          let q = once before after f p in
-          let inner = inner_events level (sha512_cut bits) version faulty in
-          let k = known before after p bits version level events b in
-          let a = q.so bits version (suc level) (inner events) k.1 (subst (λ a. AreFirst chunks number (sent_through (sha512_cut bits) version level (length a) events)) p.is first) in
-          let d = h (before ++ p.took.state ∷ []) q.above q.is (omega (arith, f, length-append before (p.took.state ∷ []))) bits version (suc level) (inner events ++ event ∷ []) a.0
-          (subst (λ n. AreFirst chunks next (sent_through (sha512_cut bits) version (suc level) n (inner events ++ event ∷ []))) (sym q.size) a.1) in
+          let s = stepped before after p bits version level events lower behind first in
+          let d = h (before ++ p.took.state ∷ []) p.above (p.took.is ∙ sym (append_assoc before (p.took.state ∷ []) p.above)) (omega (arith, f, length-append before (p.took.state ∷ [])))
+          bits version (suc level) (inner_events level (sha512_cut bits) version faulty events ++ event ∷ []) (lower_node level s.below) s.behind s.first in
           subst (λ a. DifferAs chunks (sent_through (sha512_cut bits) version level (length a) (events ++ event ∷ [])) fault) (sym p.is)
-          (subst (λ es. DifferAs chunks (sent_through (sha512_cut bits) version (suc level) (length p.above) es) fault) (sym (sends_two before after p bits version level events b))
-          (subst (λ n. DifferAs chunks (sent_through (sha512_cut bits) version (suc level) n ((inner events ++ event ∷ []) ++ behind ∷ [])) fault) q.size d))
+          (subst (λ es. DifferAs chunks (sent_through (sha512_cut bits) version (suc level) (length p.above) es) fault) (sym (sends_two before after p bits version level events s)) d)
 
-      pub passed_twice : (newer : List (NodeState ℕ)) (last : ℕ) → PassesOn chunks new newer (place + 1) behind next last → PassesOn chunks old newer place event number last
-      passed_twice newer last again before after e f =
+      pub passed_twice : (new : List (NodeState ℕ)) (last : ℕ) → PassesOn chunks mid new (place + 1) node next last → PassesOn chunks old new place event number last
+      passed_twice new last again before after e f =
           let p = parted before after e f in
-          let q = once before after f p in
-          let r = again (before ++ p.took.state ∷ []) q.above q.is (omega (arith, f, length-append before (p.took.state ∷ []))) in
+          let r = again (before ++ p.took.state ∷ []) p.above (p.took.is ∙ sym (append_assoc before (p.took.state ∷ []) p.above)) (omega (arith, f, length-append before (p.took.state ∷ []))) in
           record {
             above = p.took.state ∷ r.above;
             is = r.is ∙ append_assoc before (p.took.state ∷ []) r.above;
-            size = ap suc (r.size ∙ q.size) ∙ ap length (sym p.is);
-            so = λ bits version level events b first.
-                let inner = inner_events level (sha512_cut bits) version faulty in
-                let k = known before after p bits version level events b in
-                let a = q.so bits version (suc level) (inner events) k.1 (subst (λ a. AreFirst chunks number (sent_through (sha512_cut bits) version level (length a) events)) p.is first) in
-                let c = r.so bits version (suc level) (inner events ++ event ∷ []) a.0
-                (subst (λ n. AreFirst chunks next (sent_through (sha512_cut bits) version (suc level) n (inner events ++ event ∷ []))) (sym q.size) a.1) in
-                let sent = sends_two before after p bits version level events b in (
-                  (p.took.takes.state bits version level events k.0, subst (AreBehind bits version (suc level) r.above) (sym sent) c.0),
+            size = ap suc r.size ∙ ap length (sym p.is);
+            so = λ bits version level events lower behind first.
+                let s = stepped before after p bits version level events lower behind first in
+                let c = r.so bits version (suc level) (inner_events level (sha512_cut bits) version faulty events ++ event ∷ []) (lower_node level s.below) s.behind s.first in
+                let sent = sends_two before after p bits version level events s in (
+                  (s.state, subst (AreBehind bits version (suc level) r.above) (sym sent) c.0),
                   subst (λ b. AreFirst chunks last (sent_through (sha512_cut bits) version level (length b) (events ++ event ∷ []))) (sym p.is)
-                      (subst (λ es. AreFirst chunks last (sent_through (sha512_cut bits) version (suc level) (length p.above) es)) (sym sent)
-                      (subst (λ n. AreFirst chunks last (sent_through (sha512_cut bits) version (suc level) n ((inner events ++ event ∷ []) ++ behind ∷ []))) q.size c.1)),
+                      (subst (λ es. AreFirst chunks last (sent_through (sha512_cut bits) version (suc level) (length p.above) es)) (sym sent) c.1),
                 );
           }
 

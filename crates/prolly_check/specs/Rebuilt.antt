@@ -5,6 +5,7 @@ use Rattle.prolly_entry.specs.Cut.{Cut, sha512_cut}
 use Rattle.prolly_entry.specs.Chunk.{Chunk}
 use Rattle.prolly_entry.specs.Events.{clean, faulty, leaf_events, inner_events}
 use Rattle.prolly_entry.specs.Pipeline.{pipeline_events}
+use Rattle.std.specs.List.{AllByRecursion}
 use Rattle.std.specs.Option.{option_to_list}
 use Rattle.prolly_entry.specs.Pair.{Pair}
 use Rattle.prolly_chunk.specs.LeafLevel.{LeafState, leaf_level}
@@ -23,6 +24,10 @@ abbrev pub AreBehind : ℕ → Version → ℕ → List (NodeState ℕ) → List
 AreBehind bits version level [] events = Unit {0}
 AreBehind bits version level (state ∷ states) events =
     (state ≡ node_level sha512_cut bits version level events) × AreBehind bits version (suc level) states (inner_events level (sha512_cut bits) version faulty events)
+
+-- The chunks are of levels below this one.
+abbrev pub AreBelow : ℕ → List Chunk → Type 0
+AreBelow level events = AllByRecursion (λ e. e.level < level) events
 
 -- The bytes of the chunks that were sent are the first chunks of a file, so many.
 pub record AreFirst (chunks : List (List ℕ)) (number : ℕ) (sent : List Chunk) : Type 0 where
@@ -54,12 +59,12 @@ abbrev pub TakesAt : List (NodeState ℕ) → List (NodeState ℕ) → ℕ → C
 TakesAt old new place event closed = (before after : List (NodeState ℕ)) (state : NodeState ℕ) → old ≡ before ++ state ∷ after → length before ≡ place →
     TakenBy before after state new event closed
 
--- An event passed these levels, behind others: what leaves the last one goes on with the chunks of a file up to the next number.
+-- An event of a lower level passed these levels, behind others: what leaves the last one goes on with the chunks of a file up to the next number.
 pub record PassedOn (chunks : List (List ℕ)) (before after new : List (NodeState ℕ)) (event : Chunk) (number next : ℕ) : Type 0 where
   pub above : List (NodeState ℕ)
   pub is : new ≡ before ++ above
   pub size : length above ≡ length after
-  pub so : (bits : ℕ) (version : Version) (level : ℕ) (events : List Chunk) → AreBehind bits version level after events →
+  pub so : (bits : ℕ) (version : Version) (level : ℕ) (events : List Chunk) → event.level < level → AreBehind bits version level after events →
       AreFirst chunks number (sent_through (sha512_cut bits) version level (length after) events) →
       AreBehind bits version level above (events ++ event ∷ []) × AreFirst chunks next (sent_through (sha512_cut bits) version level (length after) (events ++ event ∷ []))
 
@@ -70,7 +75,7 @@ PassesOn chunks old new place event number next = (before after : List (NodeStat
 -- The same where a chunk of the file is another.
 abbrev pub FaultPassing : List (List ℕ) → List (NodeState ℕ) → ℕ → Chunk → ℕ → CheckFault → Type 0
 FaultPassing chunks old place event number fault = (before after : List (NodeState ℕ)) → old ≡ before ++ after → length before ≡ place →
-    (bits : ℕ) (version : Version) (level : ℕ) (events : List Chunk) → AreBehind bits version level after events →
+    (bits : ℕ) (version : Version) (level : ℕ) (events : List Chunk) → event.level < level → AreBehind bits version level after events →
     AreFirst chunks number (sent_through (sha512_cut bits) version level (length after) events) →
     DifferAs chunks (sent_through (sha512_cut bits) version level (length after) (events ++ event ∷ [])) fault
 
@@ -107,11 +112,11 @@ pub record MaybePassed (chunks : List (List ℕ)) (old new : List (NodeState ℕ
 
 pub record MaybePasses (chunks : List (List ℕ)) (old new : List (NodeState ℕ)) (last : Option Chunk) (number next : ℕ) : Type 0 where
   pub size : length new ≡ length old
-  pub so : (bits : ℕ) (version : Version) (level : ℕ) (events : List Chunk) → AreBehind bits version level old events →
+  pub so : (bits : ℕ) (version : Version) (level : ℕ) (events : List Chunk) → AreBelow level (option_to_list last) → AreBehind bits version level old events →
       AreFirst chunks number (sent_through (sha512_cut bits) version level (length old) events) → MaybePassed chunks old new last number next bits version level events
 
 abbrev pub MaybeFault : List (List ℕ) → List (NodeState ℕ) → Option Chunk → ℕ → CheckFault → Type 0
-MaybeFault chunks old last number fault = (bits : ℕ) (version : Version) (level : ℕ) (events : List Chunk) → AreBehind bits version level old events →
+MaybeFault chunks old last number fault = (bits : ℕ) (version : Version) (level : ℕ) (events : List Chunk) → AreBelow level (option_to_list last) → AreBehind bits version level old events →
     AreFirst chunks number (sent_through (sha512_cut bits) version level (length old) events) →
     DifferAs chunks (sent_through (sha512_cut bits) version level (length old) (events ++ option_to_list last)) fault
 

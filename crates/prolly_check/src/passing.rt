@@ -37,8 +37,11 @@ fn push_at(
     levels[place].push(alloc, event)
 }
 
-/// Lets an event pass the levels from this one on, each of which may close a node behind it, and compares
-/// what leaves the last one with the chunks of a file from this number on. Answers the next number.
+/// Lets an event pass the levels from this one on, and compares what leaves the last one with the
+/// chunks of a file from this number on. Answers the next number.
+///
+/// The event leaves the last level first: this level takes it, and those above let it pass. Then the node
+/// that this level closes, if it does, goes on in the same way from the next one.
 pub(crate) fn pass(
     alloc: Global,
     levels: &mut [NodeLevel<Sha512Cut>],
@@ -53,18 +56,11 @@ pub(crate) fn pass(
     ensures next { IfOk result (λ next. next ≤ length chunks.now) }
     ensures err { IfErr result (UnlessMemory (FaultPassing chunks.now levels.old place event.now number)) }
 {
+    let next = expect_chunk(chunks, number, event.bytes())?;
     if place == levels.len() {
-        return expect_chunk(chunks, number, event.bytes());
+        return Ok(next);
     }
-    let closed = match push_at(alloc, levels, place, event) {
-        Ok(closed) => closed,
-        Err(_) => return Err(CheckFault::Memory),
-    };
-    let next = match pass(alloc, levels, place + 1, event, chunks, number) {
-        Ok(next) => next,
-        Err(fault) => return Err(fault),
-    };
-    match closed {
+    match push_at(alloc, levels, place, event)? {
         None => Ok(next),
         Some(closed) => {
             let closed = chunks.with_reference(closed, next);
