@@ -23,59 +23,9 @@ use Rattle.prolly_entry.proofs.Files.{eight_bytes}
 
 -- ---- in a leaf
 
--- of these pairs, the rest is left at the place, and the wanted pair is so many behind the first of it
-pub record StillAhead (entries : List ℕ) (n : ℕ) (pairs : List Pair) (place ahead : ℕ) : Type 0 where
-  pub rest : List Pair
-  pub left : drop place entries ≡ flat_map pair_spelling rest
-  pub lawful : AllByRecursion IsPair rest
-  pub same : nth pairs n ≡ nth rest ahead
-
--- whatever pairs the entries are, the count has come to the place
-abbrev pub AllAhead : List ℕ → ℕ → ℕ → ℕ → Type 0
-AllAhead entries n place ahead = (pairs : List Pair) → AllByRecursion IsPair pairs → entries ≡ flat_map pair_spelling pairs → StillAhead entries n pairs place ahead
-
-pub counts_from : (entries : List ℕ) (n : ℕ) → AllAhead entries n 0 n
-counts_from entries n pairs lawful e = record { rest = pairs; left = e; lawful = lawful; same = refl }
-
-nth_behind : (p : Pair) (more : List Pair) (ahead : ℕ) → 0 < ahead → nth (p ∷ more) ahead ≡ nth more (ahead - 1)
+pub nth_behind : (p : Pair) (more : List Pair) (ahead : ℕ) → 0 < ahead → nth (p ∷ more) ahead ≡ nth more (ahead - 1)
 nth_behind p more zero h = absurd (omega arith)
 nth_behind p more (suc ahead) h = let e : suc ahead - 1 ≡ ahead = omega arith in rw e refl
-
-pub counts_on : (entries bytes : List ℕ) (n place len ahead : ℕ) (p : Pair) → bytes ≡ drop place entries → place < length entries → IsPairAt bytes p len → 0 < ahead →
-    AllAhead entries n place ahead → AllAhead entries n (place + len) (ahead - 1)
-counts_on entries bytes n place len ahead p e h at some all pairs lawful spelled =
-    let l = all pairs lawful spelled in
-    let f = first_is entries bytes place len p l.rest e h at l.left l.lawful in
-    record {
-      rest = f.more;
-      left = sym (drop-drop len place entries) ∙ f.left;
-      lawful = f.lawful;
-      same = l.same ∙ ap (λ ps. nth ps ahead) f.is ∙ nth_behind p f.more ahead some;
-    }
-
-pub pair_here : (entries bytes : List ℕ) (n place len ahead : ℕ) (p : Pair) → bytes ≡ drop place entries → place < length entries → IsPairAt bytes p len → ahead ≡ 0 →
-    AllAhead entries n place ahead → (pairs : List Pair) → AllByRecursion IsPair pairs → entries ≡ flat_map pair_spelling pairs → Some p ≡ nth pairs n
-pair_here entries bytes n place len ahead p e h at none all pairs lawful spelled =
-    let l = all pairs lawful spelled in
-    let f = first_is entries bytes place len p l.rest e h at l.left l.lawful in
-    sym (l.same ∙ ap (λ ps. nth ps ahead) f.is ∙ ap (nth (p ∷ f.more)) none)
-
-pub pair_nowhere : (entries : List ℕ) (n place ahead : ℕ) → length entries ≤ place → AllAhead entries n place ahead →
-    (pairs : List Pair) → AllByRecursion IsPair pairs → entries ≡ flat_map pair_spelling pairs → None ≡ nth pairs n
-pair_nowhere entries n place ahead h all pairs lawful spelled = let l = all pairs lawful spelled in go l.rest (sym l.left ∙ drop_all place entries h) l.same
-  where
-    go : (rest : List Pair) → flat_map pair_spelling rest ≡ [] → nth pairs n ≡ nth rest ahead → None ≡ nth pairs n
-    go [] e s = sym s
-    go (q ∷ more) e s = absurd (cons≢nil e)
-
--- no other bytes than pairs are there
-pub pair_not_there : (entries bytes : List ℕ) (n place ahead : ℕ) → bytes ≡ drop place entries → place < length entries → NoPairAt bytes → AllAhead entries n place ahead →
-    (pairs : List Pair) → AllByRecursion IsPair pairs → entries ≡ flat_map pair_spelling pairs → None ≡ nth pairs n
-pair_not_there entries bytes n place ahead e h none all pairs lawful spelled = let l = all pairs lawful spelled in go l.rest l.left l.lawful
-  where
-    go : (rest : List Pair) → drop place entries ≡ flat_map pair_spelling rest → AllByRecursion IsPair rest → None ≡ nth pairs n
-    go [] f g = absurd (some_left entries place h f)
-    go (q ∷ more) f g = absurd (none q (flat_map pair_spelling more) g.0 (e ∙ f))
 
 -- ---- in a node
 

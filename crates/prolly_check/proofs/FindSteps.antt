@@ -13,19 +13,15 @@ use Rattle.prolly_entry.specs.Front.{IsPairAt, NoPairAt}
 use Rattle.prolly_entry.proofs.Spellings.{pair_spellings_apart}
 use Rattle.prolly_check.proofs.EntrySteps.{some_left}
 
--- of these pairs, the rest is left at the place, and tells of the key what they do
-pub record Looking (entries key : List ℕ) (pairs : List Pair) (place : ℕ) : Type 0 where
-  pub rest : List Pair
-  pub left : drop place entries ≡ flat_map pair_spelling rest
-  pub lawful : AllByRecursion IsPair rest
-  pub same : find pairs key ≡ find rest key
+-- ---- among pairs
 
--- whatever pairs the entries are, the look-up has come to the place
-abbrev pub AllLooking : List ℕ → List ℕ → ℕ → Type 0
-AllLooking entries key place = (pairs : List Pair) → AllByRecursion IsPair pairs → entries ≡ flat_map pair_spelling pairs → Looking entries key pairs place
+pub find_on : (key : List ℕ) (p : Pair) (rest more : List Pair) → rest ≡ p ∷ more → is_eq (key_order p.key key) ≡ false → find rest key ≡ find more key
+find_on key p rest more e other = ap (λ ps. find ps key) e ∙ cond-false (is_eq (key_order p.key key)) (Some p.value) (find more key) other
 
-pub looks : (entries key : List ℕ) → AllLooking entries key 0
-looks entries key pairs lawful e = record { rest = pairs; left = e; lawful = lawful; same = refl }
+pub find_here : (key : List ℕ) (p : Pair) (rest more : List Pair) → rest ≡ p ∷ more → is_eq (key_order p.key key) ≡ true → find rest key ≡ Some p.value
+find_here key p rest more e same = ap (λ ps. find ps key) e ∙ cond-true (is_eq (key_order p.key key)) (Some p.value) (find more key) same
+
+-- ---- among entries
 
 -- the pair there is the first of the rest
 pub record FirstIs (entries : List ℕ) (place len : ℕ) (p : Pair) (rest : List Pair) : Type 0 where
@@ -45,39 +41,3 @@ first_is entries bytes place len p (q ∷ more) e h at left lawful =
       left = ap (drop len) (sym e) ∙ s.1;
       lawful = lawful.1;
     }
-
-pub looks_on : (entries bytes key : List ℕ) (place len : ℕ) (p : Pair) → bytes ≡ drop place entries → place < length entries → IsPairAt bytes p len →
-    is_eq (key_order p.key key) ≡ false → AllLooking entries key place → AllLooking entries key (place + len)
-looks_on entries bytes key place len p e h at other all pairs lawful spelled =
-    let l = all pairs lawful spelled in
-    let f = first_is entries bytes place len p l.rest e h at l.left l.lawful in
-    record {
-      rest = f.more;
-      left = sym (drop-drop len place entries) ∙ f.left;
-      lawful = f.lawful;
-      same = l.same ∙ ap (λ ps. find ps key) f.is ∙ cond-false (is_eq (key_order p.key key)) (Some p.value) (find f.more key) other;
-    }
-
-pub found_here : (entries bytes key : List ℕ) (place len : ℕ) (p : Pair) → bytes ≡ drop place entries → place < length entries → IsPairAt bytes p len →
-    is_eq (key_order p.key key) ≡ true → AllLooking entries key place → (pairs : List Pair) → AllByRecursion IsPair pairs → entries ≡ flat_map pair_spelling pairs → Some p.value ≡ find pairs key
-found_here entries bytes key place len p e h at same all pairs lawful spelled =
-    let l = all pairs lawful spelled in
-    let f = first_is entries bytes place len p l.rest e h at l.left l.lawful in
-    sym (l.same ∙ ap (λ ps. find ps key) f.is ∙ cond-true (is_eq (key_order p.key key)) (Some p.value) (find f.more key) same)
-
-pub found_nowhere : (entries key : List ℕ) (place : ℕ) → length entries ≤ place → AllLooking entries key place →
-    (pairs : List Pair) → AllByRecursion IsPair pairs → entries ≡ flat_map pair_spelling pairs → None ≡ find pairs key
-found_nowhere entries key place h all pairs lawful spelled = let l = all pairs lawful spelled in go l.rest (sym l.left ∙ drop_all place entries h) l.same
-  where
-    go : (rest : List Pair) → flat_map pair_spelling rest ≡ [] → find pairs key ≡ find rest key → None ≡ find pairs key
-    go [] e s = sym s
-    go (q ∷ more) e s = absurd (cons≢nil e)
-
--- no other bytes than pairs are there
-pub not_there : (entries bytes key : List ℕ) (place : ℕ) → bytes ≡ drop place entries → place < length entries → NoPairAt bytes → AllLooking entries key place →
-    (pairs : List Pair) → AllByRecursion IsPair pairs → entries ≡ flat_map pair_spelling pairs → None ≡ find pairs key
-not_there entries bytes key place e h none all pairs lawful spelled = let l = all pairs lawful spelled in go l.rest l.left l.lawful
-  where
-    go : (rest : List Pair) → drop place entries ≡ flat_map pair_spelling rest → AllByRecursion IsPair rest → None ≡ find pairs key
-    go [] f g = absurd (some_left entries place h f)
-    go (q ∷ more) f g = absurd (none q (flat_map pair_spelling more) g.0 (e ∙ f))

@@ -16,6 +16,8 @@ use Rattle.prolly_entry.proofs.Roots.{top_in}
 use Rattle.prolly_file.specs.Scratch.{keys_in}
 use Rattle.prolly_check.specs.Content.{Content}
 use Rattle.prolly_check.specs.Descent.{HasTree, NodeFull, StandsAt, Leads, LeadsNowhere}
+use Rattle.prolly_check.specs.Entries.{Holds}
+use Rattle.prolly_check.specs.Whole.{IsReadable}
 use Rattle.prolly_check.specs.Index.{number_of, IsIndex}
 use Rattle.prolly_check.specs.Judged.{chunk_bytes}
 use Rattle.prolly_check.specs.Root.{root_bytes}
@@ -26,6 +28,7 @@ use Rattle.prolly_check.specs.Spans.{chunk_in, chunks_in}
 use Rattle.prolly_check.proofs.CanonicalSteps.{count_in, chunk_there}
 use Rattle.prolly_check.proofs.CheckedTree.{IsCheckedAs, checked_as}
 use Rattle.prolly_check.proofs.Descents.{stands_at_root, steps_down}
+use Rattle.prolly_check.proofs.LeafPairs.{tree_readable}
 use Rattle.prolly_check.proofs.Lookups.{reference_leads, find_in_none}
 
 -- the look-up stands at the chunk
@@ -48,12 +51,13 @@ has_bytes content key chunk s = subst (λ c. 0 < length c) (sym s.is) (some_byte
 
 -- ---- at a leaf
 
-pub in_leaf : (content : Content) (key chunk : List ℕ) (found : Option (List ℕ)) → Stands content key chunk → slice_index chunk 0 ≡ 0 →
-    ((pairs : List Pair) → AllByRecursion IsPair pairs → drop 1 chunk ≡ flat_map pair_spelling pairs → found ≡ find pairs key) → found ≡ find content.pairs key
-in_leaf content key chunk found s e h = go s.level s.tree s.is s.lawful s.same
+pub in_leaf : (content : Content) (key chunk : List ℕ) (pairs : List Pair) → Stands content key chunk → slice_index chunk 0 ≡ 0 →
+    ((version : Version) (held : List Pair) → Holds version chunk held → pairs ≡ held) → find pairs key ≡ find content.pairs key
+in_leaf content key chunk pairs s e all = go s.level s.tree s.is s.lawful s.same
   where
-    go : (level : ℕ) (t : Tree level) → chunk ≡ bytes_of content.version level t → AllByRecursion IsPair (pairs_below level t) → find content.pairs key ≡ find (pairs_below level t) key → found ≡ find content.pairs key
-    go zero t is lawful same = h t lawful (ap (drop 1) is) ∙ sym same
+    go : (level : ℕ) (t : Tree level) → chunk ≡ bytes_of content.version level t → AllByRecursion IsPair (pairs_below level t) → find content.pairs key ≡ find (pairs_below level t) key → find pairs key ≡ find content.pairs key
+    go zero t is lawful same =
+        ap (λ ps. find ps key) (all content.version t (subst (λ c. Holds content.version c t) (sym is) (record { is = refl; lawful = lawful }))) ∙ sym same
     go (suc level) t is lawful same = absurd (let f : suc level ≡ 0 = sym (ap (λ c. slice_index c 0) is) ∙ e in omega arith)
 
 -- ---- at a node
@@ -142,11 +146,13 @@ module _ (bytes : List ℕ) (version : Version) (spans : List Span) (index : BTr
   pub at_some : 0 < length chunk
   at_some = has_bytes at.checked.content key chunk (at.stands at.checked.content at.checked.is)
 
-  pub at_leaf : (found : Option (List ℕ)) (entries : List ℕ) → entries ≡ drop 1 chunk → slice_index chunk 0 ≡ 0 →
-      ((pairs : List Pair) → AllByRecursion IsPair pairs → entries ≡ flat_map pair_spelling pairs → found ≡ find pairs key) →
+  pub at_readable : IsReadable chunk
+  at_readable = let s = at.stands at.checked.content at.checked.is in
+      subst IsReadable (sym s.is) (tree_readable at.checked.content.version s.level s.tree s.lawful)
+
+  pub at_leaf : (found : Option (List ℕ)) (pairs : List Pair) → slice_index chunk 0 ≡ 0 → ((version : Version) (held : List Pair) → Holds version chunk held → pairs ≡ held) → found ≡ find pairs key →
       (content : Content) → IsFileOf bytes content → found ≡ find content.pairs key
-  at_leaf found entries e zero_is h content f =
-      in_leaf content key chunk found (at.stands content f) zero_is (λ pairs lawful is. h pairs lawful (e ∙ is))
+  at_leaf found pairs leaf all same content f = same ∙ in_leaf content key chunk pairs (at.stands content f) leaf all
 
   module _ (entries : List ℕ) (is : entries ≡ drop 1 chunk) (node : slice_index chunk 0 ≡ 0 → ⊥) where
     pub at_none : LeadsNowhere version entries key → (content : Content) → IsFileOf bytes content → None ≡ find content.pairs key

@@ -17,6 +17,11 @@ module _ (version : Version) (held : List Pair) where
   chunk_leaf (zero ∷ entries) e h = h
   chunk_leaf (suc level ∷ entries) e h = absurd (let f : suc level ≡ 0 = e in omega arith)
 
+  pub node_none : (chunk : List ℕ) → (slice_index chunk 0 ≡ 0 → ⊥) → Holds version chunk held → held ≡ []
+  node_none [] e h = absurd h
+  node_none (zero ∷ entries) e h = absurd (e refl)
+  node_none (suc level ∷ entries) e h = h.none
+
 -- ---- over chunks
 
 -- the first of the rest is that of the chunk

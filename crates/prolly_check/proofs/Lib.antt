@@ -14,6 +14,8 @@ pub mod FrameBytes
 pub mod EndBytes
 -- Entries of a chunk, read one after another.
 pub mod EntrySteps
+-- The pairs of a leaf, read one after another.
+pub mod LeafPairs
 -- Faults, and want of memory.
 pub mod Refusals
 -- Testing the chunks of a file one after another.

@@ -5,6 +5,7 @@ use Rattle.std.specs.BTreeMap.{BTreeMap}
 use Rattle.std.proofs.lemmas.List.{length-append}
 use Rattle.std.proofs.lemmas.List.Concat.{flat_map-append}
 use Rattle.std.proofs.lemmas.Option.{slice_get_past}
+use Rattle.prolly_entry.specs.declared.version.Version.{Version}
 use Rattle.prolly_entry.specs.declared.version.Version.TheVariants.{Two}
 use Rattle.prolly_entry.specs.declared.reference.Ref.{Ref}
 use Rattle.prolly_entry.specs.Cut.{sha512_cut}
@@ -19,6 +20,8 @@ use Rattle.prolly_entry.proofs.Sizes.{pairs_are}
 use Rattle.prolly_check.specs.Checked.{IsChecked}
 use Rattle.prolly_check.specs.Content.{Content}
 use Rattle.prolly_check.specs.Counted.{CountsTo, Counts, CountsPast}
+use Rattle.prolly_check.specs.Entries.{Holds}
+use Rattle.prolly_check.specs.Whole.{IsReadable}
 use Rattle.prolly_check.specs.Index.{number_of}
 use Rattle.prolly_check.specs.Root.{root_bytes}
 use Rattle.prolly_check.specs.Spans.{chunk_in}
@@ -28,6 +31,7 @@ use Rattle.prolly_check.proofs.CheckedTree.{checked_as}
 use Rattle.prolly_check.proofs.Descents.{in_bytes}
 use Rattle.prolly_check.proofs.FewPairs.{few_pairs}
 use Rattle.prolly_check.proofs.GetSteps.{head_is, some_bytes}
+use Rattle.prolly_check.proofs.LeafPairs.{tree_readable}
 use Rattle.prolly_check.proofs.Lookups.{nth_in_child}
 use Rattle.prolly_check.proofs.References.{IsInFile, child_in_file, number_within, has_number, chunk_is}
 
@@ -106,13 +110,17 @@ module _ (bytes : List ℕ) (spans : List Span) (index : BTreeMap Ref ℕ) (n : 
   count_some = let s = at.stands at.checked.content at.checked.is in
       subst (λ c. 0 < length c) (sym s.is) (some_bytes at.checked.content.version s.level s.tree)
 
-  pub count_leaf : (found : Option Pair) (entries : List ℕ) → entries ≡ drop 1 chunk → slice_index chunk 0 ≡ 0 →
-      ((pairs : List Pair) → AllByRecursion IsPair pairs → entries ≡ flat_map pair_spelling pairs → found ≡ nth pairs ahead) →
+  pub count_readable : IsReadable chunk
+  count_readable = let s = at.stands at.checked.content at.checked.is in
+      subst IsReadable (sym s.is) (tree_readable at.checked.content.version s.level s.tree s.below.lawful)
+
+  pub count_leaf : (found : Option Pair) (pairs : List Pair) → slice_index chunk 0 ≡ 0 → ((version : Version) (held : List Pair) → Holds version chunk held → pairs ≡ held) → found ≡ nth pairs ahead →
       (content : Content) → IsFileOf bytes content → found ≡ nth content.pairs n
-  count_leaf found entries e leaf h content f = let s = at.stands content f in go s.level s.tree s.is s.below
+  count_leaf found pairs leaf all found_is content f = let s = at.stands content f in go s.level s.tree s.is s.below
     where
       go : (level : ℕ) (t : Tree level) → chunk ≡ bytes_of content.version level t → IsBelow content n level t ahead → found ≡ nth content.pairs n
-      go zero t is below = h t below.lawful (e ∙ ap (drop 1) is) ∙ sym below.same
+      go zero t is below =
+          found_is ∙ ap (λ ps. nth ps ahead) (all content.version t (subst (λ c. Holds content.version c t) (sym is) (record { is = refl; lawful = below.lawful }))) ∙ sym below.same
       go (suc level) t is below = absurd (let f : suc level ≡ 0 = sym (ap (λ c. slice_index c 0) is) ∙ leaf in omega arith)
 
   module _ (entries : List ℕ) (is : entries ≡ drop 1 chunk) (node : slice_index chunk 0 ≡ 0 → ⊥) where

@@ -1,8 +1,9 @@
 -- The entries that chunks hold.
-use Rattle.std.specs.Prelude.{◌≡◌, ℕ, zero, suc, ◌≤◌, List, [], ◌∷◌, ◌++◌, length, Result, Ok, Err}
+use Rattle.std.specs.Prelude.{◌≡◌, ℕ, zero, suc, ◌+◌, ◌≤◌, List, [], ◌∷◌, ◌++◌, length, take, drop, Result, Ok, Err}
 use Rattle.std.specs.List.{flat_map, AllByRecursion}
 use Rattle.prolly_entry.specs.declared.version.Version.{Version}
 use Rattle.prolly_entry.specs.Pair.{Pair, IsPair}
+use Rattle.prolly_entry.specs.Reading.{key_length, value_length}
 use Rattle.prolly_entry.specs.Spelling.{pair_spelling, child_spelling}
 use Rattle.prolly_check.specs.declared.fault.CheckFault.{CheckFault}
 use Rattle.prolly_check.specs.declared.fault.CheckFault.TheVariants.{BadChunk}
@@ -26,6 +27,25 @@ entry_of version child = child_spelling version child.key child.reference child.
 pub record IsLeaf (entries : List ℕ) (pairs : List Pair) : Type 0 where
   pub is : entries ≡ flat_map pair_spelling pairs
   pub lawful : AllByRecursion IsPair pairs
+
+-- The pair at the front of a leaf's entries, and the entries behind it.
+abbrev pub first_pair : List ℕ → Pair
+first_pair entries = record {
+  key = take (key_length entries) (drop 2 entries);
+  value = take (value_length entries) (drop (6 + key_length entries) entries);
+}
+
+abbrev pub behind_first : List ℕ → List ℕ
+behind_first entries = drop (6 + key_length entries + value_length entries) entries
+
+-- The pairs that a leaf's entries spell: so many at most, and all of them.
+abbrev pub pairs_up_to : ℕ → List ℕ → List Pair
+pairs_up_to zero entries = []
+pairs_up_to (suc n) [] = []
+pairs_up_to (suc n) (b ∷ entries) = first_pair (b ∷ entries) ∷ pairs_up_to n (behind_first (b ∷ entries))
+
+unfoldable pub pairs_in : List ℕ → List Pair
+pairs_in entries = pairs_up_to (length entries) entries
 
 -- The entries of a node are the spellings of child entries; a node has no pair itself.
 pub record IsNode (version : Version) (entries : List ℕ) (pairs : List Pair) : Type 0 where

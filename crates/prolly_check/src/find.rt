@@ -13,29 +13,17 @@ ghost use Rattle.prolly_check.specs.Verdict.{IsFileOf};
 
 use crate::frames::{Span, chunk_at};
 use crate::index::Index;
+use crate::leaf::{Pairs, pairs_of};
 use crate::tree::root_chunk;
-use prolly_entry::{ChildAt, Front, Ref, Version, front_child_as, front_pair, key_order};
+use prolly_entry::{ChildAt, Ref, Version, front_child_as, key_order};
 
-/// The value of the key in a leaf.
-pub(crate) fn value_in<'a>(entries: &'a [u8], key: &[u8]) -> Option<&'a [u8]>
-    ensures { (pairs : List PairValue) → AllByRecursion IsPair pairs → entries.now ≡ flat_map pair_spelling pairs →
-        option_copied result ≡ find pairs key.now }
+/// The value of the key among the pairs of a leaf.
+pub(crate) fn value_in<'a>(mut pairs: Pairs<'a>, key: &[u8]) -> Option<&'a [u8]>
+    ensures { option_copied result ≡ find pairs.entry key.now }
 {
-    let mut place = 0;
-    while place < entries.len() {
-        let rest = &entries[place..];
-        match front_pair(rest) {
-            Front::Pair {
-                key_end,
-                value_start,
-                len,
-            } => {
-                if key_order(&rest[2..key_end], key).is_eq() {
-                    return Some(&rest[value_start..len]);
-                }
-                place += len;
-            }
-            _ => return None,
+    while let Some((found, value)) = pairs.next() {
+        if key_order(found, key).is_eq() {
+            return Some(value);
         }
     }
     None
@@ -96,5 +84,5 @@ pub(crate) fn find_value<'a>(
         };
         chunk = chunk_at(bytes, spans[number]);
     }
-    value_in(&chunk[1..], key)
+    value_in(pairs_of(chunk), key)
 }

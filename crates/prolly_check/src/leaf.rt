@@ -1,10 +1,18 @@
 //! The entries of leaves.
-ghost use Rattle.std.specs.Prelude.{◌≡◌, true, false, List};
+ghost use Rattle.std.specs.Prelude.{◌≡◌, ◌≤◌, [], ◌∷◌, true, false, List, length, IfSome, MatchOption};
 ghost use Rattle.prolly_entry.specs.Pair.{Pair as PairValue};
-ghost use Rattle.prolly_check.specs.Entries.{IsLeaf};
-ghost use Rattle.prolly_check.specs.Whole.{IsSomeLeaf};
+ghost use Rattle.prolly_entry.specs.declared.version.Version.{Version};
+ghost use Rattle.prolly_check.specs.Entries.{IsLeaf, Holds};
+ghost use Rattle.prolly_check.specs.Whole.{IsSomeLeaf, IsReadable};
 
 use prolly_entry::{Front, front_pair};
+use std::marker::Model;
+
+/// The first byte of a leaf: its level.
+const LEAF: u8 = 0;
+
+/// Where a key begins in its entry, behind its length.
+const KEY_START: usize = 2;
 
 /// Whether the entries are those of a leaf.
 pub(crate) fn is_leaf(entries: &[u8]) -> bool
@@ -20,4 +28,66 @@ pub(crate) fn is_leaf(entries: &[u8]) -> bool
         }
     }
     true
+}
+
+/// The pairs of a leaf that was tested, or those of them that are left, as they lie in its bytes.
+#[derive(Drop)]
+pub(crate) struct Pairs<'a> {
+    entries: &'a [u8],
+}
+
+impl<'a> Model for Pairs<'a> {
+    ghost use Rattle.std.specs.Prelude.{List};
+    ghost use Rattle.prolly_entry.specs.Pair.{Pair as PairValue};
+    ghost use Rattle.prolly_check.specs.Entries.{IsLeaf, pairs_in};
+
+    ghost Value = { List PairValue };
+
+    ghost view = { λ p. pairs_in p.entries.now };
+
+    ghost invariant = { λ p. IsLeaf p.entries.now (pairs_in p.entries.now) };
+}
+
+impl<'a> Pairs<'a> {
+    /// The pairs of the entries of a leaf.
+    fn new(entries: &'a [u8]) -> Pairs<'a>
+        requires { IsSomeLeaf entries.now }
+        ensures { (pairs : List PairValue) → IsLeaf entries.now pairs → result ≡ pairs }
+    {
+        Pairs { entries }
+    }
+
+    /// The key and the value of the next pair.
+    pub(crate) fn next(&mut self) -> Option<(&'a [u8], &'a [u8])>
+        ensures next { MatchOption result (self.old ≡ [])
+            (λ next. self.old ≡ record { key = next.0.now; value = next.1.now } ∷ self.new) }
+        ensures lawful { IfSome result (λ next. (length next.0.now ≤ 1024) × (length next.1.now ≤ 65536)) }
+    {
+        let entries = self.entries;
+        match front_pair(entries) {
+            Front::Pair {
+                key_end,
+                value_start,
+                len,
+            } => {
+                self.entries = &entries[len..];
+                Some((&entries[KEY_START..key_end], &entries[value_start..len]))
+            }
+            _ => None,
+        }
+    }
+}
+
+/// The pairs of a chunk that was tested. A node has none.
+pub(crate) fn pairs_of(chunk: &[u8]) -> Pairs<'_>
+    requires { IsReadable chunk.now }
+    ensures { (version : Version) (held : List PairValue) → Holds version chunk.now held → result ≡ held }
+{
+    if chunk.len() == 0 {
+        return Pairs::new(&[]);
+    }
+    if chunk[0] != LEAF {
+        return Pairs::new(&[]);
+    }
+    Pairs::new(&chunk[1..])
 }

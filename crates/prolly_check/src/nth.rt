@@ -14,32 +14,20 @@ ghost use Rattle.prolly_check.specs.Verdict.{IsFileOf};
 use crate::find::reference_in;
 use crate::frames::{Span, chunk_at};
 use crate::index::Index;
+use crate::leaf::{Pairs, pairs_of};
 use crate::tree::root_chunk;
-use prolly_entry::{ChildAt, Front, Ref, Version, front_child_as, front_pair};
+use prolly_entry::{ChildAt, Ref, Version, front_child_as};
 
-/// The pair of this number in a leaf.
-fn pair_at(entries: &[u8], n: u64) -> Option<(&[u8], &[u8])>
-    ensures { (pairs : List PairValue) → AllByRecursion IsPair pairs → entries.now ≡ flat_map pair_spelling pairs →
-        pair_of result ≡ nth pairs n }
+/// The pair of this number among the pairs of a leaf.
+fn pair_at<'a>(mut pairs: Pairs<'a>, n: u64) -> Option<(&'a [u8], &'a [u8])>
+    ensures { pair_of result ≡ nth pairs.entry n }
 {
-    let mut place = 0;
     let mut ahead = n;
-    while place < entries.len() {
-        let rest = &entries[place..];
-        match front_pair(rest) {
-            Front::Pair {
-                key_end,
-                value_start,
-                len,
-            } => {
-                if ahead == 0 {
-                    return Some((&rest[2..key_end], &rest[value_start..len]));
-                }
-                ahead -= 1;
-                place += len;
-            }
-            _ => return None,
+    while let Some(pair) = pairs.next() {
+        if ahead == 0 {
+            return Some(pair);
         }
+        ahead -= 1;
     }
     None
 }
@@ -112,5 +100,5 @@ pub(crate) fn find_nth<'a>(
         ahead = child.ahead;
         chunk = chunk_at(bytes, spans[number]);
     }
-    pair_at(&chunk[1..], ahead)
+    pair_at(pairs_of(chunk), ahead)
 }

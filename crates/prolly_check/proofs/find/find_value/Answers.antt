@@ -1,7 +1,7 @@
 use Rattle.std.proofs.lemmas.Grind.{common_steps}
 use Rattle.std.proofs.Common.{◌<◌, length, sym, arith}
 use Rattle.prolly_entry.proofs.RecordSteps.{rest_is}
-use Rattle.prolly_check.proofs.GetSteps.{begins, at_some, at_leaf, at_none, at_index, at_number, at_next}
+use Rattle.prolly_check.proofs.GetSteps.{begins, at_some, at_readable, at_leaf, at_none, at_index, at_number, at_next}
 use Rattle.prolly_check.proofs.find.find_value.Goals as goal
 
 pub loop-chunk-init : goal.loop-chunk-init
@@ -50,21 +50,16 @@ loop-chunk-preserved c = λ content f.
     (record { checked = c.requires.checked; short = c.requires.short; stands = c.loop-chunk.invariant })
     _ (rest_is c.loop-chunk.chunk.now 1) c.loop-chunk-test.true c.in-Some.reference.0 c.chunk_at-chunk.result.now c.in-Some-get.number.now _ c.in-Some.ensures.some (sym c.in-Some-get.ensures.value) c.chunk_at-chunk.ensures content f).0
 
-pub slice_bounds-value_in-count : goal.slice_bounds-value_in-count
-slice_bounds-value_in-count c =
-    at_some c.args.bytes.now c.args.version c.args.spans.now c.args.index.now c.args.key.now c.loop-chunk.chunk.now
-    (record { checked = c.requires.checked; short = c.requires.short; stands = c.loop-chunk.invariant })
-
-pub slice_bounds-value_in-start : goal.slice_bounds-value_in-start
-slice_bounds-value_in-start c =
-    at_some c.args.bytes.now c.args.version c.args.spans.now c.args.index.now c.args.key.now c.loop-chunk.chunk.now
+pub pairs_of-requires : goal.pairs_of-requires
+pairs_of-requires c =
+    at_readable c.args.bytes.now c.args.version c.args.spans.now c.args.index.now c.args.key.now c.loop-chunk.chunk.now
     (record { checked = c.requires.checked; short = c.requires.short; stands = c.loop-chunk.invariant })
 
 pub returns : goal.returns
 returns c =
     at_leaf c.args.bytes.now c.args.version c.args.spans.now c.args.index.now c.args.key.now c.loop-chunk.chunk.now
     (record { checked = c.requires.checked; short = c.requires.short; stands = c.loop-chunk.invariant })
-    _ _ (rest_is c.loop-chunk.chunk.now 1) c.loop-chunk-test.false c.value_in.ensures
+    _ c.pairs_of.result c.loop-chunk-test.false c.pairs_of.ensures c.value_in.ensures
 
 pub slice_bounds-child_for-count : goal.slice_bounds-child_for-count
 slice_bounds-child_for-count c = grind (arith, common_steps) steps 2000000

@@ -1,9 +1,9 @@
-use Rattle.std.proofs.Common.{◌-◌, length}
-use Rattle.prolly_check.proofs.FindSteps.{AllLooking}
+use Rattle.std.proofs.Common.{◌≡◌, length}
+use Rattle.prolly_entry.specs.LookUp.{find}
 use Rattle.prolly_check.proofs.find.value_in.Given as goal
 
-abbrev pub invariant-loop-place : goal.invariant-loop-place
-invariant-loop-place l = AllLooking l.entries l.key l.place
+abbrev pub invariant-loop-found : goal.invariant-loop-found
+invariant-loop-found l = find l.fn.pairs l.key ≡ find l.pairs l.key
 
-abbrev pub decreases-loop-place : goal.decreases-loop-place
-decreases-loop-place l = length l.entries - l.place
+abbrev pub decreases-loop-found : goal.decreases-loop-found
+decreases-loop-found l = length l.pairs

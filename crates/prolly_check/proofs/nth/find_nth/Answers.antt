@@ -1,7 +1,7 @@
 use Rattle.std.proofs.lemmas.Grind.{common_steps}
 use Rattle.std.proofs.Common.{◌<◌, length, sym, arith}
 use Rattle.prolly_entry.proofs.RecordSteps.{rest_is}
-use Rattle.prolly_check.proofs.NthSteps.{count_begins, count_some, count_leaf, count_none, count_index, count_number, count_next}
+use Rattle.prolly_check.proofs.NthSteps.{count_begins, count_some, count_readable, count_leaf, count_none, count_index, count_number, count_next}
 use Rattle.prolly_check.proofs.nth.find_nth.Goals as goal
 
 pub loop-chunk-init : goal.loop-chunk-init
@@ -52,21 +52,16 @@ loop-chunk-preserved c = λ content f.
     _ (rest_is c.loop-chunk.chunk.now 1) c.loop-chunk-test.true c.in-Some.child.reference.0 c.chunk_at-chunk.result.now c.in-Some-get.number.now c.in-Some.child.ahead _ c.in-Some.ensures.some (sym c.in-Some-get.ensures.value)
     c.chunk_at-chunk.ensures content f).0
 
-pub slice_bounds-pair_at-count : goal.slice_bounds-pair_at-count
-slice_bounds-pair_at-count c =
-    count_some c.args.bytes.now c.args.spans.now c.args.index.now c.args.n c.loop-chunk.chunk.now c.loop-chunk.ahead
-    (record { checked = c.requires.checked; short = c.requires.short; stands = c.loop-chunk.invariant })
-
-pub slice_bounds-pair_at-start : goal.slice_bounds-pair_at-start
-slice_bounds-pair_at-start c =
-    count_some c.args.bytes.now c.args.spans.now c.args.index.now c.args.n c.loop-chunk.chunk.now c.loop-chunk.ahead
+pub pairs_of-requires : goal.pairs_of-requires
+pairs_of-requires c =
+    count_readable c.args.bytes.now c.args.spans.now c.args.index.now c.args.n c.loop-chunk.chunk.now c.loop-chunk.ahead
     (record { checked = c.requires.checked; short = c.requires.short; stands = c.loop-chunk.invariant })
 
 pub returns : goal.returns
 returns c =
     count_leaf c.args.bytes.now c.args.spans.now c.args.index.now c.args.n c.loop-chunk.chunk.now c.loop-chunk.ahead
     (record { checked = c.requires.checked; short = c.requires.short; stands = c.loop-chunk.invariant })
-    _ _ (rest_is c.loop-chunk.chunk.now 1) c.loop-chunk-test.false c.pair_at.ensures
+    _ c.pairs_of.result c.loop-chunk-test.false c.pairs_of.ensures c.pair_at.ensures
 
 pub slice_bounds-child_with-count : goal.slice_bounds-child_with-count
 slice_bounds-child_with-count c = grind (arith, common_steps) steps 2000000

@@ -1,9 +1,9 @@
-use Rattle.std.proofs.Common.{◌-◌, length}
-use Rattle.prolly_check.proofs.CountSteps.{AllAhead}
+use Rattle.std.proofs.Common.{◌≡◌, length}
+use Rattle.prolly_entry.specs.LookUp.{nth}
 use Rattle.prolly_check.proofs.nth.pair_at.Given as goal
 
-abbrev pub invariant-loop-place : goal.invariant-loop-place
-invariant-loop-place l = AllAhead l.entries l.n l.place l.ahead
+abbrev pub invariant-loop-pair : goal.invariant-loop-pair
+invariant-loop-pair l = nth l.fn.pairs l.n ≡ nth l.pairs l.ahead
 
-abbrev pub decreases-loop-place : goal.decreases-loop-place
-decreases-loop-place l = length l.entries - l.place
+abbrev pub decreases-loop-pair : goal.decreases-loop-pair
+decreases-loop-pair l = length l.pairs
