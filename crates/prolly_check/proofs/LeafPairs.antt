@@ -1,6 +1,6 @@
 -- The pairs of a leaf, read one after another.
 use mathlib.Core.List.{cons≢nil}
-use Rattle.std.proofs.Common.{◌≡◌, ℕ, zero, suc, ◌+◌, ◌≤◌, List, [], ◌∷◌, ◌++◌, length, take, drop, Some, refl, sym, ap, ◌∙◌, subst, arith, append_assoc}
+use Rattle.std.proofs.Common.{◌≡◌, ℕ, zero, suc, ◌+◌, ◌<◌, ◌≤◌, List, [], ◌∷◌, ◌++◌, length, take, drop, get_or, Some, refl, sym, ap, ◌∙◌, subst, arith, append_assoc}
 use Rattle.std.specs.Int.{w32, to_be_bytes}
 use Rattle.std.specs.List.{flat_map, AllByRecursion}
 use Rattle.std.proofs.lemmas.List.{length-append, take_at, drop-drop}
@@ -12,8 +12,10 @@ use Rattle.prolly_entry.specs.Tree.{Tree, pairs_below, bytes_of}
 use Rattle.prolly_entry.specs.declared.version.Version.{Version}
 use Rattle.prolly_entry.proofs.FrontBytes.{numbers, key_size}
 use Rattle.prolly_entry.proofs.Spellings.{pair_spellings_apart}
-use Rattle.prolly_check.specs.Entries.{IsLeaf, first_pair, behind_first, pairs_up_to, pairs_in}
+use Rattle.prolly_check.specs.Entries.{IsLeaf, Holds, AllHold, first_pair, behind_first, pairs_up_to, pairs_in}
+use Rattle.prolly_check.specs.Spans.{chunk_in, chunks_in}
 use Rattle.prolly_check.specs.Whole.{IsSomeLeaf, IsReadable}
+use Rattle.prolly_check.specs.declared.frames.Span.{Span}
 
 -- ---- the pairs that entries spell
 
@@ -91,3 +93,21 @@ no_next entries h none = go (pairs_in entries) h
 pub tree_readable : (version : Version) (level : ℕ) (t : Tree level) → AllByRecursion IsPair (pairs_below level t) → IsReadable (bytes_of version level t)
 tree_readable version zero leaf h = record { pairs = leaf; is = record { is = refl; lawful = h } }
 tree_readable version (suc level) children h = tt
+
+-- ---- the pairs of the chunks of a file
+
+pub holds_readable : (version : Version) (chunk : List ℕ) (held : List Pair) → Holds version chunk held → IsReadable chunk
+holds_readable version [] held h = absurd h
+holds_readable version (zero ∷ entries) held h = record { pairs = held; is = h }
+holds_readable version (suc level ∷ entries) held h = tt
+
+pub all_readable : (version : Version) (chunks : List (List ℕ)) (lists : List (List Pair)) → AllHold version chunks lists → AllByRecursion IsReadable chunks
+all_readable version [] lists h = tt
+all_readable version (chunk ∷ chunks) [] h = absurd h
+all_readable version (chunk ∷ chunks) (held ∷ lists) h = (holds_readable version chunk held h.0, all_readable version chunks lists h.1)
+
+pub readable_at : (bytes : List ℕ) (spans : List Span) (number : ℕ) (other : Span) → number < length spans → AllByRecursion IsReadable (chunks_in bytes spans) → IsReadable (chunk_in bytes (get_or spans number other))
+readable_at bytes [] number other h all = absurd (omega arith)
+readable_at bytes (s ∷ spans) zero other h all = all.0
+readable_at bytes (s ∷ spans) (suc number) other h all =
+    let h' : suc number < suc (length spans) = h in readable_at bytes spans number other (omega arith) all.1

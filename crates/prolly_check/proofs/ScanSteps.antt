@@ -22,20 +22,10 @@ use Rattle.prolly_check.proofs.Scans.{pairs_from-append, scan_more, scan_full, s
 
 -- ---- in a leaf
 
--- of these pairs of a leaf, the rest is left at the place, and the scan has come to it with these
-pub record Scanning (entries from : List ℕ) (limit : ℕ) (old pairs leaf : List Pair) (place : ℕ) : Type 0 where
-  pub rest : List Pair
-  pub left : drop place entries ≡ flat_map pair_spelling rest
-  pub lawful : AllByRecursion IsPair rest
-  pub same : take limit (old ++ pairs_from from leaf) ≡ take limit (pairs ++ pairs_from from rest)
-
--- whatever pairs the entries are, the scan has come to the place
-pub record LeafScan (entries from : List ℕ) (limit : ℕ) (old pairs : List Pair) (place : ℕ) : Type 0 where
+-- of the pairs of a leaf the rest is left, and the scan has come to it with these
+pub record LeafScan (from : List ℕ) (limit : ℕ) (old leaf pairs rest : List Pair) : Type 0 where
   pub within : length pairs ≤ limit
-  pub all : (leaf : List Pair) → AllByRecursion IsPair leaf → entries ≡ flat_map pair_spelling leaf → Scanning entries from limit old pairs leaf place
-
-pub leaf_scan_begins : (entries from : List ℕ) (limit : ℕ) (old : List Pair) → length old ≤ limit → LeafScan entries from limit old old 0
-leaf_scan_begins entries from limit old h = record { within = h; all = λ leaf lawful e. record { rest = leaf; left = e; lawful = lawful; same = refl } }
+  pub same : take limit (old ++ pairs_from from leaf) ≡ take limit (pairs ++ pairs_from from rest)
 
 one_at_most : (from : List ℕ) (p : Pair) → length (pairs_from from (p ∷ [])) ≤ 1
 one_at_most from p = go (not (is_lt (key_order p.key from)))
@@ -44,64 +34,25 @@ one_at_most from p = go (not (is_lt (key_order p.key from)))
     go true = omega arith
     go false = omega arith
 
-pub leaf_scan_goes_on : (entries from bytes : List ℕ) (limit : ℕ) (old pairs pairs' : List Pair) (place len : ℕ) (p : Pair) → bytes ≡ drop place entries → place < length entries → IsPairAt bytes p len →
-    length pairs < limit → pairs' ≡ pairs ++ pairs_from from (p ∷ []) → LeafScan entries from limit old pairs place → LeafScan entries from limit old pairs' (place + len)
-leaf_scan_goes_on entries from bytes limit old pairs pairs' place len p e h at room grown s =
-    let few = one_at_most from p in
-    let size = ap length grown in
-    let more = length-append pairs (pairs_from from (p ∷ [])) in record {
-      within = omega arith;
-      all = λ leaf lawful spelled.
-          let l = s.all leaf lawful spelled in
-          let f = first_is entries bytes place len p l.rest e h at l.left l.lawful in
-          record {
-            rest = f.more;
-            left = sym (drop-drop len place entries) ∙ f.left;
-            lawful = f.lawful;
-            same = l.same ∙ ap (λ ps. take limit (pairs ++ pairs_from from ps)) f.is
-                ∙ ap (λ ps. take limit (pairs ++ ps)) (pairs_from-append from (p ∷ []) f.more)
-                ∙ ap (take limit) (sym (append_assoc pairs (pairs_from from (p ∷ [])) (pairs_from from f.more)))
-                ∙ ap (λ ps. take limit (ps ++ pairs_from from f.more)) (sym grown);
-          };
-    }
+module _ (from : List ℕ) (limit : ℕ) (old leaf pairs rest : List Pair) where
+  pub leaf_scan_goes_on : (p : Pair) (more pairs' : List Pair) → LeafScan from limit old leaf pairs rest → rest ≡ p ∷ more → length pairs < limit → pairs' ≡ pairs ++ pairs_from from (p ∷ []) →
+      LeafScan from limit old leaf pairs' more
+  leaf_scan_goes_on p more pairs' s e room grown =
+      let few = one_at_most from p in
+      let size = ap length grown in
+      let longer = length-append pairs (pairs_from from (p ∷ [])) in record {
+        within = omega arith;
+        same = s.same ∙ ap (λ ps. take limit (pairs ++ pairs_from from ps)) e
+            ∙ ap (λ ps. take limit (pairs ++ ps)) (pairs_from-append from (p ∷ []) more)
+            ∙ ap (take limit) (sym (append_assoc pairs (pairs_from from (p ∷ [])) (pairs_from from more)))
+            ∙ ap (λ ps. take limit (ps ++ pairs_from from more)) (sym grown);
+      }
 
-module _ (entries from : List ℕ) (limit : ℕ) (old pairs : List Pair) (place : ℕ) (s : LeafScan entries from limit old pairs place) (leaf : List Pair) (lawful : AllByRecursion IsPair leaf)
-    (spelled : entries ≡ flat_map pair_spelling leaf) where
-  pub leaf_scan_full : length pairs ≡ limit → pairs ≡ take limit (old ++ pairs_from from leaf)
-  leaf_scan_full e = let l = s.all leaf lawful spelled in scan_full limit pairs (pairs_from from l.rest) e ∙ sym l.same
+  pub leaf_scan_full : LeafScan from limit old leaf pairs rest → length pairs ≡ limit → pairs ≡ take limit (old ++ pairs_from from leaf)
+  leaf_scan_full s e = scan_full limit pairs (pairs_from from rest) e ∙ sym s.same
 
-  pub leaf_scan_ends : length entries ≤ place → pairs ≡ take limit (old ++ pairs_from from leaf)
-  leaf_scan_ends h = let l = s.all leaf lawful spelled in go l.rest (sym l.left ∙ drop_all place entries h) l.same
-    where
-      go : (rest : List Pair) → flat_map pair_spelling rest ≡ [] → take limit (old ++ pairs_from from leaf) ≡ take limit (pairs ++ pairs_from from rest) → pairs ≡ take limit (old ++ pairs_from from leaf)
-      go [] e same = scan_done limit pairs s.within ∙ sym same
-      go (q ∷ more) e same = absurd (cons≢nil e)
-
-  -- no other bytes than pairs are there
-  pub leaf_scan_stops : (bytes : List ℕ) → bytes ≡ drop place entries → place < length entries → NoPairAt bytes → ⊥
-  leaf_scan_stops bytes e h none = let l = s.all leaf lawful spelled in go l.rest l.left l.lawful
-    where
-      go : (rest : List Pair) → drop place entries ≡ flat_map pair_spelling rest → AllByRecursion IsPair rest → ⊥
-      go [] f g = some_left entries place h f
-      go (q ∷ more) f g = none q (flat_map pair_spelling more) g.0 (e ∙ f)
-
--- ---- in a chunk
-
-module _ (version : Version) (from : List ℕ) (limit : ℕ) (pairs held : List Pair) (within : length pairs ≤ limit) where
-  pub empty_chunk : (chunk : List ℕ) → length chunk ≡ 0 → Holds version chunk held → pairs ≡ take limit (pairs ++ pairs_from from held)
-  empty_chunk [] e h = absurd h
-  empty_chunk (b ∷ chunk) e h = absurd (let f : suc (length chunk) ≡ 0 = e in omega arith)
-
-  pub node_chunk : (chunk : List ℕ) → (slice_index chunk 0 ≡ 0 → ⊥) → Holds version chunk held → pairs ≡ take limit (pairs ++ pairs_from from held)
-  node_chunk [] e h = absurd h
-  node_chunk (zero ∷ entries) e h = absurd (e refl)
-  node_chunk (suc level ∷ entries) e h = scan_done limit pairs within ∙ ap (λ ps. take limit (pairs ++ pairs_from from ps)) (sym h.none)
-
-pub leaf_chunk : (version : Version) (from entries : List ℕ) (limit : ℕ) (old pairs held : List Pair) (chunk : List ℕ) → slice_index chunk 0 ≡ 0 → entries ≡ drop 1 chunk →
-    ((leaf : List Pair) → AllByRecursion IsPair leaf → entries ≡ flat_map pair_spelling leaf → pairs ≡ take limit (old ++ pairs_from from leaf)) → Holds version chunk held → pairs ≡ take limit (old ++ pairs_from from held)
-leaf_chunk version from entries limit old pairs held [] e is h k = absurd k
-leaf_chunk version from entries limit old pairs held (zero ∷ chunk) e is h k = h held k.lawful (is ∙ k.is)
-leaf_chunk version from entries limit old pairs held (suc level ∷ chunk) e is h k = absurd (let f : suc level ≡ 0 = e in omega arith)
+  pub leaf_scan_ends : LeafScan from limit old leaf pairs rest → rest ≡ [] → pairs ≡ take limit (old ++ pairs_from from leaf)
+  leaf_scan_ends s e = scan_done limit pairs s.within ∙ sym (s.same ∙ ap (λ ps. take limit (pairs ++ pairs_from from ps)) e)
 
 -- ---- over chunks
 

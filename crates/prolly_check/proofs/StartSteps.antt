@@ -26,12 +26,14 @@ use Rattle.prolly_check.specs.Root.{root_bytes}
 use Rattle.prolly_check.specs.Scanned.{pairs_from, StartsAt}
 use Rattle.prolly_check.specs.Spans.{chunk_in, chunks_in}
 use Rattle.prolly_check.specs.Verdict.{AllApart, IsFileOf}
+use Rattle.prolly_check.specs.Whole.{IsReadable}
 use Rattle.prolly_check.specs.declared.frames.Span.{Span}
 use Rattle.prolly_check.proofs.Acceptance.{own_lists, own_flat, flat_all, bytes_in, bytes_append, hold_append, hold_all, hold_post, holds_node}
 use Rattle.prolly_check.proofs.CanonicalSteps.{count_in, chunk_there}
 use Rattle.prolly_check.proofs.CheckedTree.{checked_as, some_chunk, last_chunk}
 use Rattle.prolly_check.proofs.Descents.{in_bytes, root_full}
 use Rattle.prolly_check.proofs.GetSteps.{head_is, some_bytes, is_there}
+use Rattle.prolly_check.proofs.LeafPairs.{all_readable}
 use Rattle.prolly_check.proofs.Lookups.{apart_from}
 use Rattle.prolly_check.proofs.References.{IsInFile, child_in_file, number_within, has_number, chunk_is}
 use Rattle.prolly_check.proofs.Scans.{pairs_from-append, none_below_all, some_from}
@@ -276,3 +278,12 @@ scan_is bytes version spans rest index from limit first pairs checked short left
     let there : chunks_in bytes rest ≡ drop first (chunk_bytes content.version content.bits content.pairs) =
     ap (chunks_in bytes) left ∙ sym (drop-map (chunk_in bytes) first spans) ∙ ap (drop first) (checked_as bytes version spans index content short checked f).chunks_are in
     scanned content.version s.lists (subst (λ cs. AllHold content.version cs s.lists) (sym there) s.hold) ∙ ap (take limit) (sym s.same)
+
+pub scan_readable : (bytes : List ℕ) (version : Version) (spans rest : List Span) (index : BTreeMap Ref ℕ) (from : List ℕ) (first : ℕ) → IsChecked bytes version spans index → rest ≡ drop first spans →
+    ((content : Content) → IsFileOf bytes content → StartsAt content from first) → AllByRecursion IsReadable (chunks_in bytes rest)
+scan_readable bytes version spans rest index from first checked left starts =
+    let content = checked.content in
+    let s = starts content checked.is in
+    let there : chunks_in bytes rest ≡ drop first (chunk_bytes content.version content.bits content.pairs) =
+    ap (chunks_in bytes) left ∙ sym (drop-map (chunk_in bytes) first spans) ∙ ap (drop first) checked.chunks_are in
+    subst (AllByRecursion IsReadable) (sym there) (all_readable content.version (drop first (chunk_bytes content.version content.bits content.pairs)) s.lists s.hold)

@@ -2,20 +2,21 @@
 ghost use Rattle.std.specs.Prelude.{◌≡◌, [], ◌∷◌, ◌++◌, ◌<◌, ◌≤◌, ◌^◌, List, length, take, drop, OnOk, IfOk, IfSome, IfNone};
 ghost use Rattle.std.specs.List.{flat_map, AllByRecursion};
 ghost use Rattle.prolly_entry.specs.LookUp.{scan};
-ghost use Rattle.prolly_entry.specs.Pair.{Pair as PairValue, IsPair};
-ghost use Rattle.prolly_entry.specs.Spelling.{pair_spelling};
+ghost use Rattle.prolly_entry.specs.Pair.{Pair as PairValue};
 ghost use Rattle.prolly_entry.specs.declared.version.Version.{Version};
 ghost use Rattle.prolly_check.specs.Checked.{IsChecked};
 ghost use Rattle.prolly_check.specs.Content.{Content};
-ghost use Rattle.prolly_check.specs.Entries.{Holds, AllHold};
+ghost use Rattle.prolly_check.specs.Entries.{AllHold};
 ghost use Rattle.prolly_check.specs.Scanned.{pairs_from, StartsAt};
 ghost use Rattle.prolly_check.specs.Spans.{IsWithin, chunks_in};
 ghost use Rattle.prolly_check.specs.Verdict.{IsFileOf};
+ghost use Rattle.prolly_check.specs.Whole.{IsReadable};
 
 use crate::find::child_for;
 use crate::frames::{Span, chunk_at};
 use crate::index::Index;
-use prolly_entry::{Front, Pair, Version, front_pair, key_order};
+use crate::leaf::{Pairs, pairs_of};
+use prolly_entry::{Pair, Version, key_order};
 use std::alloc::{AllocError, Global};
 
 /// Adds a pair whose key is not less than `from`.
@@ -39,63 +40,22 @@ fn keep(
 /// Adds the pairs of a leaf whose key is not less than `from`, until there are `limit` pairs.
 fn scan_leaf(
     alloc: Global,
-    entries: &[u8],
+    mut leaf: Pairs,
     from: &[u8],
     limit: usize,
     pairs: &mut Vec<Pair>,
 ) -> Result<(), AllocError>
     requires { length pairs.old.items ≤ limit }
     ensures within { OnOk result (length pairs.new.items ≤ limit) }
-    ensures added { OnOk result ((leaf : List PairValue) → AllByRecursion IsPair leaf → entries.now ≡ flat_map pair_spelling leaf →
-        pairs.new.items ≡ take limit (pairs.old.items ++ pairs_from from.now leaf)) }
+    ensures added { OnOk result (pairs.new.items ≡ take limit (pairs.old.items ++ pairs_from from.now leaf.entry)) }
 {
-    let mut place = 0;
-    while place < entries.len() {
+    while let Some((key, value)) = leaf.next() {
         if pairs.len() == limit {
             return Ok(());
         }
-        let rest = &entries[place..];
-        match front_pair(rest) {
-            Front::Pair {
-                key_end,
-                value_start,
-                len,
-            } => {
-                keep(
-                    alloc,
-                    &rest[2..key_end],
-                    &rest[value_start..len],
-                    from,
-                    pairs,
-                )?;
-                place += len;
-            }
-            _ => return Ok(()),
-        }
+        keep(alloc, key, value, from, pairs)?;
     }
     Ok(())
-}
-
-/// The same of any chunk. A node has no pairs.
-fn scan_chunk(
-    alloc: Global,
-    chunk: &[u8],
-    from: &[u8],
-    limit: usize,
-    pairs: &mut Vec<Pair>,
-) -> Result<(), AllocError>
-    requires { length pairs.old.items ≤ limit }
-    ensures within { OnOk result (length pairs.new.items ≤ limit) }
-    ensures added { OnOk result ((version : Version) (held : List PairValue) → Holds version chunk.now held →
-        pairs.new.items ≡ take limit (pairs.old.items ++ pairs_from from.now held)) }
-{
-    if chunk.len() == 0 {
-        return Ok(());
-    }
-    if chunk[0] != 0 {
-        return Ok(());
-    }
-    scan_leaf(alloc, &chunk[1..], from, limit, pairs)
 }
 
 /// The first pairs of these chunks whose key is not less than `from`, at most `limit` of them. Reads no
@@ -107,7 +67,8 @@ fn scan_chunks(
     from: &[u8],
     limit: usize,
 ) -> Result<Vec<Pair>, AllocError>
-    requires { AllByRecursion (IsWithin bytes.now) spans.now }
+    requires within { AllByRecursion (IsWithin bytes.now) spans.now }
+    requires readable { AllByRecursion IsReadable (chunks_in bytes.now spans.now) }
     ensures { IfOk result (λ pairs. (version : Version) (lists : List (List PairValue)) → AllHold version (chunks_in bytes.now spans.now) lists →
         pairs.items ≡ take limit (pairs_from from.now (flat_map (λ pairs. pairs) lists))) }
 {
@@ -116,7 +77,8 @@ fn scan_chunks(
         if pairs.len() == limit {
             return Ok(pairs);
         }
-        scan_chunk(alloc, chunk_at(bytes, *span), from, limit, &mut pairs)?;
+        let leaf = pairs_of(chunk_at(bytes, *span));
+        scan_leaf(alloc, leaf, from, limit, &mut pairs)?;
     }
     Ok(pairs)
 }

@@ -1,9 +1,9 @@
-use Rattle.std.proofs.Common.{◌-◌, length}
+use Rattle.std.proofs.Common.{length}
 use Rattle.prolly_check.proofs.ScanSteps.{LeafScan}
 use Rattle.prolly_check.proofs.scan.scan_leaf.Given as goal
 
-abbrev pub invariant-loop-place : goal.invariant-loop-place
-invariant-loop-place l = LeafScan l.entries l.from l.limit l.fn.pairs.items l.pairs.items l.place
+abbrev pub invariant-loop-key : goal.invariant-loop-key
+invariant-loop-key l = LeafScan l.from l.limit l.fn.pairs.items l.fn.leaf l.pairs.items l.leaf
 
-abbrev pub decreases-loop-place : goal.decreases-loop-place
-decreases-loop-place l = length l.entries - l.place
+abbrev pub decreases-loop-key : goal.decreases-loop-key
+decreases-loop-key l = length l.leaf
