@@ -53,57 +53,24 @@ rising_more before held r =
 
 -- ---- in a leaf
 
--- of these pairs of a leaf, the rest is left at the place, and the keys before it rise from the one key to the other
-pub record Walking (entries : List ℕ) (first last : Option (List ℕ)) (leaf : List Pair) (place : ℕ) : Type 0 where
-  pub rest : List Pair
-  pub left : drop place entries ≡ flat_map pair_spelling rest
-  pub lawful : AllByRecursion IsPair rest
+-- the keys before the rest of a leaf rise from the one key to the other
+pub record LeafRises (first : Option (List ℕ)) (leaf : List Pair) (last : Option (List ℕ)) (rest : List Pair) : Type 0 where
   pub rises : rises_behind first leaf ≡ rises_behind last rest
   pub last_is : last_behind first leaf ≡ last_behind last rest
 
--- whatever pairs the entries are, the walk has come to the place
-abbrev pub LeafWalk : List ℕ → Option (List ℕ) → Option (List ℕ) → ℕ → Type 0
-LeafWalk entries first last place = (leaf : List Pair) → AllByRecursion IsPair leaf → entries ≡ flat_map pair_spelling leaf → Walking entries first last leaf place
+module _ (first : Option (List ℕ)) (leaf : List Pair) (last : Option (List ℕ)) (rest : List Pair) (r : LeafRises first leaf last rest) where
+  module _ (p : Pair) (more : List Pair) (e : rest ≡ p ∷ more) where
+    pub leaf_goes_on : is_before last (Some p.key) ≡ true → LeafRises first leaf (Some p.key) more
+    leaf_goes_on behind = record {
+      rises = r.rises ∙ ap (rises_behind last) e ∙ ap (λ b. b && rises_behind (Some p.key) more) behind;
+      last_is = r.last_is ∙ ap (last_behind last) e;
+    }
 
-module _ (entries : List ℕ) (first last : Option (List ℕ)) (place : ℕ) (walk : LeafWalk entries first last place) where
-  module _ (bytes : List ℕ) (len : ℕ) (p : Pair) (e : bytes ≡ drop place entries) (h : place < length entries) (at : IsPairAt bytes p len) where
-    pub walk_goes_on : is_before last (Some p.key) ≡ true → LeafWalk entries first (Some p.key) (place + len)
-    walk_goes_on behind leaf lawful spelled =
-        let w = walk leaf lawful spelled in
-        let f = first_is entries bytes place len p w.rest e h at w.left w.lawful in
-        record {
-          rest = f.more;
-          left = sym (drop-drop len place entries) ∙ f.left;
-          lawful = f.lawful;
-          rises = w.rises ∙ ap (rises_behind last) f.is ∙ ap (λ b. b && rises_behind (Some p.key) f.more) behind;
-          last_is = w.last_is ∙ ap (last_behind last) f.is;
-        }
+    pub leaf_falls : is_before last (Some p.key) ≡ false → rises_behind first leaf ≡ false
+    leaf_falls falls = r.rises ∙ ap (rises_behind last) e ∙ ap (λ b. b && rises_behind (Some p.key) more) falls
 
-    pub walk_falls : is_before last (Some p.key) ≡ false → (leaf : List Pair) → AllByRecursion IsPair leaf → entries ≡ flat_map pair_spelling leaf → rises_behind first leaf ≡ false
-    walk_falls falls leaf lawful spelled =
-        let w = walk leaf lawful spelled in
-        let f = first_is entries bytes place len p w.rest e h at w.left w.lawful in
-        w.rises ∙ ap (rises_behind last) f.is ∙ ap (λ b. b && rises_behind (Some p.key) f.more) falls
-
-  pub walk_ends : length entries ≤ place → (leaf : List Pair) → AllByRecursion IsPair leaf → entries ≡ flat_map pair_spelling leaf → RisesTo first leaf last
-  walk_ends h leaf lawful spelled =
-      let w = walk leaf lawful spelled in
-      let none = no_rest w.rest (sym w.left ∙ drop_all place entries h) in
-      record { rises = w.rises ∙ ap (rises_behind last) none; last_is = sym (w.last_is ∙ ap (last_behind last) none) }
-    where
-      no_rest : (rest : List Pair) → flat_map pair_spelling rest ≡ [] → rest ≡ []
-      no_rest [] e = refl
-      no_rest (p ∷ rest) e = absurd (cons≢nil e)
-
-  -- no other bytes than pairs are there
-  pub walk_stops : (bytes : List ℕ) → bytes ≡ drop place entries → place < length entries → NoPairAt bytes →
-      (leaf : List Pair) → AllByRecursion IsPair leaf → entries ≡ flat_map pair_spelling leaf → ⊥
-  walk_stops bytes e h none leaf lawful spelled =
-      let w = walk leaf lawful spelled in go w.rest w.left w.lawful
-    where
-      go : (rest : List Pair) → drop place entries ≡ flat_map pair_spelling rest → AllByRecursion IsPair rest → ⊥
-      go [] f g = some_left entries place h f
-      go (q ∷ more) f g = none q (flat_map pair_spelling more) g.0 (e ∙ f)
+  pub leaf_ends : rest ≡ [] → RisesTo first leaf last
+  leaf_ends e = record { rises = r.rises ∙ ap (rises_behind last) e; last_is = sym (r.last_is ∙ ap (last_behind last) e) }
 
 -- ---- over chunks
 

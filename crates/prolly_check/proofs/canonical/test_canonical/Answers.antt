@@ -1,4 +1,5 @@
 use Rattle.std.proofs.Common.{◌≡◌, ℕ, List, ◌∷◌, length, drop, None, Some, sym, ap, ◌∙◌, subst, arith}
+use Rattle.std.specs.List.{AllByRecursion}
 use Rattle.std.proofs.lemmas.Result.{on_ok_weaker, IfErr-weaker}
 use Rattle.prolly_entry.specs.Pair.{Pair}
 use Rattle.prolly_entry.proofs.RecordSteps.{rest_is}
@@ -6,9 +7,11 @@ use Rattle.prolly_check.specs.Canonical.{canonical_fault, ending_of_chunks}
 use Rattle.prolly_check.specs.Entries.{AllHold}
 use Rattle.prolly_check.specs.Refusal.{UnlessMemory}
 use Rattle.prolly_check.specs.Spans.{chunks_in}
+use Rattle.prolly_check.specs.Whole.{IsReadable}
 use Rattle.prolly_check.specs.declared.fault.CheckFault.{CheckFault}
 use Rattle.prolly_check.proofs.CanonicalEnd.{AllRise, CompareAs, chunks_say, some_chunks, end_says, all_say}
 use Rattle.prolly_check.proofs.CanonicalSteps.{count_in}
+use Rattle.prolly_check.proofs.LeafPairs.{all_readable}
 use Rattle.prolly_check.proofs.Refusals.{named, still_refused}
 use Rattle.prolly_check.proofs.canonical.test_canonical.Goals as goal
 
@@ -61,3 +64,8 @@ returns-clause-err c =
     (subst (CompareAs c.args.version c.args.cut None) same c.in-Ok-test_rebuilt.ensures.ok)
     (drop c.args.frames.now.end bytes) fault
     (h.0, λ found. h.1 (rest_is bytes c.args.frames.now.end ∙ found ∙ ap (λ cs. 0x45 ∷ ending_of_chunks cs) (sym same))) lists ending hold e)) c.test_end.ensures.err
+
+pub test_order-requires-clause-readable : goal.test_order-requires-clause-readable
+test_order-requires-clause-readable c =
+    subst (λ spans. AllByRecursion IsReadable (chunks_in c.args.bytes.now spans)) (sym c.deref.ensures.value)
+    (all_readable c.args.version (chunks_in c.args.bytes.now c.args.frames.now.spans.items) c.requires.whole.lists c.requires.whole.hold)
