@@ -114,73 +114,48 @@ same_size chunks nodes nodes' event number next passed = let q = passed [] nodes
 
 -- ---- the pairs of a leaf
 
--- of the pairs of a leaf, the rest is left at the place, and those before it were taken
-pub record Rebuilding (bits : ℕ) (version : Version) (chunks : List (List ℕ)) (entries : List ℕ) (pairs held : List Pair) (leaf : LeafState ℕ) (nodes : List (NodeState ℕ)) (number place : ℕ) : Type 0 where
+-- of the pairs of a leaf the rest is left, and those before it were taken
+pub record Rebuilding (bits : ℕ) (version : Version) (chunks : List (List ℕ)) (pairs held rest : List Pair) (leaf : LeafState ℕ) (nodes : List (NodeState ℕ)) (number : ℕ) : Type 0 where
   pub done : List Pair
-  pub rest : List Pair
   pub is : held ≡ done ++ rest
-  pub left : drop place entries ≡ flat_map pair_spelling rest
-  pub lawful : AllByRecursion IsPair rest
   pub behind : IsBehind bits version chunks (pairs ++ done) leaf nodes number
 
--- whatever pairs came before and the entries are
-abbrev pub LeafRebuilt : List (List ℕ) → List ℕ → LeafState ℕ → List (NodeState ℕ) → ℕ → LeafState ℕ → List (NodeState ℕ) → ℕ → ℕ → Type 0
-LeafRebuilt chunks entries leaf nodes number leaf' nodes' number' place = (bits : ℕ) (version : Version) (pairs held : List Pair) → IsBehind bits version chunks pairs leaf nodes number →
-    AllByRecursion IsPair held → entries ≡ flat_map pair_spelling held → Rebuilding bits version chunks entries pairs held leaf' nodes' number' place
+-- whatever pairs came before
+abbrev pub LeafRebuilt : List (List ℕ) → List Pair → LeafState ℕ → List (NodeState ℕ) → ℕ → List Pair → LeafState ℕ → List (NodeState ℕ) → ℕ → Type 0
+LeafRebuilt chunks held leaf nodes number rest leaf' nodes' number' = (bits : ℕ) (version : Version) (pairs : List Pair) → IsBehind bits version chunks pairs leaf nodes number →
+    Rebuilding bits version chunks pairs held rest leaf' nodes' number'
 
-pub leaf_rebuild_begins : (chunks : List (List ℕ)) (entries : List ℕ) (leaf : LeafState ℕ) (nodes : List (NodeState ℕ)) (number : ℕ) → LeafRebuilt chunks entries leaf nodes number leaf nodes number 0
-leaf_rebuild_begins chunks entries leaf nodes number bits version pairs held b lawful e =
-    record { done = []; rest = held; is = refl; left = e; lawful = lawful; behind = subst (λ ps. IsBehind bits version chunks ps leaf nodes number) (sym (append-nil pairs)) b }
+module _ (chunks : List (List ℕ)) (held : List Pair) (leaf : LeafState ℕ) (nodes : List (NodeState ℕ)) (number : ℕ) where
+  pub leaf_rebuild_begins : LeafRebuilt chunks held leaf nodes number held leaf nodes number
+  leaf_rebuild_begins bits version pairs b =
+      record { done = []; is = refl; behind = subst (λ ps. IsBehind bits version chunks ps leaf nodes number) (sym (append-nil pairs)) b }
 
-module _ (chunks : List (List ℕ)) (entries : List ℕ) (leaf : LeafState ℕ) (nodes : List (NodeState ℕ)) (number : ℕ) (leaf' : LeafState ℕ) (nodes' : List (NodeState ℕ)) (number' place : ℕ)
-    (all : LeafRebuilt chunks entries leaf nodes number leaf' nodes' number' place) where
-  pub leaf_rebuild_goes_on : (bytes : List ℕ) (len : ℕ) (p q : Pair) (leaf'' : LeafState ℕ) (nodes'' : List (NodeState ℕ)) (number'' : ℕ) → bytes ≡ drop place entries → place < length entries → IsPairAt bytes p len → q ≡ p →
-      ((bits : ℕ) (version : Version) (pairs : List Pair) → IsBehind bits version chunks pairs leaf' nodes' number' → IsBehind bits version chunks (pairs ++ q ∷ []) leaf'' nodes'' number'') →
-      LeafRebuilt chunks entries leaf nodes number leaf'' nodes'' number'' (place + len)
-  leaf_rebuild_goes_on bytes len p q leaf'' nodes'' number'' e h at copy added bits version pairs held b lawful spelled =
-      let l = all bits version pairs held b lawful spelled in
-      let f = first_is entries bytes place len p l.rest e h at l.left l.lawful in
-      record {
-        done = l.done ++ p ∷ [];
-        rest = f.more;
-        is = l.is ∙ ap (λ ps. l.done ++ ps) f.is ∙ sym (append_assoc l.done (p ∷ []) f.more);
-        left = sym (drop-drop len place entries) ∙ f.left;
-        lawful = f.lawful;
-        behind = subst (λ ps. IsBehind bits version chunks ps leaf'' nodes'' number'') (ap (λ r. (pairs ++ l.done) ++ r ∷ []) copy ∙ append_assoc pairs l.done (p ∷ [])) (added bits version (pairs ++ l.done) l.behind);
-      }
+  module _ (rest : List Pair) (leaf' : LeafState ℕ) (nodes' : List (NodeState ℕ)) (number' : ℕ) (all : LeafRebuilt chunks held leaf nodes number rest leaf' nodes' number') where
+    pub leaf_rebuild_goes_on : (p : Pair) (more : List Pair) → rest ≡ p ∷ more → (leaf'' : LeafState ℕ) (nodes'' : List (NodeState ℕ)) (number'' : ℕ) →
+        ((bits : ℕ) (version : Version) (pairs : List Pair) → IsBehind bits version chunks pairs leaf' nodes' number' → IsBehind bits version chunks (pairs ++ p ∷ []) leaf'' nodes'' number'') →
+        LeafRebuilt chunks held leaf nodes number more leaf'' nodes'' number''
+    leaf_rebuild_goes_on p more e leaf'' nodes'' number'' added bits version pairs b =
+        let l = all bits version pairs b in
+        record {
+          done = l.done ++ p ∷ [];
+          is = l.is ∙ ap (λ ps. l.done ++ ps) e ∙ sym (append_assoc l.done (p ∷ []) more);
+          behind = subst (λ ps. IsBehind bits version chunks ps leaf'' nodes'' number'') (append_assoc pairs l.done (p ∷ [])) (added bits version (pairs ++ l.done) l.behind);
+        }
 
-  pub leaf_rebuild_fault : (bytes : List ℕ) (len : ℕ) (p q : Pair) (fault : CheckFault) → bytes ≡ drop place entries → place < length entries → IsPairAt bytes p len → q ≡ p →
-      ((bits : ℕ) (version : Version) (pairs : List Pair) → IsBehind bits version chunks pairs leaf' nodes' number' → DifferBy bits version chunks (pairs ++ q ∷ []) fault) →
-      (bits : ℕ) (version : Version) (pairs held : List Pair) → IsBehind bits version chunks pairs leaf nodes number → AllByRecursion IsPair held → entries ≡ flat_map pair_spelling held →
-      DifferBy bits version chunks (pairs ++ held) fault
-  leaf_rebuild_fault bytes len p q fault e h at copy differs bits version pairs held b lawful spelled =
-      let l = all bits version pairs held b lawful spelled in
-      let f = first_is entries bytes place len p l.rest e h at l.left l.lawful in
-      let whole : ((pairs ++ l.done) ++ p ∷ []) ++ f.more ≡ pairs ++ held =
-      append_assoc (pairs ++ l.done) (p ∷ []) f.more ∙ append_assoc pairs l.done (p ∷ f.more) ∙ ap (λ ps. pairs ++ ps) (ap (λ ps. l.done ++ ps) (sym f.is) ∙ sym l.is) in
-      subst (λ ps. DifferBy bits version chunks ps fault) whole
-      (differ_by_more bits version chunks ((pairs ++ l.done) ++ p ∷ []) f.more fault (subst (λ r. DifferBy bits version chunks ((pairs ++ l.done) ++ r ∷ []) fault) copy (differs bits version (pairs ++ l.done) l.behind)))
+    pub leaf_rebuild_fault : (p : Pair) (more : List Pair) → rest ≡ p ∷ more → (fault : CheckFault) →
+        ((bits : ℕ) (version : Version) (pairs : List Pair) → IsBehind bits version chunks pairs leaf' nodes' number' → DifferBy bits version chunks (pairs ++ p ∷ []) fault) →
+        (bits : ℕ) (version : Version) (pairs : List Pair) → IsBehind bits version chunks pairs leaf nodes number → DifferBy bits version chunks (pairs ++ held) fault
+    leaf_rebuild_fault p more e fault differs bits version pairs b =
+        let l = all bits version pairs b in
+        let whole : ((pairs ++ l.done) ++ p ∷ []) ++ more ≡ pairs ++ held =
+        append_assoc (pairs ++ l.done) (p ∷ []) more ∙ append_assoc pairs l.done (p ∷ more) ∙ ap (λ ps. pairs ++ ps) (ap (λ ps. l.done ++ ps) (sym e) ∙ sym l.is) in
+        subst (λ ps. DifferBy bits version chunks ps fault) whole
+        (differ_by_more bits version chunks ((pairs ++ l.done) ++ p ∷ []) more fault (differs bits version (pairs ++ l.done) l.behind))
 
-  pub leaf_rebuild_ends : length entries ≤ place → (bits : ℕ) (version : Version) (pairs held : List Pair) → IsBehind bits version chunks pairs leaf nodes number → AllByRecursion IsPair held → entries ≡ flat_map pair_spelling held →
-      IsBehind bits version chunks (pairs ++ held) leaf' nodes' number'
-  leaf_rebuild_ends h bits version pairs held b lawful spelled =
-      let l = all bits version pairs held b lawful spelled in
-      let none = no_rest l.rest (sym l.left ∙ drop_all place entries h) in
-      subst (λ ps. IsBehind bits version chunks ps leaf' nodes' number') (ap (λ ps. pairs ++ ps) (sym (l.is ∙ ap (λ ps. l.done ++ ps) none ∙ append-nil l.done))) l.behind
-    where
-      no_rest : (rest : List Pair) → flat_map pair_spelling rest ≡ [] → rest ≡ []
-      no_rest [] e = refl
-      no_rest (p ∷ rest) e = absurd (cons≢nil e)
-
-  -- no other bytes than pairs are there
-  pub leaf_rebuild_stops : (bytes : List ℕ) → bytes ≡ drop place entries → place < length entries → NoPairAt bytes →
-      (bits : ℕ) (version : Version) (pairs held : List Pair) → IsBehind bits version chunks pairs leaf nodes number → AllByRecursion IsPair held → entries ≡ flat_map pair_spelling held → ⊥
-  leaf_rebuild_stops bytes e h none bits version pairs held b lawful spelled =
-      let l = all bits version pairs held b lawful spelled in go l.rest l.left l.lawful
-    where
-      go : (rest : List Pair) → drop place entries ≡ flat_map pair_spelling rest → AllByRecursion IsPair rest → ⊥
-      go [] f g = some_left entries place h f
-      go (q ∷ more) f g = none q (flat_map pair_spelling more) g.0 (e ∙ f)
+    pub leaf_rebuild_ends : rest ≡ [] → (bits : ℕ) (version : Version) (pairs : List Pair) → IsBehind bits version chunks pairs leaf nodes number → IsBehind bits version chunks (pairs ++ held) leaf' nodes' number'
+    leaf_rebuild_ends none bits version pairs b =
+        let l = all bits version pairs b in
+        subst (λ ps. IsBehind bits version chunks ps leaf' nodes' number') (ap (λ ps. pairs ++ ps) (sym (l.is ∙ ap (λ ps. l.done ++ ps) none ∙ append-nil l.done))) l.behind
 
 -- ---- the pairs of all chunks
 
@@ -201,34 +176,36 @@ chunks_begin chunks leaf nodes number bits version pairs lists b hold =
     record { done = []; rest = lists; is = refl; hold = hold; behind = subst (λ ps. IsBehind bits version chunks ps leaf nodes number) (sym (append-nil pairs)) b }
 
 module _ (chunks : List (List ℕ)) (leaf : LeafState ℕ) (nodes : List (NodeState ℕ)) (number : ℕ) (leaf' : LeafState ℕ) (nodes' : List (NodeState ℕ)) (number' place : ℕ)
-    (all : ChunksTaken chunks leaf nodes number leaf' nodes' number' place) (chunk : List ℕ) (within : place < length chunks) (is : chunk ≡ get_or chunks place []) where
+    (all : ChunksTaken chunks leaf nodes number leaf' nodes' number' place) (within : place < length chunks)
+    (taken : List Pair) (taken_is : (version : Version) (held : List Pair) → Holds version (get_or chunks place []) held → taken ≡ held) where
   pub chunks_go_on : (leaf'' : LeafState ℕ) (nodes'' : List (NodeState ℕ)) (number'' : ℕ) →
-      ((bits : ℕ) (version : Version) (pairs held : List Pair) → IsBehind bits version chunks pairs leaf' nodes' number' → Holds version chunk held →
-      IsBehind bits version chunks (pairs ++ held) leaf'' nodes'' number'') → ChunksTaken chunks leaf nodes number leaf'' nodes'' number'' (place + 1)
+      ((bits : ℕ) (version : Version) (pairs : List Pair) → IsBehind bits version chunks pairs leaf' nodes' number' →
+      IsBehind bits version chunks (pairs ++ taken) leaf'' nodes'' number'') → ChunksTaken chunks leaf nodes number leaf'' nodes'' number'' (place + 1)
   chunks_go_on leaf'' nodes'' number'' added bits version pairs lists b hold =
       let l = all bits version pairs lists b hold in
-      let f = held_in chunks place chunk within is version l.rest l.hold in
+      let f = held_in chunks place (get_or chunks place []) within refl version l.rest l.hold in
       record {
         done = l.done ++ f.held;
         rest = f.more;
         is = l.is ∙ ap (λ ls. l.done ++ flat ls) f.is ∙ sym (append_assoc l.done f.held (flat f.more));
         hold = f.hold;
-        behind = subst (λ ps. IsBehind bits version chunks ps leaf'' nodes'' number'') (append_assoc pairs l.done f.held) (added bits version (pairs ++ l.done) f.held l.behind f.holds);
+        behind = subst (λ ps. IsBehind bits version chunks ps leaf'' nodes'' number'') (append_assoc pairs l.done f.held)
+            (subst (λ ps. IsBehind bits version chunks ((pairs ++ l.done) ++ ps) leaf'' nodes'' number'') (taken_is version f.held f.holds) (added bits version (pairs ++ l.done) l.behind));
       }
 
   pub chunks_fault : (fault : CheckFault) →
-      ((bits : ℕ) (version : Version) (pairs held : List Pair) → IsBehind bits version chunks pairs leaf' nodes' number' → Holds version chunk held →
-      DifferBy bits version chunks (pairs ++ held) fault) →
+      ((bits : ℕ) (version : Version) (pairs : List Pair) → IsBehind bits version chunks pairs leaf' nodes' number' → DifferBy bits version chunks (pairs ++ taken) fault) →
       (bits : ℕ) (version : Version) (pairs : List Pair) (lists : List (List Pair)) → IsBehind bits version chunks pairs leaf nodes number → AllHold version chunks lists →
       DifferBy bits version chunks (pairs ++ flat lists) fault
   chunks_fault fault differs bits version pairs lists b hold =
       let l = all bits version pairs lists b hold in
-      let f = held_in chunks place chunk within is version l.rest l.hold in
+      let f = held_in chunks place (get_or chunks place []) within refl version l.rest l.hold in
       let whole : ((pairs ++ l.done) ++ f.held) ++ flat f.more ≡ pairs ++ flat lists =
       append_assoc (pairs ++ l.done) f.held (flat f.more) ∙ append_assoc pairs l.done (f.held ++ flat f.more)
       ∙ ap (λ ps. pairs ++ ps) (ap (λ ls. l.done ++ flat ls) (sym f.is) ∙ sym l.is) in
       subst (λ ps. DifferBy bits version chunks ps fault) whole
-      (differ_by_more bits version chunks ((pairs ++ l.done) ++ f.held) (flat f.more) fault (differs bits version (pairs ++ l.done) f.held l.behind f.holds))
+      (differ_by_more bits version chunks ((pairs ++ l.done) ++ f.held) (flat f.more) fault
+      (subst (λ ps. DifferBy bits version chunks ((pairs ++ l.done) ++ ps) fault) (taken_is version f.held f.holds) (differs bits version (pairs ++ l.done) l.behind)))
 
 pub chunks_end : (chunks : List (List ℕ)) (leaf : LeafState ℕ) (nodes : List (NodeState ℕ)) (number : ℕ) (leaf' : LeafState ℕ) (nodes' : List (NodeState ℕ)) (number' place : ℕ) →
     length chunks ≤ place → ChunksTaken chunks leaf nodes number leaf' nodes' number' place →

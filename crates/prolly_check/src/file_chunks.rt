@@ -1,11 +1,16 @@
 //! The chunks of a file, and their references.
-ghost use Rattle.std.specs.Prelude.{◌≡◌, ◌<◌, [], get_or, length, IfOk};
+ghost use Rattle.std.specs.Prelude.{◌≡◌, ◌<◌, List, [], get_or, length, IfOk};
 ghost use Rattle.std.specs.List.{AllByRecursion};
+ghost use Rattle.prolly_entry.specs.Pair.{Pair as PairValue};
 ghost use Rattle.prolly_entry.specs.Reference.{reference_of};
+ghost use Rattle.prolly_entry.specs.declared.version.Version.{Version};
+ghost use Rattle.prolly_check.specs.Entries.{Holds};
 ghost use Rattle.prolly_check.specs.Index.{AreReferences};
 ghost use Rattle.prolly_check.specs.Spans.{IsWithin, chunks_in};
+ghost use Rattle.prolly_check.specs.Whole.{IsReadable};
 
 use crate::frames::{Span, chunk_at};
+use crate::leaf::{Pairs, pairs_of};
 use prolly_chunk::ChunkEvent;
 use prolly_entry::Ref;
 use std::alloc::{AllocError, Global};
@@ -40,12 +45,14 @@ impl<'a> Model for FileChunks<'a> {
     ghost use Rattle.std.specs.List.{AllByRecursion};
     ghost use Rattle.prolly_check.specs.Index.{AreReferences};
     ghost use Rattle.prolly_check.specs.Spans.{IsWithin, chunks_in};
+    ghost use Rattle.prolly_check.specs.Whole.{IsReadable};
 
     ghost Value = { List (List ℕ) };
 
     ghost view = { λ c. chunks_in c.bytes.now c.spans.now };
 
-    ghost invariant = { λ c. AllByRecursion (IsWithin c.bytes.now) c.spans.now × AreReferences (chunks_in c.bytes.now c.spans.now) c.references.now };
+    ghost invariant = { λ c. AllByRecursion (IsWithin c.bytes.now) c.spans.now × AreReferences (chunks_in c.bytes.now c.spans.now) c.references.now
+        × AllByRecursion IsReadable (chunks_in c.bytes.now c.spans.now) };
 }
 
 impl<'a> FileChunks<'a> {
@@ -53,6 +60,7 @@ impl<'a> FileChunks<'a> {
     pub(crate) fn new(bytes: &'a [u8], spans: &'a [Span], references: &'a [Ref]) -> FileChunks<'a>
         requires within { AllByRecursion (IsWithin bytes.now) spans.now }
         requires references { AreReferences (chunks_in bytes.now spans.now) references.now }
+        requires readable { AllByRecursion IsReadable (chunks_in bytes.now spans.now) }
         ensures { result ≡ chunks_in bytes.now spans.now }
     {
         FileChunks {
@@ -75,6 +83,14 @@ impl<'a> FileChunks<'a> {
         ensures { result.now ≡ get_or self.now number [] }
     {
         chunk_at(self.bytes, self.spans[number])
+    }
+
+    /// The pairs of the chunk of this number. A node has none.
+    pub(crate) fn pairs(&self, number: usize) -> Pairs<'_>
+        requires { number < length self.now }
+        ensures { (version : Version) (held : List PairValue) → Holds version (get_or self.now number []) held → result ≡ held }
+    {
+        pairs_of(chunk_at(self.bytes, self.spans[number]))
     }
 
     /// The reference of the chunk of this number. Takes no hash.

@@ -1,10 +1,9 @@
 //! Rebuilding the chunks of pairs that come one by one.
 ghost use Rattle.std.specs.Prelude.{◌≡◌, [], ◌∷◌, ◌++◌, ◌<◌, ◌≤◌, ◌^◌, ℕ, None, Some, List, length, OnOk, IfOk, IfErr, MatchOption};
-ghost use Rattle.std.specs.List.{flat_map, AllByRecursion};
-ghost use Rattle.prolly_entry.specs.Pair.{Pair as PairValue, IsPair};
-ghost use Rattle.prolly_entry.specs.Spelling.{pair_spelling};
+ghost use Rattle.std.specs.List.{flat_map};
+ghost use Rattle.prolly_entry.specs.Pair.{Pair as PairValue};
 ghost use Rattle.prolly_entry.specs.declared.version.Version.{Version};
-ghost use Rattle.prolly_check.specs.Entries.{Holds, AllHold};
+ghost use Rattle.prolly_check.specs.Entries.{AllHold};
 ghost use Rattle.prolly_check.specs.Judged.{difference, chunk_bytes};
 ghost use Rattle.prolly_check.specs.Rebuilt.{IsBehind, DifferBy, AreUnused, EndsAt, FaultAtEnd, node_levels};
 ghost use Rattle.prolly_check.specs.Refusal.{UnlessMemory};
@@ -12,9 +11,10 @@ ghost use Rattle.prolly_check.specs.Refusal.{UnlessMemory};
 use crate::fault::CheckFault;
 use crate::file_chunks::FileChunks;
 use crate::finish::{finish_nodes, pass_last};
+use crate::leaf::Pairs;
 use crate::passing::pass;
 use prolly_chunk::{LeafLevel, NodeLevel};
-use prolly_entry::{Front, Pair, Sha512Cut, Version, front_pair};
+use prolly_entry::{Pair, Sha512Cut, Version};
 use std::alloc::{AllocError, Global};
 
 /// The number of levels of nodes. A tree of fewer than 2^64 pairs has no more.
@@ -114,63 +114,27 @@ fn add_copy(
     add_pair(alloc, rebuild, &pair, chunks)
 }
 
-/// Takes the pairs of a leaf's entries.
+/// Takes the pairs of a leaf.
 fn add_leaf(
     alloc: Global,
     rebuild: &mut Rebuild,
-    entries: &[u8],
+    mut leaf: Pairs,
     chunks: &FileChunks,
 ) -> Result<(), CheckFault>
     requires number { rebuild.old.number ≤ length chunks.now }
-    ensures ok { OnOk result ((bits : ℕ) (version : Version) (pairs leaf : List PairValue) → IsBehind bits version chunks.now pairs rebuild.old.leaf rebuild.old.nodes.items rebuild.old.number →
-        AllByRecursion IsPair leaf → entries.now ≡ flat_map pair_spelling leaf →
-        IsBehind bits version chunks.now (pairs ++ leaf) rebuild.new.leaf rebuild.new.nodes.items rebuild.new.number) }
+    ensures ok { OnOk result ((bits : ℕ) (version : Version) (pairs : List PairValue) → IsBehind bits version chunks.now pairs rebuild.old.leaf rebuild.old.nodes.items rebuild.old.number →
+        IsBehind bits version chunks.now (pairs ++ leaf.entry) rebuild.new.leaf rebuild.new.nodes.items rebuild.new.number) }
     ensures number { OnOk result (rebuild.new.number ≤ length chunks.now) }
-    ensures err { IfErr result (UnlessMemory (λ fault. (bits : ℕ) (version : Version) (pairs leaf : List PairValue) → IsBehind bits version chunks.now pairs rebuild.old.leaf rebuild.old.nodes.items rebuild.old.number →
-        AllByRecursion IsPair leaf → entries.now ≡ flat_map pair_spelling leaf → DifferBy bits version chunks.now (pairs ++ leaf) fault)) }
+    ensures err { IfErr result (UnlessMemory (λ fault. (bits : ℕ) (version : Version) (pairs : List PairValue) → IsBehind bits version chunks.now pairs rebuild.old.leaf rebuild.old.nodes.items rebuild.old.number →
+        DifferBy bits version chunks.now (pairs ++ leaf.entry) fault)) }
 {
-    let mut place = 0;
-    while place < entries.len() {
-        let rest = &entries[place..];
-        match front_pair(rest) {
-            Front::Pair {
-                key_end,
-                value_start,
-                len,
-            } => {
-                let (key, value) = (&rest[2..key_end], &rest[value_start..len]);
-                match add_copy(alloc, rebuild, key, value, chunks) {
-                    Ok(()) => place += len,
-                    Err(fault) => return Err(fault),
-                }
-            }
-            _ => return Ok(()),
+    while let Some((key, value)) = leaf.next() {
+        match add_copy(alloc, rebuild, key, value, chunks) {
+            Ok(()) => {}
+            Err(fault) => return Err(fault),
         }
     }
     Ok(())
-}
-
-/// Takes the pairs of a chunk. A node has none.
-fn add_chunk(
-    alloc: Global,
-    rebuild: &mut Rebuild,
-    chunk: &[u8],
-    chunks: &FileChunks,
-) -> Result<(), CheckFault>
-    requires number { rebuild.old.number ≤ length chunks.now }
-    ensures ok { OnOk result ((bits : ℕ) (version : Version) (pairs held : List PairValue) → IsBehind bits version chunks.now pairs rebuild.old.leaf rebuild.old.nodes.items rebuild.old.number →
-        Holds version chunk.now held → IsBehind bits version chunks.now (pairs ++ held) rebuild.new.leaf rebuild.new.nodes.items rebuild.new.number) }
-    ensures number { OnOk result (rebuild.new.number ≤ length chunks.now) }
-    ensures err { IfErr result (UnlessMemory (λ fault. (bits : ℕ) (version : Version) (pairs held : List PairValue) → IsBehind bits version chunks.now pairs rebuild.old.leaf rebuild.old.nodes.items rebuild.old.number →
-        Holds version chunk.now held → DifferBy bits version chunks.now (pairs ++ held) fault)) }
-{
-    if chunk.len() == 0 {
-        return Ok(());
-    }
-    if chunk[0] != 0 {
-        return Ok(());
-    }
-    add_leaf(alloc, rebuild, &chunk[1..], chunks)
 }
 
 /// Takes the pairs of all chunks of a file.
@@ -183,7 +147,7 @@ fn add_chunks(alloc: Global, rebuild: &mut Rebuild, chunks: &FileChunks) -> Resu
         AllHold version chunks.now lists → DifferBy bits version chunks.now (pairs ++ flat_map (λ pairs. pairs) lists) fault)) }
 {
     for number in 0..chunks.len() {
-        match add_chunk(alloc, rebuild, chunks.chunk(number), chunks) {
+        match add_leaf(alloc, rebuild, chunks.pairs(number), chunks) {
             Ok(()) => {}
             Err(fault) => return Err(fault),
         }

@@ -69,3 +69,8 @@ pub test_order-requires-clause-readable : goal.test_order-requires-clause-readab
 test_order-requires-clause-readable c =
     subst (λ spans. AllByRecursion IsReadable (chunks_in c.args.bytes.now spans)) (sym c.deref.ensures.value)
     (all_readable c.args.version (chunks_in c.args.bytes.now c.args.frames.now.spans.items) c.requires.whole.lists c.requires.whole.hold)
+
+pub new-chunks-requires-clause-readable : goal.new-chunks-requires-clause-readable
+new-chunks-requires-clause-readable c =
+    subst (λ spans. AllByRecursion IsReadable (chunks_in c.args.bytes.now spans)) (sym c.deref-2.ensures.value)
+    (all_readable c.args.version (chunks_in c.args.bytes.now c.args.frames.now.spans.items) c.requires.whole.lists c.requires.whole.hold)

@@ -18,7 +18,7 @@ pub loop-number-preserved : goal.loop-number-preserved
 loop-number-preserved c = record {
   number = c.in-Ok.ensures.number;
   all = chunks_go_on c.args.chunks.now c.args.rebuild.now.leaf c.args.rebuild.now.nodes.items c.args.rebuild.now.number c.loop-number.rebuild.leaf c.loop-number.rebuild.nodes.items c.loop-number.rebuild.number
-      c.loop-number.number c.loop-number.invariant.all c.chunk.result.now (omega arith) c.chunk.ensures c.add_chunk.new.rebuild.leaf c.add_chunk.new.rebuild.nodes.items c.add_chunk.new.rebuild.number
+      c.loop-number.number c.loop-number.invariant.all (omega arith) c.pairs.result c.pairs.ensures c.add_leaf.new.rebuild.leaf c.add_leaf.new.rebuild.nodes.items c.add_leaf.new.rebuild.number
       c.in-Ok.ensures.ok;
 }
 
@@ -26,12 +26,12 @@ pub returns-in-Err-clause-err : goal.returns-in-Err-clause-err
 returns-in-Err-clause-err c =
     let chunks = c.args.chunks.now in
     still_refused
-    (λ fault. (bits : ℕ) (version : Version) (pairs held : List Pair) → IsBehind bits version chunks pairs c.loop-number.rebuild.leaf c.loop-number.rebuild.nodes.items c.loop-number.rebuild.number →
-    Holds version c.chunk.result.now held → DifferBy bits version chunks (pairs ++ held) fault)
+    (λ fault. (bits : ℕ) (version : Version) (pairs : List Pair) → IsBehind bits version chunks pairs c.loop-number.rebuild.leaf c.loop-number.rebuild.nodes.items c.loop-number.rebuild.number →
+    DifferBy bits version chunks (pairs ++ c.pairs.result) fault)
     (λ fault. (bits : ℕ) (version : Version) (pairs : List Pair) (lists : List (List Pair)) → IsBehind bits version chunks pairs c.args.rebuild.now.leaf c.args.rebuild.now.nodes.items c.args.rebuild.now.number →
     AllHold version chunks lists → DifferBy bits version chunks (pairs ++ flat lists) fault)
     (λ fault h. chunks_fault c.args.chunks.now c.args.rebuild.now.leaf c.args.rebuild.now.nodes.items c.args.rebuild.now.number c.loop-number.rebuild.leaf c.loop-number.rebuild.nodes.items c.loop-number.rebuild.number
-    c.loop-number.number c.loop-number.invariant.all c.chunk.result.now (omega arith) c.chunk.ensures fault h)
+    c.loop-number.number c.loop-number.invariant.all (omega arith) c.pairs.result c.pairs.ensures fault h)
     c.in-Err.fault c.in-Err.ensures.err
 
 pub returns-clause-ok : goal.returns-clause-ok

@@ -1,12 +1,12 @@
-use Rattle.std.proofs.Common.{◌≤◌, ◌-◌, length}
+use Rattle.std.proofs.Common.{◌≤◌, length}
 use Rattle.prolly_check.proofs.RebuildSteps.{LeafRebuilt}
 use Rattle.prolly_check.proofs.rebuild.add_leaf.Given as goal
 
-abbrev pub invariant-loop-place : goal.invariant-loop-place
-invariant-loop-place l = record {
+abbrev pub invariant-loop-key : goal.invariant-loop-key
+invariant-loop-key l = record {
   number : l.rebuild.number ≤ length l.chunks;
-  all : LeafRebuilt l.chunks l.entries l.fn.rebuild.leaf l.fn.rebuild.nodes.items l.fn.rebuild.number l.rebuild.leaf l.rebuild.nodes.items l.rebuild.number l.place;
+  all : LeafRebuilt l.chunks l.fn.leaf l.fn.rebuild.leaf l.fn.rebuild.nodes.items l.fn.rebuild.number l.leaf l.rebuild.leaf l.rebuild.nodes.items l.rebuild.number;
 }
 
-abbrev pub decreases-loop-place : goal.decreases-loop-place
-decreases-loop-place l = length l.entries - l.place
+abbrev pub decreases-loop-key : goal.decreases-loop-key
+decreases-loop-key l = length l.leaf
