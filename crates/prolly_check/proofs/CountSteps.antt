@@ -1,24 +1,21 @@
 -- Counting the pairs of a leaf and the children of a node, entry by entry.
 use mathlib.Core.List.{cons≢nil}
-use Rattle.std.proofs.Common.{◌≡◌, ℕ, zero, suc, ◌+◌, ◌-◌, ◌^◌, ◌<◌, ◌≤◌, List, [], ◌∷◌, ◌++◌, length, drop, Some, None, refl, sym, ap, ◌∙◌, subst, arith, append_assoc, append-nil}
+use Rattle.std.proofs.Common.{◌≡◌, ℕ, zero, suc, ◌+◌, ◌-◌, ◌^◌, ◌<◌, ◌≤◌, List, [], ◌∷◌, ◌++◌, length, drop, refl, sym, ap, ◌∙◌, subst, arith, append_assoc, append-nil}
 use Rattle.std.specs.List.{flat_map, AllByRecursion}
 use Rattle.std.proofs.lemmas.List.{drop-drop, length-append, drop_all}
 use Rattle.std.proofs.lemmas.List.Concat.{flat_map-append}
 use Rattle.prolly_entry.specs.declared.version.Version.TheVariants.{Two}
 use Rattle.prolly_entry.specs.declared.child.ChildAt.{ChildAt}
 use Rattle.prolly_entry.specs.ChildAt.{reference_at, count_at, IsChildAt, NoChildAt}
-use Rattle.prolly_entry.specs.Front.{IsPairAt, NoPairAt}
 use Rattle.prolly_entry.specs.LookUp.{nth}
 use Rattle.prolly_entry.specs.Pair.{Pair, IsPair}
 use Rattle.prolly_entry.specs.Reference.{reference_of}
-use Rattle.prolly_entry.specs.Spelling.{pair_spelling}
 use Rattle.prolly_entry.specs.Tree.{Tree, pairs_below, greatest_key, pair_count, bytes_of, child_entry}
 use Rattle.prolly_entry.proofs.Groups.{all_front, all_back}
 use Rattle.prolly_entry.proofs.Roots.{last_key_short, reference_length}
 use Rattle.prolly_check.specs.Counted.{Counts, CountsPast}
 use Rattle.prolly_check.proofs.ChildSteps.{ChildIs, child_is}
 use Rattle.prolly_check.proofs.EntrySteps.{some_left}
-use Rattle.prolly_check.proofs.FindSteps.{first_is}
 use Rattle.prolly_entry.proofs.Files.{eight_bytes}
 
 -- ---- in a leaf

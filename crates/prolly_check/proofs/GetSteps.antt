@@ -9,7 +9,6 @@ use Rattle.prolly_entry.specs.Keys.{Rising}
 use Rattle.prolly_entry.specs.Pair.{Pair, IsPair}
 use Rattle.prolly_entry.specs.LookUp.{find}
 use Rattle.prolly_entry.specs.Reference.{reference_of}
-use Rattle.prolly_entry.specs.Spelling.{pair_spelling}
 use Rattle.prolly_entry.specs.Tree.{Tree, pairs_below, bytes_of}
 use Rattle.prolly_entry.specs.Chunk.{IsIn, chunk_of}
 use Rattle.prolly_entry.proofs.Roots.{top_in}

@@ -4,7 +4,7 @@ use Rattle.std.specs.Prelude.{slice_index}
 use Rattle.std.proofs.Math.Seq.{drop-cons}
 use Rattle.prolly_entry.specs.declared.version.Version.{Version}
 use Rattle.prolly_entry.specs.Pair.{Pair}
-use Rattle.prolly_check.specs.Entries.{IsLeaf, Holds, AllHold}
+use Rattle.prolly_check.specs.Entries.{Holds, AllHold}
 use Rattle.prolly_check.specs.Spans.{chunk_in, chunks_in}
 use Rattle.prolly_check.specs.declared.frames.Span.{Span}
 use Rattle.prolly_check.proofs.CanonicalSteps.{count_in, chunk_there}
@@ -12,11 +12,6 @@ use Rattle.prolly_check.proofs.CanonicalSteps.{count_in, chunk_there}
 -- ---- in a chunk
 
 module _ (version : Version) (held : List Pair) where
-  pub chunk_leaf : (chunk : List ℕ) → slice_index chunk 0 ≡ 0 → Holds version chunk held → IsLeaf (drop 1 chunk) held
-  chunk_leaf [] e h = absurd h
-  chunk_leaf (zero ∷ entries) e h = h
-  chunk_leaf (suc level ∷ entries) e h = absurd (let f : suc level ≡ 0 = e in omega arith)
-
   pub node_none : (chunk : List ℕ) → (slice_index chunk 0 ≡ 0 → ⊥) → Holds version chunk held → held ≡ []
   node_none [] e h = absurd h
   node_none (zero ∷ entries) e h = absurd (e refl)

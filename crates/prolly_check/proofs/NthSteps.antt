@@ -12,7 +12,6 @@ use Rattle.prolly_entry.specs.Cut.{sha512_cut}
 use Rattle.prolly_entry.specs.LookUp.{nth}
 use Rattle.prolly_entry.specs.Pair.{Pair, IsPair}
 use Rattle.prolly_entry.specs.Reference.{reference_of}
-use Rattle.prolly_entry.specs.Spelling.{pair_spelling}
 use Rattle.prolly_entry.specs.Tree.{Tree, pairs_below, pair_count, bytes_of, tree_of, child_entry}
 use Rattle.prolly_entry.specs.Chunk.{post_order}
 use Rattle.prolly_entry.proofs.Groups.{all_front, all_back}

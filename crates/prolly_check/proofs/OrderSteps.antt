@@ -1,24 +1,17 @@
 -- Reading the keys of a file one after another.
-use mathlib.Core.List.{cons≢nil}
-use Rattle.std.proofs.Common.{◌≡◌, ℕ, suc, ◌+◌, ◌<◌, ◌≤◌, Bool, true, false, ◌&&◌, List, [], ◌∷◌, ◌++◌, length, drop, get_or, Option, Some, None, refl, sym, ap, ◌∙◌, arith}
+use Rattle.std.proofs.Common.{◌≡◌, ℕ, suc, ◌+◌, ◌<◌, Bool, true, false, ◌&&◌, List, [], ◌∷◌, ◌++◌, length, drop, get_or, Option, Some, None, refl, sym, ap, ◌∙◌, arith}
 use Rattle.std.specs.Ordering.{is_lt}
-use Rattle.std.specs.List.{flat_map, AllByRecursion}
 use Rattle.std.proofs.lemmas.Bool.{cond-true, cond-false}
-use Rattle.std.proofs.lemmas.List.{drop-drop, drop_all}
 use Rattle.prolly_entry.specs.declared.version.Version.{Version}
-use Rattle.prolly_entry.specs.Front.{IsPairAt, NoPairAt}
 use Rattle.prolly_entry.specs.Keys.{key_order}
-use Rattle.prolly_entry.specs.Pair.{Pair, IsPair}
+use Rattle.prolly_entry.specs.Pair.{Pair}
 use Rattle.prolly_entry.specs.Position.{is_before}
-use Rattle.prolly_entry.specs.Spelling.{pair_spelling}
 use Rattle.prolly_check.specs.declared.fault.CheckFault.TheVariants as faults
 use Rattle.prolly_check.specs.declared.frames.Span.{Span}
 use Rattle.prolly_check.specs.Entries.{Holds, AllHold}
 use Rattle.prolly_check.specs.Judged.{is_rising, order_fault}
 use Rattle.prolly_check.specs.Order.{rises_behind, last_behind, RisesTo}
 use Rattle.prolly_check.specs.Spans.{chunk_in, chunks_in}
-use Rattle.prolly_check.proofs.EntrySteps.{some_left}
-use Rattle.prolly_check.proofs.FindSteps.{first_is}
 use Rattle.prolly_check.proofs.HeldSteps.{held_at}
 
 -- ---- pairs behind pairs

@@ -1,19 +1,13 @@
 -- Rebuilding the chunks of pairs.
-use mathlib.Core.List.{cons≢nil}
 use Rattle.std.proofs.Common.{◌≡◌, ℕ, suc, ◌+◌, ◌<◌, ◌≤◌, List, [], ◌∷◌, ◌++◌, length, take, drop, get_or, Option, Some, None, refl, sym, ap, ◌∙◌, subst, arith, append_assoc, append-nil}
 use Rattle.prolly_entry.specs.declared.version.Version.{Version}
 use Rattle.prolly_entry.specs.Cut.{sha512_cut}
 use Rattle.prolly_entry.specs.Chunk.{Chunk}
 use Rattle.prolly_entry.specs.Events.{faulty, leaf_events}
-use Rattle.prolly_entry.specs.Front.{IsPairAt, NoPairAt}
-use Rattle.prolly_entry.specs.Pair.{Pair, IsPair}
-use Rattle.prolly_entry.specs.Spelling.{pair_spelling}
+use Rattle.prolly_entry.specs.Pair.{Pair}
 use Rattle.prolly_check.specs.Entries.{Holds, AllHold}
 use Rattle.prolly_check.proofs.HeldSteps.{held_in, none_held}
 use Rattle.prolly_entry.proofs.Parts.{flat}
-use Rattle.prolly_check.proofs.EntrySteps.{some_left}
-use Rattle.prolly_check.proofs.FindSteps.{first_is}
-use Rattle.std.specs.List.{flat_map, AllByRecursion}
 use Rattle.prolly_entry.proofs.Prefixes.{fault_is_prefix}
 use Rattle.prolly_chunk.specs.LeafLevel.{LeafState, LeafBegins, LeafTakes}
 use Rattle.prolly_chunk.specs.NodeLevel.{NodeState, NodeBegins}
@@ -21,7 +15,7 @@ use Rattle.prolly_check.specs.declared.fault.CheckFault.{CheckFault}
 use Rattle.prolly_check.specs.Rebuilt.{node_levels, sent_through, sent_of, AreBehind, AreBelow, AreFirst, AreUnused, IsBehind, DifferAs, DifferBy, PassesOn, FaultPassing}
 use Rattle.prolly_check.proofs.Rebuilds.{sent_differs_more, leaf_below}
 use Rattle.std.specs.Option.{option_to_list}
-use Rattle.std.proofs.lemmas.List.{take_at, drop-drop, drop_all}
+use Rattle.std.proofs.lemmas.List.{take_at, drop_all}
 
 -- levels that took nothing are those behind no chunks, and send none
 pub unused_behind : (bits : ℕ) (version : Version) (level : ℕ) (states : List (NodeState ℕ)) → AreUnused bits version level states → AreBehind bits version level states []

@@ -23,7 +23,7 @@ use Rattle.prolly_chunk.proofs.Nodes.{node_passes}
 use Rattle.prolly_check.specs.declared.fault.CheckFault.{CheckFault}
 use Rattle.prolly_check.specs.declared.fault.CheckFault.TheVariants as faults
 use Rattle.prolly_check.specs.Judged.{difference}
-use Rattle.prolly_check.specs.Rebuilt.{sent_through, AreBehind, AreBelow, AreFirst, DifferAs, MovesOn, FaultHere, TakenBy, TakesAt, PassedOn, PassesOn, FaultPassing}
+use Rattle.prolly_check.specs.Rebuilt.{sent_through, AreBehind, AreBelow, AreFirst, DifferAs, MovesOn, FaultHere, TakenBy, TakesAt, PassesOn, FaultPassing}
 use Rattle.prolly_check.proofs.Acceptance.{bytes_in, bytes_append}
 use Rattle.prolly_check.proofs.CanonicalSteps.{false_is}
 

@@ -1,23 +1,17 @@
 -- Scanning a leaf pair by pair, and a file chunk by chunk.
-use mathlib.Core.List.{cons≢nil}
-use Rattle.std.proofs.Common.{◌≡◌, ℕ, zero, suc, ◌+◌, ◌<◌, ◌≤◌, Bool, true, false, not, cond, List, [], ◌∷◌, ◌++◌, length, take, drop, get_or, slice_index, refl, sym, ap, ◌∙◌, subst, arith, append_assoc}
+use Rattle.std.proofs.Common.{◌≡◌, ℕ, zero, suc, ◌+◌, ◌<◌, ◌≤◌, Bool, true, false, not, cond, List, [], ◌∷◌, ◌++◌, length, take, drop, get_or, refl, sym, ap, ◌∙◌, subst, arith, append_assoc}
 use Rattle.std.specs.Ordering.{is_lt}
-use Rattle.std.specs.List.{flat_map, AllByRecursion}
 use Rattle.std.proofs.Math.Seq.{drop-cons}
-use Rattle.std.proofs.lemmas.List.{drop-drop, length-append, drop_all}
+use Rattle.std.proofs.lemmas.List.{length-append}
 use Rattle.prolly_entry.specs.declared.version.Version.{Version}
-use Rattle.prolly_entry.specs.Front.{IsPairAt, NoPairAt}
 use Rattle.prolly_entry.specs.Keys.{key_order}
-use Rattle.prolly_entry.specs.Pair.{Pair, IsPair}
-use Rattle.prolly_entry.specs.Spelling.{pair_spelling}
+use Rattle.prolly_entry.specs.Pair.{Pair}
 use Rattle.prolly_entry.proofs.Parts.{flat}
 use Rattle.prolly_check.specs.Entries.{Holds, AllHold}
 use Rattle.prolly_check.specs.Scanned.{pairs_from}
 use Rattle.prolly_check.specs.Spans.{chunk_in, chunks_in}
 use Rattle.prolly_check.specs.declared.frames.Span.{Span}
 use Rattle.prolly_check.proofs.CanonicalSteps.{count_in, chunk_there}
-use Rattle.prolly_check.proofs.EntrySteps.{some_left}
-use Rattle.prolly_check.proofs.FindSteps.{first_is}
 use Rattle.prolly_check.proofs.Scans.{pairs_from-append, scan_more, scan_full, scan_done}
 
 -- ---- in a leaf

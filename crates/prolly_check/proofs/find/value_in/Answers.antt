@@ -1,6 +1,5 @@
 use Rattle.std.proofs.Common.{sym, ap, ◌∙◌}
 use Rattle.std.specs.Ordering.{is_eq}
-use Rattle.prolly_entry.specs.LookUp.{find}
 use Rattle.prolly_check.proofs.FindSteps.{find_on, find_here}
 use Rattle.prolly_check.proofs.find.value_in.Goals as goal
 

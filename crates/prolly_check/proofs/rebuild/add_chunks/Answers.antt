@@ -2,7 +2,7 @@ use Rattle.std.proofs.Common.{ℕ, List, ◌++◌, arith}
 use Rattle.prolly_entry.specs.Pair.{Pair}
 use Rattle.prolly_entry.specs.declared.version.Version.{Version}
 use Rattle.prolly_entry.proofs.Parts.{flat}
-use Rattle.prolly_check.specs.Entries.{Holds, AllHold}
+use Rattle.prolly_check.specs.Entries.{AllHold}
 use Rattle.prolly_check.specs.Rebuilt.{IsBehind, DifferBy}
 use Rattle.prolly_check.proofs.Refusals.{still_refused}
 use Rattle.prolly_check.proofs.RebuildSteps.{chunks_begin, chunks_go_on, chunks_fault, chunks_end}

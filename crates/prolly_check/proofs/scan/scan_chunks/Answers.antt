@@ -1,5 +1,5 @@
 use Rattle.std.proofs.lemmas.Grind.{common_steps}
-use Rattle.std.proofs.Common.{◌<◌, ◌++◌, length, take, ap, ◌∙◌, arith, sym, subst}
+use Rattle.std.proofs.Common.{◌++◌, take, ap, ◌∙◌, arith, sym, subst}
 use Rattle.prolly_check.specs.Scanned.{pairs_from}
 use Rattle.prolly_check.specs.Whole.{IsReadable}
 use Rattle.prolly_check.proofs.LeafPairs.{readable_at}
