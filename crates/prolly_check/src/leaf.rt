@@ -1,5 +1,6 @@
 //! The entries of leaves.
-ghost use Rattle.std.specs.Prelude.{◌≡◌, ◌≤◌, [], ◌∷◌, true, false, List, length, IfSome, MatchOption};
+ghost use Rattle.std.specs.Prelude.{◌≡◌, ◌≤◌, [], ◌∷◌, true, false, List, length};
+ghost use Rattle.std.specs.Prelude.{IfSome, MatchOption};
 ghost use Rattle.prolly_entry.specs.Pair.{Pair as PairValue};
 ghost use Rattle.prolly_entry.specs.declared.version.Version.{Version};
 ghost use Rattle.prolly_check.specs.Entries.{IsLeaf, Holds};
@@ -61,7 +62,8 @@ impl<'a> Pairs<'a> {
     pub(crate) fn next(&mut self) -> Option<(&'a [u8], &'a [u8])>
         ensures next { MatchOption result (self.old ≡ [])
             (λ next. self.old ≡ record { key = next.0.now; value = next.1.now } ∷ self.new) }
-        ensures lawful { IfSome result (λ next. (length next.0.now ≤ 1024) × (length next.1.now ≤ 65536)) }
+        ensures lawful { IfSome result (λ next.
+            (length next.0.now ≤ 1024) × (length next.1.now ≤ 65536)) }
     {
         let entries = self.entries;
         match front_pair(entries) {
@@ -81,7 +83,8 @@ impl<'a> Pairs<'a> {
 /// The pairs of a chunk that was tested. A node has none.
 pub(crate) fn pairs_of(chunk: &[u8]) -> Pairs<'_>
     requires { IsReadable chunk.now }
-    ensures { (version : Version) (held : List PairValue) → Holds version chunk.now held → result ≡ held }
+    ensures { (version : Version) (held : List PairValue) → Holds version chunk.now held →
+        result ≡ held }
 {
     if chunk.len() == 0 {
         return Pairs::new(&[]);

@@ -39,11 +39,9 @@ pub(crate) fn test_order(bytes: &[u8], spans: &[Span]) -> Result<(), CheckFault>
 }
 
 /// The last key up to the end of a leaf, where its keys rise behind the last one before it.
-fn last_in<'a>(
-    mut last: Option<&'a [u8]>,
-    mut leaf: Pairs<'a>,
-) -> Result<Option<&'a [u8]>, Falls>
-    ensures ok { IfOk result (λ new. RisesTo (option_copied last.entry) leaf.entry (option_copied new)) }
+fn last_in<'a>(mut last: Option<&'a [u8]>, mut leaf: Pairs<'a>) -> Result<Option<&'a [u8]>, Falls>
+    ensures ok { IfOk result (λ new.
+        RisesTo (option_copied last.entry) leaf.entry (option_copied new)) }
     ensures err { OnErr result (rises_behind (option_copied last.entry) leaf.entry ≡ false) }
 {
     while let Some((key, _)) = leaf.next() {
