@@ -3,8 +3,8 @@ use Rattle.std.specs.Prelude.{◌≡◌}
 use Rattle.prolly_link.specs.Views.{Receiving}
 use Rattle.prolly_link.specs.Draining.{Drains}
 use Rattle.prolly_link.specs.declared.progress.Progress.TheVariants.{Ended, Lost}
-use Rattle.prolly_link.specs.declared.batch_drained.BatchDrained.{BatchDrained}
-use Rattle.prolly_link.specs.declared.batch_drained.BatchDrained.TheVariants.{Ended as drained_ended, Lost as drained_lost}
+use Rattle.prolly_link.specs.declared.batch.drained.BatchDrained.{BatchDrained}
+use Rattle.prolly_link.specs.declared.batch.drained.BatchDrained.TheVariants.{Ended as drained_ended, Lost as drained_lost}
 
 -- what `drain` makes of a receiver of batches
 abbrev pub IsBatchDrainOf : {T : Type 0} → Receiving T → BatchDrained T → Type 0

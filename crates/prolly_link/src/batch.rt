@@ -1,4 +1,12 @@
-//! What the ring of a batch link carries.
+//! What the ring of a batch link carries, and below it the ends of such a link.
+pub(crate) mod closed;
+pub(crate) mod comparing;
+pub(crate) mod drained;
+pub(crate) mod meeting;
+pub(crate) mod opening;
+pub(crate) mod receiver;
+pub(crate) mod sender;
+
 ghost use Rattle.std.specs.Prelude.{◌≡◌, ◌≤◌, ◌∷◌, length, vec_len};
 ghost use Rattle.std.specs.VecDeque.{deque_len};
 

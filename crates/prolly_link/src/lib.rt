@@ -8,14 +8,6 @@
 #![tactic(auto)]
 
 mod batch;
-mod batch_closed;
-mod batch_closed_comparing;
-mod batch_comparing;
-mod batch_drained;
-mod batch_meeting;
-mod batch_opening;
-mod batch_receiver;
-mod batch_sender;
 mod bell;
 mod closed;
 mod closed_comparing;
@@ -40,14 +32,13 @@ mod rest;
 mod sender;
 mod shared;
 
-pub use batch_closed::ClosedBatch;
-pub use batch_closed_comparing::compare_closed_batches;
-pub use batch_comparing::compare_batches;
-pub use batch_drained::{BatchDrained, EndedBatch, LostBatch};
-pub use batch_meeting::{MetBatch, meet_batches};
-pub use batch_opening::batch_link;
-pub use batch_receiver::BatchReceiver;
-pub use batch_sender::BatchSender;
+pub use batch::closed::ClosedBatch;
+pub use batch::comparing::{compare_batches, compare_closed_batches};
+pub use batch::drained::{BatchDrained, EndedBatch, LostBatch};
+pub use batch::meeting::{MetBatch, meet_batches};
+pub use batch::opening::batch_link;
+pub use batch::receiver::BatchReceiver;
+pub use batch::sender::BatchSender;
 pub use closed::ClosedSender;
 pub use closed_comparing::compare_closed;
 pub use comparing::compare;

@@ -21,13 +21,12 @@ pub(crate) fn push_waiting<M, R: Wait>(
     rt: &R,
     patience: &Patience,
     ring: &mut Producer<M>,
-    message: M,
+    mut message: M,
     wake: Wake,
 )
     ensures link { producer_link ring.new ≡ producer_link ring.old }
     ensures pushed { pushed ring.new ≡ pushed ring.old ++ message ∷ [] }
 {
-    let mut message = message;
     let mut round = 0u32;
     for _ in rt.forever() {
         match ring.push(message) {

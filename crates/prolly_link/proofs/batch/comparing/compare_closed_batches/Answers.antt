@@ -1,0 +1,28 @@
+use Rattle.std.specs.VecDeque.{deque_len}
+use Rattle.prolly_link.specs.Batches.{items_of}
+use Rattle.prolly_link.specs.Hands.{given_of, IsInHand}
+use Rattle.prolly_link.proofs.HandLemmas.{given_begins_whole, given_whole}
+use Rattle.prolly_link.proofs.PassingLemmas.{received_of_closed}
+use Rattle.prolly_link.proofs.batch.comparing.compare_closed_batches.Goals as goal
+
+pub returns-clause-prefix : goal.returns-clause-prefix
+returns-clause-prefix g c =
+    let came = c.compare_closed.new.receiver in
+    let hand = c.receiver.inside.hand in
+    let in_hand : IsInHand came hand.items (deque_len hand) = rw c.compare_closed.ensures.receiver c.receiver.invariant in
+    given_begins_whole came c.compare_closed.new.sender.items hand.items (deque_len hand) in_hand c.compare_closed.ensures.prefix
+
+pub returns-clause-end : goal.returns-clause-end
+returns-clause-end g c =
+    let came = c.compare_closed.new.receiver in
+    let sent = c.compare_closed.new.sender in
+    let hand = c.receiver.inside.hand in
+    let in_hand : IsInHand came hand.items (deque_len hand) = rw c.compare_closed.ensures.receiver c.receiver.invariant in
+    given_whole came sent.items hand.items sent.end (deque_len hand) in_hand c.compare_closed.ensures.end
+
+pub returns-clause-messages : goal.returns-clause-messages
+returns-clause-messages g c =
+    let came = c.compare_closed.new.receiver in
+    let sent = c.compare_closed.new.sender in
+    let given = given_of came c.receiver.inside.hand.items in
+    received_of_closed came.progress given.items (items_of sent.items) sent.end (returns-clause-prefix g c) (returns-clause-end g c)
