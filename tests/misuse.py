@@ -23,7 +23,7 @@ MISUSES = [
     (
         "a sender is used after its close",
         "prolly_link",
-        "src/batch_sender.rt",
+        "src/batch/sender.rt",
         (CLOSE, SEND_AFTER_CLOSE),
         "error[borrow-e0382]: borrow of moved value: `self`",
     ),
