@@ -1,6 +1,8 @@
 -- What the driver's parts give back.
-use Rattle.std.proofs.Common.{◌≡◌, ℕ, ◌-◌, List, [], ◌++◌, ◌≢◌, inl, inr, refl, sym, subst, ap, Err}
+use Rattle.std.proofs.Common.{◌≡◌, ℕ, ◌-◌, List, [], ◌++◌, ◌≢◌, inl, inr, refl, sym, subst, ap, ◌∙◌, Result}
 use Rattle.std.proofs.lemmas.List.{append-nil}
+use Rattle.std.proofs.lemmas.Result.{err_from_is_err_and}
+use Rattle.std.specs.Prelude.{IsErrAnd}
 use Rattle.prolly_entry.specs.Chunk.{Chunk}
 use Rattle.prolly_entry.specs.File.{header}
 use Rattle.prolly_entry.specs.Pipeline.{before_second}
@@ -16,6 +18,7 @@ use Rattle.prolly_build.specs.Settings.{Settings}
 use Rattle.prolly_build.specs.Built.{IsBegun}
 use Rattle.prolly_build.specs.Writing.{HasWritten, IsEndFault, frames_of}
 use Rattle.prolly_build.specs.Ran.{IsWritten, HandsOn}
+use Rattle.prolly_build.specs.declared.end.halt.Halt.{Halt}
 use Rattle.prolly_build.specs.declared.end.halt.Halt.TheVariants.{NoThread, Lost}
 use Rattle.prolly_build.specs.declared.run.written.Written.{Written}
 use Rattle.prolly_build.specs.declared.run.written.Written.TheVariants.{Whole, TooTall, Failed}
@@ -53,13 +56,16 @@ pub all_begun : (settings : Settings) (last : Receiving Chunk) (old new : SinkVi
 all_begun settings last old new wrote h = written_begun settings (settings.stages - 1) wrote.last.items old new wrote.written h.written
 
 -- a level that could not meet a link, above a writer that wrote
-pub unmet_hands_on : {T : Type 0} (settings : Settings) (last : Receiving Chunk) (old new : SinkView) (untouched : Type 0) (got : Wrote) (none : T → Wrote) →
-    IsWritten settings last old new got → HandsOn settings last old new untouched (Err Lost) none
-unmet_hands_on settings last old new untouched got none h = record {
-  written = tt;
-  refused = λ e. absurd (lost_is_started e);
-  begun = all_begun settings last old new got h;
-}
+pub unmet_hands_on : {T : Type 0} (settings : Settings) (last : Receiving Chunk) (old new : SinkView) (untouched : Type 0) (got : Wrote) (wrote : T → Wrote)
+    (result : Result T Halt) (halt : Halt) → IsWritten settings last old new got → IsErrAnd result (λ h. h ≡ halt) → halt ≡ Lost →
+    HandsOn settings last old new untouched result wrote
+unmet_hands_on settings last old new untouched got wrote result halt h is lost =
+    let e = err_from_is_err_and result is in
+    subst (λ r. HandsOn settings last old new untouched r wrote) (sym e.1) (record {
+      written = tt;
+      refused = λ none. absurd (lost_is_started (sym (e.2 ∙ lost) ∙ none));
+      begun = all_begun settings last old new got h;
+    })
   where
     lost_is_started : Lost ≡ NoThread → ⊥
     lost_is_started e = cc

@@ -16,7 +16,7 @@ ghost use Rattle.prolly_build.specs.Stopped.{IsFileFault, TookBegun};
 
 use crate::config::Config;
 use crate::end::end_record::end_build;
-use crate::links::link::has_met;
+use crate::links::link::meet;
 use crate::report::Report;
 use crate::run::stages::Ran;
 use crate::run::writer::Wrote;
@@ -76,9 +76,8 @@ pub(crate) fn finish<R: Wait, W: Sink>(
 {
     let Ran { out, pairs, wrote } = ran;
     let Wrote { last, end, written } = wrote;
-    if has_met(rt, out, last) {
-        end_build(sink, written, end, pairs)
-    } else {
-        Err(RunFault::Lost)
+    match meet(rt, out, last) {
+        Ok(()) => end_build(sink, written, end, pairs),
+        Err(_) => Err(RunFault::Lost),
     }
 }

@@ -1,9 +1,11 @@
 //! One link of a build, before the workers have it and after they have given it back.
-ghost use Rattle.std.specs.Prelude.{◌≡◌, [], IsTrue, IfOk, Ok};
+ghost use Rattle.std.specs.Prelude.{◌≡◌, [], IfOk, Ok, OnOk, IfErr};
 ghost use Rattle.prolly_link.specs.Receipts.{HasEnded};
 ghost use Rattle.prolly_link.specs.declared.progress.Progress.TheVariants.{Open, Ended};
+ghost use Rattle.prolly_build.specs.declared.end.halt.Halt.TheVariants.{Lost};
 
 use crate::config::Config;
+use crate::end::halt::Halt;
 use prolly_link::{
     BatchDrained, BatchReceiver, BatchSender, ClosedBatch, LinkFault, batch_link, meet_batches,
 };
@@ -43,22 +45,23 @@ pub(crate) fn both<A: Drop, B: Drop>(
     Ok((a?, b?))
 }
 
-/// Meets the ends of a link: what was received is what was sent. `false` where the receiver has
-/// lost its sender.
-pub(crate) fn has_met<T: Drop, R: Wait>(
+/// Meets the ends of a link: what was received is what was sent. The receiver may have lost its
+/// sender.
+pub(crate) fn meet<T: Drop, R: Wait>(
     rt: &R,
     sender: ClosedBatch<T>,
     receiver: BatchReceiver<T>,
-) -> bool
+) -> Result<(), Halt>
     requires { sender.link ≡ receiver.link }
-    ensures { IsTrue result → HasEnded receiver.progress → (receiver.items ≡ sender.items) ×
-        (receiver.progress ≡ Ended sender.end) }
+    ensures met { OnOk result (HasEnded receiver.progress → (receiver.items ≡ sender.items) ×
+        (receiver.progress ≡ Ended sender.end)) }
+    ensures lost { IfErr result (λ halt. halt ≡ Lost) }
 {
     match receiver.drain(rt) {
         BatchDrained::Ended(ended) => {
             let _met = meet_batches(sender, ended);
-            true
+            Ok(())
         }
-        BatchDrained::Lost(_) => false,
+        BatchDrained::Lost(_) => Err(Halt::Lost),
     }
 }

@@ -1,13 +1,14 @@
 //! The last merger, and all workers below it.
-ghost use Rattle.std.specs.Prelude.{◌≡◌, ◌+◌, ◌<◌, ◌≤◌, [], All, map, vec_len, vec_capacity, IsTrue, IfOk};
+ghost use Rattle.std.specs.Prelude.{◌≡◌, ◌+◌, ◌<◌, ◌≤◌, [], All, map, vec_len, vec_capacity, OnOk, IfOk, IfErr};
 ghost use Rattle.prolly_link.specs.Receipts.{HasEnded};
+ghost use Rattle.prolly_build.specs.declared.end.halt.Halt.TheVariants.{Lost};
 ghost use Rattle.prolly_build.specs.Ran.{HandsOn, IsUnsent, IsUnread};
 ghost use Rattle.prolly_build.specs.Merging.{received_input, sent_input};
 ghost use Rattle.prolly_build.specs.Gathering.{IsGathered};
 
 use crate::end::halt::{Halt, close_all, refuse};
 use crate::links::feed::Feed;
-use crate::links::link::has_met;
+use crate::links::link::meet;
 use crate::run::lists::pop_first;
 use crate::run::merger_tree::merge_tree;
 use crate::run::writer::Wrote;
@@ -31,24 +32,22 @@ pub(crate) struct Gathered {
     pub wrote: Wrote,
 }
 
-/// Meets the ends of each link. `false` where a receiver has lost its sender.
-fn all_have_met<R: Wait>(
+/// Meets the ends of each link. A receiver may have lost its sender.
+fn meet_all<R: Wait>(
     rt: &R,
     mut closed: Vec<ClosedBatch<Record>>,
     mut inputs: Vec<BatchReceiver<Record>>,
-) -> bool
+) -> Result<(), Halt>
     requires { map (λ c. c.link) closed.items ≡ map (λ r. r.link) inputs.items }
-    ensures { IsTrue result → All (λ r. HasEnded r.progress) inputs.items →
-        map received_input inputs.items ≡ map sent_input closed.items }
+    ensures met { OnOk result (All (λ r. HasEnded r.progress) inputs.items →
+        map received_input inputs.items ≡ map sent_input closed.items) }
+    ensures lost { IfErr result (λ halt. halt ≡ Lost) }
 {
-    match (pop_first(&mut closed), pop_first(&mut inputs)) {
-        (Some(sender), Some(receiver)) => {
-            let first = has_met(rt, sender, receiver);
-            let others = all_have_met(rt, closed, inputs);
-            first && others
-        }
-        _ => true,
-    }
+    let (Some(sender), Some(receiver)) = (pop_first(&mut closed), pop_first(&mut inputs)) else {
+        return Ok(());
+    };
+    meet(rt, sender, receiver)?;
+    meet_all(rt, closed, inputs)
 }
 
 /// Starts the last merger, then all workers below it, writes, joins them, and meets their links.
@@ -93,14 +92,7 @@ pub(crate) fn gather<
     };
     let wrote = merge_tree(site, forks, outs, sources, &mut closed, last, sink);
     let LastEnds { inputs, out, pairs } = handle.join(site.rt);
-    match wrote {
-        Ok(wrote) => {
-            if all_have_met(site.rt, closed, inputs) {
-                Ok(Gathered { out, pairs, wrote })
-            } else {
-                Err(Halt::Lost)
-            }
-        }
-        Err(halt) => Err(halt),
-    }
+    let wrote = wrote?;
+    meet_all(site.rt, closed, inputs)?;
+    Ok(Gathered { out, pairs, wrote })
 }

@@ -5,7 +5,7 @@ ghost use Rattle.prolly_build.specs.Feeding.{IsFed};
 
 use crate::end::halt::{Halt, close_all, refuse};
 use crate::links::fork::Fork;
-use crate::links::link::{NewLink, has_met};
+use crate::links::link::{NewLink, meet};
 use crate::run::lists::{fork_at, join_at};
 use crate::run::loaders::load_all;
 use crate::run::merger_place::place_of_merger;
@@ -75,17 +75,9 @@ pub(crate) fn merge_tree<
     };
     let wrote = merge_tree(site, forks, outs, sources, closed, last, sink);
     let TwoEnds { left, right, out } = handle.join(site.rt);
-    match wrote {
-        Ok(wrote) => {
-            let (left_sent, right_sent) = join_at(closed, place, out);
-            let left_met = has_met(site.rt, left_sent, left);
-            let right_met = has_met(site.rt, right_sent, right);
-            if left_met && right_met {
-                Ok(wrote)
-            } else {
-                Err(Halt::Lost)
-            }
-        }
-        Err(halt) => Err(halt),
-    }
+    let wrote = wrote?;
+    let (left_sent, right_sent) = join_at(closed, place, out);
+    meet(site.rt, left_sent, left)?;
+    meet(site.rt, right_sent, right)?;
+    Ok(wrote)
 }

@@ -5,7 +5,7 @@ ghost use Rattle.prolly_build.specs.Staging.{HasStaged};
 
 use crate::end::halt::{Halt, refuse};
 use crate::links::feed::Feed;
-use crate::links::link::{NewLink, has_met};
+use crate::links::link::{NewLink, meet};
 use crate::run::last_merger::{Gathered, gather};
 use crate::run::writer::Wrote;
 use crate::start::permit::Permit;
@@ -63,21 +63,13 @@ fn run_from_leaves<
     };
     let gathered = gather(site, feed, sender, sources, last, sink);
     let StageEnds { input, out } = handle.join(site.rt);
-    match gathered {
-        Ok(gathered) => {
-            let Gathered {
-                out: sent,
-                pairs,
-                wrote,
-            } = gathered;
-            if has_met(site.rt, sent, input) {
-                Ok(Ran { out, pairs, wrote })
-            } else {
-                Err(Halt::Lost)
-            }
-        }
-        Err(halt) => Err(halt),
-    }
+    let Gathered {
+        out: sent,
+        pairs,
+        wrote,
+    } = gathered?;
+    meet(site.rt, sent, input)?;
+    Ok(Ran { out, pairs, wrote })
 }
 
 /// Starts a stage of nodes for each link, the highest one first, then all workers below them,
@@ -122,19 +114,11 @@ pub(crate) fn run_from_top<
     };
     let ran = run_from_top(site, events, pairs, feed, sender, sources, last, sink);
     let StageEnds { input, out } = handle.join(site.rt);
-    match ran {
-        Ok(ran) => {
-            let Ran {
-                out: sent,
-                pairs,
-                wrote,
-            } = ran;
-            if has_met(site.rt, sent, input) {
-                Ok(Ran { out, pairs, wrote })
-            } else {
-                Err(Halt::Lost)
-            }
-        }
-        Err(halt) => Err(halt),
-    }
+    let Ran {
+        out: sent,
+        pairs,
+        wrote,
+    } = ran?;
+    meet(site.rt, sent, input)?;
+    Ok(Ran { out, pairs, wrote })
 }

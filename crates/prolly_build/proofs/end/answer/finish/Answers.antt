@@ -15,7 +15,7 @@ use Rattle.prolly_build.proofs.end.answer.finish.Goals as goal
 
 pub end_build-requires-clause-few : goal.end_build-requires-clause-few
 end_build-requires-clause-few g c = λ begun is clean.
-    let met = c.has_met.ensures c.if-has_met.true c.requires.ended in
+    let met = c.in-Ok.ensures.met c.requires.ended in
     let out_clean : c.args.ran.out.end ≡ Clean = sym (c.requires.end ∙ ap end_given met.1) ∙ clean in
     let now : SinkView = g.W.Sink.seen c.args.sink.now in
     let head = header c.args.config.version c.args.config.bits in
@@ -25,7 +25,7 @@ end_build-requires-clause-few g c = λ begun is clean.
 
 pub end_build-requires-clause-some : goal.end_build-requires-clause-some
 end_build-requires-clause-some g c = λ begun is clean.
-    let met = c.has_met.ensures c.if-has_met.true c.requires.ended in
+    let met = c.in-Ok.ensures.met c.requires.ended in
     let out_clean : c.args.ran.out.end ≡ Clean = sym (c.requires.end ∙ ap end_given met.1) ∙ clean in
     let now : SinkView = g.W.Sink.seen c.args.sink.now in
     let head = header c.args.config.version c.args.config.bits in
@@ -33,9 +33,9 @@ end_build-requires-clause-some g c = λ begun is clean.
     head c.requires.written.0 now c.args.ran.wrote.written begun is
     (subst (λ (es : List Chunk). HasWritten head (c.args.config.stages - 1) es c.requires.written.0 now c.args.ran.wrote.written) met.0 c.requires.written.1)
 
-pub returns-then-has_met-clause-ok : goal.returns-then-has_met-clause-ok
-returns-then-has_met-clause-ok g c = λ m old run written.
-    let met = c.has_met.ensures c.if-has_met.true c.requires.ended in
+pub returns-in-Ok-clause-ok : goal.returns-in-Ok-clause-ok
+returns-in-Ok-clause-ok g c = λ m old run written.
+    let met = c.in-Ok.ensures.met c.requires.ended in
     let now : SinkView = g.W.Sink.seen c.args.sink.now in
     let head = header c.args.config.version c.args.config.bits in
     let level = c.args.config.stages - 1 in
@@ -47,9 +47,9 @@ returns-then-has_met-clause-ok g c = λ m old run written.
     (c.end_build.ensures.ok head level c.args.ran.out.items old
     (subst (λ (es : List Chunk). HasWritten head level es old now c.args.ran.wrote.written) met.0 written))
 
-pub returns-then-has_met-clause-err : goal.returns-then-has_met-clause-err
-returns-then-has_met-clause-err g c =
-    let met = c.has_met.ensures c.if-has_met.true c.requires.ended in
+pub returns-in-Ok-clause-err : goal.returns-in-Ok-clause-err
+returns-in-Ok-clause-err g c =
+    let met = c.in-Ok.ensures.met c.requires.ended in
     let head = header c.args.config.version c.args.config.bits in
     let level = c.args.config.stages - 1 in
     let input : IsInputEnd c.args.ran.wrote.end = subst IsInputEnd (sym (c.requires.end ∙ ap end_given met.1)) c.requires.faults in
@@ -57,14 +57,14 @@ returns-then-has_met-clause-err g c =
     (λ fault h. no_start_fault head level c.args.ran.wrote.last.items c.requires.written.0 _ _ c.args.ran.wrote.end fault input h)
     (c.end_build.ensures.err head level c.args.ran.wrote.last.items c.requires.written.0 c.requires.written.1)
 
-pub returns-then-has_met-clause-clean : goal.returns-then-has_met-clause-clean
-returns-then-has_met-clause-clean g c =
-    let met = c.has_met.ensures c.if-has_met.true c.requires.ended in
+pub returns-in-Ok-clause-clean : goal.returns-in-Ok-clause-clean
+returns-in-Ok-clause-clean g c =
+    let met = c.in-Ok.ensures.met c.requires.ended in
     on_ok_weaker c.end_build.result (λ clean. sym (c.requires.end ∙ ap end_given met.1) ∙ clean) c.end_build.ensures.clean
 
-pub returns-then-has_met-clause-unmade : goal.returns-then-has_met-clause-unmade
-returns-then-has_met-clause-unmade g c = λ m old run written.
-    let met = c.has_met.ensures c.if-has_met.true c.requires.ended in
+pub returns-in-Ok-clause-unmade : goal.returns-in-Ok-clause-unmade
+returns-in-Ok-clause-unmade g c = λ m old run written.
+    let met = c.in-Ok.ensures.met c.requires.ended in
     let now : SinkView = g.W.Sink.seen c.args.sink.now in
     let head = header c.args.config.version c.args.config.bits in
     let after : SinkView = g.W.Sink.seen c.end_build.new.sink in
@@ -75,8 +75,8 @@ returns-then-has_met-clause-unmade g c = λ m old run written.
     (c.end_build.ensures.err head level c.args.ran.out.items old
     (subst (λ (es : List Chunk). HasWritten head level es old now c.args.ran.wrote.written) met.0 written))
 
-pub returns-then-has_met-clause-begun : goal.returns-then-has_met-clause-begun
-returns-then-has_met-clause-begun g c = λ old written.
+pub returns-in-Ok-clause-begun : goal.returns-in-Ok-clause-begun
+returns-in-Ok-clause-begun g c = λ old written.
     let now : SinkView = g.W.Sink.seen c.args.sink.now in
     let after : SinkView = g.W.Sink.seen c.end_build.new.sink in
     let level = c.args.config.stages - 1 in
@@ -84,13 +84,13 @@ returns-then-has_met-clause-begun g c = λ old written.
     (λ fault h other. ended_begun c.args.config level c.args.ran.wrote.last.items old now after c.args.ran.wrote.written c.args.ran.wrote.end fault written h other)
     (c.end_build.ensures.err (header c.args.config.version c.args.config.bits) level c.args.ran.wrote.last.items old written)
 
-pub returns-else-has_met-clause-begun : goal.returns-else-has_met-clause-begun
-returns-else-has_met-clause-begun g c = λ old written other.
+pub returns-in-Err-clause-begun : goal.returns-in-Err-clause-begun
+returns-in-Err-clause-begun g c = λ old written other.
     written_begun c.args.config (c.args.config.stages - 1) c.args.ran.wrote.last.items old _ c.args.ran.wrote.written written
 
-pub returns-then-has_met-clause-stopped : goal.returns-then-has_met-clause-stopped
-returns-then-has_met-clause-stopped g c = λ old written.
-    let met = c.has_met.ensures c.if-has_met.true c.requires.ended in
+pub returns-in-Ok-clause-stopped : goal.returns-in-Ok-clause-stopped
+returns-in-Ok-clause-stopped g c = λ old written.
+    let met = c.in-Ok.ensures.met c.requires.ended in
     let now : SinkView = g.W.Sink.seen c.args.sink.now in
     let after : SinkView = g.W.Sink.seen c.end_build.new.sink in
     let head = header c.args.config.version c.args.config.bits in
@@ -102,9 +102,9 @@ returns-then-has_met-clause-stopped g c = λ old written.
     (c.end_build.ensures.err head level c.args.ran.out.items old
     (subst (λ (es : List Chunk). HasWritten head level es old now c.args.ran.wrote.written) met.0 written))
 
-pub returns-then-has_met-clause-refused : goal.returns-then-has_met-clause-refused
-returns-then-has_met-clause-refused g c = λ old written.
-    let met = c.has_met.ensures c.if-has_met.true c.requires.ended in
+pub returns-in-Ok-clause-refused : goal.returns-in-Ok-clause-refused
+returns-in-Ok-clause-refused g c = λ old written.
+    let met = c.in-Ok.ensures.met c.requires.ended in
     let now : SinkView = g.W.Sink.seen c.args.sink.now in
     let after : SinkView = g.W.Sink.seen c.end_build.new.sink in
     let head = header c.args.config.version c.args.config.bits in
@@ -116,5 +116,5 @@ returns-then-has_met-clause-refused g c = λ old written.
     (c.end_build.ensures.err head level c.args.ran.out.items old
     (subst (λ (es : List Chunk). HasWritten head level es old now c.args.ran.wrote.written) met.0 written))
 
-pub returns-else-has_met-clause-refused : goal.returns-else-has_met-clause-refused
-returns-else-has_met-clause-refused g c = λ old written memory. absurd (lost_is_no_memory memory)
+pub returns-in-Err-clause-refused : goal.returns-in-Err-clause-refused
+returns-in-Err-clause-refused g c = λ old written memory. absurd (lost_is_no_memory memory)
