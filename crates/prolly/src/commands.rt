@@ -1,5 +1,6 @@
-//! The commands, each over the files that it names. What the words alone decide is told first; then input
-//! files are opened in the order of the words, and then the output is made, before anything is read.
+//! The commands, each over the files that it names. What the words alone decide is told first; then
+//! input files are opened in the order of the words, and then the output is made, before anything
+//! is read.
 ghost use Rattle.std.specs.Prelude.{◌≤◌};
 ghost use Rattle.prolly_line.specs.Given.{IsWithinLimits};
 
@@ -143,7 +144,8 @@ fn output_beside_streams(
     output_of(rt, out, target, mode)
 }
 
-/// The output of a command whose inputs are other files than OUT, or the answer where there can be none.
+/// The output of a command whose inputs are other files than OUT, or the answer where there can be
+/// none.
 fn output_of(
     rt: &HostRuntime,
     out: &str,
@@ -160,8 +162,8 @@ fn output_of(
     }
 }
 
-/// `build [--bits Q] [--stages S] [--capacity C] [--max-records M] [--batch B] [--format V] [--atomic]
-/// [--sync] OUT [FILES...]`
+/// `build [--bits Q] [--stages S] [--capacity C] [--max-records M] [--batch B] [--format V]
+/// [--atomic] [--sync] OUT [FILES...]`
 fn build_from<T: Wait + Threads + Sync>(
     rt: &HostRuntime,
     threads: &T,
@@ -205,8 +207,8 @@ fn build_into<T: Wait + Threads + Sync>(
 ) -> Result<Answer, AllocError> {
     let mut sink = Buffered::with_capacity(rt.alloc(), OUTPUT_BYTES, ToWrite::new(file))?;
     let built = build(threads, rt.alloc(), config, sources, &mut sink, &OpenGate);
-    // What was taken is in the file also after a fault. That a tree was made is told only once all of it
-    // is there.
+    // What was taken is in the file also after a fault. That a tree was made is told only once all
+    // of it is there.
     let built = match (built, sink.flush()) {
         (Ok(_), Err(_)) => Err(RunFault::Write),
         (built, _) => built,

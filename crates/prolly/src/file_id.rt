@@ -16,8 +16,8 @@ pub struct FileId {
 }
 
 impl FileId {
-    /// The regular file that has this metadata. `None` where there is no file, or none that keeps what is
-    /// written to it: a terminal, a pipe, a device or a folder.
+    /// The regular file that has this metadata. `None` where there is no file, or none that keeps
+    /// what is written to it: a terminal, a pipe, a device or a folder.
     pub fn of(metadata: io::Result<Metadata>) -> Option<FileId> {
         match metadata {
             Ok(metadata) if metadata.is_file() => Some(FileId {

@@ -1,5 +1,5 @@
-//! The program `prolly`: it reads its words, opens and makes the files that they name, and prints the
-//! answer. What it says, and the status with which it ends, are those of `prolly_tool`.
+//! The program `prolly`: it reads its words, opens and makes the files that they name, and prints
+//! the answer. What it says, and the status with which it ends, are those of `prolly_tool`.
 #![tactic(auto)]
 
 mod commands;
@@ -36,8 +36,8 @@ fn answer<T: Wait + Threads + Sync>(rt: &HostRuntime, threads: &T) -> Result<Ans
     }
 }
 
-/// Prints the answer, and gives the status to end with. Where standard error fails there is no one to
-/// tell; the status tells.
+/// Prints the answer, and gives the status to end with. Where standard error fails there is no one
+/// to tell; the status tells.
 fn print(rt: &HostRuntime, answer: &Answer) -> u8 {
     let _ = rt.stderr().write_all(&answer.err);
     match rt.stdout().write_all(&answer.out) {

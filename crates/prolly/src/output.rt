@@ -7,11 +7,12 @@ use std::io::ErrorKind;
 use std::path::PathBuf;
 use std::{fs, io};
 
-/// How many names are tried for a file beside the output. One that is taken is that of a run that goes
-/// on, or that was killed.
+/// How many names are tried for a file beside the output. One that is taken is that of a run that
+/// goes on, or that was killed.
 const MOST_NAMES: u32 = 1000;
 
-/// The file that a command writes: the one that the words name, or one beside it that is to replace it.
+/// The file that a command writes: the one that the words name, or one beside it that is to replace
+/// it.
 #[derive(Drop)]
 pub struct Output {
     file: File,
@@ -40,8 +41,8 @@ impl From<AllocError> for MakeFault {
 }
 
 impl Output {
-    /// Makes the file. Without `mode.atomic` what the name led to is gone from here on; with it that stays
-    /// as it is until the file is kept.
+    /// Makes the file. Without `mode.atomic` what the name led to is gone from here on; with it
+    /// that stays as it is until the file is kept.
     pub fn make(rt: &HostRuntime, name: &str, mode: WriteMode) -> Result<Output, MakeFault> {
         if mode.atomic {
             let (file, replacement) = make_beside(rt, name)?;
@@ -66,8 +67,8 @@ impl Output {
         &self.file
     }
 
-    /// Keeps the file where the command's answer is that it is done, and else leaves nothing beside the
-    /// name. The answer, or the fault that kept the file from its place or from the disk.
+    /// Keeps the file where the command's answer is that it is done, and else leaves nothing beside
+    /// the name. The answer, or the fault that kept the file from its place or from the disk.
     pub fn finish(
         self,
         rt: &HostRuntime,
@@ -112,8 +113,9 @@ impl Output {
         }
     }
 
-    /// Brings the file to the disk where that was asked for, and opens its folder, which has its name. The
-    /// folder is opened before the file takes its place, since after that nothing may want memory.
+    /// Brings the file to the disk where that was asked for, and opens its folder, which has its
+    /// name. The folder is opened before the file takes its place, since after that nothing may
+    /// want memory.
     fn on_disk(&self, rt: &HostRuntime, name: &str) -> io::Result<Option<File>> {
         if !self.sync {
             return Ok(None);
@@ -130,8 +132,8 @@ impl Output {
         }
     }
 
-    /// Removes the file where it stands beside its name. Where that fails, it stays: the fault that led
-    /// here is the one to tell.
+    /// Removes the file where it stands beside its name. Where that fails, it stays: the fault that
+    /// led here is the one to tell.
     fn remove(&self, rt: &HostRuntime) {
         if let Some(replacement) = &self.replacement {
             let _ = fs::remove_file(rt, &replacement.beside);
@@ -175,7 +177,8 @@ fn target_of(rt: &HostRuntime, name: &str) -> Result<PathBuf, AllocError> {
     }
 }
 
-/// Makes a file of a new name beside the target: `.0.tmp` behind its name, or the next number that is free.
+/// Makes a file of a new name beside the target: `.0.tmp` behind its name, or the next number that
+/// is free.
 fn make_new(rt: &HostRuntime, target: PathBuf) -> Result<(File, Replacement), MakeFault> {
     for number in 0..MOST_NAMES {
         let name = target.as_str();

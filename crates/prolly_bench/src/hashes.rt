@@ -9,8 +9,9 @@ use std::time::{Clock, Instant};
 /// How many entries a chunk has: as many as one is cut by 12 bits of a hash on average.
 const CHUNK_ENTRIES: u32 = 4_096;
 
-/// Times what the format asks to be hashed of so many pairs with keys of 16 bytes and values of so many: each entry by
-/// itself, and the bytes of each leaf. The nodes above are left out; they are less than a thousandth.
+/// Times what the format asks to be hashed of so many pairs with keys of 16 bytes and values of so
+/// many: each entry by itself, and the bytes of each leaf. The nodes above are left out; they are
+/// less than a thousandth.
 pub fn time_hashes<R: Print + Clock>(
     rt: &R,
     alloc: Global,

@@ -44,13 +44,13 @@ pub fn time_batches<R: Print + Clock + Threads + Wait + Copy + Send + 'static>(
     Ok(())
 }
 
-/// Sends so many numbers from another thread to this one. Gives the time that one took, in nanoseconds,
-/// and the sum of all.
+/// Sends so many numbers from another thread to this one. Gives the time that one took, in
+/// nanoseconds, and the sum of all.
 fn time_across<
     O: Out<u64> + Send + Drop + 'static,
     I: In<u64> + Drop,
     R: Clock + Threads + Wait + Copy + Send + 'static,
->(rt: R, sender: O, receiver: I, count: u32) -> Result<(u128, u64)>
+>(rt: R, sender: O, mut receiver: I, count: u32) -> Result<(u128, u64)>
 where
     O::Closed: Send + Drop + 'static,
 {
@@ -58,7 +58,6 @@ where
     let Ok(child) = thread::spawn(&rt, move || send_all(&rt, sender, count)) else {
         bail!("no thread");
     };
-    let mut receiver = receiver;
     let sum = receive_all(&rt, &mut receiver);
     let _closed = child.join(&rt);
     let nanos = start.elapsed(&rt)?.as_nanos() / u128::from(count.max(1));

@@ -1,5 +1,5 @@
-//! How long the parts of the loader take, for `make bench`. Without words it only says what it times,
-//! so that it prints the same each time it is run in the gate.
+//! How long the parts of the loader take, for `make bench`. Without words it only says what it
+//! times, so that it prints the same each time it is run in the gate.
 #![tactic(auto)]
 
 mod hashes;

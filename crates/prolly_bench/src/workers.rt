@@ -82,7 +82,8 @@ pub fn time_merge<R: Print + Clock + Wait>(
 }
 
 /// Times the stage of the leaves beside the hashes that it takes. The pairs come in parts, made
-/// beforehand, of as many as stay in a processor's cache; so they do in a build, where a link holds few.
+/// beforehand, of as many as stay in a processor's cache; so they do in a build, where a link holds
+/// few.
 pub fn time_leaves<R: Print + Clock + Wait>(rt: &R, alloc: Global, parts: u32) -> Result<()> {
     let Some(cut) = Sha512Cut::new(BITS) else {
         bail!("no cut");

@@ -15,8 +15,8 @@ const KEY_OFFSET: usize = 2;
 
 /// A chunk of the entries so far, as it would be if it closed now.
 ///
-/// The key is that of the last entry, which lies in the bytes already. So it is kept as a place there,
-/// and takes no memory of its own.
+/// The key is that of the last entry, which lies in the bytes already. So it is kept as a place
+/// there, and takes no memory of its own.
 #[derive(Debug, Drop)]
 pub(crate) struct Chunk {
     level: u8,
@@ -39,7 +39,8 @@ impl Model for Chunk {
       bytes = c.bytes.items;
     } };
 
-    ghost invariant = { λ c. (c.key_length ≤ 1024) × (c.key_start + c.key_length ≤ vec_len c.bytes) };
+    ghost invariant = { λ c. (c.key_length ≤ 1024) ×
+        (c.key_start + c.key_length ≤ vec_len c.bytes) };
 }
 
 impl Chunk {
@@ -61,7 +62,8 @@ impl Chunk {
     /// Adds a pair, and says whether it is a boundary. An `Err` leaves the chunk as it was.
     pub(crate) fn add_pair<C: Cut>(&mut self, cut: &C, pair: &Pair) -> Result<bool, AllocError>
         ensures added { OnOk result (self.new ≡ with_pair self.old pair.now) }
-        ensures boundary { IfOk result (λ is_boundary. is_boundary ≡ pair_is_boundary (C.cut cut.now) pair.now) }
+        ensures boundary { IfOk result (λ is_boundary. is_boundary ≡ pair_is_boundary
+            (C.cut cut.now) pair.now) }
         ensures room { OnOk result (length self.new.bytes < 2 ^ 64) }
         ensures err { OnErr result (self.new ≡ self.old) }
     {
@@ -82,7 +84,8 @@ impl Chunk {
         event: &ChunkEvent,
     ) -> Result<bool, AllocError>
         ensures added { OnOk result (self.new ≡ with_child version self.old event.now) }
-        ensures boundary { IfOk result (λ is_boundary. is_boundary ≡ event_is_boundary (C.cut cut.now) version event.now) }
+        ensures boundary { IfOk result (λ is_boundary. is_boundary ≡ event_is_boundary
+            (C.cut cut.now) version event.now) }
         ensures err { OnErr result (self.new ≡ self.old) }
     {
         let start = self.bytes.len();
@@ -108,8 +111,9 @@ impl Chunk {
         self.bytes.len() >= 2
     }
 
-    /// Its event. A chunk without entries, of the same level, takes its place, with room for as many
-    /// bytes, since the chunks of a level are of like sizes. An `Err` leaves the chunk as it was.
+    /// Its event. A chunk without entries, of the same level, takes its place, with room for as
+    /// many bytes, since the chunks of a level are of like sizes. An `Err` leaves the chunk as it
+    /// was.
     pub(crate) fn take_event(&mut self, alloc: Global) -> Result<ChunkEvent, AllocError>
         ensures event { IfOk result (λ event. event ≡ self.old) }
         ensures begun { OnOk result (self.new ≡ empty_chunk self.old.level) }

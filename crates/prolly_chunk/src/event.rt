@@ -6,11 +6,13 @@ use crate::chunk::Chunk;
 use prolly_entry::Ref;
 use std::marker::Model;
 
-/// A closed chunk: its level, its greatest key, its reference, its bytes and how many pairs are below
-/// it. Whoever takes it needs nothing else to write the chunk or to make the entry of a child of it.
+/// A closed chunk: its level, its greatest key, its reference, its bytes and how many pairs are
+/// below it. Whoever takes it needs nothing else to write the chunk or to make the entry of a child
+/// of it.
 ///
-/// It may carry its reference, a hash of all its bytes. So that hash can be taken by another thread than the one that
-/// closed the chunk. No contract tells such an event from one that carries none; `Debug` shows it.
+/// It may carry its reference, a hash of all its bytes. So that hash can be taken by another thread
+/// than the one that closed the chunk. No contract tells such an event from one that carries none;
+/// `Debug` shows it.
 #[derive(Debug, Drop)]
 pub struct ChunkEvent {
     chunk: Chunk,
@@ -26,7 +28,8 @@ impl Model for ChunkEvent {
 
     ghost view = { λ e. e.chunk };
 
-    ghost invariant = { λ e. IfSome e.reference (λ reference. reference.0 ≡ reference_of e.chunk.bytes) };
+    ghost invariant = { λ e. IfSome e.reference
+        (λ reference. reference.0 ≡ reference_of e.chunk.bytes) };
 }
 
 impl ChunkEvent {
@@ -40,8 +43,8 @@ impl ChunkEvent {
         }
     }
 
-    /// The same event, which carries its reference from now on. Takes one hash of the bytes where it carried
-    /// none, and no memory.
+    /// The same event, which carries its reference from now on. Takes one hash of the bytes where
+    /// it carried none, and no memory.
     pub fn with_reference(self) -> ChunkEvent
         ensures { result ≡ self }
     {
@@ -49,7 +52,8 @@ impl ChunkEvent {
         ChunkEvent { reference, ..self }
     }
 
-    /// The same event, which carries this reference of its bytes from now on. Takes no hash, and no memory.
+    /// The same event, which carries this reference of its bytes from now on. Takes no hash, and no
+    /// memory.
     ///
     /// For whoever has had to hash the same bytes before.
     pub fn with_known_reference(self, reference: Ref) -> ChunkEvent

@@ -41,7 +41,8 @@ impl<C: Cut> LeafLevel<C> {
     /// greater than those before it, or else what is made is no leaf of a map's tree.
     ///
     /// Takes time in the pair's size and one look at the cut. A leaf that closes is not hashed here
-    /// ([`ChunkEvent::reference`]). Keeps the bytes of one leaf. After an `Err` the level is of no use.
+    /// ([`ChunkEvent::reference`]). Keeps the bytes of one leaf. After an `Err` the level is of no
+    /// use.
     pub fn push(&mut self, alloc: Global, pair: &Pair) -> Result<Option<ChunkEvent>, AllocError>
         ensures { IfOk result (λ closed. LeafTakes C.cut self.old self.new pair.now closed) }
     {
@@ -52,8 +53,8 @@ impl<C: Cut> LeafLevel<C> {
         Ok(None)
     }
 
-    /// What is left at a clean end: the open leaf where it has pairs, or the leaf without pairs where
-    /// no pair came at all. Takes no hash.
+    /// What is left at a clean end: the open leaf where it has pairs, or the leaf without pairs
+    /// where no pair came at all. Takes no hash.
     pub fn finish(self) -> Option<ChunkEvent>
         ensures { LeafEnds C.cut self result }
     {

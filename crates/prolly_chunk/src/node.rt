@@ -8,7 +8,8 @@ use prolly_entry::{Cut, Version};
 use std::alloc::{AllocError, Global};
 use std::marker::Model;
 
-/// How many events of the level below came. At the end it matters only whether they were two or more.
+/// How many events of the level below came. At the end it matters only whether they were two or
+/// more.
 #[derive(Clone, Copy)]
 enum Received {
     Nothing,
@@ -49,7 +50,8 @@ impl<C: Cut> Model for NodeLevel<C> {
 
     ghost Value = { NodeState C };
 
-    ghost view = { λ n. record { cut = n.cut; version = n.version; node = n.node; received = n.received } };
+    ghost view = { λ n. record
+        { cut = n.cut; version = n.version; node = n.node; received = n.received } };
 
     ghost invariant = { λ n. 1 ≤ n.node.level };
 }
@@ -77,9 +79,9 @@ impl<C: Cut> NodeLevel<C> {
     /// Takes an event, and answers the node that it closes, if it closes one. An event of any other
     /// level than the one below changes nothing.
     ///
-    /// Takes time in the size of the child's entry, one look at the cut, and one hash of the child's bytes
-    /// where its event does not carry the reference. Keeps the bytes of one node. After an `Err` the level is
-    /// of no use.
+    /// Takes time in the size of the child's entry, one look at the cut, and one hash of the
+    /// child's bytes where its event does not carry the reference. Keeps the bytes of one node.
+    /// After an `Err` the level is of no use.
     pub fn push(
         &mut self,
         alloc: Global,
@@ -100,8 +102,8 @@ impl<C: Cut> NodeLevel<C> {
         Ok(Some(self.node.take_event(alloc)?))
     }
 
-    /// What is left at a clean end: the open node where it has children, and two or more events of the
-    /// level below came. (Of a single one, that one is the root.) Takes no hash.
+    /// What is left at a clean end: the open node where it has children, and two or more events of
+    /// the level below came. (Of a single one, that one is the root.) Takes no hash.
     pub fn finish(self) -> Option<ChunkEvent>
         ensures { NodeEnds C.cut self result }
     {

@@ -9,9 +9,9 @@ use std::alloc::{AllocError, Global};
 /// A sink that gathers bytes, and hands them on to another sink in large writes.
 ///
 /// What it holds is handed on where there is no room for more, and at a `flush`; what a dropped one
-/// still held is lost, so it is flushed at the end. Once the other sink has failed, or has taken none
-/// of some bytes, that sink is left alone: each further call answers `SinkFault`, and what was held
-/// stays here, since no one can tell whether the part before it is there.
+/// still held is lost, so it is flushed at the end. Once the other sink has failed, or has taken
+/// none of some bytes, that sink is left alone: each further call answers `SinkFault`, and what was
+/// held stays here, since no one can tell whether the part before it is there.
 #[derive(Drop)]
 pub struct Buffered<W> {
     sink: W,
@@ -30,10 +30,14 @@ impl<W: Sink + Drop> Buffered<W> {
 
     /// A buffer of at least so many bytes before the sink. This is all the memory that it takes.
     pub fn with_capacity(alloc: Global, capacity: usize, sink: W) -> Result<Buffered<W>, AllocError>
-        ensures taken { IfOk result (λ buffer. (⟦<Buffered<W> as Sink>⟧.seen buffer).taken ≡ (W.seen sink).taken) }
-        ensures keeping { IfOk result (λ buffer. (⟦<Buffered<W> as Sink>⟧.seen buffer).is_keeping ≡ (W.seen sink).is_keeping) }
-        ensures failures { IfOk result (λ buffer. (⟦<Buffered<W> as Sink>⟧.seen buffer).failures ≡ 0) }
-        ensures sink { IfOk result (λ buffer. (sink_of buffer ≡ sink) × (has_failed buffer ≡ false)) }
+        ensures taken { IfOk result (λ buffer.
+            (⟦<Buffered<W> as Sink>⟧.seen buffer).taken ≡ (W.seen sink).taken) }
+        ensures keeping { IfOk result (λ buffer.
+            (⟦<Buffered<W> as Sink>⟧.seen buffer).is_keeping ≡ (W.seen sink).is_keeping) }
+        ensures failures { IfOk result (λ buffer.
+            (⟦<Buffered<W> as Sink>⟧.seen buffer).failures ≡ 0) }
+        ensures sink { IfOk result (λ buffer. (sink_of buffer ≡ sink) ×
+            (has_failed buffer ≡ false)) }
     {
         Ok(Buffered {
             sink,
@@ -57,8 +61,10 @@ impl<W: Sink> Buffered<W> {
 
     /// Hands on all that is held.
     fn hand_on(&mut self) -> Result<(), SinkFault>
-        ensures bytes { (W.seen (sink_of self.old)).is_keeping ≡ true → bytes_taken W.seen self.new ≡ bytes_taken W.seen self.old }
-        ensures keeping { (W.seen (sink_of self.old)).is_keeping ≡ true → (W.seen (sink_of self.new)).is_keeping ≡ true }
+        ensures bytes { (W.seen (sink_of self.old)).is_keeping ≡ true →
+            bytes_taken W.seen self.new ≡ bytes_taken W.seen self.old }
+        ensures keeping { (W.seen (sink_of self.old)).is_keeping ≡ true →
+            (W.seen (sink_of self.new)).is_keeping ≡ true }
         ensures failures { CountsFailure self.old.failures self.new.failures result }
         ensures empty { OnOk result (IsEmptied self.old self.new) }
         ensures failed { OnErr result (has_failed self.new ≡ true) }
@@ -78,8 +84,10 @@ impl<W: Sink> Buffered<W> {
     fn pass(&mut self, buf: &[u8]) -> Result<usize, SinkFault>
         requires { self.old.held.items ≡ [] }
         ensures bound { IfOk result (λ n. n ≤ length buf.now) }
-        ensures bytes { (W.seen (sink_of self.old)).is_keeping ≡ true → Takes (bytes_taken W.seen self.old) (bytes_taken W.seen self.new) result buf.now }
-        ensures keeping { (W.seen (sink_of self.old)).is_keeping ≡ true → (W.seen (sink_of self.new)).is_keeping ≡ true }
+        ensures bytes { (W.seen (sink_of self.old)).is_keeping ≡ true →
+            Takes (bytes_taken W.seen self.old) (bytes_taken W.seen self.new) result buf.now }
+        ensures keeping { (W.seen (sink_of self.old)).is_keeping ≡ true →
+            (W.seen (sink_of self.new)).is_keeping ≡ true }
         ensures failures { CountsWriteFailure self.old.failures self.new.failures result buf.now }
         ensures failed { OnErr result (has_failed self.new ≡ true) }
     {
@@ -92,7 +100,10 @@ impl<W: Sink> Buffered<W> {
 
     /// Notes that a call failed.
     fn failed(&mut self) -> SinkFault
-        ensures { self.new ≡ record self.old { has_failed = true; failures = after_failure self.old.failures } }
+        ensures { self.new ≡ record self.old {
+          has_failed = true;
+          failures = after_failure self.old.failures;
+        } }
     {
         self.has_failed = true;
         self.failures = self.failures.wrapping_add(1);
@@ -107,8 +118,10 @@ impl<W: Sink> Sink for Buffered<W> {
 
     fn write(&mut self, buf: &[u8]) -> Result<usize, SinkFault>
         ensures bound { IfOk result (λ n. n ≤ length buf.now) }
-        ensures bytes { (W.seen (sink_of self.old)).is_keeping ≡ true → Takes (bytes_taken W.seen self.old) (bytes_taken W.seen self.new) result buf.now }
-        ensures keeping { (W.seen (sink_of self.old)).is_keeping ≡ true → (W.seen (sink_of self.new)).is_keeping ≡ true }
+        ensures bytes { (W.seen (sink_of self.old)).is_keeping ≡ true →
+            Takes (bytes_taken W.seen self.old) (bytes_taken W.seen self.new) result buf.now }
+        ensures keeping { (W.seen (sink_of self.old)).is_keeping ≡ true →
+            (W.seen (sink_of self.new)).is_keeping ≡ true }
         ensures failures { CountsWriteFailure self.old.failures self.new.failures result buf.now }
 
         // After a fault the other sink is left alone.
@@ -133,12 +146,15 @@ impl<W: Sink> Sink for Buffered<W> {
 
     /// Hands on all that is held, and flushes the other sink.
     fn flush(&mut self) -> Result<(), SinkFault>
-        ensures bytes { (W.seen (sink_of self.old)).is_keeping ≡ true → bytes_taken W.seen self.new ≡ bytes_taken W.seen self.old }
-        ensures keeping { (W.seen (sink_of self.old)).is_keeping ≡ true → (W.seen (sink_of self.new)).is_keeping ≡ true }
+        ensures bytes { (W.seen (sink_of self.old)).is_keeping ≡ true →
+            bytes_taken W.seen self.new ≡ bytes_taken W.seen self.old }
+        ensures keeping { (W.seen (sink_of self.old)).is_keeping ≡ true →
+            (W.seen (sink_of self.new)).is_keeping ≡ true }
         ensures failures { CountsFailure self.old.failures self.new.failures result }
 
         // The other sink has all that was taken.
-        ensures through { (W.seen (sink_of self.old)).is_keeping ≡ true → OnOk result ((W.seen (sink_of self.new)).taken ≡ bytes_taken W.seen self.new) }
+        ensures through { (W.seen (sink_of self.old)).is_keeping ≡ true →
+            OnOk result ((W.seen (sink_of self.new)).taken ≡ bytes_taken W.seen self.new) }
 
         // After a fault the other sink is left alone.
         ensures failed { OnErr result (has_failed self.new ≡ true) }

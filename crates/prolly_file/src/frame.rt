@@ -22,8 +22,8 @@ pub(crate) fn frame_start(len: u64) -> [u8; 9]
     start
 }
 
-/// What a file with this root and so many chunks ends with: a letter, the reference, and the number in
-/// eight bytes.
+/// What a file with this root and so many chunks ends with: a letter, the reference, and the number
+/// in eight bytes.
 pub fn end_record(root: &Ref, chunks: u64) -> [u8; 29]
     ensures { result ≡ end_record root.now.0 chunks }
 {

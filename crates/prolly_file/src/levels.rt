@@ -40,7 +40,8 @@ pub(crate) fn all_chunks<C: Cut>(
     requires { length pairs.now < 2 ^ 64 }
     ensures ok { IfOk result (λ events. events.items ≡ chunks (C.cut cut) version pairs.now) }
     ensures low { OnOk result (level_count (C.cut cut) version pairs.now ≤ max_levels) }
-    ensures err { IfErr result (λ fault. IsLevelFault (C.cut cut) version pairs.now max_levels fault) }
+    ensures err { IfErr result (λ fault. IsLevelFault
+        (C.cut cut) version pairs.now max_levels fault) }
 {
     if max_levels == 0 {
         return Err(ScratchFault::TooTall);
@@ -73,7 +74,8 @@ fn count_at(events: &[ChunkEvent], level: u8) -> usize
 
 /// The leaves of a map.
 fn leaves<C: Cut>(alloc: Global, cut: C, pairs: &[Pair]) -> Result<Vec<ChunkEvent>, AllocError>
-    ensures { IfOk result (λ events. (version : VersionValue) → events.items ≡ leaf_events (C.cut cut) version clean pairs.now) }
+    ensures { IfOk result (λ events. (version : VersionValue) →
+        events.items ≡ leaf_events (C.cut cut) version clean pairs.now) }
 {
     let mut level = LeafLevel::new(alloc, cut)?;
     let mut events = Vec::new(alloc);
@@ -94,7 +96,8 @@ fn with_nodes<C: Cut>(
     events: Vec<ChunkEvent>,
 ) -> Result<Vec<ChunkEvent>, AllocError>
     requires { 1 ≤ level }
-    ensures { IfOk result (λ more. more.items ≡ inner_events level (C.cut cut) version clean events.items) }
+    ensures { IfOk result (λ more. more.items ≡ inner_events level
+        (C.cut cut) version clean events.items) }
 {
     let mut nodes = NodeLevel::new(alloc, version, level, cut)?;
     let mut more = Vec::new(alloc);

@@ -16,8 +16,8 @@ use std::alloc::{AllocError, Global};
 pub enum ScratchFault {
     /// Memory was refused.
     Memory,
-    /// The key of this pair, counted from 0, is not greater than the one before. It is the first such
-    /// pair.
+    /// The key of this pair, counted from 0, is not greater than the one before. It is the first
+    /// such pair.
     OutOfOrder { pair: usize },
     /// The tree has more levels than are allowed.
     TooTall,
@@ -33,8 +33,8 @@ impl From<AllocError> for ScratchFault {
     }
 }
 
-/// Appends the chunk file, of version One, of the map that the pairs are, and answers the reference of
-/// its root. See [`scratch_as`].
+/// Appends the chunk file, of version One, of the map that the pairs are, and answers the reference
+/// of its root. See [`scratch_as`].
 pub fn scratch<C: Cut>(
     alloc: Global,
     cut: C,
@@ -42,16 +42,18 @@ pub fn scratch<C: Cut>(
     max_levels: u8,
     out: &mut Vec<u8>,
 ) -> Result<Ref, ScratchFault>
-    ensures ok { IfOk result (λ root. Builds (C.cut cut) One pairs.now max_levels out.old.items out.new.items root.0) }
-    ensures err { IfErr result (λ fault. IsScratchFault (C.cut cut) One pairs.now max_levels fault) }
+    ensures ok { IfOk result (λ root. Builds (C.cut cut) One pairs.now max_levels out.old.items
+        out.new.items root.0) }
+    ensures err { IfErr result (λ fault. IsScratchFault
+        (C.cut cut) One pairs.now max_levels fault) }
     ensures unchanged { OnErr result (out.new.items ≡ out.old.items) }
 {
     scratch_as(alloc, cut, Version::One, pairs, max_levels, out)
 }
 
-/// Appends the chunk file of the map that the pairs are, and answers the reference of its root. A pair
-/// out of order is told before a tree that has more than `max_levels` levels. After an `Err` the vector
-/// is as it was.
+/// Appends the chunk file of the map that the pairs are, and answers the reference of its root. A
+/// pair out of order is told before a tree that has more than `max_levels` levels. After an `Err`
+/// the vector is as it was.
 ///
 /// Hashes each entry and each chunk once. Beside the file it holds the chunks once more.
 pub fn scratch_as<C: Cut>(
@@ -62,8 +64,10 @@ pub fn scratch_as<C: Cut>(
     max_levels: u8,
     out: &mut Vec<u8>,
 ) -> Result<Ref, ScratchFault>
-    ensures ok { IfOk result (λ root. Builds (C.cut cut) version pairs.now max_levels out.old.items out.new.items root.0) }
-    ensures err { IfErr result (λ fault. IsScratchFault (C.cut cut) version pairs.now max_levels fault) }
+    ensures ok { IfOk result (λ root. Builds (C.cut cut) version pairs.now max_levels out.old.items
+        out.new.items root.0) }
+    ensures err { IfErr result (λ fault. IsScratchFault
+        (C.cut cut) version pairs.now max_levels fault) }
     ensures unchanged { OnErr result (out.new.items ≡ out.old.items) }
 {
     if let Some(pair) = first_fall(pairs) {
@@ -81,7 +85,8 @@ pub fn scratch_as<C: Cut>(
 /// The reference of the root, which is the last chunk.
 fn root_of(chunks: &[ChunkEvent]) -> Ref
     requires { 0 < length chunks.now }
-    ensures { (before : List Chunk) (root : Chunk) → chunks.now ≡ before ++ root ∷ [] → result.0 ≡ reference_of root.bytes }
+    ensures { (before : List Chunk) (root : Chunk) → chunks.now ≡ before ++ root ∷ [] →
+        result.0 ≡ reference_of root.bytes }
 {
     chunks[chunks.len() - 1].reference()
 }

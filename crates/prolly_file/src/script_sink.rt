@@ -9,8 +9,8 @@ use crate::sink::{Sink, SinkFault};
 use std::alloc::Global;
 use std::marker::Model;
 
-/// A sink that keeps in memory what it takes, takes a fixed number of bytes at a time and fails once,
-/// at a call of choice.
+/// A sink that keeps in memory what it takes, takes a fixed number of bytes at a time and fails
+/// once, at a call of choice.
 #[derive(Drop)]
 pub struct ScriptSink {
     taken: Vec<u8>,
@@ -24,15 +24,21 @@ impl Model for ScriptSink {
 
     ghost Value = { SinkScript };
 
-    ghost view = { λ s. record { taken = s.taken.items; step = s.step; until_failure = s.until_failure; failures = s.failures } };
+    ghost view = { λ s. record {
+      taken = s.taken.items;
+      step = s.step;
+      until_failure = s.until_failure;
+      failures = s.failures;
+    } };
 }
 
 impl ScriptSink {
-    /// Each write takes `step` bytes, or the whole slice where it is shorter; a step of 0 takes none.
-    /// Call number `fail_at`, writes and flushes counted together from 1, fails; with `None` and 0
-    /// none does. A write also fails where memory for its bytes is refused.
+    /// Each write takes `step` bytes, or the whole slice where it is shorter; a step of 0 takes
+    /// none. Call number `fail_at`, writes and flushes counted together from 1, fails; with `None`
+    /// and 0 none does. A write also fails where memory for its bytes is refused.
     pub fn new(alloc: Global, step: usize, fail_at: Option<u64>) -> ScriptSink
-        ensures { result ≡ record { taken = []; step = step; until_failure = fail_at; failures = 0 } }
+        ensures { result ≡ record
+            { taken = []; step = step; until_failure = fail_at; failures = 0 } }
     {
         ScriptSink {
             taken: Vec::new(alloc),

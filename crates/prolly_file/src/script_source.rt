@@ -26,17 +26,24 @@ impl Model for ScriptSource {
 
     ghost Value = { SourceScript };
 
-    ghost view = { λ s. record { left = drop s.at s.bytes.items; step = s.step; until_failure = s.until_failure; failures = s.failures } };
+    ghost view = { λ s. record {
+      left = drop s.at
+          s.bytes.items;
+      step = s.step;
+      until_failure = s.until_failure;
+      failures = s.failures;
+    } };
 
     ghost invariant = { λ s. (s.at ≤ vec_len s.bytes) × (0 < s.step) };
 }
 
 impl ScriptSource {
-    /// Each read gives `step` bytes, or fewer where the buffer has less room or fewer are left. Read
-    /// number `fail_at`, counted from 1, fails, and no other; with `None` and 0 none does.
+    /// Each read gives `step` bytes, or fewer where the buffer has less room or fewer are left.
+    /// Read number `fail_at`, counted from 1, fails, and no other; with `None` and 0 none does.
     pub fn new(bytes: Vec<u8>, step: usize, fail_at: Option<u64>) -> ScriptSource
         requires { 0 < step }
-        ensures script { result ≡ record { left = bytes.items; step = step; until_failure = fail_at; failures = 0 } }
+        ensures script { result ≡ record
+            { left = bytes.items; step = step; until_failure = fail_at; failures = 0 } }
         ensures honest { (⟦<ScriptSource as Source>⟧.seen result).is_honest ≡ true }
     {
         ScriptSource {
@@ -53,7 +60,12 @@ impl Source for ScriptSource {
     ghost use Rattle.std.proofs.Common.{rules};
     ghost use Rattle.prolly_file.specs.BytesLaws.{bytes_from_test};
 
-    ghost seen = { λ s. record { is_honest = are_bytes s.left; is_steady = not (is_some s.until_failure); left = s.left; failures = s.failures } };
+    ghost seen = { λ s. record {
+      is_honest = are_bytes s.left;
+      is_steady = not (is_some s.until_failure);
+      left = s.left;
+      failures = s.failures;
+    } };
 
     ghost left_are_bytes = { Prim.search (rules, bytes_from_test) };
 
@@ -65,7 +77,8 @@ impl Source for ScriptSource {
 
         // It follows its script.
         ensures fails { IsErr result ↔ (self.old.until_failure ≡ Some 1) }
-        ensures count { IfOk result (λ n. n ≡ min self.old.step (min (length buf.old) (length self.old.left))) }
+        ensures count { IfOk result (λ n. n ≡ min self.old.step
+            (min (length buf.old) (length self.old.left))) }
         ensures behind { IfOk result (λ n. drop n buf.new ≡ drop n buf.old) }
         ensures err { OnErr result (buf.new ≡ buf.old) }
         ensures step { self.new.step ≡ self.old.step }

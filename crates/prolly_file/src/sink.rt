@@ -9,22 +9,25 @@ pub struct SinkFault;
 
 /// What takes bytes, a part at a time.
 pub trait Sink {
-    /// What a contract sees of it: whether it keeps the bytes that it takes, which these are, and how many of its calls
-    /// failed. A write that takes none of some bytes has failed too.
+    /// What a contract sees of it: whether it keeps the bytes that it takes, which these are, and
+    /// how many of its calls failed. A write that takes none of some bytes has failed too.
     ghost seen: { Self → SinkView };
 
     /// Takes bytes from the start of `buf`, and answers how many: as many as it likes, so a caller
     /// goes on with the rest.
     fn write(&mut self, buf: &[u8]) -> Result<usize, SinkFault>
         ensures bound { IfOk result (λ n. n ≤ length buf.now) }
-        ensures bytes { (seen self.old).is_keeping ≡ true → Takes (seen self.old).taken (seen self.new).taken result buf.now }
+        ensures bytes { (seen self.old).is_keeping ≡ true →
+            Takes (seen self.old).taken (seen self.new).taken result buf.now }
         ensures keeping { (seen self.old).is_keeping ≡ true → (seen self.new).is_keeping ≡ true }
-        ensures failures { CountsWriteFailure (seen self.old).failures (seen self.new).failures result buf.now };
+        ensures failures { CountsWriteFailure (seen self.old).failures
+            (seen self.new).failures result buf.now };
 
     /// Has the bytes that were taken written out, where the sink holds some of them back. No clause
     /// can say that they are.
     fn flush(&mut self) -> Result<(), SinkFault>
-        ensures bytes { (seen self.old).is_keeping ≡ true → (seen self.new).taken ≡ (seen self.old).taken }
+        ensures bytes { (seen self.old).is_keeping ≡ true →
+            (seen self.new).taken ≡ (seen self.old).taken }
         ensures keeping { (seen self.old).is_keeping ≡ true → (seen self.new).is_keeping ≡ true }
         ensures failures { CountsFailure (seen self.old).failures (seen self.new).failures result };
 }

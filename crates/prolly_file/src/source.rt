@@ -10,9 +10,9 @@ pub struct SourceFault;
 
 /// What gives bytes, a part at a time.
 pub trait Source {
-    /// What a contract sees of it: whether it is honest, whether it is steady, the bytes that it has left, and how many reads
-    /// failed. An honest source hands out the bytes that are left, in order, and tells where they end. Of a steady one no
-    /// read fails.
+    /// What a contract sees of it: whether it is honest, whether it is steady, the bytes that it
+    /// has left, and how many reads failed. An honest source hands out the bytes that are left, in
+    /// order, and tells where they end. Of a steady one no read fails.
     ghost seen: { Self → SourceView };
 
     /// Puts the next bytes at the start of `buf`, and answers how many: as many as it likes, so a
@@ -22,7 +22,8 @@ pub trait Source {
     /// not said, nor what any read leaves behind the bytes that it gave.
     fn read(&mut self, buf: &mut [u8]) -> Result<usize, SourceFault>
         ensures bound { IfOk result (λ n. n ≤ length buf.new) }
-        ensures bytes { (seen self.old).is_honest ≡ true → HandsOut (seen self.old).left (seen self.new).left result buf.new }
+        ensures bytes { (seen self.old).is_honest ≡ true →
+            HandsOut (seen self.old).left (seen self.new).left result buf.new }
         ensures honest { (seen self.old).is_honest ≡ true → (seen self.new).is_honest ≡ true }
         ensures failures { CountsFailure (seen self.old).failures (seen self.new).failures result }
         ensures succeeds { (seen self.old).is_steady ≡ true → IsOk result }

@@ -8,8 +8,8 @@ use std::io::Write;
 
 /// A writer of std as a sink. It keeps its bytes where the writer tells them.
 ///
-/// A write that was interrupted is tried again; every other error of the writer is a `SinkFault`, also
-/// one that a second try might mend.
+/// A write that was interrupted is tried again; every other error of the writer is a `SinkFault`,
+/// also one that a second try might mend.
 #[derive(Drop)]
 pub struct ToWrite<W> {
     writer: W,
@@ -19,8 +19,10 @@ pub struct ToWrite<W> {
 impl<W: Write> ToWrite<W> {
     /// A sink into the writer, behind the bytes that it holds already.
     pub fn new(writer: W) -> ToWrite<W>
-        ensures taken { (⟦<ToWrite<W> as Sink>⟧.seen result).taken ≡ known_bytes (W.contents writer) }
-        ensures keeping { (⟦<ToWrite<W> as Sink>⟧.seen result).is_keeping ≡ is_some (W.contents writer) }
+        ensures taken { (⟦<ToWrite<W> as Sink>⟧.seen result).taken ≡ known_bytes
+            (W.contents writer) }
+        ensures keeping { (⟦<ToWrite<W> as Sink>⟧.seen result).is_keeping ≡ is_some
+            (W.contents writer) }
         ensures failures { (⟦<ToWrite<W> as Sink>⟧.seen result).failures ≡ 0 }
     {
         ToWrite {

@@ -37,13 +37,18 @@ pub fn read_whole<S: Source>(
     source: &mut S,
     max_bytes: u32,
 ) -> Result<Vec<u8>, WholeFault>
-    ensures whole { (S.seen source.old).is_honest ≡ true → IfOk result (λ bytes. bytes.items ≡ (S.seen source.old).left) }
-    ensures end { (S.seen source.old).is_honest ≡ true → OnOk result ((S.seen source.new).left ≡ []) }
+    ensures whole { (S.seen source.old).is_honest ≡ true →
+        IfOk result (λ bytes. bytes.items ≡ (S.seen source.old).left) }
+    ensures end { (S.seen source.old).is_honest ≡ true →
+        OnOk result ((S.seen source.new).left ≡ []) }
     ensures within { IfOk result (λ bytes. vec_len bytes ≤ max_bytes) }
-    ensures too_long { (S.seen source.old).is_honest ≡ true → IsErrOf result WholeFault.TooLong → max_bytes < length (S.seen source.old).left }
-    ensures read { IsErrOf result WholeFault.Read ↔ ((S.seen source.new).failures ≢ (S.seen source.old).failures) }
+    ensures too_long { (S.seen source.old).is_honest ≡ true → IsErrOf result WholeFault.TooLong →
+        max_bytes < length (S.seen source.old).left }
+    ensures read { IsErrOf result WholeFault.Read ↔ ((S.seen source.new).failures ≢ (S.seen
+        source.old).failures) }
     ensures unfailed { OnOk result ((S.seen source.new).failures ≡ (S.seen source.old).failures) }
-    ensures never { (S.seen source.old).is_steady ≡ true → (S.seen source.new).failures ≡ (S.seen source.old).failures }
+    ensures never { (S.seen source.old).is_steady ≡ true →
+        (S.seen source.new).failures ≡ (S.seen source.old).failures }
     ensures honest { (S.seen source.old).is_honest ≡ true → (S.seen source.new).is_honest ≡ true }
     ensures steady { (S.seen source.old).is_steady ≡ true → (S.seen source.new).is_steady ≡ true }
 {

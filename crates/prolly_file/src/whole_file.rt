@@ -16,7 +16,8 @@ pub(crate) fn append_file(
     chunks: &[ChunkEvent],
     root: &Ref,
 ) -> Result<(), AllocError>
-    ensures ok { OnOk result (out.new.items ≡ out.old.items ++ (header version bits ++ flat_map frame chunks.now ++ end_record root.now.0 (length chunks.now))) }
+    ensures ok { OnOk result (out.new.items ≡ out.old.items ++ (header version bits ++ flat_map
+        frame chunks.now ++ end_record root.now.0 (length chunks.now))) }
     ensures err { OnErr result (out.new.items ≡ out.old.items) }
 {
     let start = out.len();
@@ -35,7 +36,8 @@ fn append_parts(
     chunks: &[ChunkEvent],
     root: &Ref,
 ) -> Result<(), AllocError>
-    ensures ok { OnOk result (out.new.items ≡ out.old.items ++ (header version bits ++ flat_map frame chunks.now ++ end_record root.now.0 (length chunks.now))) }
+    ensures ok { OnOk result (out.new.items ≡ out.old.items ++ (header version bits ++ flat_map
+        frame chunks.now ++ end_record root.now.0 (length chunks.now))) }
     ensures err { take (length out.old.items) out.new.items ≡ out.old.items }
 {
     out.extend_from_slice(&header(version, bits))?;

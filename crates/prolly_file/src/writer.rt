@@ -19,10 +19,11 @@ pub struct WriteFault;
 
 /// The writer of a chunk file, which counts its chunks.
 ///
-/// It takes no memory and holds no sink: each call is lent the one that it writes to, which is to be
-/// the same for all calls of a writer. A short write goes on where it stopped, and a write that takes
-/// none of some bytes is a failure. After a `WriteFault` each further call answers `WriteFault` too,
-/// and leaves the sink alone, since no one can tell how much of the file is there.
+/// It takes no memory and holds no sink: each call is lent the one that it writes to, which is to
+/// be the same for all calls of a writer. A short write goes on where it stopped, and a write that
+/// takes none of some bytes is a failure. After a `WriteFault` each further call answers
+/// `WriteFault` too, and leaves the sink alone, since no one can tell how much of the file is
+/// there.
 #[derive(Drop)]
 pub struct FileWriter {
     chunks: u64,
@@ -41,31 +42,41 @@ impl FileWriter {
     /// Writes the header of a file of version One, whose cut has this number of bits. Any number is
     /// written, also one that no cut has.
     pub fn begin<W: Sink>(sink: &mut W, bits: u8) -> Result<FileWriter, WriteFault>
-        ensures written { (W.seen sink.old).is_keeping ≡ true → OnOk result ((W.seen sink.new).taken ≡ (W.seen sink.old).taken ++ header One bits) }
-        ensures part { (W.seen sink.old).is_keeping ≡ true → OnErr result (TakesPrefix ((W.seen sink.old).taken) ((W.seen sink.new).taken) (header One bits)) }
+        ensures written { (W.seen sink.old).is_keeping ≡ true →
+            OnOk result ((W.seen sink.new).taken ≡ (W.seen sink.old).taken ++ header One bits) }
+        ensures part { (W.seen sink.old).is_keeping ≡ true →
+            OnErr result (TakesPrefix ((W.seen sink.old).taken) ((W.seen sink.new).taken)
+            (header One bits)) }
         ensures begun { IfOk result (λ writer. writer ≡ record { chunks = 0; has_failed = false }) }
 
         ensures fault { IsErr result ↔ ((W.seen sink.new).failures ≢ (W.seen sink.old).failures) }
-        ensures failures { CountsFailure ((W.seen sink.old).failures) ((W.seen sink.new).failures) result }
-        ensures keeping { (W.seen sink.old).is_keeping ≡ true → (W.seen sink.new).is_keeping ≡ true }
+        ensures failures { CountsFailure ((W.seen sink.old).failures)
+            ((W.seen sink.new).failures) result }
+        ensures keeping { (W.seen sink.old).is_keeping ≡ true →
+            (W.seen sink.new).is_keeping ≡ true }
     {
         FileWriter::begin_as(sink, Version::One, bits)
     }
 
-    /// Writes the header of a file of this version, whose cut has this number of bits. Any number is
-    /// written, also one that no cut has.
+    /// Writes the header of a file of this version, whose cut has this number of bits. Any number
+    /// is written, also one that no cut has.
     pub fn begin_as<W: Sink>(
         sink: &mut W,
         version: Version,
         bits: u8,
     ) -> Result<FileWriter, WriteFault>
-        ensures written { (W.seen sink.old).is_keeping ≡ true → OnOk result ((W.seen sink.new).taken ≡ (W.seen sink.old).taken ++ header version bits) }
-        ensures part { (W.seen sink.old).is_keeping ≡ true → OnErr result (TakesPrefix ((W.seen sink.old).taken) ((W.seen sink.new).taken) (header version bits)) }
+        ensures written { (W.seen sink.old).is_keeping ≡ true →
+            OnOk result ((W.seen sink.new).taken ≡ (W.seen sink.old).taken ++ header version bits) }
+        ensures part { (W.seen sink.old).is_keeping ≡ true →
+            OnErr result (TakesPrefix ((W.seen sink.old).taken) ((W.seen sink.new).taken)
+            (header version bits)) }
         ensures begun { IfOk result (λ writer. writer ≡ record { chunks = 0; has_failed = false }) }
 
         ensures fault { IsErr result ↔ ((W.seen sink.new).failures ≢ (W.seen sink.old).failures) }
-        ensures failures { CountsFailure ((W.seen sink.old).failures) ((W.seen sink.new).failures) result }
-        ensures keeping { (W.seen sink.old).is_keeping ≡ true → (W.seen sink.new).is_keeping ≡ true }
+        ensures failures { CountsFailure ((W.seen sink.old).failures)
+            ((W.seen sink.new).failures) result }
+        ensures keeping { (W.seen sink.old).is_keeping ≡ true →
+            (W.seen sink.new).is_keeping ≡ true }
     {
         write_all(sink, &header(version, bits))?;
         Ok(FileWriter {
@@ -84,14 +95,22 @@ impl FileWriter {
     /// Writes the frame of a chunk of these bytes: nine bytes in writes of their own, and then the
     /// chunk's, straight from the slice. Takes time linear in them.
     pub fn chunk<W: Sink>(&mut self, sink: &mut W, bytes: &[u8]) -> Result<(), WriteFault>
-        ensures written { (W.seen sink.old).is_keeping ≡ true → OnOk result ((W.seen sink.new).taken ≡ (W.seen sink.old).taken ++ framed bytes.now) }
-        ensures part { (W.seen sink.old).is_keeping ≡ true → OnErr result (TakesPrefix ((W.seen sink.old).taken) ((W.seen sink.new).taken) (framed bytes.now)) }
-        ensures counted { OnOk result (self.new ≡ record { chunks = next_count self.old.chunks; has_failed = false }) }
-        ensures failed { OnErr result (self.new ≡ record { chunks = self.old.chunks; has_failed = true }) }
+        ensures written { (W.seen sink.old).is_keeping ≡ true →
+            OnOk result ((W.seen sink.new).taken ≡ (W.seen sink.old).taken ++ framed bytes.now) }
+        ensures part { (W.seen sink.old).is_keeping ≡ true →
+            OnErr result (TakesPrefix ((W.seen sink.old).taken) ((W.seen sink.new).taken)
+            (framed bytes.now)) }
+        ensures counted { OnOk result (self.new
+            ≡ record { chunks = next_count self.old.chunks; has_failed = false }) }
+        ensures failed { OnErr result (self.new
+            ≡ record { chunks = self.old.chunks; has_failed = true }) }
 
-        ensures fault { self.old.has_failed ≡ false → (IsErr result ↔ ((W.seen sink.new).failures ≢ (W.seen sink.old).failures)) }
-        ensures failures { self.old.has_failed ≡ false → CountsFailure ((W.seen sink.old).failures) ((W.seen sink.new).failures) result }
-        ensures keeping { (W.seen sink.old).is_keeping ≡ true → (W.seen sink.new).is_keeping ≡ true }
+        ensures fault { self.old.has_failed ≡ false →
+            (IsErr result ↔ ((W.seen sink.new).failures ≢ (W.seen sink.old).failures)) }
+        ensures failures { self.old.has_failed ≡ false →
+            CountsFailure ((W.seen sink.old).failures) ((W.seen sink.new).failures) result }
+        ensures keeping { (W.seen sink.old).is_keeping ≡ true →
+            (W.seen sink.new).is_keeping ≡ true }
 
         // After a fault the sink is left alone.
         ensures faulty { self.old.has_failed ≡ true → IsErr result }
@@ -106,18 +125,26 @@ impl FileWriter {
     }
 
     /// Writes the end record, with the reference of the root and the number of chunks, flushes the
-    /// sink, and answers the number. That the reference is the one of the last chunk is not looked at.
+    /// sink, and answers the number. That the reference is the one of the last chunk is not looked
+    /// at.
     ///
     /// A file with as many chunks as the greatest `u64` has no number to write: see `chunks`.
     pub fn end<W: Sink>(self, sink: &mut W, root: &Ref) -> Result<u64, WriteFault>
         requires { self.chunks < greatest_count }
-        ensures written { (W.seen sink.old).is_keeping ≡ true → OnOk result ((W.seen sink.new).taken ≡ (W.seen sink.old).taken ++ end_record root.now.0 self.chunks) }
-        ensures part { (W.seen sink.old).is_keeping ≡ true → OnErr result (TakesPrefix ((W.seen sink.old).taken) ((W.seen sink.new).taken) (end_record root.now.0 self.chunks)) }
+        ensures written { (W.seen sink.old).is_keeping ≡ true →
+            OnOk result ((W.seen sink.new).taken
+            ≡ (W.seen sink.old).taken ++ end_record root.now.0 self.chunks) }
+        ensures part { (W.seen sink.old).is_keeping ≡ true →
+            OnErr result (TakesPrefix ((W.seen sink.old).taken) ((W.seen sink.new).taken)
+            (end_record root.now.0 self.chunks)) }
         ensures count { IfOk result (λ chunks. chunks ≡ self.chunks) }
 
-        ensures fault { self.has_failed ≡ false → (IsErr result ↔ ((W.seen sink.new).failures ≢ (W.seen sink.old).failures)) }
-        ensures failures { self.has_failed ≡ false → CountsFailure ((W.seen sink.old).failures) ((W.seen sink.new).failures) result }
-        ensures keeping { (W.seen sink.old).is_keeping ≡ true → (W.seen sink.new).is_keeping ≡ true }
+        ensures fault { self.has_failed ≡ false →
+            (IsErr result ↔ ((W.seen sink.new).failures ≢ (W.seen sink.old).failures)) }
+        ensures failures { self.has_failed ≡ false →
+            CountsFailure ((W.seen sink.old).failures) ((W.seen sink.new).failures) result }
+        ensures keeping { (W.seen sink.old).is_keeping ≡ true →
+            (W.seen sink.new).is_keeping ≡ true }
 
         // After a fault the sink is left alone.
         ensures faulty { self.has_failed ≡ true → IsErr result }
@@ -132,10 +159,13 @@ impl FileWriter {
 
 /// Writes all of these bytes, and flushes the sink.
 pub fn write_whole<W: Sink>(sink: &mut W, bytes: &[u8]) -> Result<(), WriteFault>
-    ensures written { (W.seen sink.old).is_keeping ≡ true → OnOk result ((W.seen sink.new).taken ≡ (W.seen sink.old).taken ++ bytes.now) }
-    ensures part { (W.seen sink.old).is_keeping ≡ true → OnErr result (TakesPrefix ((W.seen sink.old).taken) ((W.seen sink.new).taken) bytes.now) }
+    ensures written { (W.seen sink.old).is_keeping ≡ true →
+        OnOk result ((W.seen sink.new).taken ≡ (W.seen sink.old).taken ++ bytes.now) }
+    ensures part { (W.seen sink.old).is_keeping ≡ true →
+        OnErr result (TakesPrefix ((W.seen sink.old).taken) ((W.seen sink.new).taken) bytes.now) }
     ensures fault { IsErr result ↔ ((W.seen sink.new).failures ≢ (W.seen sink.old).failures) }
-    ensures failures { CountsFailure ((W.seen sink.old).failures) ((W.seen sink.new).failures) result }
+    ensures failures { CountsFailure ((W.seen sink.old).failures)
+        ((W.seen sink.new).failures) result }
     ensures keeping { (W.seen sink.old).is_keeping ≡ true → (W.seen sink.new).is_keeping ≡ true }
 {
     if write_all(sink, bytes).is_err() || sink.flush().is_err() {
@@ -146,9 +176,13 @@ pub fn write_whole<W: Sink>(sink: &mut W, bytes: &[u8]) -> Result<(), WriteFault
 
 /// Writes the frame of a chunk, its start and then its bytes.
 fn write_frame<W: Sink>(sink: &mut W, bytes: &[u8]) -> Result<(), WriteFault>
-    ensures written { (W.seen sink.old).is_keeping ≡ true → OnOk result ((W.seen sink.new).taken ≡ (W.seen sink.old).taken ++ framed bytes.now) }
-    ensures part { (W.seen sink.old).is_keeping ≡ true → OnErr result (TakesPrefix ((W.seen sink.old).taken) ((W.seen sink.new).taken) (framed bytes.now)) }
-    ensures failures { CountsFailure ((W.seen sink.old).failures) ((W.seen sink.new).failures) result }
+    ensures written { (W.seen sink.old).is_keeping ≡ true →
+        OnOk result ((W.seen sink.new).taken ≡ (W.seen sink.old).taken ++ framed bytes.now) }
+    ensures part { (W.seen sink.old).is_keeping ≡ true →
+        OnErr result (TakesPrefix ((W.seen sink.old).taken) ((W.seen sink.new).taken)
+        (framed bytes.now)) }
+    ensures failures { CountsFailure ((W.seen sink.old).failures)
+        ((W.seen sink.new).failures) result }
     ensures keeping { (W.seen sink.old).is_keeping ≡ true → (W.seen sink.new).is_keeping ≡ true }
 {
     write_all(sink, &frame_start(bytes.len() as u64))?;
@@ -158,9 +192,12 @@ fn write_frame<W: Sink>(sink: &mut W, bytes: &[u8]) -> Result<(), WriteFault>
 /// Writes all of these bytes, in as many writes as the sink wants. No write is of no bytes, so an
 /// `Ok(0)` is always a failure.
 fn write_all<W: Sink>(sink: &mut W, bytes: &[u8]) -> Result<(), WriteFault>
-    ensures written { (W.seen sink.old).is_keeping ≡ true → OnOk result ((W.seen sink.new).taken ≡ (W.seen sink.old).taken ++ bytes.now) }
-    ensures part { (W.seen sink.old).is_keeping ≡ true → OnErr result (TakesPrefix ((W.seen sink.old).taken) ((W.seen sink.new).taken) bytes.now) }
-    ensures failures { CountsFailure ((W.seen sink.old).failures) ((W.seen sink.new).failures) result }
+    ensures written { (W.seen sink.old).is_keeping ≡ true →
+        OnOk result ((W.seen sink.new).taken ≡ (W.seen sink.old).taken ++ bytes.now) }
+    ensures part { (W.seen sink.old).is_keeping ≡ true →
+        OnErr result (TakesPrefix ((W.seen sink.old).taken) ((W.seen sink.new).taken) bytes.now) }
+    ensures failures { CountsFailure ((W.seen sink.old).failures)
+        ((W.seen sink.new).failures) result }
     ensures keeping { (W.seen sink.old).is_keeping ≡ true → (W.seen sink.new).is_keeping ≡ true }
     ensures nothing { bytes.now ≡ [] → sink.new ≡ sink.old }
 {

@@ -14,7 +14,8 @@ use std::alloc::Global;
 use std::collections::VecDeque;
 use std::marker::Model;
 
-/// Items that go over a ring together: one at least, and no more than `limit`. Contracts see it as those items.
+/// Items that go over a ring together: one at least, and no more than `limit`. Contracts see it as
+/// those items.
 #[derive(Drop)]
 pub(crate) struct Batch<T> {
     items: Vec<T>,

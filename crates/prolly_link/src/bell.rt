@@ -11,9 +11,10 @@ const ASLEEP: u32 = 1;
 
 /// A word that its owner sleeps on, and that another thread wakes it by.
 ///
-/// The owner says that it is about to sleep (`lie_down`), looks once more for what it waits for, and sleeps. The other
-/// thread first does what the owner waits for, and then looks at the bell. So the owner finds it, or the other thread
-/// finds that the owner sleeps: each step on the word is sequentially consistent. And a sleep has a limit of time.
+/// The owner says that it is about to sleep (`lie_down`), looks once more for what it waits for,
+/// and sleeps. The other thread first does what the owner waits for, and then looks at the bell. So
+/// the owner finds it, or the other thread finds that the owner sleeps: each step on the word is
+/// sequentially consistent. And a sleep has a limit of time.
 #[derive(Drop)]
 pub(crate) struct Bell {
     word: AtomicU64,
@@ -42,7 +43,8 @@ impl Bell {
         self.word.load(Ordering::SeqCst) == u64::from(ASLEEP)
     }
 
-    /// Sleeps until it rings, but no longer than this. Where it rang since `lie_down` it returns at once.
+    /// Sleeps until it rings, but no longer than this. Where it rang since `lie_down` it returns at
+    /// once.
     pub(crate) fn sleep<R: Wait>(&self, rt: &R, longest: Duration) {
         self.word.park_timeout(rt, ASLEEP, longest);
     }

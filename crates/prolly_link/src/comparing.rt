@@ -8,8 +8,8 @@ ghost use Rattle.prolly_link.specs.declared.progress.Progress.TheVariants.{Ended
 use crate::receiver::Receiver;
 use crate::sender::Sender;
 
-/// Shows that what was received begins what was sent, where both ends are in one thread. Beside an open sender no
-/// receiver has an end.
+/// Shows that what was received begins what was sent, where both ends are in one thread. Beside an
+/// open sender no receiver has an end.
 pub fn compare<T>(sender: &mut Sender<T>, receiver: &mut Receiver<T>)
     requires { sender.old.link ≡ receiver.old.link }
     ensures sender { sender.new ≡ sender.old }

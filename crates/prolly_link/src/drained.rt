@@ -3,7 +3,8 @@ use crate::message::Message;
 use rtrb::Consumer;
 use std::marker::Model;
 
-/// The receiving end of a link, once it has given the end. Contracts see its link, all items of the link, and the end.
+/// The receiving end of a link, once it has given the end. Contracts see its link, all items of the
+/// link, and the end.
 #[derive(Drop)]
 pub struct EndedReceiver<T> {
     pub(crate) ring: Consumer<Message<T>>,
@@ -24,7 +25,8 @@ impl<T> Model for EndedReceiver<T> {
     ghost invariant = { λ r. is_closed (popped r.ring) ≡ true };
 }
 
-/// The receiving end of a link that lost its sender. Contracts see its link, and the items that came.
+/// The receiving end of a link that lost its sender. Contracts see its link, and the items that
+/// came.
 #[derive(Drop)]
 pub struct LostReceiver<T> {
     pub(crate) ring: Consumer<Message<T>>,

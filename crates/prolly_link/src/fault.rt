@@ -1,6 +1,7 @@
 //! How a list of items ends.
 
-/// Why a run has no answer. `file` is the number of a record file, and `place` that of a record in it.
+/// Why a run has no answer. `file` is the number of a record file, and `place` that of a record in
+/// it.
 #[derive(Clone, Copy, PartialEq, Eq, Debug)]
 pub enum RunFault {
     Memory,

@@ -11,8 +11,9 @@ const BYTES_A_MESSAGE: u64 = 32_768;
 
 /// The bytes of the large batches of a link that were sent and not yet received. Its ends share it.
 ///
-/// A link holds as many batches as it has room for. Those that are not large are bounded by that. Of the large ones it
-/// holds no more bytes than half as many of the smallest large ones have, or a single one.
+/// A link holds as many batches as it has room for. Those that are not large are bounded by that.
+/// Of the large ones it holds no more bytes than half as many of the smallest large ones have, or a
+/// single one.
 #[derive(Drop)]
 pub(crate) struct InFlight {
     bytes: AtomicU64,
@@ -47,7 +48,8 @@ impl InFlight {
         held == 0 || held.saturating_add(bytes) <= self.most.load(Ordering::SeqCst)
     }
 
-    /// Counts a batch of so many bytes no more, if it is large, and wakes the sender where it sleeps. For the receiver.
+    /// Counts a batch of so many bytes no more, if it is large, and wakes the sender where it
+    /// sleeps. For the receiver.
     pub(crate) fn remove(&self, patience: &Patience, bytes: usize) {
         if bytes < LARGE_BATCH_BYTES {
             return;

@@ -39,11 +39,14 @@ pub trait In<T> {
     ghost goes_on: { (a b c : Self) → Follows a b → Follows b c → Follows a c };
 
     /// What was received in two stretches is what was received in both.
-    ghost received_both: { (a b c : Self) → Follows a b → Follows b c → received a c ≡ received a b ++ received b c };
+    ghost received_both: { (a b c : Self) → Follows a b → Follows b c →
+        received a c ≡ received a b ++ received b c };
 
     /// Once an end has given its end, or `Lost`, nothing more is received.
-    ghost ended_gives_nothing: { (a b : Self) → Follows a b → HasEnded (progress a) → received a b ≡ [] };
+    ghost ended_gives_nothing: { (a b : Self) → Follows a b → HasEnded (progress a) →
+        received a b ≡ [] };
 
     /// Its end, or `Lost`, stays what it was.
-    ghost ended_stays: { (a b : Self) → Follows a b → HasEnded (progress a) → progress b ≡ progress a };
+    ghost ended_stays: { (a b : Self) → Follows a b → HasEnded (progress a) →
+        progress b ≡ progress a };
 }

@@ -1,9 +1,10 @@
 //! Links between workers: items go from one sender to one receiver, in order, and then one end.
 //!
-//! `link` carries items one by one over a bounded ring, and `batch_link` in batches. A worker is written over the traits
-//! `In` and `Out`, which `ListIn` and `ListOut` meet too, so that it can be run over lists in one thread. Contracts see an
-//! end as its link and the items that went through it. Where both ends are in one thread, `compare` and the like show that
-//! what was received, with its end, begins what was sent. Where both have given all, `meet` and `meet_batches` show that it
+//! `link` carries items one by one over a bounded ring, and `batch_link` in batches. A worker is
+//! written over the traits `In` and `Out`, which `ListIn` and `ListOut` meet too, so that it can be
+//! run over lists in one thread. Contracts see an end as its link and the items that went through
+//! it. Where both ends are in one thread, `compare` and the like show that what was received, with
+//! its end, begins what was sent. Where both have given all, `meet` and `meet_batches` show that it
 //! is what was sent.
 #![tactic(auto)]
 

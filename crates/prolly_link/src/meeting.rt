@@ -5,7 +5,8 @@ use crate::closed::ClosedSender;
 use crate::drained::EndedReceiver;
 use std::marker::Model;
 
-/// The two ends of a link, of which one received all that the other sent. Contracts see the link, its items and its end.
+/// The two ends of a link, of which one received all that the other sent. Contracts see the link,
+/// its items and its end.
 #[derive(Drop)]
 pub struct Met<T> {
     pub(crate) sender: ClosedSender<T>,

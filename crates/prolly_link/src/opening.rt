@@ -14,7 +14,8 @@ pub enum LinkFault {
     Memory,
 }
 
-/// The two ends of a new link, with room for `capacity` messages. The end is a message, as an item is.
+/// The two ends of a new link, with room for `capacity` messages. The end is a message, as an item
+/// is.
 pub fn link<T: Send + Drop>(
     alloc: Global,
     capacity: usize,

@@ -32,8 +32,9 @@ pub trait Out<T> {
         ensures ok { OnOk result (sent self.new ≡ sent self.old ++ item ∷ []) }
         ensures err { IfErr result (λ back. (back ≡ item) × (sent self.new ≡ sent self.old)) };
 
-    /// As `send`, of an item that takes so many bytes. An end that holds many items may send them in smaller batches then, or
-    /// wait for the receiver, so that what it holds is bounded in bytes. No contract tells it from `send`.
+    /// As `send`, of an item that takes so many bytes. An end that holds many items may send them
+    /// in smaller batches then, or wait for the receiver, so that what it holds is bounded in
+    /// bytes. No contract tells it from `send`.
     fn send_sized<R: Wait>(&mut self, rt: &R, item: T, _bytes: usize) -> Result<(), T>
         ensures link { link self.new ≡ link self.old }
         ensures ok { OnOk result (sent self.new ≡ sent self.old ++ item ∷ []) }
@@ -43,8 +44,8 @@ pub trait Out<T> {
     }
 
     /// Whether the receiver is far behind: of the room that this end last saw, at most half of the
-    /// link's is left. Then the sender has time to do what the receiver would do else, before it has to
-    /// wait. It is a hint: no contract speaks of it.
+    /// link's is left. Then the sender has time to do what the receiver would do else, before it
+    /// has to wait. It is a hint: no contract speaks of it.
     fn is_ahead(&self) -> bool {
         false
     }

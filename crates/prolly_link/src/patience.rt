@@ -9,7 +9,8 @@ use std::time::Duration;
 /// Rounds of a wait that only look again: one or two microseconds. From then on it sleeps.
 const LOOKS: u32 = 32;
 
-/// How long the first sleep of a wait is at most. Each further one is up to twice as long as the one before.
+/// How long the first sleep of a wait is at most. Each further one is up to twice as long as the
+/// one before.
 const FIRST_SLEEP_MILLIS: u64 = 16;
 
 /// Enough of them to come from 16 milliseconds to a second.
@@ -17,8 +18,9 @@ const MOST_DOUBLINGS: u32 = 6;
 
 /// How an end waits: it looks for a while, then it sleeps until the other end wakes it.
 ///
-/// A sleep has a limit of time, for what nobody wakes it for: an end that was dropped, and fewer messages than the other
-/// end wakes it for. The limit doubles, so that a long wait takes next to no time of the processor.
+/// A sleep has a limit of time, for what nobody wakes it for: an end that was dropped, and fewer
+/// messages than the other end wakes it for. The limit doubles, so that a long wait takes next to
+/// no time of the processor.
 #[derive(Drop)]
 pub(crate) struct Patience {
     own: Arc<Bell>,
@@ -42,8 +44,8 @@ impl Patience {
         ))
     }
 
-    /// Waits a little, the longer the more rounds of this wait went before. The caller looks for what it waits for
-    /// before each round.
+    /// Waits a little, the longer the more rounds of this wait went before. The caller looks for
+    /// what it waits for before each round.
     #[cold]
     #[inline(never)]
     pub(crate) fn pause<R: Wait>(&self, rt: &R, round: u32) {

@@ -7,8 +7,8 @@ use crate::patience::Patience;
 use rtrb::Consumer;
 use std::sync::Wait;
 
-/// Pops a message, waiting for one. `None` where the ring is empty and its producer was dropped. A producer that sleeps is
-/// woken once half of the ring is empty.
+/// Pops a message, waiting for one. `None` where the ring is empty and its producer was dropped. A
+/// producer that sleeps is woken once half of the ring is empty.
 pub(crate) fn pop_waiting<M, R: Wait>(
     rt: &R,
     patience: &Patience,
@@ -20,7 +20,8 @@ pub(crate) fn pop_waiting<M, R: Wait>(
 {
     let mut round = 0u32;
     for _ in rt.forever() {
-        // Asked before the pop: all that a producer pushed before it was dropped is then in the ring.
+        // Asked before the pop: all that a producer pushed before it was dropped is then in the
+        // ring.
         let abandoned = ring.is_abandoned();
         if let Ok(message) = ring.pop() {
             patience.end_wait(round);

@@ -13,8 +13,8 @@ use rtrb::Consumer;
 use std::marker::Model;
 use std::sync::Wait;
 
-/// The receiving end of a link. Contracts see its link, the items that it has given, oldest first, and how far it has
-/// come.
+/// The receiving end of a link. Contracts see its link, the items that it has given, oldest first,
+/// and how far it has come.
 #[derive(Drop)]
 pub struct Receiver<T> {
     pub(crate) ring: Consumer<Message<T>>,
@@ -32,7 +32,12 @@ impl<T> Model for Receiver<T> {
     ghost use Rattle.prolly_link.specs.Messages.{items_in};
     ghost use Rattle.prolly_link.specs.Agreement.{Agrees};
 
-    ghost view = { λ r. record { link = consumer_link r.ring; items = items_in (popped r.ring); progress = r.progress } };
+    ghost view = { λ r. record {
+      link = consumer_link r.ring;
+      items = items_in
+          (popped r.ring);
+      progress = r.progress;
+    } };
 
     ghost invariant = { λ r. Agrees r.progress (popped r.ring) };
 }
@@ -40,7 +45,8 @@ impl<T> Model for Receiver<T> {
 impl<T> Receiver<T> {
     ghost use Rattle.prolly_link.specs.Draining.{IsDrainOf};
 
-    /// The next item, or the end, waiting for a message. An end, or `Lost`, is given again and again.
+    /// The next item, or the end, waiting for a message. An end, or `Lost`, is given again and
+    /// again.
     #[tactic(auto, using(crate::proofs::MessageLemmas::messages))]
     pub fn recv<R: Wait>(&mut self, rt: &R) -> Next<T>
         ensures link { self.new.link ≡ self.old.link }

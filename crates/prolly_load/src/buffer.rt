@@ -18,14 +18,14 @@ const READ_BYTES: usize = 65_536;
 /// The size of the longest record: two lengths, a key and a value.
 const RECORD_BYTES: usize = 6 + KEY_LIMIT + VALUE_LIMIT;
 
-/// Room for the last record's key, for unparsed bytes, of which there are fewer than the longest record
-/// has, and for a read.
+/// Room for the last record's key, for unparsed bytes, of which there are fewer than the longest
+/// record has, and for a read.
 const BUFFER_BYTES: usize = KEY_LIMIT + RECORD_BYTES + READ_BYTES;
 
 /// The bytes that were read and belong to no record yet, and the key of the record before them.
 ///
-/// A key is compared where it was read. It and the unparsed bytes move to the front of the buffer only
-/// when a read needs the room that they stand in, so nothing moves for each record.
+/// A key is compared where it was read. It and the unparsed bytes move to the front of the buffer
+/// only when a read needs the room that they stand in, so nothing moves for each record.
 #[derive(Drop)]
 pub(crate) struct Buffer {
     bytes: Vec<u8>,
@@ -42,7 +42,13 @@ impl Model for Buffer {
 
     ghost Value = { Buffered };
 
-    ghost view = { λ b. record { last_key = option_map (part b.bytes.items) b.last_key; unparsed = part b.bytes.items b.unparsed; room = vec_len b.bytes - b.unparsed.end } };
+    ghost view = { λ b. record {
+      last_key = option_map
+          (part b.bytes.items) b.last_key;
+      unparsed = part b.bytes.items b.unparsed;
+      room = vec_len
+          b.bytes - b.unparsed.end;
+    } };
 
     ghost invariant = { λ b. IsPlaced BUFFER_BYTES b.bytes.items b.last_key b.unparsed };
 }
@@ -77,12 +83,13 @@ impl Buffer {
         }
     }
 
-    /// Consumes the record that the unparsed bytes begin with: its first `len` bytes, with the key in
-    /// `2..key_end`.
+    /// Consumes the record that the unparsed bytes begin with: its first `len` bytes, with the key
+    /// in `2..key_end`.
     pub(crate) fn consume(&mut self, key_end: usize, len: usize)
         requires key { (2 ≤ key_end) × (key_end ≤ 1026) }
         requires record { (key_end ≤ len) × (len ≤ length self.old.unparsed) }
-        ensures last_key { self.new.last_key ≡ Some (take (key_end - 2) (drop 2 self.old.unparsed)) }
+        ensures last_key { self.new.last_key ≡ Some
+            (take (key_end - 2) (drop 2 self.old.unparsed)) }
         ensures unparsed { self.new.unparsed ≡ drop len self.old.unparsed }
     {
         let start = self.unparsed.start;
@@ -97,10 +104,14 @@ impl Buffer {
     pub(crate) fn fill<S: Source>(&mut self, source: &mut S) -> Result<usize, SourceFault>
         requires { length self.old.unparsed < RECORD_BYTES }
         ensures last_key { self.new.last_key ≡ self.old.last_key }
-        ensures fills { Fills (S.seen source.old).is_honest (S.seen source.old).left (S.seen source.new).left self.old.unparsed self.new.unparsed result }
-        ensures honest { (S.seen source.old).is_honest ≡ true → (S.seen source.new).is_honest ≡ true }
-        ensures steady { (S.seen source.old).is_steady ≡ true → (S.seen source.new).is_steady ≡ true }
-        ensures failures { CountsFailure (S.seen source.old).failures (S.seen source.new).failures result }
+        ensures fills { Fills (S.seen source.old).is_honest (S.seen source.old).left
+            (S.seen source.new).left self.old.unparsed self.new.unparsed result }
+        ensures honest { (S.seen source.old).is_honest ≡ true →
+            (S.seen source.new).is_honest ≡ true }
+        ensures steady { (S.seen source.old).is_steady ≡ true →
+            (S.seen source.new).is_steady ≡ true }
+        ensures failures { CountsFailure (S.seen source.old).failures
+            (S.seen source.new).failures result }
         ensures succeeds { (S.seen source.old).is_steady ≡ true → IsOk result }
     {
         self.make_room();
@@ -167,10 +178,13 @@ fn read_behind<S: Source>(
     ensures size { length bytes.new ≡ length bytes.old }
     ensures bound { IfOk result (λ count. unparsed.end + count ≤ length bytes.old) }
     ensures before { take unparsed.end bytes.new ≡ take unparsed.end bytes.old }
-    ensures fills { let grown = record unparsed { end = unparsed.end + result_unwrap_or result 0 } in Fills (S.seen source.old).is_honest (S.seen source.old).left (S.seen source.new).left (part bytes.old unparsed) (part bytes.new grown) result }
+    ensures fills { let grown = record unparsed { end = unparsed.end + result_unwrap_or result 0 }
+        in Fills (S.seen source.old).is_honest (S.seen source.old).left (S.seen source.new).left
+        (part bytes.old unparsed) (part bytes.new grown) result }
     ensures honest { (S.seen source.old).is_honest ≡ true → (S.seen source.new).is_honest ≡ true }
     ensures steady { (S.seen source.old).is_steady ≡ true → (S.seen source.new).is_steady ≡ true }
-    ensures failures { CountsFailure (S.seen source.old).failures (S.seen source.new).failures result }
+    ensures failures { CountsFailure (S.seen source.old).failures
+        (S.seen source.new).failures result }
     ensures succeeds { (S.seen source.old).is_steady ≡ true → IsOk result }
 {
     source.read(&mut bytes[unparsed.end..])

@@ -1,4 +1,5 @@
-//! Loading a record file: its records go into a link, and the link is closed with how the file ends.
+//! Loading a record file: its records go into a link, and the link is closed with how the file
+//! ends.
 #![tactic(auto)]
 
 mod buffer;

@@ -21,10 +21,14 @@ pub(crate) fn send_records<R: Wait, S: Source, O: Out<Record>>(
     out: &mut O,
 ) -> End
     ensures link { O.link out.new ≡ O.link out.old }
-    ensures loaded { IsLoaded file limit (S.seen source.old).is_honest (S.seen source.old).left (S.seen source.new).left (O.sent out.old) (O.sent out.new) result }
-    ensures read { (result ≡ End.Fault (RunFault.Read file)) ↔ ((S.seen source.new).failures ≢ (S.seen source.old).failures) }
-    ensures unfailed { result ≢ End.Fault (RunFault.Read file) → (S.seen source.new).failures ≡ (S.seen source.old).failures }
-    ensures never { (S.seen source.old).is_steady ≡ true → (S.seen source.new).failures ≡ (S.seen source.old).failures }
+    ensures loaded { IsLoaded file limit (S.seen source.old).is_honest (S.seen source.old).left
+        (S.seen source.new).left (O.sent out.old) (O.sent out.new) result }
+    ensures read { (result ≡ End.Fault (RunFault.Read file)) ↔ ((S.seen
+        source.new).failures ≢ (S.seen source.old).failures) }
+    ensures unfailed { result ≢ End.Fault (RunFault.Read file) →
+        (S.seen source.new).failures ≡ (S.seen source.old).failures }
+    ensures never { (S.seen source.old).is_steady ≡ true →
+        (S.seen source.new).failures ≡ (S.seen source.old).failures }
     ensures honest { (S.seen source.old).is_honest ≡ true → (S.seen source.new).is_honest ≡ true }
     ensures steady { (S.seen source.old).is_steady ≡ true → (S.seen source.new).is_steady ≡ true }
 {
@@ -57,8 +61,8 @@ pub(crate) fn send_records<R: Wait, S: Source, O: Out<Record>>(
     }
 }
 
-/// A record as it is sent. Where the receiver is far behind, it gets its boundary number here: one thread
-/// alone cuts the leaves, and this one would wait for it else.
+/// A record as it is sent. Where the receiver is far behind, it gets its boundary number here: one
+/// thread alone cuts the leaves, and this one would wait for it else.
 fn prepared(record: Record, is_ahead: bool) -> Record
     ensures { result ≡ «record» }
 {

@@ -11,14 +11,15 @@ use std::alloc::{AllocError, Global};
 pub(crate) enum Taken {
     /// The next good record.
     Record(Record),
-    /// No record: the unparsed bytes are a part of one, or there are none. More of them may bring it.
+    /// No record: the unparsed bytes are a part of one, or there are none. More of them may bring
+    /// it.
     Nothing,
     /// No record: the next one is flawed, whatever bytes follow.
     Flawed(Flaw),
 }
 
-/// Takes the record behind `count` good ones, of which at most `limit` are allowed. The one copy of its
-/// bytes is made here, and takes the memory that may be refused.
+/// Takes the record behind `count` good ones, of which at most `limit` are allowed. The one copy of
+/// its bytes is made here, and takes the memory that may be refused.
 pub(crate) fn take_record(
     alloc: Global,
     buffer: &mut Buffer,

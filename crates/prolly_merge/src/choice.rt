@@ -21,7 +21,8 @@ pub(crate) enum Choice {
     Stop(End),
 }
 
-// The least of the heads up to and with number `at`, which has this record, where that of those before it is known.
+// The least of the heads up to and with number `at`, which has this record, where that of those
+// before it is known.
 fn least_with(heads: &[Head], least: Option<Least>, at: usize, next: &Record) -> Least
     requires head { slice_get heads.now at ≡ Some (Head.Ready next.now) }
     requires least { IsLeast (take at heads.now) least }
@@ -47,8 +48,8 @@ fn least_with(heads: &[Head], least: Option<Least>, at: usize, next: &Record) ->
     }
 }
 
-/// Finds the last head of the least key, by one comparison a head. A fault stops the merger before any other record is
-/// sent: what is left has greater keys.
+/// Finds the last head of the least key, by one comparison a head. A fault stops the merger before
+/// any other record is sent: what is left has greater keys.
 pub(crate) fn choose(heads: &[Head]) -> Choice
     ensures { IsChoice heads.now result }
 {

@@ -13,7 +13,8 @@ use std::sync::Wait;
 /// Receives an input to its end, unless its head is one.
 pub(crate) fn finish<I: In<Record>, R: Wait>(rt: &R, input: &mut I, head: &Head)
     requires { IsHeld head.now (I.progress input.old) }
-    ensures { Finishes I.link I.progress I.Follows I.received (record { input = input.old; head = head.now }) input.new }
+    ensures { Finishes I.link I.progress I.Follows I.received
+        (record { input = input.old; head = head.now }) input.new }
 {
     if let Head::Ready(_) = head {
         receive_rest(rt, input);
@@ -24,7 +25,8 @@ pub(crate) fn finish<I: In<Record>, R: Wait>(rt: &R, input: &mut I, head: &Head)
 pub(crate) fn finish_all<I: In<Record>, R: Wait>(rt: &R, inputs: &mut [I], heads: &[Head])
     requires len { length heads.now ≡ length inputs.old }
     requires held { AllHeld I.progress (peeked_of inputs.old heads.now) }
-    ensures { Each (Finishes I.link I.progress I.Follows I.received) (peeked_of inputs.old heads.now) inputs.new }
+    ensures { Each (Finishes I.link I.progress I.Follows I.received)
+        (peeked_of inputs.old heads.now) inputs.new }
 {
     for (i, input) in inputs.iter_mut().enumerate() {
         finish(rt, input, &heads[i]);

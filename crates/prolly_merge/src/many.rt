@@ -29,7 +29,7 @@ pub struct Merged<I, O: Out<Pair>> {
     pub pairs: u64,
 }
 
-// Sends pairs until the merger stops, or memory is refused. Gives the number of pairs sent, and the end.
+// Sends pairs until the merger stops, or memory is refused. Gives their number, and the end.
 fn send_many<I: In<Record>, O: Out<Pair>, R: Wait>(
     rt: &R,
     inputs: &mut [I],
@@ -43,7 +43,8 @@ fn send_many<I: In<Record>, O: Out<Pair>, R: Wait>(
     ensures out_link { O.link out.new ≡ O.link out.old }
     ensures pairs { Counts (O.sent out.old) (O.sent out.new) result.0 }
     ensures halts { (xs : List RecordValue) × (O.sent out.new ≡ O.sent out.old ++ pairs_put xs)
-        × Halts (places_after I.received (peeked_of inputs.old heads.old) (peeked_of inputs.new heads.new)) xs result.1 }
+        × Halts (places_after I.received (peeked_of inputs.old heads.old)
+        (peeked_of inputs.new heads.new)) xs result.1 }
 {
     let mut pairs = 0u64;
     for _ in rt.forever() {
@@ -63,42 +64,44 @@ fn merge_all<I: In<Record>, O: Out<Pair>, R: Wait>(
     rt: &R,
     alloc: Global,
     inputs: &mut [I],
-    out: O,
+    mut out: O,
 ) -> (u64, O::Closed)
     ensures inputs { Each (Ends I.link I.progress I.Follows) inputs.old inputs.new }
     ensures out_link { O.closed_link result.1 ≡ O.link out }
     ensures pairs { Counts (O.sent out) (O.all_sent result.1) result.0 }
     ensures merged { let given = inputs_of I.progress I.received inputs.old inputs.new in
         AllRising (lists_of given) →
-        Sends (O.sent out) (merged_part given) (stop_end given) (O.all_sent result.1) (O.end_sent result.1) }
+        Sends (O.sent out) (merged_part given) (stop_end given)
+        (O.all_sent result.1) (O.end_sent result.1) }
 {
     let Some(mut heads) = receive_heads(rt, alloc, inputs) else {
         let out = out.close(rt, End::Fault(RunFault::Memory));
         receive_rests(rt, inputs);
         return (0, out);
     };
-    let mut out = out;
     let (pairs, end) = send_many(rt, inputs, &mut heads, &mut out);
     let out = out.close(rt, end);
     finish_all(rt, inputs, &heads);
     (pairs, out)
 }
 
-/// Sends the pairs of the overlay of the inputs in key order: of records with one key that of the last input counts, and a
-/// removal leaves its key out.
+/// Sends the pairs of the overlay of the inputs in key order: of records with one key that of the
+/// last input counts, and a removal leaves its key out.
 ///
-/// It closes with `Clean` where all inputs do. Otherwise it sends every pair up to the last key of the input that ended with a
-/// fault, and closes with that fault; where several did, with that of the least last key, of equal ones the first. It closes
-/// with `Fault(Memory)` where memory was refused: for the heads, one for each input, before anything is received, or by the
-/// output. All inputs are received to their ends. All this is promised of inputs whose keys rise; of others it is known only that
-/// they have ended, and how many pairs were sent.
+/// It closes with `Clean` where all inputs do. Otherwise it sends every pair up to the last key of
+/// the input that ended with a fault, and closes with that fault; where several did, with that of
+/// the least last key, of equal ones the first. It closes with `Fault(Memory)` where memory was
+/// refused: for the heads, one for each input, before anything is received, or by the output. All
+/// inputs are received to their ends. All this is promised of inputs whose keys rise; of others it
+/// is known only that they have ended, and how many pairs were sent.
 ///
-/// Takes one comparison of keys an input for each record, and one more for those before it where inputs share its key. Where
-/// the receiver is far behind, it takes the hash of a pair's boundary, which the pair carries then.
+/// Takes one comparison of keys an input for each record, and one more for those before it where
+/// inputs share its key. Where the receiver is far behind, it takes the hash of a pair's boundary,
+/// which the pair carries then.
 pub fn merge<I: In<Record>, O: Out<Pair>, R: Wait>(
     rt: &R,
     alloc: Global,
-    inputs: Vec<I>,
+    mut inputs: Vec<I>,
     out: O,
 ) -> Merged<I, O>
     ensures inputs { Each (Ends I.link I.progress I.Follows) inputs.items result.inputs.items }
@@ -106,9 +109,9 @@ pub fn merge<I: In<Record>, O: Out<Pair>, R: Wait>(
     ensures pairs { Counts (O.sent out) (O.all_sent result.out) result.pairs }
     ensures merged { let given = inputs_of I.progress I.received inputs.items result.inputs.items in
         AllRising (lists_of given) →
-        Sends (O.sent out) (merged_part given) (stop_end given) (O.all_sent result.out) (O.end_sent result.out) }
+        Sends (O.sent out) (merged_part given) (stop_end given)
+        (O.all_sent result.out) (O.end_sent result.out) }
 {
-    let mut inputs = inputs;
     let (pairs, out) = merge_all(rt, alloc, &mut inputs, out);
     Merged { inputs, out, pairs }
 }

@@ -9,8 +9,8 @@ use prolly_link::In;
 use std::alloc::Global;
 use std::sync::Wait;
 
-/// Receives the first head of each input. The memory for all of them is taken before, and where it is refused no input is
-/// received from.
+/// Receives the first head of each input. The memory for all of them is taken before, and where it
+/// is refused no input is received from.
 pub(crate) fn receive_heads<I: In<Record>, R: Wait>(
     rt: &R,
     alloc: Global,
@@ -19,7 +19,8 @@ pub(crate) fn receive_heads<I: In<Record>, R: Wait>(
     ensures none { result ≡ None → inputs.new ≡ inputs.old }
     ensures len { IfSome result (λ heads. vec_len heads ≡ length inputs.new) }
     ensures opened { IfSome result (λ heads.
-        Each (Opens I.link I.progress I.Follows I.received) inputs.old (peeked_of inputs.new heads.items)) }
+        Each (Opens I.link I.progress I.Follows I.received) inputs.old
+        (peeked_of inputs.new heads.items)) }
 {
     let Ok(mut heads) = Vec::with_capacity(alloc, inputs.len()) else {
         return None;

@@ -18,10 +18,9 @@ pub(crate) struct Peeked<I> {
 
 impl<I: In<Record>> Peeked<I> {
     /// The input with its first head.
-    pub(crate) fn new<R: Wait>(rt: &R, input: I) -> Peeked<I>
+    pub(crate) fn new<R: Wait>(rt: &R, mut input: I) -> Peeked<I>
         ensures { Opens I.link I.progress I.Follows I.received input result }
     {
-        let mut input = input;
         let head = receive(rt, &mut input);
         Peeked { input, head }
     }

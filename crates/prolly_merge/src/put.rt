@@ -15,7 +15,8 @@ pub(crate) fn send_put<O: Out<Pair>, R: Wait>(
     pairs: u64,
 ) -> Result<u64, AllocError>
     ensures link { O.link out.new ≡ O.link out.old }
-    ensures sent { OnOk result (O.sent out.new ≡ O.sent out.old ++ pairs_of_change merged.key merged.value) }
+    ensures sent { OnOk result (O.sent out.new
+        ≡ O.sent out.old ++ pairs_of_change merged.key merged.value) }
     ensures count { IfOk result (λ n.
         n ≡ min (pairs + length (pairs_of_change merged.key merged.value)) 0xFFFF_FFFF_FFFF_FFFF) }
     ensures refused { OnErr result (O.sent out.new ≡ O.sent out.old) }
@@ -30,8 +31,8 @@ pub(crate) fn send_put<O: Out<Pair>, R: Wait>(
     }
 }
 
-// A pair as it is sent. Where the receiver is far behind, the pair gets its boundary number here, if it has none: this
-// thread would wait else.
+// A pair as it is sent. Where the receiver is far behind, the pair gets its boundary number here,
+// if it has none: this thread would wait else.
 fn prepared(pair: Pair, is_ahead: bool) -> Pair
     ensures { result ≡ pair }
 {

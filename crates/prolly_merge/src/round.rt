@@ -20,8 +20,10 @@ fn next_of<I: In<Record>, R: Wait>(rt: &R, inputs: &mut [I], heads: &mut [Head],
     requires input { at < length inputs.old }
     requires head { at < length heads.old }
     ensures { (old new : Peeked I) × (slice_get (peeked_of inputs.old heads.old) at ≡ Some old)
-        × (peeked_of inputs.new heads.new ≡ slice_set (peeked_of inputs.old heads.old) at new) × (result ≡ old.head)
-        × Advances I.link I.progress I.Follows old new × (I.received old.input new.input ≡ in_hand new.head) }
+        × (peeked_of inputs.new heads.new ≡ slice_set (peeked_of inputs.old heads.old) at new) ×
+        (result ≡ old.head)
+        × Advances I.link I.progress I.Follows old new ×
+        (I.received old.input new.input ≡ in_hand new.head) }
 {
     let next = receive(rt, &mut inputs[at]);
     mem::replace(&mut heads[at], next)
@@ -36,7 +38,8 @@ fn has_key(head: &Head, sent: &Record) -> bool
     }
 }
 
-// Lets the inputs before number `at` that have the key of the record that is sent move on: theirs are left out.
+// Lets the inputs before number `at` that have the key of the record that is sent move on: theirs
+// are left out.
 fn skip_key<I: In<Record>, R: Wait>(
     rt: &R,
     inputs: &mut [I],
@@ -46,7 +49,8 @@ fn skip_key<I: In<Record>, R: Wait>(
 )
     requires input { at ≤ length inputs.old }
     requires head { at ≤ length heads.old }
-    ensures { EachUpto (MovesOn I.link I.progress I.Follows I.received sent.now.key) (λ old new. new ≡ old) at
+    ensures { EachUpto (MovesOn I.link I.progress I.Follows I.received sent.now.key)
+        (λ old new. new ≡ old) at
         (peeked_of inputs.old heads.old) (peeked_of inputs.new heads.new) }
 {
     for i in 0..at {
@@ -65,7 +69,8 @@ fn take<I: In<Record>, R: Wait>(
 ) -> Record
     requires inputs { length heads.old ≡ length inputs.old }
     requires least { IsLeast heads.old (Some least) }
-    ensures { IsStep I.link I.progress I.Follows I.received (peeked_of inputs.old heads.old) (Step.Send result)
+    ensures { IsStep I.link I.progress I.Follows I.received (peeked_of inputs.old heads.old)
+        (Step.Send result)
         (peeked_of inputs.new heads.new) }
 {
     let record = match next_of(rt, inputs, heads, least.at) {

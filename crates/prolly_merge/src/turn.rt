@@ -6,7 +6,8 @@ use prolly_entry::key_order;
 use prolly_link::End;
 use std::cmp::Ordering;
 
-/// The input whose record is sent next. Of two records with one key the right one is sent, and the left one is left out.
+/// The input whose record is sent next. Of two records with one key the right one is sent, and the
+/// left one is left out.
 #[derive(Drop)]
 pub(crate) enum Turn {
     Left,
@@ -15,7 +16,8 @@ pub(crate) enum Turn {
     Stop(End),
 }
 
-/// Compares the two heads. A fault stops the merger before any other record: what is left has greater keys.
+/// Compares the two heads. A fault stops the merger before any other record: what is left has
+/// greater keys.
 pub(crate) fn turn_of(left: &Head, right: &Head) -> Turn
     ensures { IsTurn left.now right.now result }
 {

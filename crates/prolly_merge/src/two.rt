@@ -49,7 +49,8 @@ fn next_of_two<I: In<Record>, R: Wait>(rt: &R, left: &mut Peeked<I>, right: &mut
     }
 }
 
-// Sends records until the merger stops, or one is refused. Gives the number of records sent, and the end.
+// Sends records until the merger stops, or one is refused. Gives the number of records sent, and
+// the end.
 fn send_two<I: In<Record>, O: Out<Record>, R: Wait>(
     rt: &R,
     left: &mut Peeked<I>,
@@ -63,7 +64,8 @@ fn send_two<I: In<Record>, O: Out<Record>, R: Wait>(
     ensures out_link { O.link out.new ≡ O.link out.old }
     ensures items { Counts (O.sent out.old) (O.sent out.new) result.0 }
     ensures halts { (xs : List RecordValue) × (O.sent out.new ≡ O.sent out.old ++ xs)
-        × Halts (places_after I.received (left.old ∷ right.old ∷ []) (left.new ∷ right.new ∷ [])) xs result.1 }
+        × Halts (places_after I.received (left.old ∷ right.old ∷ [])
+        (left.new ∷ right.new ∷ [])) xs result.1 }
 {
     let mut items = 0u64;
     for _ in rt.forever() {
@@ -81,31 +83,34 @@ fn send_two<I: In<Record>, O: Out<Record>, R: Wait>(
     unreachable!()
 }
 
-/// Sends the records of two inputs in key order, removals too; of two records with one key the right one.
+/// Sends the records of two inputs in key order, removals too; of two records with one key the
+/// right one.
 ///
-/// It closes with `Clean` where both inputs do. Otherwise it sends every record up to the last key of the input that ended
-/// with a fault, and closes with that fault; where both did, with that of the lower last key, of equal ones the left. It closes
-/// with `Fault(Memory)` where a record was refused. Both inputs are received to their ends. All this is promised of inputs
-/// whose keys rise; of others it is known only that they have ended, and how many records were sent.
+/// It closes with `Clean` where both inputs do. Otherwise it sends every record up to the last key
+/// of the input that ended with a fault, and closes with that fault; where both did, with that of
+/// the lower last key, of equal ones the left. It closes with `Fault(Memory)` where a record was
+/// refused. Both inputs are received to their ends. All this is promised of inputs whose keys rise;
+/// of others it is known only that they have ended, and how many records were sent.
 ///
 /// Takes one comparison of keys a record, and no memory of its own.
 pub fn merge_two<I: In<Record>, O: Out<Record>, R: Wait>(
     rt: &R,
     left: I,
     right: I,
-    out: O,
+    mut out: O,
 ) -> MergedTwo<I, O>
     ensures left { Ends I.link I.progress I.Follows left result.left }
     ensures right { Ends I.link I.progress I.Follows right result.right }
     ensures out_link { O.closed_link result.out ≡ O.link out }
     ensures items { Counts (O.sent out) (O.all_sent result.out) result.items }
-    ensures merged { let inputs = inputs_of I.progress I.received (left ∷ right ∷ []) (result.left ∷ result.right ∷ []) in
+    ensures merged { let inputs = inputs_of I.progress I.received
+        (left ∷ right ∷ []) (result.left ∷ result.right ∷ []) in
         AllRising (lists_of inputs) →
-        Sends (O.sent out) (raw_merged_part inputs) (stop_end inputs) (O.all_sent result.out) (O.end_sent result.out) }
+        Sends (O.sent out) (raw_merged_part inputs) (stop_end inputs)
+        (O.all_sent result.out) (O.end_sent result.out) }
 {
     let mut left = Peeked::new(rt, left);
     let mut right = Peeked::new(rt, right);
-    let mut out = out;
     let (items, end) = send_two(rt, &mut left, &mut right, &mut out);
     let out = out.close(rt, end);
     MergedTwo {

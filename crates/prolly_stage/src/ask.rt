@@ -6,8 +6,8 @@ use crate::gate::Gate;
 use crate::worker::Worker;
 use std::sync::Wait;
 
-/// A [`Gate`] that need not be `Sync`: a method of a trait can't pass on a bound that promises to be
-/// shared between threads, so what `Gated` does for the trait `Out` asks for this one.
+/// A [`Gate`] that need not be `Sync`: a method of a trait can't pass on a bound that promises to
+/// be shared between threads, so what `Gated` does for the trait `Out` asks for this one.
 pub(crate) trait Ask {
     /// As `Gate::HasOpened`.
     ghost HasOpened: { Self → WorkerValue → ℕ → Type 0 };

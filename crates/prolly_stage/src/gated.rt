@@ -9,8 +9,9 @@ use prolly_link::Out;
 use std::marker::Model;
 use std::sync::Wait;
 
-/// An output of a worker behind a gate, which is asked before each item with the item's number, counted
-/// from 0. It changes nothing else: the items, the end and the link are those of the output.
+/// An output of a worker behind a gate, which is asked before each item with the item's number,
+/// counted from 0. It changes nothing else: the items, the end and the link are those of the
+/// output.
 ///
 /// A number that has come to the greatest `u64` stays there.
 #[derive(Drop)]
@@ -26,7 +27,8 @@ impl<'a, G, O> Model for Gated<'a, G, O> {
 
     ghost Value = { GatedOutput G O };
 
-    ghost view = { λ g. record { out = g.out; worker = g.worker; gate = g.gate.now; next = g.next } };
+    ghost view = { λ g. record
+        { out = g.out; worker = g.worker; gate = g.gate.now; next = g.next } };
 }
 
 impl<'a, G: Gate, O> Gated<'a, G, O> {
@@ -61,7 +63,8 @@ impl<'a, G: Ask, O> Gated<'a, G, O> {
         requires { G.HasOpened self.old.gate self.old.worker self.old.next }
         ensures link { O.link self.new.out ≡ O.link self.old.out }
         ensures ok { OnOk result (O.sent self.new.out ≡ O.sent self.old.out ++ item ∷ []) }
-        ensures err { IfErr result (λ back. (back ≡ item) × (O.sent self.new.out ≡ O.sent self.old.out)) }
+        ensures err { IfErr result (λ back. (back ≡ item) ×
+            (O.sent self.new.out ≡ O.sent self.old.out)) }
         ensures worker { self.new.worker ≡ self.old.worker }
         ensures gate { self.new.gate ≡ self.old.gate }
         ensures next { self.new.next ≡ one_more self.old.next }

@@ -1,5 +1,5 @@
-//! Sending through a gate. This stands apart from the fields of `Gated`, so that items leave only by
-//! `send_next`, which requires that the gate was asked.
+//! Sending through a gate. This stands apart from the fields of `Gated`, so that items leave only
+//! by `send_next`, which requires that the gate was asked.
 ghost use Rattle.std.specs.Prelude.{◌≡◌, ◌∷◌, [], ◌++◌, OnOk, IfErr};
 ghost use Rattle.prolly_stage.specs.Gated.{one_more};
 
@@ -25,7 +25,8 @@ impl<'a, T, G: Gate, O: Out<T>> Out<T> for Gated<'a, G, O> {
     fn send<R: Wait>(&mut self, rt: &R, item: T) -> Result<(), T>
         ensures link { O.link self.new.out ≡ O.link self.old.out }
         ensures ok { OnOk result (O.sent self.new.out ≡ O.sent self.old.out ++ item ∷ []) }
-        ensures err { IfErr result (λ back. (back ≡ item) × (O.sent self.new.out ≡ O.sent self.old.out)) }
+        ensures err { IfErr result (λ back. (back ≡ item) ×
+            (O.sent self.new.out ≡ O.sent self.old.out)) }
         ensures asked { G.HasOpened self.old.gate self.old.worker self.old.next }
         ensures worker { self.new.worker ≡ self.old.worker }
         ensures gate { self.new.gate ≡ self.old.gate }
@@ -38,7 +39,8 @@ impl<'a, T, G: Gate, O: Out<T>> Out<T> for Gated<'a, G, O> {
     fn send_sized<R: Wait>(&mut self, rt: &R, item: T, bytes: usize) -> Result<(), T>
         ensures link { O.link self.new.out ≡ O.link self.old.out }
         ensures ok { OnOk result (O.sent self.new.out ≡ O.sent self.old.out ++ item ∷ []) }
-        ensures err { IfErr result (λ back. (back ≡ item) × (O.sent self.new.out ≡ O.sent self.old.out)) }
+        ensures err { IfErr result (λ back. (back ≡ item) ×
+            (O.sent self.new.out ≡ O.sent self.old.out)) }
         ensures asked { G.HasOpened self.old.gate self.old.worker self.old.next }
         ensures worker { self.new.worker ≡ self.old.worker }
         ensures gate { self.new.gate ≡ self.old.gate }

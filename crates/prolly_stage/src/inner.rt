@@ -35,23 +35,24 @@ pub fn inner_stage<C: Cut, I: In<ChunkEvent>, O: Out<ChunkEvent>, R: Wait>(
     inner_stage_as(rt, alloc, Version::One, level, cut, input, out)
 }
 
-/// Forwards each event that it receives, puts in the events of the nodes of its level, each behind its
-/// last child, and closes with the end that it received. The children are the events of the level
-/// below. At a clean end the open node is sent too where it has children and two or more came in all;
-/// a single one is the root. At a fault the open node is not sent. An input that lost its sender counts
-/// as one that ended with `Lost`.
+/// Forwards each event that it receives, puts in the events of the nodes of its level, each behind
+/// its last child, and closes with the end that it received. The children are the events of the
+/// level below. At a clean end the open node is sent too where it has children and two or more came
+/// in all; a single one is the root. At a fault the open node is not sent. An input that lost its
+/// sender counts as one that ended with `Lost`.
 ///
-/// Where memory is refused it closes with that fault, and receives its input to the end. It keeps the
-/// bytes of one node, and takes one look at the cut for each child. It takes the hash of each chunk whose
-/// event does not carry its reference, and sends the event with it. It returns if the ends do.
+/// Where memory is refused it closes with that fault, and receives its input to the end. It keeps
+/// the bytes of one node, and takes one look at the cut for each child. It takes the hash of each
+/// chunk whose event does not carry its reference, and sends the event with it. It returns if the
+/// ends do.
 pub fn inner_stage_as<C: Cut, I: In<ChunkEvent>, O: Out<ChunkEvent>, R: Wait>(
     rt: &R,
     alloc: Global,
     version: Version,
     level: u8,
     cut: C,
-    input: I,
-    out: O,
+    mut input: I,
+    mut out: O,
 ) -> Staged<I, O>
     requires { 1 ≤ level }
     ensures input_link { I.link result.input ≡ I.link input }
@@ -62,8 +63,6 @@ pub fn inner_stage_as<C: Cut, I: In<ChunkEvent>, O: Out<ChunkEvent>, R: Wait>(
         (I.received input result.input) (end_given (I.progress result.input))
         (O.sent out) (O.all_sent result.out) (O.end_sent result.out) }
 {
-    let mut input = input;
-    let mut out = out;
     match send_nodes(rt, alloc, version, level, cut, &mut input, &mut out) {
         Ok(end) => Staged {
             input,
@@ -87,9 +86,11 @@ fn send_nodes<C: Cut, I: In<ChunkEvent>, O: Out<ChunkEvent>, R: Wait>(
     ensures input_link { I.link input.new ≡ I.link input.old }
     ensures follows { I.Follows input.old input.new }
     ensures out_link { O.link out.new ≡ O.link out.old }
-    ensures ended { IfOk result (λ end. HasEnded (I.progress input.new) × (end_given (I.progress input.new) ≡ end)) }
+    ensures ended { IfOk result (λ end. HasEnded (I.progress input.new) ×
+        (end_given (I.progress input.new) ≡ end)) }
     ensures sent { IfOk result (λ end. O.sent out.new
-        ≡ O.sent out.old ++ inner_events level (C.cut cut) version (closing_of end) (I.received input.old input.new)) }
+        ≡ O.sent out.old ++ inner_events level (C.cut cut) version (closing_of end)
+        (I.received input.old input.new)) }
     ensures err { OnErr result (GivesUp (inner_events level (C.cut cut) version)
         (I.received input.old input.new) (O.sent out.old) (O.sent out.new)) }
 {
@@ -117,8 +118,10 @@ fn take_event<C: Cut, O: Out<ChunkEvent>, R: Wait>(
     event: ChunkEvent,
 ) -> Result<(), AllocError>
     ensures link { O.link out.new ≡ O.link out.old }
-    ensures ok { OnOk result (SendsNode C.cut nodes.old nodes.new event (O.sent out.old) (O.sent out.new)) }
-    ensures err { OnErr result (SendsNodeInPart C.cut nodes.old nodes.new event (O.sent out.old) (O.sent out.new)) }
+    ensures ok { OnOk result (SendsNode C.cut nodes.old nodes.new event (O.sent out.old)
+        (O.sent out.new)) }
+    ensures err { OnErr result (SendsNodeInPart C.cut nodes.old nodes.new event (O.sent out.old)
+        (O.sent out.new)) }
 {
     let event = event.with_reference();
     let closed = nodes.push(alloc, &event)?;

@@ -1,6 +1,6 @@
-//! Laws of workers that stand one behind another, each a function that does nothing and whose contract
-//! is the law. What one worker sent is what the next one received, so the laws join what the stages
-//! ensure to what the last one has sent of the pairs that the first received.
+//! Laws of workers that stand one behind another, each a function that does nothing and whose
+//! contract is the law. What one worker sent is what the next one received, so the laws join what
+//! the stages ensure to what the last one has sent of the pairs that the first received.
 ghost use Rattle.std.specs.Prelude.{ℕ, ◌<◌, ◌^◌, List, length};
 ghost use Rattle.prolly_entry.specs.declared.version.Version.{Version};
 ghost use Rattle.prolly_entry.specs.Pair.{Pair};
@@ -10,7 +10,8 @@ ghost use Rattle.prolly_stage.specs.Workers.{WorkersJoin, StageFollows, WriterTa
 
 /// Two workers, one behind the other, do what a worker of both their stages would do.
 pub fn workers_join<A, B, C>()
-    ensures { (first : Closing → List A → List B) (second : Closing → List B → List C) → WorkersJoin first second }
+    ensures { (first : Closing → List A → List B) (second : Closing → List B → List C) →
+        WorkersJoin first second }
 {}
 
 /// A stage behind the pipeline of the levels below makes the pipeline of one level more.
@@ -20,5 +21,6 @@ pub fn stages_follow()
 
 /// What the writer behind a pipeline takes are the chunks of the tree.
 pub fn writers_take_the_tree()
-    ensures { (cut : Cut) (version : Version) (m : List Pair) (n : ℕ) → length m < 2 ^ 64 → WriterTakes cut version m n }
+    ensures { (cut : Cut) (version : Version) (m : List Pair) (n : ℕ) → length m < 2 ^ 64 →
+        WriterTakes cut version m n }
 {}

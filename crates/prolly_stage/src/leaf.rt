@@ -14,20 +14,20 @@ use prolly_link::{End, In, Next, Out, RunFault};
 use std::alloc::{AllocError, Global};
 use std::sync::Wait;
 
-/// Sends an event for each leaf of the pairs that it receives, and closes with the end that it received.
-/// At a clean end the last leaf may end without a boundary, and where no pair came at all it is the
-/// leaf without pairs. At a fault the open leaf is not sent. An input that lost its sender counts as one
-/// that ended with `Lost`.
+/// Sends an event for each leaf of the pairs that it receives, and closes with the end that it
+/// received. At a clean end the last leaf may end without a boundary, and where no pair came at all
+/// it is the leaf without pairs. At a fault the open leaf is not sent. An input that lost its
+/// sender counts as one that ended with `Lost`.
 ///
-/// Where memory is refused it closes with that fault, and receives its input to the end. It keeps the
-/// bytes of one leaf, and takes one look at the cut for each pair. The hash of a leaf is left to whoever
-/// asks for its reference first. It returns if the ends do.
+/// Where memory is refused it closes with that fault, and receives its input to the end. It keeps
+/// the bytes of one leaf, and takes one look at the cut for each pair. The hash of a leaf is left
+/// to whoever asks for its reference first. It returns if the ends do.
 pub fn leaf_stage<C: Cut, I: In<Pair>, O: Out<ChunkEvent>, R: Wait>(
     rt: &R,
     alloc: Global,
     cut: C,
-    input: I,
-    out: O,
+    mut input: I,
+    mut out: O,
 ) -> Staged<I, O>
     ensures input_link { I.link result.input ≡ I.link input }
     ensures follows { I.Follows input result.input }
@@ -37,8 +37,6 @@ pub fn leaf_stage<C: Cut, I: In<Pair>, O: Out<ChunkEvent>, R: Wait>(
         (I.received input result.input) (end_given (I.progress result.input))
         (O.sent out) (O.all_sent result.out) (O.end_sent result.out) }
 {
-    let mut input = input;
-    let mut out = out;
     match send_leaves(rt, alloc, cut, &mut input, &mut out) {
         Ok(end) => Staged {
             input,
@@ -59,9 +57,11 @@ fn send_leaves<C: Cut, I: In<Pair>, O: Out<ChunkEvent>, R: Wait>(
     ensures input_link { I.link input.new ≡ I.link input.old }
     ensures follows { I.Follows input.old input.new }
     ensures out_link { O.link out.new ≡ O.link out.old }
-    ensures ended { IfOk result (λ end. HasEnded (I.progress input.new) × (end_given (I.progress input.new) ≡ end)) }
+    ensures ended { IfOk result (λ end. HasEnded (I.progress input.new) ×
+        (end_given (I.progress input.new) ≡ end)) }
     ensures sent { IfOk result (λ end. (version : VersionValue) → O.sent out.new
-        ≡ O.sent out.old ++ leaf_events (C.cut cut) version (closing_of end) (I.received input.old input.new)) }
+        ≡ O.sent out.old ++ leaf_events (C.cut cut) version (closing_of end)
+        (I.received input.old input.new)) }
     ensures err { OnErr result ((version : VersionValue) → GivesUp (leaf_events (C.cut cut) version)
         (I.received input.old input.new) (O.sent out.old) (O.sent out.new)) }
 {
@@ -89,7 +89,8 @@ fn take_pair<C: Cut, O: Out<ChunkEvent>, R: Wait>(
     pair: Pair,
 ) -> Result<(), AllocError>
     ensures link { O.link out.new ≡ O.link out.old }
-    ensures ok { OnOk result (SendsLeaf C.cut leaves.old leaves.new pair (O.sent out.old) (O.sent out.new)) }
+    ensures ok { OnOk result (SendsLeaf C.cut leaves.old leaves.new pair (O.sent out.old)
+        (O.sent out.new)) }
     ensures err { OnErr result (O.sent out.new ≡ O.sent out.old) }
 {
     let closed = leaves.push(alloc, &pair)?;

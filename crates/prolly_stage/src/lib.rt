@@ -1,9 +1,9 @@
-//! The stages of the pipeline: each makes the chunks of one level of the tree, and passes on those of
-//! the levels below.
+//! The stages of the pipeline: each makes the chunks of one level of the tree, and passes on those
+//! of the levels below.
 //!
-//! A stage is written over the traits of a link's ends, so it runs over links between threads and over
-//! lists in one thread alike. What it makes of its input is `prolly_chunk`'s; here it is received and
-//! sent.
+//! A stage is written over the traits of a link's ends, so it runs over links between threads and
+//! over lists in one thread alike. What it makes of its input is `prolly_chunk`'s; here it is
+//! received and sent.
 #![tactic(auto)]
 
 mod ask;

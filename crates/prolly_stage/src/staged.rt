@@ -14,11 +14,11 @@ pub struct Staged<I, O: Out<ChunkEvent>> {
     pub out: O::Closed,
 }
 
-/// Gives up for want of memory: closes the output, and then receives the input to its end, so that its
-/// sender does not wait for room for good.
+/// Gives up for want of memory: closes the output, and then receives the input to its end, so that
+/// its sender does not wait for room for good.
 pub(crate) fn give_up<T: Drop, I: In<T>, O: Out<ChunkEvent>, R: Wait>(
     rt: &R,
-    input: I,
+    mut input: I,
     out: O,
 ) -> Staged<I, O>
     ensures input_link { I.link result.input ≡ I.link input }
@@ -29,7 +29,6 @@ pub(crate) fn give_up<T: Drop, I: In<T>, O: Out<ChunkEvent>, R: Wait>(
     ensures end { O.end_sent result.out ≡ Fault Memory }
 {
     let out = out.close(rt, End::Fault(RunFault::Memory));
-    let mut input = input;
     receive_rest(rt, &mut input);
     Staged { input, out }
 }

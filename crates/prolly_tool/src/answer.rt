@@ -58,9 +58,9 @@ impl Answer {
         })
     }
 
-    /// The answer of a command that is not done since a file that the words name is at fault: a line
-    /// with its name, in which control bytes and backslashes are escaped, so that it stays one line and
-    /// names one file.
+    /// The answer of a command that is not done since a file that the words name is at fault: a
+    /// line with its name, in which control bytes and backslashes are escaped, so that it stays one
+    /// line and names one file.
     pub fn of_name(alloc: Global, fault: NameFault, name: &str) -> Result<Answer, AllocError>
         ensures { IfOk result (λ answer. ShowsName answer fault name.now) }
     {
@@ -76,7 +76,8 @@ impl Answer {
         })
     }
 
-    /// The answer to words that give no command: help as it was asked for, or what is wrong with them.
+    /// The answer to words that give no command: help as it was asked for, or what is wrong with
+    /// them.
     pub fn of_refusal(alloc: Global, refusal: ParseFault) -> Result<Answer, AllocError>
         ensures { IfOk result (λ answer. ShowsRefusal answer refusal) }
     {

@@ -9,8 +9,8 @@ use prolly_build::Report;
 use prolly_link::RunFault;
 use std::alloc::{AllocError, Global};
 
-/// What `build` answers: one line with the text of the root and the numbers of chunks, pairs and levels, or
-/// the line of the fault. An `Err` is want of memory for that text.
+/// What `build` answers: one line with the text of the root and the numbers of chunks, pairs and
+/// levels, or the line of the fault. An `Err` is want of memory for that text.
 pub fn answer_build(alloc: Global, built: &Result<Report, RunFault>) -> Result<Answer, AllocError>
     ensures { IfOk result (λ answer. ShowsBuild answer built.now) }
 {

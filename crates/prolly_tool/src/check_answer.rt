@@ -12,15 +12,18 @@ use prolly_check::{Tree, check};
 use prolly_file::Source;
 use std::alloc::{AllocError, Global};
 
-/// What `check` answers: `ok`, the text of the root, and the numbers of bits and chunks, where the bytes of
-/// the source are the one chunk file of what they say; else the line of the first fault. At most
-/// 1,073,741,824 bytes are read. An `Err` is want of memory for the answer's own text.
+/// What `check` answers: `ok`, the text of the root, and the numbers of bits and chunks, where the
+/// bytes of the source are the one chunk file of what they say; else the line of the first fault.
+/// At most 1,073,741,824 bytes are read. An `Err` is want of memory for the answer's own text.
 ///
-/// Takes time linear in the file, but for an index of the references. The file and its chunks' places are
-/// held in memory.
+/// Takes time linear in the file, but for an index of the references. The file and its chunks'
+/// places are held in memory.
 pub fn answer_check<S: Source>(alloc: Global, source: &mut S) -> Result<Answer, AllocError>
-    ensures shown { (S.seen source.old).is_honest ≡ true → IfOk result (IsLookUp (S.seen source.old).left ((S.seen source.new).failures ≢ (S.seen source.old).failures) ShowsCheck) }
-    ensures read { (S.seen source.new).failures ≢ (S.seen source.old).failures → IfOk result ShowsFailedRead }
+    ensures shown { (S.seen source.old).is_honest ≡ true →
+        IfOk result (IsLookUp (S.seen source.old).left
+        ((S.seen source.new).failures ≢ (S.seen source.old).failures) ShowsCheck) }
+    ensures read { (S.seen source.new).failures ≢ (S.seen source.old).failures →
+        IfOk result ShowsFailedRead }
 {
     let tree = match check(alloc, source, INPUT_LIMIT) {
         Ok(tree) => tree,
@@ -31,7 +34,8 @@ pub fn answer_check<S: Source>(alloc: Global, source: &mut S) -> Result<Answer, 
 }
 
 fn line_of(alloc: Global, tree: &Tree) -> Result<Vec<u8>, AllocError>
-    ensures { IfOk result (λ line. (content : Content) → IsFileOf tree.now content → line.items ≡ check_text content) }
+    ensures { IfOk result (λ line. (content : Content) → IsFileOf tree.now content →
+        line.items ≡ check_text content) }
 {
     let mut line = Vec::new(alloc);
     line.extend_from_slice(b"ok ")?;

@@ -9,9 +9,9 @@ use prolly_check::check;
 use prolly_file::Source;
 use std::alloc::{AllocError, Global};
 
-/// What `get` answers: the value of the key in hexadecimal; nothing, with status 1, where the map has no such
-/// key; or the line of the fault of a file that `check` refuses. An `Err` is want of memory for the answer's
-/// own text.
+/// What `get` answers: the value of the key in hexadecimal; nothing, with status 1, where the map
+/// has no such key; or the line of the fault of a file that `check` refuses. An `Err` is want of
+/// memory for the answer's own text.
 ///
 /// The file is checked first, as by `check`; the look-up itself touches one chunk a level.
 pub fn answer_get<S: Source>(
@@ -19,8 +19,11 @@ pub fn answer_get<S: Source>(
     source: &mut S,
     key: &[u8],
 ) -> Result<Answer, AllocError>
-    ensures shown { (S.seen source.old).is_honest ≡ true → IfOk result (IsLookUp (S.seen source.old).left ((S.seen source.new).failures ≢ (S.seen source.old).failures) (ShowsGet key.now)) }
-    ensures read { (S.seen source.new).failures ≢ (S.seen source.old).failures → IfOk result ShowsFailedRead }
+    ensures shown { (S.seen source.old).is_honest ≡ true →
+        IfOk result (IsLookUp (S.seen source.old).left
+        ((S.seen source.new).failures ≢ (S.seen source.old).failures) (ShowsGet key.now)) }
+    ensures read { (S.seen source.new).failures ≢ (S.seen source.old).failures →
+        IfOk result ShowsFailedRead }
 {
     let tree = match check(alloc, source, INPUT_LIMIT) {
         Ok(tree) => tree,

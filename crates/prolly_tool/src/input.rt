@@ -12,11 +12,17 @@ pub(crate) const INPUT_LIMIT: u32 = 1_073_741_824;
 
 /// All bytes that a source has left.
 pub(crate) fn input_of<S: Source>(alloc: Global, source: &mut S) -> Result<Vec<u8>, Fault>
-    ensures whole { (S.seen source.old).is_honest ≡ true → IfOk result (λ bytes. bytes.items ≡ (S.seen source.old).left) }
+    ensures whole { (S.seen source.old).is_honest ≡ true →
+        IfOk result (λ bytes. bytes.items ≡ (S.seen source.old).left) }
     ensures within { IfOk result (λ bytes. length bytes.items ≤ 1073741824) }
-    ensures read_whole { (S.seen source.old).is_honest ≡ true → OnOk result (IsReadWhole (S.seen source.old).left ((S.seen source.new).failures ≢ (S.seen source.old).failures)) }
-    ensures fault { (S.seen source.old).is_honest ≡ true → IfErr result (λ fault. IsInputFault (S.seen source.old).left ((S.seen source.new).failures ≢ (S.seen source.old).failures) fault) }
-    ensures read { (S.seen source.new).failures ≢ (S.seen source.old).failures → IsErrOf result (Fault.Run (RunFault.Read 0)) }
+    ensures read_whole { (S.seen source.old).is_honest ≡ true →
+        OnOk result (IsReadWhole (S.seen source.old).left
+        ((S.seen source.new).failures ≢ (S.seen source.old).failures)) }
+    ensures fault { (S.seen source.old).is_honest ≡ true →
+        IfErr result (λ fault. IsInputFault (S.seen source.old).left
+        ((S.seen source.new).failures ≢ (S.seen source.old).failures) fault) }
+    ensures read { (S.seen source.new).failures ≢ (S.seen source.old).failures →
+        IsErrOf result (Fault.Run (RunFault.Read 0)) }
 {
     match read_whole(alloc, source, INPUT_LIMIT) {
         Ok(bytes) => Ok(bytes),

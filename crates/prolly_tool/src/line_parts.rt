@@ -35,7 +35,8 @@ pub(crate) fn append_pair(
     key: &[u8],
     value: &[u8],
 ) -> Result<(), AllocError>
-    ensures { OnOk result (line.new.items ≡ line.old.items ++ encode_lower key.now ++ 0x20 ∷ encode_lower value.now) }
+    ensures { OnOk result (line.new.items ≡ line.old.items ++ encode_lower
+        key.now ++ 0x20 ∷ encode_lower value.now) }
 {
     append_hex(alloc, line, key)?;
     line.extend_from_slice(b" ")?;

@@ -10,14 +10,19 @@ use prolly_check::{NoCounts, check};
 use prolly_file::Source;
 use std::alloc::{AllocError, Global};
 
-/// What `nth` answers: the pair of this number, counted from 0 in the order of keys, as key and value in
-/// hexadecimal; nothing, with status 1, where there is none; a fault's line where the file is of version One,
-/// which has no counts, or is one that `check` refuses. An `Err` is want of memory for the answer's own text.
+/// What `nth` answers: the pair of this number, counted from 0 in the order of keys, as key and
+/// value in hexadecimal; nothing, with status 1, where there is none; a fault's line where the file
+/// is of version One, which has no counts, or is one that `check` refuses. An `Err` is want of
+/// memory for the answer's own text.
 ///
-/// The file is checked first, as by `check`; the look-up itself skips by the counts of the pairs below.
+/// The file is checked first, as by `check`; the look-up itself skips by the counts of the pairs
+/// below.
 pub fn answer_nth<S: Source>(alloc: Global, source: &mut S, n: u64) -> Result<Answer, AllocError>
-    ensures shown { (S.seen source.old).is_honest ≡ true → IfOk result (IsLookUp (S.seen source.old).left ((S.seen source.new).failures ≢ (S.seen source.old).failures) (ShowsPlace n)) }
-    ensures read { (S.seen source.new).failures ≢ (S.seen source.old).failures → IfOk result ShowsFailedRead }
+    ensures shown { (S.seen source.old).is_honest ≡ true →
+        IfOk result (IsLookUp (S.seen source.old).left
+        ((S.seen source.new).failures ≢ (S.seen source.old).failures) (ShowsPlace n)) }
+    ensures read { (S.seen source.new).failures ≢ (S.seen source.old).failures →
+        IfOk result ShowsFailedRead }
 {
     let tree = match check(alloc, source, INPUT_LIMIT) {
         Ok(tree) => tree,

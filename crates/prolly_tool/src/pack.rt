@@ -14,7 +14,8 @@ use thiserror::Error;
 pub enum PackFault {
     /// Memory was refused.
     Memory,
-    /// The line is not a key and a value, or a key and a dash, in hexadecimal with one space between them.
+    /// The line is not a key and a value, or a key and a dash, in hexadecimal with one space
+    /// between them.
     BadLine { line: u64 },
     /// The key has more than 1,024 bytes.
     KeyTooLong { line: u64 },
@@ -38,8 +39,8 @@ impl Display for PackFault {
     }
 }
 
-/// Appends the spellings of the records that the lines of a text stand for, and answers their number.
-/// An `Err` leaves `out` as it was. Whether keys rise is not tested.
+/// Appends the spellings of the records that the lines of a text stand for, and answers their
+/// number. An `Err` leaves `out` as it was. Whether keys rise is not tested.
 ///
 /// One pass, in time linear in the text.
 pub fn pack_lines(alloc: Global, text: &[u8], out: &mut Vec<u8>) -> Result<u64, PackFault>

@@ -20,11 +20,11 @@ struct Packed {
     count: u64,
 }
 
-/// What `pack` answers: it reads lines of text from the source, writes the records that they stand for
-/// to the sink, and shows their number. Whether keys rise is not tested.
+/// What `pack` answers: it reads lines of text from the source, writes the records that they stand
+/// for to the sink, and shows their number. Whether keys rise is not tested.
 ///
-/// The sink is written to only once all else is done. An `Err` is want of memory for the answer's own
-/// text; the sink is then as it was, or it failed.
+/// The sink is written to only once all else is done. An `Err` is want of memory for the answer's
+/// own text; the sink is then as it was, or it failed.
 ///
 /// Takes time linear in the text, and holds the text and the record file in memory.
 pub fn answer_pack<S: Source, W: Sink>(
@@ -33,15 +33,21 @@ pub fn answer_pack<S: Source, W: Sink>(
     sink: &mut W,
 ) -> Result<Answer, AllocError>
     ensures ok { (S.seen source.old).is_honest ≡ true → IfOk result (IsAnswer
-        (PacksTo (S.seen source.old).left ((S.seen source.new).failures ≢ (S.seen source.old).failures))
-        (IsPackingFault (S.seen source.old).left ((S.seen source.new).failures ≢ (S.seen source.old).failures))
+        (PacksTo (S.seen source.old).left
+        ((S.seen source.new).failures ≢ (S.seen source.old).failures))
+        (IsPackingFault (S.seen source.old).left
+        ((S.seen source.new).failures ≢ (S.seen source.old).failures))
         (λ file. TookAll W.seen file sink.old sink.new)
         (λ file. TookPart W.seen file sink.old sink.new)
         (sink.new ≡ sink.old)) }
-    ensures err { (S.seen source.old).is_honest ≡ true → OnErr result ((sink.new ≡ sink.old) ⊎ IsCutShort
-        (PacksTo (S.seen source.old).left ((S.seen source.new).failures ≢ (S.seen source.old).failures))
+    ensures err { (S.seen source.old).is_honest ≡ true →
+        OnErr result ((sink.new ≡ sink.old) ⊎ IsCutShort
+        (PacksTo (S.seen source.old).left
+        ((S.seen source.new).failures ≢ (S.seen source.old).failures))
         (λ file. TookPart W.seen file sink.old sink.new)) }
-    ensures read { (S.seen source.new).failures ≢ (S.seen source.old).failures → (sink.new ≡ sink.old) × IfOk result (λ answer. ShowsFault answer (Fault.Run (RunFault.Read 0))) }
+    ensures read { (S.seen source.new).failures ≢ (S.seen source.old).failures →
+        (sink.new ≡ sink.old) × IfOk result (λ answer. ShowsFault answer
+        (Fault.Run (RunFault.Read 0))) }
 {
     let packed = match packed_of(alloc, source) {
         Ok(packed) => packed,
@@ -58,10 +64,16 @@ pub fn answer_pack<S: Source, W: Sink>(
 
 /// The record file of the lines that a source has left.
 fn packed_of<S: Source>(alloc: Global, source: &mut S) -> Result<Packed, Fault>
-    ensures whole { (S.seen source.old).is_honest ≡ true → OnOk result (IsReadWhole (S.seen source.old).left ((S.seen source.new).failures ≢ (S.seen source.old).failures)) }
-    ensures ok { (S.seen source.old).is_honest ≡ true → IfOk result (λ packed. Packs (S.seen source.old).left [] packed.file.items packed.count) }
-    ensures err { (S.seen source.old).is_honest ≡ true → IfErr result (λ fault. IsPackingFault (S.seen source.old).left ((S.seen source.new).failures ≢ (S.seen source.old).failures) fault) }
-    ensures read { (S.seen source.new).failures ≢ (S.seen source.old).failures → IsErrOf result (Fault.Run (RunFault.Read 0)) }
+    ensures whole { (S.seen source.old).is_honest ≡ true →
+        OnOk result (IsReadWhole (S.seen source.old).left
+        ((S.seen source.new).failures ≢ (S.seen source.old).failures)) }
+    ensures ok { (S.seen source.old).is_honest ≡ true →
+        IfOk result (λ packed. Packs (S.seen source.old).left [] packed.file.items packed.count) }
+    ensures err { (S.seen source.old).is_honest ≡ true →
+        IfErr result (λ fault. IsPackingFault (S.seen source.old).left
+        ((S.seen source.new).failures ≢ (S.seen source.old).failures) fault) }
+    ensures read { (S.seen source.new).failures ≢ (S.seen source.old).failures →
+        IsErrOf result (Fault.Run (RunFault.Read 0)) }
 {
     let text = match input_of(alloc, source) {
         Ok(text) => text,

@@ -12,9 +12,9 @@ use prolly_entry::Pair;
 use prolly_file::Source;
 use std::alloc::{AllocError, Global};
 
-/// What `scan` answers: a line of key and value in hexadecimal for each of the first `limit` pairs whose key is
-/// not less than `from`; or the line of the fault of a file that `check` refuses. An `Err` is want of memory
-/// for the pairs or for the answer's own text.
+/// What `scan` answers: a line of key and value in hexadecimal for each of the first `limit` pairs
+/// whose key is not less than `from`; or the line of the fault of a file that `check` refuses. An
+/// `Err` is want of memory for the pairs or for the answer's own text.
 ///
 /// The file is checked first, as by `check`; the look-up itself stops at its limit.
 pub fn answer_scan<S: Source>(
@@ -23,8 +23,11 @@ pub fn answer_scan<S: Source>(
     from: &[u8],
     limit: u32,
 ) -> Result<Answer, AllocError>
-    ensures shown { (S.seen source.old).is_honest ≡ true → IfOk result (IsLookUp (S.seen source.old).left ((S.seen source.new).failures ≢ (S.seen source.old).failures) (ShowsScan from.now limit)) }
-    ensures read { (S.seen source.new).failures ≢ (S.seen source.old).failures → IfOk result ShowsFailedRead }
+    ensures shown { (S.seen source.old).is_honest ≡ true →
+        IfOk result (IsLookUp (S.seen source.old).left
+        ((S.seen source.new).failures ≢ (S.seen source.old).failures) (ShowsScan from.now limit)) }
+    ensures read { (S.seen source.new).failures ≢ (S.seen source.old).failures →
+        IfOk result ShowsFailedRead }
 {
     let tree = match check(alloc, source, INPUT_LIMIT) {
         Ok(tree) => tree,
@@ -41,7 +44,8 @@ pub fn answer_scan<S: Source>(
 
 /// A line for each pair.
 fn lines_of(alloc: Global, pairs: &[Pair]) -> Result<Vec<u8>, AllocError>
-    ensures { IfOk result (λ lines. lines.items ≡ flat_map (λ p. pair_text p ++ 0x0A ∷ []) pairs.now) }
+    ensures { IfOk result (λ lines. lines.items ≡ flat_map
+        (λ p. pair_text p ++ 0x0A ∷ []) pairs.now) }
 {
     let mut lines = Vec::new(alloc);
     for pair in pairs {

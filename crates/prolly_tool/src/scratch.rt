@@ -27,12 +27,12 @@ struct Tree {
     root: Ref,
 }
 
-/// What `scratch` answers: it reads one record file from the source, makes the chunk file of its pairs,
-/// writes it to the sink, if there is one, and shows the text of its root.
+/// What `scratch` answers: it reads one record file from the source, makes the chunk file of its
+/// pairs, writes it to the sink, if there is one, and shows the text of its root.
 ///
-/// The sink is written to only once all else is done. The faults of the record file are told as those
-/// of file 0. An `Err` is want of memory for the answer's own text; the sink is then as it was, or it
-/// failed.
+/// The sink is written to only once all else is done. The faults of the record file are told as
+/// those of file 0. An `Err` is want of memory for the answer's own text; the sink is then as it
+/// was, or it failed.
 ///
 /// Takes time linear in the input, which is dropped before the tree is made. The pairs and then the
 /// tree are held in memory: see docs/measurements.md.
@@ -45,15 +45,21 @@ pub fn answer_scratch<S: Source, W: Sink>(
 ) -> Result<Answer, AllocError>
     requires { bits ≤ 24 }
     ensures ok { (S.seen source.old).is_honest ≡ true → IfOk result (IsAnswer
-        (Scratches bits version (S.seen source.old).left ((S.seen source.new).failures ≢ (S.seen source.old).failures))
-        (IsScratchFault bits version (S.seen source.old).left ((S.seen source.new).failures ≢ (S.seen source.old).failures))
+        (Scratches bits version (S.seen source.old).left
+        ((S.seen source.new).failures ≢ (S.seen source.old).failures))
+        (IsScratchFault bits version (S.seen source.old).left
+        ((S.seen source.new).failures ≢ (S.seen source.old).failures))
         (λ file. IfSink (TookAll W.seen file) sink.old sink.new)
         (λ file. OfSink (TookPart W.seen file) sink.old sink.new)
         (sink.new ≡ sink.old)) }
-    ensures err { (S.seen source.old).is_honest ≡ true → OnErr result ((sink.new ≡ sink.old) ⊎ IsCutShort
-        (Scratches bits version (S.seen source.old).left ((S.seen source.new).failures ≢ (S.seen source.old).failures))
+    ensures err { (S.seen source.old).is_honest ≡ true →
+        OnErr result ((sink.new ≡ sink.old) ⊎ IsCutShort
+        (Scratches bits version (S.seen source.old).left
+        ((S.seen source.new).failures ≢ (S.seen source.old).failures))
         (λ file. OfSink (TookPart W.seen file) sink.old sink.new)) }
-    ensures read { (S.seen source.new).failures ≢ (S.seen source.old).failures → (sink.new ≡ sink.old) × IfOk result (λ answer. ShowsFault answer (Fault.Run (RunFault.Read 0))) }
+    ensures read { (S.seen source.new).failures ≢ (S.seen source.old).failures →
+        (sink.new ≡ sink.old) × IfOk result (λ answer. ShowsFault answer
+        (Fault.Run (RunFault.Read 0))) }
 {
     let tree = match tree_of(alloc, source, bits, version) {
         Ok(tree) => tree,
@@ -74,9 +80,14 @@ fn tree_of<S: Source>(
     version: Version,
 ) -> Result<Tree, Fault>
     requires { bits ≤ 24 }
-    ensures ok { (S.seen source.old).is_honest ≡ true → IfOk result (λ tree. MakesFile bits version (S.seen source.old).left ((S.seen source.new).failures ≢ (S.seen source.old).failures) tree.file.items tree.root.0) }
-    ensures err { (S.seen source.old).is_honest ≡ true → IfErr result (λ fault. IsScratchFault bits version (S.seen source.old).left ((S.seen source.new).failures ≢ (S.seen source.old).failures) fault) }
-    ensures read { (S.seen source.new).failures ≢ (S.seen source.old).failures → IsErrOf result (Fault.Run (RunFault.Read 0)) }
+    ensures ok { (S.seen source.old).is_honest ≡ true →
+        IfOk result (λ tree. MakesFile bits version (S.seen source.old).left
+        ((S.seen source.new).failures ≢ (S.seen source.old).failures) tree.file.items tree.root.0) }
+    ensures err { (S.seen source.old).is_honest ≡ true →
+        IfErr result (λ fault. IsScratchFault bits version (S.seen source.old).left
+        ((S.seen source.new).failures ≢ (S.seen source.old).failures) fault) }
+    ensures read { (S.seen source.new).failures ≢ (S.seen source.old).failures →
+        IsErrOf result (Fault.Run (RunFault.Read 0)) }
 {
     let pairs = match pairs_of(alloc, source) {
         Ok(pairs) => pairs,
@@ -95,9 +106,14 @@ fn tree_of<S: Source>(
 /// The pairs of the record file that a source has left.
 fn pairs_of<S: Source>(alloc: Global, source: &mut S) -> Result<Vec<Pair>, Fault>
     ensures rising { IfOk result (λ pairs. Rising (keys_in pairs.items)) }
-    ensures ok { (S.seen source.old).is_honest ≡ true → IfOk result (λ pairs. HoldsPairs (S.seen source.old).left ((S.seen source.new).failures ≢ (S.seen source.old).failures) pairs.items) }
-    ensures err { (S.seen source.old).is_honest ≡ true → IfErr result (λ fault. IsRecordsFault (S.seen source.old).left ((S.seen source.new).failures ≢ (S.seen source.old).failures) fault) }
-    ensures read { (S.seen source.new).failures ≢ (S.seen source.old).failures → IsErrOf result (Fault.Run (RunFault.Read 0)) }
+    ensures ok { (S.seen source.old).is_honest ≡ true →
+        IfOk result (λ pairs. HoldsPairs (S.seen source.old).left
+        ((S.seen source.new).failures ≢ (S.seen source.old).failures) pairs.items) }
+    ensures err { (S.seen source.old).is_honest ≡ true →
+        IfErr result (λ fault. IsRecordsFault (S.seen source.old).left
+        ((S.seen source.new).failures ≢ (S.seen source.old).failures) fault) }
+    ensures read { (S.seen source.new).failures ≢ (S.seen source.old).failures →
+        IsErrOf result (Fault.Run (RunFault.Read 0)) }
 {
     let input = match input_of(alloc, source) {
         Ok(input) => input,

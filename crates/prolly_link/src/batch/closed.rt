@@ -3,7 +3,8 @@ use crate::batch::Batch;
 use crate::closed::ClosedSender;
 use std::marker::Model;
 
-/// The sending end of a batch link, once it has sent the end. Contracts see its link, all items and the end.
+/// The sending end of a batch link, once it has sent the end. Contracts see its link, all items and
+/// the end.
 #[derive(Drop)]
 pub struct ClosedBatch<T> {
     pub(crate) sender: ClosedSender<Batch<T>>,

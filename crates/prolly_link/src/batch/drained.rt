@@ -3,7 +3,8 @@ use crate::batch::Batch;
 use crate::drained::{EndedReceiver, LostReceiver};
 use std::marker::Model;
 
-/// The receiving end of a batch link, once it has given the end. Contracts see its link, all items and the end.
+/// The receiving end of a batch link, once it has given the end. Contracts see its link, all items
+/// and the end.
 #[derive(Drop)]
 pub struct EndedBatch<T> {
     pub(crate) receiver: EndedReceiver<Batch<T>>,
@@ -19,7 +20,8 @@ impl<T> Model for EndedBatch<T> {
     ghost view = { λ r. unbatched r.receiver };
 }
 
-/// The receiving end of a batch link that lost its sender. Contracts see its link, and the items of the batches that came.
+/// The receiving end of a batch link that lost its sender. Contracts see its link, and the items of
+/// the batches that came.
 #[derive(Drop)]
 pub struct LostBatch<T> {
     pub(crate) receiver: LostReceiver<Batch<T>>,

@@ -7,8 +7,8 @@ use crate::batch::drained::EndedBatch;
 use crate::meeting::{Met, meet};
 use std::marker::Model;
 
-/// The two ends of a batch link, of which one received all that the other sent. Contracts see the link, its items and its
-/// end.
+/// The two ends of a batch link, of which one received all that the other sent. Contracts see the
+/// link, its items and its end.
 #[derive(Drop)]
 pub struct MetBatch<T> {
     pub(crate) met: Met<Batch<T>>,

@@ -11,8 +11,8 @@ use rtrb::RingBuffer;
 use std::alloc::Global;
 use std::collections::VecDeque;
 
-/// The two ends of a new link whose messages are batches of up to `batch` items, with room for `capacity` messages. It
-/// takes the memory of the first batch.
+/// The two ends of a new link whose messages are batches of up to `batch` items, with room for
+/// `capacity` messages. It takes the memory of the first batch.
 pub fn batch_link<T: Send + Drop>(
     alloc: Global,
     capacity: usize,

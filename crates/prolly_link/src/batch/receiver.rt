@@ -18,8 +18,8 @@ use std::marker::Model;
 use std::mem;
 use std::sync::{Arc, Wait};
 
-/// The receiving end of a batch link. Contracts see its link, the items that it has given, oldest first, and how far it
-/// has come.
+/// The receiving end of a batch link. Contracts see its link, the items that it has given, oldest
+/// first, and how far it has come.
 #[derive(Drop)]
 pub struct BatchReceiver<T> {
     pub(crate) receiver: Receiver<Batch<T>>,
@@ -43,8 +43,9 @@ impl<T> Model for BatchReceiver<T> {
     ghost invariant = { λ r. IsInHand r.receiver r.hand.items (deque_len r.hand) };
 }
 
-// The first item of the next batch, of which the others are in hand then, or the end. The memory of the batch that was in hand
-// goes back to the sender, if there is room on the way. It stands apart so that what all other items take stays small.
+// The first item of the next batch, of which the others are in hand then, or the end. The memory of
+// the batch that was in hand goes back to the sender, if there is room on the way. It stands apart
+// so that what all other items take stays small.
 #[inline(never)]
 fn recv_batch<T: Drop, R: Wait>(
     rt: &R,
@@ -57,7 +58,8 @@ fn recv_batch<T: Drop, R: Wait>(
     requires empty { deque_len hand.old ≡ 0 }
     ensures hand { IsInHand receiver.new hand.new.items (deque_len hand.new) }
     ensures link { receiver.new.link ≡ receiver.old.link }
-    ensures items { (given_of receiver.new hand.new.items).items ≡ (given_of receiver.old hand.old.items).items ++ given_items result }
+    ensures items { (given_of receiver.new hand.new.items).items
+        ≡ (given_of receiver.old hand.old.items).items ++ given_items result }
     ensures progress { receiver.new.progress ≡ progress_after result }
     ensures again { GivesAgain receiver.old.progress result }
 {
@@ -76,7 +78,8 @@ fn recv_batch<T: Drop, R: Wait>(
 impl<T: Drop> BatchReceiver<T> {
     ghost use Rattle.prolly_link.specs.BatchDraining.{IsBatchDrainOf};
 
-    /// The next item, or the end. It waits for a message only where no item is left of the batch in hand.
+    /// The next item, or the end. It waits for a message only where no item is left of the batch in
+    /// hand.
     pub fn recv<R: Wait>(&mut self, rt: &R) -> Next<T>
         ensures link { self.new.link ≡ self.old.link }
         ensures items { self.new.items ≡ self.old.items ++ given_items result }

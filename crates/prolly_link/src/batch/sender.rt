@@ -15,8 +15,8 @@ use std::marker::Model;
 use std::mem;
 use std::sync::{Arc, Wait};
 
-/// The sending end of a batch link. Contracts see its link, the items that were given to `send`, oldest first, and for
-/// how many more it has taken room.
+/// The sending end of a batch link. Contracts see its link, the items that were given to `send`,
+/// oldest first, and for how many more it has taken room.
 #[derive(Drop)]
 pub struct BatchSender<T> {
     pub(crate) sender: Sender<Batch<T>>,
@@ -40,12 +40,15 @@ impl<T> Model for BatchSender<T> {
 
     ghost use Rattle.prolly_link.specs.OpenBatches.{batching_of, room_of, IsOpenBatch};
 
-    ghost view = { λ s. batching_of s.sender s.pending.items (room_of s.size (vec_capacity s.pending) (vec_len s.pending)) };
+    ghost view = { λ s. batching_of s.sender s.pending.items
+        (room_of s.size (vec_capacity s.pending) (vec_len s.pending)) };
 
-    ghost invariant = { λ s. IsOpenBatch s.size (vec_capacity s.pending) (vec_len s.pending) × (s.bytes < LARGE_BATCH_BYTES) };
+    ghost invariant = { λ s. IsOpenBatch s.size (vec_capacity s.pending) (vec_len s.pending) ×
+        (s.bytes < LARGE_BATCH_BYTES) };
 }
 
-// Takes the room of a batch, unless it was taken before. It takes memory that came back from the receiver, where there is some.
+// Takes the room of a batch, unless it was taken before. It takes memory that came back from the
+// receiver, where there is some.
 fn take_room<T: Drop>(
     batch: &mut Vec<T>,
     spares: &mut Consumer<Vec<T>>,
@@ -55,7 +58,8 @@ fn take_room<T: Drop>(
     ensures items { batch.new.items ≡ batch.old.items }
     ensures len { vec_len batch.new ≡ vec_len batch.old }
     ensures ok { OnOk result (size ≤ vec_capacity batch.new) }
-    ensures err { OnErr result ((vec_capacity batch.new ≡ vec_capacity batch.old) × (vec_capacity batch.old < size)) }
+    ensures err { OnErr result ((vec_capacity batch.new ≡ vec_capacity batch.old) ×
+        (vec_capacity batch.old < size)) }
 {
     if batch.capacity() >= size {
         return Ok(());
@@ -70,7 +74,8 @@ fn take_room<T: Drop>(
     }
 }
 
-// Sends a batch where it has items. A large one waits until no more than the link's bound is in flight with it.
+// Sends a batch where it has items. A large one waits until no more than the link's bound is in
+// flight with it.
 #[tactic(auto, using(crate::proofs::BatchLemmas::items_of_push))]
 fn send_items<T: Drop, R: Wait>(
     rt: &R,
@@ -97,8 +102,8 @@ fn send_items<T: Drop, R: Wait>(
 }
 
 impl<T: Drop> BatchSender<T> {
-    /// Sends an item with the others of its batch, waiting for room once the batch is full. It takes memory where a batch
-    /// begins, and hands the item back where that is refused.
+    /// Sends an item with the others of its batch, waiting for room once the batch is full. It
+    /// takes memory where a batch begins, and hands the item back where that is refused.
     pub fn send<R: Wait>(&mut self, rt: &R, item: T) -> Result<(), T>
         ensures link { self.new.link ≡ self.old.link }
         ensures ok { OnOk result (self.new.items ≡ self.old.items ++ item ∷ []) }
@@ -109,8 +114,9 @@ impl<T: Drop> BatchSender<T> {
         self.send_sized(rt, item, 0)
     }
 
-    /// As `send`, of an item that takes so many bytes. A batch of 64 KiB or more is sent before it is full, and waits where the
-    /// link holds 32 KiB of such batches for each message that it has room for.
+    /// As `send`, of an item that takes so many bytes. A batch of 64 KiB or more is sent before it
+    /// is full, and waits where the link holds 32 KiB of such batches for each message that it has
+    /// room for.
     pub fn send_sized<R: Wait>(&mut self, rt: &R, item: T, bytes: usize) -> Result<(), T>
         ensures link { self.new.link ≡ self.old.link }
         ensures ok { OnOk result (self.new.items ≡ self.old.items ++ item ∷ []) }
@@ -128,8 +134,8 @@ impl<T: Drop> BatchSender<T> {
         self.send_at_an_edge(rt, item, bytes)
     }
 
-    // As `send_sized`, where a batch may begin or end with the item. It stands apart so that what all other items take
-    // stays small.
+    // As `send_sized`, where a batch may begin or end with the item. It stands apart so that what
+    // all other items take stays small.
     #[inline(never)]
     fn send_at_an_edge<R: Wait>(&mut self, rt: &R, item: T, bytes: usize) -> Result<(), T>
         ensures link { self.new.link ≡ self.old.link }
