@@ -1,5 +1,6 @@
 //! The start of each kind of worker, in a function of its own: what the worker promises, and its
 //! thread.
+pub(crate) mod bounds;
 pub(crate) mod loaders;
 pub(crate) mod mergers;
 pub(crate) mod permit;

@@ -12,16 +12,16 @@ use crate::links::link::meet;
 use crate::run::lists::pop_first;
 use crate::run::merger_tree::merge_tree;
 use crate::run::writer::Wrote;
+use crate::start::bounds::{Input, Runtime};
 use crate::start::mergers::{LastEnds, start_last};
 use crate::start::permit::Permit;
 use crate::start::site::Site;
 use prolly_chunk::ChunkEvent;
 use prolly_entry::{Pair, Record};
-use prolly_file::{Sink, Source};
+use prolly_file::Sink;
 use prolly_link::{BatchReceiver, BatchSender, ClosedBatch};
 use prolly_stage::Gate;
 use std::sync::Wait;
-use std::thread::Threads;
 
 /// What the workers up to the last merger gave back: its closed output, how many pairs it sent, and
 /// what the writer gave.
@@ -52,15 +52,7 @@ fn meet_all<R: Wait>(
 
 /// Starts the last merger, then all workers below it, writes, joins them, and meets their links.
 #[tactic(auto, using(crate::proofs::RanSteps::nothing_begun))]
-pub(crate) fn gather<
-    's,
-    E,
-    R: Wait + Threads + Sync,
-    G: Gate,
-    P: Permit,
-    S: Source + Send + Drop + 's,
-    W: Sink,
->(
+pub(crate) fn gather<'s, E, R: Runtime, G: Gate, P: Permit, S: Input + 's, W: Sink>(
     site: &Site<'s, '_, E, R, G, P>,
     feed: Feed,
     out: BatchSender<Pair>,

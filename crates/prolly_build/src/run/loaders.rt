@@ -5,29 +5,20 @@ ghost use Rattle.prolly_build.specs.Ran.{HandsOn, IsUnsent, AreLoaded};
 use crate::end::halt::{Halt, close_all, refuse};
 use crate::run::lists::{pop_first, push_first};
 use crate::run::writer::{Wrote, write_all};
+use crate::start::bounds::{Input, Runtime};
 use crate::start::loaders::start_loader;
 use crate::start::permit::Permit;
 use crate::start::site::Site;
 use prolly_chunk::ChunkEvent;
 use prolly_entry::Record;
-use prolly_file::{Sink, Source};
+use prolly_file::Sink;
 use prolly_link::{BatchReceiver, BatchSender, ClosedBatch};
 use prolly_load::Loaded;
 use prolly_stage::Gate;
-use std::sync::Wait;
-use std::thread::Threads;
 
 /// Starts a loader for each source, from file number `file` on, then writes, and joins them.
 #[tactic(auto, using(crate::proofs::RanSteps::nothing_begun))]
-pub(crate) fn load_all<
-    's,
-    E,
-    R: Wait + Threads + Sync,
-    G: Gate,
-    P: Permit,
-    S: Source + Send + Drop + 's,
-    W: Sink,
->(
+pub(crate) fn load_all<'s, E, R: Runtime, G: Gate, P: Permit, S: Input + 's, W: Sink>(
     site: &Site<'s, '_, E, R, G, P>,
     file: u32,
     mut outs: Vec<BatchSender<Record>>,

@@ -10,29 +10,20 @@ use crate::run::lists::{fork_at, join_at};
 use crate::run::loaders::load_all;
 use crate::run::merger_place::place_of_merger;
 use crate::run::writer::Wrote;
+use crate::start::bounds::{Input, Runtime};
 use crate::start::mergers::{TwoEnds, start_two};
 use crate::start::permit::Permit;
 use crate::start::site::Site;
 use prolly_chunk::ChunkEvent;
 use prolly_entry::Record;
-use prolly_file::{Sink, Source};
+use prolly_file::Sink;
 use prolly_link::{BatchReceiver, BatchSender, ClosedBatch};
 use prolly_stage::Gate;
-use std::sync::Wait;
-use std::thread::Threads;
 
 /// Starts a merger of two for each fork, the last one first, then loads and writes, joins the
 /// mergers, and meets the links into them. The outputs are those that feed the last merger.
 #[tactic(auto, using(crate::proofs::RanSteps::nothing_begun))]
-pub(crate) fn merge_tree<
-    's,
-    E,
-    R: Wait + Threads + Sync,
-    G: Gate,
-    P: Permit,
-    S: Source + Send + Drop + 's,
-    W: Sink,
->(
+pub(crate) fn merge_tree<'s, E, R: Runtime, G: Gate, P: Permit, S: Input + 's, W: Sink>(
     site: &Site<'s, '_, E, R, G, P>,
     mut forks: Vec<Fork>,
     mut outs: Vec<BatchSender<Record>>,

@@ -8,16 +8,15 @@ use crate::links::feed::Feed;
 use crate::links::link::{NewLink, meet};
 use crate::run::last_merger::{Gathered, gather};
 use crate::run::writer::Wrote;
+use crate::start::bounds::{Input, Runtime};
 use crate::start::permit::Permit;
 use crate::start::site::Site;
 use crate::start::stages::{StageEnds, start_leaves, start_nodes};
 use prolly_chunk::ChunkEvent;
 use prolly_entry::Pair;
-use prolly_file::{Sink, Source};
+use prolly_file::Sink;
 use prolly_link::{BatchReceiver, BatchSender, ClosedBatch};
 use prolly_stage::Gate;
-use std::sync::Wait;
-use std::thread::Threads;
 
 /// What the workers up to a stage gave back: its closed output, how many pairs the last merger
 /// sent, and what the writer gave.
@@ -31,15 +30,7 @@ pub(crate) struct Ran {
 /// Starts the stage of the leaves, then all workers below it, writes, joins it, and meets the link
 /// into it.
 #[tactic(auto, using(crate::proofs::RanSteps::nothing_begun))]
-fn run_from_leaves<
-    's,
-    E,
-    R: Wait + Threads + Sync,
-    G: Gate,
-    P: Permit,
-    S: Source + Send + Drop + 's,
-    W: Sink,
->(
+fn run_from_leaves<'s, E, R: Runtime, G: Gate, P: Permit, S: Input + 's, W: Sink>(
     site: &Site<'s, '_, E, R, G, P>,
     pairs: NewLink<Pair>,
     feed: Feed,
@@ -76,15 +67,7 @@ fn run_from_leaves<
 /// writes, joins the stages, and meets the links into them. The output is that of the highest
 /// stage, whose level is the number of the links.
 #[tactic(auto, using(crate::proofs::RanSteps::nothing_begun))]
-pub(crate) fn run_from_top<
-    's,
-    E,
-    R: Wait + Threads + Sync,
-    G: Gate,
-    P: Permit,
-    S: Source + Send + Drop + 's,
-    W: Sink,
->(
+pub(crate) fn run_from_top<'s, E, R: Runtime, G: Gate, P: Permit, S: Input + 's, W: Sink>(
     site: &Site<'s, '_, E, R, G, P>,
     mut events: Vec<NewLink<ChunkEvent>>,
     pairs: NewLink<Pair>,
