@@ -14,8 +14,12 @@ pub mod FrameBytes
 pub mod EndBytes
 -- Entries of a chunk, read one after another.
 pub mod EntrySteps
+-- Entries that bytes spell, read one after another.
+pub mod EntryLists
 -- The pairs of a leaf, read one after another.
 pub mod LeafPairs
+-- The children of a node, read one after another.
+pub mod NodeChildren
 -- Faults, and want of memory.
 pub mod Refusals
 -- Testing the chunks of a file one after another.

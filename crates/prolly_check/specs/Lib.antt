@@ -8,6 +8,8 @@ pub mod Frames
 pub mod Spans
 -- The entries that chunks hold.
 pub mod Entries
+-- Children of a node, as they are read.
+pub mod Children
 -- Refusals of the checker.
 pub mod Refusal
 -- Chunks that are a level and whole lawful entries of that level's kind.
