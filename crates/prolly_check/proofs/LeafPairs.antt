@@ -7,14 +7,10 @@ use Rattle.prolly_entry.specs.Front.{NoPairAt}
 use Rattle.prolly_entry.specs.Pair.{Pair, IsPair}
 use Rattle.prolly_entry.specs.Reading.{key_length, value_length}
 use Rattle.prolly_entry.specs.Spelling.{key_spelling, value_spelling, pair_spelling}
-use Rattle.prolly_entry.specs.Tree.{Tree, pairs_below, bytes_of}
-use Rattle.prolly_entry.specs.declared.version.Version.{Version}
 use Rattle.prolly_entry.proofs.FrontBytes.{numbers, key_size}
 use Rattle.prolly_entry.proofs.Spellings.{pair_spellings_apart}
 use Rattle.prolly_check.specs.Entries.{IsLeaf, Holds, AllHold, BeginsWith, entries_in, first_pair, behind_pair, pairs_in}
-use Rattle.prolly_check.specs.Spans.{chunk_in, chunks_in}
-use Rattle.prolly_check.specs.Whole.{IsSomeLeaf, IsReadable}
-use Rattle.prolly_check.specs.declared.frames.Span.{Span}
+use Rattle.prolly_check.specs.Whole.{IsSomeLeaf}
 use Rattle.prolly_check.proofs.EntryLists.{AreEntries, AreApart, one_more, one_less, nothing_left, Shrinks, Reads, reads_on, reads_all, drop_front}
 
 -- ---- the pairs that entries spell
@@ -78,27 +74,3 @@ next_pair entries p rest b = reads_on first_pair behind_pair pair_shrinks entrie
 pub no_next : (entries : List ℕ) → NoPairAt entries → IsSomeLeaf entries → pairs_in entries ≡ []
 unfolding pairs_in
 no_next entries none l = ap (entries_in first_pair behind_pair) (leaf_left entries none l)
-
--- ---- the pairs of a tree's chunk
-
-pub tree_readable : (version : Version) (level : ℕ) (t : Tree level) → AllByRecursion IsPair (pairs_below level t) → IsReadable (bytes_of version level t)
-tree_readable version zero leaf h = record { pairs = leaf; is = record { is = refl; lawful = h } }
-tree_readable version (suc level) children h = tt
-
--- ---- the pairs of the chunks of a file
-
-pub holds_readable : (version : Version) (chunk : List ℕ) (held : List Pair) → Holds version chunk held → IsReadable chunk
-holds_readable version [] held h = absurd h
-holds_readable version (zero ∷ entries) held h = record { pairs = held; is = h }
-holds_readable version (suc level ∷ entries) held h = tt
-
-pub all_readable : (version : Version) (chunks : List (List ℕ)) (lists : List (List Pair)) → AllHold version chunks lists → AllByRecursion IsReadable chunks
-all_readable version [] lists h = tt
-all_readable version (chunk ∷ chunks) [] h = absurd h
-all_readable version (chunk ∷ chunks) (held ∷ lists) h = (holds_readable version chunk held h.0, all_readable version chunks lists h.1)
-
-pub readable_at : (bytes : List ℕ) (spans : List Span) (number : ℕ) (other : Span) → number < length spans → AllByRecursion IsReadable (chunks_in bytes spans) → IsReadable (chunk_in bytes (get_or spans number other))
-readable_at bytes [] number other h all = absurd (omega arith)
-readable_at bytes (s ∷ spans) zero other h all = all.0
-readable_at bytes (s ∷ spans) (suc number) other h all =
-    let h' : suc number < suc (length spans) = h in readable_at bytes spans number other (omega arith) all.1

@@ -4,15 +4,14 @@ ghost use Rattle.std.specs.Prelude.{IfSome, IfNone, MatchOption};
 ghost use Rattle.prolly_entry.specs.Front.{NoPairAt};
 ghost use Rattle.prolly_entry.specs.Pair.{Pair as PairValue, IsPair};
 ghost use Rattle.prolly_entry.specs.Spelling.{pair_spelling};
-ghost use Rattle.prolly_entry.specs.declared.version.Version.{Version};
-ghost use Rattle.prolly_check.specs.Entries.{IsLeaf, Holds, BeginsWith};
-ghost use Rattle.prolly_check.specs.Whole.{IsSomeLeaf, IsReadable};
+ghost use Rattle.prolly_check.specs.Entries.{IsLeaf, BeginsWith, pairs_in};
+ghost use Rattle.prolly_check.specs.Whole.{IsSomeLeaf};
 
 use prolly_entry::{Front, front_pair};
 use std::marker::Model;
 
 /// The first byte of a leaf: its level.
-const LEAF: u8 = 0;
+pub(crate) const LEAF: u8 = 0;
 
 /// Where a key begins in its entry, behind its length.
 const KEY_START: usize = 2;
@@ -69,9 +68,9 @@ impl<'a> Model for Pairs<'a> {
 
 impl<'a> Pairs<'a> {
     /// The pairs of the entries of a leaf.
-    fn new(entries: &'a [u8]) -> Pairs<'a>
+    pub(crate) fn new(entries: &'a [u8]) -> Pairs<'a>
         requires { IsSomeLeaf entries.now }
-        ensures { (pairs : List PairValue) → IsLeaf entries.now pairs → result ≡ pairs }
+        ensures { result ≡ pairs_in entries.now }
     {
         Pairs { entries }
     }
@@ -87,19 +86,4 @@ impl<'a> Pairs<'a> {
         self.entries = rest;
         Some((key, value))
     }
-}
-
-/// The pairs of a chunk that was tested. A node has none.
-pub(crate) fn pairs_of(chunk: &[u8]) -> Pairs<'_>
-    requires { IsReadable chunk.now }
-    ensures { (version : Version) (held : List PairValue) → Holds version chunk.now held →
-        result ≡ held }
-{
-    if chunk.len() == 0 {
-        return Pairs::new(&[]);
-    }
-    if chunk[0] != LEAF {
-        return Pairs::new(&[]);
-    }
-    Pairs::new(&chunk[1..])
 }
