@@ -4,7 +4,6 @@ use Rattle.std.specs.Prelude.{slice_index}
 use Rattle.std.specs.BTreeMap.{BTreeMap}
 use Rattle.prolly_entry.specs.declared.version.Version.{Version}
 use Rattle.prolly_entry.specs.declared.reference.Ref.{Ref}
-use Rattle.prolly_entry.specs.Pair.{Pair}
 use Rattle.prolly_entry.specs.Overlay.{or_else}
 use Rattle.prolly_entry.proofs.Overlays.{or_assoc}
 use Rattle.prolly_entry.proofs.Parts.{flat}
@@ -14,7 +13,7 @@ use Rattle.prolly_check.specs.Content.{Content}
 use Rattle.prolly_check.specs.Header.{header_tests, header_fault, version_of}
 use Rattle.prolly_check.specs.Frames.{has_no_frame, ending_of, IsFramed}
 use Rattle.prolly_check.specs.Spans.{chunks_in, FramesTo}
-use Rattle.prolly_check.specs.Entries.{AllHold, IsBad}
+use Rattle.prolly_check.specs.Entries.{IsBad}
 use Rattle.prolly_check.specs.Whole.{AreWhole}
 use Rattle.prolly_check.specs.Judged.{order_fault, difference, end_fault, reuse, chunk_bytes, ending_for, or_content, judged}
 use Rattle.prolly_check.specs.Canonical.{canonical_fault, Says}

@@ -1,15 +1,15 @@
 -- The pairs that chunks hold.
-use Rattle.std.proofs.Common.{◌≡◌, ℕ, zero, suc, ◌<◌, List, [], ◌∷◌, ◌++◌, length, map, get_or, refl, sym, ap, ◌∙◌, subst, arith}
+use Rattle.std.proofs.Common.{◌≡◌, ℕ, zero, suc, ◌<◌, List, [], ◌∷◌, ◌++◌, length, map, get_or, refl, sym, ap, ◌∙◌, arith}
 use Rattle.std.specs.List.{flat_map, AllByRecursion}
 use Rattle.prolly_entry.proofs.Parts.{flat}
 use Rattle.prolly_entry.specs.Pair.{Pair, IsPair}
-use Rattle.prolly_entry.specs.Tree.{Tree, pairs_below, bytes_of}
+use Rattle.prolly_entry.specs.Tree.{Tree, pairs_below}
 use Rattle.prolly_entry.specs.Chunk.{post_order}
 use Rattle.prolly_entry.specs.declared.version.Version.{Version}
 use Rattle.prolly_check.specs.Entries.{Child, Holds, AllHold, pairs_in}
 use Rattle.prolly_check.specs.Held.{pairs_held}
 use Rattle.prolly_check.specs.Kinds.{kind_of}
-use Rattle.prolly_check.specs.Whole.{IsWhole, AreWhole}
+use Rattle.prolly_check.specs.Whole.{IsWhole}
 use Rattle.prolly_check.specs.declared.entries.Entries.{Entries}
 use Rattle.prolly_check.specs.declared.entries.Entries.TheVariants.{Leaf, Node}
 use Rattle.prolly_check.proofs.Acceptance.{own_lists, flat_all, own_flat, bytes_in, hold_all, hold_post}

@@ -1,15 +1,14 @@
 -- The pairs of a leaf, read one after another.
-use Rattle.std.proofs.Common.{◌≡◌, ℕ, zero, suc, ◌+◌, ◌<◌, ◌≤◌, List, [], ◌∷◌, ◌++◌, length, take, drop, get_or, Some, refl, sym, ap, ◌∙◌, subst, arith, append_assoc, length-drop}
+use Rattle.std.proofs.Common.{◌≡◌, ℕ, ◌+◌, List, [], ◌∷◌, ◌++◌, length, take, drop, Some, refl, sym, ap, ◌∙◌, arith, append_assoc, length-drop}
 use Rattle.std.specs.Int.{w32, to_be_bytes}
-use Rattle.std.specs.List.{AllByRecursion}
 use Rattle.std.proofs.lemmas.List.{length-append, take_at, drop-drop, map-id}
 use Rattle.prolly_entry.specs.Front.{NoPairAt}
 use Rattle.prolly_entry.specs.Pair.{Pair, IsPair}
 use Rattle.prolly_entry.specs.Reading.{key_length, value_length}
-use Rattle.prolly_entry.specs.Spelling.{key_spelling, value_spelling, pair_spelling}
+use Rattle.prolly_entry.specs.Spelling.{key_spelling, pair_spelling}
 use Rattle.prolly_entry.proofs.FrontBytes.{numbers, key_size}
 use Rattle.prolly_entry.proofs.Spellings.{pair_spellings_apart}
-use Rattle.prolly_check.specs.Entries.{IsLeaf, Holds, AllHold, BeginsWith, entries_in, first_pair, behind_pair, pairs_in}
+use Rattle.prolly_check.specs.Entries.{IsLeaf, BeginsWith, entries_in, first_pair, behind_pair, pairs_in}
 use Rattle.prolly_check.specs.Whole.{IsSomeLeaf}
 use Rattle.prolly_check.proofs.EntryLists.{AreEntries, AreApart, one_more, one_less, nothing_left, Shrinks, Reads, reads_on, reads_all, drop_front}
 

@@ -1,6 +1,5 @@
 -- The children of a node, read one after another.
-use Rattle.std.proofs.Common.{◌≡◌, ℕ, ◌+◌, ◌<◌, ◌≤◌, List, [], ◌∷◌, ◌++◌, length, take, drop, refl, sym, ap, ◌∙◌, arith, append_assoc, length-drop}
-use Rattle.std.specs.List.{AllByRecursion}
+use Rattle.std.proofs.Common.{◌≡◌, ℕ, ◌+◌, List, [], ◌∷◌, ◌++◌, length, take, drop, refl, sym, ap, ◌∙◌, arith, append_assoc, length-drop}
 use Rattle.std.proofs.lemmas.List.{length-append, take_at, drop-drop}
 use Rattle.prolly_entry.specs.ChildAt.{tail_length, key_at, reference_at, count_at, IsChildAt, NoChildAt}
 use Rattle.prolly_entry.specs.Reading.{key_length}
@@ -8,7 +7,7 @@ use Rattle.prolly_entry.specs.Spelling.{key_spelling, count_spelling}
 use Rattle.prolly_entry.specs.declared.child.ChildAt.{ChildAt}
 use Rattle.prolly_entry.specs.declared.version.Version.{Version}
 use Rattle.prolly_entry.specs.declared.version.Version.TheVariants.{One, Two}
-use Rattle.prolly_entry.proofs.FrontBytes.{found_key, key_there, after_two, key_size}
+use Rattle.prolly_entry.proofs.FrontBytes.{found_key, key_there, after_two}
 use Rattle.prolly_entry.proofs.Spellings.{child_spellings_apart}
 use Rattle.prolly_check.specs.Entries.{Child, IsChild, IsNode, BeginsWith, entry_of, entries_in, first_count, first_child, behind_child, children_in}
 use Rattle.prolly_check.proofs.EntryLists.{AreEntries, AreApart, one_more, one_less, nothing_left, Shrinks, Reads, reads_on, drop_front}

@@ -1,4 +1,3 @@
-use Rattle.std.proofs.Common.{sym, ◌∙◌}
 use Rattle.prolly_entry.proofs.RecordSteps.{rest_is}
 use Rattle.prolly_check.proofs.NodeChildren.{child_found}
 use Rattle.prolly_check.proofs.node.split_child.Goals as goal

@@ -1,7 +1,7 @@
 use Rattle.std.proofs.Common.{sym, ap, ◌∙◌, subst, arith}
 use Rattle.std.specs.Option.{option_copied}
 use Rattle.prolly_check.specs.Order.{rises_behind, RisesTo}
-use Rattle.prolly_check.proofs.OrderSteps.{order_begins, order_goes_on, order_falls, order_ends}
+use Rattle.prolly_check.proofs.OrderSteps.{order_begins, order_goes_on, order_falls}
 use Rattle.prolly_check.proofs.order.test_order.Goals as goal
 
 pub loop-number-init : goal.loop-number-init

@@ -1,4 +1,4 @@
-use Rattle.std.proofs.Common.{◌∙◌, sym, subst}
+use Rattle.std.proofs.Common.{sym, subst}
 use Rattle.prolly_check.specs.Whole.{AreWhole, IsWhole}
 use Rattle.prolly_check.proofs.HeldPairs.{each_whole}
 use Rattle.prolly_check.proofs.file_chunks.FileChunks.pairs.Goals as goal
