@@ -4,7 +4,6 @@ use Rattle.std.specs.Prelude.{slice_index}
 use Rattle.std.specs.BTreeMap.{BTreeMap}
 use Rattle.prolly_entry.specs.declared.version.Version.{Version}
 use Rattle.prolly_entry.specs.declared.reference.Ref.{Ref}
-use Rattle.prolly_entry.specs.Pair.{Pair}
 use Rattle.prolly_entry.specs.Overlay.{or_else}
 use Rattle.prolly_entry.proofs.Overlays.{or_assoc}
 use Rattle.prolly_entry.proofs.Parts.{flat}
@@ -14,17 +13,18 @@ use Rattle.prolly_check.specs.Content.{Content}
 use Rattle.prolly_check.specs.Header.{header_tests, header_fault, version_of}
 use Rattle.prolly_check.specs.Frames.{has_no_frame, ending_of, IsFramed}
 use Rattle.prolly_check.specs.Spans.{chunks_in, FramesTo}
-use Rattle.prolly_check.specs.Entries.{AllHold, IsBad}
+use Rattle.prolly_check.specs.Entries.{IsBad}
 use Rattle.prolly_check.specs.Whole.{AreWhole}
 use Rattle.prolly_check.specs.Judged.{order_fault, difference, end_fault, reuse, chunk_bytes, ending_for, or_content, judged}
-use Rattle.prolly_check.specs.Canonical.{canonical_fault}
+use Rattle.prolly_check.specs.Canonical.{canonical_fault, Says}
 use Rattle.prolly_check.specs.Index.{IsIndex}
-use Rattle.prolly_check.specs.Checked.{IsChecked}
-use Rattle.prolly_check.specs.Verdict.{FramesVerdict, HeaderVerdict, IsVerdict}
+use Rattle.prolly_check.specs.Checked.{IsChecked, content_in, chunks_of}
+use Rattle.prolly_check.specs.Verdict.{FramesVerdict, HeaderVerdict, IsVerdict, IsFileOf}
 use Rattle.prolly_check.proofs.Verdicts.{header_ok, ending_ok, difference_ok, none_left, accepted_is_file}
 use Rattle.prolly_check.specs.Refusal.{UnlessMemory}
 use Rattle.prolly_check.proofs.Refusals.{named, still_refused}
 use Rattle.prolly_check.proofs.CanonicalSteps.{count_in}
+use Rattle.prolly_check.proofs.HeldPairs.{lists_are, flat_is}
 
 pub refused_header : (bytes : List ℕ) (fault : CheckFault) → header_fault header_tests bytes ≡ Some fault → IsVerdict bytes (Err fault)
 refused_header bytes fault e = subst (λ o. HeaderVerdict o bytes (Err fault)) (sym e) refl
@@ -98,11 +98,12 @@ module _ (bytes : List ℕ) (version : Version) (bits : ℕ) (spans : List Span)
         checked index e indexed =
             let s = none_left (order_fault [] 0 whole.lists) (or_else (difference 0 (chunk_bytes version bits (flat whole.lists)) cs) (end_fault ending (ending_for version bits (flat whole.lists)))) canonical in
             let d = none_left (difference 0 (chunk_bytes version bits (flat whole.lists)) cs) (end_fault ending (ending_for version bits (flat whole.lists))) s.1 in
+            let same : it ≡ content_in bytes version spans =
+            ap (λ b. record { version = version; bits = b; pairs = flat whole.lists }) bits_are
+            ∙ ap (λ ps. record { version = version; bits = slice_index bytes 5; pairs = ps }) (flat_is version cs whole.lists whole.hold) in
             record {
-              content = it;
-              is = accepted_is_file bytes it (judged_so (Ok it) (sym (in_order ∙ ap (λ o. or_content it (or_else o (reuse [] 0 cs))) canonical ∙ ap (or_content it) e)));
-              version_is = refl;
-              chunks_are = sym (difference_ok 0 (chunk_bytes version bits (flat whole.lists)) cs d.0);
+              is = subst (IsFileOf bytes) same (accepted_is_file bytes it (judged_so (Ok it) (sym (in_order ∙ ap (λ o. or_content it (or_else o (reuse [] 0 cs))) canonical ∙ ap (or_content it) e))));
+              chunks_are = subst (λ content. cs ≡ chunks_of content) same (sym (difference_ok 0 (chunk_bytes version bits (flat whole.lists)) cs d.0));
               within = frames.within;
               indexed = indexed;
             }
@@ -144,22 +145,22 @@ at_read bytes version bits spans place b ended spans' fault e h =
 pub whole_as : (bytes : List ℕ) (version : Version) (spans spans' : List Span) → spans' ≡ spans → AreWhole version (chunks_in bytes spans') → AreWhole version (chunks_in bytes spans)
 whole_as bytes version spans spans' e h = subst (λ s. AreWhole version (chunks_in bytes s)) e h
 
--- what the test against the pairs' file says of the lists that the chunks hold
-abbrev pub Says : List ℕ → Version → ℕ → List Span → ℕ → Option CheckFault → Type 0
-Says bytes version bits spans place o = (lists : List (List Pair)) (ending : List ℕ) → AllHold version (chunks_in bytes spans) lists → drop place bytes ≡ 0x45 ∷ ending →
-    canonical_fault version bits (chunks_in bytes spans) ending lists ≡ o
-
 module _ (bytes : List ℕ) (version : Version) (bits bits' : ℕ) (spans : List Span) (place : ℕ) (b : Begun bytes version bits spans place)
     (ended : ending_of (length spans) (drop place bytes) ≡ Ok (drop 1 (drop place bytes))) (whole : AreWhole version (chunks_in bytes spans)) (same : bits' ≡ bits) where
-  says : (o : Option CheckFault) → Says bytes version bits' spans place o → canonical_fault version bits (chunks_in bytes spans) (drop 1 (drop place bytes)) whole.lists ≡ o
-  says o h = subst (λ q. Says bytes version q spans place o) same h whole.lists (drop 1 (drop place bytes)) whole.hold (ending_ok (length spans) (drop place bytes) (drop 1 (drop place bytes)) ended)
+  abbrev Told : Option CheckFault → Type 0
+  Told o = Says version bits' (chunks_in bytes spans) (drop place bytes) o
 
-  pub at_canonical : (fault : CheckFault) → UnlessMemory (λ fault. Says bytes version bits' spans place (Some fault)) fault → Refused bytes fault
+  says : (o : Option CheckFault) → Told o → canonical_fault version bits (chunks_in bytes spans) (drop 1 (drop place bytes)) whole.lists ≡ o
+  says o h =
+      ap (canonical_fault version bits (chunks_in bytes spans) (drop 1 (drop place bytes))) (lists_are version (chunks_in bytes spans) whole.lists whole.hold)
+      ∙ subst (λ q. Says version q (chunks_in bytes spans) (drop place bytes) o) same h (drop 1 (drop place bytes)) (ending_ok (length spans) (drop place bytes) (drop 1 (drop place bytes)) ended)
+
+  pub at_canonical : (fault : CheckFault) → UnlessMemory (λ fault. Told (Some fault)) fault → Refused bytes fault
   at_canonical fault h =
-      still_refused (λ fault. Says bytes version bits' spans place (Some fault)) (λ fault. IsVerdict bytes (Err fault))
+      still_refused (λ fault. Told (Some fault)) (λ fault. IsVerdict bytes (Err fault))
       (λ f h. refused_canonical bytes version bits spans place b.header b.version_is b.bits_are b.frames b.all (drop 1 (drop place bytes)) ended whole f (says (Some f) h)) fault h
 
-  module _ (canonical : Says bytes version bits' spans place None) (spans' : List Span) (e : spans' ≡ spans) where
+  module _ (canonical : Told None) (spans' : List Span) (e : spans' ≡ spans) where
     pub at_references : (fault : CheckFault) → UnlessMemory (λ fault. reuse [] 0 (chunks_in bytes spans') ≡ Some fault) fault → Refused bytes fault
     at_references fault h =
         still_refused (λ fault. reuse [] 0 (chunks_in bytes spans) ≡ Some fault) (λ fault. IsVerdict bytes (Err fault))

@@ -1,28 +1,20 @@
 -- What is known of a file that was accepted.
-use Rattle.std.proofs.Common.{◌≡◌, ℕ, zero, suc, ◌-◌, ◌^◌, ◌<◌, ◌≤◌, List, [], ◌∷◌, ◌++◌, length, map, get_or, slice_index, Result, Ok, Err, inl, inr, ◌⊎◌, refl, sym, ap, ◌∙◌, subst, arith}
-use Rattle.std.specs.List.{flat_map, AllByRecursion}
-use Rattle.std.specs.BTreeMap.{BTreeMap}
+use Rattle.std.proofs.Common.{◌≡◌, ℕ, zero, suc, ◌-◌, ◌^◌, ◌<◌, ◌≤◌, List, [], ◌∷◌, ◌++◌, length, map, get_or, Result, Ok, Err, inl, inr, ◌⊎◌, refl, ap, ◌∙◌, arith}
+use Rattle.std.specs.List.{flat_map}
 use Rattle.std.proofs.lemmas.List.{length-append}
 use Rattle.prolly_entry.specs.declared.version.Version.{Version}
-use Rattle.prolly_entry.specs.declared.reference.Ref.{Ref}
 use Rattle.prolly_entry.specs.Cut.{sha512_cut}
 use Rattle.prolly_entry.specs.Pair.{Pair}
 use Rattle.prolly_entry.specs.Tree.{Tree, bytes_of, tree_of}
 use Rattle.prolly_entry.specs.Chunk.{Chunk, chunk_of, chunks, post_order}
 use Rattle.prolly_check.specs.declared.fault.CheckFault.{CheckFault}
 use Rattle.prolly_check.specs.declared.fault.CheckFault.TheVariants as faults
-use Rattle.prolly_check.specs.declared.frames.Span.{Span}
 use Rattle.prolly_check.specs.Content.{Content}
 use Rattle.prolly_check.specs.Check.{IsRefusal}
-use Rattle.prolly_check.specs.Checked.{IsChecked}
-use Rattle.prolly_check.specs.Index.{IsIndex}
 use Rattle.prolly_check.specs.Judged.{chunk_bytes}
-use Rattle.prolly_check.specs.Root.{root_bytes}
-use Rattle.prolly_check.specs.Spans.{chunks_in, IsWithin}
 use Rattle.prolly_check.specs.Verdict.{IsVerdict, IsFileOf}
 use Rattle.prolly_check.proofs.Acceptance.{file_is_accepted}
 use Rattle.prolly_check.proofs.OneVerdict.{one_verdict}
-use Rattle.prolly_check.proofs.CanonicalSteps.{count_in}
 
 ok_same : (a b : Content) → ◌≡◌ {A = Result Content CheckFault} (Ok a) (Ok b) → a ≡ b
 ok_same a b e = cc
@@ -34,27 +26,11 @@ ok_err a f e = cc
 pub one_content : (bytes : List ℕ) (a b : Content) → length bytes < 2 ^ 64 → IsFileOf bytes a → IsFileOf bytes b → a ≡ b
 one_content bytes a b short f g = ok_same a b (one_verdict bytes (Ok a) (Ok b) (file_is_accepted bytes a short f) (file_is_accepted bytes b short g))
 
--- the same, of the content that is named
-pub record IsCheckedAs (bytes : List ℕ) (version : Version) (spans : List Span) (index : BTreeMap Ref ℕ) (content : Content) : Type 0 where
-  pub version_is : content.version ≡ version
-  pub chunks_are : chunks_in bytes spans ≡ chunk_bytes content.version content.bits content.pairs
-  pub within : AllByRecursion (IsWithin bytes) spans
-  pub indexed : IsIndex index (chunks_in bytes spans)
-
-pub checked_as : (bytes : List ℕ) (version : Version) (spans : List Span) (index : BTreeMap Ref ℕ) (content : Content) → length bytes < 2 ^ 64 → IsChecked bytes version spans index → IsFileOf bytes content →
-    IsCheckedAs bytes version spans index content
-checked_as bytes version spans index content short t f = subst (IsCheckedAs bytes version spans index) (one_content bytes t.content content short t.is f)
-    (record { version_is = t.version_is; chunks_are = t.chunks_are; within = t.within; indexed = t.indexed })
-
 -- ---- the number of chunks, and the last one
 
 pub count_map : (cs : List Chunk) → length (map (λ c. c.bytes) cs) ≡ length cs
 count_map [] = refl
 count_map (c ∷ cs) = ap suc (count_map cs)
-
-pub chunk_count : (bytes : List ℕ) (version : Version) (spans : List Span) (index : BTreeMap Ref ℕ) (content : Content) → IsCheckedAs bytes version spans index content →
-    length spans ≡ length (chunks (sha512_cut content.bits) content.version content.pairs)
-chunk_count bytes version spans index content t = sym (count_in bytes spans) ∙ ap length t.chunks_are ∙ count_map (chunks (sha512_cut content.bits) content.version content.pairs)
 
 record LastIs (version : Version) (level : ℕ) (t : Tree level) : Type 0 where
   before : List Chunk
@@ -86,25 +62,7 @@ chunks_last version bits pairs =
     ap (λ n. get_or (chunk_bytes version bits pairs) (n - 1) []) (count_map (chunks (sha512_cut bits) version pairs))
     ∙ ap (λ cs. get_or (map (λ c. c.bytes) cs) (length cs - 1) []) l.is ∙ last_bytes l.before (chunk_of version tree.level tree.tree)
 
-pub some_chunk : (bytes : List ℕ) (version : Version) (spans : List Span) (index : BTreeMap Ref ℕ) (content : Content) → IsCheckedAs bytes version spans index content → 0 < length spans
-some_chunk bytes version spans index content t =
-    let tree = tree_of (sha512_cut content.bits) content.version content.pairs in
-    let l = last_is content.version tree.level tree.tree in
-    omega (arith, chunk_count bytes version spans index content t, ap length l.is, length-append l.before (chunk_of content.version tree.level tree.tree ∷ []))
-
-pub last_chunk : (bytes : List ℕ) (version : Version) (spans : List Span) (index : BTreeMap Ref ℕ) (content : Content) → IsCheckedAs bytes version spans index content →
-    get_or (chunks_in bytes spans) (length spans - 1) [] ≡ root_bytes content
-last_chunk bytes version spans index content t =
-    let tree = tree_of (sha512_cut content.bits) content.version content.pairs in
-    let l = last_is content.version tree.level tree.tree in
-    ap (λ cs. get_or cs (length spans - 1) []) t.chunks_are
-    ∙ ap (λ n. get_or (chunk_bytes content.version content.bits content.pairs) (n - 1) []) (chunk_count bytes version spans index content t)
-    ∙ ap (λ cs. get_or (map (λ c. c.bytes) cs) (length cs - 1) []) l.is ∙ last_bytes l.before (chunk_of content.version tree.level tree.tree)
-
--- the last byte of the header
-pub bits_are : (bytes : List ℕ) (content : Content) → IsFileOf bytes content → slice_index bytes 5 ≡ content.bits
-bits_are bytes content f = ap (λ b. slice_index b 5) f.is
-
+-- the header is there
 pub header_there : (bytes : List ℕ) (content : Content) → IsFileOf bytes content → 6 ≤ length bytes
 header_there bytes content f = omega (arith, ap length f.is)
 

@@ -24,7 +24,7 @@ from_rises : (p : Pair) (ps : List Pair) → Above p.key ps → Rises ps → Ris
 from_rises p [] h k = tt
 from_rises p (q ∷ ps) h k = (h.0, from_rises q ps k.0 k.1)
 
-rising_is : (ps : List Pair) → Rises ps → Rising (keys_in ps)
+pub rising_is : (ps : List Pair) → Rises ps → Rising (keys_in ps)
 rising_is [] h = tt
 rising_is (p ∷ ps) h = from_rises p ps h.0 h.1
 

@@ -12,18 +12,20 @@ pub mod HeaderBytes
 pub mod FrameBytes
 -- What follows the last frame.
 pub mod EndBytes
--- Entries of a chunk, read one after another.
-pub mod EntrySteps
+-- Entries that bytes spell, read one after another.
+pub mod EntryLists
 -- The pairs of a leaf, read one after another.
 pub mod LeafPairs
+-- The children of a node, read one after another.
+pub mod NodeChildren
+-- The pairs that chunks hold.
+pub mod HeldPairs
 -- Faults, and want of memory.
 pub mod Refusals
 -- Testing the chunks of a file one after another.
 pub mod WholeSteps
 -- The tests against the file of the pairs.
 pub mod CanonicalSteps
--- The pairs that chunks hold, chunk by chunk.
-pub mod HeldSteps
 -- Reading the keys of a file one after another.
 pub mod OrderSteps
 -- An index, made chunk by chunk.
@@ -40,26 +42,22 @@ pub mod Lookups
 pub mod Descents
 -- Looking for a key in a leaf, pair by pair.
 pub mod FindSteps
--- Looking for the child to which a key leads, entry by entry.
-pub mod ChildSteps
--- A look-up from the root down, chunk by chunk.
-pub mod GetSteps
 -- The references of the chunks of a file, one after another.
 pub mod ReferenceSteps
--- Trees of a file, found by the references of their tops.
-pub mod References
 -- A file has no more pairs than bytes.
 pub mod FewPairs
--- Counting the pairs of a leaf and the children of a node, entry by entry.
+-- The chunks of a file that was checked, found by their numbers and their references.
+pub mod FileSteps
+-- The way down the tree of a file, chunk by chunk.
+pub mod WayDown
+-- The leaf that a key leads to.
+pub mod LeafSteps
+-- Going down to the pair of a number, by the counts.
 pub mod CountSteps
--- Going down to the pair of a number, chunk by chunk.
-pub mod NthSteps
 -- Lists of pairs from a key on.
 pub mod Scans
 -- Scanning a leaf pair by pair, and a file chunk by chunk.
 pub mod ScanSteps
--- Going down to the leaf at which a scan begins, chunk by chunk.
-pub mod StartSteps
 -- Events that pass levels of nodes, and the chunks of a file.
 pub mod Rebuilds
 -- Rebuilding the chunks of pairs.

@@ -1,18 +1,16 @@
 -- Reading the keys of a file one after another.
-use Rattle.std.proofs.Common.{◌≡◌, ℕ, suc, ◌+◌, ◌<◌, Bool, true, false, ◌&&◌, List, [], ◌∷◌, ◌++◌, length, drop, get_or, Option, Some, None, refl, sym, ap, ◌∙◌, arith}
+use Rattle.std.proofs.Common.{◌≡◌, ℕ, suc, ◌+◌, ◌<◌, ◌≤◌, Bool, true, false, ◌&&◌, List, [], ◌∷◌, ◌++◌, length, drop, map, get_or, Option, Some, None, refl, sym, ap, ◌∙◌, arith}
 use Rattle.std.specs.Ordering.{is_lt}
 use Rattle.std.proofs.lemmas.Bool.{cond-true, cond-false}
-use Rattle.prolly_entry.specs.declared.version.Version.{Version}
+use Rattle.std.proofs.Math.Seq.{drop-cons}
+use Rattle.std.proofs.lemmas.List.{drop_all}
 use Rattle.prolly_entry.specs.Keys.{key_order}
 use Rattle.prolly_entry.specs.Pair.{Pair}
 use Rattle.prolly_entry.specs.Position.{is_before}
 use Rattle.prolly_check.specs.declared.fault.CheckFault.TheVariants as faults
-use Rattle.prolly_check.specs.declared.frames.Span.{Span}
-use Rattle.prolly_check.specs.Entries.{Holds, AllHold}
+use Rattle.prolly_check.specs.Held.{pairs_held}
 use Rattle.prolly_check.specs.Judged.{is_rising, order_fault}
 use Rattle.prolly_check.specs.Order.{rises_behind, last_behind, RisesTo}
-use Rattle.prolly_check.specs.Spans.{chunk_in, chunks_in}
-use Rattle.prolly_check.proofs.HeldSteps.{held_at}
 
 -- ---- pairs behind pairs
 
@@ -67,47 +65,41 @@ module _ (first : Option (List ℕ)) (leaf : List Pair) (last : Option (List ℕ
 
 -- ---- over chunks
 
--- of the lists that the chunks hold, the rest is held from the number on, and the keys before it rise up to this one
-pub record ListsRise (version : Version) (chunks : List (List ℕ)) (last : Option (List ℕ)) (number : ℕ) (lists : List (List Pair)) : Type 0 where
+-- the keys of the chunks before the number rise up to this one
+pub record ChunksRise (chunks : List (List ℕ)) (last : Option (List ℕ)) (number : ℕ) : Type 0 where
   pub before : List Pair
-  pub rest : List (List Pair)
-  pub hold : AllHold version (drop number chunks) rest
   pub rising : is_rising before ≡ true
   pub last_is : last ≡ last_behind None before
-  pub same : order_fault [] 0 lists ≡ order_fault before number rest
-
-abbrev pub ChunksRise : List (List ℕ) → Option (List ℕ) → ℕ → Type 0
-ChunksRise chunks last number = (version : Version) (lists : List (List Pair)) → AllHold version chunks lists → ListsRise version chunks last number lists
+  pub same : order_fault [] 0 (map pairs_held chunks) ≡ order_fault before number (map pairs_held (drop number chunks))
 
 pub order_begins : (chunks : List (List ℕ)) → ChunksRise chunks None 0
-order_begins chunks version lists hold = record { before = []; rest = lists; hold = hold; rising = refl; last_is = refl; same = refl }
+order_begins chunks = record { before = []; rising = refl; last_is = refl; same = refl }
 
-module _ (bytes : List ℕ) (spans : List Span) (last : Option (List ℕ)) (number : ℕ) (all : ChunksRise (chunks_in bytes spans) last number)
-    (other : Span) (chunk : List ℕ) (within : number < length spans) (is : chunk ≡ chunk_in bytes (get_or spans number other)) where
-  pub order_goes_on : (new : Option (List ℕ)) → ((version : Version) (held : List Pair) → Holds version chunk held → RisesTo last held new) → ChunksRise (chunks_in bytes spans) new (number + 1)
-  order_goes_on new rises version lists hold =
-      let l = all version lists hold in
-      let f = held_at bytes spans number other chunk within is version l.rest l.hold in
-      let r = rises version f.held f.holds in
-      let next : suc number ≡ number + 1 = omega arith in
-      let rising : is_rising (l.before ++ f.held) ≡ true = rising_more l.before f.held l.rising ∙ ap (λ k. rises_behind k f.held) (sym l.last_is) ∙ r.rises in
-      record {
-        before = l.before ++ f.held;
-        rest = f.more;
-        hold = f.hold;
-        rising = rising;
-        last_is = r.last_is ∙ ap (λ k. last_behind k f.held) l.last_is ∙ sym (last_append None l.before f.held);
-        same = l.same ∙ ap (order_fault l.before number) f.is
-            ∙ cond-true (is_rising (l.before ++ f.held)) (order_fault (l.before ++ f.held) (suc number) f.more) (Some (faults.KeysOutOfOrder number)) rising
-            ∙ ap (λ n. order_fault (l.before ++ f.held) n f.more) next;
-      }
+module _ (chunks : List (List ℕ)) (last : Option (List ℕ)) (number : ℕ) (r : ChunksRise chunks last number) where
+  pub order_ends : length chunks ≤ number → order_fault [] 0 (map pairs_held chunks) ≡ None
+  order_ends h = r.same ∙ ap (λ cs. order_fault r.before number (map pairs_held cs)) (drop_all number chunks h)
 
-  pub order_falls : ((version : Version) (held : List Pair) → Holds version chunk held → rises_behind last held ≡ false) →
-      (version : Version) (lists : List (List Pair)) → AllHold version (chunks_in bytes spans) lists → order_fault [] 0 lists ≡ Some (faults.KeysOutOfOrder number)
-  order_falls falls version lists hold =
-      let l = all version lists hold in
-      let f = held_at bytes spans number other chunk within is version l.rest l.hold in
-      let not_rising : is_rising (l.before ++ f.held) ≡ false =
-      rising_more l.before f.held l.rising ∙ ap (λ k. rises_behind k f.held) (sym l.last_is) ∙ falls version f.held f.holds in
-      l.same ∙ ap (order_fault l.before number) f.is
-      ∙ cond-false (is_rising (l.before ++ f.held)) (order_fault (l.before ++ f.held) (suc number) f.more) (Some (faults.KeysOutOfOrder number)) not_rising
+  module _ (within : number < length chunks) where
+    abbrev held : List Pair
+    held = pairs_held (get_or chunks number [])
+
+    next : order_fault [] 0 (map pairs_held chunks) ≡ order_fault r.before number (held ∷ map pairs_held (drop (suc number) chunks))
+    next = r.same ∙ ap (λ cs. order_fault r.before number (map pairs_held cs)) (drop-cons chunks number [] within)
+
+    rising_is : is_rising (r.before ++ held) ≡ rises_behind last held
+    rising_is = rising_more r.before held r.rising ∙ ap (λ k. rises_behind k held) (sym r.last_is)
+
+    pub order_goes_on : (new : Option (List ℕ)) → RisesTo last held new → ChunksRise chunks new (number + 1)
+    order_goes_on new to =
+        let one : suc number ≡ number + 1 = omega arith in
+        record {
+          before = r.before ++ held;
+          rising = rising_is ∙ to.rises;
+          last_is = to.last_is ∙ ap (λ k. last_behind k held) r.last_is ∙ sym (last_append None r.before held);
+          same = next ∙ cond-true (is_rising (r.before ++ held)) (order_fault (r.before ++ held) (suc number) (map pairs_held (drop (suc number) chunks))) (Some (faults.KeysOutOfOrder number)) (rising_is ∙ to.rises)
+              ∙ ap (λ n. order_fault (r.before ++ held) n (map pairs_held (drop n chunks))) one;
+        }
+
+    pub order_falls : rises_behind last held ≡ false → order_fault [] 0 (map pairs_held chunks) ≡ Some (faults.KeysOutOfOrder number)
+    order_falls falls =
+        next ∙ cond-false (is_rising (r.before ++ held)) (order_fault (r.before ++ held) (suc number) (map pairs_held (drop (suc number) chunks))) (Some (faults.KeysOutOfOrder number)) (rising_is ∙ falls)

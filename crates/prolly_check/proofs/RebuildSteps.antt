@@ -5,15 +5,17 @@ use Rattle.prolly_entry.specs.Cut.{sha512_cut}
 use Rattle.prolly_entry.specs.Chunk.{Chunk}
 use Rattle.prolly_entry.specs.Events.{faulty, leaf_events}
 use Rattle.prolly_entry.specs.Pair.{Pair}
-use Rattle.prolly_check.specs.Entries.{Holds, AllHold}
-use Rattle.prolly_check.proofs.HeldSteps.{held_in, none_held}
-use Rattle.prolly_entry.proofs.Parts.{flat}
 use Rattle.prolly_entry.proofs.Prefixes.{fault_is_prefix}
 use Rattle.prolly_chunk.specs.LeafLevel.{LeafState, LeafBegins, LeafTakes}
 use Rattle.prolly_chunk.specs.NodeLevel.{NodeState, NodeBegins}
 use Rattle.prolly_check.specs.declared.fault.CheckFault.{CheckFault}
 use Rattle.prolly_check.specs.Rebuilt.{node_levels, sent_through, sent_of, AreBehind, AreBelow, AreFirst, AreUnused, IsBehind, DifferAs, DifferBy, PassesOn, FaultPassing}
+use Rattle.prolly_check.specs.Held.{pairs_held}
+use Rattle.prolly_check.specs.Taking.{HasTaken, Takes, FaultTaking}
+use Rattle.prolly_check.specs.declared.rebuild.Rebuild.{Rebuild}
 use Rattle.prolly_check.proofs.Rebuilds.{sent_differs_more, leaf_below}
+use Rattle.std.proofs.Math.Seq.{drop-cons}
+use Rattle.std.specs.List.{flat_map}
 use Rattle.std.specs.Option.{option_to_list}
 use Rattle.std.proofs.lemmas.List.{take_at, drop_all}
 
@@ -106,106 +108,47 @@ written old new n e f = take_at new (drop (length new) old) n (f ∙ sym e)
 pub same_size : (chunks : List (List ℕ)) (nodes nodes' : List (NodeState ℕ)) (event : Chunk) (number next : ℕ) → PassesOn chunks nodes nodes' 0 event number next → length nodes' ≡ length nodes
 same_size chunks nodes nodes' event number next passed = let q = passed [] nodes refl refl in ap length q.is ∙ q.size
 
--- ---- the pairs of a leaf
+-- ---- pairs behind pairs
 
--- of the pairs of a leaf the rest is left, and those before it were taken
-pub record Rebuilding (bits : ℕ) (version : Version) (chunks : List (List ℕ)) (pairs held rest : List Pair) (leaf : LeafState ℕ) (nodes : List (NodeState ℕ)) (number : ℕ) : Type 0 where
+-- of all pairs the rest is left, and those before it were taken
+pub record PartTaken (chunks : List (List ℕ)) (old new : Rebuild) (all rest : List Pair) : Type 0 where
   pub done : List Pair
-  pub is : held ≡ done ++ rest
-  pub behind : IsBehind bits version chunks (pairs ++ done) leaf nodes number
+  pub is : all ≡ done ++ rest
+  pub takes : Takes chunks old new done
 
--- whatever pairs came before
-abbrev pub LeafRebuilt : List (List ℕ) → List Pair → LeafState ℕ → List (NodeState ℕ) → ℕ → List Pair → LeafState ℕ → List (NodeState ℕ) → ℕ → Type 0
-LeafRebuilt chunks held leaf nodes number rest leaf' nodes' number' = (bits : ℕ) (version : Version) (pairs : List Pair) → IsBehind bits version chunks pairs leaf nodes number →
-    Rebuilding bits version chunks pairs held rest leaf' nodes' number'
+module _ (chunks : List (List ℕ)) (old : Rebuild) (all : List Pair) where
+  pub none_taken : PartTaken chunks old old all all
+  none_taken = record {
+    done = [];
+    is = refl;
+    takes = λ bits version pairs b. subst (λ ps. HasTaken bits version chunks ps old) (sym (append-nil pairs)) b;
+  }
 
-module _ (chunks : List (List ℕ)) (held : List Pair) (leaf : LeafState ℕ) (nodes : List (NodeState ℕ)) (number : ℕ) where
-  pub leaf_rebuild_begins : LeafRebuilt chunks held leaf nodes number held leaf nodes number
-  leaf_rebuild_begins bits version pairs b =
-      record { done = []; is = refl; behind = subst (λ ps. IsBehind bits version chunks ps leaf nodes number) (sym (append-nil pairs)) b }
+  module _ (mid : Rebuild) (rest : List Pair) (p : PartTaken chunks old mid all rest) where
+    pub all_taken : rest ≡ [] → Takes chunks old mid all
+    all_taken none = subst (Takes chunks old mid) (sym (p.is ∙ ap (λ ps. p.done ++ ps) none ∙ append-nil p.done)) p.takes
 
-  module _ (rest : List Pair) (leaf' : LeafState ℕ) (nodes' : List (NodeState ℕ)) (number' : ℕ) (all : LeafRebuilt chunks held leaf nodes number rest leaf' nodes' number') where
-    pub leaf_rebuild_goes_on : (p : Pair) (more : List Pair) → rest ≡ p ∷ more → (leaf'' : LeafState ℕ) (nodes'' : List (NodeState ℕ)) (number'' : ℕ) →
-        ((bits : ℕ) (version : Version) (pairs : List Pair) → IsBehind bits version chunks pairs leaf' nodes' number' → IsBehind bits version chunks (pairs ++ p ∷ []) leaf'' nodes'' number'') →
-        LeafRebuilt chunks held leaf nodes number more leaf'' nodes'' number''
-    leaf_rebuild_goes_on p more e leaf'' nodes'' number'' added bits version pairs b =
-        let l = all bits version pairs b in
-        record {
-          done = l.done ++ p ∷ [];
-          is = l.is ∙ ap (λ ps. l.done ++ ps) e ∙ sym (append_assoc l.done (p ∷ []) more);
-          behind = subst (λ ps. IsBehind bits version chunks ps leaf'' nodes'' number'') (append_assoc pairs l.done (p ∷ [])) (added bits version (pairs ++ l.done) l.behind);
-        }
-
-    pub leaf_rebuild_fault : (p : Pair) (more : List Pair) → rest ≡ p ∷ more → (fault : CheckFault) →
-        ((bits : ℕ) (version : Version) (pairs : List Pair) → IsBehind bits version chunks pairs leaf' nodes' number' → DifferBy bits version chunks (pairs ++ p ∷ []) fault) →
-        (bits : ℕ) (version : Version) (pairs : List Pair) → IsBehind bits version chunks pairs leaf nodes number → DifferBy bits version chunks (pairs ++ held) fault
-    leaf_rebuild_fault p more e fault differs bits version pairs b =
-        let l = all bits version pairs b in
-        let whole : ((pairs ++ l.done) ++ p ∷ []) ++ more ≡ pairs ++ held =
-        append_assoc (pairs ++ l.done) (p ∷ []) more ∙ append_assoc pairs l.done (p ∷ more) ∙ ap (λ ps. pairs ++ ps) (ap (λ ps. l.done ++ ps) (sym e) ∙ sym l.is) in
-        subst (λ ps. DifferBy bits version chunks ps fault) whole
-        (differ_by_more bits version chunks ((pairs ++ l.done) ++ p ∷ []) more fault (differs bits version (pairs ++ l.done) l.behind))
-
-    pub leaf_rebuild_ends : rest ≡ [] → (bits : ℕ) (version : Version) (pairs : List Pair) → IsBehind bits version chunks pairs leaf nodes number → IsBehind bits version chunks (pairs ++ held) leaf' nodes' number'
-    leaf_rebuild_ends none bits version pairs b =
-        let l = all bits version pairs b in
-        subst (λ ps. IsBehind bits version chunks ps leaf' nodes' number') (ap (λ ps. pairs ++ ps) (sym (l.is ∙ ap (λ ps. l.done ++ ps) none ∙ append-nil l.done))) l.behind
-
--- ---- the pairs of all chunks
-
--- of the lists that the chunks hold, the rest is held from the number on, and the pairs of those before it were taken
-pub record ListsTaken (bits : ℕ) (version : Version) (chunks : List (List ℕ)) (pairs : List Pair) (lists : List (List Pair)) (leaf : LeafState ℕ) (nodes : List (NodeState ℕ)) (number place : ℕ) : Type 0 where
-  pub done : List Pair
-  pub rest : List (List Pair)
-  pub is : flat lists ≡ done ++ flat rest
-  pub hold : AllHold version (drop place chunks) rest
-  pub behind : IsBehind bits version chunks (pairs ++ done) leaf nodes number
-
-abbrev pub ChunksTaken : List (List ℕ) → LeafState ℕ → List (NodeState ℕ) → ℕ → LeafState ℕ → List (NodeState ℕ) → ℕ → ℕ → Type 0
-ChunksTaken chunks leaf nodes number leaf' nodes' number' place = (bits : ℕ) (version : Version) (pairs : List Pair) (lists : List (List Pair)) → IsBehind bits version chunks pairs leaf nodes number →
-    AllHold version chunks lists → ListsTaken bits version chunks pairs lists leaf' nodes' number' place
-
-pub chunks_begin : (chunks : List (List ℕ)) (leaf : LeafState ℕ) (nodes : List (NodeState ℕ)) (number : ℕ) → ChunksTaken chunks leaf nodes number leaf nodes number 0
-chunks_begin chunks leaf nodes number bits version pairs lists b hold =
-    record { done = []; rest = lists; is = refl; hold = hold; behind = subst (λ ps. IsBehind bits version chunks ps leaf nodes number) (sym (append-nil pairs)) b }
-
-module _ (chunks : List (List ℕ)) (leaf : LeafState ℕ) (nodes : List (NodeState ℕ)) (number : ℕ) (leaf' : LeafState ℕ) (nodes' : List (NodeState ℕ)) (number' place : ℕ)
-    (all : ChunksTaken chunks leaf nodes number leaf' nodes' number' place) (within : place < length chunks)
-    (taken : List Pair) (taken_is : (version : Version) (held : List Pair) → Holds version (get_or chunks place []) held → taken ≡ held) where
-  pub chunks_go_on : (leaf'' : LeafState ℕ) (nodes'' : List (NodeState ℕ)) (number'' : ℕ) →
-      ((bits : ℕ) (version : Version) (pairs : List Pair) → IsBehind bits version chunks pairs leaf' nodes' number' →
-      IsBehind bits version chunks (pairs ++ taken) leaf'' nodes'' number'') → ChunksTaken chunks leaf nodes number leaf'' nodes'' number'' (place + 1)
-  chunks_go_on leaf'' nodes'' number'' added bits version pairs lists b hold =
-      let l = all bits version pairs lists b hold in
-      let f = held_in chunks place (get_or chunks place []) within refl version l.rest l.hold in
-      record {
-        done = l.done ++ f.held;
-        rest = f.more;
-        is = l.is ∙ ap (λ ls. l.done ++ flat ls) f.is ∙ sym (append_assoc l.done f.held (flat f.more));
-        hold = f.hold;
-        behind = subst (λ ps. IsBehind bits version chunks ps leaf'' nodes'' number'') (append_assoc pairs l.done f.held)
-            (subst (λ ps. IsBehind bits version chunks ((pairs ++ l.done) ++ ps) leaf'' nodes'' number'') (taken_is version f.held f.holds) (added bits version (pairs ++ l.done) l.behind));
+    module _ (held more : List Pair) (e : rest ≡ held ++ more) where
+      pub more_taken : (new : Rebuild) → Takes chunks mid new held → PartTaken chunks old new all more
+      more_taken new takes = record {
+        done = p.done ++ held;
+        is = p.is ∙ ap (λ ps. p.done ++ ps) e ∙ sym (append_assoc p.done held more);
+        takes = λ bits version pairs b. subst (λ ps. HasTaken bits version chunks ps new) (append_assoc pairs p.done held) (takes bits version (pairs ++ p.done) (p.takes bits version pairs b));
       }
 
-  pub chunks_fault : (fault : CheckFault) →
-      ((bits : ℕ) (version : Version) (pairs : List Pair) → IsBehind bits version chunks pairs leaf' nodes' number' → DifferBy bits version chunks (pairs ++ taken) fault) →
-      (bits : ℕ) (version : Version) (pairs : List Pair) (lists : List (List Pair)) → IsBehind bits version chunks pairs leaf nodes number → AllHold version chunks lists →
-      DifferBy bits version chunks (pairs ++ flat lists) fault
-  chunks_fault fault differs bits version pairs lists b hold =
-      let l = all bits version pairs lists b hold in
-      let f = held_in chunks place (get_or chunks place []) within refl version l.rest l.hold in
-      let whole : ((pairs ++ l.done) ++ f.held) ++ flat f.more ≡ pairs ++ flat lists =
-      append_assoc (pairs ++ l.done) f.held (flat f.more) ∙ append_assoc pairs l.done (f.held ++ flat f.more)
-      ∙ ap (λ ps. pairs ++ ps) (ap (λ ls. l.done ++ flat ls) (sym f.is) ∙ sym l.is) in
-      subst (λ ps. DifferBy bits version chunks ps fault) whole
-      (differ_by_more bits version chunks ((pairs ++ l.done) ++ f.held) (flat f.more) fault
-      (subst (λ ps. DifferBy bits version chunks ((pairs ++ l.done) ++ ps) fault) (taken_is version f.held f.holds) (differs bits version (pairs ++ l.done) l.behind)))
+      pub fault_taking : (fault : CheckFault) → FaultTaking chunks mid held fault → FaultTaking chunks old all fault
+      fault_taking fault h bits version pairs b =
+          let whole : ((pairs ++ p.done) ++ held) ++ more ≡ pairs ++ all =
+          append_assoc (pairs ++ p.done) held more ∙ append_assoc pairs p.done (held ++ more) ∙ ap (λ ps. pairs ++ ps) (ap (λ ps. p.done ++ ps) (sym e) ∙ sym p.is) in
+          subst (λ ps. DifferBy bits version chunks ps fault) whole
+          (differ_by_more bits version chunks ((pairs ++ p.done) ++ held) more fault (h bits version (pairs ++ p.done) (p.takes bits version pairs b)))
 
-pub chunks_end : (chunks : List (List ℕ)) (leaf : LeafState ℕ) (nodes : List (NodeState ℕ)) (number : ℕ) (leaf' : LeafState ℕ) (nodes' : List (NodeState ℕ)) (number' place : ℕ) →
-    length chunks ≤ place → ChunksTaken chunks leaf nodes number leaf' nodes' number' place →
-    (bits : ℕ) (version : Version) (pairs : List Pair) (lists : List (List Pair)) → IsBehind bits version chunks pairs leaf nodes number → AllHold version chunks lists →
-    IsBehind bits version chunks (pairs ++ flat lists) leaf' nodes' number'
-chunks_end chunks leaf nodes number leaf' nodes' number' place h all bits version pairs lists b hold =
-    let l = all bits version pairs lists b hold in
-    let none = none_held version l.rest (subst (λ cs. AllHold version cs l.rest) (drop_all place chunks h) l.hold) in
-    subst (λ ps. IsBehind bits version chunks ps leaf' nodes' number') (ap (λ ps. pairs ++ ps) (sym (l.is ∙ ap (λ ls. l.done ++ flat ls) none ∙ append-nil l.done))) l.behind
+-- the pairs of the next chunk
+pub held_next : (chunks : List (List ℕ)) (number : ℕ) (held : List Pair) → number < length chunks → held ≡ pairs_held (get_or chunks number []) →
+    flat_map pairs_held (drop number chunks) ≡ held ++ flat_map pairs_held (drop (number + 1) chunks)
+held_next chunks number held within e =
+    let next : suc number ≡ number + 1 = omega arith in
+    ap (flat_map pairs_held) (drop-cons chunks number [] within) ∙ ap (λ ps. ps ++ flat_map pairs_held (drop (suc number) chunks)) (sym e) ∙ ap (λ n. held ++ flat_map pairs_held (drop n chunks)) next
+
+pub held_end : (chunks : List (List ℕ)) (number : ℕ) → length chunks ≤ number → flat_map pairs_held (drop number chunks) ≡ []
+held_end chunks number h = ap (flat_map pairs_held) (drop_all number chunks h)

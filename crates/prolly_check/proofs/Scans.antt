@@ -11,7 +11,7 @@ use Rattle.prolly_entry.specs.Pair.{Pair}
 use Rattle.prolly_entry.specs.Tree.{Tree, pairs_below, greatest_key, last_key}
 use Rattle.prolly_entry.proofs.Overlays.{order_trans}
 use Rattle.prolly_entry.proofs.Distinct.{Rises, rises_front, rises_back, above_key, has_last}
-use Rattle.prolly_check.specs.Scanned.{pairs_from}
+use Rattle.prolly_check.specs.Leaves.{pairs_from}
 
 -- the pairs from a key on, of two lists
 pub pairs_from-append : (from : List ℕ) (xs ys : List Pair) → pairs_from from (xs ++ ys) ≡ pairs_from from xs ++ pairs_from from ys

@@ -1,5 +1,5 @@
 -- The one file that pairs have.
-use Rattle.std.specs.Prelude.{ℕ, ◌-◌, List, [], ◌++◌, length, get_or, Option}
+use Rattle.std.specs.Prelude.{◌≡◌, ℕ, ◌-◌, ◌^◌, ◌<◌, List, [], ◌∷◌, ◌++◌, length, map, get_or, Option}
 use Rattle.std.specs.Int.{w64, to_be_bytes}
 use Rattle.std.specs.List.{flat_map}
 use Rattle.prolly_entry.specs.declared.version.Version.{Version}
@@ -7,6 +7,7 @@ use Rattle.prolly_entry.specs.Pair.{Pair}
 use Rattle.prolly_entry.specs.Reference.{reference_of}
 use Rattle.prolly_entry.specs.Overlay.{or_else}
 use Rattle.prolly_check.specs.declared.fault.CheckFault.{CheckFault}
+use Rattle.prolly_check.specs.Held.{pairs_held}
 use Rattle.prolly_check.specs.Judged.{order_fault, difference, end_fault, chunk_bytes, ending_for}
 
 -- What is wrong with the keys, the chunks or the end record.
@@ -19,3 +20,14 @@ canonical_fault version bits chunks ending lists =
 -- What follows the letter E in a file with these chunks: the last chunk's reference and their number.
 abbrev pub ending_of_chunks : List (List ℕ) → List ℕ
 ending_of_chunks chunks = reference_of (get_or chunks (length chunks - 1) []) ++ to_be_bytes w64 (length chunks)
+
+-- This is what is wrong with the keys, the chunks or the end record of a file with these chunks, of the pairs that they hold, where an
+-- end record follows them.
+abbrev pub Says : Version → ℕ → List (List ℕ) → List ℕ → Option CheckFault → Type 0
+Says version bits chunks behind fault = (ending : List ℕ) → behind ≡ 0x45 ∷ ending → canonical_fault version bits chunks ending (map pairs_held chunks) ≡ fault
+
+-- So the chunks compare with those of the pairs that they hold, if these are no more than a file can have.
+abbrev pub CompareAs : Version → ℕ → List (List ℕ) → Option CheckFault → Type 0
+CompareAs version bits chunks fault =
+    let pairs = flat_map pairs_held chunks in
+    length pairs < 2 ^ 64 → difference 0 (chunk_bytes version bits pairs) chunks ≡ fault

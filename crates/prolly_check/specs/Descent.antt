@@ -82,25 +82,3 @@ StepsDown version = (chunks : List (List ℕ)) (m : List Pair) (key chunk next :
     find m key ≡ find (flat_map (pairs_below level) (before ++ t ∷ after)) key →
     AllByRecursion (λ u. KeyBelow (greatest_key level u) key) before → is_lt (key_order (greatest_key level t) key) ≡ false →
     IsIn next chunks → reference_of next ≡ reference_of (bytes_of version level t) → StandsAt version chunks m key next
-
--- ---- The child to which a key leads.
-
--- Of these children of a node, one is the first whose greatest key is not below the key, and this is its reference.
-pub record LeadsTo (version : Version) (level : ℕ) (children : List (Tree level)) (key reference : List ℕ) : Type 0 where
-  pub before : List (Tree level)
-  pub child : Tree level
-  pub after : List (Tree level)
-  pub is : children ≡ before ++ child ∷ after
-  pub below : AllByRecursion (λ u. KeyBelow (greatest_key level u) key) before
-  pub here : is_lt (key_order (greatest_key level child) key) ≡ false
-  pub named : reference ≡ reference_of (bytes_of version level child)
-
--- Whatever children the entries are those of, the key leads to the reference.
-abbrev pub Leads : Version → List ℕ → List ℕ → List ℕ → Type 0
-Leads version entries key reference = (level : ℕ) (children : List (Tree level)) → AllByRecursion IsPair (flat_map (pairs_below level) children) →
-    entries ≡ flat_map (child_entry version level) children → LeadsTo version level children key reference
-
--- The greatest keys of all children are below the key.
-abbrev pub LeadsNowhere : Version → List ℕ → List ℕ → Type 0
-LeadsNowhere version entries key = (level : ℕ) (children : List (Tree level)) → AllByRecursion IsPair (flat_map (pairs_below level) children) →
-    entries ≡ flat_map (child_entry version level) children → AllByRecursion (λ u. KeyBelow (greatest_key level u) key) children

@@ -1,7 +1,10 @@
 -- The entries that chunks hold.
 use Rattle.std.specs.Prelude.{◌≡◌, ℕ, zero, suc, ◌+◌, ◌≤◌, List, [], ◌∷◌, ◌++◌, length, take, drop, Result, Ok, Err}
 use Rattle.std.specs.List.{flat_map, AllByRecursion}
+use Rattle.std.specs.Int.{w64, from_be_bytes}
 use Rattle.prolly_entry.specs.declared.version.Version.{Version}
+use Rattle.prolly_entry.specs.declared.version.Version.TheVariants.{One, Two}
+use Rattle.prolly_entry.specs.ChildAt.{tail_length}
 use Rattle.prolly_entry.specs.Pair.{Pair, IsPair}
 use Rattle.prolly_entry.specs.Reading.{key_length, value_length}
 use Rattle.prolly_entry.specs.Spelling.{pair_spelling, child_spelling}
@@ -28,24 +31,50 @@ pub record IsLeaf (entries : List ℕ) (pairs : List Pair) : Type 0 where
   pub is : entries ≡ flat_map pair_spelling pairs
   pub lawful : AllByRecursion IsPair pairs
 
--- The pair at the front of a leaf's entries, and the entries behind it.
+-- The spelling of a lawful entry begins the bytes, and the rest follows.
+pub record BeginsWith {A : Type 0} (spelling : A → List ℕ) (Lawful : A → Type 0) (bytes : List ℕ) (entry : A) (rest : List ℕ) : Type 0 where
+  pub lawful : Lawful entry
+  pub is : bytes ≡ spelling entry ++ rest
+
+-- The entries that bytes hold, where a function tells the first one and another what is behind it: so many at most, and all.
+abbrev pub entries_up_to : {A : Type 0} → (List ℕ → A) → (List ℕ → List ℕ) → ℕ → List ℕ → List A
+entries_up_to first behind zero bytes = []
+entries_up_to first behind (suc n) [] = []
+entries_up_to first behind (suc n) (b ∷ bytes) = first (b ∷ bytes) ∷ entries_up_to first behind n (behind (b ∷ bytes))
+
+abbrev pub entries_in : {A : Type 0} → (List ℕ → A) → (List ℕ → List ℕ) → List ℕ → List A
+entries_in first behind bytes = entries_up_to first behind (length bytes) bytes
+
+-- The pair at the front of a leaf's entries, the entries behind it, and the pairs that they spell.
 abbrev pub first_pair : List ℕ → Pair
 first_pair entries = record {
   key = take (key_length entries) (drop 2 entries);
   value = take (value_length entries) (drop (6 + key_length entries) entries);
 }
 
-abbrev pub behind_first : List ℕ → List ℕ
-behind_first entries = drop (6 + key_length entries + value_length entries) entries
-
--- The pairs that a leaf's entries spell: so many at most, and all of them.
-abbrev pub pairs_up_to : ℕ → List ℕ → List Pair
-pairs_up_to zero entries = []
-pairs_up_to (suc n) [] = []
-pairs_up_to (suc n) (b ∷ entries) = first_pair (b ∷ entries) ∷ pairs_up_to n (behind_first (b ∷ entries))
+abbrev pub behind_pair : List ℕ → List ℕ
+behind_pair entries = drop (6 + key_length entries + value_length entries) entries
 
 unfoldable pub pairs_in : List ℕ → List Pair
-pairs_in entries = pairs_up_to (length entries) entries
+pairs_in entries = entries_in first_pair behind_pair entries
+
+-- The same of a node's entries. Version One has no count: it stands as 0.
+abbrev pub first_count : Version → List ℕ → ℕ
+first_count One bytes = 0
+first_count Two bytes = from_be_bytes w64 (take 8 bytes)
+
+abbrev pub first_child : Version → List ℕ → Child
+first_child version entries = record {
+  key = take (key_length entries) (drop 2 entries);
+  reference = take 20 (drop (2 + key_length entries) entries);
+  count = first_count version (drop (2 + key_length entries + 20) entries);
+}
+
+abbrev pub behind_child : Version → List ℕ → List ℕ
+behind_child version entries = drop (2 + key_length entries + tail_length version) entries
+
+unfoldable pub children_in : Version → List ℕ → List Child
+children_in version entries = entries_in (first_child version) (behind_child version) entries
 
 -- The entries of a node are the spellings of child entries; a node has no pair itself.
 pub record IsNode (version : Version) (entries : List ℕ) (pairs : List Pair) : Type 0 where

@@ -8,6 +8,12 @@ pub mod Frames
 pub mod Spans
 -- The entries that chunks hold.
 pub mod Entries
+-- Children of a node, as they are read, and which of them a look-up goes on in.
+pub mod Children
+-- The pairs that chunks hold.
+pub mod Held
+-- What the entries of a chunk are.
+pub mod Kinds
 -- Refusals of the checker.
 pub mod Refusal
 -- Chunks that are a level and whole lawful entries of that level's kind.
@@ -30,9 +36,11 @@ pub mod Check
 pub mod Root
 -- How a look-up goes down a tree.
 pub mod Descent
--- How a pair is found by its number.
+-- Pairs and children that were found by a number.
 pub mod Counted
--- Where a scan begins.
-pub mod Scanned
+-- The leaf that a key leads to.
+pub mod Leaves
 -- Rebuilding the chunks of pairs one by one, by levels that stand one above another.
 pub mod Rebuilt
+-- What becomes of a rebuild as it takes pairs.
+pub mod Taking

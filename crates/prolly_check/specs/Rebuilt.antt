@@ -134,3 +134,10 @@ EndsAt bits version chunks pairs number = AreFirst chunks number (pipeline_event
 -- It differs from the chunks of a file.
 abbrev pub FaultAtEnd : ℕ → Version → List (List ℕ) → List Pair → CheckFault → Type 0
 FaultAtEnd bits version chunks pairs fault = DifferAs chunks (pipeline_events node_levels (sha512_cut bits) version clean pairs) fault
+
+-- The same of levels that are ending, whatever pairs they took.
+abbrev pub NodesEnd : List (List ℕ) → List (NodeState ℕ) → ℕ → ℕ → Type 0
+NodesEnd chunks nodes number count = (bits : ℕ) (version : Version) (pairs : List Pair) → IsEnding bits version chunks pairs nodes number → EndsAt bits version chunks pairs count
+
+abbrev pub FaultOfNodes : List (List ℕ) → List (NodeState ℕ) → ℕ → CheckFault → Type 0
+FaultOfNodes chunks nodes number fault = (bits : ℕ) (version : Version) (pairs : List Pair) → IsEnding bits version chunks pairs nodes number → FaultAtEnd bits version chunks pairs fault

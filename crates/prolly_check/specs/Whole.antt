@@ -1,5 +1,5 @@
 -- Chunks that are a level and whole lawful entries of that level's kind.
-use Rattle.std.specs.Prelude.{ℕ, zero, suc, List, [], ◌∷◌}
+use Rattle.std.specs.Prelude.{ℕ, List}
 use Rattle.prolly_entry.specs.declared.version.Version.{Version}
 use Rattle.prolly_entry.specs.Pair.{Pair}
 use Rattle.prolly_check.specs.Entries.{IsLeaf, Holds, AllHold}
@@ -8,12 +8,6 @@ use Rattle.prolly_check.specs.Entries.{IsLeaf, Holds, AllHold}
 pub record IsSomeLeaf (entries : List ℕ) : Type 0 where
   pub pairs : List Pair
   pub is : IsLeaf entries pairs
-
--- Where the chunk is a leaf, its entries are a leaf's.
-abbrev pub IsReadable : List ℕ → Type 0
-IsReadable [] = Unit {0}
-IsReadable (zero ∷ entries) = IsSomeLeaf entries
-IsReadable (suc level ∷ entries) = Unit {0}
 
 -- The chunk is such, whatever pairs it has.
 pub record IsWhole (version : Version) (chunk : List ℕ) : Type 0 where

@@ -1,8 +1,6 @@
 //! The chunks against those of the file of the same pairs.
 ghost use Rattle.std.specs.Prelude.{◌≡◌, ℕ, ◌∷◌, ◌<◌, ◌^◌, None, Some, List, length, drop, OnOk, IfErr};
-ghost use Rattle.prolly_entry.specs.Pair.{Pair as PairValue};
-ghost use Rattle.prolly_check.specs.Canonical.{canonical_fault, ending_of_chunks};
-ghost use Rattle.prolly_check.specs.Entries.{AllHold};
+ghost use Rattle.prolly_check.specs.Canonical.{Says, ending_of_chunks};
 ghost use Rattle.prolly_check.specs.Index.{AreReferences};
 ghost use Rattle.prolly_check.specs.Refusal.{UnlessMemory};
 ghost use Rattle.prolly_check.specs.Spans.{FramesTo, chunks_in};
@@ -30,20 +28,14 @@ pub(crate) fn test_canonical(
     requires references { AreReferences (chunks_in bytes.now frames.now.spans.items) references.now }
     requires whole { AreWhole version (chunks_in bytes.now frames.now.spans.items) }
     requires short { length bytes.now < 2 ^ 64 }
-    ensures ok { OnOk result ((lists : List (List PairValue)) (ending : List ℕ) → AllHold version (chunks_in bytes.now frames.now.spans.items) lists → drop frames.now.end bytes.now ≡ 0x45 ∷ ending →
-        canonical_fault version cut (chunks_in bytes.now frames.now.spans.items) ending lists ≡ None) }
-    ensures err { IfErr result (UnlessMemory (λ fault. (lists : List (List PairValue)) (ending : List ℕ) → AllHold version (chunks_in bytes.now frames.now.spans.items) lists → drop frames.now.end bytes.now ≡ 0x45 ∷ ending →
-        canonical_fault version cut (chunks_in bytes.now frames.now.spans.items) ending lists ≡ Some fault)) }
+    ensures ok { OnOk result (Says version cut
+        (chunks_in bytes.now frames.now.spans.items) (drop frames.now.end bytes.now) None) }
+    ensures err { IfErr result (UnlessMemory (λ fault. Says version cut
+        (chunks_in bytes.now frames.now.spans.items) (drop frames.now.end bytes.now) (Some fault))) }
 {
-    match test_order(bytes, &frames.spans) {
-        Ok(()) => {}
-        Err(fault) => return Err(fault),
-    }
-    let chunks = FileChunks::new(bytes, &frames.spans, references);
-    match test_rebuilt(alloc, cut, version, &chunks) {
-        Ok(()) => {}
-        Err(fault) => return Err(fault),
-    }
+    let chunks = FileChunks::new(version, bytes, &frames.spans, references);
+    test_order(&chunks)?;
+    test_rebuilt(alloc, cut, version, &chunks)?;
     test_end(&bytes[frames.end..], &chunks)
 }
 
@@ -51,7 +43,8 @@ pub(crate) fn test_canonical(
 fn test_end(found: &[u8], chunks: &FileChunks) -> Result<(), CheckFault>
     requires { 0 < length chunks.now }
     ensures ok { OnOk result (found.now ≡ 0x45 ∷ ending_of_chunks chunks.now) }
-    ensures err { IfErr result (λ fault. (fault ≡ CheckFault.BadEnd) × (found.now ≡ 0x45 ∷ ending_of_chunks chunks.now → ⊥)) }
+    ensures err { IfErr result (λ fault. (fault ≡ CheckFault.BadEnd)
+        × (found.now ≡ 0x45 ∷ ending_of_chunks chunks.now → ⊥)) }
 {
     let count = chunks.len();
     let root = chunks.reference(count - 1);

@@ -1,18 +1,17 @@
 //! The chunks of a file, and their references.
 ghost use Rattle.std.specs.Prelude.{◌≡◌, ◌<◌, List, [], get_or, length, IfOk};
 ghost use Rattle.std.specs.List.{AllByRecursion};
-ghost use Rattle.prolly_entry.specs.Pair.{Pair as PairValue};
 ghost use Rattle.prolly_entry.specs.Reference.{reference_of};
-ghost use Rattle.prolly_entry.specs.declared.version.Version.{Version};
-ghost use Rattle.prolly_check.specs.Entries.{Holds};
+ghost use Rattle.prolly_check.specs.Held.{pairs_held};
 ghost use Rattle.prolly_check.specs.Index.{AreReferences};
 ghost use Rattle.prolly_check.specs.Spans.{IsWithin, chunks_in};
-ghost use Rattle.prolly_check.specs.Whole.{IsReadable};
+ghost use Rattle.prolly_check.specs.Whole.{AreWhole};
 
+use crate::entries::pairs_of;
 use crate::frames::{Span, chunk_at};
-use crate::leaf::{Pairs, pairs_of};
+use crate::leaf::Pairs;
 use prolly_chunk::ChunkEvent;
-use prolly_entry::Ref;
+use prolly_entry::{Ref, Version};
 use std::alloc::{AllocError, Global};
 use std::marker::Model;
 
@@ -23,7 +22,8 @@ pub(crate) fn references_of(
     spans: &[Span],
 ) -> Result<Vec<Ref>, AllocError>
     requires { AllByRecursion (IsWithin bytes.now) spans.now }
-    ensures { IfOk result (λ references. AreReferences (chunks_in bytes.now spans.now) references.items) }
+    ensures { IfOk result (λ references.
+        AreReferences (chunks_in bytes.now spans.now) references.items) }
 {
     let mut references = Vec::with_capacity(alloc, spans.len())?;
     for span in spans {
@@ -32,9 +32,11 @@ pub(crate) fn references_of(
     Ok(references)
 }
 
-/// The chunks of a file: its bytes, where the chunks lie in them, and the reference of each.
+/// The chunks of a file, which were tested: its version, its bytes, where the chunks lie in them, and the
+/// reference of each.
 #[derive(Drop)]
 pub(crate) struct FileChunks<'a> {
+    version: Version,
     bytes: &'a [u8],
     spans: &'a [Span],
     references: &'a [Ref],
@@ -45,25 +47,33 @@ impl<'a> Model for FileChunks<'a> {
     ghost use Rattle.std.specs.List.{AllByRecursion};
     ghost use Rattle.prolly_check.specs.Index.{AreReferences};
     ghost use Rattle.prolly_check.specs.Spans.{IsWithin, chunks_in};
-    ghost use Rattle.prolly_check.specs.Whole.{IsReadable};
+    ghost use Rattle.prolly_check.specs.Whole.{AreWhole};
 
     ghost Value = { List (List ℕ) };
 
     ghost view = { λ c. chunks_in c.bytes.now c.spans.now };
 
-    ghost invariant = { λ c. AllByRecursion (IsWithin c.bytes.now) c.spans.now × AreReferences (chunks_in c.bytes.now c.spans.now) c.references.now
-        × AllByRecursion IsReadable (chunks_in c.bytes.now c.spans.now) };
+    ghost invariant = { λ c. AllByRecursion (IsWithin c.bytes.now) c.spans.now
+        × AreReferences (chunks_in c.bytes.now c.spans.now) c.references.now
+        × AreWhole c.version (chunks_in c.bytes.now c.spans.now) };
 }
 
 impl<'a> FileChunks<'a> {
-    /// The chunks that lie there, with the references that were made of them. Takes no memory, and no hash.
-    pub(crate) fn new(bytes: &'a [u8], spans: &'a [Span], references: &'a [Ref]) -> FileChunks<'a>
+    /// The chunks that lie there, with the references that were made of them. Takes no memory, and no
+    /// hash.
+    pub(crate) fn new(
+        version: Version,
+        bytes: &'a [u8],
+        spans: &'a [Span],
+        references: &'a [Ref],
+    ) -> FileChunks<'a>
         requires within { AllByRecursion (IsWithin bytes.now) spans.now }
         requires references { AreReferences (chunks_in bytes.now spans.now) references.now }
-        requires readable { AllByRecursion IsReadable (chunks_in bytes.now spans.now) }
+        requires whole { AreWhole version (chunks_in bytes.now spans.now) }
         ensures { result ≡ chunks_in bytes.now spans.now }
     {
         FileChunks {
+            version,
             bytes,
             spans,
             references,
@@ -88,9 +98,9 @@ impl<'a> FileChunks<'a> {
     /// The pairs of the chunk of this number. A node has none.
     pub(crate) fn pairs(&self, number: usize) -> Pairs<'_>
         requires { number < length self.now }
-        ensures { (version : Version) (held : List PairValue) → Holds version (get_or self.now number []) held → result ≡ held }
+        ensures { result ≡ pairs_held (get_or self.now number []) }
     {
-        pairs_of(chunk_at(self.bytes, self.spans[number]))
+        pairs_of(self.version, self.chunk(number))
     }
 
     /// The reference of the chunk of this number. Takes no hash.

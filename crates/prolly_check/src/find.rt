@@ -1,21 +1,17 @@
 //! Finding the value of a key.
-ghost use Rattle.std.specs.Prelude.{◌≡◌, ◌<◌, ◌^◌, List, length, IfSome, IfNone};
-ghost use Rattle.std.specs.List.{flat_map, AllByRecursion};
+ghost use Rattle.std.specs.Prelude.{◌≡◌, ◌<◌, List, length, IfSome, IfNone, option_map};
 ghost use Rattle.std.specs.Option.{option_copied};
-ghost use Rattle.prolly_entry.specs.ChildAt.{IsChildAt, reference_at};
 ghost use Rattle.prolly_entry.specs.LookUp.{find};
-ghost use Rattle.prolly_entry.specs.Pair.{Pair as PairValue, IsPair};
-ghost use Rattle.prolly_entry.specs.Spelling.{pair_spelling};
-ghost use Rattle.prolly_check.specs.Checked.{IsChecked};
+ghost use Rattle.prolly_check.specs.Checked.{chunks_of};
+ghost use Rattle.prolly_check.specs.Children.{value_of, child_for};
 ghost use Rattle.prolly_check.specs.Content.{Content};
-ghost use Rattle.prolly_check.specs.Descent.{Leads, LeadsNowhere};
-ghost use Rattle.prolly_check.specs.Verdict.{IsFileOf};
+ghost use Rattle.prolly_check.specs.Leaves.{IsLeafOf, IsBeyond};
 
-use crate::frames::{Span, chunk_at};
-use crate::index::Index;
-use crate::leaf::{Pairs, pairs_of};
-use crate::tree::root_chunk;
-use prolly_entry::{ChildAt, Ref, Version, front_child_as, key_order};
+use crate::entries::Entries;
+use crate::file::CheckedFile;
+use crate::leaf::Pairs;
+use crate::node::{Child, Children};
+use prolly_entry::key_order;
 
 /// The value of the key among the pairs of a leaf.
 pub(crate) fn value_in<'a>(mut pairs: Pairs<'a>, key: &[u8]) -> Option<&'a [u8]>
@@ -29,60 +25,40 @@ pub(crate) fn value_in<'a>(mut pairs: Pairs<'a>, key: &[u8]) -> Option<&'a [u8]>
     None
 }
 
-/// The reference of the first child of a node whose greatest key is not below the key.
-pub(crate) fn child_for(version: Version, entries: &[u8], key: &[u8]) -> Option<Ref>
-    ensures some { IfSome result (λ reference. Leads version entries.now key.now reference.0) }
-    ensures none { IfNone result (LeadsNowhere version entries.now key.now) }
+/// The first child whose greatest key is not below the key.
+fn child_for<'a>(mut children: Children<'a>, key: &[u8]) -> Option<Child<'a>>
+    ensures { option_map value_of result ≡ child_for key.now children.entry }
 {
-    let mut place = 0;
-    while place < entries.len() {
-        let rest = &entries[place..];
-        match front_child_as(version, rest) {
-            Some(child) => {
-                if !key_order(&rest[2..child.key_end], key).is_lt() {
-                    return Some(reference_in(version, rest, child));
-                }
-                place += child.len;
-            }
-            None => return None,
+    while let Some(child) = children.next() {
+        if !key_order(child.key, key).is_lt() {
+            return Some(child);
         }
     }
     None
 }
 
-/// The reference in a child entry that begins the bytes.
-pub(crate) fn reference_in(version: Version, bytes: &[u8], child: ChildAt) -> Ref
-    requires { IsChildAt version bytes.now child }
-    ensures { result.0 ≡ reference_at bytes.now child }
+/// The number of the leaf that a key leads to: the first one that has a key not less than it. Goes down
+/// from the root, one chunk a level.
+pub(crate) fn leaf_for(file: &CheckedFile, key: &[u8]) -> Option<usize>
+    ensures some { IfSome result (IsLeafOf file.now key.now) }
+    ensures none { IfNone result (IsBeyond file.now key.now) }
 {
-    let mut reference = [0; 20];
-    reference.copy_from_slice(&bytes[child.key_end..child.key_end + 20]);
-    Ref(reference)
+    let mut number = file.root();
+    loop {
+        match file.entries(number) {
+            Entries::Leaf(_) => return Some(number),
+            Entries::Node(children) => {
+                let child = child_for(children, key)?;
+                number = file.child(&child.reference);
+            }
+        }
+    }
 }
 
-/// The value of the key in a file that was checked. Goes down from the root, one chunk a level.
-pub(crate) fn find_value<'a>(
-    bytes: &'a [u8],
-    version: Version,
-    spans: &[Span],
-    index: &Index,
-    key: &[u8],
-) -> Option<&'a [u8]>
-    requires checked { IsChecked bytes.now version spans.now index.now }
-    requires short { length bytes.now < 2 ^ 64 }
-    ensures { (content : Content) → IsFileOf bytes.now content → option_copied result ≡ find content.pairs key.now }
+/// The value of the key in a file that was checked.
+pub(crate) fn find_value<'a>(file: &CheckedFile<'a>, key: &[u8]) -> Option<&'a [u8]>
+    ensures { option_copied result ≡ find file.now.pairs key.now }
 {
-    let mut chunk = root_chunk(bytes, version, spans, index);
-    while chunk[0] != 0 {
-        let reference = match child_for(version, &chunk[1..], key) {
-            Some(reference) => reference,
-            None => return None,
-        };
-        let number = match index.get(&reference) {
-            Some(number) => *number,
-            None => unreachable!(),
-        };
-        chunk = chunk_at(bytes, spans[number]);
-    }
-    value_in(pairs_of(chunk), key)
+    let leaf = leaf_for(file, key)?;
+    value_in(file.pairs(leaf), key)
 }

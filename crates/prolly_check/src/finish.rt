@@ -1,8 +1,6 @@
 //! The end of the rebuilt chunks: what is left open is closed, level by level.
-ghost use Rattle.std.specs.Prelude.{◌≡◌, ◌<◌, ◌≤◌, ◌^◌, ℕ, List, length, IfOk, IfErr};
-ghost use Rattle.prolly_entry.specs.Pair.{Pair as PairValue};
-ghost use Rattle.prolly_entry.specs.declared.version.Version.{Version};
-ghost use Rattle.prolly_check.specs.Rebuilt.{EndsAt, FaultAtEnd, IsEnding, MaybePasses, MaybeFault};
+ghost use Rattle.std.specs.Prelude.{◌≤◌, length, IfOk, IfErr};
+ghost use Rattle.prolly_check.specs.Rebuilt.{NodesEnd, FaultOfNodes, MaybePasses, MaybeFault};
 ghost use Rattle.prolly_check.specs.Refusal.{UnlessMemory};
 
 use crate::fault::CheckFault;
@@ -21,7 +19,7 @@ pub(crate) fn pass_last(
     number: usize,
 ) -> Result<usize, CheckFault>
     requires number { number ≤ length chunks.now }
-    ensures ok { IfOk result (λ next. MaybePasses chunks.now levels.old levels.new last number next) }
+    ensures ok { IfOk result (MaybePasses chunks.now levels.old levels.new last number) }
     ensures next { IfOk result (λ next. next ≤ length chunks.now) }
     ensures err { IfErr result (UnlessMemory (MaybeFault chunks.now levels.old last number)) }
 {
@@ -42,18 +40,13 @@ pub(crate) fn finish_nodes(
     mut number: usize,
 ) -> Result<usize, CheckFault>
     requires number { number ≤ length chunks.now }
-    ensures ok { IfOk result (λ count. (bits : ℕ) (version : Version) (pairs : List PairValue) → IsEnding bits version chunks.now pairs nodes.items number →
-        EndsAt bits version chunks.now pairs count) }
+    ensures ok { IfOk result (NodesEnd chunks.now nodes.items number) }
     ensures count { IfOk result (λ count. count ≤ length chunks.now) }
-    ensures err { IfErr result (UnlessMemory (λ fault. (bits : ℕ) (version : Version) (pairs : List PairValue) → IsEnding bits version chunks.now pairs nodes.items number →
-        FaultAtEnd bits version chunks.now pairs fault)) }
+    ensures err { IfErr result (UnlessMemory (FaultOfNodes chunks.now nodes.items number)) }
 {
     while nodes.len() > 0 {
         let last = nodes.remove(0).finish();
-        number = match pass_last(alloc, &mut nodes, last, chunks, number) {
-            Ok(next) => next,
-            Err(fault) => return Err(fault),
-        };
+        number = pass_last(alloc, &mut nodes, last, chunks, number)?;
     }
     Ok(number)
 }

@@ -8,6 +8,12 @@ use prolly_entry::{BITS_LIMIT, Version};
 /// The size of a header.
 pub(crate) const HEADER_SIZE: usize = 6;
 
+/// Where the byte of the version stands.
+const VERSION_PLACE: usize = 4;
+
+/// Where the byte of the number of bits stands.
+pub(crate) const BITS_PLACE: usize = 5;
+
 /// What a header says.
 #[derive(Clone, Copy, Debug)]
 pub(crate) struct Header {
@@ -32,8 +38,8 @@ pub(crate) fn read_header(bytes: &[u8]) -> Result<Header, CheckFault>
         }
     }
     Ok(Header {
-        version: version_of(bytes[4]),
-        bits: bytes[5],
+        version: version_of(bytes[VERSION_PLACE]),
+        bits: bytes[BITS_PLACE],
     })
 }
 

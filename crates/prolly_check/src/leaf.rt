@@ -1,34 +1,50 @@
 //! The entries of leaves.
 ghost use Rattle.std.specs.Prelude.{◌≡◌, ◌≤◌, [], ◌∷◌, true, false, List, length};
-ghost use Rattle.std.specs.Prelude.{IfSome, MatchOption};
-ghost use Rattle.prolly_entry.specs.Pair.{Pair as PairValue};
-ghost use Rattle.prolly_entry.specs.declared.version.Version.{Version};
-ghost use Rattle.prolly_check.specs.Entries.{IsLeaf, Holds};
-ghost use Rattle.prolly_check.specs.Whole.{IsSomeLeaf, IsReadable};
+ghost use Rattle.std.specs.Prelude.{IfSome, IfNone, MatchOption};
+ghost use Rattle.prolly_entry.specs.Front.{NoPairAt};
+ghost use Rattle.prolly_entry.specs.Pair.{Pair as PairValue, IsPair};
+ghost use Rattle.prolly_entry.specs.Spelling.{pair_spelling};
+ghost use Rattle.prolly_check.specs.Entries.{IsLeaf, BeginsWith, pairs_in};
+ghost use Rattle.prolly_check.specs.Whole.{IsSomeLeaf};
 
 use prolly_entry::{Front, front_pair};
 use std::marker::Model;
 
 /// The first byte of a leaf: its level.
-const LEAF: u8 = 0;
+pub(crate) const LEAF: u8 = 0;
 
 /// Where a key begins in its entry, behind its length.
 const KEY_START: usize = 2;
 
+/// The key and the value of the pair that begins the entries, and the entries behind it.
+fn split_pair(entries: &[u8]) -> Option<(&[u8], &[u8], &[u8])>
+    ensures some { IfSome result (λ r. BeginsWith pair_spelling IsPair entries.now
+        (record { key = r.0.now; value = r.1.now }) r.2.now) }
+    ensures none { IfNone result (NoPairAt entries.now) }
+{
+    match front_pair(entries) {
+        Front::Pair {
+            key_end,
+            value_start,
+            len,
+        } => Some((
+            &entries[KEY_START..key_end],
+            &entries[value_start..len],
+            &entries[len..],
+        )),
+        _ => None,
+    }
+}
+
 /// Whether the entries are those of a leaf.
-pub(crate) fn is_leaf(entries: &[u8]) -> bool
+pub(crate) fn is_leaf(mut entries: &[u8]) -> bool
     ensures leaf { result ≡ true → IsSomeLeaf entries.now }
     ensures other { result ≡ false → (pairs : List PairValue) → IsLeaf entries.now pairs → ⊥ }
 {
-    let mut place = 0;
-    while place < entries.len() {
-        let rest = &entries[place..];
-        match front_pair(rest) {
-            Front::Pair { len, .. } => place += len,
-            _ => return false,
-        }
+    while let Some((_, _, rest)) = split_pair(entries) {
+        entries = rest;
     }
-    true
+    entries.is_empty()
 }
 
 /// The pairs of a leaf that was tested, or those of them that are left, as they lie in its bytes.
@@ -40,20 +56,21 @@ pub(crate) struct Pairs<'a> {
 impl<'a> Model for Pairs<'a> {
     ghost use Rattle.std.specs.Prelude.{List};
     ghost use Rattle.prolly_entry.specs.Pair.{Pair as PairValue};
-    ghost use Rattle.prolly_check.specs.Entries.{IsLeaf, pairs_in};
+    ghost use Rattle.prolly_check.specs.Entries.{pairs_in};
+    ghost use Rattle.prolly_check.specs.Whole.{IsSomeLeaf};
 
     ghost Value = { List PairValue };
 
     ghost view = { λ p. pairs_in p.entries.now };
 
-    ghost invariant = { λ p. IsLeaf p.entries.now (pairs_in p.entries.now) };
+    ghost invariant = { λ p. IsSomeLeaf p.entries.now };
 }
 
 impl<'a> Pairs<'a> {
     /// The pairs of the entries of a leaf.
-    fn new(entries: &'a [u8]) -> Pairs<'a>
+    pub(crate) fn new(entries: &'a [u8]) -> Pairs<'a>
         requires { IsSomeLeaf entries.now }
-        ensures { (pairs : List PairValue) → IsLeaf entries.now pairs → result ≡ pairs }
+        ensures { result ≡ pairs_in entries.now }
     {
         Pairs { entries }
     }
@@ -65,32 +82,8 @@ impl<'a> Pairs<'a> {
         ensures lawful { IfSome result (λ next.
             (length next.0.now ≤ 1024) × (length next.1.now ≤ 65536)) }
     {
-        let entries = self.entries;
-        match front_pair(entries) {
-            Front::Pair {
-                key_end,
-                value_start,
-                len,
-            } => {
-                self.entries = &entries[len..];
-                Some((&entries[KEY_START..key_end], &entries[value_start..len]))
-            }
-            _ => None,
-        }
+        let (key, value, rest) = split_pair(self.entries)?;
+        self.entries = rest;
+        Some((key, value))
     }
-}
-
-/// The pairs of a chunk that was tested. A node has none.
-pub(crate) fn pairs_of(chunk: &[u8]) -> Pairs<'_>
-    requires { IsReadable chunk.now }
-    ensures { (version : Version) (held : List PairValue) → Holds version chunk.now held →
-        result ≡ held }
-{
-    if chunk.len() == 0 {
-        return Pairs::new(&[]);
-    }
-    if chunk[0] != LEAF {
-        return Pairs::new(&[]);
-    }
-    Pairs::new(&chunk[1..])
 }

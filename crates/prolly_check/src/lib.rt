@@ -4,7 +4,9 @@
 mod canonical;
 mod checker;
 mod ending;
+mod entries;
 mod fault;
+mod file;
 mod file_chunks;
 mod find;
 mod finish;

@@ -1,18 +1,13 @@
 //! The order of the keys of a file.
-ghost use Rattle.std.specs.Prelude.{◌≡◌, [], false, List, None, Some, OnOk, OnErr, IfOk, IfErr};
-ghost use Rattle.std.specs.List.{AllByRecursion};
+ghost use Rattle.std.specs.Prelude.{◌≡◌, [], false, List, map, None, Some, OnOk, OnErr, IfOk, IfErr};
 ghost use Rattle.std.specs.Option.{option_copied};
-ghost use Rattle.prolly_entry.specs.Pair.{Pair as PairValue};
-ghost use Rattle.prolly_entry.specs.declared.version.Version.{Version};
-ghost use Rattle.prolly_check.specs.Entries.{AllHold};
+ghost use Rattle.prolly_check.specs.Held.{pairs_held};
 ghost use Rattle.prolly_check.specs.Judged.{order_fault};
 ghost use Rattle.prolly_check.specs.Order.{rises_behind, RisesTo};
-ghost use Rattle.prolly_check.specs.Spans.{IsWithin, chunks_in};
-ghost use Rattle.prolly_check.specs.Whole.{IsReadable};
 
 use crate::fault::CheckFault;
-use crate::frames::{Span, chunk_at};
-use crate::leaf::{Pairs, pairs_of};
+use crate::file_chunks::FileChunks;
+use crate::leaf::Pairs;
 use prolly_entry::key_rises;
 
 /// A key is not greater than the one before it.
@@ -20,17 +15,14 @@ use prolly_entry::key_rises;
 struct Falls;
 
 /// Tests that the keys of all chunks rise. Takes no memory: it keeps where the last key lies.
-pub(crate) fn test_order(bytes: &[u8], spans: &[Span]) -> Result<(), CheckFault>
-    requires within { AllByRecursion (IsWithin bytes.now) spans.now }
-    requires readable { AllByRecursion IsReadable (chunks_in bytes.now spans.now) }
-    ensures ok { OnOk result ((version : Version) (lists : List (List PairValue)) → AllHold version (chunks_in bytes.now spans.now) lists →
-        order_fault [] 0 lists ≡ None) }
-    ensures err { IfErr result (λ fault. (version : Version) (lists : List (List PairValue)) → AllHold version (chunks_in bytes.now spans.now) lists →
-        order_fault [] 0 lists ≡ Some fault) }
+pub(crate) fn test_order(chunks: &FileChunks) -> Result<(), CheckFault>
+    ensures ok { OnOk result (order_fault [] 0 (map pairs_held chunks.now) ≡ None) }
+    ensures err { IfErr result (λ fault.
+        order_fault [] 0 (map pairs_held chunks.now) ≡ Some fault) }
 {
     let mut last = None;
-    for (number, span) in spans.iter().enumerate() {
-        last = match last_in(last, pairs_of(chunk_at(bytes, *span))) {
+    for number in 0..chunks.len() {
+        last = match last_in(last, chunks.pairs(number)) {
             Ok(key) => key,
             Err(Falls) => return Err(CheckFault::KeysOutOfOrder { chunk: number }),
         };

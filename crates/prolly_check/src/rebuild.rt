@@ -1,12 +1,12 @@
 //! Rebuilding the chunks of pairs that come one by one.
-ghost use Rattle.std.specs.Prelude.{◌≡◌, [], ◌∷◌, ◌++◌, ◌<◌, ◌≤◌, ◌^◌, ℕ, None, Some, List, length, OnOk, IfOk, IfErr, MatchOption};
+ghost use Rattle.std.specs.Prelude.{◌≡◌, [], ◌∷◌, ◌≤◌, ℕ, None, Some, List, length, OnOk, IfOk, IfErr};
 ghost use Rattle.std.specs.List.{flat_map};
 ghost use Rattle.prolly_entry.specs.Pair.{Pair as PairValue};
-ghost use Rattle.prolly_entry.specs.declared.version.Version.{Version};
-ghost use Rattle.prolly_check.specs.Entries.{AllHold};
-ghost use Rattle.prolly_check.specs.Judged.{difference, chunk_bytes};
-ghost use Rattle.prolly_check.specs.Rebuilt.{IsBehind, DifferBy, AreUnused, EndsAt, FaultAtEnd, node_levels};
+ghost use Rattle.prolly_check.specs.Canonical.{CompareAs};
+ghost use Rattle.prolly_check.specs.Held.{pairs_held};
+ghost use Rattle.prolly_check.specs.Rebuilt.{AreUnused, node_levels};
 ghost use Rattle.prolly_check.specs.Refusal.{UnlessMemory};
+ghost use Rattle.prolly_check.specs.Taking.{HasTaken, Takes, FaultTaking, Ends, FaultEnding};
 
 use crate::fault::CheckFault;
 use crate::file_chunks::FileChunks;
@@ -47,7 +47,8 @@ fn new_nodes(
 
 /// The beginning, before the first pair.
 fn begin(alloc: Global, cut: Sha512Cut, version: Version) -> Result<Rebuild, AllocError>
-    ensures behind { IfOk result (λ rebuild. (chunks : List (List ℕ)) → IsBehind cut version chunks [] rebuild.leaf rebuild.nodes.items rebuild.number) }
+    ensures taken { IfOk result (λ rebuild.
+        (chunks : List (List ℕ)) → HasTaken cut version chunks [] rebuild) }
     ensures number { IfOk result (λ rebuild. rebuild.number ≡ 0) }
 {
     Ok(Rebuild {
@@ -65,28 +66,18 @@ fn add_pair(
     chunks: &FileChunks,
 ) -> Result<(), CheckFault>
     requires number { rebuild.old.number ≤ length chunks.now }
-    ensures ok { OnOk result ((bits : ℕ) (version : Version) (pairs : List PairValue) → IsBehind bits version chunks.now pairs rebuild.old.leaf rebuild.old.nodes.items rebuild.old.number →
-        IsBehind bits version chunks.now (pairs ++ pair.now ∷ []) rebuild.new.leaf rebuild.new.nodes.items rebuild.new.number) }
+    ensures ok { OnOk result (Takes chunks.now rebuild.old rebuild.new (pair.now ∷ [])) }
     ensures number { OnOk result (rebuild.new.number ≤ length chunks.now) }
-    ensures err { IfErr result (UnlessMemory (λ fault. (bits : ℕ) (version : Version) (pairs : List PairValue) → IsBehind bits version chunks.now pairs rebuild.old.leaf rebuild.old.nodes.items rebuild.old.number →
-        DifferBy bits version chunks.now (pairs ++ pair.now ∷ []) fault)) }
+    ensures err { IfErr result (UnlessMemory
+        (FaultTaking chunks.now rebuild.old (pair.now ∷ []))) }
 {
-    let closed = match rebuild.leaf.push(alloc, pair) {
-        Ok(closed) => closed,
-        Err(_) => return Err(CheckFault::Memory),
-    };
-    let Some(leaf) = closed else {
+    let Some(leaf) = rebuild.leaf.push(alloc, pair)? else {
         return Ok(());
     };
     let number = rebuild.number;
     let leaf = chunks.with_reference(leaf, number);
-    match pass(alloc, &mut rebuild.nodes, 0, &leaf, chunks, number) {
-        Ok(next) => {
-            rebuild.number = next;
-            Ok(())
-        }
-        Err(fault) => Err(fault),
-    }
+    rebuild.number = pass(alloc, &mut rebuild.nodes, 0, &leaf, chunks, number)?;
+    Ok(())
 }
 
 /// Takes a copy of a pair, and compares the chunks that it closes.
@@ -100,17 +91,13 @@ fn add_copy(
     requires key { length key.now ≤ 1024 }
     requires value { length value.now ≤ 65536 }
     requires number { rebuild.old.number ≤ length chunks.now }
-    ensures ok { OnOk result ((bits : ℕ) (version : Version) (pairs : List PairValue) (pair : PairValue) → pair ≡ record { key = key.now; value = value.now } →
-        IsBehind bits version chunks.now pairs rebuild.old.leaf rebuild.old.nodes.items rebuild.old.number →
-        IsBehind bits version chunks.now (pairs ++ pair ∷ []) rebuild.new.leaf rebuild.new.nodes.items rebuild.new.number) }
+    ensures ok { OnOk result (Takes chunks.now rebuild.old rebuild.new
+        (record { key = key.now; value = value.now } ∷ [])) }
     ensures number { OnOk result (rebuild.new.number ≤ length chunks.now) }
-    ensures err { IfErr result (UnlessMemory (λ fault. (bits : ℕ) (version : Version) (pairs : List PairValue) (pair : PairValue) → pair ≡ record { key = key.now; value = value.now } →
-        IsBehind bits version chunks.now pairs rebuild.old.leaf rebuild.old.nodes.items rebuild.old.number →
-        DifferBy bits version chunks.now (pairs ++ pair ∷ []) fault)) }
+    ensures err { IfErr result (UnlessMemory (FaultTaking chunks.now rebuild.old
+        (record { key = key.now; value = value.now } ∷ []))) }
 {
-    let Ok(pair) = Pair::copy_of(alloc, key, value) else {
-        return Err(CheckFault::Memory);
-    };
+    let pair = Pair::copy_of(alloc, key, value)?;
     add_pair(alloc, rebuild, &pair, chunks)
 }
 
@@ -122,17 +109,13 @@ fn add_leaf(
     chunks: &FileChunks,
 ) -> Result<(), CheckFault>
     requires number { rebuild.old.number ≤ length chunks.now }
-    ensures ok { OnOk result ((bits : ℕ) (version : Version) (pairs : List PairValue) → IsBehind bits version chunks.now pairs rebuild.old.leaf rebuild.old.nodes.items rebuild.old.number →
-        IsBehind bits version chunks.now (pairs ++ leaf.entry) rebuild.new.leaf rebuild.new.nodes.items rebuild.new.number) }
+    ensures ok { OnOk result (Takes chunks.now rebuild.old rebuild.new leaf.entry) }
     ensures number { OnOk result (rebuild.new.number ≤ length chunks.now) }
-    ensures err { IfErr result (UnlessMemory (λ fault. (bits : ℕ) (version : Version) (pairs : List PairValue) → IsBehind bits version chunks.now pairs rebuild.old.leaf rebuild.old.nodes.items rebuild.old.number →
-        DifferBy bits version chunks.now (pairs ++ leaf.entry) fault)) }
+    ensures err { IfErr result (UnlessMemory
+        (FaultTaking chunks.now rebuild.old leaf.entry)) }
 {
     while let Some((key, value)) = leaf.next() {
-        match add_copy(alloc, rebuild, key, value, chunks) {
-            Ok(()) => {}
-            Err(fault) => return Err(fault),
-        }
+        add_copy(alloc, rebuild, key, value, chunks)?;
     }
     Ok(())
 }
@@ -140,17 +123,14 @@ fn add_leaf(
 /// Takes the pairs of all chunks of a file.
 fn add_chunks(alloc: Global, rebuild: &mut Rebuild, chunks: &FileChunks) -> Result<(), CheckFault>
     requires number { rebuild.old.number ≤ length chunks.now }
-    ensures ok { OnOk result ((bits : ℕ) (version : Version) (pairs : List PairValue) (lists : List (List PairValue)) → IsBehind bits version chunks.now pairs rebuild.old.leaf rebuild.old.nodes.items rebuild.old.number →
-        AllHold version chunks.now lists → IsBehind bits version chunks.now (pairs ++ flat_map (λ pairs. pairs) lists) rebuild.new.leaf rebuild.new.nodes.items rebuild.new.number) }
+    ensures ok { OnOk result (Takes chunks.now rebuild.old rebuild.new
+        (flat_map pairs_held chunks.now)) }
     ensures number { OnOk result (rebuild.new.number ≤ length chunks.now) }
-    ensures err { IfErr result (UnlessMemory (λ fault. (bits : ℕ) (version : Version) (pairs : List PairValue) (lists : List (List PairValue)) → IsBehind bits version chunks.now pairs rebuild.old.leaf rebuild.old.nodes.items rebuild.old.number →
-        AllHold version chunks.now lists → DifferBy bits version chunks.now (pairs ++ flat_map (λ pairs. pairs) lists) fault)) }
+    ensures err { IfErr result (UnlessMemory
+        (FaultTaking chunks.now rebuild.old (flat_map pairs_held chunks.now))) }
 {
     for number in 0..chunks.len() {
-        match add_leaf(alloc, rebuild, chunks.pairs(number), chunks) {
-            Ok(()) => {}
-            Err(fault) => return Err(fault),
-        }
+        add_leaf(alloc, rebuild, chunks.pairs(number), chunks)?;
     }
     Ok(())
 }
@@ -158,22 +138,17 @@ fn add_chunks(alloc: Global, rebuild: &mut Rebuild, chunks: &FileChunks) -> Resu
 /// Closes what is left open, and answers how many chunks there are in all.
 fn finish(alloc: Global, rebuild: Rebuild, chunks: &FileChunks) -> Result<usize, CheckFault>
     requires number { rebuild.number ≤ length chunks.now }
-    ensures ok { IfOk result (λ count. (bits : ℕ) (version : Version) (pairs : List PairValue) → IsBehind bits version chunks.now pairs rebuild.leaf rebuild.nodes.items rebuild.number →
-        EndsAt bits version chunks.now pairs count) }
+    ensures ok { IfOk result (Ends chunks.now rebuild) }
     ensures count { IfOk result (λ count. count ≤ length chunks.now) }
-    ensures err { IfErr result (UnlessMemory (λ fault. (bits : ℕ) (version : Version) (pairs : List PairValue) → IsBehind bits version chunks.now pairs rebuild.leaf rebuild.nodes.items rebuild.number →
-        FaultAtEnd bits version chunks.now pairs fault)) }
+    ensures err { IfErr result (UnlessMemory (FaultEnding chunks.now rebuild)) }
 {
     let Rebuild {
         leaf,
         mut nodes,
         number,
     } = rebuild;
-    let last = leaf.finish();
-    match pass_last(alloc, &mut nodes, last, chunks, number) {
-        Ok(next) => finish_nodes(alloc, nodes, chunks, next),
-        Err(fault) => Err(fault),
-    }
+    let next = pass_last(alloc, &mut nodes, leaf.finish(), chunks, number)?;
+    finish_nodes(alloc, nodes, chunks, next)
 }
 
 /// Tests that the chunks of a file are those of the pairs that they hold.
@@ -185,23 +160,13 @@ pub(crate) fn test_rebuilt(
     version: Version,
     chunks: &FileChunks,
 ) -> Result<(), CheckFault>
-    ensures ok { OnOk result ((lists : List (List PairValue)) → AllHold version chunks.now lists → length (flat_map (λ pairs. pairs) lists) < 2 ^ 64 →
-        difference 0 (chunk_bytes version cut (flat_map (λ pairs. pairs) lists)) chunks.now ≡ None) }
-    ensures err { IfErr result (UnlessMemory (λ fault. (lists : List (List PairValue)) → AllHold version chunks.now lists → length (flat_map (λ pairs. pairs) lists) < 2 ^ 64 →
-        difference 0 (chunk_bytes version cut (flat_map (λ pairs. pairs) lists)) chunks.now ≡ Some fault)) }
+    ensures ok { OnOk result (CompareAs version cut chunks.now None) }
+    ensures err { IfErr result (UnlessMemory (λ fault.
+        CompareAs version cut chunks.now (Some fault))) }
 {
-    let mut rebuild = match begin(alloc, cut, version) {
-        Ok(rebuild) => rebuild,
-        Err(_) => return Err(CheckFault::Memory),
-    };
-    match add_chunks(alloc, &mut rebuild, chunks) {
-        Ok(()) => {}
-        Err(fault) => return Err(fault),
-    }
-    let count = match finish(alloc, rebuild, chunks) {
-        Ok(count) => count,
-        Err(fault) => return Err(fault),
-    };
+    let mut rebuild = begin(alloc, cut, version)?;
+    add_chunks(alloc, &mut rebuild, chunks)?;
+    let count = finish(alloc, rebuild, chunks)?;
     if count < chunks.len() {
         return Err(CheckFault::NotCanonical { chunk: count });
     }

@@ -1,22 +1,17 @@
 //! Scanning the pairs from a key on.
-ghost use Rattle.std.specs.Prelude.{◌≡◌, [], ◌∷◌, ◌++◌, ◌<◌, ◌≤◌, ◌^◌, List, length, take, drop, OnOk, IfOk, IfSome, IfNone};
-ghost use Rattle.std.specs.List.{flat_map, AllByRecursion};
+ghost use Rattle.std.specs.Prelude.{◌≡◌, [], ◌∷◌, ◌++◌, ◌≤◌, List, length, take, drop, OnOk, IfOk};
+ghost use Rattle.std.specs.List.{flat_map};
 ghost use Rattle.prolly_entry.specs.LookUp.{scan};
 ghost use Rattle.prolly_entry.specs.Pair.{Pair as PairValue};
-ghost use Rattle.prolly_entry.specs.declared.version.Version.{Version};
-ghost use Rattle.prolly_check.specs.Checked.{IsChecked};
+ghost use Rattle.prolly_check.specs.Checked.{chunks_of};
 ghost use Rattle.prolly_check.specs.Content.{Content};
-ghost use Rattle.prolly_check.specs.Entries.{AllHold};
-ghost use Rattle.prolly_check.specs.Scanned.{pairs_from, StartsAt};
-ghost use Rattle.prolly_check.specs.Spans.{IsWithin, chunks_in};
-ghost use Rattle.prolly_check.specs.Verdict.{IsFileOf};
-ghost use Rattle.prolly_check.specs.Whole.{IsReadable};
+ghost use Rattle.prolly_check.specs.Held.{pairs_held};
+ghost use Rattle.prolly_check.specs.Leaves.{pairs_from};
 
-use crate::find::child_for;
-use crate::frames::{Span, chunk_at};
-use crate::index::Index;
-use crate::leaf::{Pairs, pairs_of};
-use prolly_entry::{Pair, Version, key_order};
+use crate::file::CheckedFile;
+use crate::find::leaf_for;
+use crate::leaf::Pairs;
+use prolly_entry::{Pair, key_order};
 use std::alloc::{AllocError, Global};
 
 /// Adds a pair whose key is not less than `from`.
@@ -29,7 +24,8 @@ fn keep(
 ) -> Result<(), AllocError>
     requires key { length key.now ≤ 1024 }
     requires value { length value.now ≤ 65536 }
-    ensures { OnOk result (pairs.new.items ≡ pairs.old.items ++ pairs_from from.now (record { key = key.now; value = value.now } ∷ [])) }
+    ensures { OnOk result (pairs.new.items ≡ pairs.old.items
+        ++ pairs_from from.now (record { key = key.now; value = value.now } ∷ [])) }
 {
     if !key_order(key, from).is_lt() {
         pairs.push(Pair::copy_of(alloc, key, value)?)?;
@@ -47,7 +43,8 @@ fn scan_leaf(
 ) -> Result<(), AllocError>
     requires { length pairs.old.items ≤ limit }
     ensures within { OnOk result (length pairs.new.items ≤ limit) }
-    ensures added { OnOk result (pairs.new.items ≡ take limit (pairs.old.items ++ pairs_from from.now leaf.entry)) }
+    ensures added { OnOk result
+        (pairs.new.items ≡ take limit (pairs.old.items ++ pairs_from from.now leaf.entry)) }
 {
     while let Some((key, value)) = leaf.next() {
         if pairs.len() == limit {
@@ -58,79 +55,39 @@ fn scan_leaf(
     Ok(())
 }
 
-/// The first pairs of these chunks whose key is not less than `from`, at most `limit` of them. Reads no
-/// chunk behind the one that has the last of them.
+/// The first pairs of the chunks from this number on whose key is not less than `from`, at most `limit` of
+/// them. Reads no chunk behind the one that has the last of them.
 fn scan_chunks(
     alloc: Global,
-    bytes: &[u8],
-    spans: &[Span],
+    file: &CheckedFile,
+    first: usize,
     from: &[u8],
     limit: usize,
 ) -> Result<Vec<Pair>, AllocError>
-    requires within { AllByRecursion (IsWithin bytes.now) spans.now }
-    requires readable { AllByRecursion IsReadable (chunks_in bytes.now spans.now) }
-    ensures { IfOk result (λ pairs. (version : Version) (lists : List (List PairValue)) → AllHold version (chunks_in bytes.now spans.now) lists →
-        pairs.items ≡ take limit (pairs_from from.now (flat_map (λ pairs. pairs) lists))) }
+    ensures { IfOk result (λ pairs. pairs.items ≡ take limit (pairs_from from.now
+        (flat_map pairs_held (drop first (chunks_of file.now))))) }
 {
     let mut pairs = Vec::new(alloc);
-    for span in spans {
+    for number in first..file.len() {
         if pairs.len() == limit {
             return Ok(pairs);
         }
-        let leaf = pairs_of(chunk_at(bytes, *span));
-        scan_leaf(alloc, leaf, from, limit, &mut pairs)?;
+        scan_leaf(alloc, file.pairs(number), from, limit, &mut pairs)?;
     }
     Ok(pairs)
-}
-
-/// The number of the first leaf that has a key not less than the given one. Goes down from the root, one
-/// chunk a level.
-fn first_leaf(
-    bytes: &[u8],
-    version: Version,
-    spans: &[Span],
-    index: &Index,
-    key: &[u8],
-) -> Option<usize>
-    requires checked { IsChecked bytes.now version spans.now index.now }
-    requires short { length bytes.now < 2 ^ 64 }
-    ensures within { IfSome result (λ number. number < length spans.now) }
-    ensures some { IfSome result (λ number. (content : Content) → IsFileOf bytes.now content → StartsAt content key.now number) }
-    ensures none { IfNone result ((content : Content) → IsFileOf bytes.now content → pairs_from key.now content.pairs ≡ []) }
-{
-    let mut number = spans.len() - 1;
-    loop {
-        let chunk = chunk_at(bytes, spans[number]);
-        if chunk[0] == 0 {
-            return Some(number);
-        }
-        let reference = match child_for(version, &chunk[1..], key) {
-            Some(reference) => reference,
-            None => return None,
-        };
-        number = match index.get(&reference) {
-            Some(number) => *number,
-            None => unreachable!(),
-        };
-    }
 }
 
 /// The first pairs of a file that was checked whose key is not less than `from`, at most `limit` of them.
 pub(crate) fn scan_pairs(
     alloc: Global,
-    bytes: &[u8],
-    version: Version,
-    spans: &[Span],
-    index: &Index,
+    file: &CheckedFile,
     from: &[u8],
     limit: usize,
 ) -> Result<Vec<Pair>, AllocError>
-    requires checked { IsChecked bytes.now version spans.now index.now }
-    requires short { length bytes.now < 2 ^ 64 }
-    ensures { IfOk result (λ pairs. (content : Content) → IsFileOf bytes.now content → pairs.items ≡ scan content.pairs from.now limit) }
+    ensures { IfOk result (λ pairs. pairs.items ≡ scan file.now.pairs from.now limit) }
 {
-    match first_leaf(bytes, version, spans, index, from) {
-        Some(first) => scan_chunks(alloc, bytes, &spans[first..], from, limit),
+    match leaf_for(file, from) {
+        Some(first) => scan_chunks(alloc, file, first, from, limit),
         None => Ok(Vec::new(alloc)),
     }
 }

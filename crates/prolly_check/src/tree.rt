@@ -9,12 +9,12 @@ ghost use Rattle.prolly_check.specs.Checked.{IsChecked, IsFile};
 ghost use Rattle.prolly_check.specs.Content.{Content};
 ghost use Rattle.prolly_check.specs.Counted.{pair_of};
 ghost use Rattle.prolly_check.specs.Refusal.{UnlessMemory};
-ghost use Rattle.prolly_check.specs.Root.{root_bytes};
 ghost use Rattle.prolly_check.specs.Verdict.{IsVerdict, IsFileOf};
 
 use crate::fault::CheckFault;
+use crate::file::CheckedFile;
 use crate::find::find_value;
-use crate::frames::{Span, chunk_at};
+use crate::frames::Span;
 use crate::index::Index;
 use crate::inspect::{Layout, inspect};
 use crate::nth::find_nth;
@@ -74,14 +74,15 @@ impl Tree {
         ensures { (content : Content) → IsFileOf self.now content →
             result.0 ≡ root_reference (sha512_cut content.bits) content.version content.pairs }
     {
-        Ref::of(root_chunk(&self.bytes, self.version, &self.spans, &self.index))
+        let file = self.file();
+        Ref::of(file.chunk(file.root()))
     }
 
     /// The number of bits by which the entries were cut, from 0 to 24.
     pub fn bits(&self) -> u8
         ensures { (content : Content) → IsFileOf self.now content → result ≡ content.bits }
     {
-        bits_of(&self.bytes, self.version, &self.spans, &self.index)
+        self.file().bits()
     }
 
     /// The number of chunks.
@@ -89,7 +90,7 @@ impl Tree {
         ensures { (content : Content) → IsFileOf self.now content →
             result ≡ length (chunks (sha512_cut content.bits) content.version content.pairs) }
     {
-        self.spans.len() as u64
+        self.file().len() as u64
     }
 
     /// The value of the key, or none, found by references from the root. Takes no memory, and reads one
@@ -97,7 +98,7 @@ impl Tree {
     pub fn get(&self, key: &[u8]) -> Option<&[u8]>
         ensures { (content : Content) → IsFileOf self.now content → option_copied result ≡ find content.pairs key.now }
     {
-        find_value(&self.bytes, self.version, &self.spans, &self.index, key)
+        find_value(&self.file(), key)
     }
 
     /// The first pairs in the order of the keys whose key is not less than `from`, at most `limit` of them.
@@ -107,15 +108,7 @@ impl Tree {
     pub fn scan(&self, alloc: Global, from: &[u8], limit: u32) -> Result<Vec<Pair>, AllocError>
         ensures { IfOk result (λ pairs. (content : Content) → IsFileOf self.now content → pairs.items ≡ scan content.pairs from.now limit) }
     {
-        scan_pairs(
-            alloc,
-            &self.bytes,
-            self.version,
-            &self.spans,
-            &self.index,
-            from,
-            limit as usize,
-        )
+        scan_pairs(alloc, &self.file(), from, limit as usize)
     }
 
     /// The key and the value of the pair of this number, counted from 0 in the order of the keys, or none
@@ -127,9 +120,10 @@ impl Tree {
         ensures found { IfOk result (λ found. (content : Content) → IsFileOf self.now content → pair_of found ≡ nth content.pairs n) }
         ensures uncounted { (content : Content) → IsFileOf self.now content → IsErr result ↔ (content.version ≡ Version.One) }
     {
-        match self.version {
+        let file = self.file();
+        match file.version() {
             Version::One => Err(NoCounts),
-            Version::Two => Ok(find_nth(&self.bytes, &self.spans, &self.index, n)),
+            Version::Two => Ok(find_nth(&file, n)),
         }
     }
 
@@ -137,28 +131,13 @@ impl Tree {
     pub fn version(&self) -> Version
         ensures { (content : Content) → IsFileOf self.now content → result ≡ content.version }
     {
-        self.version
+        self.file().version()
     }
-}
 
-/// The chunk of the root, which is the last one.
-pub(crate) fn root_chunk<'a>(
-    bytes: &'a [u8],
-    version: Version,
-    spans: &[Span],
-    index: &Index,
-) -> &'a [u8]
-    requires checked { IsChecked bytes.now version spans.now index.now }
-    requires short { length bytes.now < 2 ^ 64 }
-    ensures { (content : Content) → IsFileOf bytes.now content → result.now ≡ root_bytes content }
-{
-    chunk_at(bytes, spans[spans.len() - 1])
-}
-
-/// The last byte of the header.
-fn bits_of(bytes: &[u8], version: Version, spans: &[Span], index: &Index) -> u8
-    requires { IsChecked bytes.now version spans.now index.now }
-    ensures { (content : Content) → IsFileOf bytes.now content → result ≡ content.bits }
-{
-    bytes[5]
+    /// The same, as look-ups see it.
+    fn file(&self) -> CheckedFile<'_>
+        ensures { (content : Content) → IsFileOf self.now content → result ≡ content }
+    {
+        CheckedFile::new(&self.bytes, self.version, &self.spans, &self.index)
+    }
 }

@@ -8,7 +8,7 @@ ghost use Rattle.prolly_check.specs.Whole.{IsWhole, AreWhole};
 
 use crate::fault::CheckFault;
 use crate::frames::{Span, chunk_at};
-use crate::leaf::is_leaf;
+use crate::leaf::{LEAF, is_leaf};
 use crate::node::is_node;
 use prolly_entry::Version;
 
@@ -35,8 +35,9 @@ fn is_whole(version: Version, chunk: &[u8]) -> bool
     if chunk.len() == 0 {
         return false;
     }
-    if chunk[0] != 0 {
-        return is_node(version, &chunk[1..]);
+    let entries = &chunk[1..];
+    if chunk[0] == LEAF {
+        return is_leaf(entries);
     }
-    is_leaf(&chunk[1..])
+    is_node(version, entries)
 }

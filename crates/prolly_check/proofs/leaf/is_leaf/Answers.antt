@@ -1,12 +1,14 @@
-use Rattle.std.proofs.Common.{arith}
-use Rattle.prolly_entry.proofs.RecordSteps.{rest_is}
-use Rattle.prolly_check.proofs.EntrySteps.{leaf_goes_on, leaf_stops, no_pair}
+use Rattle.std.proofs.Common.{◌==◌, length, sym, ap, ◌∙◌}
+use Rattle.std.proofs.lemmas.Bool.{false≢true}
+use Rattle.prolly_check.proofs.LeafPairs.{leaf_more, leaf_less, leaf_left}
 use Rattle.prolly_check.proofs.leaf.is_leaf.Goals as goal
 
-pub loop-place-preserved : goal.loop-place-preserved
-loop-place-preserved c = leaf_goes_on c.args.entries.now _ c.loop-place.place c.in-Pair.len _ (rest_is c.args.entries.now c.loop-place.place) c.loop-place.invariant c.in-Pair.ensures.is.0
+pub loop-rest-preserved : goal.loop-rest-preserved
+loop-rest-preserved c = (
+  λ l. leaf_less c.loop-rest.entries.now c.in-Some.rest.now _ c.in-Some.ensures.some (c.loop-rest.invariant.0 l),
+  λ l. c.loop-rest.invariant.1 (leaf_more c.loop-rest.entries.now c.in-Some.rest.now _ c.in-Some.ensures.some l),
+)
 
-pub returns-in_default-clause-other : goal.returns-in_default-clause-other
-returns-in_default-clause-other c = λ e.
-    leaf_stops c.args.entries.now _ c.loop-place.place (rest_is c.args.entries.now c.loop-place.place) c.loop-place.invariant (omega arith)
-    (no_pair _ c.front_pair.result c.front_pair.ensures.is c.in_default.not-Pair)
+pub returns-clause-other : goal.returns-clause-other
+returns-clause-other c = λ e pairs leaf. false≢true (sym e ∙ c.is_empty.ensures
+    ∙ ap (λ x. length x == 0) (leaf_left c.loop-rest.entries.now c.in_default.ensures.none (c.loop-rest.invariant.0 (record { pairs = pairs; is = leaf }))))

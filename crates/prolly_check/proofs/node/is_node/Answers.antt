@@ -1,10 +1,15 @@
-use Rattle.std.proofs.Common.{arith}
-use Rattle.prolly_entry.proofs.RecordSteps.{rest_is}
-use Rattle.prolly_check.proofs.EntrySteps.{node_goes_on, node_stops}
+use Rattle.std.proofs.Common.{◌==◌, length, refl, sym, ap, ◌∙◌}
+use Rattle.std.proofs.lemmas.Bool.{false≢true}
+use Rattle.prolly_check.proofs.NodeChildren.{node_more, node_less, node_left}
 use Rattle.prolly_check.proofs.node.is_node.Goals as goal
 
-pub loop-place-preserved : goal.loop-place-preserved
-loop-place-preserved c = node_goes_on c.args.version c.args.entries.now _ c.loop-place.place c.in-Some.child (rest_is c.args.entries.now c.loop-place.place) c.loop-place.invariant c.in-Some.ensures.some
+pub loop-rest-preserved : goal.loop-rest-preserved
+loop-rest-preserved c = (
+  λ n. node_less c.args.version c.loop-rest.entries.now c.in-Some.rest.now _ c.in-Some.ensures.some (c.loop-rest.invariant.0 n),
+  λ n. c.loop-rest.invariant.1 (node_more c.args.version c.loop-rest.entries.now c.in-Some.rest.now _ c.in-Some.ensures.some n),
+)
 
-pub returns-in-None-clause-other : goal.returns-in-None-clause-other
-returns-in-None-clause-other c = λ e. node_stops c.args.version c.args.entries.now _ c.loop-place.place (rest_is c.args.entries.now c.loop-place.place) c.loop-place.invariant (omega arith) c.in-None.ensures.none
+pub returns-clause-other : goal.returns-clause-other
+returns-clause-other c = λ e pairs n. false≢true (sym e ∙ c.is_empty.ensures
+    ∙ ap (λ x. length x == 0) (node_left c.args.version c.loop-rest.entries.now c.in_default.ensures.none
+    (c.loop-rest.invariant.0 (record { children = n.children; is = n.is; lawful = n.lawful; none = refl }))))

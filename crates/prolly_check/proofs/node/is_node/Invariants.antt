@@ -1,9 +1,9 @@
-use Rattle.std.proofs.Common.{◌-◌, length}
-use Rattle.prolly_check.proofs.EntrySteps.{NodeBegun}
+use Rattle.std.proofs.Common.{◌↔◌, [], length}
+use Rattle.prolly_check.specs.Entries.{IsNode}
 use Rattle.prolly_check.proofs.node.is_node.Given as goal
 
-abbrev pub invariant-loop-place : goal.invariant-loop-place
-invariant-loop-place l = NodeBegun l.version l.entries l.place
+abbrev pub invariant-loop-rest : goal.invariant-loop-rest
+invariant-loop-rest l = IsNode l.version l.fn.entries [] ↔ IsNode l.version l.entries []
 
-abbrev pub decreases-loop-place : goal.decreases-loop-place
-decreases-loop-place l = length l.entries - l.place
+abbrev pub decreases-loop-rest : goal.decreases-loop-rest
+decreases-loop-rest l = length l.entries

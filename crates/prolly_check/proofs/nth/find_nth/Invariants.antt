@@ -1,11 +1,9 @@
-use Rattle.std.proofs.Common.{slice_index}
-use Rattle.prolly_check.specs.Content.{Content}
-use Rattle.prolly_check.specs.Verdict.{IsFileOf}
-use Rattle.prolly_check.proofs.NthSteps.{CountStands}
+use Rattle.prolly_check.proofs.CountSteps.{IsAhead}
+use Rattle.prolly_check.proofs.WayDown.{Stands, height}
 use Rattle.prolly_check.proofs.nth.find_nth.Given as goal
 
-abbrev pub invariant-loop-chunk : goal.invariant-loop-chunk
-invariant-loop-chunk l = (content : Content) → IsFileOf l.bytes content → CountStands content l.n l.chunk l.ahead
+abbrev pub invariant-loop-pairs : goal.invariant-loop-pairs
+invariant-loop-pairs l = Stands l.file (IsAhead l.file l.n l.ahead) l.number
 
-abbrev pub decreases-loop-chunk : goal.decreases-loop-chunk
-decreases-loop-chunk l = slice_index l.chunk 0
+abbrev pub decreases-loop-pairs : goal.decreases-loop-pairs
+decreases-loop-pairs l = height l.file l.number

@@ -1,7 +1,6 @@
 use Rattle.std.specs.Option.{option_copied}
-use Rattle.prolly_check.specs.Spans.{chunks_in}
 use Rattle.prolly_check.proofs.OrderSteps.{ChunksRise}
 use Rattle.prolly_check.proofs.order.test_order.Given as goal
 
 abbrev pub invariant-loop-number : goal.invariant-loop-number
-invariant-loop-number l = ChunksRise (chunks_in l.bytes l.spans) (option_copied l.last) l.number
+invariant-loop-number l = ChunksRise l.chunks (option_copied l.last) l.number

@@ -1,40 +1,27 @@
-use Rattle.std.proofs.Common.{ℕ, List, ◌++◌, arith}
-use Rattle.prolly_entry.specs.Pair.{Pair}
-use Rattle.prolly_entry.specs.declared.version.Version.{Version}
-use Rattle.prolly_entry.proofs.Parts.{flat}
-use Rattle.prolly_check.specs.Entries.{AllHold}
-use Rattle.prolly_check.specs.Rebuilt.{IsBehind, DifferBy}
+use Rattle.std.proofs.Common.{◌+◌, drop, arith}
+use Rattle.std.specs.List.{flat_map}
+use Rattle.std.proofs.lemmas.Result.{err_from_is_err_and}
+use Rattle.prolly_check.specs.Held.{pairs_held}
+use Rattle.prolly_check.specs.Taking.{FaultTaking}
 use Rattle.prolly_check.proofs.Refusals.{still_refused}
-use Rattle.prolly_check.proofs.RebuildSteps.{chunks_begin, chunks_go_on, chunks_fault, chunks_end}
+use Rattle.prolly_check.proofs.RebuildSteps.{more_taken, fault_taking, held_next}
 use Rattle.prolly_check.proofs.rebuild.add_chunks.Goals as goal
 
-pub loop-number-init : goal.loop-number-init
-loop-number-init c = record {
-  number = c.requires.number;
-  all = chunks_begin c.args.chunks.now c.args.rebuild.now.leaf c.args.rebuild.now.nodes.items c.args.rebuild.now.number;
-}
-
 pub loop-number-preserved : goal.loop-number-preserved
-loop-number-preserved c = record {
-  number = c.in-Ok.ensures.number;
-  all = chunks_go_on c.args.chunks.now c.args.rebuild.now.leaf c.args.rebuild.now.nodes.items c.args.rebuild.now.number c.loop-number.rebuild.leaf c.loop-number.rebuild.nodes.items c.loop-number.rebuild.number
-      c.loop-number.number c.loop-number.invariant.all (omega arith) c.pairs.result c.pairs.ensures c.add_leaf.new.rebuild.leaf c.add_leaf.new.rebuild.nodes.items c.add_leaf.new.rebuild.number
-      c.in-Ok.ensures.ok;
-}
-
-pub returns-in-Err-clause-err : goal.returns-in-Err-clause-err
-returns-in-Err-clause-err c =
+loop-number-preserved c =
     let chunks = c.args.chunks.now in
-    still_refused
-    (λ fault. (bits : ℕ) (version : Version) (pairs : List Pair) → IsBehind bits version chunks pairs c.loop-number.rebuild.leaf c.loop-number.rebuild.nodes.items c.loop-number.rebuild.number →
-    DifferBy bits version chunks (pairs ++ c.pairs.result) fault)
-    (λ fault. (bits : ℕ) (version : Version) (pairs : List Pair) (lists : List (List Pair)) → IsBehind bits version chunks pairs c.args.rebuild.now.leaf c.args.rebuild.now.nodes.items c.args.rebuild.now.number →
-    AllHold version chunks lists → DifferBy bits version chunks (pairs ++ flat lists) fault)
-    (λ fault h. chunks_fault c.args.chunks.now c.args.rebuild.now.leaf c.args.rebuild.now.nodes.items c.args.rebuild.now.number c.loop-number.rebuild.leaf c.loop-number.rebuild.nodes.items c.loop-number.rebuild.number
-    c.loop-number.number c.loop-number.invariant.all (omega arith) c.pairs.result c.pairs.ensures fault h)
-    c.in-Err.fault c.in-Err.ensures.err
+    let number = c.loop-number.number in record {
+      number = c.in_ok-add_leaf.ensures.number;
+      taken = more_taken chunks c.args.rebuild.now (flat_map pairs_held chunks) c.loop-number.rebuild (flat_map pairs_held (drop number chunks)) c.loop-number.invariant.taken
+          c.pairs.result (flat_map pairs_held (drop (number + 1) chunks)) (held_next chunks number c.pairs.result (omega arith) c.pairs.ensures) c.add_leaf.new.rebuild c.in_ok-add_leaf.ensures.ok;
+    }
 
-pub returns-clause-ok : goal.returns-clause-ok
-returns-clause-ok c =
-    chunks_end c.args.chunks.now c.args.rebuild.now.leaf c.args.rebuild.now.nodes.items c.args.rebuild.now.number c.loop-number.rebuild.leaf c.loop-number.rebuild.nodes.items c.loop-number.rebuild.number
-    c.loop-number.number (omega arith) c.loop-number.invariant.all
+pub returns-in_err-add_leaf-clause-err : goal.returns-in_err-add_leaf-clause-err
+returns-in_err-add_leaf-clause-err c =
+    let chunks = c.args.chunks.now in
+    let number = c.loop-number.number in
+    let p = err_from_is_err_and c.from_residual.result c.from_residual.ensures.1 in
+    rw (p.1, p.2) (still_refused (FaultTaking chunks c.loop-number.rebuild c.pairs.result) (FaultTaking chunks c.args.rebuild.now (flat_map pairs_held chunks))
+    (fault_taking chunks c.args.rebuild.now (flat_map pairs_held chunks) c.loop-number.rebuild (flat_map pairs_held (drop number chunks)) c.loop-number.invariant.taken
+    c.pairs.result (flat_map pairs_held (drop (number + 1) chunks)) (held_next chunks number c.pairs.result (omega arith) c.pairs.ensures))
+    c.in_err-add_leaf.field-0.0 c.in_err-add_leaf.ensures.err)

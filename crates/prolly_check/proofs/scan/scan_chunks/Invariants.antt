@@ -1,6 +1,6 @@
-use Rattle.prolly_check.specs.Spans.{chunks_in}
+use Rattle.prolly_check.specs.Checked.{chunks_of}
 use Rattle.prolly_check.proofs.ScanSteps.{ChunkScan}
 use Rattle.prolly_check.proofs.scan.scan_chunks.Given as goal
 
-abbrev pub invariant-loop-span : goal.invariant-loop-span
-invariant-loop-span l = ChunkScan (chunks_in l.bytes l.spans) l.from l.limit l.pairs.items l.span-index
+abbrev pub invariant-loop-number : goal.invariant-loop-number
+invariant-loop-number l = ChunkScan (chunks_of l.file) l.from l.limit l.first l.pairs.items l.number

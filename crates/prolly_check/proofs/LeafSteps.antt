@@ -1,0 +1,220 @@
+-- The leaf that a key leads to.
+use Rattle.std.proofs.Common.{◌≡◌, ℕ, zero, suc, ◌<◌, inl, inr, ◌⊎◌, Bool, true, false, cond, List, [], ◌∷◌, ◌++◌, length, drop, map, get_or, Option, Some, None, Ordering, refl, sym, ap, ◌∙◌, subst, arith, append_assoc, append-nil}
+use Rattle.std.specs.Ordering.{is_lt}
+use Rattle.std.specs.declared.cmp.Ordering.TheVariants.{Less, Equal, Greater}
+use Rattle.std.specs.List.{flat_map, AllByRecursion}
+use Rattle.std.proofs.lemmas.List.Concat.{flat_map-append}
+use Rattle.prolly_entry.specs.Chunk.{chunk_of, post_order}
+use Rattle.prolly_entry.specs.Keys.{key_order, KeyBelow}
+use Rattle.prolly_entry.specs.LookUp.{find}
+use Rattle.prolly_entry.specs.Pair.{Pair, IsPair}
+use Rattle.prolly_entry.specs.Reference.{reference_of}
+use Rattle.prolly_entry.specs.Tree.{Tree, pairs_below, greatest_key, bytes_of}
+use Rattle.prolly_entry.specs.declared.version.Version.{Version}
+use Rattle.prolly_entry.proofs.Distinct.{Rises, rises_front}
+use Rattle.prolly_entry.proofs.Groups.{all_front}
+use Rattle.prolly_entry.proofs.Roots.{in_back}
+use Rattle.prolly_check.specs.Checked.{HasFile, HasReference, chunks_of}
+use Rattle.prolly_check.specs.Children.{child_for}
+use Rattle.prolly_check.specs.Content.{Content}
+use Rattle.prolly_check.specs.Entries.{Child}
+use Rattle.prolly_check.specs.Held.{pairs_held}
+use Rattle.prolly_check.specs.Index.{HasAt}
+use Rattle.prolly_check.specs.Kinds.{kind_of}
+use Rattle.prolly_check.specs.Leaves.{pairs_from, IsLeafOf, IsBeyond}
+use Rattle.prolly_check.specs.Verdict.{AllApart}
+use Rattle.prolly_check.specs.declared.entries.Entries.TheVariants.{Leaf, Node}
+use Rattle.prolly_check.proofs.Acceptance.{bytes_in, bytes_append}
+use Rattle.prolly_check.proofs.Descents.{rising_is}
+use Rattle.prolly_check.proofs.HeldPairs.{tree_holds, trees_hold}
+use Rattle.prolly_check.proofs.Lookups.{apart_from, find_in_child, find_in_none}
+use Rattle.prolly_check.proofs.Scans.{pairs_from-append, none_below_all, some_from}
+use Rattle.prolly_check.proofs.WayDown.{root_of, root_pairs, root_below, IsBelow, in_parts, child_some, child_of, own_pairs, Stands, AtLeaf, AtNode, at_leaf, at_node, height, is_there, has_reference, goes_on}
+
+-- ---- the child to which a key leads
+
+-- of these trees, one is the first whose greatest key is not below the key, and this is how it is read
+pub record LeadsTo (version : Version) (level : ℕ) (trees : List (Tree level)) (key : List ℕ) (c : Child) : Type 0 where
+  pub before : List (Tree level)
+  pub child : Tree level
+  pub after : List (Tree level)
+  pub is : trees ≡ before ++ child ∷ after
+  pub below : AllByRecursion (λ u. KeyBelow (greatest_key level u) key) before
+  pub here : is_lt (key_order (greatest_key level child) key) ≡ false
+  pub named : c ≡ child_of version level child
+
+is_less : (o : Ordering) → is_lt o ≡ true → o ≡ Less
+is_less Less h = refl
+is_less Equal h = cc
+is_less Greater h = cc
+
+some_same : (c d : Child) → ◌≡◌ {A = Option Child} (Some c) (Some d) → d ≡ c
+some_same c d e = cc
+
+none_some : (c : Child) → ◌≡◌ {A = Option Child} None (Some c) → ⊥
+none_some c e = cc
+
+module _ (version : Version) (level : ℕ) (key : List ℕ) where
+  pub leads_to : (trees : List (Tree level)) (c : Child) → child_for key (map (child_of version level) trees) ≡ Some c → LeadsTo version level trees key c
+  leads_to [] c e = absurd (none_some c e)
+  leads_to (t ∷ trees) c e = go (is_lt (key_order (greatest_key level t) key)) refl (leads_to trees c) e
+    where
+      go : (b : Bool) → is_lt (key_order (greatest_key level t) key) ≡ b → (child_for key (map (child_of version level) trees) ≡ Some c → LeadsTo version level trees key c) →
+          cond b (child_for key (map (child_of version level) trees)) (Some (child_of version level t)) ≡ Some c → LeadsTo version level (t ∷ trees) key c
+      go false h more f = record { before = []; child = t; after = trees; is = refl; below = tt; here = h; named = some_same (child_of version level t) c f }
+      go true h more f = let l = more f in record {
+        before = t ∷ l.before;
+        child = l.child;
+        after = l.after;
+        is = ap (λ ts. t ∷ ts) l.is;
+        below = (is_less (key_order (greatest_key level t) key) h, l.below);
+        here = l.here;
+        named = l.named;
+      }
+
+  pub leads_nowhere : (trees : List (Tree level)) → child_for key (map (child_of version level) trees) ≡ None → AllByRecursion (λ u. KeyBelow (greatest_key level u) key) trees
+  leads_nowhere [] e = tt
+  leads_nowhere (t ∷ trees) e = go (is_lt (key_order (greatest_key level t) key)) refl (leads_nowhere trees) e
+    where
+      go : (b : Bool) → is_lt (key_order (greatest_key level t) key) ≡ b → (child_for key (map (child_of version level) trees) ≡ None → AllByRecursion (λ u. KeyBelow (greatest_key level u) key) trees) →
+          cond b (child_for key (map (child_of version level) trees)) (Some (child_of version level t)) ≡ None → AllByRecursion (λ u. KeyBelow (greatest_key level u) key) (t ∷ trees)
+      go false h more f = absurd (none_some (child_of version level t) (sym f))
+      go true h more f = (is_less (key_order (greatest_key level t) key) h, more f)
+
+-- ---- the trees on the way
+
+-- the leaf is below this tree, whose chunks lie between these: the pairs before it are below the key, and where none of its own pairs
+-- is from the key on it is the last tree
+pub record LeafBelow (content : Content) (key : List ℕ) (level : ℕ) (tree : Tree level) : Type 0 where
+  pub before : List (List ℕ)
+  pub after : List (List ℕ)
+  pub lies : chunks_of content ≡ before ++ (bytes_in (post_order content.version level tree) ++ after)
+  pub past : pairs_from key (flat_map pairs_held before) ≡ []
+  pub found : find content.pairs key ≡ find (pairs_below level tree) key
+  pub here : (after ≡ []) ⊎ (pairs_from key (pairs_below level tree) ≡ [] → ⊥)
+
+pub leaf_begins : (content : Content) (key : List ℕ) → LeafBelow content key (root_of content).level (root_of content).tree
+leaf_begins content key = record {
+  before = [];
+  after = [];
+  lies = sym (append-nil (chunks_of content));
+  past = refl;
+  found = ap (λ ps. find ps key) (sym (root_pairs content));
+  here = inl refl;
+}
+
+regroup : {A : Type 0} (x a b c y : List A) (n : A) → x ++ (((a ++ (b ++ c)) ++ n ∷ []) ++ y) ≡ (x ++ a) ++ (b ++ (c ++ n ∷ y))
+regroup x a b c y n = simp append_assoc
+
+module _ (content : Content) (key : List ℕ) (level : ℕ) (trees : List (Tree level)) (s : LeafBelow content key (suc level) trees) (b : IsBelow content (suc level) trees) (c : Child)
+    (l : LeadsTo content.version level trees key c) where
+  chunk_parts : bytes_in (post_order content.version (suc level) trees)
+      ≡ (bytes_in (flat_map (post_order content.version level) l.before) ++ (bytes_in (post_order content.version level l.child) ++ bytes_in (flat_map (post_order content.version level) l.after)))
+      ++ bytes_of content.version (suc level) trees ∷ []
+  chunk_parts =
+      let post = flat_map (post_order content.version level) in
+      let own = bytes_of content.version (suc level) trees ∷ [] in
+      bytes_append (post trees) (chunk_of content.version (suc level) trees ∷ [])
+      ∙ ap (λ cs. bytes_in cs ++ own) (ap post l.is ∙ flat_map-append (post_order content.version level) l.before (l.child ∷ l.after))
+      ∙ ap (λ cs. cs ++ own) (bytes_append (post l.before) (post_order content.version level l.child ++ post l.after)
+      ∙ ap (λ cs. bytes_in (post l.before) ++ cs) (bytes_append (post_order content.version level l.child) (post l.after)))
+
+  pub leaf_goes_down : LeafBelow content key level l.child
+  leaf_goes_down =
+      let left = bytes_in (flat_map (post_order content.version level) l.before) in
+      let pre = flat_map (pairs_below level) l.before in
+      let back = pairs_below level l.child ++ flat_map (pairs_below level) l.after in
+      let parts = in_parts content level trees l.before l.after l.child l.is in
+      let some = child_some content level trees l.before l.after l.child l.is b in
+      let lawful : AllByRecursion IsPair pre = all_front IsPair pre back (subst (AllByRecursion IsPair) parts b.lawful) in
+      record {
+        before = s.before ++ left;
+        after = bytes_in (flat_map (post_order content.version level) l.after) ++ bytes_of content.version (suc level) trees ∷ s.after;
+        lies = s.lies ∙ ap (λ cs. s.before ++ (cs ++ s.after)) chunk_parts
+            ∙ regroup s.before left (bytes_in (post_order content.version level l.child)) (bytes_in (flat_map (post_order content.version level) l.after)) s.after (bytes_of content.version (suc level) trees);
+        past = ap (pairs_from key) (flat_map-append pairs_held s.before left) ∙ pairs_from-append key (flat_map pairs_held s.before) (flat_map pairs_held left)
+            ∙ ap (λ ps. ps ++ pairs_from key (flat_map pairs_held left)) s.past ∙ ap (pairs_from key) (trees_hold content.version level l.before lawful)
+            ∙ none_below_all level l.before key (rises_front pre back (subst Rises parts b.rising)) l.below;
+        found = s.found ∙ ap (λ ts. find (flat_map (pairs_below level) ts) key) l.is
+            ∙ find_in_child level l.before l.after l.child key (rising_is (flat_map (pairs_below level) (l.before ++ l.child ∷ l.after)) (subst (λ ts. Rises (flat_map (pairs_below level) ts)) l.is b.rising))
+            some l.below l.here;
+        here = inr (some_from key (pairs_below level l.child) some l.here);
+      }
+
+-- ---- what is found there
+
+-- the chunks hold the pairs of the map
+all_held : (content : Content) → HasFile content → content.pairs ≡ flat_map pairs_held (chunks_of content)
+all_held content f = sym (tree_holds content.version (root_of content).level (root_of content).tree (root_below content f).lawful ∙ root_pairs content)
+
+-- the pairs from the key on are behind those that are past
+from_behind : (content : Content) (key : List ℕ) (before behind : List (List ℕ)) → HasFile content → chunks_of content ≡ before ++ behind → pairs_from key (flat_map pairs_held before) ≡ [] →
+    pairs_from key content.pairs ≡ pairs_from key (flat_map pairs_held behind)
+from_behind content key before behind f lies past =
+    ap (pairs_from key) (all_held content f ∙ ap (flat_map pairs_held) lies ∙ flat_map-append pairs_held before behind)
+    ∙ pairs_from-append key (flat_map pairs_held before) (flat_map pairs_held behind) ∙ ap (λ ps. ps ++ pairs_from key (flat_map pairs_held behind)) past
+
+-- where no two chunks have one reference, a chunk has one number
+one_number : (before after : List (List ℕ)) (c : List ℕ) (number : ℕ) → AllApart (before ++ c ∷ after) → number < length (before ++ c ∷ after) → get_or (before ++ c ∷ after) number [] ≡ c → drop number (before ++ c ∷ after) ≡ c ∷ after
+one_number [] after c zero h within e = refl
+one_number [] after c (suc number) h within e =
+    let w : suc number < suc (length after) = within in
+    absurd (apart_from c (get_or after number []) after h.0 (is_there after number (omega arith)) (ap reference_of (sym e)))
+one_number (b ∷ before) after c zero h within e = absurd (apart_from b c (before ++ c ∷ after) h.0 (in_back c before (c ∷ after) (inl refl)) (ap reference_of e))
+one_number (b ∷ before) after c (suc number) h within e =
+    let w : suc number < suc (length (before ++ c ∷ after)) = within in one_number before after c number h.1 (omega arith) e
+
+module _ (content : Content) (key : List ℕ) (number : ℕ) (f : HasFile content) (st : Stands content (LeafBelow content key) number) where
+  pub is_leaf_of : (pairs : List Pair) → AtLeaf content (LeafBelow content key) number pairs → IsLeafOf content key number
+  is_leaf_of pairs a =
+      let own = bytes_of content.version 0 pairs in
+      let s = a.so in
+      let behind : drop number (chunks_of content) ≡ own ∷ s.after =
+      ap (drop number) s.lies ∙ one_number s.before s.after own number (subst AllApart s.lies f.is.apart) (subst (λ cs. number < length cs) s.lies st.within) (ap (λ cs. get_or cs number []) (sym s.lies) ∙ a.is) in
+      record {
+        within = st.within;
+        found = s.found ∙ ap (λ ps. find ps key) (sym (ap pairs_held a.is ∙ own_pairs pairs a.below.lawful));
+        same = from_behind content key s.before (own ∷ s.after) f s.lies s.past ∙ ap (λ cs. pairs_from key (flat_map pairs_held cs)) (sym behind);
+      }
+
+  pub is_beyond : (children : List Child) (n : AtNode content (LeafBelow content key) number children) → AllByRecursion (λ u. KeyBelow (greatest_key n.level u) key) n.trees → IsBeyond content key
+  is_beyond children n h =
+      let s = n.so in
+      let own = bytes_in (post_order content.version (suc n.level) n.trees) in
+      let none : pairs_from key (flat_map (pairs_below n.level) n.trees) ≡ [] = none_below_all n.level n.trees key n.below.rising h in
+      record {
+        none = s.found ∙ find_in_none n.level n.trees key (rising_is (flat_map (pairs_below n.level) n.trees) n.below.rising) h;
+        past = elim s.here [
+          | inl last ↦ from_behind content key s.before (own ++ s.after) f s.lies s.past
+              ∙ ap (λ cs. pairs_from key (flat_map pairs_held (own ++ cs))) last ∙ ap (λ cs. pairs_from key (flat_map pairs_held cs)) (append-nil own)
+              ∙ ap (pairs_from key) (tree_holds content.version (suc n.level) n.trees n.below.lawful) ∙ none
+          | inr some ↦ absurd (some none)
+        ];
+      }
+
+-- ---- the same, as the code has it
+
+module _ (content : Content) (key : List ℕ) (number : ℕ) (f : HasFile content) (st : Stands content (LeafBelow content key) number) where
+  pub at_leaf_of : (pairs : List Pair) → kind_of content.version (get_or (chunks_of content) number []) ≡ Leaf pairs → IsLeafOf content key number
+  at_leaf_of pairs e = is_leaf_of content key number f st pairs (at_leaf content (LeafBelow content key) number st pairs e)
+
+  module _ (children : List Child) (e : kind_of content.version (get_or (chunks_of content) number []) ≡ Node children) where
+    node : AtNode content (LeafBelow content key) number children
+    node = at_node content (LeafBelow content key) number st children e
+
+    found : (o : Option Child) → o ≡ child_for key children → child_for key (map (child_of content.version node.level) node.trees) ≡ o
+    found o h = ap (child_for key) (sym node.children_are) ∙ sym h
+
+    pub at_beyond : None ≡ child_for key children → IsBeyond content key
+    at_beyond h = is_beyond content key number f st children node (leads_nowhere content.version node.level key node.trees (found None h))
+
+    module _ (c : Child) (h : Some c ≡ child_for key children) where
+      led : LeadsTo content.version node.level node.trees key c
+      led = leads_to content.version node.level key node.trees c (found (Some c) h)
+
+      pub at_child : HasReference (chunks_of content) c.reference
+      at_child = has_reference content (LeafBelow content key) number children node led.before led.after led.child led.is c.reference (ap (λ x. x.reference) led.named)
+
+      pub at_next : (next : ℕ) → HasAt (chunks_of content) next c.reference → Stands content (LeafBelow content key) next × (height content next < height content number)
+      at_next = goes_on content (LeafBelow content key) number children node led.before led.after led.child led.is c.reference (ap (λ x. x.reference) led.named) f
+          (LeafBelow content key) (leaf_goes_down content key node.level node.trees node.so node.below c led)

@@ -1,0 +1,12 @@
+-- What the entries of a chunk are.
+use Rattle.std.specs.Prelude.{ℕ, zero, suc, List, [], ◌∷◌}
+use Rattle.prolly_entry.specs.declared.version.Version.{Version}
+use Rattle.prolly_check.specs.declared.entries.Entries.{Entries}
+use Rattle.prolly_check.specs.declared.entries.Entries.TheVariants.{Leaf, Node}
+use Rattle.prolly_check.specs.Entries.{pairs_in, children_in}
+
+-- Those of a leaf are pairs, those of a node children. (A chunk that was tested has a level.)
+abbrev pub kind_of : Version → List ℕ → Entries
+kind_of version [] = Leaf []
+kind_of version (zero ∷ entries) = Leaf (pairs_in entries)
+kind_of version (suc level ∷ entries) = Node (children_in version entries)

@@ -1,0 +1,39 @@
+//! The entries of a chunk that was tested.
+ghost use Rattle.std.specs.Prelude.{◌≡◌};
+ghost use Rattle.prolly_check.specs.Held.{pairs_held};
+ghost use Rattle.prolly_check.specs.Kinds.{kind_of};
+ghost use Rattle.prolly_check.specs.Whole.{IsWhole};
+
+use crate::leaf::{LEAF, Pairs};
+use crate::node::Children;
+use prolly_entry::Version;
+
+/// The entries of a chunk.
+#[derive(Drop)]
+pub(crate) enum Entries<'a> {
+    Leaf(Pairs<'a>),
+    Node(Children<'a>),
+}
+
+/// The entries of a chunk that was tested.
+pub(crate) fn entries_of(version: Version, chunk: &[u8]) -> Entries<'_>
+    requires { IsWhole version chunk.now }
+    ensures { result ≡ kind_of version chunk.now }
+{
+    let entries = &chunk[1..];
+    if chunk[0] == LEAF {
+        return Entries::Leaf(Pairs::new(entries));
+    }
+    Entries::Node(Children::new(version, entries))
+}
+
+/// The pairs of a chunk that was tested. A node has none.
+pub(crate) fn pairs_of(version: Version, chunk: &[u8]) -> Pairs<'_>
+    requires { IsWhole version chunk.now }
+    ensures { result ≡ pairs_held chunk.now }
+{
+    match entries_of(version, chunk) {
+        Entries::Leaf(pairs) => pairs,
+        Entries::Node(_) => Pairs::new(&[]),
+    }
+}
