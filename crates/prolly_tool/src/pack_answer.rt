@@ -75,10 +75,7 @@ fn packed_of<S: Source>(alloc: Global, source: &mut S) -> Result<Packed, Fault>
     ensures read { (S.seen source.new).failures ≢ (S.seen source.old).failures →
         IsErrOf result (Fault.Run (RunFault.Read 0)) }
 {
-    let text = match input_of(alloc, source) {
-        Ok(text) => text,
-        Err(fault) => return Err(fault),
-    };
+    let text = input_of(alloc, source)?;
     let mut file = Vec::new(alloc);
     match pack_lines(alloc, &text, &mut file) {
         Ok(count) => Ok(Packed { file, count }),

@@ -89,10 +89,7 @@ fn tree_of<S: Source>(
     ensures read { (S.seen source.new).failures ≢ (S.seen source.old).failures →
         IsErrOf result (Fault.Run (RunFault.Read 0)) }
 {
-    let pairs = match pairs_of(alloc, source) {
-        Ok(pairs) => pairs,
-        Err(fault) => return Err(fault),
-    };
+    let pairs = pairs_of(alloc, source)?;
     let cut = Sha512Cut::new(bits).unwrap();
     let mut file = Vec::new(alloc);
     match scratch_as(alloc, cut, version, &pairs, LEVEL_LIMIT, &mut file) {
@@ -115,10 +112,7 @@ fn pairs_of<S: Source>(alloc: Global, source: &mut S) -> Result<Vec<Pair>, Fault
     ensures read { (S.seen source.new).failures ≢ (S.seen source.old).failures →
         IsErrOf result (Fault.Run (RunFault.Read 0)) }
 {
-    let input = match input_of(alloc, source) {
-        Ok(input) => input,
-        Err(fault) => return Err(fault),
-    };
+    let input = input_of(alloc, source)?;
     match records(alloc, &input, RECORD_LIMIT) {
         Ok(pairs) => Ok(pairs),
         Err(fault) => Err(Fault::Run(run_fault(fault))),
