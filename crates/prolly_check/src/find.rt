@@ -37,8 +37,8 @@ fn child_for<'a>(mut children: Children<'a>, key: &[u8]) -> Option<Child<'a>>
     None
 }
 
-/// The number of the leaf that a key leads to: the first one that has a key not less than it. Goes down
-/// from the root, one chunk a level.
+/// The number of the leaf that a key leads to: the first one that has a key not less than it. Goes
+/// down from the root, one chunk a level.
 pub(crate) fn leaf_for(file: &CheckedFile, key: &[u8]) -> Option<usize>
     ensures some { IfSome result (IsLeafOf file.now key.now) }
     ensures none { IfNone result (IsBeyond file.now key.now) }

@@ -55,8 +55,8 @@ fn scan_leaf(
     Ok(())
 }
 
-/// The first pairs of the chunks from this number on whose key is not less than `from`, at most `limit` of
-/// them. Reads no chunk behind the one that has the last of them.
+/// The first pairs of the chunks from this number on whose key is not less than `from`, at most
+/// `limit` of them. Reads no chunk behind the one that has the last of them.
 fn scan_chunks(
     alloc: Global,
     file: &CheckedFile,
@@ -77,7 +77,8 @@ fn scan_chunks(
     Ok(pairs)
 }
 
-/// The first pairs of a file that was checked whose key is not less than `from`, at most `limit` of them.
+/// The first pairs of a file that was checked whose key is not less than `from`, at most `limit` of
+/// them.
 pub(crate) fn scan_pairs(
     alloc: Global,
     file: &CheckedFile,
