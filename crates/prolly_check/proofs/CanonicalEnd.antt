@@ -1,5 +1,5 @@
 -- What the tests of the keys, the chunks and the end record say together.
-use Rattle.std.proofs.Common.{◌≡◌, ℕ, ◌-◌, ◌<◌, List, [], ◌∷◌, ◌++◌, length, map, get_or, Option, Some, None, refl, sym, ap, ◌∙◌, subst}
+use Rattle.std.proofs.Common.{◌≡◌, ℕ, ◌-◌, ◌<◌, List, [], ◌∷◌, ◌++◌, length, map, get_or, Option, Some, None, sym, ap, ◌∙◌, subst}
 use Rattle.std.specs.Int.{w64, to_be_bytes}
 use Rattle.prolly_entry.specs.declared.version.Version.{Version}
 use Rattle.prolly_entry.specs.Cut.{sha512_cut}
@@ -13,7 +13,7 @@ use Rattle.prolly_check.specs.declared.fault.CheckFault.TheVariants as faults
 use Rattle.prolly_check.specs.Canonical.{Says, CompareAs, ending_of_chunks}
 use Rattle.prolly_check.specs.Held.{pairs_held}
 use Rattle.prolly_check.specs.Judged.{order_fault, difference, chunk_bytes, ending_for}
-use Rattle.prolly_check.proofs.CanonicalSteps.{then_chunks, chunks_first, end_differs, end_same}
+use Rattle.prolly_check.proofs.CanonicalSteps.{chunks_first, end_differs, end_same}
 use Rattle.prolly_check.proofs.CheckedTree.{count_map, chunks_some, chunks_last}
 use Rattle.prolly_check.proofs.HeldPairs.{flat_held}
 use Rattle.prolly_check.proofs.Verdicts.{difference_ok}
@@ -32,8 +32,7 @@ module _ (version : Version) (bits : ℕ) (cs : List (List ℕ)) (rise : order_f
   of_flat o h = ap (λ ps. difference 0 (chunk_bytes version bits ps) cs) (flat_held cs) ∙ h
 
   pub chunks_say : (found : List ℕ) (fault : CheckFault) → CompareAs version bits cs (Some fault) → Says version bits cs found (Some fault)
-  chunks_say found fault h ending e =
-      then_chunks version bits cs ending lists rise ∙ chunks_first version bits cs ending (flat lists) (chunk_bytes version bits (flat lists)) fault refl (of_flat (Some fault) h)
+  chunks_say found fault h ending e = chunks_first version bits cs ending lists rise fault (of_flat (Some fault) h)
 
   module _ (same : CompareAs version bits cs None) where
     are_chunks : chunk_bytes version bits (flat lists) ≡ cs
@@ -47,14 +46,10 @@ module _ (version : Version) (bits : ℕ) (cs : List (List ℕ)) (rise : order_f
 
     module _ (found : List ℕ) where
       pub end_says : (fault : CheckFault) → (fault ≡ faults.BadEnd) × (found ≡ 0x45 ∷ ending_of_chunks cs → ⊥) → Says version bits cs found (Some fault)
-      end_says fault h ending e =
-          then_chunks version bits cs ending lists rise
-          ∙ end_differs version bits cs ending (flat lists) (chunk_bytes version bits (flat lists)) found (0x45 ∷ ending_of_chunks cs) refl (of_flat None same) e wants h.1 ∙ ap Some (sym h.0)
+      end_says fault h ending e = end_differs version bits cs ending lists rise (of_flat None same) found (0x45 ∷ ending_of_chunks cs) e wants h.1 ∙ ap Some (sym h.0)
 
       pub all_say : found ≡ 0x45 ∷ ending_of_chunks cs → Says version bits cs found None
-      all_say h ending e =
-          then_chunks version bits cs ending lists rise
-          ∙ end_same version bits cs ending (flat lists) (chunk_bytes version bits (flat lists)) found (0x45 ∷ ending_of_chunks cs) refl (of_flat None same) e wants h
+      all_say h ending e = end_same version bits cs ending lists rise (of_flat None same) found (0x45 ∷ ending_of_chunks cs) e wants h
 
 -- what a file with these chunks ends with
 pub end_wanted : (chunks : List (List ℕ)) (count : ℕ) (root wanted : List ℕ) → count ≡ length chunks → root ≡ reference_of (get_or chunks (count - 1) []) →

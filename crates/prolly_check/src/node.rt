@@ -8,11 +8,9 @@ ghost use Rattle.prolly_entry.specs.Spelling.{count_spelling};
 ghost use Rattle.prolly_check.specs.Entries.{IsNode, IsChild, BeginsWith, entry_of, first_count, children_in};
 ghost use Rattle.prolly_check.specs.Children.{value_of};
 
+use crate::leaf::KEY_START;
 use prolly_entry::{Ref, Version, front_child_as};
 use std::marker::Model;
-
-/// Where a key begins in its entry, behind its length.
-const KEY_START: usize = 2;
 
 /// The size of a child's reference.
 const REFERENCE_SIZE: usize = 20;

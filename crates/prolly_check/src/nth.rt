@@ -1,9 +1,8 @@
 //! Finding a pair by its number.
-ghost use Rattle.std.specs.Prelude.{◌≡◌, ◌<◌, List, length, IfSome, IfNone, option_map};
+ghost use Rattle.std.specs.Prelude.{◌≡◌};
 ghost use Rattle.prolly_entry.specs.LookUp.{nth};
 ghost use Rattle.prolly_entry.specs.declared.version.Version.TheVariants.{Two};
-ghost use Rattle.prolly_check.specs.Children.{value_of, child_with};
-ghost use Rattle.prolly_check.specs.Content.{Content};
+ghost use Rattle.prolly_check.specs.Children.{child_with};
 ghost use Rattle.prolly_check.specs.Counted.{pair_of, counted_of};
 
 use crate::entries::Entries;
