@@ -36,39 +36,35 @@ none_first a b e = ap (λ x. or_else x b) e
 some_first : (a b : Option CheckFault) (f : CheckFault) → a ≡ Some f → or_else a b ≡ Some f
 some_first a b f e = ap (λ x. or_else x b) e
 
-abbrev of_pairs : Version → ℕ → List (List ℕ) → List ℕ → List Pair → Option CheckFault
-of_pairs version bits cs ending pairs = or_else (difference 0 (chunk_bytes version bits pairs) cs) (end_fault ending (ending_for version bits pairs))
-
-pub then_chunks : (version : Version) (bits : ℕ) (cs : List (List ℕ)) (ending : List ℕ) (lists : List (List Pair)) → order_fault [] 0 lists ≡ None →
-    canonical_fault version bits cs ending lists ≡ of_pairs version bits cs ending (flat lists)
-then_chunks version bits cs ending lists e = none_first (order_fault [] 0 lists) (of_pairs version bits cs ending (flat lists)) e
-
-pub chunks_first : (version : Version) (bits : ℕ) (cs : List (List ℕ)) (ending : List ℕ) (pairs : List Pair) (wanted : List (List ℕ)) (fault : CheckFault) → wanted ≡ chunk_bytes version bits pairs →
-    difference 0 wanted cs ≡ Some fault → of_pairs version bits cs ending pairs ≡ Some fault
-chunks_first version bits cs ending pairs wanted fault e d =
-    some_first (difference 0 (chunk_bytes version bits pairs) cs) (end_fault ending (ending_for version bits pairs)) fault (ap (λ ws. difference 0 ws cs) (sym e) ∙ d)
-
-then_end : (version : Version) (bits : ℕ) (cs : List (List ℕ)) (ending : List ℕ) (pairs : List Pair) (wanted : List (List ℕ)) → wanted ≡ chunk_bytes version bits pairs →
-    difference 0 wanted cs ≡ None → of_pairs version bits cs ending pairs ≡ end_fault ending (ending_for version bits pairs)
-then_end version bits cs ending pairs wanted e d =
-    none_first (difference 0 (chunk_bytes version bits pairs) cs) (end_fault ending (ending_for version bits pairs)) (ap (λ ws. difference 0 ws cs) (sym e) ∙ d)
-
 tail_same : (x y : List ℕ) → 0x45 ∷ x ≡ 0x45 ∷ y → x ≡ y
 tail_same x y e = cc
 
-pub end_differs : (version : Version) (bits : ℕ) (cs : List (List ℕ)) (ending : List ℕ) (pairs : List Pair) (wanted : List (List ℕ)) (found want : List ℕ) → wanted ≡ chunk_bytes version bits pairs →
-    difference 0 wanted cs ≡ None → found ≡ 0x45 ∷ ending → want ≡ 0x45 ∷ ending_for version bits pairs → (found ≡ want → ⊥) → of_pairs version bits cs ending pairs ≡ Some faults.BadEnd
-end_differs version bits cs ending pairs wanted found want e d f g apart =
-    then_end version bits cs ending pairs wanted e d
-    ∙ cond-false (bytes_eq ending (ending_for version bits pairs)) None (Some faults.BadEnd)
-    (false_is (bytes_eq ending (ending_for version bits pairs)) (λ t. apart (f ∙ ap (λ x. 0x45 ∷ x) ((bytes_eq-Decides ending (ending_for version bits pairs)).0 t) ∙ sym g)))
+-- where the keys rise, the chunks and the end record are left
+module _ (version : Version) (bits : ℕ) (cs : List (List ℕ)) (ending : List ℕ) (lists : List (List Pair)) (rise : order_fault [] 0 lists ≡ None) where
+  abbrev wanted : List ℕ
+  wanted = ending_for version bits (flat lists)
 
-pub end_same : (version : Version) (bits : ℕ) (cs : List (List ℕ)) (ending : List ℕ) (pairs : List Pair) (wanted : List (List ℕ)) (found want : List ℕ) → wanted ≡ chunk_bytes version bits pairs →
-    difference 0 wanted cs ≡ None → found ≡ 0x45 ∷ ending → want ≡ 0x45 ∷ ending_for version bits pairs → found ≡ want → of_pairs version bits cs ending pairs ≡ None
-end_same version bits cs ending pairs wanted found want e d f g same =
-    then_end version bits cs ending pairs wanted e d
-    ∙ cond-true (bytes_eq ending (ending_for version bits pairs)) None (Some faults.BadEnd)
-    ((bytes_eq-Decides ending (ending_for version bits pairs)).1 (tail_same ending (ending_for version bits pairs) (sym f ∙ same ∙ g)))
+  abbrev chunks_fault : Option CheckFault
+  chunks_fault = difference 0 (chunk_bytes version bits (flat lists)) cs
+
+  then_chunks : canonical_fault version bits cs ending lists ≡ or_else chunks_fault (end_fault ending wanted)
+  then_chunks = none_first (order_fault [] 0 lists) (or_else chunks_fault (end_fault ending wanted)) rise
+
+  pub chunks_first : (fault : CheckFault) → chunks_fault ≡ Some fault → canonical_fault version bits cs ending lists ≡ Some fault
+  chunks_first fault d = then_chunks ∙ some_first chunks_fault (end_fault ending wanted) fault d
+
+  module _ (same : chunks_fault ≡ None) (found want : List ℕ) (f : found ≡ 0x45 ∷ ending) (g : want ≡ 0x45 ∷ wanted) where
+    then_end : canonical_fault version bits cs ending lists ≡ end_fault ending wanted
+    then_end = then_chunks ∙ none_first chunks_fault (end_fault ending wanted) same
+
+    pub end_differs : (found ≡ want → ⊥) → canonical_fault version bits cs ending lists ≡ Some faults.BadEnd
+    end_differs apart =
+        then_end ∙ cond-false (bytes_eq ending wanted) None (Some faults.BadEnd)
+        (false_is (bytes_eq ending wanted) (λ t. apart (f ∙ ap (λ x. 0x45 ∷ x) ((bytes_eq-Decides ending wanted).0 t) ∙ sym g)))
+
+    pub end_same : found ≡ want → canonical_fault version bits cs ending lists ≡ None
+    end_same e =
+        then_end ∙ cond-true (bytes_eq ending wanted) None (Some faults.BadEnd) ((bytes_eq-Decides ending wanted).1 (tail_same ending wanted (sym f ∙ e ∙ g)))
 
 -- what `!=` of bytes says
 pub unequal : (x y : List ℕ) → true ≡ not (bytes_eq x y) → x ≡ y → ⊥

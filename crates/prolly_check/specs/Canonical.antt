@@ -1,5 +1,5 @@
 -- The one file that pairs have.
-use Rattle.std.specs.Prelude.{◌≡◌, ℕ, ◌-◌, ◌^◌, ◌<◌, List, [], ◌∷◌, ◌++◌, length, map, get_or, Option}
+use Rattle.std.specs.Prelude.{◌≡◌, ℕ, ◌-◌, List, [], ◌∷◌, ◌++◌, length, map, get_or, Option}
 use Rattle.std.specs.Int.{w64, to_be_bytes}
 use Rattle.std.specs.List.{flat_map}
 use Rattle.prolly_entry.specs.declared.version.Version.{Version}
@@ -26,8 +26,6 @@ ending_of_chunks chunks = reference_of (get_or chunks (length chunks - 1) []) ++
 abbrev pub Says : Version → ℕ → List (List ℕ) → List ℕ → Option CheckFault → Type 0
 Says version bits chunks behind fault = (ending : List ℕ) → behind ≡ 0x45 ∷ ending → canonical_fault version bits chunks ending (map pairs_held chunks) ≡ fault
 
--- So the chunks compare with those of the pairs that they hold, if these are no more than a file can have.
+-- So the chunks compare with those of the pairs that they hold.
 abbrev pub CompareAs : Version → ℕ → List (List ℕ) → Option CheckFault → Type 0
-CompareAs version bits chunks fault =
-    let pairs = flat_map pairs_held chunks in
-    length pairs < 2 ^ 64 → difference 0 (chunk_bytes version bits pairs) chunks ≡ fault
+CompareAs version bits chunks fault = difference 0 (chunk_bytes version bits (flat_map pairs_held chunks)) chunks ≡ fault

@@ -1,42 +1,35 @@
 //! The chunks against those of the file of the same pairs.
-ghost use Rattle.std.specs.Prelude.{◌≡◌, ℕ, ◌∷◌, ◌<◌, ◌^◌, None, Some, List, length, drop, OnOk, IfErr};
+ghost use Rattle.std.specs.Prelude.{◌≡◌, ◌∷◌, ◌<◌, ◌^◌, None, Some, length, OnOk, IfErr};
+ghost use Rattle.std.specs.List.{flat_map};
 ghost use Rattle.prolly_check.specs.Canonical.{Says, ending_of_chunks};
-ghost use Rattle.prolly_check.specs.Index.{AreReferences};
+ghost use Rattle.prolly_check.specs.Held.{pairs_held};
 ghost use Rattle.prolly_check.specs.Refusal.{UnlessMemory};
-ghost use Rattle.prolly_check.specs.Spans.{FramesTo, chunks_in};
-ghost use Rattle.prolly_check.specs.Whole.{AreWhole};
 
 use crate::fault::CheckFault;
 use crate::file_chunks::FileChunks;
-use crate::frames::Frames;
 use crate::order::test_order;
 use crate::rebuild::test_rebuilt;
-use prolly_entry::{Ref, Sha512Cut, Version};
+use prolly_entry::{Sha512Cut, Version};
 use prolly_file::end_record;
 use std::alloc::Global;
 
-/// Tests that the keys rise, and that the chunks and the end record are those of the file of the pairs.
+/// Tests that the keys rise, and that the chunks and the end record are those of the file of the
+/// pairs.
 pub(crate) fn test_canonical(
     alloc: Global,
     cut: Sha512Cut,
     version: Version,
-    bytes: &[u8],
-    frames: &Frames,
-    references: &[Ref],
+    chunks: &FileChunks,
+    end: &[u8],
 ) -> Result<(), CheckFault>
-    requires frames { FramesTo bytes.now frames.now.spans.items frames.now.end }
-    requires references { AreReferences (chunks_in bytes.now frames.now.spans.items) references.now }
-    requires whole { AreWhole version (chunks_in bytes.now frames.now.spans.items) }
-    requires short { length bytes.now < 2 ^ 64 }
-    ensures ok { OnOk result (Says version cut
-        (chunks_in bytes.now frames.now.spans.items) (drop frames.now.end bytes.now) None) }
-    ensures err { IfErr result (UnlessMemory (λ fault. Says version cut
-        (chunks_in bytes.now frames.now.spans.items) (drop frames.now.end bytes.now) (Some fault))) }
+    requires { length (flat_map pairs_held chunks.now) < 2 ^ 64 }
+    ensures ok { OnOk result (Says version cut chunks.now end.now None) }
+    ensures err { IfErr result (UnlessMemory (λ fault.
+        Says version cut chunks.now end.now (Some fault))) }
 {
-    let chunks = FileChunks::new(version, bytes, &frames.spans, references);
-    test_order(&chunks)?;
-    test_rebuilt(alloc, cut, version, &chunks)?;
-    test_end(&bytes[frames.end..], &chunks)
+    test_order(chunks)?;
+    test_rebuilt(alloc, cut, version, chunks)?;
+    test_end(end, chunks)
 }
 
 /// Tests that an end record has the reference of the last chunk and the number of chunks.

@@ -24,8 +24,8 @@ pub enum CheckFault {
     BadChunk { chunk: usize },
     /// In this chunk is the first key that is not greater than the one before.
     KeysOutOfOrder { chunk: usize },
-    /// This chunk is the first that the file of the same pairs has not, or has otherwise, or that only
-    /// the file of the same pairs has.
+    /// This chunk is the first that the file of the same pairs has not, or has otherwise, or that
+    /// only the file of the same pairs has.
     NotCanonical { chunk: usize },
     /// The end record has another root or another number of chunks.
     BadEnd,

@@ -16,8 +16,8 @@ use crate::leaf::Pairs;
 use prolly_entry::{Ref, Version};
 use std::marker::Model;
 
-/// A file that was checked: its bytes, its version, where its chunks lie, and how they are found by their
-/// references.
+/// A file that was checked: its bytes, its version, where its chunks lie, and how they are found by
+/// their references.
 #[derive(Drop)]
 pub(crate) struct CheckedFile<'a> {
     bytes: &'a [u8],

@@ -32,8 +32,8 @@ pub(crate) fn references_of(
     Ok(references)
 }
 
-/// The chunks of a file, which were tested: its version, its bytes, where the chunks lie in them, and the
-/// reference of each.
+/// The chunks of a file, which were tested: its version, its bytes, where the chunks lie in them,
+/// and the reference of each.
 #[derive(Drop)]
 pub(crate) struct FileChunks<'a> {
     version: Version,
@@ -59,8 +59,8 @@ impl<'a> Model for FileChunks<'a> {
 }
 
 impl<'a> FileChunks<'a> {
-    /// The chunks that lie there, with the references that were made of them. Takes no memory, and no
-    /// hash.
+    /// The chunks that lie there, with the references that were made of them. Takes no memory, and
+    /// no hash.
     pub(crate) fn new(
         version: Version,
         bytes: &'a [u8],

@@ -1,10 +1,8 @@
 //! Finding the value of a key.
-ghost use Rattle.std.specs.Prelude.{◌≡◌, ◌<◌, List, length, IfSome, IfNone, option_map};
+ghost use Rattle.std.specs.Prelude.{◌≡◌, IfSome, IfNone, option_map};
 ghost use Rattle.std.specs.Option.{option_copied};
 ghost use Rattle.prolly_entry.specs.LookUp.{find};
-ghost use Rattle.prolly_check.specs.Checked.{chunks_of};
 ghost use Rattle.prolly_check.specs.Children.{value_of, child_for};
-ghost use Rattle.prolly_check.specs.Content.{Content};
 ghost use Rattle.prolly_check.specs.Leaves.{IsLeafOf, IsBeyond};
 
 use crate::entries::Entries;
@@ -14,7 +12,7 @@ use crate::node::{Child, Children};
 use prolly_entry::key_order;
 
 /// The value of the key among the pairs of a leaf.
-pub(crate) fn value_in<'a>(mut pairs: Pairs<'a>, key: &[u8]) -> Option<&'a [u8]>
+fn value_in<'a>(mut pairs: Pairs<'a>, key: &[u8]) -> Option<&'a [u8]>
     ensures { option_copied result ≡ find pairs.entry key.now }
 {
     while let Some((found, value)) = pairs.next() {
@@ -37,8 +35,8 @@ fn child_for<'a>(mut children: Children<'a>, key: &[u8]) -> Option<Child<'a>>
     None
 }
 
-/// The number of the leaf that a key leads to: the first one that has a key not less than it. Goes down
-/// from the root, one chunk a level.
+/// The number of the leaf that a key leads to: the first one that has a key not less than it. Goes
+/// down from the root, one chunk a level.
 pub(crate) fn leaf_for(file: &CheckedFile, key: &[u8]) -> Option<usize>
     ensures some { IfSome result (IsLeafOf file.now key.now) }
     ensures none { IfNone result (IsBeyond file.now key.now) }

@@ -32,7 +32,8 @@ pub(crate) fn pass_last(
     }
 }
 
-/// Closes the levels of nodes from the lowest to the highest. Answers how many chunks there are in all.
+/// Closes the levels of nodes from the lowest to the highest. Answers how many chunks there are in
+/// all.
 pub(crate) fn finish_nodes(
     alloc: Global,
     mut nodes: Vec<NodeLevel<Sha512Cut>>,

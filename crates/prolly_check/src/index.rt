@@ -1,10 +1,11 @@
 //! Finding chunks by their references.
-ghost use Rattle.std.specs.Prelude.{◌≡◌, ℕ, [], None, Some, List, IfOk, IfErr};
-ghost use Rattle.prolly_check.specs.Index.{AreReferences, IsIndex};
+ghost use Rattle.std.specs.Prelude.{◌≡◌, [], None, Some, IfOk, OnOk, IfErr};
+ghost use Rattle.prolly_check.specs.Index.{IsIndex};
 ghost use Rattle.prolly_check.specs.Judged.{reuse};
 ghost use Rattle.prolly_check.specs.Refusal.{UnlessMemory};
 
 use crate::fault::CheckFault;
+use crate::file_chunks::FileChunks;
 use prolly_entry::Ref;
 use std::alloc::Global;
 use std::collections::BTreeMap;
@@ -13,14 +14,14 @@ use std::collections::BTreeMap;
 pub(crate) type Index = BTreeMap<Ref, usize>;
 
 /// The index of all chunks, or the first chunk whose reference an earlier one has too.
-pub(crate) fn index_chunks(alloc: Global, references: &[Ref]) -> Result<Index, CheckFault>
-    ensures index { IfOk result (λ index. (chunks : List (List ℕ)) → AreReferences chunks references.now → IsIndex index chunks) }
-    ensures apart { IfOk result (λ index. (chunks : List (List ℕ)) → AreReferences chunks references.now → reuse [] 0 chunks ≡ None) }
-    ensures err { IfErr result (UnlessMemory (λ fault. (chunks : List (List ℕ)) → AreReferences chunks references.now → reuse [] 0 chunks ≡ Some fault)) }
+pub(crate) fn index_chunks(alloc: Global, chunks: &FileChunks) -> Result<Index, CheckFault>
+    ensures index { IfOk result (λ index. IsIndex index chunks.now) }
+    ensures apart { OnOk result (reuse [] 0 chunks.now ≡ None) }
+    ensures err { IfErr result (UnlessMemory (λ fault. reuse [] 0 chunks.now ≡ Some fault)) }
 {
     let mut index = BTreeMap::new(alloc);
-    for number in 0..references.len() {
-        match index.insert(references[number], number) {
+    for number in 0..chunks.len() {
+        match index.insert(chunks.reference(number), number) {
             Ok(None) => {}
             Ok(Some(_)) => return Err(CheckFault::Collision { chunk: number }),
             Err(_) => return Err(CheckFault::Memory),

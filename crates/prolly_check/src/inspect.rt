@@ -7,7 +7,7 @@ ghost use Rattle.prolly_check.specs.Verdict.{IsVerdict};
 use crate::canonical::test_canonical;
 use crate::ending::test_ending;
 use crate::fault::CheckFault;
-use crate::file_chunks::references_of;
+use crate::file_chunks::{FileChunks, references_of};
 use crate::frames::{Span, find_frames};
 use crate::header::read_header;
 use crate::index::{Index, index_chunks};
@@ -26,7 +26,8 @@ pub(crate) struct Layout {
 /// Checks the bytes of a file.
 pub(crate) fn inspect(alloc: Global, bytes: &[u8]) -> Result<Layout, CheckFault>
     requires { length bytes.now < 2 ^ 64 }
-    ensures ok { IfOk result (λ layout. IsChecked bytes.now layout.version layout.spans.items layout.index) }
+    ensures ok { IfOk result (λ layout.
+        IsChecked bytes.now layout.version layout.spans.items layout.index) }
     ensures err { IfErr result (UnlessMemory (λ fault. IsVerdict bytes.now (Err fault))) }
 {
     let header = read_header(bytes)?;
@@ -38,8 +39,9 @@ pub(crate) fn inspect(alloc: Global, bytes: &[u8]) -> Result<Layout, CheckFault>
         None => unreachable!(),
     };
     let references = references_of(alloc, bytes, &frames.spans)?;
-    test_canonical(alloc, cut, header.version, bytes, &frames, &references)?;
-    let index = index_chunks(alloc, &references)?;
+    let chunks = FileChunks::new(header.version, bytes, &frames.spans, &references);
+    test_canonical(alloc, cut, header.version, &chunks, &bytes[frames.end..])?;
+    let index = index_chunks(alloc, &chunks)?;
     Ok(Layout {
         version: header.version,
         spans: frames.spans,

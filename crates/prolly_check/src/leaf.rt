@@ -13,8 +13,8 @@ use std::marker::Model;
 /// The first byte of a leaf: its level.
 pub(crate) const LEAF: u8 = 0;
 
-/// Where a key begins in its entry, behind its length.
-const KEY_START: usize = 2;
+/// Where a key begins in its entry, of a leaf or of a node: behind its length.
+pub(crate) const KEY_START: usize = 2;
 
 /// The key and the value of the pair that begins the entries, and the entries behind it.
 fn split_pair(entries: &[u8]) -> Option<(&[u8], &[u8], &[u8])>

@@ -8,11 +8,9 @@ ghost use Rattle.prolly_entry.specs.Spelling.{count_spelling};
 ghost use Rattle.prolly_check.specs.Entries.{IsNode, IsChild, BeginsWith, entry_of, first_count, children_in};
 ghost use Rattle.prolly_check.specs.Children.{value_of};
 
+use crate::leaf::KEY_START;
 use prolly_entry::{Ref, Version, front_child_as};
 use std::marker::Model;
-
-/// Where a key begins in its entry, behind its length.
-const KEY_START: usize = 2;
 
 /// The size of a child's reference.
 const REFERENCE_SIZE: usize = 20;
@@ -20,8 +18,8 @@ const REFERENCE_SIZE: usize = 20;
 /// The size of the count of the pairs below a child.
 const COUNT_SIZE: usize = 8;
 
-/// A child of a node: its greatest key, its reference, and the number of pairs below it, which is 0 in
-/// version One, where no entry says it.
+/// A child of a node: its greatest key, its reference, and the number of pairs below it, which is 0
+/// in version One, where no entry says it.
 #[derive(Clone, Copy)]
 pub(crate) struct Child<'a> {
     pub(crate) key: &'a [u8],
@@ -33,7 +31,8 @@ pub(crate) struct Child<'a> {
 fn split_child(version: Version, entries: &[u8]) -> Option<(Child<'_>, &[u8])>
     ensures some { IfSome result (λ r.
         BeginsWith (entry_of version) IsChild entries.now (value_of r.0) r.1.now) }
-    ensures counted { IfSome result (λ r. first_count version (count_spelling version r.0.count) ≡ r.0.count) }
+    ensures counted { IfSome result (λ r.
+        first_count version (count_spelling version r.0.count) ≡ r.0.count) }
     ensures none { IfNone result (NoChildAt version entries.now) }
 {
     let at = front_child_as(version, entries)?;
@@ -83,8 +82,8 @@ pub(crate) fn is_node(version: Version, mut entries: &[u8]) -> bool
     entries.is_empty()
 }
 
-/// The children of a node that was tested, or those of them that are left, as their entries lie in its
-/// bytes.
+/// The children of a node that was tested, or those of them that are left, as their entries lie in
+/// its bytes.
 #[derive(Drop)]
 pub(crate) struct Children<'a> {
     version: Version,
@@ -113,7 +112,8 @@ impl<'a> Children<'a> {
 
     /// The next child.
     pub(crate) fn next(&mut self) -> Option<Child<'a>>
-        ensures { MatchOption result (self.old ≡ []) (λ child. self.old ≡ value_of child ∷ self.new) }
+        ensures { MatchOption result (self.old ≡ [])
+            (λ child. self.old ≡ value_of child ∷ self.new) }
     {
         let (child, rest) = split_child(self.version, self.entries)?;
         self.entries = rest;

@@ -1,9 +1,8 @@
 //! Finding a pair by its number.
-ghost use Rattle.std.specs.Prelude.{◌≡◌, ◌<◌, List, length, IfSome, IfNone, option_map};
+ghost use Rattle.std.specs.Prelude.{◌≡◌};
 ghost use Rattle.prolly_entry.specs.LookUp.{nth};
 ghost use Rattle.prolly_entry.specs.declared.version.Version.TheVariants.{Two};
-ghost use Rattle.prolly_check.specs.Children.{value_of, child_with};
-ghost use Rattle.prolly_check.specs.Content.{Content};
+ghost use Rattle.prolly_check.specs.Children.{child_with};
 ghost use Rattle.prolly_check.specs.Counted.{pair_of, counted_of};
 
 use crate::entries::Entries;
@@ -25,8 +24,8 @@ fn pair_at<'a>(mut pairs: Pairs<'a>, n: u64) -> Option<(&'a [u8], &'a [u8])>
     None
 }
 
-/// The child of a node that has the pair of this number below it, by the counts, and how many pairs below
-/// that child come before the pair.
+/// The child of a node that has the pair of this number below it, by the counts, and how many pairs
+/// below that child come before the pair.
 fn child_with<'a>(mut children: Children<'a>, n: u64) -> Option<(Child<'a>, u64)>
     ensures { counted_of result ≡ child_with n children.entry }
 {
@@ -40,8 +39,8 @@ fn child_with<'a>(mut children: Children<'a>, n: u64) -> Option<(Child<'a>, u64)
     None
 }
 
-/// The pair of this number in a file of version Two that was checked. Goes down from the root, one chunk
-/// a level.
+/// The pair of this number in a file of version Two that was checked. Goes down from the root, one
+/// chunk a level.
 pub(crate) fn find_nth<'a>(file: &CheckedFile<'a>, n: u64) -> Option<(&'a [u8], &'a [u8])>
     requires { file.now.version ≡ Two }
     ensures { pair_of result ≡ nth file.now.pairs n }

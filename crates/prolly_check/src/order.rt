@@ -1,5 +1,5 @@
 //! The order of the keys of a file.
-ghost use Rattle.std.specs.Prelude.{◌≡◌, [], false, List, map, None, Some, OnOk, OnErr, IfOk, IfErr};
+ghost use Rattle.std.specs.Prelude.{◌≡◌, [], false, map, None, Some, OnOk, OnErr, IfOk, IfErr};
 ghost use Rattle.std.specs.Option.{option_copied};
 ghost use Rattle.prolly_check.specs.Held.{pairs_held};
 ghost use Rattle.prolly_check.specs.Judged.{order_fault};

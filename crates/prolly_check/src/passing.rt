@@ -40,8 +40,8 @@ fn push_at(
 /// Lets an event pass the levels from this one on, and compares what leaves the last one with the
 /// chunks of a file from this number on. Answers the next number.
 ///
-/// The event leaves the last level first: this level takes it, and those above let it pass. Then the node
-/// that this level closes, if it does, goes on in the same way from the next one.
+/// The event leaves the last level first: this level takes it, and those above let it pass. Then
+/// the node that this level closes, if it does, goes on in the same way from the next one.
 pub(crate) fn pass(
     alloc: Global,
     levels: &mut [NodeLevel<Sha512Cut>],
@@ -52,9 +52,11 @@ pub(crate) fn pass(
 ) -> Result<usize, CheckFault>
     requires place { place ≤ length levels.old }
     requires number { number ≤ length chunks.now }
-    ensures ok { IfOk result (λ next. PassesOn chunks.now levels.old levels.new place event.now number next) }
+    ensures ok { IfOk result
+        (PassesOn chunks.now levels.old levels.new place event.now number) }
     ensures next { IfOk result (λ next. next ≤ length chunks.now) }
-    ensures err { IfErr result (UnlessMemory (FaultPassing chunks.now levels.old place event.now number)) }
+    ensures err { IfErr result (UnlessMemory
+        (FaultPassing chunks.now levels.old place event.now number)) }
 {
     let next = expect_chunk(chunks, number, event.bytes())?;
     if place == levels.len() {

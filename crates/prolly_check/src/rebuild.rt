@@ -1,5 +1,5 @@
 //! Rebuilding the chunks of pairs that come one by one.
-ghost use Rattle.std.specs.Prelude.{◌≡◌, [], ◌∷◌, ◌≤◌, ℕ, None, Some, List, length, OnOk, IfOk, IfErr};
+ghost use Rattle.std.specs.Prelude.{◌≡◌, [], ◌∷◌, ◌<◌, ◌≤◌, ◌^◌, ℕ, None, Some, List, length, OnOk, IfOk, IfErr};
 ghost use Rattle.std.specs.List.{flat_map};
 ghost use Rattle.prolly_entry.specs.Pair.{Pair as PairValue};
 ghost use Rattle.prolly_check.specs.Canonical.{CompareAs};
@@ -20,8 +20,8 @@ use std::alloc::{AllocError, Global};
 /// The number of levels of nodes. A tree of fewer than 2^64 pairs has no more.
 const NODE_LEVELS: u8 = 64;
 
-/// What is rebuilt so far of the chunks of pairs: the open chunk of each level, and how many chunks were
-/// closed and found in a file.
+/// What is rebuilt so far of the chunks of pairs: the open chunk of each level, and how many chunks
+/// were closed and found in a file.
 #[derive(Drop)]
 struct Rebuild {
     leaf: LeafLevel<Sha512Cut>,
@@ -160,6 +160,7 @@ pub(crate) fn test_rebuilt(
     version: Version,
     chunks: &FileChunks,
 ) -> Result<(), CheckFault>
+    requires { length (flat_map pairs_held chunks.now) < 2 ^ 64 }
     ensures ok { OnOk result (CompareAs version cut chunks.now None) }
     ensures err { IfErr result (UnlessMemory (λ fault.
         CompareAs version cut chunks.now (Some fault))) }

@@ -1,10 +1,8 @@
 //! Scanning the pairs from a key on.
-ghost use Rattle.std.specs.Prelude.{◌≡◌, [], ◌∷◌, ◌++◌, ◌≤◌, List, length, take, drop, OnOk, IfOk};
+ghost use Rattle.std.specs.Prelude.{◌≡◌, [], ◌∷◌, ◌++◌, ◌≤◌, length, take, drop, OnOk, IfOk};
 ghost use Rattle.std.specs.List.{flat_map};
 ghost use Rattle.prolly_entry.specs.LookUp.{scan};
-ghost use Rattle.prolly_entry.specs.Pair.{Pair as PairValue};
 ghost use Rattle.prolly_check.specs.Checked.{chunks_of};
-ghost use Rattle.prolly_check.specs.Content.{Content};
 ghost use Rattle.prolly_check.specs.Held.{pairs_held};
 ghost use Rattle.prolly_check.specs.Leaves.{pairs_from};
 
@@ -55,8 +53,8 @@ fn scan_leaf(
     Ok(())
 }
 
-/// The first pairs of the chunks from this number on whose key is not less than `from`, at most `limit` of
-/// them. Reads no chunk behind the one that has the last of them.
+/// The first pairs of the chunks from this number on whose key is not less than `from`, at most
+/// `limit` of them. Reads no chunk behind the one that has the last of them.
 fn scan_chunks(
     alloc: Global,
     file: &CheckedFile,
@@ -77,7 +75,8 @@ fn scan_chunks(
     Ok(pairs)
 }
 
-/// The first pairs of a file that was checked whose key is not less than `from`, at most `limit` of them.
+/// The first pairs of a file that was checked whose key is not less than `from`, at most `limit` of
+/// them.
 pub(crate) fn scan_pairs(
     alloc: Global,
     file: &CheckedFile,

@@ -46,7 +46,8 @@ impl Model for Tree {
 
     ghost view = { λ tree. tree.bytes.items };
 
-    ghost invariant = { λ tree. IsChecked tree.bytes.items tree.version tree.spans.items tree.index };
+    ghost invariant = { λ tree.
+        IsChecked tree.bytes.items tree.version tree.spans.items tree.index };
 }
 
 impl Tree {
@@ -93,32 +94,38 @@ impl Tree {
         self.file().len() as u64
     }
 
-    /// The value of the key, or none, found by references from the root. Takes no memory, and reads one
-    /// chunk a level.
+    /// The value of the key, or none, found by references from the root. Takes no memory, and reads
+    /// one chunk a level.
     pub fn get(&self, key: &[u8]) -> Option<&[u8]>
-        ensures { (content : Content) → IsFileOf self.now content → option_copied result ≡ find content.pairs key.now }
+        ensures { (content : Content) → IsFileOf self.now content →
+            option_copied result ≡ find content.pairs key.now }
     {
         find_value(&self.file(), key)
     }
 
-    /// The first pairs in the order of the keys whose key is not less than `from`, at most `limit` of them.
+    /// The first pairs in the order of the keys whose key is not less than `from`, at most `limit`
+    /// of them.
     ///
-    /// Takes memory for copies of these pairs, and reads one chunk a level and then the chunks up to the
-    /// last of them.
+    /// Takes memory for copies of these pairs, and reads one chunk a level and then the chunks up
+    /// to the last of them.
     pub fn scan(&self, alloc: Global, from: &[u8], limit: u32) -> Result<Vec<Pair>, AllocError>
-        ensures { IfOk result (λ pairs. (content : Content) → IsFileOf self.now content → pairs.items ≡ scan content.pairs from.now limit) }
+        ensures { IfOk result (λ pairs. (content : Content) → IsFileOf self.now content →
+            pairs.items ≡ scan content.pairs from.now limit) }
     {
         scan_pairs(alloc, &self.file(), from, limit as usize)
     }
 
-    /// The key and the value of the pair of this number, counted from 0 in the order of the keys, or none
-    /// where there are no more than so many pairs. Takes no memory, and reads one chunk a level.
+    /// The key and the value of the pair of this number, counted from 0 in the order of the keys,
+    /// or none where there are no more than so many pairs. Takes no memory, and reads one chunk a
+    /// level.
     ///
-    /// It is found by the counts of the pairs below each child, from the root. The nodes of version One
-    /// have none: there the answer is an error, whatever the number.
+    /// It is found by the counts of the pairs below each child, from the root. The nodes of version
+    /// One have none: there the answer is an error, whatever the number.
     pub fn nth(&self, n: u64) -> Result<Option<(&[u8], &[u8])>, NoCounts>
-        ensures found { IfOk result (λ found. (content : Content) → IsFileOf self.now content → pair_of found ≡ nth content.pairs n) }
-        ensures uncounted { (content : Content) → IsFileOf self.now content → IsErr result ↔ (content.version ≡ Version.One) }
+        ensures found { IfOk result (λ found. (content : Content) → IsFileOf self.now content →
+            pair_of found ≡ nth content.pairs n) }
+        ensures uncounted { (content : Content) → IsFileOf self.now content →
+            IsErr result ↔ (content.version ≡ Version.One) }
     {
         let file = self.file();
         match file.version() {

@@ -12,8 +12,8 @@ use crate::leaf::{LEAF, is_leaf};
 use crate::node::is_node;
 use prolly_entry::Version;
 
-/// Tests that each chunk is a level and whole lawful entries of that level's kind, or names the first that
-/// is not. Takes no memory.
+/// Tests that each chunk is a level and whole lawful entries of that level's kind, or names the
+/// first that is not. Takes no memory.
 pub(crate) fn test_chunks(version: Version, bytes: &[u8], spans: &[Span]) -> Result<(), CheckFault>
     requires { AllByRecursion (IsWithin bytes.now) spans.now }
     ensures ok { OnOk result (AreWhole version (chunks_in bytes.now spans.now)) }

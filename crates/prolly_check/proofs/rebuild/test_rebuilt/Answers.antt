@@ -14,7 +14,7 @@ returns-in_err-add_chunks-clause-err c =
     let pairs = flat_map pairs_held chunks in
     let p = err_from_is_err_and c.from_residual-in_err-add_chunks.result c.from_residual-in_err-add_chunks.ensures.1 in
     rw (p.1, p.2) (still_refused (FaultTaking chunks c.in_ok-rebuild.rebuild pairs) (λ fault. CompareAs c.args.version c.args.cut chunks (Some fault))
-    (λ fault h few. verdict_fault c.args.cut c.args.version chunks pairs few fault
+    (λ fault h. verdict_fault c.args.cut c.args.version chunks pairs c.requires fault
     (differ_by_at_end c.args.cut c.args.version pairs chunks fault (h c.args.cut c.args.version [] (c.in_ok-rebuild.ensures.taken chunks))))
     c.in_err-add_chunks.field-0.0 c.in_err-add_chunks.ensures.err)
 
@@ -24,20 +24,20 @@ returns-in_err-count-clause-err c =
     let pairs = flat_map pairs_held chunks in
     let p = err_from_is_err_and c.from_residual-in_err-count.result c.from_residual-in_err-count.ensures.1 in
     rw (p.1, p.2) (still_refused (FaultEnding chunks c.add_chunks.new.rebuild) (λ fault. CompareAs c.args.version c.args.cut chunks (Some fault))
-    (λ fault h few. verdict_fault c.args.cut c.args.version chunks pairs few fault
+    (λ fault h. verdict_fault c.args.cut c.args.version chunks pairs c.requires fault
     (h c.args.cut c.args.version pairs (c.in_ok-add_chunks.ensures.ok c.args.cut c.args.version [] (c.in_ok-rebuild.ensures.taken chunks))))
     c.in_err-count.field-0.0 c.in_err-count.ensures.err)
 
 pub returns-then-count-len-clause-err : goal.returns-then-count-len-clause-err
-returns-then-count-len-clause-err c = λ few.
+returns-then-count-len-clause-err c =
     let chunks = c.args.chunks.now in
     let pairs = flat_map pairs_held chunks in
-    verdict_short c.args.cut c.args.version chunks pairs few c.in_ok-count.count (omega arith)
+    verdict_short c.args.cut c.args.version chunks pairs c.requires c.in_ok-count.count (omega arith)
     (c.in_ok-count.ensures.ok c.args.cut c.args.version pairs (c.in_ok-add_chunks.ensures.ok c.args.cut c.args.version [] (c.in_ok-rebuild.ensures.taken chunks)))
 
 pub returns-clause-ok : goal.returns-clause-ok
-returns-clause-ok c = λ few.
+returns-clause-ok c =
     let chunks = c.args.chunks.now in
     let pairs = flat_map pairs_held chunks in
-    verdict_none c.args.cut c.args.version chunks pairs few c.in_ok-count.count (omega arith)
+    verdict_none c.args.cut c.args.version chunks pairs c.requires c.in_ok-count.count (omega arith)
     (c.in_ok-count.ensures.ok c.args.cut c.args.version pairs (c.in_ok-add_chunks.ensures.ok c.args.cut c.args.version [] (c.in_ok-rebuild.ensures.taken chunks)))
