@@ -41,8 +41,8 @@ pub(crate) fn scratch_line<'a>(alloc: Global) -> Result<Command<'a>, AllocError>
     with_mode(alloc, line)
 }
 
-/// `build [--bits Q] [--stages S] [--capacity C] [--max-records M] [--batch B] [--format V] [--atomic]
-/// [--sync] OUT [FILES...]`
+/// `build [--bits Q] [--stages S] [--capacity C] [--max-records M] [--batch B] [--format V]
+/// [--atomic] [--sync] OUT [FILES...]`
 pub(crate) fn build_line<'a>(alloc: Global) -> Result<Command<'a>, AllocError>
     ensures { IfOk result (HasLine build_line) }
 {
