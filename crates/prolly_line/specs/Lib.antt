@@ -1,5 +1,7 @@
 -- The command line, in the words of clap's model of commands.
 pub mod Line
+-- What clap reads an argument and a command by, where no argument goes beyond its own subcommand.
+pub mod Local
 -- Which command the words give, and how they are refused.
 pub mod Given
 -- What stands in the rows of a subcommand whose words clap takes, and what is made of them.

@@ -1,11 +1,10 @@
 //! The options and words of the subcommands, each with the rule that clap reads it by.
-ghost use Rattle.std.specs.Prelude.{◌≡◌, false};
-ghost use Rattle.clap.specs.Words.{rule_of};
 ghost use Rattle.prolly_line.specs.Line.{atomic_flag, batch_option, bits_option, capacity_option};
 ghost use Rattle.prolly_line.specs.Line.{file_word, files_words, flag, format_option, key_word};
 ghost use Rattle.prolly_line.specs.Line.{limit_word};
 ghost use Rattle.prolly_line.specs.Line.{max_records_option, n_word, number_option, number_word};
 ghost use Rattle.prolly_line.specs.Line.{out_option, out_word, stages_option, sync_flag, word_rule};
+ghost use Rattle.prolly_line.specs.Local.{IsReadBy};
 
 use clap::builder::ValueParser;
 use clap::{Arg, ArgAction};
@@ -20,8 +19,7 @@ fn number_option<'a>(
     most: u32,
     default: &'a str,
 ) -> Arg<'a>
-    ensures rule { rule_of result ≡ number_option name.now least most default.now }
-    ensures local { result.global ≡ false }
+    ensures { IsReadBy (number_option name.now least most default.now) result }
 {
     Arg::new(alloc, name)
         .long(name)
@@ -32,16 +30,14 @@ fn number_option<'a>(
 
 // `--NAME`
 fn flag<'a>(alloc: Global, name: &'a str) -> Arg<'a>
-    ensures rule { rule_of result ≡ flag name.now }
-    ensures local { result.global ≡ false }
+    ensures { IsReadBy (flag name.now) result }
 {
     Arg::new(alloc, name).long(name).action(ArgAction::SetTrue)
 }
 
 // A word that has to be there.
 fn required_word<'a>(alloc: Global, name: &'a str, value_name: &'a str) -> Arg<'a>
-    ensures rule { rule_of result ≡ word_rule name.now }
-    ensures local { result.global ≡ false }
+    ensures { IsReadBy (word_rule name.now) result }
 {
     Arg::new(alloc, name).required(true).value_name(value_name)
 }
@@ -54,8 +50,7 @@ fn number_word<'a>(
     least: u32,
     most: u32,
 ) -> Arg<'a>
-    ensures rule { rule_of result ≡ number_word name.now least most }
-    ensures local { result.global ≡ false }
+    ensures { IsReadBy (number_word name.now least most) result }
 {
     required_word(alloc, name, value_name).value_parser(ValueParser::signed(
         i64::from(least),
@@ -65,8 +60,7 @@ fn number_word<'a>(
 
 /// `--bits Q`
 pub(crate) fn bits_option<'a>(alloc: Global) -> Arg<'a>
-    ensures rule { rule_of result ≡ bits_option }
-    ensures local { result.global ≡ false }
+    ensures { IsReadBy bits_option result }
 {
     number_option(alloc, "bits", "Q", 0, 24, "12").help(
         "Cut by Q bits of a hash: about one entry in 2^Q ends a chunk (0 to 24)",
@@ -75,8 +69,7 @@ pub(crate) fn bits_option<'a>(alloc: Global) -> Arg<'a>
 
 /// `--stages S`
 pub(crate) fn stages_option<'a>(alloc: Global) -> Arg<'a>
-    ensures rule { rule_of result ≡ stages_option }
-    ensures local { result.global ≡ false }
+    ensures { IsReadBy stages_option result }
 {
     number_option(alloc, "stages", "S", 1, 12, "12").help(
         "Make at most S levels of the tree (1 to 12)",
@@ -85,8 +78,7 @@ pub(crate) fn stages_option<'a>(alloc: Global) -> Arg<'a>
 
 /// `--capacity C`
 pub(crate) fn capacity_option<'a>(alloc: Global) -> Arg<'a>
-    ensures rule { rule_of result ≡ capacity_option }
-    ensures local { result.global ≡ false }
+    ensures { IsReadBy capacity_option result }
 {
     number_option(alloc, "capacity", "C", 1, 4096, "64").help(
         "Let C messages wait between two threads (1 to 4,096)",
@@ -95,8 +87,7 @@ pub(crate) fn capacity_option<'a>(alloc: Global) -> Arg<'a>
 
 /// `--max-records M`
 pub(crate) fn max_records_option<'a>(alloc: Global) -> Arg<'a>
-    ensures rule { rule_of result ≡ max_records_option }
-    ensures local { result.global ≡ false }
+    ensures { IsReadBy max_records_option result }
 {
     number_option(alloc, "max-records", "M", 1, 16777216, "16777216").help(
         "Refuse a record file of more than M records (1 to 16,777,216)",
@@ -105,8 +96,7 @@ pub(crate) fn max_records_option<'a>(alloc: Global) -> Arg<'a>
 
 /// `--batch B`
 pub(crate) fn batch_option<'a>(alloc: Global) -> Arg<'a>
-    ensures rule { rule_of result ≡ batch_option }
-    ensures local { result.global ≡ false }
+    ensures { IsReadBy batch_option result }
 {
     number_option(alloc, "batch", "B", 1, 1024, "16").help(
         "Put up to B items into a message (1 to 1,024)",
@@ -115,8 +105,7 @@ pub(crate) fn batch_option<'a>(alloc: Global) -> Arg<'a>
 
 /// `--format V`
 pub(crate) fn format_option<'a>(alloc: Global) -> Arg<'a>
-    ensures rule { rule_of result ≡ format_option }
-    ensures local { result.global ≡ false }
+    ensures { IsReadBy format_option result }
 {
     number_option(alloc, "format", "V", 1, 2, "1").help(
         "Write version V of the chunk file (1 or 2)",
@@ -125,8 +114,7 @@ pub(crate) fn format_option<'a>(alloc: Global) -> Arg<'a>
 
 /// `--out FILE`
 pub(crate) fn out_option<'a>(alloc: Global) -> Arg<'a>
-    ensures rule { rule_of result ≡ out_option }
-    ensures local { result.global ≡ false }
+    ensures { IsReadBy out_option result }
 {
     Arg::new(alloc, "out")
         .long("out")
@@ -136,8 +124,7 @@ pub(crate) fn out_option<'a>(alloc: Global) -> Arg<'a>
 
 /// `--atomic`
 pub(crate) fn atomic_flag<'a>(alloc: Global) -> Arg<'a>
-    ensures rule { rule_of result ≡ atomic_flag }
-    ensures local { result.global ≡ false }
+    ensures { IsReadBy atomic_flag result }
 {
     flag(alloc, "atomic").help(
         "Write a file beside the output, and put it in its place once it is whole",
@@ -146,32 +133,28 @@ pub(crate) fn atomic_flag<'a>(alloc: Global) -> Arg<'a>
 
 /// `--sync`
 pub(crate) fn sync_flag<'a>(alloc: Global) -> Arg<'a>
-    ensures rule { rule_of result ≡ sync_flag }
-    ensures local { result.global ≡ false }
+    ensures { IsReadBy sync_flag result }
 {
     flag(alloc, "sync").help("Print the answer only once the output is on the disk")
 }
 
 /// `OUT`, the file that a subcommand makes; `what` says for its help what that is.
 pub(crate) fn out_word<'a>(alloc: Global, what: &'a str) -> Arg<'a>
-    ensures rule { rule_of result ≡ out_word }
-    ensures local { result.global ≡ false }
+    ensures { IsReadBy out_word result }
 {
     required_word(alloc, "out", "OUT").help(what)
 }
 
 /// `FILE`, the chunk file that a subcommand reads.
 pub(crate) fn file_word<'a>(alloc: Global) -> Arg<'a>
-    ensures rule { rule_of result ≡ file_word }
-    ensures local { result.global ≡ false }
+    ensures { IsReadBy file_word result }
 {
     required_word(alloc, "file", "FILE").help("The chunk file")
 }
 
 /// `HEXKEY`
 pub(crate) fn key_word<'a>(alloc: Global) -> Arg<'a>
-    ensures rule { rule_of result ≡ key_word }
-    ensures local { result.global ≡ false }
+    ensures { IsReadBy key_word result }
 {
     required_word(alloc, "key", "HEXKEY").help(
         "The key in hexadecimal: two digits a byte, at most 1,024 bytes",
@@ -180,8 +163,7 @@ pub(crate) fn key_word<'a>(alloc: Global) -> Arg<'a>
 
 /// `LIMIT`
 pub(crate) fn limit_word<'a>(alloc: Global) -> Arg<'a>
-    ensures rule { rule_of result ≡ limit_word }
-    ensures local { result.global ≡ false }
+    ensures { IsReadBy limit_word result }
 {
     number_word(alloc, "limit", "LIMIT", 0, 1000000).help(
         "Print at most LIMIT pairs (0 to 1,000,000)",
@@ -190,8 +172,7 @@ pub(crate) fn limit_word<'a>(alloc: Global) -> Arg<'a>
 
 /// `N`
 pub(crate) fn n_word<'a>(alloc: Global) -> Arg<'a>
-    ensures rule { rule_of result ≡ n_word }
-    ensures local { result.global ≡ false }
+    ensures { IsReadBy n_word result }
 {
     number_word(alloc, "n", "N", 0, u32::MAX).help(
         "The place of the pair in the order of keys, counted from 0 (to 4,294,967,295)",
@@ -200,8 +181,7 @@ pub(crate) fn n_word<'a>(alloc: Global) -> Arg<'a>
 
 /// `FILES`
 pub(crate) fn files_words<'a>(alloc: Global) -> Arg<'a>
-    ensures rule { rule_of result ≡ files_words }
-    ensures local { result.global ≡ false }
+    ensures { IsReadBy files_words result }
 {
     Arg::new(alloc, "files")
         .num_args(0..)

@@ -21,7 +21,7 @@ pub struct WriteMode {
 }
 
 /// What the program is asked to do. File names are the words as they stand.
-#[derive(Drop)]
+#[derive(Debug, Drop)]
 pub enum Command {
     /// Make a record file of the lines of standard input.
     Pack {

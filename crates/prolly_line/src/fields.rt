@@ -35,8 +35,8 @@ pub(crate) fn scratch(alloc: Global, given: &ArgMatches<'_>) -> Result<Command, 
     })
 }
 
-/// `build [--bits Q] [--stages S] [--capacity C] [--max-records M] [--batch B] [--format V] [--atomic]
-/// [--sync] OUT [FILES...]`
+/// `build [--bits Q] [--stages S] [--capacity C] [--max-records M] [--batch B] [--format V]
+/// [--atomic] [--sync] OUT [FILES...]`
 pub(crate) fn build(alloc: Global, given: &ArgMatches<'_>) -> Result<Command, ParseFault>
     requires { IsAccepted (codes "build", rows_in given.now) }
     ensures { Answers (codes "build", rows_in given.now) result }

@@ -1,7 +1,19 @@
-//! The texts of help that are longer than a line. They are laid out by hand for 80 columns, since
+//! The texts of help. Those that are longer than a line are laid out by hand for 80 columns, since
 //! clap does not wrap them.
 
-pub(crate) const PROGRAM: &str = "Makes, checks and reads prolly trees.
+/// The texts of a command's help.
+#[derive(Clone, Copy)]
+pub(crate) struct Help<'a> {
+    /// The line for the list of commands.
+    pub(crate) about: &'a str,
+    /// What stands above the usage.
+    pub(crate) details: &'a str,
+    pub(crate) example: &'a str,
+}
+
+pub(crate) const PROGRAM: Help<'static> = Help {
+    about: "Makes, checks and reads prolly trees",
+    details: "Makes, checks and reads prolly trees.
 
 A prolly tree is a search tree over sorted keys that is cut into chunks where
 the data itself says so. Its root is a text of 32 characters that is equal for
@@ -22,17 +34,19 @@ free), which takes its place once it is whole: after any fault the file is as it
 was. Only a run that is killed may leave the other one behind. With --sync the
 answer is printed once the file and its name are on the disk; without it, once
 the system has taken them, which a loss of power may undo. A file that is also
-an input is not written, but refused.";
-
-pub(crate) const PROGRAM_EXAMPLE: &str = "Example, from two lines of text to a look-up:
+an input is not written, but refused.",
+    example: "Example, from two lines of text to a look-up:
   printf '61 31\\n62 32\\n' | prolly pack ab.rec
   prolly build ab.prl ab.rec
   prolly check ab.prl
   prolly get ab.prl 61
 
-`prolly COMMAND --help` says more about a command.";
+`prolly COMMAND --help` says more about a command.",
+};
 
-pub(crate) const PACK: &str = "Makes a record file from lines of text on standard input.
+pub(crate) const PACK: Help<'static> = Help {
+    about: "Make a record file from lines of text",
+    details: "Makes a record file from lines of text on standard input.
 
 Each line is a record:
   HEXKEY HEXVALUE   a pair: put the value at the key
@@ -46,13 +60,14 @@ Prints the number of records.
 
 OUT is made before the input is read. After a fault it is left empty; where
 writing it failed, with the first part of the record file; and where standard
-output alone failed, whole. With --atomic it is as it was, but for the last.";
+output alone failed, whole. With --atomic it is as it was, but for the last.",
+    example: "Example: put 31 at 61, and take 62 away
+  printf '61 31\\n62 -\\n' | prolly pack changes.rec",
+};
 
-pub(crate) const PACK_EXAMPLE: &str = "Example: put 31 at 61, and take 62 away
-  printf '61 31\\n62 -\\n' | prolly pack changes.rec";
-
-pub(crate) const SCRATCH: &str =
-    "Makes the tree of one record file, which it reads from standard input, and
+pub(crate) const SCRATCH: Help<'static> = Help {
+    about: "Make the tree of one record file from standard input",
+    details: "Makes the tree of one record file, which it reads from standard input, and
 prints the text of its root.
 
 Equal contents give equal roots and equal chunk files, whether this command made
@@ -61,12 +76,14 @@ them or `build` did, at equal --bits and --format.
 With --out, FILE is made before the input is read. After a fault it is left
 empty; where writing it failed, with the first part of the chunk file; and where
 standard output alone failed, whole. With --atomic it is as it was, but for the
-last.";
+last.",
+    example: "Example:
+  prolly scratch --out ab.prl < ab.rec",
+};
 
-pub(crate) const SCRATCH_EXAMPLE: &str = "Example:
-  prolly scratch --out ab.prl < ab.rec";
-
-pub(crate) const BUILD: &str = "Makes one chunk file, OUT, from up to 16 record files.
+pub(crate) const BUILD: Help<'static> = Help {
+    about: "Make the chunk file of up to 16 record files",
+    details: "Makes one chunk file, OUT, from up to 16 record files.
 
 The files are read side by side, a thread each, and the levels of the tree are
 made in threads too. Where several files have a key the last of them wins: its
@@ -88,43 +105,47 @@ No command reads a chunk file of more than 1,073,741,824 bytes, which about
 --bits and --format decide what the chunk file holds. --stages and --max-records
 are limits: a tree of more levels, or a file of more records, is refused.
 --capacity and --batch change only how much memory the threads use and how often
-they wait for one another, never the chunk file.";
+they wait for one another, never the chunk file.",
+    example: "Example: the records of a day over those of the day before
+  prolly build tuesday.prl monday.rec tuesday.rec",
+};
 
-pub(crate) const BUILD_EXAMPLE: &str = "Example: the records of a day over those of the day before
-  prolly build tuesday.prl monday.rec tuesday.rec";
-
-pub(crate) const CHECK: &str =
-    "Reads a chunk file from end to end and says whether it is lawful: whether it is
+pub(crate) const CHECK: Help<'static> = Help {
+    about: "Say whether a chunk file is lawful",
+    details: "Reads a chunk file from end to end and says whether it is lawful: whether it is
 the one chunk file of its contents, to the byte.
 
-Prints `ok`, the text of the root, the number of --bits and that of chunks.";
+Prints `ok`, the text of the root, the number of --bits and that of chunks.",
+    example: "Example:
+  prolly check ab.prl",
+};
 
-pub(crate) const CHECK_EXAMPLE: &str = "Example:
-  prolly check ab.prl";
+pub(crate) const GET: Help<'static> = Help {
+    about: "Print the value of a key in a chunk file",
+    details: "Prints the value of one key in a chunk file, in hexadecimal. Where the file does
+not have the key, nothing is printed and the exit status is 1.",
+    example: "Example: the value of the key of one byte, 61
+  prolly get ab.prl 61",
+};
 
-pub(crate) const GET: &str =
-    "Prints the value of one key in a chunk file, in hexadecimal. Where the file does
-not have the key, nothing is printed and the exit status is 1.";
-
-pub(crate) const GET_EXAMPLE: &str = "Example: the value of the key of one byte, 61
-  prolly get ab.prl 61";
-
-pub(crate) const SCAN: &str =
-    "Prints pairs of a chunk file in the order of their keys, from HEXKEY on: the
+pub(crate) const SCAN: Help<'static> = Help {
+    about: "Print the pairs of a chunk file from a key on",
+    details: "Prints pairs of a chunk file in the order of their keys, from HEXKEY on: the
 first LIMIT pairs whose key is not less than HEXKEY. Keys are compared byte by
 byte, and a key comes before the longer ones that it begins.
 
-Each pair is a line, HEXKEY HEXVALUE.";
+Each pair is a line, HEXKEY HEXVALUE.",
+    example: "Example: the first ten pairs from the key 61 on
+  prolly scan ab.prl 61 10",
+};
 
-pub(crate) const SCAN_EXAMPLE: &str = "Example: the first ten pairs from the key 61 on
-  prolly scan ab.prl 61 10";
-
-pub(crate) const NTH: &str =
-    "Prints the pair at place N of a chunk file, in the order of keys. The first pair
+pub(crate) const NTH: Help<'static> = Help {
+    about: "Print the pair at a place of a chunk file",
+    details: "Prints the pair at place N of a chunk file, in the order of keys. The first pair
 is at place 0. The file has to be of --format 2, whose nodes count their pairs.
 
 The pair is a line, HEXKEY HEXVALUE. Where there is none, nothing is printed and
-the exit status is 1.";
-
-pub(crate) const NTH_EXAMPLE: &str = "Example: the first pair
-  prolly nth ab.prl 0";
+the exit status is 1.",
+    example: "Example: the first pair
+  prolly nth ab.prl 0",
+};

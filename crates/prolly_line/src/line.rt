@@ -10,23 +10,17 @@ use std::alloc::{AllocError, Global};
 
 // What stands above the subcommands.
 fn bare_line<'a>(alloc: Global) -> Result<Command<'a>, AllocError>
-    ensures line { IfOk result (λ c. app_of c ≡ bare_line) }
+    ensures { IfOk result (λ c. app_of c ≡ bare_line) }
 {
-    described(
-        alloc,
-        "prolly",
-        "Makes, checks and reads prolly trees",
-        help::PROGRAM,
-        help::PROGRAM_EXAMPLE,
-    )
-    .subcommand_required(true)
-    .no_binary_name(true)
-    .bin_name("prolly")
+    described(alloc, "prolly", help::PROGRAM)
+        .subcommand_required(true)
+        .no_binary_name(true)
+        .bin_name("prolly")
 }
 
 /// The whole command line.
 pub(crate) fn program_line<'a>(alloc: Global) -> Result<Command<'a>, AllocError>
-    ensures line { IfOk result (λ c. app_of c ≡ program_line) }
+    ensures { IfOk result (λ c. app_of c ≡ program_line) }
 {
     let line = bare_line(alloc);
     let line = with_subcommand(line, subcommands::pack_line(alloc));

@@ -1,136 +1,90 @@
 //! The subcommands, each with the line that clap reads it by.
-ghost use Rattle.std.specs.Prelude.{◌≡◌, IfOk, false};
-ghost use Rattle.clap.specs.Words.{app_of};
-ghost use Rattle.clap.specs.declared.builder.command.Command.TheViews.{out-Command as fields_of};
+ghost use Rattle.std.specs.Prelude.{IfOk};
+ghost use Rattle.clap.specs.Words.{App, with_rule};
+ghost use Rattle.prolly_line.specs.Line.{atomic_flag, sync_flag};
 ghost use Rattle.prolly_line.specs.Line.{build_line, check_line, get_line, nth_line, pack_line};
 ghost use Rattle.prolly_line.specs.Line.{scan_line, scratch_line};
+ghost use Rattle.prolly_line.specs.Local.{HasLine};
 
 use crate::assembly::{described, with_argument};
 use crate::{arguments, help};
 use clap::Command;
 use std::alloc::{AllocError, Global};
 
+// Adds the flags that say how the output is written.
+fn with_mode<'a>(
+    alloc: Global,
+    line: Result<Command<'a>, AllocError>,
+) -> Result<Command<'a>, AllocError>
+    ensures { (app : App) → IfOk line.entry (HasLine app)
+        → IfOk result (HasLine (with_rule (with_rule app atomic_flag) sync_flag)) }
+{
+    let line = with_argument(line, arguments::atomic_flag(alloc));
+    with_argument(line, arguments::sync_flag(alloc))
+}
+
 /// `pack [--atomic] [--sync] OUT`
 pub(crate) fn pack_line<'a>(alloc: Global) -> Result<Command<'a>, AllocError>
-    ensures line { IfOk result (λ c. app_of c ≡ pack_line) }
-    ensures local { IfOk result (λ c. (fields_of c).has_globals ≡ false) }
+    ensures { IfOk result (HasLine pack_line) }
 {
-    let line = described(
-        alloc,
-        "pack",
-        "Make a record file from lines of text",
-        help::PACK,
-        help::PACK_EXAMPLE,
-    )
-    .arg(arguments::atomic_flag(alloc));
-    let line = with_argument(line, arguments::sync_flag(alloc));
+    let line = with_mode(alloc, Ok(described(alloc, "pack", help::PACK)));
     with_argument(line, arguments::out_word(alloc, "The record file to make"))
 }
 
 /// `scratch [--bits Q] [--format V] [--out FILE] [--atomic] [--sync]`
 pub(crate) fn scratch_line<'a>(alloc: Global) -> Result<Command<'a>, AllocError>
-    ensures line { IfOk result (λ c. app_of c ≡ scratch_line) }
-    ensures local { IfOk result (λ c. (fields_of c).has_globals ≡ false) }
+    ensures { IfOk result (HasLine scratch_line) }
 {
-    let line = described(
-        alloc,
-        "scratch",
-        "Make the tree of one record file from standard input",
-        help::SCRATCH,
-        help::SCRATCH_EXAMPLE,
-    )
-    .arg(arguments::bits_option(alloc));
+    let line = described(alloc, "scratch", help::SCRATCH).arg(arguments::bits_option(alloc));
     let line = with_argument(line, arguments::format_option(alloc));
     let line = with_argument(line, arguments::out_option(alloc));
-    let line = with_argument(line, arguments::atomic_flag(alloc));
-    with_argument(line, arguments::sync_flag(alloc))
+    with_mode(alloc, line)
 }
 
-/// `build [--bits Q] [--stages S] [--capacity C] [--max-records M] [--batch B] [--format V] [--atomic]
-/// [--sync] OUT [FILES...]`
+/// `build [--bits Q] [--stages S] [--capacity C] [--max-records M] [--batch B] [--format V]
+/// [--atomic] [--sync] OUT [FILES...]`
 pub(crate) fn build_line<'a>(alloc: Global) -> Result<Command<'a>, AllocError>
-    ensures line { IfOk result (λ c. app_of c ≡ build_line) }
-    ensures local { IfOk result (λ c. (fields_of c).has_globals ≡ false) }
+    ensures { IfOk result (HasLine build_line) }
 {
-    let line = described(
-        alloc,
-        "build",
-        "Make the chunk file of up to 16 record files",
-        help::BUILD,
-        help::BUILD_EXAMPLE,
-    )
-    .arg(arguments::bits_option(alloc));
+    let line = described(alloc, "build", help::BUILD).arg(arguments::bits_option(alloc));
     let line = with_argument(line, arguments::stages_option(alloc));
     let line = with_argument(line, arguments::capacity_option(alloc));
     let line = with_argument(line, arguments::max_records_option(alloc));
     let line = with_argument(line, arguments::batch_option(alloc));
     let line = with_argument(line, arguments::format_option(alloc));
-    let line = with_argument(line, arguments::atomic_flag(alloc));
-    let line = with_argument(line, arguments::sync_flag(alloc));
+    let line = with_mode(alloc, line);
     let line = with_argument(line, arguments::out_word(alloc, "The chunk file to make"));
     with_argument(line, arguments::files_words(alloc))
 }
 
 /// `check FILE`
 pub(crate) fn check_line<'a>(alloc: Global) -> Result<Command<'a>, AllocError>
-    ensures line { IfOk result (λ c. app_of c ≡ check_line) }
-    ensures local { IfOk result (λ c. (fields_of c).has_globals ≡ false) }
+    ensures { IfOk result (HasLine check_line) }
 {
-    described(
-        alloc,
-        "check",
-        "Say whether a chunk file is lawful",
-        help::CHECK,
-        help::CHECK_EXAMPLE,
-    )
-    .arg(arguments::file_word(alloc))
+    described(alloc, "check", help::CHECK).arg(arguments::file_word(alloc))
 }
 
 /// `get FILE HEXKEY`
 pub(crate) fn get_line<'a>(alloc: Global) -> Result<Command<'a>, AllocError>
-    ensures line { IfOk result (λ c. app_of c ≡ get_line) }
-    ensures local { IfOk result (λ c. (fields_of c).has_globals ≡ false) }
+    ensures { IfOk result (HasLine get_line) }
 {
-    let line = described(
-        alloc,
-        "get",
-        "Print the value of a key in a chunk file",
-        help::GET,
-        help::GET_EXAMPLE,
-    )
-    .arg(arguments::file_word(alloc));
+    let line = described(alloc, "get", help::GET).arg(arguments::file_word(alloc));
     with_argument(line, arguments::key_word(alloc))
 }
 
 /// `scan FILE HEXKEY LIMIT`
 pub(crate) fn scan_line<'a>(alloc: Global) -> Result<Command<'a>, AllocError>
-    ensures line { IfOk result (λ c. app_of c ≡ scan_line) }
-    ensures local { IfOk result (λ c. (fields_of c).has_globals ≡ false) }
+    ensures { IfOk result (HasLine scan_line) }
 {
-    let line = described(
-        alloc,
-        "scan",
-        "Print the pairs of a chunk file from a key on",
-        help::SCAN,
-        help::SCAN_EXAMPLE,
-    )
-    .arg(arguments::file_word(alloc));
+    let line = described(alloc, "scan", help::SCAN).arg(arguments::file_word(alloc));
     let line = with_argument(line, arguments::key_word(alloc));
     with_argument(line, arguments::limit_word(alloc))
 }
 
 /// `nth FILE N`
 pub(crate) fn nth_line<'a>(alloc: Global) -> Result<Command<'a>, AllocError>
-    ensures line { IfOk result (λ c. app_of c ≡ nth_line) }
-    ensures local { IfOk result (λ c. (fields_of c).has_globals ≡ false) }
+    ensures { IfOk result (HasLine nth_line) }
 {
-    let line = described(
-        alloc,
-        "nth",
-        "Print the pair at a place of a chunk file",
-        help::NTH,
-        help::NTH_EXAMPLE,
-    )
-    .arg(arguments::file_word(alloc));
+    let line = described(alloc, "nth", help::NTH).arg(arguments::file_word(alloc));
     with_argument(line, arguments::n_word(alloc))
 }

@@ -1,5 +1,5 @@
 use Rattle.std.proofs.Common.{rules}
 use Rattle.prolly_line.proofs.arguments.capacity_option.Goals as goal
 
-pub returns-clause-rule : goal.returns-clause-rule
-returns-clause-rule c = search rules
+pub returns : goal.returns
+returns c = (search rules, search rules)

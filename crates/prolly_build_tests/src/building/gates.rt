@@ -1,0 +1,156 @@
+//! Gates show that workers are at work at once.
+use super::*;
+use prolly_stage::Worker;
+use std::sync::atomic::{AtomicU64, Ordering};
+use std::thread;
+
+const MANY_TURNS: u64 = 10_000_000;
+
+/// Enough for a worker that is not held.
+const FEW_TURNS: u64 = 10_000;
+
+/// A worker before an item of its own, and whether it has come there.
+#[derive(Drop)]
+struct Stop {
+    worker: Worker,
+    nth: u64,
+    has_come: AtomicU64,
+}
+
+impl Stop {
+    fn new(worker: Worker, nth: u64) -> Stop {
+        Stop {
+            worker,
+            nth,
+            has_come: AtomicU64::new(0),
+        }
+    }
+}
+
+/// A gate that holds each of two workers before an item until the other has come to its own, for at
+/// most so many turns.
+#[derive(Drop)]
+struct Meeting {
+    one: Stop,
+    other: Stop,
+    turns: u64,
+    met: AtomicU64,
+}
+
+impl Meeting {
+    fn new(one: Stop, other: Stop, turns: u64) -> Meeting {
+        Meeting {
+            one,
+            other,
+            turns,
+            met: AtomicU64::new(0),
+        }
+    }
+
+    /// One that holds each worker before its first item, for as long as it takes.
+    fn at_first_items(one: Worker, other: Worker) -> Meeting {
+        Meeting::new(Stop::new(one, 0), Stop::new(other, 0), MANY_TURNS)
+    }
+
+    /// How many of the two have seen the other.
+    fn met(&self) -> u64 {
+        self.met.load(Ordering::SeqCst)
+    }
+
+    fn hold(&self, here: &Stop, there: &Stop) {
+        here.has_come.store(1, Ordering::SeqCst);
+        for _ in 0..self.turns {
+            if there.has_come.load(Ordering::SeqCst) == 1 {
+                self.met.fetch_add(1, Ordering::SeqCst);
+                return;
+            }
+            thread::yield_now();
+        }
+    }
+}
+
+impl Gate for Meeting {
+    fn before_send<R: Wait>(&self, _rt: &R, worker: Worker, nth: u64) {
+        if worker == self.one.worker && nth == self.one.nth {
+            self.hold(&self.one, &self.other);
+        }
+        if worker == self.other.worker && nth == self.other.nth {
+            self.hold(&self.other, &self.one);
+        }
+    }
+}
+
+#[test]
+fn two_loaders_are_at_work_at_once(rt: HostRuntime) -> Result<(), Fail> {
+    let gate = Meeting::at_first_items(Worker::Loader(0), Worker::Loader(1));
+    expect_file(
+        &rt,
+        rt.alloc(),
+        &settings(12)?,
+        &gate,
+        &[b"a1", b"b1"],
+        &file_of(rt.alloc(), b"a1b1")?,
+    )?;
+    assert_eq!(rt; gate.met(), 2);
+    Ok(())
+}
+
+// They stand beside each other, above files 0 and 1, and above files 2 and 3.
+#[test]
+fn two_mergers_of_two_are_at_work_at_once(rt: HostRuntime) -> Result<(), Fail> {
+    let gate = Meeting::at_first_items(Worker::Merger(0), Worker::Merger(1));
+    let files = [b"a1".as_slice(), b"b1", b"c1", b"d1"];
+    let file = file_of(rt.alloc(), b"a1b1c1d1")?;
+    let report = expect_file(&rt, rt.alloc(), &settings(12)?, &gate, &files, &file)?;
+    assert_eq!(rt; gate.met(), 2);
+    assert_eq!(rt; (report.chunks, report.pairs, report.levels), (7, 4, 3));
+    Ok(())
+}
+
+// A message of two items leaves once both are in it, so that then the leaf stage waits in vain.
+#[test]
+fn two_stages_are_at_work_at_once(rt: HostRuntime) -> Result<(), Fail> {
+    for (batch, turns, met) in [(1, MANY_TURNS, 2), (2, 100_000, 1)] {
+        let gate = Meeting::new(
+            Stop::new(Worker::Stage(0), 1),
+            Stop::new(Worker::Stage(1), 0),
+            turns,
+        );
+        let config = settings(2)?.with_batch(batch)?;
+        let file = file_of(rt.alloc(), b"a1b1")?;
+        expect_file(&rt, rt.alloc(), &config, &gate, &[b"a1b1"], &file)?;
+        assert_eq!(rt; gate.met(), met);
+    }
+    Ok(())
+}
+
+/// A worker that is held before its first item, the one that sends to it, and how many items the
+/// first has taken by then: a merger takes the next record before it sends one.
+const NEIGHBOURS: [(Worker, Worker, u64); 4] = [
+    (Worker::Merger(0), Worker::Loader(0), 2),
+    (Worker::Merger(1), Worker::Merger(0), 2),
+    (Worker::Stage(0), Worker::Merger(1), 1),
+    (Worker::Stage(1), Worker::Stage(0), 1),
+];
+
+// The sender fills the link behind what was taken and comes to the item that has no room, and no
+// further.
+#[test]
+fn workers_are_ahead_by_the_capacity(rt: HostRuntime) -> Result<(), Fail> {
+    let pairs = b"a1b1c1d1e1f1g1h1";
+    let file = file_of(rt.alloc(), pairs)?;
+    for (held, ahead, taken) in NEIGHBOURS {
+        for (capacity, more, turns, met) in [
+            (1, 1, MANY_TURNS, 2),
+            (1, 2, FEW_TURNS, 1),
+            (4, 4, MANY_TURNS, 2),
+            (4, 5, FEW_TURNS, 1),
+        ] {
+            let gate = Meeting::new(Stop::new(held, 0), Stop::new(ahead, taken + more), turns);
+            let config = Config::new(0, 12, capacity, 1_000)?;
+            expect_file(&rt, rt.alloc(), &config, &gate, &[pairs, b"", b""], &file)?;
+            assert_eq!(rt; gate.met(), met, "{ahead:?} before {held:?}, {more} ahead");
+        }
+    }
+    Ok(())
+}

@@ -1,0 +1,164 @@
+//! The command line in use: that words are taken, which no clause can promise, since memory may run
+//! out, and what they come to as a person reads them.
+use prolly_line::{Command, ParseFault, parse};
+use std::alloc::{AllocError, Global};
+use std::test::Fail;
+
+// The answer to the words of a line.
+fn answer(alloc: Global, line: &str) -> Result<Result<Command, ParseFault>, AllocError> {
+    let mut words = Vec::new(alloc);
+    for word in line.split_whitespace() {
+        words.push(String::from_str(alloc, word)?)?;
+    }
+    Ok(parse(alloc, words.as_slice()))
+}
+
+// What becomes of a line, in a word or two.
+fn outcome(alloc: Global, line: &str) -> Result<&'static str, AllocError> {
+    Ok(match &answer(alloc, line)? {
+        Ok(_) => "taken",
+        Err(ParseFault::Memory) => "memory",
+        Err(ParseFault::Usage(_)) => "usage",
+        Err(ParseFault::Help(_)) => "help",
+        Err(ParseFault::BadKey) => "bad key",
+    })
+}
+
+// The command of a line that is taken, with its fields.
+fn shown(alloc: Global, line: &str) -> Result<String, Fail> {
+    let Ok(command) = answer(alloc, line)? else {
+        return Err(Fail::from("the words were refused"));
+    };
+    Ok(format!(in alloc; "{command:?}")?)
+}
+
+#[test]
+fn commands_have_their_fields(rt: HostRuntime) -> Result<(), Fail> {
+    let alloc = rt.alloc();
+    let cases = [
+        (
+            "pack a.rec",
+            "Pack { out: \"a.rec\", mode: WriteMode { atomic: false, sync: false } }",
+        ),
+        (
+            "pack --sync a.rec --atomic",
+            "Pack { out: \"a.rec\", mode: WriteMode { atomic: true, sync: true } }",
+        ),
+        (
+            "scratch",
+            "Scratch { bits: 12, version: 1, out: None, \
+             mode: WriteMode { atomic: false, sync: false } }",
+        ),
+        (
+            "scratch --sync --out a.prl",
+            "Scratch { bits: 12, version: 1, out: Some(\"a.prl\"), \
+             mode: WriteMode { atomic: false, sync: true } }",
+        ),
+        (
+            "build --atomic out.prl",
+            "Build { bits: 12, stages: 12, capacity: 64, max_records: 16777216, \
+             batch: 16, version: 1, out: \"out.prl\", files: [], \
+             mode: WriteMode { atomic: true, sync: false } }",
+        ),
+        (
+            "scratch --bits 24 --format 2 --out a.prl",
+            "Scratch { bits: 24, version: 2, out: Some(\"a.prl\"), \
+             mode: WriteMode { atomic: false, sync: false } }",
+        ),
+        (
+            "build out.prl x.rec y.rec",
+            "Build { bits: 12, stages: 12, capacity: 64, max_records: 16777216, \
+             batch: 16, version: 1, out: \"out.prl\", files: [\"x.rec\", \"y.rec\"], \
+             mode: WriteMode { atomic: false, sync: false } }",
+        ),
+        (
+            "build --bits 1 --stages 2 --capacity 3 --max-records 4 --batch 5 --format 2 out.prl",
+            "Build { bits: 1, stages: 2, capacity: 3, max_records: 4, batch: 5, version: 2, \
+             out: \"out.prl\", files: [], mode: WriteMode { atomic: false, sync: false } }",
+        ),
+        ("check a.prl", "Check { file: \"a.prl\" }"),
+        ("get a.prl 61fF", "Get { file: \"a.prl\", key: [97, 255] }"),
+        (
+            "scan a.prl 00 1000000",
+            "Scan { file: \"a.prl\", from: [0], limit: 1000000 }",
+        ),
+        (
+            "nth a.prl 4294967295",
+            "Nth { file: \"a.prl\", n: 4294967295 }",
+        ),
+    ];
+    for (line, expected) in cases {
+        let text = shown(alloc, line)?;
+        assert!(rt; text.as_str() == expected, "{line}: {text}");
+    }
+    Ok(())
+}
+
+#[test]
+fn words_out_of_range_are_usage(rt: HostRuntime) -> Result<(), Fail> {
+    let alloc = rt.alloc();
+    let lines = [
+        "",
+        "pack",
+        "pack --sync --sync a.rec",
+        "scratch --atomic=true",
+        "scratch --bits 25",
+        "build --stages 0 out.prl",
+        "scan a.prl 00 1000001",
+        "nth a.prl 4294967296",
+        "forget a.prl",
+    ];
+    for line in lines {
+        assert_eq!(rt; outcome(alloc, line)?, "usage", "{line}");
+    }
+    Ok(())
+}
+
+// What is shown where there is no command, behind what it is.
+fn text_shown(alloc: Global, line: &str) -> Result<String, Fail> {
+    match answer(alloc, line)? {
+        Err(ParseFault::Help(text)) => Ok(format!(in alloc; "help: {text}")?),
+        Err(ParseFault::Usage(text)) => Ok(format!(in alloc; "usage: {text}")?),
+        _ => Err(Fail::from("no text")),
+    }
+}
+
+#[test]
+fn a_text_is_shown_where_there_is_no_command(rt: HostRuntime) -> Result<(), Fail> {
+    let alloc = rt.alloc();
+    for (line, kind, part) in [
+        ("--help", "help: ", "  pack "),
+        ("help build", "help: ", "[default: 16777216]"),
+        ("", "usage: error: ", "requires a subcommand"),
+        ("scratch --bits 25", "usage: error: ", "25 is not in 0..=24"),
+        ("forget a.prl", "usage: error: ", "'forget'"),
+    ] {
+        let text = text_shown(alloc, line)?;
+        let shown = text.as_str();
+        assert!(rt; shown.starts_with(kind) && shown.contains(part), "{text}");
+    }
+    Ok(())
+}
+
+#[test]
+fn keys_are_hexadecimal_of_1024_bytes_at_most(rt: HostRuntime) -> Result<(), Fail> {
+    let alloc = rt.alloc();
+    let longest = "6B".repeat(alloc, 1024)?;
+    let line = format!(in alloc; "get a.prl {longest}")?;
+    let is_longest = match &answer(alloc, line.as_str())? {
+        Ok(Command::Get { key, .. }) => key.len() == 1024,
+        _ => false,
+    };
+    assert!(rt; is_longest);
+    let too_long = format!(in alloc; "get a.prl {longest}6B")?;
+    for (line, expected) in [
+        ("get a.prl 6", "bad key"),
+        ("scan a.prl 6x 1", "bad key"),
+        // What clap refuses is no bad key.
+        ("scan a.prl 6x", "usage"),
+        (too_long.as_str(), "bad key"),
+    ] {
+        assert_eq!(rt; outcome(alloc, line)?, expected, "{line}");
+    }
+    Ok(())
+}

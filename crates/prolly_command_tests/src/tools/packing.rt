@@ -1,0 +1,84 @@
+//! Lines of text, as they are packed.
+use crate::expect::expect_bytes;
+use prolly_test_parts::joined;
+use prolly_tool::{PackFault, pack_lines};
+use std::alloc::Global;
+use std::test::Fail;
+
+#[test]
+fn packs_lines(rt: HostRuntime) -> Result<(), Fail> {
+    for (text, count, bytes) in [
+        (b"".as_slice(), 0, b"".as_slice()),
+        (
+            b"61 31\n62 31\n",
+            2,
+            b"\0\x01a\0\0\0\x011\0\x01b\0\0\0\x011",
+        ),
+        (b"61 31\n62 31", 2, b"\0\x01a\0\0\0\x011\0\x01b\0\0\0\x011"),
+        (b" \n", 1, b"\0\0\0\0\0\0"),
+        (b"61 -\n", 1, b"\0\x01a\xFF\xFF\xFF\xFF"),
+        (b"6A 6a\n", 1, b"\0\x01j\0\0\0\x01j"),
+        (
+            b"62 31\n61 31\n",
+            2,
+            b"\0\x01b\0\0\0\x011\0\x01a\0\0\0\x011",
+        ),
+    ] {
+        let mut out = b"kept".to_vec(rt.alloc())?;
+        assert_eq!(rt; pack_lines(rt.alloc(), text, &mut out), Ok(count));
+        expect_bytes(&rt, &out, &joined(rt.alloc(), &[b"kept", bytes])?);
+    }
+    Ok(())
+}
+
+#[test]
+fn names_the_first_faulty_line(rt: HostRuntime) -> Result<(), Fail> {
+    for (text, line) in [
+        (b"61\n".as_slice(), 0),
+        (b"\n", 0),
+        (b"61 31\r\n", 0),
+        (b"61  31\n", 0),
+        (b"61 31 \n", 0),
+        (b"61 3\n", 0),
+        (b"61 3g\n", 0),
+        (b"- 31\n", 0),
+        (b"61 --\n", 0),
+        (b"61 31\n62 31\n\n", 2),
+        (b"61 31\n62\n63\n", 1),
+    ] {
+        let mut out = b"kept".to_vec(rt.alloc())?;
+        assert_eq!(rt;
+            pack_lines(rt.alloc(), text, &mut out),
+            Err(PackFault::BadLine { line })
+        );
+        expect_bytes(&rt, &out, b"kept");
+    }
+    Ok(())
+}
+
+/// A line of a key and a value of so many bytes.
+fn line_of(alloc: Global, key: usize, value: usize) -> Result<Vec<u8>, Fail> {
+    let mut line = Vec::new(alloc);
+    for _ in 0..key {
+        line.extend_from_slice(b"61")?;
+    }
+    line.push(b' ')?;
+    for _ in 0..value {
+        line.extend_from_slice(b"31")?;
+    }
+    Ok(line)
+}
+
+#[test]
+fn keeps_the_limits(rt: HostRuntime) -> Result<(), Fail> {
+    for (key, value, answer) in [
+        (1_024, 65_536, Ok(1)),
+        (1_025, 65_537, Err(PackFault::KeyTooLong { line: 0 })),
+        (1_024, 65_537, Err(PackFault::ValueTooLong { line: 0 })),
+    ] {
+        let line = line_of(rt.alloc(), key, value)?;
+        let mut out = Vec::new(rt.alloc());
+        assert_eq!(rt; pack_lines(rt.alloc(), &line, &mut out), answer);
+    }
+    Ok(())
+}

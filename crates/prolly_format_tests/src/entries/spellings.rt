@@ -1,0 +1,47 @@
+//! Entries, as they are spelled.
+use crate::expect::{expect_bytes, expect_length};
+use prolly_entry::{
+    Pair, Record, Ref, Version, append_child, append_child_as, append_pair, append_record,
+};
+use std::test::Fail;
+
+const REFERENCE: Ref = Ref([
+    0xDD, 0xAF, 0x35, 0xA1, 0x93, 0x61, 0x7A, 0xBA, 0xCC, 0x41, 0x73, 0x49, 0xAE, 0x20, 0x41, 0x31,
+    0x12, 0xE6, 0xFA, 0x4E,
+]);
+
+#[test]
+fn appends_a_pair(rt: HostRuntime) -> Result<(), Fail> {
+    let mut out = [0].to_vec(rt.alloc())?;
+    append_pair(&mut out, &Pair::copy_of(rt.alloc(), b"a", b"1")?)?;
+    expect_bytes(&rt, &out, b"\0\0\x01a\0\0\0\x011");
+    Ok(())
+}
+
+#[test]
+fn appends_records(rt: HostRuntime) -> Result<(), Fail> {
+    let removal = Record::removal_of(rt.alloc(), b"a")?;
+    let put = Record::put(Pair::copy_of(rt.alloc(), b"", b"")?);
+    let mut out = Vec::new(rt.alloc());
+    for (record, bytes) in [
+        (&removal, b"\0\x01a\xFF\xFF\xFF\xFF".as_slice()),
+        (&put, b"\0\x01a\xFF\xFF\xFF\xFF\0\0\0\0\0\0"),
+    ] {
+        append_record(&mut out, record)?;
+        expect_bytes(&rt, &out, bytes);
+    }
+    Ok(())
+}
+
+#[test]
+fn appends_child_entries(rt: HostRuntime) -> Result<(), Fail> {
+    let mut out = Vec::new(rt.alloc());
+    append_child(&mut out, b"a", &REFERENCE)?;
+    expect_length(&rt, &out, 23);
+    expect_bytes(&rt, &out[..3], b"\0\x01a");
+    expect_bytes(&rt, &out[3..], &REFERENCE.0);
+    append_child_as(&mut out, Version::Two, b"a", &REFERENCE, 1)?;
+    expect_length(&rt, &out, 54);
+    expect_bytes(&rt, &out[46..], b"\0\0\0\0\0\0\0\x01");
+    Ok(())
+}

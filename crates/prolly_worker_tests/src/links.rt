@@ -1,0 +1,245 @@
+//! Links in use: what arrives, how far a sender is ahead, and what is found where an end is gone.
+ghost use Rattle.std.specs.Prelude.{◌≡◌};
+
+use between::{copy_into_batches, copy_list, copy_out_of_batches};
+use copies::{Copies, copy_all};
+use prolly_link::{
+    BatchDrained, BatchReceiver, ClosedBatch, ClosedSender, Drained, End, In, ListIn, ListOut,
+    Next, Out, Receiver, RunFault, batch_link, compare, compare_batches, compare_closed,
+    compare_closed_batches, link, meet, meet_batches, receive_rest,
+};
+use std::process::Abort;
+use std::sync::Wait;
+use std::test::Fail;
+use std::thread;
+use std::time::Duration;
+
+mod across;
+mod between;
+mod copies;
+mod gather;
+mod numbers;
+mod waiting;
+
+const CLEAN: Next<u32> = Next::End(End::Clean);
+
+// Fails unless each of these items is taken.
+fn sends<O: Out<u32>>(rt: &(impl Abort + Wait), out: &mut O, items: &[u32])
+    ensures { O.link out.new ≡ O.link out.old }
+{
+    for &item in items {
+        assert_eq!(rt; out.send(rt, item), Ok(()));
+    }
+}
+
+// Fails unless this is received, in this order.
+fn receives<I: In<u32>>(rt: &(impl Abort + Wait), input: &mut I, expected: &[Next<u32>])
+    ensures { I.link input.new ≡ I.link input.old }
+{
+    for next in expected {
+        assert_eq!(rt; input.recv(rt), *next);
+    }
+}
+
+// Sends these, each of which must be taken, and then a clean end.
+fn send_all<O: Out<u32>>(rt: &(impl Abort + Wait), mut out: O, items: &[u32]) -> O::Closed
+    ensures { O.closed_link result ≡ O.link out }
+{
+    sends(rt, &mut out, items);
+    out.close(rt, End::Clean)
+}
+
+// Fails unless the receiver comes to the end, which its sender has sent.
+fn expect_meeting<R: Abort + Wait>(rt: &R, closed: ClosedSender<u32>, receiver: Receiver<u32>)
+    requires { closed.link ≡ receiver.link }
+{
+    match receiver.drain(rt) {
+        Drained::Ended(ended) => drop(meet(closed, ended)),
+        Drained::Lost(_) => assert!(rt; false, "the sender had closed"),
+    }
+}
+
+// The same for batches.
+fn expect_batch_meeting<R: Abort + Wait>(
+    rt: &R,
+    closed: ClosedBatch<u32>,
+    receiver: BatchReceiver<u32>,
+)
+    requires { closed.link ≡ receiver.link }
+{
+    match receiver.drain(rt) {
+        BatchDrained::Ended(ended) => drop(meet_batches(closed, ended)),
+        BatchDrained::Lost(_) => assert!(rt; false, "the sender had closed"),
+    }
+}
+
+#[test]
+fn an_end_is_given_again(rt: HostRuntime) -> Result<(), Fail> {
+    let (sender, mut receiver) = link(rt.alloc(), 4)?;
+    let closed = send_all(&rt, sender, &[1, 2]);
+    let expected = [Next::Item(1), Next::Item(2), CLEAN, CLEAN];
+    receives(&rt, &mut receiver, &expected);
+    expect_meeting(&rt, closed, receiver);
+    Ok(())
+}
+
+#[test]
+fn a_dropped_sender_is_lost(rt: HostRuntime) -> Result<(), Fail> {
+    let (mut sender, mut receiver) = link(rt.alloc(), 4)?;
+    sends(&rt, &mut sender, &[1]);
+    drop(sender);
+    receives(&rt, &mut receiver, &[Next::Item(1), Next::Lost, Next::Lost]);
+    assert!(rt; matches!(receiver.drain(&rt), Drained::Lost(_)));
+    Ok(())
+}
+
+#[test]
+fn batches_keep_the_order(rt: HostRuntime) -> Result<(), Fail> {
+    let (sender, mut receiver) = batch_link(rt.alloc(), 4, 2)?;
+    let closed = send_all(&rt, sender, &[1, 2, 3]);
+    let expected = [Next::Item(1), Next::Item(2), Next::Item(3), CLEAN, CLEAN];
+    receives(&rt, &mut receiver, &expected);
+    expect_batch_meeting(&rt, closed, receiver);
+    Ok(())
+}
+
+// The open batch is lost with its sender.
+#[test]
+fn a_dropped_batch_sender_is_lost(rt: HostRuntime) -> Result<(), Fail> {
+    let (mut sender, mut receiver) = batch_link(rt.alloc(), 4, 2)?;
+    sends(&rt, &mut sender, &[1, 2, 3]);
+    drop(sender);
+    receives(
+        &rt,
+        &mut receiver,
+        &[Next::Item(1), Next::Item(2), Next::Lost, Next::Lost],
+    );
+    assert!(rt; matches!(receiver.drain(&rt), BatchDrained::Lost(_)));
+    Ok(())
+}
+
+// A comparison takes nothing out of the link, before the close, behind it, and behind the end.
+#[test]
+fn ends_are_compared_at_any_time(rt: HostRuntime) -> Result<(), Fail> {
+    let (mut sender, mut receiver) = link(rt.alloc(), 4)?;
+    compare(&mut sender, &mut receiver);
+    sends(&rt, &mut sender, &[1, 2]);
+    receives(&rt, &mut receiver, &[Next::Item(1)]);
+    compare(&mut sender, &mut receiver);
+    let fault = End::Fault(RunFault::Write);
+    let mut closed = sender.close(&rt, fault);
+    compare_closed(&mut closed, &mut receiver);
+    receives(&rt, &mut receiver, &[Next::Item(2), Next::End(fault)]);
+    compare_closed(&mut closed, &mut receiver);
+    receives(&rt, &mut receiver, &[Next::End(fault)]);
+    expect_meeting(&rt, closed, receiver);
+    Ok(())
+}
+
+// Also with a batch in hand, and with one that is open.
+#[test]
+fn ends_of_batches_are_compared_at_any_time(rt: HostRuntime) -> Result<(), Fail> {
+    let (mut sender, mut receiver) = batch_link(rt.alloc(), 4, 2)?;
+    compare_batches(&mut sender, &mut receiver);
+    sends(&rt, &mut sender, &[1, 2, 3]);
+    receives(&rt, &mut receiver, &[Next::Item(1)]);
+    compare_batches(&mut sender, &mut receiver);
+    let fault = End::Fault(RunFault::Write);
+    let mut closed = sender.close(&rt, fault);
+    compare_closed_batches(&mut closed, &mut receiver);
+    receives(
+        &rt,
+        &mut receiver,
+        &[Next::Item(2), Next::Item(3), Next::End(fault)],
+    );
+    compare_closed_batches(&mut closed, &mut receiver);
+    receives(&rt, &mut receiver, &[Next::End(fault)]);
+    expect_batch_meeting(&rt, closed, receiver);
+    Ok(())
+}
+
+// One thread sends by this and another receives.
+#[test]
+fn a_thousand_numbers_go_across(rt: HostRuntime) -> Result<(), Fail> {
+    let plain = across::numbers_across(rt, rt.alloc(), 1000)?;
+    let in_batches = across::numbers_across_in_batches(rt, rt.alloc(), 1000)?;
+    expect_numbers(&rt, &plain, 1000);
+    expect_numbers(&rt, &in_batches, 1000);
+    Ok(())
+}
+
+// Fails unless these are the numbers below `count`, in their order.
+fn expect_numbers(rt: &impl Abort, numbers: &[u32], count: u32) {
+    assert_eq!(rt; numbers.len(), count as usize);
+    for i in 0..count {
+        assert_eq!(rt; numbers.get(i as usize).copied(), Some(i));
+    }
+}
+
+// Fails unless four messages of these items are taken, and the sender is ahead from the second one
+// on, where half of the room is left.
+fn fills_four<O: Out<u32>>(rt: &(impl Abort + Wait), out: &mut O, message: &[u32]) {
+    for is_ahead in [false, true, true, true] {
+        sends(rt, out, message);
+        assert_eq!(rt; out.is_ahead(), is_ahead);
+    }
+}
+
+// Nobody receives, so that a link with less room would wait for ever. One with more would be half
+// full later.
+#[test]
+fn a_link_has_the_room_that_was_asked_for(rt: HostRuntime) -> Result<(), Fail> {
+    let (mut sender, receiver) = link(rt.alloc(), 4)?;
+    fills_four(&rt, &mut sender, &[7]);
+    drop(receiver);
+    let (mut sender, receiver) = batch_link(rt.alloc(), 4, 2)?;
+    fills_four(&rt, &mut sender, &[7, 8]);
+    drop(receiver);
+    Ok(())
+}
+
+// The receiver comes to its longest naps before the sender begins.
+#[test]
+fn a_long_wait_ends(rt: HostRuntime) -> Result<(), Fail> {
+    let (sender, mut receiver) = link(rt.alloc(), 1)?;
+    let late = thread::spawn(&rt, move || {
+        thread::sleep(&rt, Duration::from_millis(300));
+        let mut sender = sender;
+        drop(sender.send(&rt, 7u32));
+        drop(sender.close(&rt, End::Clean));
+    })?;
+    receives(&rt, &mut receiver, &[Next::Item(7), CLEAN]);
+    late.join(&rt);
+    Ok(())
+}
+
+// From a list to a ring, from there over batches to another ring, and back to a list.
+#[test]
+fn a_worker_copies_between_all_ends(rt: HostRuntime) -> Result<(), Fail> {
+    let fault = End::Fault(RunFault::Read { file: 3 });
+    let items = [7u32, 8, 9].to_vec(rt.alloc())?;
+    let list = copy_list(&rt, rt.alloc(), items, fault);
+    let (first, from_first) = link(rt.alloc(), 4)?;
+    drop(copy_all(&rt, ListIn::new(list.items, list.last), first));
+    let (second, from_second) = batch_link(rt.alloc(), 4, 2)?;
+    drop(copy_into_batches(&rt, from_first, second));
+    let (third, from_third) = link(rt.alloc(), 4)?;
+    drop(copy_out_of_batches(&rt, from_second, third));
+    let Copies { input, out } = copy_all(&rt, from_third, ListOut::new(rt.alloc()));
+    assert_eq!(rt;
+        (out.items.as_slice(), out.last),
+        ([7u32, 8, 9].as_slice(), fault)
+    );
+    drop(input);
+    Ok(())
+}
+
+// What no worker needs is received to its end.
+#[test]
+fn a_rest_is_received(rt: HostRuntime) -> Result<(), Fail> {
+    let items = [7u32, 8].to_vec(rt.alloc())?;
+    let mut input = ListIn::new(items, End::Clean);
+    receive_rest(&rt, &mut input);
+    receives(&rt, &mut input, &[CLEAN]);
+    Ok(())
+}
