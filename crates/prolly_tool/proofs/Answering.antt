@@ -1,5 +1,5 @@
--- What a command answers where writing its file fails.
-use Rattle.std.proofs.Common.{List, ℕ, ◌⊎◌, inl, inr, Result, Ok, Err}
+-- What a command answers where writing its file fails, and of a file that was checked.
+use Rattle.std.proofs.Common.{◌≡◌, ◌≤◌, List, ℕ, length, ◌⊎◌, inl, inr, subst, Result, Ok, Err}
 use Rattle.std.specs.Prelude.{IfOk, OnErr}
 use Rattle.prolly_link.specs.declared.fault.RunFault.TheVariants.{Write}
 use Rattle.prolly_tool.specs.declared.answer.Answer.{Answer}
@@ -7,6 +7,10 @@ use Rattle.prolly_tool.specs.declared.fault.Fault.{Fault}
 use Rattle.prolly_tool.specs.declared.fault.Fault.TheVariants.{Run}
 use Rattle.prolly_tool.specs.Answers.{ShowsFault}
 use Rattle.prolly_tool.specs.Outputs.{IsAnswer, IsCutShort}
+use Rattle.prolly_tool.specs.LookUps.{IsLookedUp, file_limit}
+use Rattle.prolly_check.specs.Checked.{IsFile}
+use Rattle.prolly_check.specs.Content.{Content}
+use Rattle.prolly_check.specs.Verdict.{IsFileOf}
 
 pub short_answer : {E : Type 0} (makes : List ℕ → List ℕ → Type 0) (at_fault : Fault → Type 0) (took_all took_part : List ℕ → Type 0) (untouched : Type 0)
     (result : Result Answer E) → IsCutShort makes took_part → IfOk result (λ answer. ShowsFault answer (Run Write)) →
@@ -18,3 +22,15 @@ pub short_refused : {E : Type 0} (makes : List ℕ → List ℕ → Type 0) (too
     (result : Result Answer E) → IsCutShort makes took_part → OnErr result (untouched ⊎ IsCutShort makes took_part)
 short_refused makes took_part untouched (Ok answer) short = tt
 short_refused makes took_part untouched (Err e) short = inr short
+
+-- The bytes that a check accepted were read whole, and of their content this is shown.
+pub looked_up : (bytes left : List ℕ) (failed : Type 0) (shows : Content → Type 0) →
+    bytes ≡ left → IsFile bytes → length bytes ≤ file_limit → ¬ failed → ((content : Content) → IsFileOf bytes content → shows content) →
+    IsLookedUp left failed shows
+looked_up bytes left failed shows same file within unfailed shown =
+    subst (λ b. IsLookedUp b failed shows) same (record {
+      whole = record { within = within; unfailed = unfailed };
+      content = file.content;
+      is = file.is;
+      shown = shown file.content file.is;
+    })
