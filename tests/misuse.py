@@ -9,12 +9,10 @@ from harness import shown
 
 PROJECT = Path(__file__).parent.parent
 
-CLOSE = """    fn close<R: Wait>(self, rt: &R, end: End) -> ClosedBatch<T> {
-        BatchSender::close(self, rt, end)
+CLOSE = """        BatchSender::close(self, rt, end)
 """
 
-SEND_AFTER_CLOSE = """    fn close<R: Wait>(self, rt: &R, end: End) -> ClosedBatch<T> {
-        let closed = BatchSender::close(self, rt, end);
+SEND_AFTER_CLOSE = """        let closed = BatchSender::close(self, rt, end);
         self.is_ahead();
         closed
 """

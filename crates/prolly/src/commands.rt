@@ -6,10 +6,11 @@ ghost use Rattle.prolly_line.specs.Given.{IsWithinLimits};
 
 use crate::file_id::{FileId, STDIN, STDOUT};
 use crate::output::{MakeFault, Output};
+use crate::refusal::Refusal;
 use prolly_build::{FILES_LIMIT, build};
 use prolly_entry::Version;
+use prolly_fault::RunFault;
 use prolly_file::{Buffered, FromRead, Sink, ToWrite};
-use prolly_link::RunFault;
 use prolly_stage::OpenGate;
 use prolly_tool::{
     Answer, Command, Config, Fault, NameFault, WriteMode, answer_build, answer_check, answer_get,
@@ -29,6 +30,20 @@ pub fn answer_of<T: Wait + Threads + Sync>(
 ) -> Result<Answer, AllocError>
     requires { IsWithinLimits command }
 {
+    match answer_or_refusal(rt, threads, command) {
+        Ok(answer) | Err(Refusal::Told(answer)) => Ok(answer),
+        Err(Refusal::Memory) => Err(AllocError),
+    }
+}
+
+/// The answer of a command that has its files.
+fn answer_or_refusal<T: Wait + Threads + Sync>(
+    rt: &HostRuntime,
+    threads: &T,
+    command: Command,
+) -> Result<Answer, Refusal>
+    requires { IsWithinLimits command }
+{
     match command {
         Command::Pack { out, mode } => pack(rt, &out, mode),
         Command::Scratch {
@@ -39,7 +54,7 @@ pub fn answer_of<T: Wait + Threads + Sync>(
         } => {
             let version = Version::of(version).unwrap();
             match out {
-                None => scratch(rt, bits, version),
+                None => Ok(scratch(rt, bits, version)?),
                 Some(out) => scratch_to(rt, bits, version, &out, mode),
             }
         }
@@ -59,37 +74,34 @@ pub fn answer_of<T: Wait + Threads + Sync>(
             let config = config.with_version(version).unwrap();
             build_from(rt, threads, &config, &out, &files, mode)
         }
-        Command::Check { file } => match fs::open(rt, &file) {
-            Ok(opened) => answer_check(rt.alloc(), &mut FromRead::new(opened)),
-            Err(_) => Answer::of_name(rt.alloc(), NameFault::CannotOpen, &file),
-        },
-        Command::Get { file, key } => match fs::open(rt, &file) {
-            Ok(opened) => answer_get(rt.alloc(), &mut FromRead::new(opened), &key),
-            Err(_) => Answer::of_name(rt.alloc(), NameFault::CannotOpen, &file),
-        },
-        Command::Scan { file, from, limit } => match fs::open(rt, &file) {
-            Ok(opened) => answer_scan(rt.alloc(), &mut FromRead::new(opened), &from, limit),
-            Err(_) => Answer::of_name(rt.alloc(), NameFault::CannotOpen, &file),
-        },
-        Command::Nth { file, n } => match fs::open(rt, &file) {
-            Ok(opened) => answer_nth(rt.alloc(), &mut FromRead::new(opened), n),
-            Err(_) => Answer::of_name(rt.alloc(), NameFault::CannotOpen, &file),
-        },
+        Command::Check { file } => {
+            let mut source = opened(rt, &file)?;
+            Ok(answer_check(rt.alloc(), &mut source)?)
+        }
+        Command::Get { file, key } => {
+            let mut source = opened(rt, &file)?;
+            Ok(answer_get(rt.alloc(), &mut source, &key)?)
+        }
+        Command::Scan { file, from, limit } => {
+            let mut source = opened(rt, &file)?;
+            Ok(answer_scan(rt.alloc(), &mut source, &from, limit)?)
+        }
+        Command::Nth { file, n } => {
+            let mut source = opened(rt, &file)?;
+            Ok(answer_nth(rt.alloc(), &mut source, n)?)
+        }
     }
 }
 
 /// `pack [--atomic] [--sync] OUT`
-fn pack(rt: &HostRuntime, out: &str, mode: WriteMode) -> Result<Answer, AllocError> {
-    let output = match output_beside_streams(rt, out, mode)? {
-        Ok(output) => output,
-        Err(refusal) => return Ok(refusal),
-    };
+fn pack(rt: &HostRuntime, out: &str, mode: WriteMode) -> Result<Answer, Refusal> {
+    let output = output_beside_streams(rt, out, mode)?;
     let answer = answer_pack(
         rt.alloc(),
         &mut FromRead::new(rt.stdin()),
         &mut ToWrite::new(output.file()),
     );
-    output.finish(rt, out, answer)
+    Ok(output.finish(rt, out, answer)?)
 }
 
 /// `scratch [--bits Q] [--format V]`
@@ -113,13 +125,10 @@ fn scratch_to(
     version: Version,
     out: &str,
     mode: WriteMode,
-) -> Result<Answer, AllocError>
+) -> Result<Answer, Refusal>
     requires bits { bits ≤ 24 }
 {
-    let output = match output_beside_streams(rt, out, mode)? {
-        Ok(output) => output,
-        Err(refusal) => return Ok(refusal),
-    };
+    let output = output_beside_streams(rt, out, mode)?;
     let answer = answer_scratch(
         rt.alloc(),
         &mut FromRead::new(rt.stdin()),
@@ -127,38 +136,40 @@ fn scratch_to(
         version,
         &mut Some(ToWrite::new(output.file())),
     );
-    output.finish(rt, out, answer)
+    Ok(output.finish(rt, out, answer)?)
 }
 
-/// The output of a command that reads standard input, or the answer where there can be none.
-fn output_beside_streams(
-    rt: &HostRuntime,
-    out: &str,
-    mode: WriteMode,
-) -> Result<Result<Output, Answer>, AllocError> {
+/// The file of this name, to be read.
+fn opened(rt: &HostRuntime, name: &str) -> Result<FromRead<File>, Refusal> {
+    match fs::open(rt, name) {
+        Ok(file) => Ok(FromRead::new(file)),
+        Err(_) => Err(Refusal::of_name(rt, NameFault::CannotOpen, name)),
+    }
+}
+
+/// The output of a command that reads standard input.
+fn output_beside_streams(rt: &HostRuntime, out: &str, mode: WriteMode) -> Result<Output, Refusal> {
     let target = FileId::at(rt, out);
     if target.is_some() && target == FileId::at(rt, STDIN) {
-        let refusal = Answer::of_name(rt.alloc(), NameFault::IsInput, "standard input")?;
-        return Ok(Err(refusal));
+        return Err(Refusal::of_name(rt, NameFault::IsInput, "standard input"));
     }
     output_of(rt, out, target, mode)
 }
 
-/// The output of a command whose inputs are other files than OUT, or the answer where there can be
-/// none.
+/// The output of a command whose inputs are other files than OUT.
 fn output_of(
     rt: &HostRuntime,
     out: &str,
     target: Option<FileId>,
     mode: WriteMode,
-) -> Result<Result<Output, Answer>, AllocError> {
+) -> Result<Output, Refusal> {
     if target.is_some() && target == FileId::at(rt, STDOUT) {
-        return Ok(Err(Answer::of_fault(rt.alloc(), Fault::OutIsStdout)?));
+        return Err(Refusal::of_fault(rt, Fault::OutIsStdout));
     }
     match Output::make(rt, out, mode) {
-        Ok(output) => Ok(Ok(output)),
-        Err(MakeFault::Memory) => Err(AllocError),
-        Err(MakeFault::Name(fault)) => Ok(Err(Answer::of_name(rt.alloc(), fault, out)?)),
+        Ok(output) => Ok(output),
+        Err(MakeFault::Memory) => Err(Refusal::Memory),
+        Err(MakeFault::Name(fault)) => Err(Refusal::of_name(rt, fault, out)),
     }
 }
 
@@ -171,27 +182,26 @@ fn build_from<T: Wait + Threads + Sync>(
     out: &str,
     files: &[String],
     mode: WriteMode,
-) -> Result<Answer, AllocError> {
+) -> Result<Answer, Refusal> {
     if files.len() > FILES_LIMIT {
-        return Answer::of_fault(rt.alloc(), Fault::Run(RunFault::TooManyFiles));
+        return Err(Refusal::of_fault(rt, Fault::Run(RunFault::TooManyFiles)));
     }
     let target = FileId::at(rt, out);
     let mut sources = Vec::with_capacity(rt.alloc(), files.len())?;
     for name in files {
         let Ok(file) = fs::open(rt, name.as_str()) else {
-            return Answer::of_name(rt.alloc(), NameFault::CannotOpen, name);
+            return Err(Refusal::of_name(rt, NameFault::CannotOpen, name));
         };
         if target.is_some() && target == FileId::of(file.metadata()) {
-            return Answer::of_name(rt.alloc(), NameFault::IsInput, name);
+            return Err(Refusal::of_name(rt, NameFault::IsInput, name));
         }
-        sources.push(FromRead::new(file))?;
+        if sources.push(FromRead::new(file)).is_err() {
+            return Err(Refusal::Memory);
+        }
     }
-    let output = match output_of(rt, out, target, mode)? {
-        Ok(output) => output,
-        Err(refusal) => return Ok(refusal),
-    };
+    let output = output_of(rt, out, target, mode)?;
     let answer = build_into(rt, threads, config, &mut sources, output.file());
-    output.finish(rt, out, answer)
+    Ok(output.finish(rt, out, answer)?)
 }
 
 /// How many bytes are written to a chunk file at once.

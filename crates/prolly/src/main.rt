@@ -5,11 +5,12 @@
 mod commands;
 mod file_id;
 mod output;
+mod refusal;
 mod words;
 
 use crate::commands::answer_of;
 use crate::words::read_words;
-use prolly_link::RunFault;
+use prolly_fault::RunFault;
 use prolly_tool::{Answer, Fault, parse};
 use std::alloc::AllocError;
 use std::io::Write;

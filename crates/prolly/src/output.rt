@@ -1,5 +1,5 @@
 //! The file that a command writes.
-use prolly_link::RunFault;
+use prolly_fault::RunFault;
 use prolly_tool::{Answer, Fault, NameFault, WriteMode};
 use std::alloc::AllocError;
 use std::fs::{File, OpenOptions};

@@ -3,10 +3,10 @@ use Rattle.std.proofs.Common.{◌≡◌, ℕ, List, [], ◌∷◌, ◌++◌, len
 use Rattle.std.specs.Int.{w64, to_be_bytes}
 use Rattle.std.specs.List.{flat_map}
 use Rattle.std.proofs.lemmas.List.{append_cancel_left}
-use Rattle.prolly_entry.specs.Chunk.{Chunk}
-use Rattle.prolly_entry.specs.File.{header, frame}
-use Rattle.prolly_entry.proofs.Files.{eight_bytes}
-use Rattle.prolly_entry.proofs.Spellings.{apart, cell, cells}
+use Rattle.prolly_tree.specs.Chunk.{Chunk}
+use Rattle.prolly_tree.specs.File.{header, frame}
+use Rattle.prolly_entry.specs.lemmas.Spellings.{eight_bytes}
+use Rattle.prolly_entry.specs.lemmas.Lists.{apart, cell, cells}
 use Rattle.prolly_file.specs.Sink.{SinkView}
 use Rattle.prolly_build.specs.Settings.{Settings}
 use Rattle.prolly_build.specs.Built.{NoEndIsBegun}

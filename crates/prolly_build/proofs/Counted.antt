@@ -1,19 +1,19 @@
 -- What the files of a build count for, by what the loaders sent of them.
 use Rattle.std.proofs.Common.{◌≡◌, ◌≢◌, ◌+◌, ◌⊎◌, ℕ, true, List, [], ◌∷◌, ◌++◌, All, map, length, Option, Some, None, inl, inr, refl, ap, sym, subst, ◌∙◌}
 use Rattle.prolly_entry.specs.Byte.{IsByte}
-use Rattle.prolly_entry.specs.CutShort.{IsSentOf, AreSentOf}
-use Rattle.prolly_entry.specs.Merge.{Input}
+use Rattle.prolly_tree.specs.CutShort.{IsSentOf, AreSentOf}
+use Rattle.prolly_tree.specs.Merge.{Input}
 use Rattle.prolly_entry.specs.Reading.{IsReading}
 use Rattle.prolly_entry.specs.Record.{Record}
 use Rattle.prolly_entry.specs.declared.flaw.Flaw.{Flaw}
 use Rattle.prolly_entry.specs.declared.flaw.Flaw.TheVariants as flaws
-use Rattle.prolly_entry.proofs.Readings.{reading_is}
+use Rattle.prolly_laws.specs.Readings.{reading_is}
 use Rattle.prolly_file.specs.Source.{SourceView}
-use Rattle.prolly_link.specs.Views.{Batching, Whole}
-use Rattle.prolly_link.specs.declared.fault.End.{End}
-use Rattle.prolly_link.specs.declared.fault.End.TheVariants.{Clean, Fault}
-use Rattle.prolly_link.specs.declared.fault.RunFault.{RunFault}
-use Rattle.prolly_link.specs.declared.fault.RunFault.TheVariants as faults
+use Rattle.prolly_link.specs.Views.{Batching}
+use Rattle.prolly_fault.specs.Ends.{End, Whole}
+use Rattle.prolly_link.specs.declared.end.End.TheVariants.{Clean, Fault}
+use Rattle.prolly_fault.specs.declared.fault.RunFault.{RunFault}
+use Rattle.prolly_fault.specs.declared.fault.RunFault.TheVariants as faults
 use Rattle.prolly_load.specs.Loading.{FailsAs, EndsAs}
 use Rattle.prolly_merge.specs.Inputs.{input_of, fault_of}
 use Rattle.prolly_build.specs.Merging.{sent_input}

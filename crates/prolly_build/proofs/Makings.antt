@@ -3,23 +3,22 @@ use Rattle.std.proofs.Common.{◌≡◌, ◌≤◌, ◌<◌, ◌+◌, ◌-◌, �
 use Rattle.std.specs.List.{filter}
 use Rattle.std.proofs.Math.Nat.{lt_of_not-le}
 use Rattle.std.proofs.lemmas.List.{append-nil}
-use Rattle.prolly_entry.specs.Chunk.{Chunk, chunk_of, chunks}
+use Rattle.prolly_tree.specs.Chunk.{Chunk, chunk_of, chunks}
 use Rattle.prolly_entry.specs.Cut.{Cut, sha512_cut}
-use Rattle.prolly_entry.specs.Events.{clean, has_level, greatest_count}
-use Rattle.prolly_entry.specs.File.{file, header, end_record, root_reference}
+use Rattle.prolly_tree.specs.Events.{clean, has_level, greatest_count}
+use Rattle.prolly_tree.specs.File.{file, header, end_record, root_reference}
 use Rattle.prolly_entry.specs.Pair.{Pair}
-use Rattle.prolly_entry.specs.Pipeline.{pipeline_events, before_second, within_stages, HasSecond}
+use Rattle.prolly_tree.specs.Pipeline.{pipeline_events, before_second, within_stages, HasSecond}
 use Rattle.prolly_entry.specs.Prefix.{IsPrefix}
 use Rattle.prolly_entry.specs.Reference.{reference_of}
-use Rattle.prolly_entry.specs.Tree.{tree_of, level_count}
-use Rattle.prolly_entry.proofs.Composition.{composition, enough_stages}
-use Rattle.prolly_entry.proofs.Sizes.{few_chunks}
-use Rattle.prolly_entry.proofs.Writers.{within_is_prefix}
+use Rattle.prolly_tree.specs.Tree.{tree_of, level_count}
+use Rattle.prolly_laws.specs.Stages.{composition, enough_stages, within_is_prefix}
+use Rattle.prolly_laws.specs.Trees.{few_chunks}
 use Rattle.prolly_file.specs.Sink.{SinkView, TakesPrefix}
-use Rattle.prolly_link.specs.declared.fault.End.{End}
-use Rattle.prolly_link.specs.declared.fault.End.TheVariants.{Clean, Fault}
-use Rattle.prolly_link.specs.declared.fault.RunFault.{RunFault}
-use Rattle.prolly_link.specs.declared.fault.RunFault.TheVariants.{Memory, Read, Truncated, KeyTooLong, ValueTooLong, OutOfOrder, TooManyRecords, Write, TooTall, NoThread, Lost, TooManyFiles}
+use Rattle.prolly_fault.specs.Ends.{End}
+use Rattle.prolly_link.specs.declared.end.End.TheVariants.{Clean, Fault}
+use Rattle.prolly_fault.specs.declared.fault.RunFault.{RunFault}
+use Rattle.prolly_fault.specs.declared.fault.RunFault.TheVariants.{Memory, Read, Truncated, KeyTooLong, ValueTooLong, OutOfOrder, TooManyRecords, Write, TooTall, NoThread, Lost, TooManyFiles}
 use Rattle.prolly_build.specs.declared.report.Report.{Report}
 use Rattle.prolly_build.specs.declared.run.written.Begun.{Begun}
 use Rattle.prolly_build.specs.declared.run.written.Top.{Top}

@@ -2,18 +2,17 @@
 use Rattle.std.proofs.Common.{◌≡◌, ℕ, zero, suc, Bool, true, false, cond, List, [], ◌∷◌, ◌++◌, Option, Some, None, inl, inr, refl, ap, sym, subst, ◌∙◌}
 use Rattle.std.specs.List.{filter, AllByRecursion}
 use Rattle.prolly_entry.specs.Keys.{Rising, RisingFrom}
-use Rattle.prolly_entry.specs.Merge.{Input, Stop, stop_at, earlier_stop, stop, stop_fault, is_within, raw_merged_part, merged_part, joined_input}
+use Rattle.prolly_tree.specs.Merge.{Input, Stop, stop_at, earlier_stop, stop, stop_fault, is_within, raw_merged_part, merged_part, joined_input}
 use Rattle.prolly_entry.specs.Overlay.{raw_overlay, overlay, pairs_put, AllRising}
 use Rattle.prolly_entry.specs.Pair.{Pair}
 use Rattle.prolly_entry.specs.Position.{Position, last_position, is_before}
 use Rattle.prolly_entry.specs.Record.{Record, keys_of}
-use Rattle.prolly_entry.proofs.Fronts.{all_kept}
-use Rattle.prolly_entry.proofs.Joins.{merge_joined}
-use Rattle.prolly_entry.proofs.MergedParts.{merged_part_rises}
-use Rattle.prolly_link.specs.declared.fault.End.{End}
-use Rattle.prolly_link.specs.declared.fault.End.TheVariants.{Clean, Fault}
-use Rattle.prolly_link.specs.declared.fault.RunFault.{RunFault}
-use Rattle.prolly_link.specs.declared.fault.RunFault.TheVariants.{Memory}
+use Rattle.prolly_entry.specs.lemmas.Lists.{all_kept}
+use Rattle.prolly_laws.specs.Merging.{merge_joined, merged_part_rises}
+use Rattle.prolly_fault.specs.Ends.{End}
+use Rattle.prolly_link.specs.declared.end.End.TheVariants.{Clean, Fault}
+use Rattle.prolly_fault.specs.declared.fault.RunFault.{RunFault}
+use Rattle.prolly_fault.specs.declared.fault.RunFault.TheVariants.{Memory}
 use Rattle.prolly_merge.specs.Inputs.{fault_of, end_of, input_of, lists_of, stop_end}
 use Rattle.prolly_merge.specs.Sent.{Sends}
 use Rattle.prolly_build.specs.Feeding.{IsJoint, Joined}

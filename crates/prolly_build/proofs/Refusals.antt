@@ -3,36 +3,32 @@ use Rattle.std.proofs.Common.{◌≡◌, ◌≤◌, ◌<◌, ◌+◌, ◌-◌, �
 use Rattle.std.specs.List.{flat_map}
 use Rattle.std.proofs.lemmas.List.{append-nil, length-append}
 use Rattle.std.proofs.lemmas.List.Concat.{flat_map-append}
-use Rattle.prolly_entry.specs.Chunk.{Chunk, chunks}
+use Rattle.prolly_tree.specs.Chunk.{Chunk, chunks}
 use Rattle.prolly_entry.specs.Cut.{Cut, sha512_cut}
-use Rattle.prolly_entry.specs.CutShort.{IsFrontOf, AreFrontsOf}
-use Rattle.prolly_entry.specs.File.{header}
-use Rattle.prolly_entry.specs.Merge.{Input, stop, stop_fault, raw_merged_part, merged_part}
+use Rattle.prolly_tree.specs.CutShort.{IsFrontOf, AreFrontsOf}
+use Rattle.prolly_tree.specs.File.{header}
+use Rattle.prolly_tree.specs.Merge.{Input, stop, stop_fault, raw_merged_part, merged_part}
 use Rattle.prolly_entry.specs.Overlay.{raw_overlay, overlay, pairs_of_change, pairs_put, AllRising}
 use Rattle.prolly_entry.specs.Pair.{Pair}
-use Rattle.prolly_entry.specs.Pipeline.{before_second}
+use Rattle.prolly_tree.specs.Pipeline.{before_second}
 use Rattle.prolly_entry.specs.Prefix.{IsPrefix}
 use Rattle.prolly_entry.specs.Reading.{IsReading}
 use Rattle.prolly_entry.specs.Record.{Record}
 use Rattle.prolly_entry.specs.declared.flaw.Flaw.{Flaw}
-use Rattle.prolly_entry.proofs.Composition.{composition}
-use Rattle.prolly_entry.proofs.Fronts.{all_rising, fronts_merge}
-use Rattle.prolly_entry.proofs.Joins.{rising_two_as_one, two_of_all, overlay_of_two}
-use Rattle.prolly_entry.proofs.MergedParts.{overlay_is_small}
-use Rattle.prolly_entry.proofs.Orders.{begins_all, first_are_good, one_reading}
-use Rattle.prolly_entry.proofs.Readings.{reading_is}
-use Rattle.prolly_entry.proofs.Writers.{within_is_prefix}
+use Rattle.prolly_laws.specs.Stages.{composition, within_is_prefix}
+use Rattle.prolly_laws.specs.Merging.{all_rising, fronts_merge, rising_two_as_one, two_of_all, overlay_of_two, overlay_is_small}
+use Rattle.prolly_laws.specs.Readings.{begins_all, first_are_good, one_reading, reading_is}
 use Rattle.prolly_file.specs.Source.{SourceView}
 use Rattle.prolly_file.specs.Sink.{SinkView, TakesPrefix}
-use Rattle.prolly_link.specs.Views.{Batching, Whole}
-use Rattle.prolly_link.specs.declared.fault.End.{End}
-use Rattle.prolly_link.specs.declared.fault.End.TheVariants.{Fault}
-use Rattle.prolly_link.specs.declared.fault.RunFault.{RunFault}
-use Rattle.prolly_link.specs.declared.fault.RunFault.TheVariants.{Memory}
+use Rattle.prolly_link.specs.Views.{Batching}
+use Rattle.prolly_fault.specs.Ends.{End, Whole}
+use Rattle.prolly_link.specs.declared.end.End.TheVariants.{Fault}
+use Rattle.prolly_fault.specs.declared.fault.RunFault.{RunFault}
+use Rattle.prolly_fault.specs.declared.fault.RunFault.TheVariants.{Memory}
 use Rattle.prolly_merge.specs.Inputs.{fault_of, input_of, stop_end}
 use Rattle.prolly_merge.specs.Sent.{Sends}
-use Rattle.prolly_stage.proofs.Steps.{prefix_trans}
-use Rattle.prolly_stage.proofs.Takings.{writer_takes}
+use Rattle.prolly_entry.specs.lemmas.Lists.{prefix_trans}
+use Rattle.prolly_stage.specs.lemmas.Takings.{writer_takes}
 use Rattle.prolly_build.specs.Feeding.{IsJoint, Joined}
 use Rattle.prolly_build.specs.Merging.{MergesAll, sent_input}
 use Rattle.prolly_build.specs.Ran.{AreLoaded}

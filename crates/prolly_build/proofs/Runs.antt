@@ -1,20 +1,20 @@
 -- What the workers of a build sent, seen from the sources.
 use Rattle.std.proofs.Common.{◌≡◌, ◌≢◌, ◌≤◌, ◌<◌, ◌+◌, ◌-◌, ◌^◌, ℕ, List, [], map, length, inl, inr, refl, ap, sym, subst, ◌∙◌, arith}
-use Rattle.prolly_entry.specs.Chunk.{Chunk}
+use Rattle.prolly_tree.specs.Chunk.{Chunk}
 use Rattle.prolly_entry.specs.Cut.{sha512_cut}
-use Rattle.prolly_entry.specs.Events.{Closing, clean, faulty}
-use Rattle.prolly_entry.specs.Merge.{merged_part}
+use Rattle.prolly_tree.specs.Events.{Closing, clean, faulty}
+use Rattle.prolly_tree.specs.Merge.{merged_part}
 use Rattle.prolly_entry.specs.Overlay.{overlay}
 use Rattle.prolly_entry.specs.Pair.{Pair}
-use Rattle.prolly_entry.specs.Pipeline.{pipeline_events}
+use Rattle.prolly_tree.specs.Pipeline.{pipeline_events}
 use Rattle.prolly_entry.specs.Record.{Record}
-use Rattle.prolly_entry.proofs.MergedParts.{overlay_is_small}
+use Rattle.prolly_laws.specs.Merging.{overlay_is_small}
 use Rattle.prolly_file.specs.Source.{SourceView}
 use Rattle.prolly_file.specs.Sink.{SinkView}
-use Rattle.prolly_link.specs.declared.fault.End.{End}
-use Rattle.prolly_link.specs.declared.fault.End.TheVariants.{Clean, Fault}
-use Rattle.prolly_link.specs.declared.fault.RunFault.{RunFault}
-use Rattle.prolly_link.specs.declared.fault.RunFault.TheVariants.{Memory, NoThread, Lost, TooManyFiles}
+use Rattle.prolly_fault.specs.Ends.{End}
+use Rattle.prolly_link.specs.declared.end.End.TheVariants.{Clean, Fault}
+use Rattle.prolly_fault.specs.declared.fault.RunFault.{RunFault}
+use Rattle.prolly_fault.specs.declared.fault.RunFault.TheVariants.{Memory, NoThread, Lost, TooManyFiles}
 use Rattle.prolly_build.specs.declared.end.halt.Halt.{Halt}
 use Rattle.prolly_build.specs.declared.end.halt.Halt.TheVariants.{NoThread as NoThread_halt, Lost as Lost_halt}
 use Rattle.prolly_build.specs.Ran.{IsHaltFault}

@@ -1,18 +1,17 @@
 -- Stages over links that were met.
 use Rattle.std.proofs.Common.{◌≡◌, ℕ, suc, ◌+◌, List, [], ap, sym, subst, ◌∙◌, add-one}
 use Rattle.prolly_entry.specs.declared.version.Version.{Version}
-use Rattle.prolly_entry.specs.Chunk.{Chunk}
+use Rattle.prolly_tree.specs.Chunk.{Chunk}
 use Rattle.prolly_entry.specs.Cut.{sha512_cut}
-use Rattle.prolly_entry.specs.Events.{Closing, leaf_events, inner_events}
+use Rattle.prolly_tree.specs.Events.{Closing, leaf_events, inner_events}
 use Rattle.prolly_entry.specs.Pair.{Pair}
-use Rattle.prolly_entry.specs.Pipeline.{pipeline_events}
+use Rattle.prolly_tree.specs.Pipeline.{pipeline_events}
 use Rattle.prolly_file.specs.Source.{SourceView}
-use Rattle.prolly_link.specs.Views.{Receiving, Batching, Whole}
-use Rattle.prolly_link.specs.Receipts.{end_given}
-use Rattle.prolly_link.specs.declared.fault.End.{End}
+use Rattle.prolly_link.specs.Views.{Batching}
+use Rattle.prolly_fault.specs.Ends.{End, Receiving, Whole, end_given}
 use Rattle.prolly_link.specs.declared.progress.Progress.TheVariants.{Ended}
 use Rattle.prolly_stage.specs.Sends.{Sends}
-use Rattle.prolly_stage.proofs.Joins.{stage_follows}
+use Rattle.prolly_stage.specs.lemmas.Joins.{stage_follows}
 use Rattle.prolly_build.specs.Gathering.{IsGathered}
 use Rattle.prolly_build.specs.Settings.{Settings}
 use Rattle.prolly_build.specs.Staging.{HasStaged}

@@ -1,23 +1,21 @@
 -- Which fault the workers of a build name, and what they sent before it.
 use Rattle.std.proofs.Common.{◌≡◌, ◌≢◌, ◌≤◌, ◌<◌, ◌+◌, ◌-◌, ◌^◌, ℕ, zero, suc, List, [], ◌∷◌, ◌++◌, map, length, Option, Some, None, inl, inr, refl, ap, sym, subst, ◌∙◌, arith}
 use Rattle.std.specs.List.{AllByRecursion}
-use Rattle.prolly_entry.specs.Chunk.{Chunk}
-use Rattle.prolly_entry.specs.CutShort.{IsSentOf, AreSentOf}
+use Rattle.prolly_tree.specs.Chunk.{Chunk}
+use Rattle.prolly_tree.specs.CutShort.{IsSentOf, AreSentOf}
 use Rattle.prolly_entry.specs.Cut.{sha512_cut}
-use Rattle.prolly_entry.specs.Events.{Closing, faulty}
-use Rattle.prolly_entry.specs.Merge.{Input, Stop, stop, stop_fault, raw_merged_part, merged_part, joined_input}
+use Rattle.prolly_tree.specs.Events.{Closing, faulty}
+use Rattle.prolly_tree.specs.Merge.{Input, Stop, stop, stop_fault, raw_merged_part, merged_part, joined_input}
 use Rattle.prolly_entry.specs.Overlay.{AllRising, pairs_put}
 use Rattle.prolly_entry.specs.Pair.{Pair}
-use Rattle.prolly_entry.specs.Pipeline.{pipeline_events}
+use Rattle.prolly_tree.specs.Pipeline.{pipeline_events}
 use Rattle.prolly_entry.specs.Record.{Record}
-use Rattle.prolly_entry.proofs.CutShort.{cut_behind_stop}
-use Rattle.prolly_entry.proofs.Joins.{merge_joined}
-use Rattle.prolly_entry.proofs.MergedParts.{merged_part_rises, merged_part_is_small}
+use Rattle.prolly_laws.specs.Merging.{cut_behind_stop, merge_joined, merged_part_rises, merged_part_is_small}
 use Rattle.prolly_file.specs.Source.{SourceView}
-use Rattle.prolly_link.specs.declared.fault.End.{End}
-use Rattle.prolly_link.specs.declared.fault.End.TheVariants.{Clean, Fault}
-use Rattle.prolly_link.specs.declared.fault.RunFault.{RunFault}
-use Rattle.prolly_link.specs.declared.fault.RunFault.TheVariants.{Memory}
+use Rattle.prolly_fault.specs.Ends.{End}
+use Rattle.prolly_link.specs.declared.end.End.TheVariants.{Clean, Fault}
+use Rattle.prolly_fault.specs.declared.fault.RunFault.{RunFault}
+use Rattle.prolly_fault.specs.declared.fault.RunFault.TheVariants.{Memory}
 use Rattle.prolly_merge.specs.Inputs.{fault_of, end_of, input_of, lists_of, stop_end}
 use Rattle.prolly_merge.specs.Sent.{Sends}
 use Rattle.prolly_stage.specs.Sends.{closing_of, Sends as StageSends}

@@ -1,18 +1,18 @@
 -- What the writer has written of the pairs before a fault, and before want of memory.
 use Rattle.std.proofs.Common.{◌≡◌, ◌≤◌, ◌<◌, ◌-◌, ◌^◌, ℕ, suc, true, List, ◌++◌, length, inl, inr, ap, sym, subst, ◌∙◌, arith}
 use Rattle.std.specs.List.{filter}
-use Rattle.prolly_entry.specs.Chunk.{Chunk, begun_chunks}
+use Rattle.prolly_tree.specs.Chunk.{Chunk, begun_chunks}
 use Rattle.prolly_entry.specs.Cut.{sha512_cut}
-use Rattle.prolly_entry.specs.Events.{faulty, has_level}
-use Rattle.prolly_entry.specs.File.{header}
+use Rattle.prolly_tree.specs.Events.{faulty, has_level}
+use Rattle.prolly_tree.specs.File.{header}
 use Rattle.prolly_entry.specs.Pair.{Pair}
-use Rattle.prolly_entry.specs.Pipeline.{pipeline_events, before_second, within_stages}
-use Rattle.prolly_entry.proofs.Composition.{composition}
+use Rattle.prolly_tree.specs.Pipeline.{pipeline_events, before_second, within_stages}
+use Rattle.prolly_laws.specs.Stages.{composition}
 use Rattle.prolly_file.specs.Sink.{SinkView, TakesPrefix}
-use Rattle.prolly_link.specs.declared.fault.End.{End}
-use Rattle.prolly_link.specs.declared.fault.End.TheVariants.{Clean, Fault}
-use Rattle.prolly_link.specs.declared.fault.RunFault.{RunFault}
-use Rattle.prolly_link.specs.declared.fault.RunFault.TheVariants.{Memory, Write, TooTall as TooTall_fault, Lost}
+use Rattle.prolly_fault.specs.Ends.{End}
+use Rattle.prolly_link.specs.declared.end.End.TheVariants.{Clean, Fault}
+use Rattle.prolly_fault.specs.declared.fault.RunFault.{RunFault}
+use Rattle.prolly_fault.specs.declared.fault.RunFault.TheVariants.{Memory, Write, TooTall as TooTall_fault, Lost}
 use Rattle.prolly_build.specs.declared.run.written.Written.{Written}
 use Rattle.prolly_build.specs.declared.run.written.Written.TheVariants.{Whole, TooTall, Failed}
 use Rattle.prolly_build.specs.Settings.{Settings}

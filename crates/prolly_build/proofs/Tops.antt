@@ -4,12 +4,12 @@ use Rattle.std.specs.List.{filter, flat_map}
 use Rattle.std.proofs.lemmas.List.Elements.{filter-append}
 use Rattle.std.proofs.lemmas.List.Concat.{flat_map-append}
 use Rattle.std.proofs.lemmas.List.{append-nil}
-use Rattle.prolly_entry.specs.Chunk.{Chunk}
-use Rattle.prolly_entry.specs.File.{frame}
-use Rattle.prolly_entry.specs.Events.{has_level}
-use Rattle.prolly_entry.specs.Pipeline.{before_first, before_second}
+use Rattle.prolly_tree.specs.Chunk.{Chunk}
+use Rattle.prolly_tree.specs.File.{frame}
+use Rattle.prolly_tree.specs.Events.{has_level}
+use Rattle.prolly_tree.specs.Pipeline.{before_first, before_second}
 use Rattle.prolly_entry.specs.Prefix.{IsPrefix}
-use Rattle.prolly_entry.proofs.Prefixes.{count, count_true, count_false}
+use Rattle.prolly_tree.specs.lemmas.Stages.{count, count_true, count_false}
 use Rattle.prolly_build.specs.Writing.{frames_of}
 
 module _ (level : ℕ) where

@@ -1,16 +1,15 @@
 -- How the writer's state goes on.
 use Rattle.std.proofs.Common.{◌≡◌, ◌≢◌, ◌<◌, ◌^◌, Option, Some, length, ℕ, suc, ◌≤◌, Bool, true, false, List, [], ◌∷◌, ◌++◌, refl, sym, ap, ◌∙◌, subst, arith, append_assoc}
 use Rattle.std.proofs.lemmas.List.{append-nil}
-use Rattle.prolly_entry.specs.Chunk.{Chunk}
-use Rattle.prolly_entry.specs.File.{frame, end_record}
-use Rattle.prolly_entry.specs.Events.{has_level, greatest_count}
-use Rattle.prolly_entry.specs.Pipeline.{before_second}
+use Rattle.prolly_tree.specs.Chunk.{Chunk}
+use Rattle.prolly_tree.specs.File.{frame, end_record}
+use Rattle.prolly_tree.specs.Events.{has_level, greatest_count}
+use Rattle.prolly_tree.specs.Pipeline.{before_second}
 use Rattle.prolly_entry.specs.Prefix.{IsPrefix}
-use Rattle.prolly_entry.proofs.Groups.{all_append}
-use Rattle.prolly_entry.proofs.Prefixes.{count, count_true, count_false}
-use Rattle.prolly_entry.proofs.Writers.{within_is_prefix}
+use Rattle.prolly_entry.specs.lemmas.Lists.{all_append, prefix_trans}
+use Rattle.prolly_tree.specs.lemmas.Stages.{count, count_true, count_false}
+use Rattle.prolly_laws.specs.Stages.{within_is_prefix}
 use Rattle.prolly_file.specs.Sink.{SinkView, TakesPrefix}
-use Rattle.prolly_stage.proofs.Steps.{prefix_trans}
 use Rattle.prolly_build.specs.declared.run.written.Begun.{Begun}
 use Rattle.prolly_build.specs.declared.run.written.Top.{Top}
 use Rattle.prolly_build.specs.declared.run.written.Written.{Written}

@@ -1,23 +1,23 @@
 -- What a build has made of its sources.
 use Rattle.std.specs.Prelude.{◌≡◌, ◌≢◌, ◌<◌, ◌≤◌, ℕ, true, List, [], ◌∷◌, ◌++◌, length, None, ◌-◌}
 use Rattle.std.specs.List.{flat_map}
-use Rattle.prolly_entry.specs.Chunk.{Chunk, chunks}
+use Rattle.prolly_tree.specs.Chunk.{Chunk, chunks}
 use Rattle.prolly_entry.specs.Cut.{sha512_cut}
-use Rattle.prolly_entry.specs.File.{file, frame, header, root_reference}
-use Rattle.prolly_entry.specs.Events.{clean}
+use Rattle.prolly_tree.specs.File.{file, frame, header, root_reference}
+use Rattle.prolly_tree.specs.Events.{clean}
 use Rattle.prolly_entry.specs.Overlay.{overlay}
 use Rattle.prolly_entry.specs.Pair.{Pair}
-use Rattle.prolly_entry.specs.Pipeline.{pipeline_events, within_stages}
+use Rattle.prolly_tree.specs.Pipeline.{pipeline_events, within_stages}
 use Rattle.prolly_entry.specs.Prefix.{IsPrefix}
 use Rattle.prolly_entry.specs.Reading.{IsReading}
 use Rattle.prolly_entry.specs.Record.{Record}
-use Rattle.prolly_entry.specs.Tree.{level_count}
+use Rattle.prolly_tree.specs.Tree.{level_count}
 use Rattle.prolly_file.specs.Source.{SourceView}
 use Rattle.prolly_file.specs.Sink.{SinkView, TakesPrefix}
-use Rattle.prolly_link.specs.declared.fault.End.{End}
-use Rattle.prolly_link.specs.declared.fault.End.TheVariants.{Clean, Fault}
-use Rattle.prolly_link.specs.declared.fault.RunFault.{RunFault}
-use Rattle.prolly_link.specs.declared.fault.RunFault.TheVariants as faults
+use Rattle.prolly_fault.specs.Ends.{End}
+use Rattle.prolly_link.specs.declared.end.End.TheVariants.{Clean, Fault}
+use Rattle.prolly_fault.specs.declared.fault.RunFault.{RunFault}
+use Rattle.prolly_fault.specs.declared.fault.RunFault.TheVariants as faults
 use Rattle.prolly_build.specs.declared.report.Report.{Report}
 use Rattle.prolly_build.specs.Settings.{Settings}
 use Rattle.prolly_build.specs.Writing.{AreSmall, frames_of}

@@ -1,8 +1,8 @@
 -- What a build leaves where a worker was refused memory.
 use Rattle.std.specs.Prelude.{◌≡◌, ℕ, true, List, [], ◌∷◌, Option}
-use Rattle.prolly_entry.specs.Chunk.{chunks}
+use Rattle.prolly_tree.specs.Chunk.{chunks}
 use Rattle.prolly_entry.specs.Cut.{sha512_cut}
-use Rattle.prolly_entry.specs.File.{header}
+use Rattle.prolly_tree.specs.File.{header}
 use Rattle.prolly_entry.specs.Overlay.{overlay}
 use Rattle.prolly_entry.specs.Pair.{Pair}
 use Rattle.prolly_entry.specs.Prefix.{IsPrefix}

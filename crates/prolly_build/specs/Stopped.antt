@@ -1,18 +1,18 @@
 -- What a build names, and what it leaves, where a record file is at fault.
 use Rattle.std.specs.Prelude.{◌≡◌, ◌≢◌, ◌⊎◌, ℕ, ◌+◌, true, List, [], ◌∷◌, ◌++◌, length, Option, Some, None}
 use Rattle.std.specs.List.{AllByRecursion}
-use Rattle.prolly_entry.specs.Chunk.{begun_chunks}
+use Rattle.prolly_tree.specs.Chunk.{begun_chunks}
 use Rattle.prolly_entry.specs.Cut.{sha512_cut}
-use Rattle.prolly_entry.specs.File.{header}
-use Rattle.prolly_entry.specs.Merge.{Input, stop, stop_fault, merged_part}
+use Rattle.prolly_tree.specs.File.{header}
+use Rattle.prolly_tree.specs.Merge.{Input, stop, stop_fault, merged_part}
 use Rattle.prolly_entry.specs.Pair.{Pair}
-use Rattle.prolly_entry.specs.Pipeline.{within_stages}
+use Rattle.prolly_tree.specs.Pipeline.{within_stages}
 use Rattle.prolly_entry.specs.Reading.{IsReading}
 use Rattle.prolly_entry.specs.declared.flaw.Flaw.{Flaw}
 use Rattle.prolly_file.specs.Source.{SourceView}
 use Rattle.prolly_file.specs.Sink.{SinkView, TakesPrefix}
-use Rattle.prolly_link.specs.declared.fault.RunFault.{RunFault}
-use Rattle.prolly_link.specs.declared.fault.RunFault.TheVariants as faults
+use Rattle.prolly_fault.specs.declared.fault.RunFault.{RunFault}
+use Rattle.prolly_fault.specs.declared.fault.RunFault.TheVariants as faults
 use Rattle.prolly_load.specs.Fault.{fault_of as fault_of_flaw}
 use Rattle.prolly_load.specs.Loading.{IsReadTo}
 use Rattle.prolly_build.specs.Settings.{Settings}

@@ -1,12 +1,13 @@
 -- What the workers of a build give back.
 use Rattle.std.specs.Prelude.{◌≡◌, ◌≢◌, ◌↔◌, ℕ, true, List, []}
-use Rattle.prolly_entry.specs.Chunk.{Chunk}
-use Rattle.prolly_entry.specs.Events.{Closing}
+use Rattle.prolly_tree.specs.Chunk.{Chunk}
+use Rattle.prolly_tree.specs.Events.{Closing}
 use Rattle.prolly_file.specs.Source.{SourceView}
-use Rattle.prolly_link.specs.Views.{Receiving, Batching, Whole}
-use Rattle.prolly_link.specs.Receipts.{HasEnded, end_given}
-use Rattle.prolly_link.specs.declared.fault.End.TheVariants.{Fault}
-use Rattle.prolly_link.specs.declared.fault.RunFault.TheVariants.{Read}
+use Rattle.prolly_link.specs.Views.{Batching}
+use Rattle.prolly_fault.specs.Ends.{Receiving, Whole, end_given}
+use Rattle.prolly_link.specs.Receipts.{HasEnded}
+use Rattle.prolly_link.specs.declared.end.End.TheVariants.{Fault}
+use Rattle.prolly_fault.specs.declared.fault.RunFault.TheVariants.{Read}
 use Rattle.prolly_entry.specs.Record.{Record}
 use Rattle.prolly_load.specs.Loading.{IsLoaded}
 use Rattle.prolly_stage.specs.Sends.{Sends}

@@ -1,17 +1,17 @@
 -- What the writer of a pipeline has written of the events that it received.
 use Rattle.std.specs.Prelude.{◌≡◌, ◌≢◌, ◌<◌, ◌≤◌, ◌+◌, ◌^◌, ◌⊎◌, ℕ, min, Bool, true, false, List, [], ◌∷◌, ◌++◌, length, Option, Some, None}
 use Rattle.std.specs.List.{flat_map, filter, AllByRecursion}
-use Rattle.prolly_entry.specs.Chunk.{Chunk}
-use Rattle.prolly_entry.specs.File.{frame, end_record}
-use Rattle.prolly_entry.specs.Events.{has_level, greatest_count}
-use Rattle.prolly_entry.specs.Pipeline.{before_second, HasSecond}
+use Rattle.prolly_tree.specs.Chunk.{Chunk}
+use Rattle.prolly_tree.specs.File.{frame, end_record}
+use Rattle.prolly_tree.specs.Events.{has_level, greatest_count}
+use Rattle.prolly_tree.specs.Pipeline.{before_second, HasSecond}
 use Rattle.prolly_entry.specs.Prefix.{IsPrefix}
 use Rattle.prolly_entry.specs.Reference.{reference_of}
 use Rattle.prolly_file.specs.Sink.{SinkView, TakesPrefix}
-use Rattle.prolly_link.specs.declared.fault.End.{End}
-use Rattle.prolly_link.specs.declared.fault.End.TheVariants.{Clean, Fault}
-use Rattle.prolly_link.specs.declared.fault.RunFault.{RunFault}
-use Rattle.prolly_link.specs.declared.fault.RunFault.TheVariants.{Write, TooTall as TooTall_fault}
+use Rattle.prolly_fault.specs.Ends.{End}
+use Rattle.prolly_link.specs.declared.end.End.TheVariants.{Clean, Fault}
+use Rattle.prolly_fault.specs.declared.fault.RunFault.{RunFault}
+use Rattle.prolly_fault.specs.declared.fault.RunFault.TheVariants.{Write, TooTall as TooTall_fault}
 use Rattle.prolly_build.specs.declared.report.Report.{Report}
 use Rattle.prolly_build.specs.declared.run.written.Begun.{Begun}
 use Rattle.prolly_build.specs.declared.run.written.Top.{Top}

@@ -1,6 +1,6 @@
 //! The pipelined build.
 ghost use Rattle.std.specs.Prelude.{◌≡◌, ◌≢◌, ◌+◌, ◌<◌, ◌≤◌, ◌↔◌, Err, vec_len, IfOk, IfErr};
-ghost use Rattle.prolly_link.specs.declared.fault.RunFault.TheVariants.{TooManyFiles};
+ghost use Rattle.prolly_fault.specs.declared.fault.RunFault.TheVariants.{TooManyFiles};
 ghost use Rattle.prolly_build.specs.Settings.{AreLawful};
 ghost use Rattle.prolly_build.specs.Ran.{HandsOn};
 ghost use Rattle.prolly_build.specs.Staging.{HasStaged};
@@ -15,8 +15,8 @@ use crate::report::Report;
 use crate::run::stages::{Ran, run_from_top};
 use crate::start::permit::{AllStart, Permit};
 use crate::start::site::Site;
+use prolly_fault::RunFault;
 use prolly_file::{Sink, Source};
-use prolly_link::RunFault;
 use prolly_stage::Gate;
 use std::alloc::Global;
 use std::sync::Wait;

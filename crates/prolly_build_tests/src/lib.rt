@@ -4,5 +4,3 @@
 
 #[cfg(test)]
 mod building;
-#[cfg(test)]
-mod expect;

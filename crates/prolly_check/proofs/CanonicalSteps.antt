@@ -1,74 +1,62 @@
 -- The tests against the file of the pairs.
-use Rattle.std.proofs.Common.{◌≡◌, ℕ, ◌<◌, Bool, true, false, not, List, [], ◌∷◌, length, get_or, Option, Some, None, refl, sym, ap, ◌∙◌}
-use Rattle.std.proofs.lemmas.List.{length-map, get_or-map}
+use Rattle.std.proofs.Common.{◌≡◌, ℕ, ◌<◌, true, false, not, List, ◌∷◌, ◌++◌, length, map, Some, None, sym, ap, ◌∙◌, subst}
+use Rattle.std.specs.Int.{w64, to_be_bytes}
+use Rattle.std.specs.List.{flat_map}
 use Rattle.std.specs.Str.{bytes_eq}
+use Rattle.std.proofs.lemmas.List.{length-map}
 use Rattle.std.proofs.lemmas.Slice.Eq.{bytes_eq-Decides}
-use Rattle.std.proofs.lemmas.Bool.{cond-true, cond-false, false≢true}
+use Rattle.std.proofs.lemmas.Bool.{cond-true, cond-false, false≢true, not-false, false_from_ne_true}
 use Rattle.prolly_entry.specs.declared.version.Version.{Version}
+use Rattle.prolly_entry.specs.Cut.{sha512_cut}
+use Rattle.prolly_tree.specs.Chunk.{chunks}
+use Rattle.prolly_tree.specs.File.{root_reference}
 use Rattle.prolly_entry.specs.Pair.{Pair}
-use Rattle.prolly_entry.specs.Overlay.{or_else}
-use Rattle.prolly_entry.proofs.Parts.{flat}
+use Rattle.prolly_entry.specs.Reference.{reference_of}
+use Rattle.prolly_entry.specs.lemmas.Lists.{cells}
 use Rattle.prolly_check.specs.declared.fault.CheckFault.{CheckFault}
 use Rattle.prolly_check.specs.declared.fault.CheckFault.TheVariants as faults
-use Rattle.prolly_check.specs.declared.frames.Span.{Span}
-use Rattle.prolly_check.specs.Spans.{chunk_in, chunks_in}
-use Rattle.prolly_check.specs.Judged.{order_fault, difference, end_fault, chunk_bytes, ending_for}
-use Rattle.prolly_check.specs.Canonical.{canonical_fault}
-use Rattle.prolly_check.proofs.Verdicts.{not_false}
-
-pub false_is : (b : Bool) → (b ≡ true → ⊥) → b ≡ false
-false_is true h = absurd (h refl)
-false_is false h = refl
-
--- ---- the first chunk that differs
-
-pub count_in : (bytes : List ℕ) (spans : List Span) → length (chunks_in bytes spans) ≡ length spans
-count_in bytes spans = length-map spans (chunk_in bytes)
-
-pub chunk_there : (bytes : List ℕ) (spans : List Span) (n : ℕ) (other : Span) → n < length spans → chunk_in bytes (get_or spans n other) ≡ get_or (chunks_in bytes spans) n []
-chunk_there bytes spans n other h = sym (get_or-map (chunk_in bytes) spans n other [] h)
-
--- ---- all of it
-
-none_first : (a b : Option CheckFault) → a ≡ None → or_else a b ≡ b
-none_first a b e = ap (λ x. or_else x b) e
-
-some_first : (a b : Option CheckFault) (f : CheckFault) → a ≡ Some f → or_else a b ≡ Some f
-some_first a b f e = ap (λ x. or_else x b) e
-
-tail_same : (x y : List ℕ) → 0x45 ∷ x ≡ 0x45 ∷ y → x ≡ y
-tail_same x y e = cc
-
--- where the keys rise, the chunks and the end record are left
-module _ (version : Version) (bits : ℕ) (cs : List (List ℕ)) (ending : List ℕ) (lists : List (List Pair)) (rise : order_fault [] 0 lists ≡ None) where
-  abbrev wanted : List ℕ
-  wanted = ending_for version bits (flat lists)
-
-  abbrev chunks_fault : Option CheckFault
-  chunks_fault = difference 0 (chunk_bytes version bits (flat lists)) cs
-
-  then_chunks : canonical_fault version bits cs ending lists ≡ or_else chunks_fault (end_fault ending wanted)
-  then_chunks = none_first (order_fault [] 0 lists) (or_else chunks_fault (end_fault ending wanted)) rise
-
-  pub chunks_first : (fault : CheckFault) → chunks_fault ≡ Some fault → canonical_fault version bits cs ending lists ≡ Some fault
-  chunks_first fault d = then_chunks ∙ some_first chunks_fault (end_fault ending wanted) fault d
-
-  module _ (same : chunks_fault ≡ None) (found want : List ℕ) (f : found ≡ 0x45 ∷ ending) (g : want ≡ 0x45 ∷ wanted) where
-    then_end : canonical_fault version bits cs ending lists ≡ end_fault ending wanted
-    then_end = then_chunks ∙ none_first chunks_fault (end_fault ending wanted) same
-
-    pub end_differs : (found ≡ want → ⊥) → canonical_fault version bits cs ending lists ≡ Some faults.BadEnd
-    end_differs apart =
-        then_end ∙ cond-false (bytes_eq ending wanted) None (Some faults.BadEnd)
-        (false_is (bytes_eq ending wanted) (λ t. apart (f ∙ ap (λ x. 0x45 ∷ x) ((bytes_eq-Decides ending wanted).0 t) ∙ sym g)))
-
-    pub end_same : found ≡ want → canonical_fault version bits cs ending lists ≡ None
-    end_same e =
-        then_end ∙ cond-true (bytes_eq ending wanted) None (Some faults.BadEnd) ((bytes_eq-Decides ending wanted).1 (tail_same ending wanted (sym f ∙ e ∙ g)))
+use Rattle.prolly_check.specs.Canonical.{Says, CompareAs, ending_of_chunks}
+use Rattle.prolly_check.specs.Held.{pairs_held}
+use Rattle.prolly_check.specs.Judged.{order_fault, chunk_bytes, ending_for}
+use Rattle.prolly_check.proofs.CheckedTree.{chunks_some, chunks_last}
+use Rattle.prolly_check.proofs.HeldPairs.{flat_held}
+use Rattle.prolly_check.proofs.Verdicts.{difference_ok}
 
 -- what `!=` of bytes says
 pub unequal : (x y : List ℕ) → true ≡ not (bytes_eq x y) → x ≡ y → ⊥
 unequal x y e f = false≢true (sym (e ∙ ap not ((bytes_eq-Decides x y).1 f)))
 
 pub equal : (x y : List ℕ) → false ≡ not (bytes_eq x y) → x ≡ y
-equal x y e = (bytes_eq-Decides x y).0 (not_false (bytes_eq x y) (sym e))
+equal x y e = (bytes_eq-Decides x y).0 (not-false (bytes_eq x y) (sym e))
+
+ending_is : (version : Version) (bits : ℕ) (pairs : List Pair) → ending_of_chunks (chunk_bytes version bits pairs) ≡ ending_for version bits pairs
+ending_is version bits pairs =
+    ap (λ c. reference_of c ++ to_be_bytes w64 (length (chunk_bytes version bits pairs))) (chunks_last version bits pairs)
+    ∙ ap (λ n. root_reference (sha512_cut bits) version pairs ++ to_be_bytes w64 n) (length-map (chunks (sha512_cut bits) version pairs) (λ c. c.bytes))
+
+-- where the keys rise, the chunks are tested, and then the end record
+module _ (version : Version) (bits : ℕ) (cs : List (List ℕ)) (rise : order_fault None 0 (map pairs_held cs) ≡ None) (behind : List ℕ) where
+  pub chunks_say : (fault : CheckFault) → CompareAs version bits cs (Some fault) → Says version bits cs behind (Some fault)
+  chunks_say fault differ ending e = rw (rise, flat_held cs, differ)
+
+  module _ (same : CompareAs version bits cs None) where
+    abbrev wanted : List ℕ
+    wanted = ending_for version bits (flat_map pairs_held cs)
+
+    are_chunks : chunk_bytes version bits (flat_map pairs_held cs) ≡ cs
+    are_chunks = difference_ok 0 (chunk_bytes version bits (flat_map pairs_held cs)) cs same
+
+    pub some_chunks : 0 < length cs
+    some_chunks = subst (λ ws. 0 < length ws) are_chunks (chunks_some version bits (flat_map pairs_held cs))
+
+    ends_as : 0x45 ∷ ending_of_chunks cs ≡ 0x45 ∷ wanted
+    ends_as = ap (λ ws. 0x45 ∷ ending_of_chunks ws) (sym are_chunks) ∙ ap (λ e. 0x45 ∷ e) (ending_is version bits (flat_map pairs_held cs))
+
+    pub end_says : (fault : CheckFault) → (fault ≡ faults.BadEnd) × (behind ≡ 0x45 ∷ ending_of_chunks cs → ⊥) → Says version bits cs behind (Some fault)
+    end_says fault bad ending e = rw (rise, flat_held cs, same, bad.0)
+        (cond-false (bytes_eq ending wanted) None (Some faults.BadEnd)
+        (false_from_ne_true (bytes_eq ending wanted) (λ t. bad.1 (e ∙ ap (λ x. 0x45 ∷ x) ((bytes_eq-Decides ending wanted).0 t) ∙ sym ends_as))))
+
+    pub all_say : behind ≡ 0x45 ∷ ending_of_chunks cs → Says version bits cs behind None
+    all_say is ending e = rw (rise, flat_held cs, same)
+        (cond-true (bytes_eq ending wanted) None (Some faults.BadEnd) ((bytes_eq-Decides ending wanted).1 (cells 0x45 0x45 ending wanted (sym e ∙ is ∙ ends_as))))

@@ -1,5 +1,5 @@
 -- What the steps of the checker find, in the words of the verdict.
-use Rattle.std.proofs.Common.{◌≡◌, ℕ, ◌^◌, ◌<◌, ◌≤◌, true, List, [], length, drop, Option, Some, None, Result, Ok, Err, refl, sym, ap, ◌∙◌, subst, arith}
+use Rattle.std.proofs.Common.{◌≡◌, ℕ, ◌^◌, ◌<◌, true, List, [], length, map, drop, Option, Some, None, Result, Ok, Err, inr, refl, sym, ap, ◌∙◌, subst, arith}
 use Rattle.std.specs.Prelude.{slice_index}
 use Rattle.std.specs.BTreeMap.{BTreeMap}
 use Rattle.std.specs.List.{flat_map}
@@ -7,35 +7,27 @@ use Rattle.prolly_entry.specs.declared.version.Version.{Version}
 use Rattle.prolly_entry.specs.declared.reference.Ref.{Ref}
 use Rattle.prolly_entry.specs.Pair.{Pair}
 use Rattle.prolly_entry.specs.Overlay.{or_else}
-use Rattle.prolly_entry.proofs.Overlays.{or_assoc}
-use Rattle.prolly_entry.proofs.Parts.{flat}
+use Rattle.prolly_tree.specs.lemmas.Splits.{flat}
 use Rattle.prolly_check.specs.declared.fault.CheckFault.{CheckFault}
 use Rattle.prolly_check.specs.declared.frames.Span.{Span}
 use Rattle.prolly_check.specs.Content.{Content}
 use Rattle.prolly_check.specs.Header.{header_tests, header_fault, version_of}
 use Rattle.prolly_check.specs.Frames.{has_no_frame, ending_of, IsFramed}
-use Rattle.prolly_check.specs.Spans.{chunks_in, FramesTo}
+use Rattle.prolly_check.specs.Spans.{chunk_in, chunks_in, FramesTo}
 use Rattle.prolly_check.specs.Entries.{IsBad, IsRead}
 use Rattle.prolly_check.specs.Whole.{AreWhole}
 use Rattle.prolly_check.specs.Held.{pairs_held}
-use Rattle.prolly_check.specs.Judged.{order_fault, difference, end_fault, reuse, chunk_bytes, ending_for, or_content, judged}
-use Rattle.prolly_check.specs.Canonical.{canonical_fault, Says}
+use Rattle.prolly_check.specs.Judged.{reuse, canonical_fault, or_content, judged}
+use Rattle.prolly_check.specs.Canonical.{Says}
 use Rattle.prolly_check.specs.Index.{IsIndex}
 use Rattle.prolly_check.specs.Checked.{IsChecked, content_in, chunks_of}
 use Rattle.prolly_check.specs.Verdict.{ReadVerdict, FramesVerdict, HeaderVerdict, IsVerdict, IsFileOf}
-use Rattle.prolly_check.proofs.Verdicts.{header_ok, ending_ok, difference_ok, none_left, accepted_is_file}
+use Rattle.prolly_check.proofs.Verdicts.{ending_ok, canonical_ok, accepted_is_file}
 use Rattle.prolly_check.specs.Refusal.{UnlessMemory}
-use Rattle.prolly_check.proofs.Refusals.{named, still_refused}
-use Rattle.prolly_check.proofs.CanonicalSteps.{count_in}
+use Rattle.std.proofs.Math.Logic.{⊎_map}
+use Rattle.std.proofs.lemmas.List.{length-map}
 use Rattle.prolly_check.proofs.FewPairs.{few_held}
-use Rattle.prolly_check.proofs.HeldPairs.{lists_are, flat_is}
-
-pub refused_header : (bytes : List ℕ) (fault : CheckFault) → header_fault header_tests bytes ≡ Some fault → IsVerdict bytes (Err fault)
-refused_header bytes fault e = subst (λ o. HeaderVerdict o bytes (Err fault)) (sym e) refl
-
--- a lawful header has at most 24 bits
-pub few_bits : (bytes : List ℕ) → header_fault header_tests bytes ≡ None → slice_index bytes 5 ≤ 24
-few_bits bytes e = (header_ok bytes e).bits
+use Rattle.prolly_check.proofs.HeldPairs.{all_hold, flat_held}
 
 -- the header is lawful, and the frames are found
 pub record Begun (bytes : List ℕ) (version : Version) (bits : ℕ) (spans : List Span) (place : ℕ) : Type 0 where
@@ -58,7 +50,7 @@ module _ (bytes : List ℕ) (version : Version) (bits : ℕ) (spans : List Span)
     spelled = b.frames.spelled;
     small = b.frames.small;
     all = b.all;
-    is = ap (λ n. ending_of n (drop place bytes)) (count_in bytes spans) ∙ e;
+    is = ap (λ n. ending_of n (drop place bytes)) (length-map spans (chunk_in bytes)) ∙ e;
   }
 
   verdict_so : (verdict : Result Content CheckFault) → FramesVerdict version bits (drop 6 bytes) verdict → IsVerdict bytes verdict
@@ -71,7 +63,7 @@ module _ (bytes : List ℕ) (version : Version) (bits : ℕ) (spans : List Span)
     ending_is = ap (λ n. ending_of n (drop place bytes)) (sym count) ∙ ap (ending_of number) (sym left)
 
     pub at_ending : (fault : CheckFault) → ending_of number rest ≡ Err fault → Refused bytes fault
-    at_ending fault h = named (λ fault. IsVerdict bytes (Err fault)) fault
+    at_ending fault h = inr
         (verdict_so (Err fault) (record { chunks = cs; ending = Err fault; is = framed_so (Err fault) (ending_is ∙ h); so = refl }))
 
     module _ (ended : ending_of number rest ≡ Ok (drop 1 rest)) where
@@ -79,56 +71,46 @@ module _ (bytes : List ℕ) (version : Version) (bits : ℕ) (spans : List Span)
       read_so read verdict is so = verdict_so verdict (record { chunks = cs; ending = Ok (drop 1 rest); is = framed_so (Ok (drop 1 rest)) (ending_is ∙ ended); so = record { read = read; is = is; so = so } })
 
       pub at_read : (fault : CheckFault) → IsBad version cs fault → Refused bytes fault
-      at_read fault bad = named (λ fault. IsVerdict bytes (Err fault)) fault (read_so (Err fault) (Err fault) bad refl)
+      at_read fault bad = inr (read_so (Err fault) (Err fault) bad refl)
 
       module _ (whole : AreWhole version cs) where
-        judged_so : (verdict : Result Content CheckFault) → verdict ≡ judged version bits cs (drop 1 rest) whole.lists → IsVerdict bytes verdict
-        judged_so verdict e = read_so (Ok whole.lists) verdict whole.hold e
+        abbrev lists : List (List Pair)
+        lists = map pairs_held cs
+
+        judged_so : (verdict : Result Content CheckFault) → verdict ≡ judged version bits cs (drop 1 rest) lists → IsVerdict bytes verdict
+        judged_so verdict e = read_so (Ok lists) verdict (all_hold version cs whole) e
 
         abbrev it : Content
-        it = record { version = version; bits = bits; pairs = flat whole.lists }
-
-        -- the faults of the file, and then those of the references
-        in_order : judged version bits cs (drop 1 rest) whole.lists ≡ or_content it (or_else (canonical_fault version bits cs (drop 1 rest) whole.lists) (reuse [] 0 cs))
-        in_order =
-            let a = order_fault [] 0 whole.lists in
-            let b = difference 0 (chunk_bytes version bits (flat whole.lists)) cs in
-            let c = end_fault (drop 1 rest) (ending_for version bits (flat whole.lists)) in
-            ap (λ o. or_content it (or_else a o)) (sym (or_assoc b c (reuse [] 0 cs))) ∙ ap (or_content it) (sym (or_assoc a (or_else b c) (reuse [] 0 cs)))
+        it = record { version = version; bits = bits; pairs = flat lists }
 
         module _ (cut : ℕ) (same : cut ≡ bits) (chunks : List (List ℕ)) (are : chunks ≡ cs) where
-          says : (o : Option CheckFault) → Says version cut chunks rest o → canonical_fault version bits cs (drop 1 rest) whole.lists ≡ o
-          says o h =
-              ap (canonical_fault version bits cs (drop 1 rest)) (lists_are version cs whole.lists whole.hold)
-              ∙ subst (λ q. Says version q cs rest o) same (subst (λ cs. Says version cut cs rest o) are h) (drop 1 rest) (ending_ok number rest (drop 1 rest) ended)
+          says : (o : Option CheckFault) → Says version cut chunks rest o → canonical_fault version bits cs (drop 1 rest) lists ≡ o
+          says o h = subst (λ q. Says version q cs rest o) same (subst (λ cs. Says version cut cs rest o) are h) (drop 1 rest) (ending_ok number rest (drop 1 rest) ended)
 
           pub at_canonical : (fault : CheckFault) → UnlessMemory (λ fault. Says version cut chunks rest (Some fault)) fault → Refused bytes fault
-          at_canonical = still_refused (λ fault. Says version cut chunks rest (Some fault)) (λ fault. IsVerdict bytes (Err fault))
-              (λ fault h. judged_so (Err fault) (sym (in_order ∙ ap (λ o. or_content it (or_else o (reuse [] 0 cs))) (says (Some fault) h))))
+          at_canonical fault = ⊎_map (λ memory. memory)
+              (λ h. judged_so (Err fault) (sym (ap (λ o. or_content it (or_else o (reuse [] 0 cs))) (says (Some fault) h))))
 
           module _ (canonical : Says version cut chunks rest None) where
-            then_reuse : judged version bits cs (drop 1 rest) whole.lists ≡ or_content it (reuse [] 0 chunks)
-            then_reuse = in_order ∙ ap (λ o. or_content it (or_else o (reuse [] 0 cs))) (says None canonical) ∙ ap (λ cs. or_content it (reuse [] 0 cs)) (sym are)
+            then_reuse : judged version bits cs (drop 1 rest) lists ≡ or_content it (reuse [] 0 chunks)
+            then_reuse = ap (λ o. or_content it (or_else o (reuse [] 0 cs))) (says None canonical) ∙ ap (λ cs. or_content it (reuse [] 0 cs)) (sym are)
 
             pub at_references : (fault : CheckFault) → UnlessMemory (λ fault. reuse [] 0 chunks ≡ Some fault) fault → Refused bytes fault
-            at_references = still_refused (λ fault. reuse [] 0 chunks ≡ Some fault) (λ fault. IsVerdict bytes (Err fault))
-                (λ fault h. judged_so (Err fault) (sym (then_reuse ∙ ap (or_content it) h)))
+            at_references fault = ⊎_map (λ memory. memory)
+                (λ h. judged_so (Err fault) (sym (then_reuse ∙ ap (or_content it) h)))
 
             pub at_end : (index : BTreeMap Ref ℕ) → reuse [] 0 chunks ≡ None → IsIndex index chunks → IsChecked bytes version spans index
             at_end index apart indexed =
-                let s = none_left (order_fault [] 0 whole.lists) (or_else (difference 0 (chunk_bytes version bits (flat whole.lists)) cs) (end_fault (drop 1 rest) (ending_for version bits (flat whole.lists)))) (says None canonical) in
-                let d = none_left (difference 0 (chunk_bytes version bits (flat whole.lists)) cs) (end_fault (drop 1 rest) (ending_for version bits (flat whole.lists))) s.1 in
                 let content : it ≡ content_in bytes version spans =
-                ap (λ n. record { version = version; bits = n; pairs = flat whole.lists }) b.bits_are
-                ∙ ap (λ ps. record { version = version; bits = slice_index bytes 5; pairs = ps }) (flat_is version cs whole.lists whole.hold) in
+                ap (λ n. record { version = version; bits = n; pairs = flat lists }) b.bits_are
+                ∙ ap (λ ps. record { version = version; bits = slice_index bytes 5; pairs = ps }) (flat_held cs) in
                 record {
                   is = subst (IsFileOf bytes) content (accepted_is_file bytes it (judged_so (Ok it) (sym (then_reuse ∙ ap (or_content it) apart))));
-                  chunks_are = subst (λ content. cs ≡ chunks_of content) content (sym (difference_ok 0 (chunk_bytes version bits (flat whole.lists)) cs d.0));
+                  chunks_are = subst (λ content. cs ≡ chunks_of content) content (sym (canonical_ok version bits cs (drop 1 rest) lists (says None canonical)).same);
                   within = b.frames.within;
                   indexed = subst (IsIndex index) are indexed;
                 }
 
   -- the chunks hold few pairs
   pub few_in : length bytes < 2 ^ 64 → AreWhole version cs → (chunks : List (List ℕ)) → chunks ≡ cs → length (flat_map pairs_held chunks) < 2 ^ 64
-  few_in short whole chunks are =
-      omega (arith, few_held version bytes spans place whole.lists b.frames whole.hold, ap length (flat_is version cs whole.lists whole.hold), ap (λ cs. length (flat_map pairs_held cs)) are)
+  few_in short whole chunks are = omega (arith, few_held version bytes spans place b.frames whole, ap (λ cs. length (flat_map pairs_held cs)) are)

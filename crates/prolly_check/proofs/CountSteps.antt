@@ -1,28 +1,24 @@
 -- Going down to the pair of a number, by the counts.
-use Rattle.std.proofs.Common.{◌≡◌, ℕ, zero, suc, ◌+◌, ◌-◌, ◌^◌, ◌<◌, ◌≤◌, Bool, true, false, cond, nat_lt, List, [], ◌∷◌, ◌++◌, length, map, get_or, Option, Some, None, refl, sym, ap, ◌∙◌, arith}
+use Rattle.std.proofs.Common.{inl, inr, ◌≡◌, ℕ, ◌+◌, ◌-◌, ◌^◌, ◌<◌, ◌≤◌, nat_lt, List, [], ◌∷◌, ◌++◌, length, map, get_or, Option, Some, None, refl, sym, ap, ◌∙◌, arith}
 use Rattle.std.specs.List.{flat_map}
-use Rattle.std.proofs.lemmas.Bool.{ltb-true, ltb-false}
+use Rattle.std.proofs.lemmas.Bool.{cond-true, cond-false, cases_Bool, ltb-true, ltb-false}
 use Rattle.std.proofs.lemmas.List.{length-append}
 use Rattle.std.proofs.lemmas.Nat.{from_be_bytes-to_be_bytes_8}
 use Rattle.std.proofs.lemmas.Option.{slice_get_past}
-use Rattle.prolly_entry.specs.LookUp.{nth}
+use Rattle.prolly_tree.specs.LookUp.{nth}
 use Rattle.prolly_entry.specs.Pair.{Pair}
 use Rattle.prolly_entry.specs.Reference.{reference_of}
-use Rattle.prolly_entry.specs.Tree.{Tree, pairs_below, pair_count, bytes_of}
+use Rattle.prolly_tree.specs.Tree.{Tree, pairs_below, pair_count, bytes_of}
 use Rattle.prolly_entry.specs.declared.version.Version.TheVariants.{Two}
-use Rattle.prolly_check.specs.Checked.{HasFile, HasReference, chunks_of}
+use Rattle.prolly_check.specs.Checked.{HasFile, chunks_of}
 use Rattle.prolly_check.specs.Children.{child_with}
 use Rattle.prolly_check.specs.Content.{Content}
 use Rattle.prolly_check.specs.Entries.{Child}
-use Rattle.prolly_check.specs.Index.{HasAt}
 use Rattle.prolly_check.specs.Kinds.{kind_of}
 use Rattle.prolly_check.specs.declared.entries.Entries.TheVariants.{Leaf, Node}
 use Rattle.prolly_check.proofs.Lookups.{nth_in_child}
-use Rattle.prolly_check.proofs.WayDown.{root_of, root_pairs, child_of, Stands, AtNode, at_leaf, at_node, height, has_reference, goes_on}
-
-pub nth_behind : (p : Pair) (more : List Pair) (ahead : ℕ) → 0 < ahead → nth (p ∷ more) ahead ≡ nth more (ahead - 1)
-nth_behind p more zero h = absurd (omega arith)
-nth_behind p more (suc ahead) h = let e : suc ahead - 1 ≡ ahead = omega arith in rw e refl
+use Rattle.prolly_check.proofs.Verdicts.{some_none}
+use Rattle.prolly_check.proofs.WayDown.{root_of, root_pairs, child_of, Stands, AtNode, GoesOn, at_leaf, at_node, goes_on}
 
 -- of these trees, one has the pair of this number below it, behind so many others, and this is how it is read
 pub record CountsTo (level : ℕ) (trees : List (Tree level)) (n : ℕ) (c : Child) (ahead : ℕ) : Type 0 where
@@ -34,57 +30,49 @@ pub record CountsTo (level : ℕ) (trees : List (Tree level)) (n : ℕ) (c : Chi
   pub here : ahead < pair_count level child
   pub named : c ≡ child_of Two level child
 
-none_some : (c : Child × ℕ) → ◌≡◌ {A = Option (Child × ℕ)} None (Some c) → ⊥
-none_some c e = cc
-
 some_same : (c d : Child × ℕ) → ◌≡◌ {A = Option (Child × ℕ)} (Some c) (Some d) → c ≡ d
 some_same c d e = cc
 
 module _ (level : ℕ) where
+  abbrev picked : ℕ → List (Tree level) → Option (Child × ℕ)
+  picked n trees = child_with n (map (child_of Two level) trees)
+
   count_is : (t : Tree level) → pair_count level t < 2 ^ 64 → (child_of Two level t).count ≡ pair_count level t
   count_is t few = from_be_bytes-to_be_bytes_8 (pair_count level t) few
 
-  pub counts_to : (trees : List (Tree level)) (n : ℕ) (c : Child) (ahead : ℕ) → length (flat_map (pairs_below level) trees) < 2 ^ 64 → child_with n (map (child_of Two level) trees) ≡ Some (c, ahead) →
-      CountsTo level trees n c ahead
-  counts_to [] n c ahead few e = absurd (none_some (c, ahead) e)
+  pub counts_to : (trees : List (Tree level)) (n : ℕ) (c : Child) (ahead : ℕ) → length (flat_map (pairs_below level) trees) < 2 ^ 64 → picked n trees ≡ Some (c, ahead) → CountsTo level trees n c ahead
+  counts_to [] n c ahead few e = cc
   counts_to (t ∷ trees) n c ahead few e =
+      let own = child_of Two level t in
       let size = length-append (pairs_below level t) (flat_map (pairs_below level) trees) in
-      go (nat_lt n (child_of Two level t).count) refl (count_is t (omega arith)) (counts_to trees (n - (child_of Two level t).count) c ahead (omega arith)) e
-    where
-      count : ℕ
-      count = (child_of Two level t).count
+      let is = count_is t (omega arith) in
+      elim (cases_Bool (nat_lt n own.count)) [
+        | inl here ↦
+            let same = some_same (own, n) (c, ahead) (sym (cond-true (nat_lt n own.count) (Some (own, n)) (picked (n - own.count) trees) here) ∙ e) in
+            let number : n ≡ ahead = ap (λ x. x.1) same in
+            let under = ltb-true n own.count here in
+            record { before = []; child = t; after = trees; is = refl; counted = omega arith; here = omega arith; named = sym (ap (λ x. x.0) same) }
+        | inr past ↦
+            let l = counts_to trees (n - own.count) c ahead (omega arith) (sym (cond-false (nat_lt n own.count) (Some (own, n)) (picked (n - own.count) trees) past) ∙ e) in
+            let l_counted = l.counted in
+            let over = ltb-false n own.count past in
+            let parts = length-append (pairs_below level t) (flat_map (pairs_below level) l.before) in
+            record { before = t ∷ l.before; child = l.child; after = l.after; is = ap (λ ts. t ∷ ts) l.is; counted = omega arith; here = l.here; named = l.named }
+      ]
 
-      go : (b : Bool) → nat_lt n count ≡ b → count ≡ pair_count level t → (child_with (n - count) (map (child_of Two level) trees) ≡ Some (c, ahead) → CountsTo level trees (n - count) c ahead) →
-          cond b (Some (child_of Two level t, n)) (child_with (n - count) (map (child_of Two level) trees)) ≡ Some (c, ahead) → CountsTo level (t ∷ trees) n c ahead
-      go true h is more f =
-          let same = some_same (child_of Two level t, n) (c, ahead) f in
-          let number : n ≡ ahead = ap (λ x. x.1) same in
-          let under = ltb-true n count h in
-          record { before = []; child = t; after = trees; is = refl; counted = omega arith; here = omega arith; named = sym (ap (λ x. x.0) same) }
-      go false h is more f =
-          let l = more f in
-          let l_counted = l.counted in
-          let over = ltb-false n count h in
-          let size = length-append (pairs_below level t) (flat_map (pairs_below level) l.before) in
-          record { before = t ∷ l.before; child = l.child; after = l.after; is = ap (λ ts. t ∷ ts) l.is; counted = omega arith; here = l.here; named = l.named }
-
-  pub counts_past : (trees : List (Tree level)) (n : ℕ) → length (flat_map (pairs_below level) trees) < 2 ^ 64 → child_with n (map (child_of Two level) trees) ≡ None → length (flat_map (pairs_below level) trees) ≤ n
+  pub counts_past : (trees : List (Tree level)) (n : ℕ) → length (flat_map (pairs_below level) trees) < 2 ^ 64 → picked n trees ≡ None → length (flat_map (pairs_below level) trees) ≤ n
   counts_past [] n few e = omega arith
   counts_past (t ∷ trees) n few e =
+      let own = child_of Two level t in
       let size = length-append (pairs_below level t) (flat_map (pairs_below level) trees) in
-      go (nat_lt n (child_of Two level t).count) refl (count_is t (omega arith)) (counts_past trees (n - (child_of Two level t).count) (omega arith)) e
-    where
-      count : ℕ
-      count = (child_of Two level t).count
-
-      go : (b : Bool) → nat_lt n count ≡ b → count ≡ pair_count level t → (child_with (n - count) (map (child_of Two level) trees) ≡ None → length (flat_map (pairs_below level) trees) ≤ n - count) →
-          cond b (Some (child_of Two level t, n)) (child_with (n - count) (map (child_of Two level) trees)) ≡ None → length (flat_map (pairs_below level) (t ∷ trees)) ≤ n
-      go true h is more f = absurd (none_some (child_of Two level t, n) (sym f))
-      go false h is more f =
-          let rest = more f in
-          let over = ltb-false n count h in
-          let size = length-append (pairs_below level t) (flat_map (pairs_below level) trees) in
-          omega arith
+      let is = count_is t (omega arith) in
+      elim (cases_Bool (nat_lt n own.count)) [
+        | inl here ↦ absurd (some_none (sym (cond-true (nat_lt n own.count) (Some (own, n)) (picked (n - own.count) trees) here) ∙ e))
+        | inr past ↦
+            let rest = counts_past trees (n - own.count) (omega arith) (sym (cond-false (nat_lt n own.count) (Some (own, n)) (picked (n - own.count) trees) past) ∙ e) in
+            let over = ltb-false n own.count past in
+            omega arith
+      ]
 
   nth_under : (before after : List (Tree level)) (t : Tree level) (n ahead : ℕ) → n ≡ length (flat_map (pairs_below level) before) + ahead → ahead < pair_count level t →
       nth (flat_map (pairs_below level) (before ++ t ∷ after)) n ≡ nth (pairs_below level t) ahead
@@ -121,16 +109,8 @@ module _ (content : Content) (n ahead number : ℕ) (f : HasFile content) (st : 
     pub at_past : None ≡ child_with ahead children → None ≡ nth content.pairs n
     at_past h = sym (node.so ∙ slice_get_past (flat_map (pairs_below node.level) node.trees) ahead (counts_past node.level node.trees ahead node.below.few (found None h)))
 
-    module _ (c : Child) (further : ℕ) (h : Some (c, further) ≡ child_with ahead children) where
-      led : CountsTo node.level node.trees ahead c further
-      led = counts_to node.level node.trees ahead c further node.below.few (found (Some (c, further)) h)
-
-      named : c.reference ≡ reference_of (bytes_of content.version node.level led.child)
-      named = ap (λ x. x.reference) led.named ∙ ap (λ v. reference_of (bytes_of v node.level led.child)) (sym two)
-
-      pub at_child : HasReference (chunks_of content) c.reference
-      at_child = has_reference content (IsAhead content n ahead) number children node led.before led.after led.child led.is c.reference named
-
-      pub at_next : (next : ℕ) → HasAt (chunks_of content) next c.reference → Stands content (IsAhead content n further) next × (height content next < height content number)
-      at_next = goes_on content (IsAhead content n ahead) number children node led.before led.after led.child led.is c.reference named f
-          (IsAhead content n further) (node.so ∙ nth_there node.level node.trees ahead c further led)
+    pub at_child : (c : Child) (further : ℕ) → Some (c, further) ≡ child_with ahead children → GoesOn content (IsAhead content n further) number c.reference
+    at_child c further h =
+        let l = counts_to node.level node.trees ahead c further node.below.few (found (Some (c, further)) h) in
+        goes_on content (IsAhead content n ahead) (IsAhead content n further) number children node l.before l.after l.child l.is c.reference
+        (ap (λ x. x.reference) l.named ∙ ap (λ v. reference_of (bytes_of v node.level l.child)) (sym two)) f (node.so ∙ nth_there node.level node.trees ahead c further l)

@@ -1,5 +1,5 @@
 -- Entries that bytes spell, read one after another.
-use Rattle.std.proofs.Common.{◌≡◌, ℕ, zero, suc, ◌<◌, ◌≤◌, List, [], ◌∷◌, ◌++◌, length, drop, map, refl, sym, ap, ◌∙◌, arith}
+use Rattle.std.proofs.Common.{◌≡◌, ℕ, zero, suc, ◌<◌, ◌≤◌, List, [], ◌∷◌, ◌++◌, length, drop, map, refl, sym, ap, ◌∙◌, arith, append_assoc}
 use Rattle.std.specs.List.{flat_map, AllByRecursion}
 use Rattle.std.proofs.lemmas.List.{length-append}
 use Rattle.prolly_check.specs.Entries.{BeginsWith, entries_up_to, entries_in}
@@ -43,6 +43,15 @@ module _ {A : Type 0} (spelling : A → List ℕ) (Lawful : A → Type 0) (apart
       go : (entries : List A) → bytes ≡ flat_map spelling entries → AllByRecursion Lawful entries → bytes ≡ []
       go [] is lawful = is
       go (a ∷ entries) is lawful = absurd (none a (flat_map spelling entries) lawful.0 is)
+
+  -- behind lawful entries, bytes that none begins are no entries
+  pub rest_is_none : (done : List A) (rest : List ℕ) → AllByRecursion Lawful done → (rest ≡ [] → ⊥) → NoneBegins spelling Lawful rest →
+      AreEntries spelling Lawful (flat_map spelling done ++ rest) → ⊥
+  rest_is_none [] rest lawful left none e = left (nothing_left rest none e)
+  rest_is_none (d ∷ done) rest lawful left none e =
+      let more = flat_map spelling done ++ rest in
+      let b : BeginsWith spelling Lawful (flat_map spelling (d ∷ done) ++ rest) d more = record { lawful = lawful.0; is = append_assoc (spelling d) (flat_map spelling done) rest } in
+      rest_is_none done rest lawful.1 left none (one_less (flat_map spelling (d ∷ done) ++ rest) more d b e)
 
 -- ---- what functions read of them
 

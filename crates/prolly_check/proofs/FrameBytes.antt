@@ -1,17 +1,16 @@
 -- The bytes of a frame.
-use Rattle.std.proofs.Common.{◌≡◌, ℕ, suc, ◌+◌, ◌-◌, ◌^◌, ◌<◌, ◌≤◌, Bool, true, false, not, ◌||◌, ◌==◌, nat_lt, List, [], ◌∷◌, ◌++◌, length, take, drop, get_or, refl, sym, ap, ◌∙◌, subst, arith, append_assoc, append-nil, length-drop}
+use Rattle.std.proofs.Common.{◌≡◌, ℕ, suc, ◌+◌, ◌-◌, ◌^◌, ◌<◌, ◌≤◌, List, [], ◌∷◌, ◌++◌, length, take, drop, get_or, sym, ap, ◌∙◌, subst, arith, append_assoc, append-nil, length-drop}
 use Rattle.std.specs.Int.{w64, to_be_bytes, from_be_bytes}
 use Rattle.std.proofs.lemmas.Nat.{be_bytes_8}
 use Rattle.std.proofs.Common.{inl, inr, slice_index}
-use Rattle.std.proofs.lemmas.Bool.{cases_lt, false≢true}
-use Rattle.std.proofs.lemmas.Bool.Decides.{nat_tests}
-use Rattle.std.proofs.lemmas.List.{length-take, length-take-le, get_or-take, get_or_past, take-append-drop, drop-drop}
+use Rattle.std.proofs.lemmas.Bool.{cases_lt}
+use Rattle.std.proofs.lemmas.List.{map_push, length-take, length-take-le, get_or-take, get_or_past, take-append-drop, drop-drop}
 use Rattle.std.proofs.lemmas.List.Concat.{flat_map-append}
 use Rattle.std.specs.List.{flat_map, AllByRecursion}
 use Rattle.prolly_file.specs.Frame.{framed}
 use Rattle.prolly_check.specs.declared.frames.Span.{Span}
-use Rattle.prolly_entry.proofs.Groups.{all_append}
-use Rattle.prolly_check.specs.Frames.{has_no_frame, IsSmall}
+use Rattle.prolly_entry.specs.lemmas.Lists.{all_append}
+use Rattle.prolly_check.specs.Frames.{IsSmall}
 use Rattle.prolly_check.specs.Spans.{chunk_in, chunks_in, IsWithin, BeginsFrame, FramesTo}
 
 abbrev pub IsBytes : List ℕ → Type 0
@@ -26,39 +25,6 @@ IsBytes-take n bytes h i =
 
 IsBytes-tail : (b : ℕ) (rest : List ℕ) → IsBytes (b ∷ rest) → IsBytes rest
 IsBytes-tail b rest h i = h (suc i)
-
-less : (a b : ℕ) → a < b → nat_lt a b ≡ true
-less a b h = grind (arith, nat_tests)
-
-other : (a b : ℕ) → (a ≡ b → ⊥) → (a == b) ≡ false
-other a b h = grind (arith, nat_tests)
-
-or_first : (a b : Bool) → a ≡ true → (a || b) ≡ true
-or_first true b e = refl
-or_first false b e = absurd (false≢true e)
-
-or_second : (a b : Bool) → b ≡ true → (a || b) ≡ true
-or_second true b e = refl
-or_second false b e = e
-
-pub none_short : (bytes : List ℕ) → length bytes < 9 → has_no_frame bytes ≡ true
-none_short [] h = refl
-none_short (b ∷ rest) h =
-    let h' : suc (length rest) < 9 = h in
-    or_second (not (b == 0x43)) (nat_lt (length rest) 8 || nat_lt (length rest) (8 + from_be_bytes w64 (take 8 rest)))
-    (or_first (nat_lt (length rest) 8) (nat_lt (length rest) (8 + from_be_bytes w64 (take 8 rest))) (less (length rest) 8 (omega arith)))
-
-pub none_other : (bytes : List ℕ) → (slice_index bytes 0 ≡ 0x43 → ⊥) → has_no_frame bytes ≡ true
-none_other [] h = refl
-none_other (b ∷ rest) h = or_first (not (b == 0x43)) (nat_lt (length rest) 8 || nat_lt (length rest) (8 + from_be_bytes w64 (take 8 rest))) (ap not (other b 0x43 h))
-
-pub none_cut : (bytes : List ℕ) (size : ℕ) → size ≡ from_be_bytes w64 (take 8 (drop 1 bytes)) → length bytes < 9 + size → has_no_frame bytes ≡ true
-none_cut [] size e h = refl
-none_cut (b ∷ rest) size e h =
-    let h' : suc (length rest) < 9 + size = h in
-    or_second (not (b == 0x43)) (nat_lt (length rest) 8 || nat_lt (length rest) (8 + from_be_bytes w64 (take 8 rest)))
-    (or_second (nat_lt (length rest) 8) (nat_lt (length rest) (8 + from_be_bytes w64 (take 8 rest)))
-    (subst (λ n. nat_lt (length rest) (8 + n) ≡ true) e (less (length rest) (8 + size) (omega arith))))
 
 frame_here : (rest : List ℕ) (size : ℕ) → IsBytes rest → 8 + size ≤ length rest → size ≡ from_be_bytes w64 (take 8 rest) →
     rest ≡ to_be_bytes w64 (length (take size (drop 8 rest))) ++ (take size (drop 8 rest) ++ drop size (drop 8 rest))
@@ -85,13 +51,6 @@ frame_found (b ∷ rest) size h first le small e =
 
 -- ---- one more frame
 
-pub chunks_more : (bytes : List ℕ) (spans : List Span) (span : Span) → chunks_in bytes (spans ++ span ∷ []) ≡ chunks_in bytes spans ++ chunk_in bytes span ∷ []
-chunks_more bytes [] span = refl
-chunks_more bytes (s ∷ spans) span = ap (λ x. chunk_in bytes s ∷ x) (chunks_more bytes spans span)
-
-flat_more : (cs : List (List ℕ)) (c : List ℕ) → flat_map framed (cs ++ c ∷ []) ≡ flat_map framed cs ++ framed c
-flat_more cs c = flat_map-append framed cs (c ∷ []) ∙ ap (λ x. flat_map framed cs ++ x) (append-nil (framed c))
-
 pub one_more : (bytes : List ℕ) (spans : List Span) (place len : ℕ) → FramesTo bytes spans place → BeginsFrame (drop place bytes) len →
     FramesTo bytes (spans ++ record { start = place + 9; len = len } ∷ []) (place + 9 + len)
 one_more bytes spans place len f b =
@@ -109,11 +68,11 @@ one_more bytes spans place len f b =
     record {
       reached = fits;
       spelled = f.spelled ∙ ap (λ x. flat_map framed cs ++ x) b.is ∙ sym (append_assoc (flat_map framed cs) (framed (take len (drop 9 rest))) (drop (9 + len) rest))
-          ∙ ap (λ x. x ++ drop (9 + len) rest) (sym (flat_more cs (take len (drop 9 rest))))
+          ∙ ap (λ x. x ++ drop (9 + len) rest) (sym (flat_map-append framed cs (take len (drop 9 rest) ∷ []) ∙ ap (λ x. flat_map framed cs ++ x) (append-nil (framed (take len (drop 9 rest))))))
           ∙ ap (λ c. flat_map framed (cs ++ c ∷ []) ++ drop (9 + len) rest) chunk
-          ∙ ap (λ x. flat_map framed x ++ drop (9 + len) rest) (sym (chunks_more bytes spans span))
+          ∙ ap (λ x. flat_map framed x ++ drop (9 + len) rest) (sym (map_push (chunk_in bytes) spans span))
           ∙ ap (λ x. flat_map framed (chunks_in bytes (spans ++ span ∷ [])) ++ x) behind;
-      small = subst (AllByRecursion IsSmall) (sym (chunks_more bytes spans span))
+      small = subst (AllByRecursion IsSmall) (sym (map_push (chunk_in bytes) spans span))
           (all_append IsSmall cs (chunk_in bytes span ∷ []) f.small (subst IsSmall chunk (let s : len < 2 ^ 64 = b.small in omega arith), tt));
       within = all_append (IsWithin bytes) spans (span ∷ []) f.within (fits, tt);
     }

@@ -1,19 +1,33 @@
 -- The pairs that chunks hold.
-use Rattle.std.proofs.Common.{◌≡◌, ℕ, zero, suc, ◌<◌, List, [], ◌∷◌, ◌++◌, length, map, get_or, refl, sym, ap, ◌∙◌, arith}
+use Rattle.std.proofs.Common.{◌≡◌, ℕ, zero, suc, ◌<◌, List, [], ◌∷◌, ◌++◌, length, map, get_or, refl, sym, ap, ◌∙◌, subst, arith, append-nil}
 use Rattle.std.specs.List.{flat_map, AllByRecursion}
-use Rattle.prolly_entry.proofs.Parts.{flat}
+use Rattle.std.proofs.lemmas.List.{map-append}
+use Rattle.std.proofs.lemmas.List.Concat.{flat_map-append}
+use Rattle.prolly_entry.specs.lemmas.Lists.{all_front, all_back, all_append}
+use Rattle.prolly_tree.specs.lemmas.Splits.{flat}
+use Rattle.prolly_laws.specs.Trees.{pairs_are}
+use Rattle.prolly_entry.specs.Cut.{sha512_cut}
+use Rattle.prolly_check.specs.Judged.{chunk_bytes}
+use Rattle.prolly_tree.specs.lemmas.Maps.{last_key_short}
+use Rattle.prolly_entry.specs.lemmas.Spellings.{reference_length}
 use Rattle.prolly_entry.specs.Pair.{Pair, IsPair}
-use Rattle.prolly_entry.specs.Tree.{Tree, pairs_below}
-use Rattle.prolly_entry.specs.Chunk.{post_order}
+use Rattle.prolly_entry.specs.Reference.{reference_of}
+use Rattle.prolly_tree.specs.Tree.{Tree, pairs_below, greatest_key, pair_count, bytes_of, tree_of, child_entry}
+use Rattle.prolly_tree.specs.Chunk.{Chunk, chunk_of, post_order}
 use Rattle.prolly_entry.specs.declared.version.Version.{Version}
-use Rattle.prolly_check.specs.Entries.{Child, Holds, AllHold, pairs_in}
+use Rattle.prolly_check.specs.Entries.{Child, IsChild, entry_of, Holds, AllHold, pairs_in}
 use Rattle.prolly_check.specs.Held.{pairs_held}
 use Rattle.prolly_check.specs.Kinds.{kind_of}
-use Rattle.prolly_check.specs.Whole.{IsWhole}
+use Rattle.prolly_check.specs.Whole.{IsWhole, AreWhole}
 use Rattle.prolly_check.specs.declared.entries.Entries.{Entries}
 use Rattle.prolly_check.specs.declared.entries.Entries.TheVariants.{Leaf, Node}
-use Rattle.prolly_check.proofs.Acceptance.{own_lists, flat_all, own_flat, bytes_in, hold_all, hold_post}
 use Rattle.prolly_check.proofs.LeafPairs.{leaf_pairs}
+
+abbrev pub bytes_in : List Chunk → List (List ℕ)
+bytes_in cs = map (λ c. c.bytes) cs
+
+pub bytes_append : (cs ds : List Chunk) → bytes_in (cs ++ ds) ≡ bytes_in cs ++ bytes_in ds
+bytes_append cs ds = map-append (λ c. c.bytes) cs ds
 
 pub flat_held : (chunks : List (List ℕ)) → flat (map pairs_held chunks) ≡ flat_map pairs_held chunks
 flat_held [] = refl
@@ -35,30 +49,98 @@ module _ (version : Version) where
   node_holds (zero ∷ entries) children e = absurd (leaf_node (pairs_in entries) children e)
   node_holds (suc level ∷ entries) children e = refl
 
+  -- chunks that have lists of pairs have just these
   pub lists_are : (chunks : List (List ℕ)) (lists : List (List Pair)) → AllHold version chunks lists → lists ≡ map pairs_held chunks
   lists_are [] [] h = refl
   lists_are [] (held ∷ lists) h = absurd h
   lists_are (chunk ∷ chunks) [] h = absurd h
   lists_are (chunk ∷ chunks) (held ∷ lists) h = ap (λ ps. ps ∷ lists) (held_is chunk held h.0) ∙ ap (λ ls. pairs_held chunk ∷ ls) (lists_are chunks lists h.1)
 
-  pub flat_is : (chunks : List (List ℕ)) (lists : List (List Pair)) → AllHold version chunks lists → flat lists ≡ flat_map pairs_held chunks
-  flat_is [] [] h = refl
-  flat_is [] (held ∷ lists) h = absurd h
-  flat_is (chunk ∷ chunks) [] h = absurd h
-  flat_is (chunk ∷ chunks) (held ∷ lists) h = ap (λ ps. ps ++ flat lists) (held_is chunk held h.0) ∙ ap (λ ps. pairs_held chunk ++ ps) (flat_is chunks lists h.1)
+  -- and they are whole; whole chunks have them
+  pub are_whole : (chunks : List (List ℕ)) (lists : List (List Pair)) → AllHold version chunks lists → AreWhole version chunks
+  are_whole [] lists h = tt
+  are_whole (chunk ∷ chunks) [] h = absurd h
+  are_whole (chunk ∷ chunks) (held ∷ lists) h = (record { pairs = held; holds = h.0 }, are_whole chunks lists h.1)
 
-  -- the chunks of a tree hold the pairs below it
-  pub tree_holds : (level : ℕ) (t : Tree level) → AllByRecursion IsPair (pairs_below level t) → flat_map pairs_held (bytes_in (post_order version level t)) ≡ pairs_below level t
-  tree_holds level t h = sym (flat_is (bytes_in (post_order version level t)) (own_lists level t) (hold_post version level t h)) ∙ own_flat level t
+  pub all_hold : (chunks : List (List ℕ)) → AreWhole version chunks → AllHold version chunks (map pairs_held chunks)
+  all_hold [] w = tt
+  all_hold (chunk ∷ chunks) w = (subst (Holds version chunk) (held_is chunk w.0.pairs w.0.holds) w.0.holds, all_hold chunks w.1)
 
-  pub trees_hold : (level : ℕ) (ts : List (Tree level)) → AllByRecursion IsPair (flat_map (pairs_below level) ts) → flat_map pairs_held (bytes_in (flat_map (post_order version level) ts)) ≡ flat_map (pairs_below level) ts
-  trees_hold level ts h =
-      sym (flat_is (bytes_in (flat_map (post_order version level) ts)) (flat_map (own_lists level) ts) (hold_all version level (hold_post version level) ts h)) ∙ flat_all level (own_flat level) ts
+  pub each_whole : (chunks : List (List ℕ)) (number : ℕ) → AreWhole version chunks → number < length chunks → IsWhole version (get_or chunks number [])
+  each_whole [] number w within = absurd (omega arith)
+  each_whole (chunk ∷ chunks) zero w within = w.0
+  each_whole (chunk ∷ chunks) (suc number) w within =
+      let within' : suc number < suc (length chunks) = within in each_whole chunks number w.1 (omega arith)
 
-  -- each of whole chunks is whole
-  pub each_whole : (chunks : List (List ℕ)) (lists : List (List Pair)) (number : ℕ) → AllHold version chunks lists → number < length chunks → IsWhole version (get_or chunks number [])
-  each_whole [] lists number h within = absurd (omega arith)
-  each_whole (chunk ∷ chunks) [] number h within = absurd h
-  each_whole (chunk ∷ chunks) (held ∷ lists) zero h within = record { pairs = held; holds = h.0 }
-  each_whole (chunk ∷ chunks) (held ∷ lists) (suc number) h within =
-      let within' : suc number < suc (length chunks) = within in each_whole chunks lists number h.1 (omega arith)
+-- ---- the chunks of a tree
+
+-- the chunks are whole, and hold these pairs
+pub record HoldPairs (version : Version) (chunks : List (List ℕ)) (pairs : List Pair) : Type 0 where
+  pub whole : AreWhole version chunks
+  pub are : flat_map pairs_held chunks ≡ pairs
+
+module _ (version : Version) where
+  both : (cs ds : List (List ℕ)) (ps qs : List Pair) → HoldPairs version cs ps → HoldPairs version ds qs → HoldPairs version (cs ++ ds) (ps ++ qs)
+  both cs ds ps qs h k = record {
+    whole = all_append (IsWhole version) cs ds h.whole k.whole;
+    are = flat_map-append pairs_held cs ds ∙ ap (λ a. a ++ flat_map pairs_held ds) h.are ∙ ap (λ b. ps ++ b) k.are;
+  }
+
+  abbrev child_of : (level : ℕ) → Tree level → Child
+  child_of level t = record { key = greatest_key level t; reference = reference_of (bytes_of version level t); count = pair_count level t }
+
+  entries_are : (level : ℕ) (ts : List (Tree level)) → flat_map (child_entry version level) ts ≡ flat_map (entry_of version) (map (child_of level) ts)
+  entries_are level [] = refl
+  entries_are level (t ∷ ts) = ap (λ a. entry_of version (child_of level t) ++ a) (entries_are level ts)
+
+  all_children : (level : ℕ) (ts : List (Tree level)) → AllByRecursion IsPair (flat_map (pairs_below level) ts) → AllByRecursion IsChild (map (child_of level) ts)
+  all_children level [] h = tt
+  all_children level (t ∷ ts) h = (
+    record {
+      key = last_key_short (pairs_below level t) (all_front IsPair (pairs_below level t) (flat_map (pairs_below level) ts) h);
+      reference = reference_length (bytes_of version level t);
+    },
+    all_children level ts (all_back IsPair (pairs_below level t) (flat_map (pairs_below level) ts) h),
+  )
+
+  abbrev Holding : (level : ℕ) → Tree level → Type 0
+  Holding level t = AllByRecursion IsPair (pairs_below level t) → HoldPairs version (bytes_in (post_order version level t)) (pairs_below level t)
+
+  all_trees : (level : ℕ) → ((t : Tree level) → Holding level t) → (ts : List (Tree level)) → AllByRecursion IsPair (flat_map (pairs_below level) ts) →
+      HoldPairs version (bytes_in (flat_map (post_order version level) ts)) (flat_map (pairs_below level) ts)
+  all_trees level holding [] h = record { whole = tt; are = refl }
+  all_trees level holding (t ∷ ts) h =
+      let own = pairs_below level t in
+      let rest = flat_map (pairs_below level) ts in
+      subst (λ cs. HoldPairs version cs (own ++ rest)) (sym (bytes_append (post_order version level t) (flat_map (post_order version level) ts)))
+      (both (bytes_in (post_order version level t)) (bytes_in (flat_map (post_order version level) ts)) own rest
+      (holding t (all_front IsPair own rest h)) (all_trees level holding ts (all_back IsPair own rest h)))
+
+  pub tree_holds : (level : ℕ) (t : Tree level) → Holding level t
+  tree_holds zero leaf h = record {
+    whole = (record { pairs = leaf; holds = record { is = refl; lawful = h } }, tt);
+    are = append-nil (pairs_held (bytes_of version 0 leaf)) ∙ leaf_pairs _ leaf (record { is = refl; lawful = h });
+  }
+  tree_holds (suc level) ts h =
+      let pairs = flat_map (pairs_below level) ts in
+      let below = flat_map (post_order version level) ts in
+      -- a node has no pairs itself
+      let own : HoldPairs version (bytes_of version (suc level) ts ∷ []) [] = record {
+        whole = (record { pairs = []; holds = record { children = map (child_of level) ts; is = entries_are level ts; lawful = all_children level ts h; none = refl } }, tt);
+        are = refl;
+      } in
+      subst (λ cs. HoldPairs version cs pairs) (sym (bytes_append below (chunk_of version (suc level) ts ∷ [])))
+      (subst (HoldPairs version (bytes_in below ++ bytes_of version (suc level) ts ∷ [])) (append-nil pairs)
+      (both (bytes_in below) (bytes_of version (suc level) ts ∷ []) pairs [] (all_trees level (tree_holds level) ts h) own))
+
+  pub trees_hold : (level : ℕ) (ts : List (Tree level)) → AllByRecursion IsPair (flat_map (pairs_below level) ts) →
+      HoldPairs version (bytes_in (flat_map (post_order version level) ts)) (flat_map (pairs_below level) ts)
+  trees_hold level ts h = all_trees level (tree_holds level) ts h
+
+-- the chunks of a map hold its pairs
+pub map_holds : (version : Version) (bits : ℕ) (pairs : List Pair) → AllByRecursion IsPair pairs → HoldPairs version (chunk_bytes version bits pairs) pairs
+map_holds version bits pairs lawful =
+    let t = tree_of (sha512_cut bits) version pairs in
+    let below : pairs_below t.level t.tree ≡ pairs = pairs_are (sha512_cut bits) version pairs in
+    subst (HoldPairs version (chunk_bytes version bits pairs)) below
+    (tree_holds version t.level t.tree (subst (AllByRecursion IsPair) (sym below) lawful))

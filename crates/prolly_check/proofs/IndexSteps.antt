@@ -1,5 +1,5 @@
--- An index, made chunk by chunk.
-use Rattle.std.proofs.Common.{◌≡◌, ℕ, zero, suc, ◌+◌, ◌<◌, ◌≤◌, Bool, true, false, ◌||◌, cond, List, [], ◌∷◌, ◌++◌, length, take, drop, get_or, Option, Some, None, inl, inr, refl, sym, ap, ◌∙◌, subst, arith}
+-- The references of the chunks of a file, and an index of them, made chunk by chunk.
+use Rattle.std.proofs.Common.{◌≡◌, ℕ, suc, ◌+◌, ◌<◌, ◌≤◌, Bool, true, false, ◌||◌, cond, List, [], ◌∷◌, ◌++◌, length, take, drop, get_or, Option, Some, None, inl, inr, refl, sym, ap, ◌∙◌, subst, arith}
 use Rattle.std.specs.Prelude.{is_some}
 use Rattle.std.specs.Ordering.{nat_cmp, is_eq}
 use Rattle.std.specs.Cmp.Lexicographic.{slice_cmp}
@@ -7,27 +7,37 @@ use Rattle.std.specs.Str.{bytes_eq}
 use Rattle.std.specs.List.{list_any}
 use Rattle.std.specs.BTreeMap.{BTreeMap}
 use Rattle.std.proofs.lemmas.Slice.Eq.{bytes_eq-Decides}
-use Rattle.std.proofs.lemmas.Bool.{cond-true, cond-false, false≢true}
-use Rattle.std.proofs.lemmas.List.{take_more, take_all, drop_all}
+use Rattle.std.proofs.Math.Seq.{drop-cons}
+use Rattle.std.proofs.lemmas.Bool.{cond-true, cond-false, or_right}
+use Rattle.std.proofs.lemmas.Bool.Decides.{same_from_decides}
+use Rattle.std.proofs.lemmas.List.{take_more, take_all, drop_all, length-map, get_or-map}
 use Rattle.prolly_entry.specs.declared.reference.Ref.{Ref}
 use Rattle.prolly_entry.specs.Reference.{reference_of}
-use Rattle.prolly_entry.specs.Chunk.{IsIn}
-use Rattle.prolly_entry.proofs.Overlays.{order_same, order_self, eq_true}
+use Rattle.prolly_tree.specs.Chunk.{IsIn}
+use Rattle.prolly_entry.specs.lemmas.Orders.{order_same, order_self, eq_true}
 use Rattle.prolly_check.specs.declared.fault.CheckFault.TheVariants.{Collision}
 use Rattle.prolly_check.specs.Judged.{reuse}
-use Rattle.prolly_check.specs.Index.{number_of, HasAt, IsIndex}
+use Rattle.prolly_check.specs.Index.{AreReferences, number_of, HasAt, IsIndex}
 
-same_bool : (a b : Bool) → (a ≡ true → b ≡ true) → (b ≡ true → a ≡ true) → a ≡ b
-same_bool true true f g = refl
-same_bool true false f g = absurd (false≢true (f refl))
-same_bool false true f g = absurd (false≢true (g refl))
-same_bool false false f g = refl
+-- ---- references
+
+-- there are as many as chunks
+pub as_many : (chunks : List (List ℕ)) (references : List Ref) → AreReferences chunks references → length references ≡ length chunks
+as_many chunks references are = sym (length-map references (λ r. r.0)) ∙ ap length are ∙ length-map chunks reference_of
+
+-- each is that of the chunk at its place
+pub reference_at : (chunks : List (List ℕ)) (references : List Ref) (n : ℕ) (other : Ref) → AreReferences chunks references → n < length references →
+    (get_or references n other).0 ≡ reference_of (get_or chunks n [])
+reference_at chunks references n other are h =
+    let count = as_many chunks references are in
+    sym (get_or-map (λ r. r.0) references n other [] h) ∙ ap (λ rs. get_or rs n []) are ∙ get_or-map reference_of chunks n [] [] (omega (arith, count))
+
+-- ---- the index
 
 -- to be equal in order is to be the same
 eq_is : (a b : List ℕ) → is_eq (slice_cmp nat_cmp a b) ≡ bytes_eq a b
-eq_is a b = same_bool (is_eq (slice_cmp nat_cmp a b)) (bytes_eq a b)
-    (λ e. (bytes_eq-Decides a b).1 (order_same a b (eq_true (slice_cmp nat_cmp a b) e)))
-    (λ e. ap is_eq (ap (slice_cmp nat_cmp a) (sym ((bytes_eq-Decides a b).0 e)) ∙ order_self a))
+eq_is a b = same_from_decides (is_eq (slice_cmp nat_cmp a b)) (bytes_eq a b)
+    ((λ e. order_same a b (eq_true (slice_cmp nat_cmp a b) e)), (λ e. ap is_eq (ap (slice_cmp nat_cmp a) (sym e) ∙ order_self a))) (bytes_eq-Decides a b)
 
 -- the first n chunks are in the index
 pub record IndexBegun (index : BTreeMap Ref ℕ) (chunks : List (List ℕ)) (n : ℕ) : Type 0 where
@@ -36,28 +46,6 @@ pub record IndexBegun (index : BTreeMap Ref ℕ) (chunks : List (List ℕ)) (n :
   pub known : (reference : List ℕ) → list_any (λ d. bytes_eq (reference_of d) reference) before ≡ is_some (number_of index reference)
   pub right : (reference : List ℕ) (number : ℕ) → number_of index reference ≡ Some number → HasAt chunks number reference
   pub held : (chunk : List ℕ) → IsIn chunk (take n chunks) → IsIn chunk before
-
-none_some : {A : Type 0} {x : A} → ◌≡◌ {A = Option A} None (Some x) → ⊥
-none_some e = cc
-
-pub index_begins : (index : BTreeMap Ref ℕ) (chunks : List (List ℕ)) → index.entries ≡ [] → IndexBegun index chunks 0
-index_begins index chunks e =
-    let nothing : (reference : List ℕ) → number_of index reference ≡ None = λ reference. rw e refl in record {
-      before = [];
-      same = refl;
-      known = λ reference. sym (ap is_some (nothing reference));
-      right = λ reference number f. absurd (none_some (sym (nothing reference) ∙ f));
-      held = λ chunk h. h;
-    }
-
--- the next chunk
-next_is : (chunks : List (List ℕ)) (n : ℕ) → n < length chunks → drop n chunks ≡ get_or chunks n [] ∷ drop (n + 1) chunks
-next_is [] n h = absurd (omega arith)
-next_is (c ∷ chunks) zero h = refl
-next_is (c ∷ chunks) (suc n) h =
-    let h' : suc n < suc (length chunks) = h in
-    let f : suc n + 1 ≡ suc (n + 1) = omega arith in
-    rw f (next_is chunks n (omega arith))
 
 in_last : (chunk : List ℕ) (xs : List (List ℕ)) (x : List ℕ) (ys : List (List ℕ)) → ((c : List ℕ) → IsIn c xs → IsIn c ys) → IsIn chunk (xs ++ x ∷ []) → IsIn chunk (x ∷ ys)
 in_last chunk [] x ys f (inl e) = inl e
@@ -79,9 +67,9 @@ index_goes_on index index' chunks n key chunk h e k b none new =
     let f : suc n ≡ n + 1 = omega arith in
     record {
       before = chunk ∷ b.before;
-      same = b.same ∙ ap (reuse b.before n) (next_is chunks n h ∙ ap (λ c. c ∷ drop (n + 1) chunks) (sym e))
-          ∙ cond-false (list_any (λ d. bytes_eq (reference_of d) (reference_of chunk)) b.before) (Some (Collision n)) (reuse (chunk ∷ b.before) (suc n) (drop (n + 1) chunks)) unknown
-          ∙ ap (λ m. reuse (chunk ∷ b.before) m (drop (n + 1) chunks)) f;
+      same = b.same ∙ ap (reuse b.before n) (drop-cons chunks n [] h ∙ ap (λ c. c ∷ drop (suc n) chunks) (sym e))
+          ∙ cond-false (list_any (λ d. bytes_eq (reference_of d) (reference_of chunk)) b.before) (Some (Collision n)) (reuse (chunk ∷ b.before) (suc n) (drop (suc n) chunks)) unknown
+          ∙ ap (λ m. reuse (chunk ∷ b.before) m (drop m chunks)) f;
       known = λ reference. ap (λ t. bytes_eq (reference_of chunk) reference || t) (b.known reference)
           ∙ sym (ap is_some (at reference) ∙ some_of (bytes_eq (reference_of chunk) reference) n (number_of index reference));
       right = λ reference number g. found reference number (bytes_eq (reference_of chunk) reference) refl (sym (at reference) ∙ g);
@@ -107,15 +95,11 @@ index_ends index chunks n h b = (
     is_known : (chunk : List ℕ) (cs : List (List ℕ)) → IsIn chunk cs → list_any (λ d. bytes_eq (reference_of d) (reference_of chunk)) cs ≡ true
     is_known chunk [] i = absurd i
     is_known chunk (c ∷ cs) (inl e) = ap (λ t. t || list_any (λ d. bytes_eq (reference_of d) (reference_of chunk)) cs) ((bytes_eq-Decides (reference_of c) (reference_of chunk)).1 (ap reference_of (sym e)))
-    is_known chunk (c ∷ cs) (inr i) = or_true (bytes_eq (reference_of c) (reference_of chunk)) (list_any (λ d. bytes_eq (reference_of d) (reference_of chunk)) cs) (is_known chunk cs i)
-      where
-        or_true : (a b : Bool) → b ≡ true → (a || b) ≡ true
-        or_true true b e = refl
-        or_true false b e = e
+    is_known chunk (c ∷ cs) (inr i) = or_right (bytes_eq (reference_of c) (reference_of chunk)) (list_any (λ d. bytes_eq (reference_of d) (reference_of chunk)) cs) (is_known chunk cs i)
 
 pub index_collides : (index : BTreeMap Ref ℕ) (chunks : List (List ℕ)) (n : ℕ) (key : Ref) (chunk : List ℕ) (number : ℕ) → n < length chunks → chunk ≡ get_or chunks n [] → key.0 ≡ reference_of chunk →
     IndexBegun index chunks n → number_of index key.0 ≡ Some number → reuse [] 0 chunks ≡ Some (Collision n)
 index_collides index chunks n key chunk number h e k b some =
-    b.same ∙ ap (reuse b.before n) (next_is chunks n h ∙ ap (λ c. c ∷ drop (n + 1) chunks) (sym e))
-    ∙ cond-true (list_any (λ d. bytes_eq (reference_of d) (reference_of chunk)) b.before) (Some (Collision n)) (reuse (chunk ∷ b.before) (suc n) (drop (n + 1) chunks))
+    b.same ∙ ap (reuse b.before n) (drop-cons chunks n [] h ∙ ap (λ c. c ∷ drop (suc n) chunks) (sym e))
+    ∙ cond-true (list_any (λ d. bytes_eq (reference_of d) (reference_of chunk)) b.before) (Some (Collision n)) (reuse (chunk ∷ b.before) (suc n) (drop (suc n) chunks))
     (b.known (reference_of chunk) ∙ ap (λ r. is_some (number_of index r)) (sym k) ∙ ap is_some some)

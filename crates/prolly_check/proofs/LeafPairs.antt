@@ -6,11 +6,10 @@ use Rattle.prolly_entry.specs.Front.{NoPairAt}
 use Rattle.prolly_entry.specs.Pair.{Pair, IsPair}
 use Rattle.prolly_entry.specs.Reading.{key_length, value_length}
 use Rattle.prolly_entry.specs.Spelling.{key_spelling, pair_spelling}
-use Rattle.prolly_entry.proofs.FrontBytes.{numbers, key_size}
-use Rattle.prolly_entry.proofs.Spellings.{pair_spellings_apart}
-use Rattle.prolly_check.specs.Entries.{IsLeaf, BeginsWith, entries_in, first_pair, behind_pair, pairs_in}
+use Rattle.prolly_entry.specs.lemmas.Spellings.{numbers, key_size, pair_spellings_apart}
+use Rattle.prolly_check.specs.Entries.{NoLeaf, IsLeaf, BeginsWith, entries_in, first_pair, behind_pair, pairs_in}
 use Rattle.prolly_check.specs.Whole.{IsSomeLeaf}
-use Rattle.prolly_check.proofs.EntryLists.{AreEntries, AreApart, one_more, one_less, nothing_left, Shrinks, Reads, reads_on, reads_all, drop_front}
+use Rattle.prolly_check.proofs.EntryLists.{AreEntries, AreApart, one_more, one_less, nothing_left, rest_is_none, Shrinks, Reads, reads_on, reads_all, drop_front}
 
 -- ---- the pairs that entries spell
 
@@ -35,6 +34,11 @@ module _ (entries rest : List ℕ) (p : Pair) (b : BeginsWith pair_spelling IsPa
 
 pub leaf_left : (entries : List ℕ) → NoPairAt entries → IsSomeLeaf entries → entries ≡ []
 leaf_left entries none l = nothing_left pair_spelling IsPair leaf_apart entries none (leaf_entries entries l)
+
+-- behind lawful pairs there are bytes that no pair's spelling begins
+pub no_leaf : NoLeaf
+no_leaf done pairs rest lawful left none l =
+    rest_is_none pair_spelling IsPair leaf_apart done rest lawful left none (record { entries = pairs; is = l.is; lawful = l.lawful })
 
 -- ---- what is read of them
 

@@ -1,35 +1,33 @@
 -- The leaf that a key leads to.
-use Rattle.std.proofs.Common.{◌≡◌, ℕ, zero, suc, ◌<◌, inl, inr, ◌⊎◌, Bool, true, false, cond, List, [], ◌∷◌, ◌++◌, length, drop, map, get_or, Option, Some, None, Ordering, refl, sym, ap, ◌∙◌, subst, arith, append_assoc, append-nil}
+use Rattle.std.proofs.Common.{◌≡◌, ℕ, zero, suc, ◌<◌, inl, inr, ◌⊎◌, Bool, false, List, [], ◌∷◌, ◌++◌, length, drop, map, get_or, Option, Some, None, refl, sym, ap, ◌∙◌, subst, arith, append_assoc, append-nil}
 use Rattle.std.specs.Ordering.{is_lt}
-use Rattle.std.specs.declared.cmp.Ordering.TheVariants.{Less, Equal, Greater}
+use Rattle.std.proofs.lemmas.Bool.{cond-true, cond-false, cases_Bool}
 use Rattle.std.specs.List.{flat_map, AllByRecursion}
 use Rattle.std.proofs.lemmas.List.Concat.{flat_map-append}
-use Rattle.prolly_entry.specs.Chunk.{chunk_of, post_order}
+use Rattle.prolly_tree.specs.Chunk.{chunk_of, post_order}
 use Rattle.prolly_entry.specs.Keys.{key_order, KeyBelow}
-use Rattle.prolly_entry.specs.LookUp.{find}
+use Rattle.prolly_tree.specs.LookUp.{find}
 use Rattle.prolly_entry.specs.Pair.{Pair, IsPair}
 use Rattle.prolly_entry.specs.Reference.{reference_of}
-use Rattle.prolly_entry.specs.Tree.{Tree, pairs_below, greatest_key, bytes_of}
+use Rattle.prolly_tree.specs.Tree.{Tree, pairs_below, greatest_key, bytes_of}
 use Rattle.prolly_entry.specs.declared.version.Version.{Version}
-use Rattle.prolly_entry.proofs.Distinct.{Rises, rises_front}
-use Rattle.prolly_entry.proofs.Groups.{all_front}
-use Rattle.prolly_entry.proofs.Roots.{in_back}
-use Rattle.prolly_check.specs.Checked.{HasFile, HasReference, chunks_of}
+use Rattle.prolly_tree.specs.lemmas.Maps.{Rises, rises, rises_front}
+use Rattle.prolly_entry.specs.lemmas.Lists.{all_front}
+use Rattle.prolly_tree.specs.lemmas.Trees.{in_back}
+use Rattle.prolly_check.specs.Checked.{HasFile, chunks_of}
 use Rattle.prolly_check.specs.Children.{child_for}
 use Rattle.prolly_check.specs.Content.{Content}
 use Rattle.prolly_check.specs.Entries.{Child}
 use Rattle.prolly_check.specs.Held.{pairs_held}
-use Rattle.prolly_check.specs.Index.{HasAt}
 use Rattle.prolly_check.specs.Kinds.{kind_of}
 use Rattle.prolly_check.specs.Leaves.{pairs_from, IsLeafOf, IsBeyond}
 use Rattle.prolly_check.specs.Verdict.{AllApart}
 use Rattle.prolly_check.specs.declared.entries.Entries.TheVariants.{Leaf, Node}
-use Rattle.prolly_check.proofs.Acceptance.{bytes_in, bytes_append}
-use Rattle.prolly_check.proofs.Descents.{rising_is}
-use Rattle.prolly_check.proofs.HeldPairs.{tree_holds, trees_hold}
-use Rattle.prolly_check.proofs.Lookups.{apart_from, find_in_child, find_in_none}
+use Rattle.prolly_check.proofs.HeldPairs.{bytes_in, bytes_append, tree_holds, trees_hold, map_holds}
+use Rattle.prolly_check.proofs.Lookups.{apart_from, find_in_child, find_in_none, child_some}
+use Rattle.prolly_check.proofs.Verdicts.{some_none, is_less}
 use Rattle.prolly_check.proofs.Scans.{pairs_from-append, none_below_all, some_from}
-use Rattle.prolly_check.proofs.WayDown.{root_of, root_pairs, root_below, IsBelow, in_parts, child_some, child_of, own_pairs, Stands, AtLeaf, AtNode, at_leaf, at_node, height, is_there, has_reference, goes_on}
+use Rattle.prolly_check.proofs.WayDown.{root_of, root_pairs, IsBelow, in_parts, parted, child_of, own_pairs, Stands, AtNode, GoesOn, at_leaf, at_node, is_there, goes_on}
 
 -- ---- the child to which a key leads
 
@@ -43,43 +41,41 @@ pub record LeadsTo (version : Version) (level : ℕ) (trees : List (Tree level))
   pub here : is_lt (key_order (greatest_key level child) key) ≡ false
   pub named : c ≡ child_of version level child
 
-is_less : (o : Ordering) → is_lt o ≡ true → o ≡ Less
-is_less Less h = refl
-is_less Equal h = cc
-is_less Greater h = cc
-
-some_same : (c d : Child) → ◌≡◌ {A = Option Child} (Some c) (Some d) → d ≡ c
-some_same c d e = cc
-
-none_some : (c : Child) → ◌≡◌ {A = Option Child} None (Some c) → ⊥
-none_some c e = cc
-
 module _ (version : Version) (level : ℕ) (key : List ℕ) where
-  pub leads_to : (trees : List (Tree level)) (c : Child) → child_for key (map (child_of version level) trees) ≡ Some c → LeadsTo version level trees key c
-  leads_to [] c e = absurd (none_some c e)
-  leads_to (t ∷ trees) c e = go (is_lt (key_order (greatest_key level t) key)) refl (leads_to trees c) e
-    where
-      go : (b : Bool) → is_lt (key_order (greatest_key level t) key) ≡ b → (child_for key (map (child_of version level) trees) ≡ Some c → LeadsTo version level trees key c) →
-          cond b (child_for key (map (child_of version level) trees)) (Some (child_of version level t)) ≡ Some c → LeadsTo version level (t ∷ trees) key c
-      go false h more f = record { before = []; child = t; after = trees; is = refl; below = tt; here = h; named = some_same (child_of version level t) c f }
-      go true h more f = let l = more f in record {
-        before = t ∷ l.before;
-        child = l.child;
-        after = l.after;
-        is = ap (λ ts. t ∷ ts) l.is;
-        below = (is_less (key_order (greatest_key level t) key) h, l.below);
-        here = l.here;
-        named = l.named;
-      }
+  abbrev is_below : Tree level → Bool
+  is_below t = is_lt (key_order (greatest_key level t) key)
 
-  pub leads_nowhere : (trees : List (Tree level)) → child_for key (map (child_of version level) trees) ≡ None → AllByRecursion (λ u. KeyBelow (greatest_key level u) key) trees
+  abbrev picked : List (Tree level) → Option Child
+  picked trees = child_for key (map (child_of version level) trees)
+
+  pub leads_to : (trees : List (Tree level)) (c : Child) → picked trees ≡ Some c → LeadsTo version level trees key c
+  leads_to [] c e = cc
+  leads_to (t ∷ trees) c e = elim (cases_Bool (is_below t)) [
+    | inl past ↦
+        let l = leads_to trees c (sym (cond-true (is_below t) (picked trees) (Some (child_of version level t)) past) ∙ e) in
+        record {
+          before = t ∷ l.before;
+          child = l.child;
+          after = l.after;
+          is = ap (λ ts. t ∷ ts) l.is;
+          below = (is_less (key_order (greatest_key level t) key) past, l.below);
+          here = l.here;
+          named = l.named;
+        }
+    | inr here ↦
+        let f : Some (child_of version level t) ≡ Some c = sym (cond-false (is_below t) (picked trees) (Some (child_of version level t)) here) ∙ e in
+        record { before = []; child = t; after = trees; is = refl; below = tt; here = here; named = cc }
+  ]
+
+  pub leads_nowhere : (trees : List (Tree level)) → picked trees ≡ None → AllByRecursion (λ u. KeyBelow (greatest_key level u) key) trees
   leads_nowhere [] e = tt
-  leads_nowhere (t ∷ trees) e = go (is_lt (key_order (greatest_key level t) key)) refl (leads_nowhere trees) e
-    where
-      go : (b : Bool) → is_lt (key_order (greatest_key level t) key) ≡ b → (child_for key (map (child_of version level) trees) ≡ None → AllByRecursion (λ u. KeyBelow (greatest_key level u) key) trees) →
-          cond b (child_for key (map (child_of version level) trees)) (Some (child_of version level t)) ≡ None → AllByRecursion (λ u. KeyBelow (greatest_key level u) key) (t ∷ trees)
-      go false h more f = absurd (none_some (child_of version level t) (sym f))
-      go true h more f = (is_less (key_order (greatest_key level t) key) h, more f)
+  leads_nowhere (t ∷ trees) e = elim (cases_Bool (is_below t)) [
+    | inl past ↦ (
+      is_less (key_order (greatest_key level t) key) past,
+      leads_nowhere trees (sym (cond-true (is_below t) (picked trees) (Some (child_of version level t)) past) ∙ e),
+    )
+    | inr here ↦ absurd (some_none (sym (cond-false (is_below t) (picked trees) (Some (child_of version level t)) here) ∙ e))
+  ]
 
 -- ---- the trees on the way
 
@@ -125,19 +121,19 @@ module _ (content : Content) (key : List ℕ) (level : ℕ) (trees : List (Tree 
       let pre = flat_map (pairs_below level) l.before in
       let back = pairs_below level l.child ++ flat_map (pairs_below level) l.after in
       let parts = in_parts content level trees l.before l.after l.child l.is in
-      let some = child_some content level trees l.before l.after l.child l.is b in
-      let lawful : AllByRecursion IsPair pre = all_front IsPair pre back (subst (AllByRecursion IsPair) parts b.lawful) in
+      let p = parted content level trees l.before l.after l.child l.is b in
+      let some = child_some content.version (chunks_of content) level l.before l.after l.child p in
+      let lawful : AllByRecursion IsPair pre = all_front IsPair pre back (subst (AllByRecursion IsPair) parts b.of.lawful) in
       record {
         before = s.before ++ left;
         after = bytes_in (flat_map (post_order content.version level) l.after) ++ bytes_of content.version (suc level) trees ∷ s.after;
         lies = s.lies ∙ ap (λ cs. s.before ++ (cs ++ s.after)) chunk_parts
             ∙ regroup s.before left (bytes_in (post_order content.version level l.child)) (bytes_in (flat_map (post_order content.version level) l.after)) s.after (bytes_of content.version (suc level) trees);
         past = ap (pairs_from key) (flat_map-append pairs_held s.before left) ∙ pairs_from-append key (flat_map pairs_held s.before) (flat_map pairs_held left)
-            ∙ ap (λ ps. ps ++ pairs_from key (flat_map pairs_held left)) s.past ∙ ap (pairs_from key) (trees_hold content.version level l.before lawful)
-            ∙ none_below_all level l.before key (rises_front pre back (subst Rises parts b.rising)) l.below;
+            ∙ ap (λ ps. ps ++ pairs_from key (flat_map pairs_held left)) s.past ∙ ap (pairs_from key) (trees_hold content.version level l.before lawful).are
+            ∙ none_below_all level l.before key (rises_front pre back (subst Rises parts (rises (flat_map (pairs_below level) trees) b.of.rising))) l.below;
         found = s.found ∙ ap (λ ts. find (flat_map (pairs_below level) ts) key) l.is
-            ∙ find_in_child level l.before l.after l.child key (rising_is (flat_map (pairs_below level) (l.before ++ l.child ∷ l.after)) (subst (λ ts. Rises (flat_map (pairs_below level) ts)) l.is b.rising))
-            some l.below l.here;
+            ∙ find_in_child level l.before l.after l.child key p.rising some l.below l.here;
         here = inr (some_from key (pairs_below level l.child) some l.here);
       }
 
@@ -145,7 +141,7 @@ module _ (content : Content) (key : List ℕ) (level : ℕ) (trees : List (Tree 
 
 -- the chunks hold the pairs of the map
 all_held : (content : Content) → HasFile content → content.pairs ≡ flat_map pairs_held (chunks_of content)
-all_held content f = sym (tree_holds content.version (root_of content).level (root_of content).tree (root_below content f).lawful ∙ root_pairs content)
+all_held content f = sym (map_holds content.version content.bits content.pairs f.is.lawful).are
 
 -- the pairs from the key on are behind those that are past
 from_behind : (content : Content) (key : List ℕ) (before behind : List (List ℕ)) → HasFile content → chunks_of content ≡ before ++ behind → pairs_from key (flat_map pairs_held before) ≡ [] →
@@ -165,56 +161,45 @@ one_number (b ∷ before) after c (suc number) h within e =
     let w : suc number < suc (length (before ++ c ∷ after)) = within in one_number before after c number h.1 (omega arith) e
 
 module _ (content : Content) (key : List ℕ) (number : ℕ) (f : HasFile content) (st : Stands content (LeafBelow content key) number) where
-  pub is_leaf_of : (pairs : List Pair) → AtLeaf content (LeafBelow content key) number pairs → IsLeafOf content key number
-  is_leaf_of pairs a =
+  pub at_leaf_of : (pairs : List Pair) → kind_of content.version (get_or (chunks_of content) number []) ≡ Leaf pairs → IsLeafOf content key number
+  at_leaf_of pairs e =
+      let a = at_leaf content (LeafBelow content key) number st pairs e in
       let own = bytes_of content.version 0 pairs in
       let s = a.so in
       let behind : drop number (chunks_of content) ≡ own ∷ s.after =
       ap (drop number) s.lies ∙ one_number s.before s.after own number (subst AllApart s.lies f.is.apart) (subst (λ cs. number < length cs) s.lies st.within) (ap (λ cs. get_or cs number []) (sym s.lies) ∙ a.is) in
       record {
         within = st.within;
-        found = s.found ∙ ap (λ ps. find ps key) (sym (ap pairs_held a.is ∙ own_pairs pairs a.below.lawful));
+        found = s.found ∙ ap (λ ps. find ps key) (sym (ap pairs_held a.is ∙ own_pairs pairs a.below.of.lawful));
         same = from_behind content key s.before (own ∷ s.after) f s.lies s.past ∙ ap (λ cs. pairs_from key (flat_map pairs_held cs)) (sym behind);
       }
 
-  pub is_beyond : (children : List Child) (n : AtNode content (LeafBelow content key) number children) → AllByRecursion (λ u. KeyBelow (greatest_key n.level u) key) n.trees → IsBeyond content key
-  is_beyond children n h =
-      let s = n.so in
-      let own = bytes_in (post_order content.version (suc n.level) n.trees) in
-      let none : pairs_from key (flat_map (pairs_below n.level) n.trees) ≡ [] = none_below_all n.level n.trees key n.below.rising h in
-      record {
-        none = s.found ∙ find_in_none n.level n.trees key (rising_is (flat_map (pairs_below n.level) n.trees) n.below.rising) h;
-        past = elim s.here [
-          | inl last ↦ from_behind content key s.before (own ++ s.after) f s.lies s.past
-              ∙ ap (λ cs. pairs_from key (flat_map pairs_held (own ++ cs))) last ∙ ap (λ cs. pairs_from key (flat_map pairs_held cs)) (append-nil own)
-              ∙ ap (pairs_from key) (tree_holds content.version (suc n.level) n.trees n.below.lawful) ∙ none
-          | inr some ↦ absurd (some none)
-        ];
-      }
-
--- ---- the same, as the code has it
-
-module _ (content : Content) (key : List ℕ) (number : ℕ) (f : HasFile content) (st : Stands content (LeafBelow content key) number) where
-  pub at_leaf_of : (pairs : List Pair) → kind_of content.version (get_or (chunks_of content) number []) ≡ Leaf pairs → IsLeafOf content key number
-  at_leaf_of pairs e = is_leaf_of content key number f st pairs (at_leaf content (LeafBelow content key) number st pairs e)
-
   module _ (children : List Child) (e : kind_of content.version (get_or (chunks_of content) number []) ≡ Node children) where
-    node : AtNode content (LeafBelow content key) number children
-    node = at_node content (LeafBelow content key) number st children e
+    n : AtNode content (LeafBelow content key) number children
+    n = at_node content (LeafBelow content key) number st children e
 
-    found : (o : Option Child) → o ≡ child_for key children → child_for key (map (child_of content.version node.level) node.trees) ≡ o
-    found o h = ap (child_for key) (sym node.children_are) ∙ sym h
+    found : (o : Option Child) → o ≡ child_for key children → child_for key (map (child_of content.version n.level) n.trees) ≡ o
+    found o h = ap (child_for key) (sym n.children_are) ∙ sym h
 
     pub at_beyond : None ≡ child_for key children → IsBeyond content key
-    at_beyond h = is_beyond content key number f st children node (leads_nowhere content.version node.level key node.trees (found None h))
+    at_beyond h =
+        let below = leads_nowhere content.version n.level key n.trees (found None h) in
+        let s = n.so in
+        let own = bytes_in (post_order content.version (suc n.level) n.trees) in
+        let rising = n.below.of.rising in
+        let none : pairs_from key (flat_map (pairs_below n.level) n.trees) ≡ [] = none_below_all n.level n.trees key (rises (flat_map (pairs_below n.level) n.trees) rising) below in
+        record {
+          none = s.found ∙ find_in_none n.level n.trees key rising below;
+          past = elim s.here [
+            | inl last ↦ from_behind content key s.before (own ++ s.after) f s.lies s.past
+                ∙ ap (λ cs. pairs_from key (flat_map pairs_held (own ++ cs))) last ∙ ap (λ cs. pairs_from key (flat_map pairs_held cs)) (append-nil own)
+                ∙ ap (pairs_from key) (tree_holds content.version (suc n.level) n.trees n.below.of.lawful).are ∙ none
+            | inr some ↦ absurd (some none)
+          ];
+        }
 
-    module _ (c : Child) (h : Some c ≡ child_for key children) where
-      led : LeadsTo content.version node.level node.trees key c
-      led = leads_to content.version node.level key node.trees c (found (Some c) h)
-
-      pub at_child : HasReference (chunks_of content) c.reference
-      at_child = has_reference content (LeafBelow content key) number children node led.before led.after led.child led.is c.reference (ap (λ x. x.reference) led.named)
-
-      pub at_next : (next : ℕ) → HasAt (chunks_of content) next c.reference → Stands content (LeafBelow content key) next × (height content next < height content number)
-      at_next = goes_on content (LeafBelow content key) number children node led.before led.after led.child led.is c.reference (ap (λ x. x.reference) led.named) f
-          (LeafBelow content key) (leaf_goes_down content key node.level node.trees node.so node.below c led)
+    pub at_child : (c : Child) → Some c ≡ child_for key children → GoesOn content (LeafBelow content key) number c.reference
+    at_child c h =
+        let l = leads_to content.version n.level key n.trees c (found (Some c) h) in
+        goes_on content (LeafBelow content key) (LeafBelow content key) number children n l.before l.after l.child l.is c.reference (ap (λ x. x.reference) l.named) f
+        (leaf_goes_down content key n.level n.trees n.so n.below c l)

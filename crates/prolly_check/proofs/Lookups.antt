@@ -1,22 +1,29 @@
 -- How a look-up goes down a tree.
-use Rattle.std.proofs.Common.{◌≡◌, ℕ, zero, suc, ◌+◌, ◌<◌, inl, inr, Bool, true, false, cond, List, [], ◌∷◌, ◌++◌, length, Option, Some, None, Ordering, refl, sym, ap, ◌∙◌, subst, arith}
+use Rattle.std.proofs.Common.{◌≡◌, ℕ, zero, suc, ◌+◌, ◌<◌, inl, inr, false, cond, List, [], ◌∷◌, ◌++◌, length, Some, None, Ordering, refl, sym, ap, ◌∙◌, subst, arith, append-nil, map}
 use Rattle.std.specs.declared.cmp.Ordering.TheVariants.{Less, Equal, Greater}
 use Rattle.std.specs.Ordering.{is_lt, is_eq}
 use Rattle.std.specs.List.{flat_map, slice_get, AllByRecursion}
 use Rattle.std.proofs.lemmas.Bool.{cond-false, false≢true}
 use Rattle.std.proofs.lemmas.List.Concat.{flat_map-append}
-use Rattle.prolly_entry.specs.Keys.{key_order, KeyBelow}
-use Rattle.prolly_entry.specs.Pair.{Pair}
+use Rattle.prolly_entry.specs.Keys.{key_order, KeyBelow, Rising, RisingFrom}
+use Rattle.prolly_entry.specs.Pair.{Pair, IsPair}
 use Rattle.prolly_entry.specs.declared.version.Version.{Version}
 use Rattle.prolly_entry.specs.Reference.{reference_of}
-use Rattle.prolly_entry.specs.Tree.{Tree, pairs_below, greatest_key, bytes_of, last_key}
-use Rattle.prolly_entry.specs.Chunk.{Chunk, chunk_of, post_order, IsIn}
-use Rattle.prolly_entry.specs.LookUp.{find}
+use Rattle.prolly_tree.specs.Tree.{Tree, pairs_below, greatest_key, bytes_of, last_key, pair_count, tree_of, child_entry, grow}
+use Rattle.prolly_tree.specs.Chunk.{Chunk, chunk_of, post_order, IsIn, chunks}
+use Rattle.prolly_tree.specs.LookUp.{find}
 use Rattle.prolly_check.specs.Verdict.{AllApart}
-use Rattle.prolly_check.specs.Descent.{ReferenceLeads, FindInChild, FindInNone, NthInChild}
-use Rattle.prolly_entry.proofs.Roots.{in_front, in_back, top_in}
-use Rattle.prolly_entry.proofs.Overlays.{order_trans, order_same, greater_below, not_eq_below, not_eq_above}
-use Rattle.prolly_entry.proofs.Distinct.{Above, Rises, rises, rises_front, rises_back, above_key, above_more, has_last}
+use Rattle.prolly_check.specs.Descent.{ReferenceLeads, FindInChild, FindInNone, NthInChild, NodeFull, StandsAtRoot, FirstEntry, StepsDown, IsTreeOf}
+use Rattle.prolly_tree.specs.lemmas.Trees.{in_front, in_back, Full, full_pairs}
+use Rattle.prolly_laws.specs.Trees.{top_in, tree_full, pairs_are}
+use Rattle.prolly_tree.specs.lemmas.Maps.{last_key_short, Above, Rises, rises, rises_front, rises_back, above_key, above_more, has_last}
+use Rattle.prolly_entry.specs.lemmas.Spellings.{reference_length, child_spellings_apart}
+use Rattle.prolly_entry.specs.lemmas.Orders.{order_trans, order_same, greater_below, not_eq_below, not_eq_above}
+use Rattle.prolly_entry.specs.Cut.{sha512_cut}
+use Rattle.prolly_tree.specs.Split.{split}
+use Rattle.prolly_file.specs.Scratch.{keys_in}
+use Rattle.prolly_entry.specs.lemmas.Lists.{all_front, all_back, all_append}
+use Rattle.prolly_check.specs.Judged.{chunk_bytes}
 
 -- ---- references
 
@@ -46,28 +53,30 @@ reference_leads version = (
 
 -- ---- keys
 
-find_past : (ps : List Pair) (key : List ℕ) → Rises ps → KeyBelow (last_key ps) key → find ps key ≡ None
-find_past [] key h k = refl
-find_past (p ∷ []) key h k = cond-false (is_eq (key_order p.key key)) (Some p.value) None (not_eq_below p.key key k)
-find_past (p ∷ q ∷ ps) key h k =
-    let b : KeyBelow p.key key = order_trans p.key (last_key (q ∷ ps)) key (above_key p.key (last_key (q ∷ ps)) (q ∷ ps) h.0 (has_last q ps)) k in
-    cond-false (is_eq (key_order p.key key)) (Some p.value) (find (q ∷ ps) key) (not_eq_below p.key key b) ∙ find_past (q ∷ ps) key h.1 k
+all_below : (ps : List Pair) (key : List ℕ) → Rises ps → KeyBelow (last_key ps) key → AllByRecursion (λ p. KeyBelow p.key key) ps
+all_below [] key h k = tt
+all_below (p ∷ []) key h k = (k, tt)
+all_below (p ∷ q ∷ ps) key h k = (
+  order_trans p.key (last_key (q ∷ ps)) key (above_key p.key (last_key (q ∷ ps)) (q ∷ ps) h.0 (has_last q ps)) k,
+  all_below (q ∷ ps) key h.1 k,
+)
+
+-- where the greatest keys of trees are below a key, all keys below them are
+pub trees_below : (level : ℕ) (ts : List (Tree level)) (key : List ℕ) → Rises (flat_map (pairs_below level) ts) → AllByRecursion (λ u. KeyBelow (greatest_key level u) key) ts →
+    AllByRecursion (λ p. KeyBelow p.key key) (flat_map (pairs_below level) ts)
+trees_below level [] key h k = tt
+trees_below level (t ∷ ts) key h k =
+    let own = pairs_below level t in
+    let rest = flat_map (pairs_below level) ts in
+    all_append (λ p. KeyBelow p.key key) own rest (all_below own key (rises_front own rest h) k.0) (trees_below level ts key (rises_back own rest h) k.1)
 
 find_above : (ps : List Pair) (key : List ℕ) → Above key ps → find ps key ≡ None
 find_above [] key h = refl
 find_above (p ∷ ps) key h = cond-false (is_eq (key_order p.key key)) (Some p.value) (find ps key) (not_eq_above key p.key h.0) ∙ find_above ps key h.1
 
-some_none : {A : Type 0} {x : A} → ◌≡◌ {A = Option A} (Some x) None → ⊥
-some_none e = cc
-
-find_over : (xs ys : List Pair) (key : List ℕ) → find xs key ≡ None → find (xs ++ ys) key ≡ find ys key
+find_over : (xs ys : List Pair) (key : List ℕ) → AllByRecursion (λ p. KeyBelow p.key key) xs → find (xs ++ ys) key ≡ find ys key
 find_over [] ys key h = refl
-find_over (p ∷ xs) ys key h = go (is_eq (key_order p.key key)) (λ k. find_over xs ys key k) h
-  where
-    go : (b : Bool) → (find xs key ≡ None → find (xs ++ ys) key ≡ find ys key) → cond b (Some p.value) (find xs key) ≡ None →
-        cond b (Some p.value) (find (xs ++ ys) key) ≡ find ys key
-    go true more k = absurd (some_none k)
-    go false more k = more k
+find_over (p ∷ xs) ys key h = cond-false (is_eq (key_order p.key key)) (Some p.value) (find (xs ++ ys) key) (not_eq_below p.key key h.0) ∙ find_over xs ys key h.1
 
 find_first : (xs ys : List Pair) (key : List ℕ) → find ys key ≡ None → find (xs ++ ys) key ≡ find xs key
 find_first [] ys key h = h
@@ -86,15 +95,10 @@ above_not x key ps h k = go (key_order x key) refl h
     go Equal e l = subst (λ y. Above y ps) (order_same x key e) k
     go Greater e l = above_more key x ps (greater_below x key e) k
 
-find_all_past : (level : ℕ) (ts : List (Tree level)) (key : List ℕ) → Rises (flat_map (pairs_below level) ts) →
-    AllByRecursion (λ u. KeyBelow (greatest_key level u) key) ts → find (flat_map (pairs_below level) ts) key ≡ None
-find_all_past level [] key h k = refl
-find_all_past level (t ∷ ts) key h k =
-    find_over (pairs_below level t) (flat_map (pairs_below level) ts) key (find_past (pairs_below level t) key (rises_front (pairs_below level t) (flat_map (pairs_below level) ts) h) k.0)
-    ∙ find_all_past level ts key (rises_back (pairs_below level t) (flat_map (pairs_below level) ts) h) k.1
-
 pub find_in_none : FindInNone
-find_in_none level ts key h k = find_all_past level ts key (rises (flat_map (pairs_below level) ts) h) k
+find_in_none level ts key h k =
+    let ps = flat_map (pairs_below level) ts in
+    ap (λ ps. find ps key) (sym (append-nil ps)) ∙ find_over ps [] key (trees_below level ts key (rises ps h) k)
 
 pub find_in_child : FindInChild
 find_in_child level before after t key h some past here =
@@ -104,7 +108,7 @@ find_in_child level before after t key h some past here =
     let whole : flat_map (pairs_below level) (before ++ t ∷ after) ≡ a ++ (b ++ c) = flat_map-append (pairs_below level) before (t ∷ after) in
     let r : Rises (a ++ (b ++ c)) = subst Rises whole (rises (flat_map (pairs_below level) (before ++ t ∷ after)) h) in
     ap (λ ps. find ps key) whole
-    ∙ find_over a (b ++ c) key (find_all_past level before key (rises_front a (b ++ c) r) past)
+    ∙ find_over a (b ++ c) key (trees_below level before key (rises_front a (b ++ c) r) past)
     ∙ find_first b c key (find_above c key (above_not (greatest_key level t) key c here (above_last b c some (rises_back a (b ++ c) r))))
 
 -- ---- places
@@ -123,3 +127,90 @@ nth_in_child level t ts n = (
   nth_front (pairs_below level t) (flat_map (pairs_below level) ts) n,
   nth_back (pairs_below level t) (flat_map (pairs_below level) ts) n,
 )
+
+-- ---- the trees of a map
+
+from_rises : (p : Pair) (ps : List Pair) → Above p.key ps → Rises ps → RisingFrom p.key (keys_in ps)
+from_rises p [] h k = tt
+from_rises p (q ∷ ps) h k = (h.0, from_rises q ps k.0 k.1)
+
+pub rising_is : (ps : List Pair) → Rises ps → Rising (keys_in ps)
+rising_is [] h = tt
+rising_is (p ∷ ps) h = from_rises p ps h.0 h.1
+
+some_pairs : (level : ℕ) (t : Tree level) → Full level t → 0 < length (pairs_below level t)
+some_pairs level t h = let r = full_pairs level t h in subst (λ ps. 0 < length ps) (sym r.1.1) (let s : 0 < length (r.0 ∷ r.1.0) = omega arith in s)
+
+all_node : (level : ℕ) → ((t : Tree level) → Full level t → NodeFull level t) → (ts : List (Tree level)) → AllByRecursion (Full level) ts → NodeFull (suc level) ts
+all_node level f [] h = tt
+all_node level f (t ∷ ts) h = ((some_pairs level t h.0, f t h.0), all_node level f ts h.1)
+
+node_full : (level : ℕ) (t : Tree level) → Full level t → NodeFull level t
+node_full zero t h = tt
+node_full (suc level) ts h = all_node level (node_full level) ts h.1
+
+pub in_bytes : (c : Chunk) (cs : List Chunk) → IsIn c cs → IsIn c.bytes (map (λ c. c.bytes) cs)
+in_bytes c [] h = h
+in_bytes c (d ∷ cs) (inl e) = inl (ap (λ x. x.bytes) e)
+in_bytes c (d ∷ cs) (inr h) = inr (in_bytes c cs h)
+
+pub root_full : (version : Version) (bits : ℕ) (m : List Pair) → NodeFull (tree_of (sha512_cut bits) version m).level (tree_of (sha512_cut bits) version m).tree
+unfolding split grow
+root_full version bits [] = tt
+root_full version bits (p ∷ m) = node_full (tree_of (sha512_cut bits) version (p ∷ m)).level (tree_of (sha512_cut bits) version (p ∷ m)).tree (tree_full (sha512_cut bits) version p m)
+
+pub root_is : (version : Version) (bits : ℕ) (m : List Pair) → AllByRecursion IsPair m → Rising (keys_in m) →
+    IsTreeOf version (chunk_bytes version bits m) (tree_of (sha512_cut bits) version m).level (tree_of (sha512_cut bits) version m).tree
+root_is version bits m lawful rising =
+    let t = tree_of (sha512_cut bits) version m in
+    let e : pairs_below t.level t.tree ≡ m = pairs_are (sha512_cut bits) version m in
+    record {
+      has = λ c h. in_bytes c (post_order version t.level t.tree) h;
+      lawful = subst (AllByRecursion IsPair) (sym e) lawful;
+      rising = subst (λ ps. Rising (keys_in ps)) (sym e) rising;
+      full = root_full version bits m;
+    }
+
+module _ (version : Version) (chunks : List (List ℕ)) (level : ℕ) (before after : List (Tree level)) (t : Tree level) (b : IsTreeOf version chunks (suc level) (before ++ t ∷ after)) where
+  good : AllByRecursion (λ t. (0 < length (pairs_below level t)) × NodeFull level t) (t ∷ after)
+  good = all_back (λ t. (0 < length (pairs_below level t)) × NodeFull level t) before (t ∷ after) b.full
+
+  pub child_some : 0 < length (pairs_below level t)
+  child_some = good.0.0
+
+  pub child_is : IsTreeOf version chunks level t
+  child_is =
+      let pre = flat_map (pairs_below level) before in
+      let own = pairs_below level t in
+      let rest = flat_map (pairs_below level) after in
+      let whole : flat_map (pairs_below level) (before ++ t ∷ after) ≡ pre ++ (own ++ rest) = flat_map-append (pairs_below level) before (t ∷ after) in
+      record {
+        has = (reference_leads version).1 chunks level before after t b.has;
+        lawful = all_front IsPair own rest (all_back IsPair pre (own ++ rest) (subst (AllByRecursion IsPair) whole b.lawful));
+        rising = rising_is own (rises_front own rest (rises_back pre (own ++ rest) (subst Rises whole (rises (flat_map (pairs_below level) (before ++ t ∷ after)) b.rising))));
+        full = good.0.1;
+      }
+
+-- ---- the laws of a look-up
+
+pub stands_at_root : StandsAtRoot
+stands_at_root version bits m key lawful rising =
+    let t = tree_of (sha512_cut bits) version m in
+    record { level = t.level; tree = t.tree; is = refl; below = root_is version bits m lawful rising; same = ap (λ ps. find ps key) (sym (pairs_are (sha512_cut bits) version m)) }
+
+pub first_entry : (version : Version) → FirstEntry version
+first_entry version level t ts child rest h lawful e =
+    child_spellings_apart version child.key (greatest_key level t) child.reference (reference_of (bytes_of version level t)) child.count (pair_count level t)
+    rest (flat_map (child_entry version level) ts) h.key (last_key_short (pairs_below level t) lawful)
+    (h.reference ∙ sym (reference_length (bytes_of version level t))) e
+
+pub steps_down : (version : Version) → StepsDown version
+steps_down version chunks m key chunk next level before after t apart b same past here is_in e =
+    let below = child_is version chunks level before after t b in
+    record {
+      level = level;
+      tree = t;
+      is = (reference_leads version).0 chunks level t next apart below.has is_in e;
+      below = below;
+      same = same ∙ find_in_child level before after t key b.rising (child_some version chunks level before after t b) past here;
+    }

@@ -7,10 +7,9 @@ use Rattle.prolly_entry.specs.Spelling.{key_spelling, count_spelling}
 use Rattle.prolly_entry.specs.declared.child.ChildAt.{ChildAt}
 use Rattle.prolly_entry.specs.declared.version.Version.{Version}
 use Rattle.prolly_entry.specs.declared.version.Version.TheVariants.{One, Two}
-use Rattle.prolly_entry.proofs.FrontBytes.{found_key, key_there, after_two}
-use Rattle.prolly_entry.proofs.Spellings.{child_spellings_apart}
-use Rattle.prolly_check.specs.Entries.{Child, IsChild, IsNode, BeginsWith, entry_of, entries_in, first_count, first_child, behind_child, children_in}
-use Rattle.prolly_check.proofs.EntryLists.{AreEntries, AreApart, one_more, one_less, nothing_left, Shrinks, Reads, reads_on, drop_front}
+use Rattle.prolly_entry.specs.lemmas.Spellings.{found_key, key_there, after_two, child_spellings_apart}
+use Rattle.prolly_check.specs.Entries.{NoNode, Child, IsChild, IsNode, BeginsWith, entry_of, entries_in, first_count, first_child, behind_child, children_in}
+use Rattle.prolly_check.proofs.EntryLists.{AreEntries, AreApart, one_more, one_less, nothing_left, rest_is_none, Shrinks, Reads, reads_on, drop_front}
 
 -- ---- the children that entries spell
 
@@ -36,6 +35,11 @@ module _ (version : Version) (entries rest : List ℕ) (c : Child) (b : BeginsWi
 pub node_left : (version : Version) (entries : List ℕ) → NoChildAt version entries → IsNode version entries [] → entries ≡ []
 node_left version entries none n = nothing_left (entry_of version) IsChild (node_apart version) entries
     (λ c more h e. none c.key c.reference c.count more h.key h.reference e) (node_entries version entries n)
+
+-- behind lawful child entries there are bytes that none begins
+pub no_node : (version : Version) → NoNode version
+no_node version done pairs rest lawful left none n =
+    rest_is_none (entry_of version) IsChild (node_apart version) done rest lawful left none (record { entries = n.children; is = n.is; lawful = n.lawful })
 
 -- ---- what is read of them
 

@@ -1,11 +1,10 @@
 -- Bytes have one verdict.
-use Rattle.std.proofs.Common.{◌≡◌, ℕ, zero, suc, ◌+◌, ◌≤◌, Bool, true, false, ◌||◌, nat_lt, List, [], ◌∷◌, ◌++◌, length, drop, Option, Some, None, Result, Ok, Err, refl, sym, ap, ◌∙◌, subst, arith, append_assoc}
+use Rattle.std.proofs.Common.{◌≡◌, ℕ, suc, ◌+◌, ◌≤◌, true, false, ◌||◌, nat_lt, List, [], ◌∷◌, ◌++◌, length, drop, Option, Some, None, Result, Ok, Err, refl, sym, ap, ◌∙◌, subst, arith, append_assoc}
 use Rattle.std.specs.Prelude.{slice_index}
 use Rattle.std.specs.Int.{w64, to_be_bytes, from_be_bytes}
 use Rattle.std.proofs.lemmas.Nat.{from_be_bytes-to_be_bytes_8}
 use Rattle.std.proofs.lemmas.List.{length-append}
-use Rattle.std.proofs.lemmas.Bool.{false≢true}
-use Rattle.std.proofs.lemmas.Bool.Decides.{nat_tests}
+use Rattle.std.proofs.lemmas.Bool.{false≢true, or_from, le-ltb}
 use Rattle.std.specs.List.{flat_map, AllByRecursion}
 use Rattle.prolly_entry.specs.Pair.{Pair}
 use Rattle.prolly_entry.specs.declared.version.Version.{Version}
@@ -15,11 +14,12 @@ use Rattle.prolly_check.specs.declared.fault.CheckFault.TheVariants.{BadChunk}
 use Rattle.prolly_check.specs.Content.{Content}
 use Rattle.prolly_check.specs.Header.{header_tests, header_fault, version_of}
 use Rattle.prolly_check.specs.Frames.{has_no_frame, ending_of, IsSmall}
-use Rattle.prolly_check.specs.Entries.{Holds, AllHold, IsRead}
+use Rattle.prolly_check.specs.Entries.{Holds, IsRead}
 use Rattle.prolly_check.specs.Verdict.{ReadVerdict, EndVerdict, FramesVerdict, HeaderVerdict, OneVerdict}
-use Rattle.prolly_entry.proofs.Files.{eight_bytes}
-use Rattle.prolly_entry.proofs.Spellings.{apart, cells}
-use Rattle.prolly_entry.proofs.Roots.{leaf_same}
+use Rattle.prolly_entry.specs.lemmas.Spellings.{eight_bytes}
+use Rattle.prolly_entry.specs.lemmas.Lists.{apart, cells, all_back}
+use Rattle.prolly_check.specs.Whole.{IsWhole, AreWhole}
+use Rattle.prolly_check.proofs.HeldPairs.{lists_are, are_whole}
 
 head_is : {A : Type 0} (x y : A) (xs ys : List A) → x ∷ xs ≡ y ∷ ys → x ≡ y
 head_is x y xs ys e = cc
@@ -29,15 +29,8 @@ tail_is x y xs ys e = cc
 
 -- ---- the frames
 
-not_less : (a b : ℕ) → b ≤ a → nat_lt a b ≡ false
-not_less a b h = grind (arith, nat_tests)
-
-neither : (a b : Bool) → a ≡ false → b ≡ false → (a || b) ≡ false
-neither true b e f = absurd (false≢true (sym e))
-neither false b e f = f
-
 long_enough : (long read size : ℕ) → read ≡ size → 8 + size ≤ long → (nat_lt long 8 || nat_lt long (8 + read)) ≡ false
-long_enough long read size e h = neither (nat_lt long 8) (nat_lt long (8 + read)) (not_less long 8 (omega arith)) (not_less long (8 + read) (omega arith))
+long_enough long read size e h = or_from (nat_lt long 8) (nat_lt long (8 + read)) (le-ltb long 8 (omega arith)) (le-ltb long (8 + read) (omega arith))
 
 begins_frame : (d more : List ℕ) → IsSmall d → has_no_frame (0x43 ∷ (to_be_bytes w64 (length d) ++ (d ++ more))) ≡ false
 begins_frame d more small = long_enough (length (to_be_bytes w64 (length d) ++ (d ++ more))) (from_be_bytes w64 (to_be_bytes w64 (length d))) (length d)
@@ -70,42 +63,27 @@ framed_one (c ∷ cs) (d ∷ ds) x y h k a b e =
 -- ---- the chunks
 
 module _ (version : Version) where
-  hold_same : (chunk : List ℕ) (ps qs : List Pair) → Holds version chunk ps → Holds version chunk qs → ps ≡ qs
-  hold_same [] ps qs h k = absurd h
-  hold_same (zero ∷ entries) ps qs h k = leaf_same ps qs h.lawful k.lawful (sym h.is ∙ k.is)
-  hold_same (suc level ∷ entries) ps qs h k = h.none ∙ sym k.none
+  -- a bad chunk is none of those that have lists
+  bad_apart : (chunk other : List ℕ) → ((pairs : List Pair) → Holds version chunk pairs → ⊥) → chunk ≡ other → IsWhole version other → ⊥
+  bad_apart chunk other bad e w = bad w.pairs (subst (λ c. Holds version c w.pairs) (sym e) w.holds)
 
-  all_same : (cs : List (List ℕ)) (ls ms : List (List Pair)) → AllHold version cs ls → AllHold version cs ms → ls ≡ ms
-  all_same [] [] [] h k = refl
-  all_same [] (l ∷ ls) ms h k = absurd h
-  all_same [] [] (m ∷ ms) h k = absurd k
-  all_same (c ∷ cs) [] ms h k = absurd h
-  all_same (c ∷ cs) (l ∷ ls) [] h k = absurd k
-  all_same (c ∷ cs) (l ∷ ls) (m ∷ ms) h k = ap (λ x. x ∷ ls) (hold_same c l m h.0 k.0) ∙ ap (λ xs. m ∷ xs) (all_same cs ls ms h.1 k.1)
+  not_bad : (cs before : List (List ℕ)) (c : List ℕ) (after : List (List ℕ)) → cs ≡ before ++ c ∷ after → AreWhole version cs → ((pairs : List Pair) → Holds version c pairs → ⊥) → ⊥
+  not_bad cs before c after e w bad = bad_apart c c bad refl (all_back (IsWhole version) before (c ∷ after) (subst (AreWhole version) e w)).0
 
-  not_bad : (before : List (List ℕ)) (c : List ℕ) (after : List (List ℕ)) (ls : List (List Pair)) → AllHold version (before ++ c ∷ after) ls → ((pairs : List Pair) → Holds version c pairs → ⊥) → ⊥
-  not_bad [] c after [] h bad = absurd h
-  not_bad [] c after (l ∷ ls) h bad = bad l h.0
-  not_bad (b ∷ before) c after [] h bad = absurd h
-  not_bad (b ∷ before) c after (l ∷ ls) h bad = not_bad before c after ls h.1 bad
-
-  bad_same : (before other : List (List ℕ)) (c d : List ℕ) (after rest : List (List ℕ)) (ls ms : List (List Pair)) → before ++ c ∷ after ≡ other ++ d ∷ rest →
-      AllHold version before ls → AllHold version other ms → ((pairs : List Pair) → Holds version c pairs → ⊥) → ((pairs : List Pair) → Holds version d pairs → ⊥) → length before ≡ length other
-  bad_same [] [] c d after rest ls ms e h k bad worse = refl
-  bad_same [] (o ∷ other) c d after rest ls [] e h k bad worse = absurd k
-  bad_same [] (o ∷ other) c d after rest ls (m ∷ ms) e h k bad worse = absurd (bad m (subst (λ x. Holds version x m) (sym (head_is c o after (other ++ d ∷ rest) e)) k.0))
-  bad_same (b ∷ before) [] c d after rest [] ms e h k bad worse = absurd h
-  bad_same (b ∷ before) [] c d after rest (l ∷ ls) ms e h k bad worse = absurd (worse l (subst (λ x. Holds version x l) (head_is b d (before ++ c ∷ after) rest e) h.0))
-  bad_same (b ∷ before) (o ∷ other) c d after rest [] ms e h k bad worse = absurd h
-  bad_same (b ∷ before) (o ∷ other) c d after rest (l ∷ ls) [] e h k bad worse = absurd k
-  bad_same (b ∷ before) (o ∷ other) c d after rest (l ∷ ls) (m ∷ ms) e h k bad worse =
-      ap suc (bad_same before other c d after rest ls ms (tail_is b o (before ++ c ∷ after) (other ++ d ∷ rest) e) h.1 k.1 bad worse)
+  bad_same : (before other : List (List ℕ)) (c d : List ℕ) (after rest : List (List ℕ)) → before ++ c ∷ after ≡ other ++ d ∷ rest → AreWhole version before → AreWhole version other →
+      ((pairs : List Pair) → Holds version c pairs → ⊥) → ((pairs : List Pair) → Holds version d pairs → ⊥) → length before ≡ length other
+  bad_same [] [] c d after rest e h k bad worse = refl
+  bad_same [] (o ∷ other) c d after rest e h k bad worse = absurd (bad_apart c o bad (head_is c o after (other ++ d ∷ rest) e) k.0)
+  bad_same (b ∷ before) [] c d after rest e h k bad worse = absurd (bad_apart d b worse (sym (head_is b d (before ++ c ∷ after) rest e)) h.0)
+  bad_same (b ∷ before) (o ∷ other) c d after rest e h k bad worse =
+      ap suc (bad_same before other c d after rest (tail_is b o (before ++ c ∷ after) (other ++ d ∷ rest) e) h.1 k.1 bad worse)
 
   read_one : (cs : List (List ℕ)) (r s : Result (List (List Pair)) CheckFault) → IsRead version cs r → IsRead version cs s → r ≡ s
-  read_one cs (Ok ls) (Ok ms) h k = ap Ok (all_same cs ls ms h k)
-  read_one cs (Ok ls) (Err f) h k = absurd (not_bad k.before k.chunk k.after ls (subst (λ x. AllHold version x ls) k.whole h) k.bad)
-  read_one cs (Err f) (Ok ms) h k = absurd (not_bad h.before h.chunk h.after ms (subst (λ x. AllHold version x ms) h.whole k) h.bad)
-  read_one cs (Err f) (Err g) h k = ap Err (h.is ∙ ap BadChunk (bad_same h.before k.before h.chunk k.chunk h.after k.after h.lists k.lists (sym h.whole ∙ k.whole) h.good k.good h.bad k.bad) ∙ sym k.is)
+  read_one cs (Ok ls) (Ok ms) h k = ap Ok (lists_are version cs ls h ∙ sym (lists_are version cs ms k))
+  read_one cs (Ok ls) (Err f) h k = absurd (not_bad cs k.before k.chunk k.after k.whole (are_whole version cs ls h) k.bad)
+  read_one cs (Err f) (Ok ms) h k = absurd (not_bad cs h.before h.chunk h.after h.whole (are_whole version cs ms k) h.bad)
+  read_one cs (Err f) (Err g) h k = ap Err (h.is ∙ ap BadChunk (bad_same h.before k.before h.chunk k.chunk h.after k.after (sym h.whole ∙ k.whole)
+      (are_whole version h.before h.lists h.good) (are_whole version k.before k.lists k.good) h.bad k.bad) ∙ sym k.is)
 
 -- ---- the verdicts
 

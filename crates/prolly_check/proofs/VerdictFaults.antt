@@ -1,10 +1,12 @@
 -- A verdict is never want of memory, a failed read, or that there are too many bytes.
-use Rattle.std.proofs.Common.{◌≡◌, ℕ, suc, ◌≤◌, Bool, true, false, not, ◌==◌, nat_lt, cond, List, [], ◌∷◌, ◌++◌, length, Option, Some, None, Result, Ok, Err, sym, subst}
-use Rattle.std.specs.Prelude.{slice_index}
+use Rattle.std.proofs.Common.{◌≡◌, ℕ, suc, ◌≤◌, Bool, not, ◌==◌, nat_lt, List, [], ◌∷◌, length, Option, Some, None, Result, Ok, Err, inl, inr, sym, subst}
+use Rattle.std.specs.Prelude.{slice_index, IfSome, IfErr}
+use Rattle.std.proofs.lemmas.Bool.{cond_both}
 use Rattle.std.specs.Str.{bytes_eq}
 use Rattle.std.specs.List.{list_any}
 use Rattle.prolly_entry.specs.declared.version.Version.{Version}
 use Rattle.prolly_entry.specs.Pair.{Pair}
+use Rattle.prolly_entry.specs.Position.{Position}
 use Rattle.prolly_entry.specs.Reference.{reference_of}
 use Rattle.prolly_entry.specs.Overlay.{or_else}
 use Rattle.prolly_check.specs.declared.fault.CheckFault.{CheckFault}
@@ -14,10 +16,11 @@ use Rattle.prolly_check.specs.Check.{IsRefusal}
 use Rattle.prolly_check.specs.Header.{header_tests, header_fault, version_of}
 use Rattle.prolly_check.specs.Frames.{ending_of}
 use Rattle.prolly_check.specs.Entries.{IsRead}
-use Rattle.prolly_check.specs.Judged.{is_rising, order_fault, difference, end_fault, reuse, chunk_bytes, ending_for, or_content}
+use Rattle.prolly_check.specs.Order.{rises_behind, last_behind}
+use Rattle.prolly_check.specs.Judged.{order_fault, difference, end_fault, reuse, chunk_bytes, ending_for, canonical_fault, or_content}
 use Rattle.prolly_check.specs.Refusal.{UnlessMemory}
 use Rattle.prolly_check.specs.Verdict.{ReadVerdict, EndVerdict, HeaderVerdict, IsVerdict}
-use Rattle.prolly_entry.proofs.Parts.{flat}
+use Rattle.prolly_tree.specs.lemmas.Splits.{flat}
 
 abbrev pub OfBytes : CheckFault → Type 0
 OfBytes faults.Memory = ⊥
@@ -26,20 +29,10 @@ OfBytes faults.TooLong = ⊥
 OfBytes fault = Unit {0}
 
 abbrev AnyOfBytes : Option CheckFault → Type 0
-AnyOfBytes None = Unit {0}
-AnyOfBytes (Some fault) = OfBytes fault
+AnyOfBytes fault = IfSome fault OfBytes
 
 abbrev ErrOfBytes : {A : Type 0} → Result A CheckFault → Type 0
-ErrOfBytes (Ok x) = Unit {0}
-ErrOfBytes (Err fault) = OfBytes fault
-
-either : (b : Bool) (x y : Option CheckFault) → AnyOfBytes x → AnyOfBytes y → AnyOfBytes (cond b x y)
-either true x y h k = h
-either false x y h k = k
-
-either_result : {A : Type 0} (b : Bool) (x y : Result A CheckFault) → ErrOfBytes x → ErrOfBytes y → ErrOfBytes (cond b x y)
-either_result true x y h k = h
-either_result false x y h k = k
+ErrOfBytes result = IfErr result OfBytes
 
 then : (a b : Option CheckFault) → AnyOfBytes a → AnyOfBytes b → AnyOfBytes (or_else a b)
 then None b h k = k
@@ -48,29 +41,34 @@ then (Some fault) b h k = h
 of_header : (tests : List (ℕ → Bool)) (bytes : List ℕ) → AnyOfBytes (header_fault tests bytes)
 of_header [] bytes = tt
 of_header (test ∷ tests) [] = tt
-of_header (test ∷ tests) (b ∷ bytes) = either (test b) (header_fault tests bytes) (Some faults.BadHeader) (of_header tests bytes) tt
+of_header (test ∷ tests) (b ∷ bytes) = cond_both (test b) (header_fault tests bytes) (Some faults.BadHeader) AnyOfBytes (λ _. of_header tests bytes) (λ _. tt)
 
 of_ending : (number : ℕ) (bytes : List ℕ) → ErrOfBytes (ending_of number bytes)
 of_ending number [] = tt
 of_ending number (b ∷ rest) =
-    either_result (b == 0x43) (Err faults.Truncated) _ tt
-    (either_result (not (b == 0x45)) (Err (faults.BadFrame number)) _ tt
-    (either_result (nat_lt (length rest) 28) (Err faults.Truncated) _ tt (either_result (nat_lt 28 (length rest)) (Err faults.Trailing) (Ok rest) tt tt)))
+    cond_both (b == 0x43) (Err faults.Truncated) _ ErrOfBytes (λ _. tt)
+    (λ _. cond_both (not (b == 0x45)) (Err (faults.BadFrame number)) _ ErrOfBytes (λ _. tt)
+    (λ _. cond_both (nat_lt (length rest) 28) (Err faults.Truncated) _ ErrOfBytes (λ _. tt)
+    (λ _. cond_both (nat_lt 28 (length rest)) (Err faults.Trailing) (Ok rest) ErrOfBytes (λ _. tt) (λ _. tt))))
 
-of_order : (before : List Pair) (number : ℕ) (lists : List (List Pair)) → AnyOfBytes (order_fault before number lists)
-of_order before number [] = tt
-of_order before number (ps ∷ lists) = either (is_rising (before ++ ps)) (order_fault (before ++ ps) (suc number) lists) (Some (faults.KeysOutOfOrder number)) (of_order (before ++ ps) (suc number) lists) tt
+of_order : (last : Position) (number : ℕ) (lists : List (List Pair)) → AnyOfBytes (order_fault last number lists)
+of_order last number [] = tt
+of_order last number (ps ∷ lists) =
+    cond_both (rises_behind last ps) (order_fault (last_behind last ps) (suc number) lists) (Some (faults.KeysOutOfOrder number)) AnyOfBytes
+    (λ _. of_order (last_behind last ps) (suc number) lists) (λ _. tt)
 
 of_difference : (number : ℕ) (cs ds : List (List ℕ)) → AnyOfBytes (difference number cs ds)
 of_difference number [] [] = tt
 of_difference number [] (d ∷ ds) = tt
 of_difference number (c ∷ cs) [] = tt
-of_difference number (c ∷ cs) (d ∷ ds) = either (bytes_eq c d) (difference (suc number) cs ds) (Some (faults.NotCanonical number)) (of_difference (suc number) cs ds) tt
+of_difference number (c ∷ cs) (d ∷ ds) =
+    cond_both (bytes_eq c d) (difference (suc number) cs ds) (Some (faults.NotCanonical number)) AnyOfBytes (λ _. of_difference (suc number) cs ds) (λ _. tt)
 
 of_reuse : (before : List (List ℕ)) (number : ℕ) (cs : List (List ℕ)) → AnyOfBytes (reuse before number cs)
 of_reuse before number [] = tt
 of_reuse before number (c ∷ cs) =
-    either (list_any (λ d. bytes_eq (reference_of d) (reference_of c)) before) (Some (faults.Collision number)) (reuse (c ∷ before) (suc number) cs) tt (of_reuse (c ∷ before) (suc number) cs)
+    cond_both (list_any (λ d. bytes_eq (reference_of d) (reference_of c)) before) (Some (faults.Collision number)) (reuse (c ∷ before) (suc number) cs) AnyOfBytes
+    (λ _. tt) (λ _. of_reuse (c ∷ before) (suc number) cs)
 
 of_content : (content : Content) (fault : Option CheckFault) → AnyOfBytes fault → ErrOfBytes (or_content content fault)
 of_content content None h = tt
@@ -80,13 +78,13 @@ of_read : (version : Version) (bits : ℕ) (cs : List (List ℕ)) (ending : List
     IsRead version cs read → ReadVerdict version bits cs ending read verdict → ErrOfBytes verdict
 of_read version bits cs ending (Ok lists) verdict is so =
     let pairs = flat lists in
-    let a = order_fault [] 0 lists in
-    let b = difference 0 (chunk_bytes version bits pairs) cs in
-    let c = end_fault ending (ending_for version bits pairs) in
-    subst ErrOfBytes (sym so) (of_content (record { version = version; bits = bits; pairs = pairs }) (or_else a (or_else b (or_else c (reuse [] 0 cs))))
-    (then a (or_else b (or_else c (reuse [] 0 cs))) (of_order [] 0 lists)
-    (then b (or_else c (reuse [] 0 cs)) (of_difference 0 (chunk_bytes version bits pairs) cs)
-    (then c (reuse [] 0 cs) (either (bytes_eq ending (ending_for version bits pairs)) None (Some faults.BadEnd) tt tt) (of_reuse [] 0 cs)))))
+    let chunks_fault = difference 0 (chunk_bytes version bits pairs) cs in
+    let last_fault = end_fault ending (ending_for version bits pairs) in
+    subst ErrOfBytes (sym so) (of_content (record { version = version; bits = bits; pairs = pairs }) (or_else (canonical_fault version bits cs ending lists) (reuse [] 0 cs))
+    (then (canonical_fault version bits cs ending lists) (reuse [] 0 cs)
+    (then (order_fault None 0 lists) (or_else chunks_fault last_fault) (of_order None 0 lists)
+    (then chunks_fault last_fault (of_difference 0 (chunk_bytes version bits pairs) cs) (cond_both (bytes_eq ending (ending_for version bits pairs)) None (Some faults.BadEnd) AnyOfBytes (λ _. tt) (λ _. tt))))
+    (of_reuse [] 0 cs)))
 of_read version bits cs ending (Err fault) verdict is so = subst ErrOfBytes (sym so) (subst OfBytes (sym is.is) tt)
 
 of_end : (version : Version) (bits : ℕ) (cs : List (List ℕ)) (ending : Result (List ℕ) CheckFault) (verdict : Result Content CheckFault) → ErrOfBytes ending →
@@ -101,11 +99,17 @@ verdict_of_bytes bytes fault v = go (header_fault header_tests bytes) (of_header
     go (Some f) h v = subst ErrOfBytes (sym v) h
     go None h v = of_end (version_of (slice_index bytes 4)) (slice_index bytes 5) v.chunks v.ending (Err fault) (subst ErrOfBytes v.is.is (of_ending (length v.chunks) v.is.tail)) v.so
 
--- a refusal of the bytes that were read
+-- ---- refusals of the bytes that were read
+
+pub no_failed_read : (bytes : List ℕ) → UnlessMemory (λ fault. IsVerdict bytes (Err fault)) faults.Read → ⊥
+no_failed_read bytes (inl e) = cc
+no_failed_read bytes (inr v) = verdict_of_bytes bytes faults.Read v
+
 pub refusal : (read bytes : List ℕ) (max_bytes : ℕ) (fault : CheckFault) → length read ≤ max_bytes → read ≡ bytes → UnlessMemory (λ fault. IsVerdict read (Err fault)) fault → IsRefusal bytes max_bytes fault
-refusal read bytes max_bytes fault within e h = subst (λ b. IsRefusal b max_bytes fault) e (go fault h)
+refusal read bytes max_bytes fault within e (inl memory) = subst (IsRefusal bytes max_bytes) (sym memory) tt
+refusal read bytes max_bytes fault within e (inr h) = subst (λ b. IsRefusal b max_bytes fault) e (go fault h)
   where
-    go : (fault : CheckFault) → UnlessMemory (λ fault. IsVerdict read (Err fault)) fault → IsRefusal read max_bytes fault
+    go : (fault : CheckFault) → IsVerdict read (Err fault) → IsRefusal read max_bytes fault
     go faults.Memory h = tt
     go faults.Read h = tt
     go faults.TooLong h = absurd (verdict_of_bytes read faults.TooLong h)

@@ -1,22 +1,24 @@
 -- What is accepted is the file of a map.
-use Rattle.std.proofs.Common.{◌≡◌, ℕ, zero, suc, ◌≤◌, Bool, true, false, not, ◌&&◌, ◌||◌, ◌==◌, nat_le, nat_lt, cond, List, [], ◌∷◌, ◌++◌, length, map, drop, Option, Some, None, Result, Ok, Err, Ordering, refl, sym, ap, ◌∙◌, subst, arith, append_assoc, append-nil}
+use Rattle.std.proofs.Common.{◌≡◌, ◌↔◌, ℕ, zero, suc, ◌≤◌, Bool, true, false, not, ◌||◌, ◌==◌, nat_le, nat_lt, cond, List, [], ◌∷◌, ◌++◌, length, map, drop, Option, Some, None, Result, Ok, Err, Ordering, refl, sym, ap, ◌∙◌, subst}
 use Rattle.std.specs.declared.cmp.Ordering.TheVariants.{Less, Equal, Greater}
 use Rattle.std.specs.Ordering.{is_lt}
 use Rattle.std.specs.Prelude.{slice_index}
 use Rattle.std.specs.Str.{bytes_eq}
 use Rattle.std.proofs.lemmas.Slice.Eq.{bytes_eq-Decides}
-use Rattle.std.proofs.lemmas.Bool.{leb-true, false≢true}
+use Rattle.std.proofs.lemmas.Bool.{leb-true, false≢true, and_parts, and_from, or_parts, not-false, cond-true, cond-false, or_from, false_from_ne_true}
 use Rattle.std.proofs.lemmas.Bool.Decides.{Decides-eqb}
 use Rattle.std.specs.List.{flat_map, list_any, AllByRecursion}
 use Rattle.prolly_entry.specs.Keys.{key_order, Rising, RisingFrom}
 use Rattle.prolly_entry.specs.Pair.{Pair, IsPair}
+use Rattle.prolly_entry.specs.Position.{Position}
+use Rattle.prolly_check.proofs.OrderSteps.{rises_append}
 use Rattle.prolly_entry.specs.declared.version.Version.TheVariants.{One, Two}
 use Rattle.prolly_entry.specs.declared.version.Version.{Version}
 use Rattle.prolly_entry.specs.Cut.{sha512_cut}
 use Rattle.prolly_entry.specs.Reference.{reference_of}
 use Rattle.prolly_entry.specs.Version.{version_byte}
-use Rattle.prolly_entry.specs.Chunk.{Chunk, chunks}
-use Rattle.prolly_entry.specs.File.{header, frame}
+use Rattle.prolly_tree.specs.Chunk.{Chunk, chunks}
+use Rattle.prolly_tree.specs.File.{header, frame}
 use Rattle.prolly_entry.specs.Overlay.{or_else}
 use Rattle.prolly_file.specs.Frame.{framed}
 use Rattle.prolly_check.specs.declared.fault.CheckFault.{CheckFault}
@@ -25,24 +27,20 @@ use Rattle.prolly_check.specs.Content.{Content}
 use Rattle.prolly_check.specs.Header.{header_tests, header_fault, version_of}
 use Rattle.prolly_check.specs.Frames.{ending_of, IsFramed}
 use Rattle.prolly_check.specs.Entries.{Holds, AllHold, IsRead}
-use Rattle.prolly_check.specs.Judged.{is_rising, order_fault, difference, end_fault, reuse, chunk_bytes, ending_for, or_content, judged}
+use Rattle.prolly_check.specs.Order.{rises_behind, last_behind}
+use Rattle.prolly_check.specs.Judged.{order_fault, difference, end_fault, reuse, chunk_bytes, ending_for, canonical_fault, or_content, judged}
 use Rattle.prolly_check.specs.Verdict.{ReadVerdict, EndVerdict, HeaderVerdict, IsVerdict, AllApart, IsFileOf}
-use Rattle.prolly_entry.proofs.Parts.{flat}
-use Rattle.prolly_entry.proofs.Groups.{all_append}
+use Rattle.prolly_tree.specs.lemmas.Splits.{flat}
+use Rattle.prolly_entry.specs.lemmas.Lists.{all_append}
 
 pub some_none : {A : Type 0} {x : A} → ◌≡◌ {A = Option A} (Some x) None → ⊥
 some_none e = cc
 
+pub ok_same : (a b : Content) → ◌≡◌ {A = Result Content CheckFault} (Ok a) (Ok b) → a ≡ b
+ok_same a b e = cc
+
 pub err_ok : {A : Type 0} {x : A} {f : CheckFault} → ◌≡◌ {A = Result A CheckFault} (Err f) (Ok x) → ⊥
 err_ok e = cc
-
-pub and_both : (a b : Bool) → (a && b) ≡ true → (a ≡ true) × (b ≡ true)
-and_both true b h = (refl, h)
-and_both false b h = absurd (false≢true h)
-
-pub or_neither : (a b : Bool) → (a || b) ≡ false → (a ≡ false) × (b ≡ false)
-or_neither true b h = absurd (false≢true (sym h))
-or_neither false b h = (refl, h)
 
 pub if_ok : {A : Type 0} (t : Bool) (f : CheckFault) (r : Result A CheckFault) (x : A) → cond t (Err f) r ≡ Ok x → (t ≡ false) × (r ≡ Ok x)
 if_ok true f r x e = absurd (err_ok e)
@@ -58,13 +56,18 @@ unless_none false f o e = (refl, e)
 
 -- ---- the header
 
-pub passes : (test : ℕ → Bool) (tests : List (ℕ → Bool)) (b : ℕ) (bytes : List ℕ) → header_fault (test ∷ tests) (b ∷ bytes) ≡ None → (test b ≡ true) × (header_fault tests bytes ≡ None)
-passes test tests b bytes h = if_none (test b) BadHeader (header_fault tests bytes) h
+-- the bytes begin with one that passes the test
+record Passes (test : ℕ → Bool) (tests : List (ℕ → Bool)) (bytes : List ℕ) : Type 0 where
+  byte : ℕ
+  rest : List ℕ
+  is : bytes ≡ byte ∷ rest
+  so : test byte ≡ true
+  more : header_fault tests rest ≡ None
 
-header_long : (tests : List (ℕ → Bool)) (bytes : List ℕ) → header_fault tests bytes ≡ None → length tests ≤ length bytes
-header_long [] bytes h = omega arith
-header_long (t ∷ ts) [] h = absurd (some_none h)
-header_long (t ∷ ts) (b ∷ bytes) h = let r : length ts ≤ length bytes = header_long ts bytes (passes t ts b bytes h).1 in omega arith
+passes : (test : ℕ → Bool) (tests : List (ℕ → Bool)) (bytes : List ℕ) → header_fault (test ∷ tests) bytes ≡ None → Passes test tests bytes
+passes test tests [] h = absurd (some_none h)
+passes test tests (b ∷ bytes) h =
+    let s = if_none (test b) BadHeader (header_fault tests bytes) h in record { byte = b; rest = bytes; is = refl; so = s.0; more = s.1 }
 
 pub record HeaderIs (bytes : List ℕ) : Type 0 where
   pub bits : slice_index bytes 5 ≤ 24
@@ -77,34 +80,23 @@ version_ok v h = go (v == 1) refl h
     go true e k = (Decides-eqb v 1).0 e ∙ sym (ap (λ t. version_byte (cond t One Two)) e)
     go false e k = (Decides-eqb v 2).0 k ∙ sym (ap (λ t. version_byte (cond t One Two)) e)
 
-six_same : (a b c d v w q : ℕ) (rest : List ℕ) → a ≡ 0x50 → b ≡ 0x52 → c ≡ 0x4C → d ≡ 0x59 → v ≡ w →
-    ◌≡◌ {A = List ℕ} (a ∷ b ∷ c ∷ d ∷ v ∷ q ∷ rest) (0x50 ∷ 0x52 ∷ 0x4C ∷ 0x59 ∷ w ∷ q ∷ rest)
-six_same a b c d v w q rest e f g h i = cc
+six_is : (bytes : List ℕ) (v q : ℕ) (rest : List ℕ) → bytes ≡ 0x50 ∷ 0x52 ∷ 0x4C ∷ 0x59 ∷ v ∷ q ∷ rest → v ≡ version_byte (version_of v) → q ≤ 24 → HeaderIs bytes
+six_is bytes v q rest e is few =
+    subst HeaderIs (sym e) (record { bits = few; is = ap (λ w. 0x50 ∷ 0x52 ∷ 0x4C ∷ 0x59 ∷ w ∷ q ∷ rest) is })
 
 pub header_ok : (bytes : List ℕ) → header_fault header_tests bytes ≡ None → HeaderIs bytes
-header_ok [] h = absurd (let l : 6 ≤ 0 = header_long header_tests [] h in omega arith)
-header_ok (a ∷ []) h = absurd (let l : 6 ≤ 1 = header_long header_tests (a ∷ []) h in omega arith)
-header_ok (a ∷ b ∷ []) h = absurd (let l : 6 ≤ 2 = header_long header_tests (a ∷ b ∷ []) h in omega arith)
-header_ok (a ∷ b ∷ c ∷ []) h = absurd (let l : 6 ≤ 3 = header_long header_tests (a ∷ b ∷ c ∷ []) h in omega arith)
-header_ok (a ∷ b ∷ c ∷ d ∷ []) h = absurd (let l : 6 ≤ 4 = header_long header_tests (a ∷ b ∷ c ∷ d ∷ []) h in omega arith)
-header_ok (a ∷ b ∷ c ∷ d ∷ v ∷ []) h = absurd (let l : 6 ≤ 5 = header_long header_tests (a ∷ b ∷ c ∷ d ∷ v ∷ []) h in omega arith)
-header_ok (a ∷ b ∷ c ∷ d ∷ v ∷ q ∷ rest) h =
-    let s1 = passes (λ b. b == 0x50) (drop 1 header_tests) a (b ∷ c ∷ d ∷ v ∷ q ∷ rest) h in
-    let s2 = passes (λ b. b == 0x52) (drop 2 header_tests) b (c ∷ d ∷ v ∷ q ∷ rest) s1.1 in
-    let s3 = passes (λ b. b == 0x4C) (drop 3 header_tests) c (d ∷ v ∷ q ∷ rest) s2.1 in
-    let s4 = passes (λ b. b == 0x59) (drop 4 header_tests) d (v ∷ q ∷ rest) s3.1 in
-    let s5 = passes (λ b. (b == 1) || (b == 2)) (drop 5 header_tests) v (q ∷ rest) s4.1 in
-    let s6 = passes (λ b. nat_le b 24) [] q rest s5.1 in
-    record {
-      bits = leb-true q 24 s6.0;
-      is = six_same a b c d v (version_byte (version_of v)) q rest ((Decides-eqb a 0x50).0 s1.0) ((Decides-eqb b 0x52).0 s2.0) ((Decides-eqb c 0x4C).0 s3.0) ((Decides-eqb d 0x59).0 s4.0) (version_ok v s5.0);
-    }
+header_ok bytes h =
+    let p = passes (λ b. b == 0x50) (drop 1 header_tests) bytes h in
+    let r = passes (λ b. b == 0x52) (drop 2 header_tests) p.rest p.more in
+    let l = passes (λ b. b == 0x4C) (drop 3 header_tests) r.rest r.more in
+    let y = passes (λ b. b == 0x59) (drop 4 header_tests) l.rest l.more in
+    let v = passes (λ b. (b == 1) || (b == 2)) (drop 5 header_tests) y.rest y.more in
+    let q = passes (λ b. nat_le b 24) [] v.rest v.more in
+    let front : bytes ≡ 0x50 ∷ 0x52 ∷ 0x4C ∷ 0x59 ∷ v.byte ∷ q.byte ∷ q.rest =
+    cc (p.is, r.is, l.is, y.is, v.is, q.is, (Decides-eqb p.byte 0x50).0 p.so, (Decides-eqb r.byte 0x52).0 r.so, (Decides-eqb l.byte 0x4C).0 l.so, (Decides-eqb y.byte 0x59).0 y.so) in
+    six_is bytes v.byte q.byte q.rest front (version_ok v.byte v.so) (leb-true q.byte 24 q.so)
 
 -- ---- the end
-
-pub not_false : (t : Bool) → not t ≡ false → t ≡ true
-not_false true h = refl
-not_false false h = absurd (false≢true (sym h))
 
 end_same : (b : ℕ) (rest ending : List ℕ) → b ≡ 0x45 → ◌≡◌ {A = Result (List ℕ) CheckFault} (Ok rest) (Ok ending) → ◌≡◌ {A = List ℕ} (b ∷ rest) (0x45 ∷ ending)
 end_same b rest ending e f = cc
@@ -116,7 +108,7 @@ ending_ok number (b ∷ rest) ending e =
     let s2 = if_ok (not (b == 0x45)) (BadFrame number) (cond (nat_lt (length rest) 28) (Err Truncated) (cond (nat_lt 28 (length rest)) (Err Trailing) (Ok rest))) ending s1.1 in
     let s3 = if_ok (nat_lt (length rest) 28) Truncated (cond (nat_lt 28 (length rest)) (Err Trailing) (Ok rest)) ending s2.1 in
     let s4 = if_ok (nat_lt 28 (length rest)) Trailing (Ok rest) ending s3.1 in
-    end_same b rest ending ((Decides-eqb b 0x45).0 (not_false (b == 0x45) s2.0)) s4.1
+    end_same b rest ending ((Decides-eqb b 0x45).0 (not-false (b == 0x45) s2.0)) s4.1
 
 -- ---- the pairs
 
@@ -133,25 +125,35 @@ hold_pairs version (c ∷ cs) (ps ∷ lists) h = all_append IsPair ps (flat list
 
 -- ---- their order
 
-is_less : (o : Ordering) → is_lt o ≡ true → o ≡ Less
+pub is_less : (o : Ordering) → is_lt o ≡ true → o ≡ Less
 is_less Less h = refl
 is_less Equal h = absurd (false≢true h)
 is_less Greater h = absurd (false≢true h)
 
-rising_from_ok : (p : Pair) (ps : List Pair) → is_rising (p ∷ ps) ≡ true → RisingFrom p.key (map (λ p. p.key) ps)
-rising_from_ok p [] h = tt
-rising_from_ok p (q ∷ ps) h = let s = and_both (is_lt (key_order p.key q.key)) (is_rising (q ∷ ps)) h in
-    (is_less (key_order p.key q.key) s.0, rising_from_ok q ps s.1)
+rises_is : (key : List ℕ) (ps : List Pair) → (rises_behind (Some key) ps ≡ true) ↔ RisingFrom key (map (λ p. p.key) ps)
+rises_is key [] = (λ h. tt, λ h. refl)
+rises_is key (p ∷ ps) =
+    let here = is_lt (key_order key p.key) in
+    let more = rises_is p.key ps in (
+      λ h. let s = and_parts here (rises_behind (Some p.key) ps) h in (is_less (key_order key p.key) s.0, more.0 s.1),
+      λ h. and_from here (rises_behind (Some p.key) ps) (ap is_lt h.0) (more.1 h.1),
+    )
 
-rising_ok : (ps : List Pair) → is_rising ps ≡ true → Rising (map (λ p. p.key) ps)
-rising_ok [] h = tt
-rising_ok (p ∷ ps) h = rising_from_ok p ps h
+pub rising_is : (ps : List Pair) → (rises_behind None ps ≡ true) ↔ Rising (map (λ p. p.key) ps)
+rising_is [] = (λ h. tt, λ h. refl)
+rising_is (p ∷ ps) = rises_is p.key ps
 
-order_ok : (before : List Pair) (number : ℕ) (lists : List (List Pair)) → is_rising before ≡ true → order_fault before number lists ≡ None → is_rising (before ++ flat lists) ≡ true
-order_ok before number [] r h = subst (λ ps. is_rising ps ≡ true) (sym (append-nil before)) r
-order_ok before number (ps ∷ lists) r h =
-    let s = if_none (is_rising (before ++ ps)) (KeysOutOfOrder number) (order_fault (before ++ ps) (suc number) lists) h in
-    subst (λ qs. is_rising qs ≡ true) (append_assoc before ps (flat lists)) (order_ok (before ++ ps) (suc number) lists s.0 s.1)
+pub order_is : (last : Position) (number : ℕ) (lists : List (List Pair)) → (order_fault last number lists ≡ None) ↔ (rises_behind last (flat lists) ≡ true)
+order_is last number [] = (λ h. refl, λ h. refl)
+order_is last number (ps ∷ lists) =
+    let here = rises_behind last ps in
+    let there = rises_behind (last_behind last ps) (flat lists) in
+    let rest = order_fault (last_behind last ps) (suc number) lists in
+    let more = order_is (last_behind last ps) (suc number) lists in
+    let parts = rises_append last ps (flat lists) in (
+      λ h. let s = if_none here (KeysOutOfOrder number) rest h in parts ∙ and_from here there s.0 (more.0 s.1),
+      λ h. let s = and_parts here there (sym parts ∙ h) in cond-true here rest (Some (KeysOutOfOrder number)) s.0 ∙ more.1 s.1,
+    )
 
 -- ---- the one file
 
@@ -163,39 +165,55 @@ difference_ok number (c ∷ cs) (d ∷ ds) h =
     let s = if_none (bytes_eq c d) (NotCanonical number) (difference (suc number) cs ds) h in
     ap (λ x. x ∷ cs) ((bytes_eq-Decides c d).0 s.0) ∙ ap (λ xs. d ∷ xs) (difference_ok (suc number) cs ds s.1)
 
-end_ok : (found wanted : List ℕ) → end_fault found wanted ≡ None → found ≡ wanted
-end_ok found wanted h = (bytes_eq-Decides found wanted).0 (if_none (bytes_eq found wanted) BadEnd None h).0
+pub end_is : (found wanted : List ℕ) → (end_fault found wanted ≡ None) ↔ (found ≡ wanted)
+end_is found wanted = (
+  λ h. (bytes_eq-Decides found wanted).0 (if_none (bytes_eq found wanted) BadEnd None h).0,
+  λ e. cond-true (bytes_eq found wanted) None (Some BadEnd) ((bytes_eq-Decides found wanted).1 e),
+)
 
 -- ---- references
 
 abbrev pub Other : List ℕ → List ℕ → Type 0
 Other c d = reference_of d ≡ reference_of c → ⊥
 
-differ_refs : (c : List ℕ) (before : List (List ℕ)) → list_any (λ d. bytes_eq (reference_of d) (reference_of c)) before ≡ false → AllByRecursion (Other c) before
-differ_refs c [] h = tt
-differ_refs c (d ∷ ds) h =
-    let s = or_neither (bytes_eq (reference_of d) (reference_of c)) (list_any (λ d. bytes_eq (reference_of d) (reference_of c)) ds) h in
-    ((λ e. false≢true (sym s.0 ∙ (bytes_eq-Decides (reference_of d) (reference_of c)).1 e)), differ_refs c ds s.1)
+is_new : (c : List ℕ) (before : List (List ℕ)) → (list_any (λ d. bytes_eq (reference_of d) (reference_of c)) before ≡ false) ↔ AllByRecursion (Other c) before
+is_new c [] = (λ h. tt, λ h. refl)
+is_new c (d ∷ ds) =
+    let same = bytes_eq (reference_of d) (reference_of c) in
+    let others = list_any (λ d. bytes_eq (reference_of d) (reference_of c)) ds in
+    let decides = bytes_eq-Decides (reference_of d) (reference_of c) in
+    let more = is_new c ds in (
+      λ h. let s = or_parts same others h in ((λ e. false≢true (sym s.0 ∙ decides.1 e)), more.0 s.1),
+      λ h. or_from same others (false_from_ne_true same (λ t. h.0 (decides.0 t))) (more.1 h.1),
+    )
 
-firsts : (P Q : List ℕ → Type 0) (cs : List (List ℕ)) → AllByRecursion (λ c. P c × Q c) cs → AllByRecursion P cs × AllByRecursion Q cs
-firsts P Q [] h = (tt, tt)
-firsts P Q (c ∷ cs) h = let r = firsts P Q cs h.1 in ((h.0.0, r.0), (h.0.1, r.1))
+all_both : (P Q : List ℕ → Type 0) (cs : List (List ℕ)) → AllByRecursion (λ c. P c × Q c) cs ↔ (AllByRecursion P cs × AllByRecursion Q cs)
+all_both P Q [] = (λ h. (tt, tt), λ h. tt)
+all_both P Q (c ∷ cs) =
+    let more = all_both P Q cs in (
+      λ h. ((h.0.0, (more.0 h.1).0), (h.0.1, (more.0 h.1).1)),
+      λ h. ((h.0.0, h.1.0), more.1 (h.0.1, h.1.1)),
+    )
 
-reuse_ok : (before : List (List ℕ)) (number : ℕ) (cs : List (List ℕ)) → reuse before number cs ≡ None → AllByRecursion (λ c. AllByRecursion (Other c) before) cs × AllApart cs
-reuse_ok before number [] h = (tt, tt)
-reuse_ok before number (c ∷ cs) h =
-    let s = unless_none (list_any (λ d. bytes_eq (reference_of d) (reference_of c)) before) (Collision number) (reuse (c ∷ before) (suc number) cs) h in
-    let r = reuse_ok (c ∷ before) (suc number) cs s.1 in
-    let f = firsts (λ d. Other d c) (λ d. AllByRecursion (Other d) before) cs r.0 in
-    ((differ_refs c before s.0, f.1), (f.0, r.1))
+pub reuse_is : (before : List (List ℕ)) (number : ℕ) (cs : List (List ℕ)) → (reuse before number cs ≡ None) ↔ (AllByRecursion (λ c. AllByRecursion (Other c) before) cs × AllApart cs)
+reuse_is before number [] = (λ h. (tt, tt), λ h. refl)
+reuse_is before number (c ∷ cs) =
+    let known = list_any (λ d. bytes_eq (reference_of d) (reference_of c)) before in
+    let rest = reuse (c ∷ before) (suc number) cs in
+    let new = is_new c before in
+    let both = all_both (λ d. Other d c) (λ d. AllByRecursion (Other d) before) cs in
+    let more = reuse_is (c ∷ before) (suc number) cs in (
+      λ h.
+          let s = unless_none known (Collision number) rest h in
+          let r = more.0 s.1 in
+          ((new.0 s.0, (both.0 r.0).1), ((both.0 r.0).0, r.1)),
+      λ h. cond-false known (Some (Collision number)) rest (new.1 h.0.0) ∙ more.1 (both.1 (h.1.0, h.0.1), h.1.1),
+    )
 
 -- ---- all of it
 
 content_ok : (is content : Content) (fault : Option CheckFault) → Ok content ≡ or_content is fault → (content ≡ is) × (fault ≡ None)
-content_ok is content None e = (ok_same e, refl)
-  where
-    ok_same : ◌≡◌ {A = Result Content CheckFault} (Ok content) (Ok is) → content ≡ is
-    ok_same e = cc
+content_ok is content None e = (ok_same content is e, refl)
 content_ok is content (Some fault) e = absurd (err_ok (sym e))
 
 pub none_left : (a b : Option CheckFault) → or_else a b ≡ None → (a ≡ None) × (b ≡ None)
@@ -206,6 +224,21 @@ pub frames_bytes : (cs : List Chunk) → flat_map frame cs ≡ flat_map framed (
 frames_bytes [] = refl
 frames_bytes (c ∷ cs) = ap (λ x. frame c ++ x) (frames_bytes cs)
 
+-- nothing is wrong with the keys, the chunks and the end record
+pub record IsCanonical (version : Version) (bits : ℕ) (cs : List (List ℕ)) (ending : List ℕ) (lists : List (List Pair)) : Type 0 where
+  pub order : order_fault None 0 lists ≡ None
+  pub same : chunk_bytes version bits (flat lists) ≡ cs
+  pub last : ending ≡ ending_for version bits (flat lists)
+
+pub canonical_ok : (version : Version) (bits : ℕ) (cs : List (List ℕ)) (ending : List ℕ) (lists : List (List Pair)) → canonical_fault version bits cs ending lists ≡ None →
+    IsCanonical version bits cs ending lists
+canonical_ok version bits cs ending lists e =
+    let wanted = chunk_bytes version bits (flat lists) in
+    let last = ending_for version bits (flat lists) in
+    let a = none_left (order_fault None 0 lists) (or_else (difference 0 wanted cs) (end_fault ending last)) e in
+    let b = none_left (difference 0 wanted cs) (end_fault ending last) a.1 in
+    record { order = a.0; same = difference_ok 0 wanted cs b.0; last = (end_is ending last).0 b.1 }
+
 judged_file : (bytes : List ℕ) (content : Content) → HeaderIs bytes → (cs : List (List ℕ)) (ending : List ℕ) (lists : List (List Pair)) →
     drop 6 bytes ≡ flat_map framed cs ++ 0x45 ∷ ending → AllHold (version_of (slice_index bytes 4)) cs lists →
     Ok content ≡ judged (version_of (slice_index bytes 4)) (slice_index bytes 5) cs ending lists → IsFileOf bytes content
@@ -213,23 +246,18 @@ judged_file bytes content header cs ending lists spelled hold so =
     let version = version_of (slice_index bytes 4) in
     let bits = slice_index bytes 5 in
     let pairs = flat lists in
-    let wanted = chunk_bytes version bits pairs in
-    let s = content_ok (record { version = version; bits = bits; pairs = pairs }) content
-    (or_else (order_fault [] 0 lists) (or_else (difference 0 wanted cs) (or_else (end_fault ending (ending_for version bits pairs)) (reuse [] 0 cs)))) so in
-    let a = none_left (order_fault [] 0 lists) (or_else (difference 0 wanted cs) (or_else (end_fault ending (ending_for version bits pairs)) (reuse [] 0 cs))) s.1 in
-    let b = none_left (difference 0 wanted cs) (or_else (end_fault ending (ending_for version bits pairs)) (reuse [] 0 cs)) a.1 in
-    let c = none_left (end_fault ending (ending_for version bits pairs)) (reuse [] 0 cs) b.1 in
-    let same : wanted ≡ cs = difference_ok 0 wanted cs b.0 in
-    let last : ending ≡ ending_for version bits pairs = end_ok ending (ending_for version bits pairs) c.0 in
+    let s = content_ok (record { version = version; bits = bits; pairs = pairs }) content (or_else (canonical_fault version bits cs ending lists) (reuse [] 0 cs)) so in
+    let a = none_left (canonical_fault version bits cs ending lists) (reuse [] 0 cs) s.1 in
+    let c = canonical_ok version bits cs ending lists a.0 in
     let rest : drop 6 bytes ≡ flat_map frame (chunks (sha512_cut bits) version pairs) ++ 0x45 ∷ ending_for version bits pairs =
-    spelled ∙ ap (λ cs. flat_map framed cs ++ 0x45 ∷ ending) (sym same) ∙ ap (λ x. x ++ 0x45 ∷ ending) (sym (frames_bytes (chunks (sha512_cut bits) version pairs)))
-    ∙ ap (λ e. flat_map frame (chunks (sha512_cut bits) version pairs) ++ 0x45 ∷ e) last in
+    spelled ∙ ap (λ cs. flat_map framed cs ++ 0x45 ∷ ending) (sym c.same) ∙ ap (λ x. x ++ 0x45 ∷ ending) (sym (frames_bytes (chunks (sha512_cut bits) version pairs)))
+    ∙ ap (λ e. flat_map frame (chunks (sha512_cut bits) version pairs) ++ 0x45 ∷ e) c.last in
     let it : IsFileOf bytes (record { version = version; bits = bits; pairs = pairs }) = record {
       bits = header.bits;
       lawful = hold_pairs version cs lists hold;
-      rising = rising_ok pairs (order_ok [] 0 lists refl a.0);
+      rising = (rising_is pairs).0 ((order_is None 0 lists).0 c.order);
       is = header.is ∙ ap (λ x. 0x50 ∷ 0x52 ∷ 0x4C ∷ 0x59 ∷ version_byte version ∷ bits ∷ x) rest;
-      apart = subst AllApart (sym same) (reuse_ok [] 0 cs c.1).1;
+      apart = subst AllApart (sym c.same) ((reuse_is [] 0 cs).0 a.1).1;
     } in
     subst (IsFileOf bytes) (sym s.0) it
 

@@ -1,53 +1,34 @@
 -- Testing the chunks of a file one after another.
-use Rattle.std.proofs.Common.{◌≡◌, ℕ, zero, suc, ◌+◌, ◌<◌, ◌≤◌, List, [], ◌∷◌, ◌++◌, length, take, drop, get_or, refl, sym, ap, ◌∙◌, subst, arith}
-use Rattle.std.proofs.lemmas.List.{take_more}
+use Rattle.std.proofs.Common.{◌≡◌, ℕ, suc, ◌+◌, ◌<◌, List, [], ◌∷◌, ◌++◌, length, map, take, drop, get_or, sym, ap, ◌∙◌, subst, arith}
+use Rattle.std.proofs.Math.Seq.{drop-cons}
+use Rattle.std.proofs.lemmas.List.{length-map, length-take, map-append, map_more, take-append-drop}
 use Rattle.prolly_entry.specs.declared.version.Version.{Version}
 use Rattle.prolly_entry.specs.Pair.{Pair}
+use Rattle.prolly_entry.specs.lemmas.Lists.{all_append}
 use Rattle.prolly_check.specs.declared.fault.CheckFault.TheVariants as faults
 use Rattle.prolly_check.specs.declared.frames.Span.{Span}
-use Rattle.prolly_check.specs.Entries.{Holds, AllHold, IsBad}
+use Rattle.prolly_check.specs.Entries.{Holds, IsBad}
+use Rattle.prolly_check.specs.Held.{pairs_held}
 use Rattle.prolly_check.specs.Spans.{chunk_in, chunks_in}
 use Rattle.prolly_check.specs.Whole.{IsWhole, AreWhole}
-use Rattle.prolly_check.proofs.Acceptance.{hold_append}
-use Rattle.prolly_check.proofs.FrameBytes.{chunks_more}
+use Rattle.prolly_check.proofs.HeldPairs.{all_hold}
 
--- the chunks up to the next
-pub one_chunk_more : (bytes : List ℕ) (spans : List Span) (n : ℕ) (other : Span) → n < length spans →
-    chunks_in bytes (take (n + 1) spans) ≡ chunks_in bytes (take n spans) ++ chunk_in bytes (get_or spans n other) ∷ []
-one_chunk_more bytes spans n other h = ap (chunks_in bytes) (take_more spans n other h) ∙ chunks_more bytes (take n spans) (get_or spans n other)
+module _ (version : Version) (bytes : List ℕ) (spans : List Span) (n : ℕ) (other : Span) (chunk : List ℕ) (within : n < length spans) (is : chunk ≡ chunk_in bytes (get_or spans n other))
+    (before : AreWhole version (chunks_in bytes (take n spans))) where
+  pub whole_next : IsWhole version chunk → AreWhole version (chunks_in bytes (take (n + 1) spans))
+  whole_next one = subst (AreWhole version) (sym (map_more (chunk_in bytes) spans n other within))
+      (all_append (IsWhole version) (chunks_in bytes (take n spans)) (chunk_in bytes (get_or spans n other) ∷ []) before (subst (IsWhole version) is one, tt))
 
-pub whole_next : (version : Version) (bytes : List ℕ) (spans : List Span) (n : ℕ) (other : Span) (chunk : List ℕ) → n < length spans → chunk ≡ chunk_in bytes (get_or spans n other) →
-    AreWhole version (chunks_in bytes (take n spans)) → IsWhole version chunk → AreWhole version (chunks_in bytes (take (n + 1) spans))
-whole_next version bytes spans n other chunk h e before one = record {
-  lists = before.lists ++ one.pairs ∷ [];
-  hold = subst (λ cs. AllHold version cs (before.lists ++ one.pairs ∷ [])) (sym (one_chunk_more bytes spans n other h))
-      (hold_append version (chunks_in bytes (take n spans)) (chunk_in bytes (get_or spans n other) ∷ []) before.lists (one.pairs ∷ []) before.hold (subst (λ c. Holds version c one.pairs) e one.holds, tt));
-}
-
--- the chunks before a place, the one there, and the rest
-around : (bytes : List ℕ) (spans : List Span) (n : ℕ) (other : Span) → n < length spans →
-    chunks_in bytes spans ≡ chunks_in bytes (take n spans) ++ chunk_in bytes (get_or spans n other) ∷ chunks_in bytes (drop (n + 1) spans)
-around bytes [] n other h = absurd (omega arith)
-around bytes (s ∷ spans) zero other h = refl
-around bytes (s ∷ spans) (suc n) other h =
-    let h' : suc n < suc (length spans) = h in
-    let f : suc n + 1 ≡ suc (n + 1) = omega arith in
-    rw f (ap (λ x. chunk_in bytes s ∷ x) (around bytes spans n other (omega arith)))
-
-so_many : (bytes : List ℕ) (spans : List Span) (n : ℕ) → n ≤ length spans → length (chunks_in bytes (take n spans)) ≡ n
-so_many bytes spans zero h = refl
-so_many bytes [] (suc n) h = absurd (omega arith)
-so_many bytes (s ∷ spans) (suc n) h = let h' : suc n ≤ suc (length spans) = h in ap suc (so_many bytes spans n (omega arith))
-
-pub bad_next : (version : Version) (bytes : List ℕ) (spans : List Span) (n : ℕ) (other : Span) (chunk : List ℕ) → n < length spans → chunk ≡ chunk_in bytes (get_or spans n other) →
-    AreWhole version (chunks_in bytes (take n spans)) → ((pairs : List Pair) → Holds version chunk pairs → ⊥) → IsBad version (chunks_in bytes spans) (faults.BadChunk n)
-bad_next version bytes spans n other chunk h e before bad = record {
-  before = chunks_in bytes (take n spans);
-  chunk = chunk;
-  after = chunks_in bytes (drop (n + 1) spans);
-  lists = before.lists;
-  whole = around bytes spans n other h ∙ ap (λ c. chunks_in bytes (take n spans) ++ c ∷ chunks_in bytes (drop (n + 1) spans)) (sym e);
-  good = before.hold;
-  bad = bad;
-  is = ap faults.BadChunk (sym (so_many bytes spans n (omega arith)));
-}
+  pub bad_next : ((pairs : List Pair) → Holds version chunk pairs → ⊥) → IsBad version (chunks_in bytes spans) (faults.BadChunk n)
+  bad_next bad = record {
+    before = chunks_in bytes (take n spans);
+    chunk = chunk;
+    after = chunks_in bytes (drop (suc n) spans);
+    lists = map pairs_held (chunks_in bytes (take n spans));
+    whole = ap (chunks_in bytes) (sym (take-append-drop n spans) ∙ ap (λ rest. take n spans ++ rest) (drop-cons spans n other within))
+        ∙ map-append (chunk_in bytes) (take n spans) (get_or spans n other ∷ drop (suc n) spans)
+        ∙ ap (λ c. chunks_in bytes (take n spans) ++ c ∷ chunks_in bytes (drop (suc n) spans)) (sym is);
+    good = all_hold version (chunks_in bytes (take n spans)) before;
+    bad = bad;
+    is = ap faults.BadChunk (omega (arith, length-map (take n spans) (chunk_in bytes), length-take n spans));
+  }

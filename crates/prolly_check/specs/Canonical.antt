@@ -3,19 +3,10 @@ use Rattle.std.specs.Prelude.{◌≡◌, ℕ, ◌-◌, List, [], ◌∷◌, ◌+
 use Rattle.std.specs.Int.{w64, to_be_bytes}
 use Rattle.std.specs.List.{flat_map}
 use Rattle.prolly_entry.specs.declared.version.Version.{Version}
-use Rattle.prolly_entry.specs.Pair.{Pair}
 use Rattle.prolly_entry.specs.Reference.{reference_of}
-use Rattle.prolly_entry.specs.Overlay.{or_else}
 use Rattle.prolly_check.specs.declared.fault.CheckFault.{CheckFault}
 use Rattle.prolly_check.specs.Held.{pairs_held}
-use Rattle.prolly_check.specs.Judged.{order_fault, difference, end_fault, chunk_bytes, ending_for}
-
--- What is wrong with the keys, the chunks or the end record.
-abbrev pub canonical_fault : Version → ℕ → List (List ℕ) → List ℕ → List (List Pair) → Option CheckFault
-canonical_fault version bits chunks ending lists =
-    let pairs = flat_map (λ pairs. pairs) lists in
-    or_else (order_fault [] 0 lists)
-    (or_else (difference 0 (chunk_bytes version bits pairs) chunks) (end_fault ending (ending_for version bits pairs)))
+use Rattle.prolly_check.specs.Judged.{difference, chunk_bytes, canonical_fault}
 
 -- What follows the letter E in a file with these chunks: the last chunk's reference and their number.
 abbrev pub ending_of_chunks : List (List ℕ) → List ℕ

@@ -2,7 +2,7 @@
 use Rattle.std.specs.Prelude.{◌≡◌, ◌<◌, ◌^◌, ℕ, List, length, slice_index}
 use Rattle.std.specs.List.{flat_map, AllByRecursion}
 use Rattle.std.specs.BTreeMap.{BTreeMap}
-use Rattle.prolly_entry.specs.Chunk.{IsIn}
+use Rattle.prolly_tree.specs.Chunk.{IsIn}
 use Rattle.prolly_entry.specs.Reference.{reference_of}
 use Rattle.prolly_entry.specs.declared.version.Version.{Version}
 use Rattle.prolly_entry.specs.declared.reference.Ref.{Ref}

@@ -8,9 +8,9 @@ use Rattle.prolly_entry.specs.declared.version.Version.{Version}
 use Rattle.prolly_entry.specs.Cut.{sha512_cut}
 use Rattle.prolly_entry.specs.Spelling.{count_spelling}
 use Rattle.prolly_entry.specs.Reference.{reference_of}
-use Rattle.prolly_entry.specs.Tree.{Tree, pairs_below, greatest_key, pair_count, bytes_of, tree_of, child_entry}
-use Rattle.prolly_entry.specs.Chunk.{Chunk, chunks, post_order, IsIn}
-use Rattle.prolly_entry.specs.LookUp.{find, nth}
+use Rattle.prolly_tree.specs.Tree.{Tree, pairs_below, greatest_key, pair_count, bytes_of, tree_of, child_entry}
+use Rattle.prolly_tree.specs.Chunk.{Chunk, chunks, post_order, IsIn}
+use Rattle.prolly_tree.specs.LookUp.{find, nth}
 use Rattle.prolly_file.specs.Scratch.{keys_in}
 use Rattle.prolly_check.specs.Entries.{Child, IsChild, entry_of}
 use Rattle.prolly_check.specs.Judged.{chunk_bytes}
@@ -51,15 +51,19 @@ abbrev pub NodeFull : (level : ℕ) → Tree level → Type 0
 NodeFull zero leaf = Unit {0}
 NodeFull (suc level) ts = AllByRecursion (λ t. (0 < length (pairs_below level t)) × NodeFull level t) ts
 
+-- The tree is one of the chunks: they are there, its pairs are lawful and their keys rise, and each child of each node has some.
+pub record IsTreeOf (version : Version) (chunks : List (List ℕ)) (level : ℕ) (tree : Tree level) : Type 0 where
+  pub has : HasTree version chunks level tree
+  pub lawful : AllByRecursion IsPair (pairs_below level tree)
+  pub rising : Rising (keys_in (pairs_below level tree))
+  pub full : NodeFull level tree
+
 -- A look-up of the key has come to a chunk: what is below it tells of the key what the map does.
 pub record StandsAt (version : Version) (chunks : List (List ℕ)) (m : List Pair) (key chunk : List ℕ) : Type 0 where
   pub level : ℕ
   pub tree : Tree level
   pub is : chunk ≡ bytes_of version level tree
-  pub has : HasTree version chunks level tree
-  pub lawful : AllByRecursion IsPair (pairs_below level tree)
-  pub rising : Rising (keys_in (pairs_below level tree))
-  pub full : NodeFull level tree
+  pub below : IsTreeOf version chunks level tree
   pub same : find m key ≡ find (pairs_below level tree) key
 
 -- It begins at the root.
@@ -77,8 +81,6 @@ FirstEntry version = (level : ℕ) (t : Tree level) (ts : List (Tree level)) (ch
 -- It goes on at the chunk with the reference of the first child whose greatest key is not below the key.
 abbrev pub StepsDown : Version → Type 0
 StepsDown version = (chunks : List (List ℕ)) (m : List Pair) (key chunk next : List ℕ) (level : ℕ) (before after : List (Tree level)) (t : Tree level) → AllApart chunks →
-    HasTree version chunks (suc level) (before ++ t ∷ after) → AllByRecursion IsPair (flat_map (pairs_below level) (before ++ t ∷ after)) →
-    Rising (keys_in (flat_map (pairs_below level) (before ++ t ∷ after))) → NodeFull (suc level) (before ++ t ∷ after) →
-    find m key ≡ find (flat_map (pairs_below level) (before ++ t ∷ after)) key →
+    IsTreeOf version chunks (suc level) (before ++ t ∷ after) → find m key ≡ find (flat_map (pairs_below level) (before ++ t ∷ after)) key →
     AllByRecursion (λ u. KeyBelow (greatest_key level u) key) before → is_lt (key_order (greatest_key level t) key) ≡ false →
     IsIn next chunks → reference_of next ≡ reference_of (bytes_of version level t) → StandsAt version chunks m key next

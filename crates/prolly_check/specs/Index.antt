@@ -5,7 +5,7 @@ use Rattle.std.specs.Cmp.Lexicographic.{slice_cmp}
 use Rattle.std.specs.BTreeMap.{BTreeMap, get_by}
 use Rattle.prolly_entry.specs.declared.reference.Ref.{Ref}
 use Rattle.prolly_entry.specs.Reference.{reference_of}
-use Rattle.prolly_entry.specs.Chunk.{IsIn}
+use Rattle.prolly_tree.specs.Chunk.{IsIn}
 
 -- The references of the chunks, in their order.
 abbrev pub AreReferences : List (List ℕ) → List Ref → Type 0

@@ -1,32 +1,26 @@
 -- What is wrong with the pairs and the chunks of a file that is well formed: the first fault.
-use Rattle.std.specs.Prelude.{ℕ, suc, Bool, true, ◌&&◌, List, [], ◌∷◌, ◌++◌, length, map, Option, Some, None, Result, Ok, Err, if◌then◌else◌}
+use Rattle.std.specs.Prelude.{ℕ, suc, List, [], ◌∷◌, ◌++◌, length, map, Option, Some, None, Result, Ok, Err, if◌then◌else◌}
 use Rattle.std.specs.Int.{w64, to_be_bytes}
 use Rattle.std.specs.List.{flat_map, list_any}
-use Rattle.std.specs.Ordering.{is_lt}
 use Rattle.std.specs.Str.{bytes_eq}
 use Rattle.prolly_entry.specs.declared.version.Version.{Version}
-use Rattle.prolly_entry.specs.Keys.{key_order}
 use Rattle.prolly_entry.specs.Pair.{Pair}
+use Rattle.prolly_entry.specs.Position.{Position}
 use Rattle.prolly_entry.specs.Cut.{sha512_cut}
 use Rattle.prolly_entry.specs.Reference.{reference_of}
-use Rattle.prolly_entry.specs.Chunk.{chunks}
-use Rattle.prolly_entry.specs.File.{root_reference}
+use Rattle.prolly_tree.specs.Chunk.{chunks}
+use Rattle.prolly_tree.specs.File.{root_reference}
 use Rattle.prolly_entry.specs.Overlay.{or_else}
 use Rattle.prolly_check.specs.declared.fault.CheckFault.{CheckFault}
 use Rattle.prolly_check.specs.declared.fault.CheckFault.TheVariants.{KeysOutOfOrder, NotCanonical, BadEnd, Collision}
 use Rattle.prolly_check.specs.Content.{Content}
+use Rattle.prolly_check.specs.Order.{rises_behind, last_behind}
 
--- Each key is greater than the one before it.
-abbrev pub is_rising : List Pair → Bool
-is_rising [] = true
-is_rising (p ∷ []) = true
-is_rising (p ∷ q ∷ ps) = is_lt (key_order p.key q.key) && is_rising (q ∷ ps)
-
--- The first chunk, from this number on, whose pairs behind those before do not rise.
-abbrev pub order_fault : List Pair → ℕ → List (List Pair) → Option CheckFault
-order_fault before number [] = None
-order_fault before number (pairs ∷ lists) =
-    if is_rising (before ++ pairs) then order_fault (before ++ pairs) (suc number) lists else Some (KeysOutOfOrder number)
+-- The first chunk, from this number on, whose keys do not rise behind the last key before them.
+abbrev pub order_fault : Position → ℕ → List (List Pair) → Option CheckFault
+order_fault last number [] = None
+order_fault last number (pairs ∷ lists) =
+    if rises_behind last pairs then order_fault (last_behind last pairs) (suc number) lists else Some (KeysOutOfOrder number)
 
 -- The first place, from this number on, at which one list has no chunk or the two differ.
 abbrev pub difference : ℕ → List (List ℕ) → List (List ℕ) → Option CheckFault
@@ -60,11 +54,16 @@ abbrev pub or_content : Content → Option CheckFault → Result Content CheckFa
 or_content content None = Ok content
 or_content content (Some fault) = Err fault
 
--- The keys are tested first; then the chunks against those of the file of the pairs; then the end record; then the references.
+-- What is wrong with the keys, the chunks or the end record: the keys are tested first; then the chunks against those of the file of the
+-- pairs; then the end record.
+abbrev pub canonical_fault : Version → ℕ → List (List ℕ) → List ℕ → List (List Pair) → Option CheckFault
+canonical_fault version bits chunks ending lists =
+    let pairs = flat_map (λ pairs. pairs) lists in
+    or_else (order_fault None 0 lists)
+    (or_else (difference 0 (chunk_bytes version bits pairs) chunks) (end_fault ending (ending_for version bits pairs)))
+
+-- The references are tested last.
 abbrev pub judged : Version → ℕ → List (List ℕ) → List ℕ → List (List Pair) → Result Content CheckFault
 judged version bits chunks ending lists =
-    let pairs = flat_map (λ pairs. pairs) lists in
-    or_content (record { version = version; bits = bits; pairs = pairs })
-    (or_else (order_fault [] 0 lists)
-    (or_else (difference 0 (chunk_bytes version bits pairs) chunks)
-    (or_else (end_fault ending (ending_for version bits pairs)) (reuse [] 0 chunks))))
+    or_content (record { version = version; bits = bits; pairs = flat_map (λ pairs. pairs) lists })
+    (or_else (canonical_fault version bits chunks ending lists) (reuse [] 0 chunks))

@@ -3,7 +3,7 @@ use Rattle.std.specs.Prelude.{◌≡◌, ◌<◌, ℕ, not, List, [], length, dr
 use Rattle.std.specs.Ordering.{is_lt}
 use Rattle.std.specs.List.{filter, flat_map}
 use Rattle.prolly_entry.specs.Keys.{key_order}
-use Rattle.prolly_entry.specs.LookUp.{find}
+use Rattle.prolly_tree.specs.LookUp.{find}
 use Rattle.prolly_entry.specs.Pair.{Pair}
 use Rattle.prolly_check.specs.Checked.{chunks_of}
 use Rattle.prolly_check.specs.Content.{Content}

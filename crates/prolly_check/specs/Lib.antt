@@ -42,5 +42,3 @@ pub mod Counted
 pub mod Leaves
 -- Rebuilding the chunks of pairs one by one, by levels that stand one above another.
 pub mod Rebuilt
--- What becomes of a rebuild as it takes pairs.
-pub mod Taking

@@ -1,18 +1,19 @@
 -- Rebuilding the chunks of pairs one by one, by levels that stand one above another.
-use Rattle.std.specs.Prelude.{◌≡◌, ℕ, zero, suc, ◌+◌, ◌<◌, List, [], ◌∷◌, ◌++◌, length, take, map, get_or, Option, Some}
+use Rattle.std.specs.Prelude.{◌≡◌, ℕ, zero, suc, ◌<◌, List, [], ◌∷◌, ◌++◌, length, take, map, Option, Some, Result, Ok, Err, IfOk}
 use Rattle.prolly_entry.specs.declared.version.Version.{Version}
 use Rattle.prolly_entry.specs.Cut.{Cut, sha512_cut}
-use Rattle.prolly_entry.specs.Chunk.{Chunk}
-use Rattle.prolly_entry.specs.Events.{clean, faulty, leaf_events, inner_events}
-use Rattle.prolly_entry.specs.Pipeline.{pipeline_events}
+use Rattle.prolly_tree.specs.Chunk.{Chunk}
+use Rattle.prolly_tree.specs.Events.{clean, faulty, leaf_events, inner_events}
+use Rattle.prolly_tree.specs.Pipeline.{pipeline_events}
 use Rattle.std.specs.List.{AllByRecursion}
 use Rattle.std.specs.Option.{option_to_list}
 use Rattle.prolly_entry.specs.Pair.{Pair}
-use Rattle.prolly_chunk.specs.LeafLevel.{LeafState, leaf_level}
-use Rattle.prolly_chunk.specs.NodeLevel.{NodeState, node_level, NodeBegins, NodeTakes}
+use Rattle.prolly_chunk.specs.LeafLevel.{leaf_level}
+use Rattle.prolly_chunk.specs.NodeLevel.{NodeState, node_level, NodeBegins}
 use Rattle.prolly_check.specs.declared.fault.CheckFault.{CheckFault}
-use Rattle.prolly_check.specs.declared.fault.CheckFault.TheVariants.{NotCanonical}
 use Rattle.prolly_check.specs.Judged.{difference}
+use Rattle.prolly_check.specs.Refusal.{UnlessMemory}
+use Rattle.prolly_check.specs.declared.rebuild.Rebuild.{Rebuild}
 
 -- What so many levels, from this one on, have sent of events, each taking what the one below it sent.
 abbrev pub sent_through : Cut → Version → ℕ → ℕ → List Chunk → List Chunk
@@ -38,46 +39,26 @@ pub record AreFirst (chunks : List (List ℕ)) (number : ℕ) (sent : List Chunk
 abbrev pub DifferAs : List (List ℕ) → List Chunk → CheckFault → Type 0
 DifferAs chunks sent fault = (more : List (List ℕ)) → difference 0 (map (λ c. c.bytes) sent ++ more) chunks ≡ Some fault
 
--- The chunk of this number is the wanted one.
-pub record MovesOn (chunks : List (List ℕ)) (number next : ℕ) (wanted : List ℕ) : Type 0 where
-  pub within : number < length chunks
-  pub goes_on : next ≡ number + 1
-  pub is : get_or chunks number [] ≡ wanted
+-- The chunks that were sent are compared with those of a file: they begin them, so many; or they differ, unless memory was refused.
+abbrev pub AreCompared : List (List ℕ) → List Chunk → Result ℕ CheckFault → Type 0
+AreCompared chunks sent (Ok number) = AreFirst chunks number sent
+AreCompared chunks sent (Err fault) = UnlessMemory (DifferAs chunks sent) fault
 
--- It is not, and the fault says so.
-pub record FaultHere (chunks : List (List ℕ)) (number : ℕ) (wanted : List ℕ) (fault : CheckFault) : Type 0 where
-  pub is : fault ≡ NotCanonical number
-  pub differs : number < length chunks → get_or chunks number [] ≡ wanted → ⊥
+-- Whatever was sent before, as many chunks as the number, it is compared with this event behind it.
+abbrev pub IsExpected : List (List ℕ) → ℕ → Chunk → Result ℕ CheckFault → Type 0
+IsExpected chunks number event result = (sent : List Chunk) → AreFirst chunks number sent → AreCompared chunks (sent ++ event ∷ []) result
 
--- The level at this place took an event, and the others are as they were.
-pub record TakenBy (before after : List (NodeState ℕ)) (old : NodeState ℕ) (new : List (NodeState ℕ)) (event : Chunk) (closed : Option Chunk) : Type 0 where
-  pub state : NodeState ℕ
-  pub is : new ≡ before ++ state ∷ after
-  pub takes : NodeTakes sha512_cut old state event closed
+-- The levels took an event, if there was one, behind others, and what leaves the last one is compared.
+pub record Passed (bits : ℕ) (version : Version) (chunks : List (List ℕ)) (level : ℕ) (new : List (NodeState ℕ)) (events : List Chunk) (result : Result ℕ CheckFault) : Type 0 where
+  pub behind : IfOk result (λ next. AreBehind bits version level new events)
+  pub compared : AreCompared chunks (sent_through (sha512_cut bits) version level (length new) events) result
 
-abbrev pub TakesAt : List (NodeState ℕ) → List (NodeState ℕ) → ℕ → Chunk → Option Chunk → Type 0
-TakesAt old new place event closed = (before after : List (NodeState ℕ)) (state : NodeState ℕ) → old ≡ before ++ state ∷ after → length before ≡ place →
-    TakenBy before after state new event closed
-
--- An event of a lower level passed these levels, behind others: what leaves the last one goes on with the chunks of a file up to the next number.
-pub record PassedOn (chunks : List (List ℕ)) (before after new : List (NodeState ℕ)) (event : Chunk) (number next : ℕ) : Type 0 where
-  pub above : List (NodeState ℕ)
-  pub is : new ≡ before ++ above
-  pub size : length above ≡ length after
-  pub so : (bits : ℕ) (version : Version) (level : ℕ) (events : List Chunk) → event.level < level → AreBehind bits version level after events →
-      AreFirst chunks number (sent_through (sha512_cut bits) version level (length after) events) →
-      AreBehind bits version level above (events ++ event ∷ []) × AreFirst chunks next (sent_through (sha512_cut bits) version level (length after) (events ++ event ∷ []))
-
-abbrev pub PassesOn : List (List ℕ) → List (NodeState ℕ) → List (NodeState ℕ) → ℕ → Chunk → ℕ → ℕ → Type 0
-PassesOn chunks old new place event number next = (before after : List (NodeState ℕ)) → old ≡ before ++ after → length before ≡ place →
-    PassedOn chunks before after new event number next
-
--- The same where a chunk of the file is another.
-abbrev pub FaultPassing : List (List ℕ) → List (NodeState ℕ) → ℕ → Chunk → ℕ → CheckFault → Type 0
-FaultPassing chunks old place event number fault = (before after : List (NodeState ℕ)) → old ≡ before ++ after → length before ≡ place →
-    (bits : ℕ) (version : Version) (level : ℕ) (events : List Chunk) → event.level < level → AreBehind bits version level after events →
-    AreFirst chunks number (sent_through (sha512_cut bits) version level (length after) events) →
-    DifferAs chunks (sent_through (sha512_cut bits) version level (length after) (events ++ event ∷ [])) fault
+-- So they do behind any events, where what has left the last one begins the chunks of the file, as many as the number.
+abbrev pub Passes : List (List ℕ) → List (NodeState ℕ) → List (NodeState ℕ) → Option Chunk → ℕ → Result ℕ CheckFault → Type 0
+Passes chunks old new event number result = (bits : ℕ) (version : Version) (level : ℕ) (events : List Chunk) →
+    AreBelow level (option_to_list event) → AreBehind bits version level old events →
+    AreFirst chunks number (sent_through (sha512_cut bits) version level (length old) events) →
+    Passed bits version chunks level new (events ++ option_to_list event) result
 
 -- The levels, from this one on, took nothing and have sent nothing.
 abbrev pub AreUnused : ℕ → Version → ℕ → List (NodeState ℕ) → Type 0
@@ -92,52 +73,23 @@ node_levels = 64
 abbrev pub sent_of : ℕ → Version → List Pair → List Chunk
 sent_of bits version pairs = sent_through (sha512_cut bits) version 1 node_levels (leaf_events (sha512_cut bits) version faulty pairs)
 
--- The levels took the pairs, and what they have sent begins the chunks of a file, so many.
-pub record IsBehind (bits : ℕ) (version : Version) (chunks : List (List ℕ)) (pairs : List Pair) (leaf : LeafState ℕ) (nodes : List (NodeState ℕ)) (number : ℕ) : Type 0 where
-  pub leaf_is : leaf ≡ leaf_level sha512_cut bits pairs
-  pub nodes_are : AreBehind bits version 1 nodes (leaf_events (sha512_cut bits) version faulty pairs)
-  pub count : length nodes ≡ node_levels
-  pub first : AreFirst chunks number (sent_of bits version pairs)
+-- The rebuild took the pairs, and what its levels have sent begins the chunks of a file.
+pub record HasTaken (bits : ℕ) (version : Version) (chunks : List (List ℕ)) (pairs : List Pair) (rebuild : Rebuild) : Type 0 where
+  pub leaf : rebuild.leaf ≡ leaf_level sha512_cut bits pairs
+  pub nodes : AreBehind bits version 1 rebuild.nodes.items (leaf_events (sha512_cut bits) version faulty pairs)
+  pub count : length rebuild.nodes.items ≡ node_levels
+  pub first : AreFirst chunks rebuild.number (sent_of bits version pairs)
 
--- What is sent of the pairs differs from the chunks of a file.
-abbrev pub DifferBy : ℕ → Version → List (List ℕ) → List Pair → CheckFault → Type 0
-DifferBy bits version chunks pairs fault = DifferAs chunks (sent_of bits version pairs) fault
+-- It did, or what is sent of the pairs differs from the chunks of the file, unless memory was refused.
+abbrev pub Took : ℕ → Version → List (List ℕ) → List Pair → Rebuild → Result (Unit {0}) CheckFault → Type 0
+Took bits version chunks pairs rebuild (Ok done) = HasTaken bits version chunks pairs rebuild
+Took bits version chunks pairs rebuild (Err fault) = UnlessMemory (DifferAs chunks (sent_of bits version pairs)) fault
 
--- ---- The end.
+-- Whatever pairs it took before, it took these behind them.
+abbrev pub Takes : List (List ℕ) → Rebuild → Rebuild → List Pair → Result (Unit {0}) CheckFault → Type 0
+Takes chunks old new taken result = (bits : ℕ) (version : Version) (pairs : List Pair) → HasTaken bits version chunks pairs old → Took bits version chunks (pairs ++ taken) new result
 
--- Where there is a last chunk, it passed the levels.
-pub record MaybePassed (chunks : List (List ℕ)) (old new : List (NodeState ℕ)) (last : Option Chunk) (number next : ℕ) (bits : ℕ) (version : Version) (level : ℕ) (events : List Chunk) : Type 0 where
-  pub behind : AreBehind bits version level new (events ++ option_to_list last)
-  pub first : AreFirst chunks next (sent_through (sha512_cut bits) version level (length new) (events ++ option_to_list last))
-
-pub record MaybePasses (chunks : List (List ℕ)) (old new : List (NodeState ℕ)) (last : Option Chunk) (number next : ℕ) : Type 0 where
-  pub size : length new ≡ length old
-  pub so : (bits : ℕ) (version : Version) (level : ℕ) (events : List Chunk) → AreBelow level (option_to_list last) → AreBehind bits version level old events →
-      AreFirst chunks number (sent_through (sha512_cut bits) version level (length old) events) → MaybePassed chunks old new last number next bits version level events
-
-abbrev pub MaybeFault : List (List ℕ) → List (NodeState ℕ) → Option Chunk → ℕ → CheckFault → Type 0
-MaybeFault chunks old last number fault = (bits : ℕ) (version : Version) (level : ℕ) (events : List Chunk) → AreBelow level (option_to_list last) → AreBehind bits version level old events →
-    AreFirst chunks number (sent_through (sha512_cut bits) version level (length old) events) →
-    DifferAs chunks (sent_through (sha512_cut bits) version level (length old) (events ++ option_to_list last)) fault
-
--- The levels up to this one have ended, and those above it took what they sent.
-pub record IsEnding (bits : ℕ) (version : Version) (chunks : List (List ℕ)) (pairs : List Pair) (nodes : List (NodeState ℕ)) (number : ℕ) : Type 0 where
-  pub level : ℕ
-  pub count : level + length nodes ≡ node_levels
-  pub behind : AreBehind bits version (suc level) nodes (pipeline_events level (sha512_cut bits) version clean pairs)
-  pub first : AreFirst chunks number (sent_through (sha512_cut bits) version (suc level) (length nodes) (pipeline_events level (sha512_cut bits) version clean pairs))
-
--- All that the last level sends of the pairs begins the chunks of a file, so many.
-abbrev pub EndsAt : ℕ → Version → List (List ℕ) → List Pair → ℕ → Type 0
-EndsAt bits version chunks pairs number = AreFirst chunks number (pipeline_events node_levels (sha512_cut bits) version clean pairs)
-
--- It differs from the chunks of a file.
-abbrev pub FaultAtEnd : ℕ → Version → List (List ℕ) → List Pair → CheckFault → Type 0
-FaultAtEnd bits version chunks pairs fault = DifferAs chunks (pipeline_events node_levels (sha512_cut bits) version clean pairs) fault
-
--- The same of levels that are ending, whatever pairs they took.
-abbrev pub NodesEnd : List (List ℕ) → List (NodeState ℕ) → ℕ → ℕ → Type 0
-NodesEnd chunks nodes number count = (bits : ℕ) (version : Version) (pairs : List Pair) → IsEnding bits version chunks pairs nodes number → EndsAt bits version chunks pairs count
-
-abbrev pub FaultOfNodes : List (List ℕ) → List (NodeState ℕ) → ℕ → CheckFault → Type 0
-FaultOfNodes chunks nodes number fault = (bits : ℕ) (version : Version) (pairs : List Pair) → IsEnding bits version chunks pairs nodes number → FaultAtEnd bits version chunks pairs fault
+-- All that the last level sends of the pairs that it took is compared.
+abbrev pub Ends : List (List ℕ) → Rebuild → Result ℕ CheckFault → Type 0
+Ends chunks rebuild result = (bits : ℕ) (version : Version) (pairs : List Pair) → HasTaken bits version chunks pairs rebuild →
+    AreCompared chunks (pipeline_events node_levels (sha512_cut bits) version clean pairs) result

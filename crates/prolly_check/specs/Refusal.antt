@@ -1,4 +1,5 @@
 -- Refusals of the checker.
+use Rattle.std.specs.Prelude.{◌≡◌, ◌⊎◌}
 use Rattle.prolly_file.specs.declared.whole.WholeFault.{WholeFault}
 use Rattle.prolly_file.specs.declared.whole.WholeFault.TheVariants as whole
 use Rattle.prolly_check.specs.declared.fault.CheckFault.{CheckFault}
@@ -6,8 +7,7 @@ use Rattle.prolly_check.specs.declared.fault.CheckFault.TheVariants.{Memory, Rea
 
 -- The fault is want of memory, or it is such a one.
 abbrev pub UnlessMemory : (CheckFault → Type 0) → CheckFault → Type 0
-UnlessMemory P Memory = Unit {0}
-UnlessMemory P fault = P fault
+UnlessMemory P fault = (fault ≡ Memory) ⊎ P fault
 
 -- The fault of reading the bytes, as one of checking.
 abbrev pub fault_of : WholeFault → CheckFault

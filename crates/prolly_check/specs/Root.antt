@@ -1,7 +1,7 @@
 -- The chunk of the root.
 use Rattle.std.specs.Prelude.{ℕ, List}
 use Rattle.prolly_entry.specs.Cut.{sha512_cut}
-use Rattle.prolly_entry.specs.Tree.{bytes_of, tree_of}
+use Rattle.prolly_tree.specs.Tree.{bytes_of, tree_of}
 use Rattle.prolly_check.specs.Content.{Content}
 
 -- The bytes of the top of the map's tree.

@@ -1,8 +1,9 @@
 -- Chunks that are a level and whole lawful entries of that level's kind.
 use Rattle.std.specs.Prelude.{ℕ, List}
+use Rattle.std.specs.List.{AllByRecursion}
 use Rattle.prolly_entry.specs.declared.version.Version.{Version}
 use Rattle.prolly_entry.specs.Pair.{Pair}
-use Rattle.prolly_check.specs.Entries.{IsLeaf, Holds, AllHold}
+use Rattle.prolly_check.specs.Entries.{IsLeaf, Holds}
 
 -- The entries are a leaf's, whatever pairs they are.
 pub record IsSomeLeaf (entries : List ℕ) : Type 0 where
@@ -15,6 +16,5 @@ pub record IsWhole (version : Version) (chunk : List ℕ) : Type 0 where
   pub holds : Holds version chunk pairs
 
 -- The chunks are such, whatever pairs they have.
-pub record AreWhole (version : Version) (chunks : List (List ℕ)) : Type 0 where
-  pub lists : List (List Pair)
-  pub hold : AllHold version chunks lists
+abbrev pub AreWhole : Version → List (List ℕ) → Type 0
+AreWhole version chunks = AllByRecursion (IsWhole version) chunks

@@ -9,7 +9,6 @@ const END_SIZE: usize = 29;
 
 /// Tests that the bytes, which no whole frame begins, are an end record. So many frames stand
 /// before.
-#[tactic(auto, using(crate::proofs::EndBytes::end_none, crate::proofs::EndBytes::end_bad, crate::proofs::EndBytes::end_cut, crate::proofs::EndBytes::end_short, crate::proofs::EndBytes::end_long, crate::proofs::EndBytes::end_found))]
 pub(crate) fn test_ending(bytes: &[u8], frames: usize) -> Result<(), CheckFault>
     ensures found { IfOk result (λ r. ending_of frames bytes.now ≡ Ok (drop 1 bytes.now)) }
     ensures err { IfErr result (λ fault. ending_of frames bytes.now ≡ Err fault) }

@@ -1,7 +1,7 @@
 //! Finding the value of a key.
 ghost use Rattle.std.specs.Prelude.{◌≡◌, IfSome, IfNone, option_map};
 ghost use Rattle.std.specs.Option.{option_copied};
-ghost use Rattle.prolly_entry.specs.LookUp.{find};
+ghost use Rattle.prolly_tree.specs.LookUp.{find};
 ghost use Rattle.prolly_check.specs.Children.{value_of, child_for};
 ghost use Rattle.prolly_check.specs.Leaves.{IsLeafOf, IsBeyond};
 

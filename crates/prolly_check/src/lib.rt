@@ -9,7 +9,6 @@ mod fault;
 mod file;
 mod file_chunks;
 mod find;
-mod finish;
 mod frames;
 mod header;
 mod index;

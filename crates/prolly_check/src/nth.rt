@@ -1,6 +1,6 @@
 //! Finding a pair by its number.
 ghost use Rattle.std.specs.Prelude.{◌≡◌};
-ghost use Rattle.prolly_entry.specs.LookUp.{nth};
+ghost use Rattle.prolly_tree.specs.LookUp.{nth};
 ghost use Rattle.prolly_entry.specs.declared.version.Version.TheVariants.{Two};
 ghost use Rattle.prolly_check.specs.Children.{child_with};
 ghost use Rattle.prolly_check.specs.Counted.{pair_of, counted_of};

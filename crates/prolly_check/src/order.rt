@@ -16,9 +16,9 @@ struct Falls;
 
 /// Tests that the keys of all chunks rise. Takes no memory: it keeps where the last key lies.
 pub(crate) fn test_order(chunks: &FileChunks) -> Result<(), CheckFault>
-    ensures ok { OnOk result (order_fault [] 0 (map pairs_held chunks.now) ≡ None) }
+    ensures ok { OnOk result (order_fault None 0 (map pairs_held chunks.now) ≡ None) }
     ensures err { IfErr result (λ fault.
-        order_fault [] 0 (map pairs_held chunks.now) ≡ Some fault) }
+        order_fault None 0 (map pairs_held chunks.now) ≡ Some fault) }
 {
     let mut last = None;
     for number in 0..chunks.len() {

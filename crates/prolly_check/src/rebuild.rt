@@ -1,16 +1,13 @@
 //! Rebuilding the chunks of pairs that come one by one.
-ghost use Rattle.std.specs.Prelude.{◌≡◌, [], ◌∷◌, ◌<◌, ◌≤◌, ◌^◌, ℕ, None, Some, List, length, OnOk, IfOk, IfErr};
+ghost use Rattle.std.specs.Prelude.{◌≡◌, [], ◌∷◌, ◌<◌, ◌≤◌, ◌^◌, None, Some, List, ℕ, length, OnOk, IfOk, IfErr};
 ghost use Rattle.std.specs.List.{flat_map};
-ghost use Rattle.prolly_entry.specs.Pair.{Pair as PairValue};
 ghost use Rattle.prolly_check.specs.Canonical.{CompareAs};
 ghost use Rattle.prolly_check.specs.Held.{pairs_held};
-ghost use Rattle.prolly_check.specs.Rebuilt.{AreUnused, node_levels};
+ghost use Rattle.prolly_check.specs.Rebuilt.{AreUnused, HasTaken, Takes, Ends, node_levels};
 ghost use Rattle.prolly_check.specs.Refusal.{UnlessMemory};
-ghost use Rattle.prolly_check.specs.Taking.{HasTaken, Takes, FaultTaking, Ends, FaultEnding};
 
 use crate::fault::CheckFault;
 use crate::file_chunks::FileChunks;
-use crate::finish::{finish_nodes, pass_last};
 use crate::leaf::Pairs;
 use crate::passing::pass;
 use prolly_chunk::{LeafLevel, NodeLevel};
@@ -47,37 +44,14 @@ fn new_nodes(
 
 /// The beginning, before the first pair.
 fn begin(alloc: Global, cut: Sha512Cut, version: Version) -> Result<Rebuild, AllocError>
-    ensures taken { IfOk result (λ rebuild.
+    ensures { IfOk result (λ rebuild.
         (chunks : List (List ℕ)) → HasTaken cut version chunks [] rebuild) }
-    ensures number { IfOk result (λ rebuild. rebuild.number ≡ 0) }
 {
     Ok(Rebuild {
         leaf: LeafLevel::new(alloc, cut)?,
         nodes: new_nodes(alloc, cut, version)?,
         number: 0,
     })
-}
-
-/// Takes a pair, and compares the chunks that it closes.
-fn add_pair(
-    alloc: Global,
-    rebuild: &mut Rebuild,
-    pair: &Pair,
-    chunks: &FileChunks,
-) -> Result<(), CheckFault>
-    requires number { rebuild.old.number ≤ length chunks.now }
-    ensures ok { OnOk result (Takes chunks.now rebuild.old rebuild.new (pair.now ∷ [])) }
-    ensures number { OnOk result (rebuild.new.number ≤ length chunks.now) }
-    ensures err { IfErr result (UnlessMemory
-        (FaultTaking chunks.now rebuild.old (pair.now ∷ []))) }
-{
-    let Some(leaf) = rebuild.leaf.push(alloc, pair)? else {
-        return Ok(());
-    };
-    let number = rebuild.number;
-    let leaf = chunks.with_reference(leaf, number);
-    rebuild.number = pass(alloc, &mut rebuild.nodes, 0, &leaf, chunks, number)?;
-    Ok(())
 }
 
 /// Takes a copy of a pair, and compares the chunks that it closes.
@@ -90,15 +64,13 @@ fn add_copy(
 ) -> Result<(), CheckFault>
     requires key { length key.now ≤ 1024 }
     requires value { length value.now ≤ 65536 }
-    requires number { rebuild.old.number ≤ length chunks.now }
-    ensures ok { OnOk result (Takes chunks.now rebuild.old rebuild.new
-        (record { key = key.now; value = value.now } ∷ [])) }
-    ensures number { OnOk result (rebuild.new.number ≤ length chunks.now) }
-    ensures err { IfErr result (UnlessMemory (FaultTaking chunks.now rebuild.old
-        (record { key = key.now; value = value.now } ∷ []))) }
+    ensures { Takes chunks.now rebuild.old rebuild.new
+        (record { key = key.now; value = value.now } ∷ []) result }
 {
     let pair = Pair::copy_of(alloc, key, value)?;
-    add_pair(alloc, rebuild, &pair, chunks)
+    let closed = rebuild.leaf.push(alloc, &pair)?;
+    rebuild.number = pass(alloc, &mut rebuild.nodes, closed, chunks, rebuild.number)?;
+    Ok(())
 }
 
 /// Takes the pairs of a leaf.
@@ -108,11 +80,7 @@ fn add_leaf(
     mut leaf: Pairs,
     chunks: &FileChunks,
 ) -> Result<(), CheckFault>
-    requires number { rebuild.old.number ≤ length chunks.now }
-    ensures ok { OnOk result (Takes chunks.now rebuild.old rebuild.new leaf.entry) }
-    ensures number { OnOk result (rebuild.new.number ≤ length chunks.now) }
-    ensures err { IfErr result (UnlessMemory
-        (FaultTaking chunks.now rebuild.old leaf.entry)) }
+    ensures { Takes chunks.now rebuild.old rebuild.new leaf.entry result }
 {
     while let Some((key, value)) = leaf.next() {
         add_copy(alloc, rebuild, key, value, chunks)?;
@@ -122,12 +90,7 @@ fn add_leaf(
 
 /// Takes the pairs of all chunks of a file.
 fn add_chunks(alloc: Global, rebuild: &mut Rebuild, chunks: &FileChunks) -> Result<(), CheckFault>
-    requires number { rebuild.old.number ≤ length chunks.now }
-    ensures ok { OnOk result (Takes chunks.now rebuild.old rebuild.new
-        (flat_map pairs_held chunks.now)) }
-    ensures number { OnOk result (rebuild.new.number ≤ length chunks.now) }
-    ensures err { IfErr result (UnlessMemory
-        (FaultTaking chunks.now rebuild.old (flat_map pairs_held chunks.now))) }
+    ensures { Takes chunks.now rebuild.old rebuild.new (flat_map pairs_held chunks.now) result }
 {
     for number in 0..chunks.len() {
         add_leaf(alloc, rebuild, chunks.pairs(number), chunks)?;
@@ -135,20 +98,24 @@ fn add_chunks(alloc: Global, rebuild: &mut Rebuild, chunks: &FileChunks) -> Resu
     Ok(())
 }
 
-/// Closes what is left open, and answers how many chunks there are in all.
+/// Closes what is left open, level by level from the leaves up, and answers how many chunks there
+/// are in all.
 fn finish(alloc: Global, rebuild: Rebuild, chunks: &FileChunks) -> Result<usize, CheckFault>
-    requires number { rebuild.number ≤ length chunks.now }
-    ensures ok { IfOk result (Ends chunks.now rebuild) }
-    ensures count { IfOk result (λ count. count ≤ length chunks.now) }
-    ensures err { IfErr result (UnlessMemory (FaultEnding chunks.now rebuild)) }
+    ensures { Ends chunks.now rebuild result }
 {
     let Rebuild {
         leaf,
         mut nodes,
-        number,
+        mut number,
     } = rebuild;
-    let next = pass_last(alloc, &mut nodes, leaf.finish(), chunks, number)?;
-    finish_nodes(alloc, nodes, chunks, next)
+    let mut last = leaf.finish();
+    loop {
+        number = pass(alloc, &mut nodes, last, chunks, number)?;
+        if nodes.len() == 0 {
+            return Ok(number);
+        }
+        last = nodes.remove(0).finish();
+    }
 }
 
 /// Tests that the chunks of a file are those of the pairs that they hold.

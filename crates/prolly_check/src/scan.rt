@@ -1,7 +1,7 @@
 //! Scanning the pairs from a key on.
 ghost use Rattle.std.specs.Prelude.{◌≡◌, [], ◌∷◌, ◌++◌, ◌≤◌, length, take, drop, OnOk, IfOk};
 ghost use Rattle.std.specs.List.{flat_map};
-ghost use Rattle.prolly_entry.specs.LookUp.{scan};
+ghost use Rattle.prolly_tree.specs.LookUp.{scan};
 ghost use Rattle.prolly_check.specs.Checked.{chunks_of};
 ghost use Rattle.prolly_check.specs.Held.{pairs_held};
 ghost use Rattle.prolly_check.specs.Leaves.{pairs_from};

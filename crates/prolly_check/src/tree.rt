@@ -1,10 +1,10 @@
 //! A chunk file that was checked.
 ghost use Rattle.std.specs.Prelude.{◌≡◌, ◌↔◌, ◌^◌, ◌<◌, length, IfOk, IfErr, IsErr, Err};
 ghost use Rattle.std.specs.Option.{option_copied};
-ghost use Rattle.prolly_entry.specs.Chunk.{chunks};
+ghost use Rattle.prolly_tree.specs.Chunk.{chunks};
 ghost use Rattle.prolly_entry.specs.Cut.{sha512_cut};
-ghost use Rattle.prolly_entry.specs.File.{root_reference};
-ghost use Rattle.prolly_entry.specs.LookUp.{find, nth, scan};
+ghost use Rattle.prolly_tree.specs.File.{root_reference};
+ghost use Rattle.prolly_tree.specs.LookUp.{find, nth, scan};
 ghost use Rattle.prolly_check.specs.Checked.{IsChecked, IsFile};
 ghost use Rattle.prolly_check.specs.Content.{Content};
 ghost use Rattle.prolly_check.specs.Counted.{pair_of};

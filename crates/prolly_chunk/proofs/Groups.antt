@@ -1,9 +1,9 @@
 -- Groups with one entry more, and a split as its closed groups and the open one.
 use Rattle.std.proofs.Common.{◌≡◌, ℕ, Bool, true, ◌&&◌, nat_le, List, [], ◌∷◌, ◌++◌, length, Option, Some, None, if◌then◌else◌, refl, sym, ap, ◌∙◌, arith, length-append}
 use Rattle.std.proofs.lemmas.Bool.{le-leb}
-use Rattle.prolly_entry.specs.Split.{last_passes, is_closed, split, closed_groups, open_groups, open_entries}
-use Rattle.prolly_entry.proofs.Parts.{flat, as_group, parts, open_rest_of, split_parts, closed_parts, open_parts}
-use Rattle.prolly_entry.proofs.Splits.{flat_parts}
+use Rattle.prolly_tree.specs.Split.{last_passes, is_closed, split, closed_groups, open_groups, open_entries}
+use Rattle.prolly_tree.specs.lemmas.Splits.{flat, as_group}
+use Rattle.prolly_laws.specs.Splits.{parts, open_rest_of, split_parts, closed_parts, open_parts, flat_parts}
 use Rattle.prolly_chunk.specs.Chunk.{has_entries}
 
 -- The value, if the test holds.

@@ -5,9 +5,9 @@ use Rattle.std.specs.Prelude.{slice_range}
 use Rattle.prolly_entry.specs.declared.version.Version.{Version}
 use Rattle.prolly_entry.specs.Pair.{Pair}
 use Rattle.prolly_entry.specs.Spelling.{key_spelling, value_spelling, pair_spelling, count_spelling, child_spelling}
-use Rattle.prolly_entry.specs.Chunk.{Chunk}
+use Rattle.prolly_tree.specs.Chunk.{Chunk}
 use Rattle.prolly_entry.specs.Reference.{reference_of}
-use Rattle.prolly_entry.specs.Events.{greatest_count, event_entry}
+use Rattle.prolly_tree.specs.Events.{greatest_count, event_entry}
 use Rattle.prolly_chunk.specs.Chunk.{with_entry, with_pair, with_child}
 
 abbrev pub make : ℕ → List ℕ → ℕ → List ℕ → Chunk

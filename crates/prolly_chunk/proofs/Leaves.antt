@@ -11,13 +11,12 @@ use Rattle.prolly_entry.specs.declared.version.Version.TheVariants.{One}
 use Rattle.prolly_entry.specs.Pair.{Pair}
 use Rattle.prolly_entry.specs.Spelling.{pair_spelling}
 use Rattle.prolly_entry.specs.Cut.{Cut}
-use Rattle.prolly_entry.specs.Split.{split, closed_groups, open_entries, is_closed}
-use Rattle.prolly_entry.specs.Tree.{pair_is_boundary, last_key, leaves_of}
-use Rattle.prolly_entry.specs.Chunk.{Chunk, chunk_of}
-use Rattle.prolly_entry.specs.Events.{clean, faulty, leaf_events, greatest_count}
-use Rattle.prolly_entry.proofs.Parts.{flat, as_group}
-use Rattle.prolly_entry.proofs.Splits.{split_splits}
-use Rattle.prolly_entry.proofs.Steps.{split_step}
+use Rattle.prolly_tree.specs.Split.{split, closed_groups, open_entries, is_closed}
+use Rattle.prolly_tree.specs.Tree.{pair_is_boundary, last_key, leaves_of}
+use Rattle.prolly_tree.specs.Chunk.{Chunk, chunk_of}
+use Rattle.prolly_tree.specs.Events.{clean, faulty, leaf_events, greatest_count}
+use Rattle.prolly_tree.specs.lemmas.Splits.{flat, as_group}
+use Rattle.prolly_laws.specs.Splits.{split_splits, split_step}
 use Rattle.prolly_chunk.specs.Chunk.{empty_chunk, with_pair, has_entries}
 use Rattle.prolly_chunk.specs.LeafLevel.{LeafState, leaf_level, LeafBegins, LeafTakes, LeafEnds}
 use Rattle.prolly_chunk.proofs.Keys.{same_chunk}
@@ -43,7 +42,8 @@ leaf_long (p ∷ ps) = omega (arith, spelling_long p, leaf_long ps, length-appen
 count_fits : (n : ℕ) → n + 1 < 2 ^ 64 → min (n + 1) greatest_count ≡ n + 1
 count_fits n h = omega (arith, h)
 
--- The leaf of pairs, with one pair more. Its pairs are fewer than its bytes, so their count does not stay behind.
+-- The leaf of pairs, with one pair more. Its pairs are fewer than its bytes, so their count does
+-- not stay behind.
 leaf_with : (ps : List Pair) (p : Pair) → length (with_pair (chunk_of One 0 ps) p).bytes < 2 ^ 64 →
     with_pair (chunk_of One 0 ps) p ≡ chunk_of One 0 (ps ++ p ∷ [])
 leaf_with ps p h =

@@ -1,8 +1,7 @@
 -- What an inner stage sends, and its open node, with one event more and at a clean end.
-use Rattle.std.proofs.Common.{◌≡◌, ℕ, zero, suc, ◌+◌, ◌-◌, ◌≤◌, Bool, true, false, cond, min, ◌&&◌, nat_le, List, [], ◌∷◌, ◌++◌, length, map, Option, None, refl, sym, ap, ◌∙◌, subst, arith, append-nil, length-append}
+use Rattle.std.proofs.Common.{◌≡◌, ℕ, zero, suc, ◌+◌, ◌-◌, ◌≤◌, Bool, true, false, cond, min, ◌&&◌, nat_le, List, [], ◌∷◌, ◌++◌, length, map, Option, refl, sym, ap, ◌∙◌, subst, arith, append-nil, length-append}
 use Rattle.std.proofs.lemmas.Grind.{flat_map-append}
-use Rattle.std.proofs.lemmas.List.Elements.{filter-append}
-use Rattle.std.proofs.lemmas.Bool.{le-leb, eq-eqb, ne_eqb}
+use Rattle.std.proofs.lemmas.Bool.{le-leb, eq-eqb}
 use Rattle.std.specs.List.{flat_map}
 use Rattle.std.specs.Option.{option_to_list}
 use Rattle.std.specs.Int.{w16, to_be_bytes}
@@ -10,15 +9,17 @@ use Rattle.prolly_entry.specs.declared.version.Version.{Version}
 use Rattle.prolly_entry.specs.Spelling.{count_spelling}
 use Rattle.prolly_entry.specs.Reference.{reference_of}
 use Rattle.prolly_entry.specs.Cut.{Cut}
-use Rattle.prolly_entry.specs.Split.{split, is_closed, open_entries}
-use Rattle.prolly_entry.specs.Chunk.{Chunk}
-use Rattle.prolly_entry.specs.Events.{clean, faulty, inner_events, events_above, events_at_end, group_event, event_entry, event_is_boundary, last_event_key, count_sum, greatest_count, has_level}
-use Rattle.prolly_entry.proofs.Parts.{as_group}
-use Rattle.prolly_entry.proofs.Steps.{split_step, stage_step}
+use Rattle.prolly_tree.specs.Split.{split, is_closed, open_entries}
+use Rattle.prolly_tree.specs.Chunk.{Chunk}
+use Rattle.prolly_tree.specs.Events.{clean, faulty, inner_events, events_above, events_at_end, group_event, event_entry, event_is_boundary, last_event_key, count_sum, greatest_count, has_level}
+use Rattle.prolly_tree.specs.lemmas.Splits.{as_group}
+use Rattle.prolly_laws.specs.Splits.{split_step}
+use Rattle.prolly_laws.specs.Stages.{stage_step}
 use Rattle.prolly_chunk.specs.declared.node.Received.{Received}
 use Rattle.prolly_chunk.specs.declared.node.Received.TheVariants.{Nothing}
 use Rattle.prolly_chunk.specs.Chunk.{empty_chunk, with_child, has_entries}
 use Rattle.prolly_chunk.specs.NodeLevel.{NodeState, received_of, one_more, is_several, children_at, node_level, NodeBegins, NodeTakes, NodeEnds}
+use Rattle.prolly_chunk.specs.lemmas.{children_more, Goes}
 use Rattle.prolly_chunk.proofs.Keys.{same_chunk}
 use Rattle.prolly_chunk.proofs.Groups.{some_if, closed_by_second, in_parts}
 
@@ -83,23 +84,7 @@ module _ (cut : Cut) (version : Version) (below : ℕ) where
   open_node events = group_event version (suc below) (open_children events)
 
   children-snoc : (events : List Chunk) (e : Chunk) → children (events ++ e ∷ []) ≡ children events ++ cond (has_level below e) (e ∷ []) []
-  children-snoc events e = filter-append (has_level below) events (e ∷ [])
-
-  -- An event of another level only passes by.
-  record Passes (events : List Chunk) (e : Chunk) : Type 0 where
-    sent : events_above below cut version faulty (events ++ e ∷ []) ≡ events_above below cut version faulty events ++ e ∷ []
-    same : children (events ++ e ∷ []) ≡ children events
-
-  passes : (events : List Chunk) (e : Chunk) → has_level below e ≡ false → Passes events e
-  passes events e other =
-      let test = event_is_boundary cut version in
-      let event_of = group_event version (suc below) in
-      record {
-        sent = (stage_step below event_of test events e).0
-            ∙ ap (λ b. events_above below cut version faulty events
-            ++ e ∷ cond (b && is_closed test 2 (open_children events ++ e ∷ [])) (event_of (open_children events ++ e ∷ []) ∷ []) []) other;
-        same = children-snoc events e ∙ ap (λ b. children events ++ cond b (e ∷ []) []) other ∙ append-nil (children events);
-      }
+  children-snoc events e = children_more below events e
 
   -- An event of the level below adds a child, and brings the node that it closes.
   record Step (events : List Chunk) (e : Chunk) : Type 0 where
@@ -170,43 +155,11 @@ module _ {C : Type 0} (cut_of : C → Cut) where
   node_begins cut version zero node e = record { state = ap (λ n. state cut version n Nothing) e; events = refl }
   node_begins cut version (suc below) node e = record { state = ap (λ n. state cut version n Nothing) e; events = refl }
 
-  -- What an event is to do to the level, where it is the one behind these events.
-  abbrev Goes : C → Version → ℕ → List Chunk → Chunk → NodeState C → Option Chunk → Type 0
-  Goes cut version level events event new closed =
-      (new ≡ node_level cut_of cut version level (events ++ event ∷ []))
-      × (inner_events level (cut_of cut) version faulty (events ++ event ∷ [])
-      ≡ inner_events level (cut_of cut) version faulty events ++ event ∷ option_to_list closed)
-
-  passes_behind : (cut : C) (version : Version) (level : ℕ) (events : List Chunk) (event : Chunk) (old : NodeState C) →
-      old ≡ node_level cut_of cut version level events → 1 ≤ old.node.level → (event.level ≡ old.node.level - 1 → ⊥) →
-      Goes cut version level events event old None
-  passes_behind cut version zero events event old e some other =
-      let l : old.node.level ≡ 0 = ap (λ (s : NodeState C). s.node.level) e in absurd (omega arith)
-  passes_behind cut version (suc below) events event old e some other =
-      let l : old.node.level ≡ suc below = ap (λ (s : NodeState C). s.node.level) e in
-      let p = passes (cut_of cut) version below events event (ne_eqb event.level below (λ h. other (omega arith))) in (
-        e ∙ ap (λ es. state cut version (group_event version (suc below) (open_entries (event_is_boundary (cut_of cut) version) 2 es)) (received_of es)) (sym p.same),
-        p.sent,
-      )
-
-  -- An event of another level leaves the level as it is.
-  pub node_passes : (old : NodeState C) (node : Chunk) (event : Chunk) → node ≡ old.node → 1 ≤ node.level → (event.level ≡ node.level - 1 → ⊥) →
-      NodeTakes cut_of old old event None
-  node_passes old node event o some other = record {
-    state = λ cut version level events e. (at cut version level events e).0;
-    events = λ cut version level events e. (at cut version level events e).1;
-  }
-    where
-      at : (cut : C) (version : Version) (level : ℕ) (events : List Chunk) → old ≡ node_level cut_of cut version level events →
-          Goes cut version level events event old None
-      at cut version level events e = passes_behind cut version level events event old e
-          (subst (λ (x : Chunk). 1 ≤ x.level) o some) (subst (λ (x : Chunk). event.level ≡ x.level - 1 → ⊥) o other)
-
   abbrev Takes : Chunk → Chunk → Chunk → Option Chunk → Bool → C → Version → ℕ → List Chunk → NodeState C → Type 0
   Takes after node event closed is_last cut version level events old = 1 ≤ old.node.level → event.level ≡ old.node.level - 1 →
       after ≡ with_child old.version old.node event → is_last ≡ closes (cut_of old.cut) old.version old.node event →
       closed ≡ some_if is_last after → node ≡ cond is_last (empty_chunk after.level) after →
-      Goes cut version level events event (state old.cut old.version node (one_more old.received)) closed
+      Goes cut_of cut version level events event (state old.cut old.version node (one_more old.received)) closed
 
   takes_behind : (after node event : Chunk) (closed : Option Chunk) (is_last : Bool) (cut : C) (version : Version) (level : ℕ) (events : List Chunk) →
       Takes after node event closed is_last cut version level events (node_level cut_of cut version level events)
@@ -235,7 +188,7 @@ module _ {C : Type 0} (cut_of : C → Cut) where
       }))
     where
       at : (cut' : C) (version' : Version) (level : ℕ) (events : List Chunk) → state cut version before received ≡ node_level cut_of cut' version' level events →
-          Goes cut' version' level events event (state cut version node (one_more received)) closed
+          Goes cut_of cut' version' level events event (state cut version node (one_more received)) closed
       at cut' version' level events e = subst (Takes after node event closed is_last cut' version' level events) (sym e)
           (takes_behind after node event closed is_last cut' version' level events) some l a i c n
 

@@ -3,8 +3,8 @@ use Rattle.std.specs.Prelude.{ℕ, ◌+◌, min, Bool, true, false, List, [], �
 use Rattle.prolly_entry.specs.declared.version.Version.{Version}
 use Rattle.prolly_entry.specs.Pair.{Pair}
 use Rattle.prolly_entry.specs.Spelling.{pair_spelling}
-use Rattle.prolly_entry.specs.Chunk.{Chunk}
-use Rattle.prolly_entry.specs.Events.{greatest_count, event_entry}
+use Rattle.prolly_tree.specs.Chunk.{Chunk}
+use Rattle.prolly_tree.specs.Events.{greatest_count, event_entry}
 
 -- A chunk without entries: its one byte is its level.
 abbrev pub empty_chunk : ℕ → Chunk

@@ -5,10 +5,10 @@ use Rattle.prolly_entry.specs.declared.version.Version.{Version}
 use Rattle.prolly_entry.specs.declared.version.Version.TheVariants.{One}
 use Rattle.prolly_entry.specs.Pair.{Pair}
 use Rattle.prolly_entry.specs.Cut.{Cut}
-use Rattle.prolly_entry.specs.Split.{open_entries}
-use Rattle.prolly_entry.specs.Tree.{pair_is_boundary}
-use Rattle.prolly_entry.specs.Chunk.{Chunk, chunk_of}
-use Rattle.prolly_entry.specs.Events.{clean, faulty, leaf_events}
+use Rattle.prolly_tree.specs.Split.{open_entries}
+use Rattle.prolly_tree.specs.Tree.{pair_is_boundary}
+use Rattle.prolly_tree.specs.Chunk.{Chunk, chunk_of}
+use Rattle.prolly_tree.specs.Events.{clean, faulty, leaf_events}
 use Rattle.prolly_chunk.specs.Chunk.{has_entries}
 
 -- The level: its cut, the open leaf as if it closed now, and whether a pair came.

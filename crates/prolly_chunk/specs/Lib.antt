@@ -4,3 +4,5 @@ pub mod Chunk
 pub mod LeafLevel
 -- A level of nodes, as a machine that takes events one by one.
 pub mod NodeLevel
+-- Lemmas for the crates above.
+pub mod lemmas

@@ -4,13 +4,14 @@ use Rattle.std.specs.List.{filter}
 use Rattle.std.specs.Option.{option_to_list}
 use Rattle.prolly_entry.specs.declared.version.Version.{Version}
 use Rattle.prolly_entry.specs.Cut.{Cut}
-use Rattle.prolly_entry.specs.Split.{open_entries}
-use Rattle.prolly_entry.specs.Chunk.{Chunk}
-use Rattle.prolly_entry.specs.Events.{clean, faulty, inner_events, group_event, event_is_boundary, has_level}
+use Rattle.prolly_tree.specs.Split.{open_entries}
+use Rattle.prolly_tree.specs.Chunk.{Chunk}
+use Rattle.prolly_tree.specs.Events.{clean, faulty, inner_events, group_event, event_is_boundary, has_level}
 use Rattle.prolly_chunk.specs.declared.node.Received.{Received}
 use Rattle.prolly_chunk.specs.declared.node.Received.TheVariants.{Nothing, Single, Several}
 
--- The level: its cut, the version, the open node as if it closed now, and how many events of the level below came.
+-- The level: its cut, the version, the open node as if it closed now, and how many events of the
+-- level below came.
 pub record NodeState (C : Type 0) : Type 0 where
   pub cut : C
   pub version : Version
@@ -51,7 +52,8 @@ pub record NodeBegins {C : Type 0} (cut_of : C → Cut) (cut : C) (version : Ver
   pub state : begun ≡ node_level cut_of cut version level []
   pub events : inner_events level (cut_of cut) version faulty [] ≡ []
 
--- The level takes an event, whatever events came before, and answers what the inner stage sends behind the event itself.
+-- The level takes an event, whatever events came before, and answers what the inner stage sends
+-- behind the event itself.
 pub record NodeTakes {C : Type 0} (cut_of : C → Cut) (old new : NodeState C) (event : Chunk) (closed : Option Chunk) : Type 0 where
   pub state : (cut : C) (version : Version) (level : ℕ) (events : List Chunk) → old ≡ node_level cut_of cut version level events →
       new ≡ node_level cut_of cut version level (events ++ event ∷ [])

@@ -1,7 +1,7 @@
 //! A chunk that is filled entry by entry.
 ghost use Rattle.std.specs.Prelude.{◌≡◌, ◌<◌, ◌≤◌, ◌^◌, nat_le, length, OnOk, OnErr, IfOk};
-ghost use Rattle.prolly_entry.specs.Events.{event_is_boundary};
-ghost use Rattle.prolly_entry.specs.Tree.{pair_is_boundary};
+ghost use Rattle.prolly_tree.specs.Events.{event_is_boundary};
+ghost use Rattle.prolly_tree.specs.Tree.{pair_is_boundary};
 ghost use Rattle.prolly_chunk.specs.Chunk.{empty_chunk, with_pair, with_child};
 
 use crate::event::ChunkEvent;
@@ -28,7 +28,7 @@ pub(crate) struct Chunk {
 
 impl Model for Chunk {
     ghost use Rattle.std.specs.Prelude.{◌+◌, ◌≤◌, slice_range, vec_len};
-    ghost use Rattle.prolly_entry.specs.Chunk.{Chunk as ChunkValue};
+    ghost use Rattle.prolly_tree.specs.Chunk.{Chunk as ChunkValue};
 
     ghost Value = { ChunkValue };
 

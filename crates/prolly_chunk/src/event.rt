@@ -22,7 +22,7 @@ pub struct ChunkEvent {
 impl Model for ChunkEvent {
     ghost use Rattle.std.specs.Prelude.{◌≡◌, IfSome};
     ghost use Rattle.prolly_entry.specs.Reference.{reference_of};
-    ghost use Rattle.prolly_entry.specs.Chunk.{Chunk as ChunkValue};
+    ghost use Rattle.prolly_tree.specs.Chunk.{Chunk as ChunkValue};
 
     ghost Value = { ChunkValue };
 

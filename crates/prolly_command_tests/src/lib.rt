@@ -5,6 +5,4 @@
 #[cfg(test)]
 mod command_line;
 #[cfg(test)]
-mod expect;
-#[cfg(test)]
 mod tools;

@@ -10,7 +10,8 @@ use Rattle.prolly_entry.specs.Reading.{key_length}
 use Rattle.prolly_entry.specs.ChildAt.{tail_length, IsChildAt}
 use Rattle.prolly_entry.proofs.ByteLists.{AreBytes, AreBytes-drop, AreBytes-take, cut_at, length_of_cut, key_is_spelled}
 
--- The count lies behind a reference at place a. Version One has none, so what follows the reference is left as it is.
+-- The count lies behind a reference at place a. Version One has none, so what follows the reference
+-- is left as it is.
 count_is_spelled : (version : Version) (a : ℕ) (bytes : List ℕ) → AreBytes bytes → a + tail_length version ≤ length bytes →
     drop (a + 20) bytes ≡ count_spelling version (from_be_bytes w64 (take 8 (drop (a + 20) bytes))) ++ drop (a + tail_length version) bytes
 count_is_spelled One a bytes h w = refl

@@ -5,8 +5,7 @@ use Rattle.std.specs.Int.{w16, w32, to_be_bytes}
 use Rattle.prolly_entry.specs.Pair.{Pair, IsPair}
 use Rattle.prolly_entry.specs.Spelling.{pair_spelling, value_spelling}
 use Rattle.prolly_entry.specs.Storage.{pair_of, IsSpelling}
-use Rattle.prolly_entry.proofs.FrontBytes.{after_two, key_size, key_there}
-use Rattle.prolly_entry.proofs.Spellings.{same_pair}
+use Rattle.prolly_entry.specs.lemmas.Spellings.{after_two, key_size, key_there, same_pair}
 
 pub copied : (p : Pair) (bytes : List ℕ) → bytes ≡ pair_spelling p → pair_of bytes (2 + length p.key) ≡ p
 copied p bytes e =

@@ -15,8 +15,7 @@ use Rattle.prolly_entry.specs.declared.flaw.Flaw.TheVariants as flaws
 use Rattle.prolly_entry.specs.Reading.{Begins, EndsIn, IsReading, next_flaw}
 use Rattle.prolly_entry.specs.Front.{IsRecordAt}
 use Rattle.prolly_entry.specs.NextRecord.{IsNext, IsUndecided, IsFlawed}
-use Rattle.prolly_entry.proofs.Spellings.{record_spellings_apart}
-use Rattle.prolly_entry.proofs.FrontBytes.{record_size}
+use Rattle.prolly_entry.specs.lemmas.Spellings.{record_spellings_apart, record_size}
 use Rattle.prolly_entry.proofs.NextFlaws.{whole_flaw, front_flaw}
 
 -- ---- rising keys

@@ -1,10 +1,9 @@
 -- What bytes begin with is spelled there, and what is spelled there is found.
 use Rattle.std.specs.Prelude.{◌==◌}
-use Rattle.std.proofs.Common.{◌≡◌, ℕ, ◌+◌, ◌-◌, ◌<◌, ◌≤◌, true, false, List, [], ◌∷◌, ◌++◌, length, take, drop, Option, Some, None, refl, sym, ap, ◌∙◌, subst, arith, append_assoc, length-append, length-drop}
-use Rattle.std.proofs.lemmas.List.{drop-drop, length-take-le}
-use Rattle.std.proofs.lemmas.Nat.{be_bytes_4, from_be_bytes-to_be_bytes_2, from_be_bytes-to_be_bytes_4}
-use Rattle.std.proofs.Math.Seq.{take-append_seam}
-use Rattle.std.specs.Int.{w16, w32, to_be_bytes, from_be_bytes}
+use Rattle.std.proofs.Common.{◌≡◌, ℕ, ◌+◌, ◌-◌, ◌<◌, ◌≤◌, true, false, List, ◌++◌, length, take, drop, Option, Some, None, refl, sym, ap, ◌∙◌, subst, arith, append_assoc, length-drop}
+use Rattle.std.proofs.lemmas.List.{length-take-le}
+use Rattle.std.proofs.lemmas.Nat.{be_bytes_4}
+use Rattle.std.specs.Int.{w32, to_be_bytes}
 use Rattle.prolly_entry.specs.declared.front.FrontRecord.{FrontRecord}
 use Rattle.prolly_entry.specs.declared.front.FrontRecord.TheVariants.{Put, Remove, More, KeyTooLong, ValueTooLong}
 use Rattle.prolly_entry.specs.Record.{Record, IsRecord, IsChange}
@@ -13,6 +12,7 @@ use Rattle.prolly_entry.specs.Front.{front_of, as_pair, removal_at, IsCut, IsRec
 use Rattle.prolly_entry.proofs.ByteLists.{AreBytes, AreBytes-drop, AreBytes-take, cut_at, key_is_spelled}
 use Rattle.prolly_entry.specs.Reading.{key_length, value_length}
 use Rattle.prolly_entry.proofs.FrontCases.{Shape, shape, not_same}
+use Rattle.prolly_entry.specs.lemmas.Spellings.{value_number, value_size, record_size, numbers}
 
 four_back : (bytes : List ℕ) → AreBytes bytes → 6 + key_length bytes ≤ length bytes →
     to_be_bytes w32 (value_length bytes) ≡ take 4 (drop (2 + key_length bytes) bytes)
@@ -36,64 +36,6 @@ value_spelled bytes h e =
     ∙ sym (append_assoc (to_be_bytes w32 (length (take m rest))) (take m rest) (drop (6 + n + m) bytes))))))
 
 -- ---- what is spelled is found
-
-pub found_key : (key rest : List ℕ) → length key ≤ 1024 → key_length (key_spelling key ++ rest) ≡ length key
-found_key key rest h = from_be_bytes-to_be_bytes_2 (length key) (omega arith)
-
-pub after_two : (key rest : List ℕ) (n : ℕ) → n ≡ length key → drop (2 + n) (key_spelling key ++ rest) ≡ rest
-after_two key rest n e = sym (drop-drop n 2 (key_spelling key ++ rest)) ∙ (ap (λ k. drop k (key ++ rest)) e ∙ drop_seam key rest)
-  where
-    drop_seam : (xs ys : List ℕ) → drop (length xs) (xs ++ ys) ≡ ys
-    drop_seam [] ys = refl
-    drop_seam (x ∷ xs) ys = drop_seam xs ys
-
-pub key_there : (key rest : List ℕ) (n : ℕ) → n ≡ length key → take n (drop 2 (key_spelling key ++ rest)) ≡ key
-key_there key rest n e = ap (λ k. take k (key ++ rest)) e ∙ take-append_seam key rest
-
-spelled_after : (r : Record) (more : List ℕ) → record_spelling r ++ more ≡ key_spelling r.key ++ (change_spelling r.value ++ more)
-spelled_after r more = append_assoc (key_spelling r.key) (change_spelling r.value) more
-
--- the number at the place of a value's length, and the value's bytes
-abbrev pub value_number : Option (List ℕ) → ℕ
-value_number None = 0xFFFF_FFFF
-value_number (Some v) = length v
-
-abbrev pub value_size : Option (List ℕ) → ℕ
-value_size None = 0
-value_size (Some v) = length v
-
-pub record Numbers (r : Record) (bytes : List ℕ) : Type 0 where
-  pub key : key_length bytes ≡ length r.key
-  pub value : value_length bytes ≡ value_number r.value
-  pub there : take (key_length bytes) (drop 2 bytes) ≡ r.key
-  pub len : 6 + length r.key + value_size r.value ≤ length bytes
-
-number_found : (value : Option (List ℕ)) (more : List ℕ) → IsChange value → from_be_bytes w32 (take 4 (change_spelling value ++ more)) ≡ value_number value
-number_found None more h = from_be_bytes-to_be_bytes_4 0xFFFF_FFFF (omega arith)
-number_found (Some v) more h = from_be_bytes-to_be_bytes_4 (length v) (omega arith)
-
-change_size : (value : Option (List ℕ)) → length (change_spelling value) ≡ 4 + value_size value
-change_size None = refl
-change_size (Some v) = length-append (to_be_bytes w32 (length v)) v
-
-pub key_size : (key : List ℕ) → length (key_spelling key) ≡ 2 + length key
-key_size key = length-append (to_be_bytes w16 (length key)) key
-
-pub record_size : (r : Record) → length (record_spelling r) ≡ 6 + length r.key + value_size r.value
-record_size r = length-append (key_spelling r.key) (change_spelling r.value) ∙ omega (arith, key_size r.key, change_size r.value)
-
-numbers_at : (r : Record) (more : List ℕ) → IsRecord r → Numbers r (key_spelling r.key ++ (change_spelling r.value ++ more))
-numbers_at r more h =
-    let bytes : List ℕ = key_spelling r.key ++ (change_spelling r.value ++ more) in
-    let k = found_key r.key (change_spelling r.value ++ more) h.key in record {
-      key = k;
-      value = ap (λ (t : List ℕ). from_be_bytes w32 (take 4 t)) (after_two r.key (change_spelling r.value ++ more) (key_length bytes) k) ∙ number_found r.value more h.value;
-      there = key_there r.key (change_spelling r.value ++ more) (key_length bytes) k;
-      len = omega (arith, length-append (key_spelling r.key) (change_spelling r.value ++ more), length-append (change_spelling r.value) more, key_size r.key, change_size r.value);
-    }
-
-pub numbers : (r : Record) (more bytes : List ℕ) → IsRecord r → bytes ≡ record_spelling r ++ more → Numbers r bytes
-numbers r more bytes h e = subst (λ b. Numbers r b) (sym (e ∙ spelled_after r more)) (numbers_at r more h)
 
 -- a whole record
 abbrev pub IsWhole : FrontRecord → Type 0

@@ -14,7 +14,8 @@ use Rattle.prolly_entry.specs.declared.flaw.Flaw.TheVariants as flaws
 use Rattle.prolly_entry.specs.Front.{front_of, IsRecordAt}
 use Rattle.prolly_entry.specs.Reading.{key_length, value_length, flaw_by, next_flaw, order_flaw}
 use Rattle.prolly_entry.proofs.FrontCases.{Shape, shape, more_same}
-use Rattle.prolly_entry.proofs.FrontBytes.{IsWhole, spelled_whole, numbers}
+use Rattle.prolly_entry.proofs.FrontBytes.{IsWhole, spelled_whole}
+use Rattle.prolly_entry.specs.lemmas.Spellings.{numbers}
 
 -- What is wrong, where the limit is not reached.
 abbrev pub flaw_at : FrontRecord → Option Flaw → Option Flaw

@@ -10,7 +10,7 @@ use Rattle.prolly_entry.specs.Spelling.{record_spelling}
 use Rattle.prolly_entry.specs.Keys.{key_order, KeyBelow, ComesBefore, KeyOrderIsBytewise}
 use Rattle.prolly_entry.specs.declared.flaw.Flaw.{Flaw}
 use Rattle.prolly_entry.specs.Reading.{Begins, EndsIn, IsReading, OneReading, FirstAreGood}
-use Rattle.prolly_entry.proofs.Spellings.{record_spellings_apart}
+use Rattle.prolly_entry.specs.lemmas.Spellings.{record_spellings_apart}
 
 cmp_less : (a b : ℕ) → a < b → nat_cmp a b ≡ Less
 cmp_less a b h = grind (arith, nat_tests)

@@ -1,8 +1,7 @@
 -- Going through the records of bytes.
-use Rattle.std.proofs.Common.{◌≡◌, ℕ, ◌+◌, ◌-◌, ◌<◌, List, [], ◌∷◌, ◌++◌, length, take, drop, Some, None, refl, sym, ap, ◌∙◌, subst, arith, length-append, length-drop}
+use Rattle.std.proofs.Common.{◌≡◌, ℕ, ◌+◌, ◌-◌, ◌<◌, List, [], ◌∷◌, ◌++◌, length, drop, Some, None, refl, sym, ap, ◌∙◌, subst, arith, length-append}
 use Rattle.std.proofs.lemmas.List.{append-nil}
 use Rattle.std.proofs.lemmas.List.Concat.{flat_map-append}
-use Rattle.std.proofs.Math.Seq.{take-length}
 use Rattle.prolly_entry.specs.declared.flaw.Flaw.{Flaw}
 use Rattle.prolly_entry.specs.declared.flaw.Flaw.TheVariants as flaws
 use Rattle.prolly_entry.specs.declared.record_file.RecordFault.{RecordFault}
@@ -14,12 +13,8 @@ use Rattle.prolly_entry.specs.Reading.{Begins, IsReading}
 use Rattle.prolly_entry.specs.Overlay.{pairs_put, pairs_of_change, raw_overlay}
 use Rattle.prolly_entry.specs.NextRecord.{IsNext, IsUndecided, IsFlawed}
 use Rattle.prolly_entry.specs.RecordList.{ArePairsOf, HasFlawAt, IsFaultOf, fault_of}
-use Rattle.prolly_entry.proofs.Overlays.{overlay_is}
+use Rattle.prolly_entry.specs.lemmas.Overlays.{overlay_is}
 use Rattle.prolly_entry.proofs.Endings.{begins_more, begins_none, last_more, ends_clean, ends_flawed, ends_cut}
-
--- What `&bytes[at..]` is.
-pub rest_is : (bytes : List ℕ) (at : ℕ) → take (length bytes - at) (drop at bytes) ≡ drop at bytes
-rest_is bytes at = ap (λ k. take k (drop at bytes)) (sym (length-drop at bytes)) ∙ take-length (drop at bytes)
 
 -- Some records are read: they begin the bytes, and the pairs are those that they put.
 pub record IsUnderWay (bytes : List ℕ) (limit : ℕ) (rest : List ℕ) (count : ℕ) (position : Position) (pairs : List Pair) : Type 0 where

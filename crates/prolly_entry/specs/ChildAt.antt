@@ -11,8 +11,8 @@ abbrev pub tail_length : Version → ℕ
 tail_length One = 20
 tail_length Two = 28
 
--- The key, the reference and the count of the child entry that is said to lie there. (Version One has no count; whatever number
--- stands for it is not spelled.)
+-- The key, the reference and the count of the child entry that is said to lie there. (Version One
+-- has no count; whatever number stands for it is not spelled.)
 abbrev pub key_at : List ℕ → ChildAt → List ℕ
 key_at bytes at = take (at.key_end - 2) (drop 2 bytes)
 

@@ -73,7 +73,8 @@ IsFrontRecord bytes More = NoRecordAt bytes × IsCut bytes
 IsFrontRecord bytes KeyTooLong = NoRecordAt bytes × HasLongKey bytes
 IsFrontRecord bytes ValueTooLong = NoRecordAt bytes × HasLongValue bytes × (value_length bytes ≢ 0xFFFF_FFFF)
 
--- The same as a function that computes: of `size` bytes that spell a key of n bytes and the number m for the value's length.
+-- The same as a function that computes: of `size` bytes that spell a key of n bytes and the number
+-- m for the value's length.
 abbrev pub front_by : ℕ → ℕ → ℕ → FrontRecord
 front_by size n m =
     if nat_lt size 2 then More

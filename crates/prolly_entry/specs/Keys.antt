@@ -5,8 +5,8 @@ use Rattle.std.specs.declared.cmp.Ordering.TheVariants.{Less}
 use Rattle.std.specs.Ordering.{nat_cmp}
 use Rattle.std.specs.Cmp.Lexicographic.{slice_cmp}
 
--- Key x comes before key y where x is a proper prefix of y, or where at the first place at which they differ x's byte is less,
--- bytes being unsigned.
+-- Key x comes before key y where x is a proper prefix of y, or where at the first place at which
+-- they differ x's byte is less, bytes being unsigned.
 pub data ComesBefore : List ℕ → List ℕ → Type 0 where
   is_prefix : (x : List ℕ) (b : ℕ) (y : List ℕ) → ComesBefore x (x ++ b ∷ y)
   is_less : (same : List ℕ) (a b : ℕ) (x y : List ℕ) → a < b → ComesBefore (same ++ a ∷ x) (same ++ b ∷ y)

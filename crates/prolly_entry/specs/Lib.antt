@@ -10,49 +10,35 @@ pub mod Change
 pub mod Position
 -- Versions of the chunk file. (This project's format.)
 pub mod Version
--- How pairs, records and child entries are spelled as bytes. Numbers are big-endian. (This project's format.)
+-- How pairs, records and child entries are spelled as bytes. Numbers are big-endian. (This
+-- project's format.)
 pub mod Spelling
 -- A child entry that bytes begin with.
 pub mod ChildAt
 -- Bytes are seen as numbers.
 pub mod Byte
--- References of chunks, and their text. (SHA-512 is that of FIPS 180-4. The cut to 20 bytes and the text are this project's format.)
+-- References of chunks, and their text. (SHA-512 is that of FIPS 180-4. The cut to 20 bytes and the
+-- text are this project's format.)
 pub mod Reference
--- Cuts: which entries end a chunk. (SHA-512 is that of FIPS 180-4. The rest is this project's format: Noms decides by a rolling
+-- Cuts: which entries end a chunk. (SHA-512 is that of FIPS 180-4. The rest is this project's
+-- format.)
 pub mod Cut
 -- How a pair is kept, and what it carries. (This project's own; no promise outside rests on it.)
 pub mod Storage
--- The records that the bytes of a record file spell, and what follows them. (This project's format.)
+-- The records that the bytes of a record file spell, and what follows them. (This project's
+-- format.)
 pub mod Reading
 -- What bytes begin with: a record, a pair, or no whole one. (This project's format.)
 pub mod Front
--- What the bytes at hand say of the next record, where more bytes may follow them. (This project's rules.)
+-- What the bytes at hand say of the next record, where more bytes may follow them. (This project's
+-- rules.)
 pub mod NextRecord
--- The overlay of lists of records: the map that they make where a later list wins a key. (This project's format.)
+-- The overlay of lists of records: the map that they make where a later list wins a key. (This
+-- project's format.)
 pub mod Overlay
 -- What all records of bytes are.
 pub mod RecordList
--- Merging inputs of which some end with a fault: which fault is named, and which records come before it. (This project's rules.)
-pub mod Merge
--- How large overlays are, and that merged parts rise. (This project's rules.)
-pub mod MergedParts
--- Inputs of which some were cut short, because a worker on their way was refused memory. (This project's rules.)
-pub mod CutShort
--- Look-ups in a map, a list of pairs with rising keys.
-pub mod LookUp
--- How a list of entries is cut into groups. (The idea is that of the Noms documentation; `least` is this project's.) An entry may
-pub mod Split
--- The prolly tree of a map. (The tree is that of the Noms documentation; the fields of a child entry are this project's.)
-pub mod Tree
--- The chunks of a tree, in the order in which a file has them. (This project's format.)
-pub mod Chunk
 -- Prefixes of lists.
 pub mod Prefix
--- The chunk file of a map, and what a run that met a fault has written of it. (This project's format.)
-pub mod File
--- What the stages of a pipeline send, as a function of all that they received. An event is a chunk. (This project's rules.)
-pub mod Events
--- The stages of a pipeline one behind another, and what its writer takes. (This project's rules.)
-pub mod Pipeline
--- Worked examples, by computation: whole files and, where a cut shows its boundaries, the order of chunks.
-pub mod Examples
+-- Lemmas for the crates above, by subject.
+pub mod lemmas

@@ -1,4 +1,5 @@
--- What the bytes at hand say of the next record, where more bytes may follow them. (This project's rules.)
+-- What the bytes at hand say of the next record, where more bytes may follow them. (This project's
+-- rules.)
 use Rattle.std.specs.Prelude.{◌≡◌, ◌≢◌, ℕ, ◌<◌, ◌≤◌, true, List, ◌++◌, length, Some}
 use Rattle.prolly_entry.specs.declared.flaw.Flaw.{Flaw}
 use Rattle.prolly_entry.specs.declared.flaw.Flaw.TheVariants.{Truncated}
@@ -15,8 +16,8 @@ pub record IsNext (limit count : ℕ) (position : Position) (bytes : List ℕ) (
   pub room : count ≢ limit
   pub rises : is_before position (Some r.key) ≡ true
 
--- Nothing is decided: there are no bytes, or they are cut, and more of them may bring a good record. They are fewer than the
--- greatest record has.
+-- Nothing is decided: there are no bytes, or they are cut, and more of them may bring a good
+-- record. They are fewer than the greatest record has.
 pub record IsUndecided (limit count : ℕ) (position : Position) (bytes : List ℕ) : Type 0 where
   pub few : length bytes < 66566
   pub cut : 0 < length bytes → next_flaw limit count position bytes ≡ Some Truncated
@@ -26,7 +27,8 @@ pub record IsFlawed (limit count : ℕ) (position : Position) (bytes : List ℕ)
   pub some : 0 < length bytes
   pub is : (more : List ℕ) → next_flaw limit count position (bytes ++ more) ≡ Some flaw
 
--- What the bytes say of the next record behind `count` good ones, at most `limit`, of which the last stands at the position.
+-- What the bytes say of the next record behind `count` good ones, at most `limit`, of which the
+-- last stands at the position.
 abbrev pub IsNextRecord : ℕ → ℕ → Position → List ℕ → NextRecord → Type 0
 IsNextRecord limit count position bytes (Put key_end value_start len) =
     IsNext limit count position bytes (put_at bytes key_end value_start len) len × (key_end ≤ value_start) × (value_start ≤ len) × (2 ≤ key_end)

@@ -1,4 +1,5 @@
--- The overlay of lists of records: the map that they make where a later list wins a key. (This project's format.)
+-- The overlay of lists of records: the map that they make where a later list wins a key. (This
+-- project's format.)
 use Rattle.std.specs.Prelude.{◌≡◌, ℕ, false, List, [], ◌∷◌, ◌++◌, map, Option, Some, None, if◌then◌else◌}
 use Rattle.std.specs.declared.cmp.Ordering.TheVariants.{Less, Equal, Greater}
 use Rattle.std.specs.declared.cmp.Ordering.{Ordering}
@@ -65,7 +66,8 @@ pairs_of_change key (Some value) = record { key = key; value = value } ∷ []
 abbrev pub pairs_put : List Record → List Pair
 pairs_put records = flat_map (λ r. pairs_of_change r.key r.value) records
 
--- The overlay of lists: the map of all (key, value) where the last list that has a record of the key puts the value.
+-- The overlay of lists: the map of all (key, value) where the last list that has a record of the
+-- key puts the value.
 abbrev pub overlay : List (List Record) → List Pair
 overlay lists = pairs_put (raw_overlay lists)
 
@@ -95,7 +97,8 @@ abbrev pub NotBelow : List ℕ → List Record → Type 0
 NotBelow key [] = Unit {0}
 NotBelow key (r ∷ rs) = is_lt (key_order r.key key) ≡ false
 
--- Law: the raw overlay begins with the last record of the least key, and goes on as the raw overlay of what is left.
+-- Law: the raw overlay begins with the last record of the least key, and goes on as the raw overlay
+-- of what is left.
 abbrev pub OverlayStep : Type 0
 OverlayStep = (lists : List (List Record)) (key : List ℕ) (value : Option (List ℕ)) →
     AllRising lists → AllByRecursion (NotBelow key) lists → last_change_of lists key ≡ Some value →

@@ -1,4 +1,5 @@
--- The records that the bytes of a record file spell, and what follows them. (This project's format.)
+-- The records that the bytes of a record file spell, and what follows them. (This project's
+-- format.)
 use Rattle.std.specs.Prelude.{◌≡◌, ℕ, ◌+◌, ◌≤◌, nat_lt, ◌==◌, List, [], ◌∷◌, ◌++◌, length, take, drop, All, Option, Some, None, if◌then◌else◌}
 use Rattle.std.specs.Int.{w16, w32, from_be_bytes}
 use Rattle.std.specs.List.{flat_map, AllByRecursion}
@@ -11,8 +12,8 @@ use Rattle.prolly_entry.specs.Record.{Record, IsRecord, keys_of}
 use Rattle.prolly_entry.specs.Spelling.{record_spelling}
 use Rattle.prolly_entry.specs.Position.{Position, last_position, is_before}
 
--- The records are lawful, at most `limit` many, their keys rise, and their spellings, one after another, begin the bytes; the
--- rest follows.
+-- The records are lawful, at most `limit` many, their keys rise, and their spellings, one after
+-- another, begin the bytes; the rest follows.
 pub record Begins (bytes : List ℕ) (limit : ℕ) (records : List Record) (rest : List ℕ) : Type 0 where
   pub spelled : bytes ≡ flat_map record_spelling records ++ rest
   pub lawful : AllByRecursion IsRecord records
@@ -30,9 +31,10 @@ value_length bytes = from_be_bytes w32 (take 4 (drop (2 + key_length bytes) byte
 abbrev pub order_flaw : Position → List ℕ → Option Flaw
 order_flaw position key = if is_before position (Some key) then None else Some OutOfOrder
 
--- What is wrong with the next record, where `size` bytes follow `count` good records: the first of these that holds, and None
--- where one more good record follows. By the bytes the key's length is n and the value's m, where the greatest number marks a
--- removal, which has no value; the last question is the order of the keys.
+-- What is wrong with the next record, where `size` bytes follow `count` good records: the first of
+-- these that holds, and None where one more good record follows. By the bytes the key's length is n
+-- and the value's m, where the greatest number marks a removal, which has no value; the last
+-- question is the order of the keys.
 abbrev pub flaw_by : ℕ → ℕ → ℕ → ℕ → ℕ → Option Flaw → Option Flaw
 flaw_by limit count size n m order =
     if count == limit then Some TooManyRecords
@@ -50,14 +52,15 @@ next_flaw limit count position rest =
     flaw_by limit count (length rest) (key_length rest) (value_length rest)
     (order_flaw position (take (key_length rest) (drop 2 rest)))
 
--- The ending: clean (None) where no byte follows the good records, else what is wrong with the next record.
+-- The ending: clean (None) where no byte follows the good records, else what is wrong with the next
+-- record.
 abbrev pub EndsIn : ℕ → List Record → List ℕ → Option Flaw → Type 0
 EndsIn limit good [] ending = ending ≡ None
 EndsIn limit good (b ∷ rest) None = ⊥
 EndsIn limit good (b ∷ rest) (Some flaw) = next_flaw limit (length good) (last_position good) (b ∷ rest) ≡ Some flaw
 
--- The reading of bytes: the good records are the longest list of records that begins them, and what follows them is the ending.
--- A flaw's place is the number of good records.
+-- The reading of bytes: the good records are the longest list of records that begins them, and what
+-- follows them is the ending. A flaw's place is the number of good records.
 pub record IsReading (bytes : List ℕ) (limit : ℕ) (good : List Record) (ending : Option Flaw) : Type 0 where
   pub rest : List ℕ
   pub begins : Begins bytes limit good rest

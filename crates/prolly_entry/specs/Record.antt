@@ -11,7 +11,8 @@ abbrev pub IsChange : Option (List ℕ) → Type 0
 IsChange None = Unit {0}
 IsChange (Some value) = length value ≤ 65536
 
--- The record is lawful: its key has at most 1,024 bytes, and so has a value that it puts at most 65,536.
+-- The record is lawful: its key has at most 1,024 bytes, and so has a value that it puts at most
+-- 65,536.
 pub record IsRecord (r : Record) : Type 0 where
   pub key : length r.key ≤ 1024
   pub value : IsChange r.value

@@ -9,7 +9,8 @@ use Rattle.prolly_entry.specs.Record.{Record}
 use Rattle.prolly_entry.specs.Reading.{IsReading}
 use Rattle.prolly_entry.specs.Overlay.{overlay}
 
--- The ending of the bytes is clean, and the pairs are the overlay of their good records: those that are put.
+-- The ending of the bytes is clean, and the pairs are the overlay of their good records: those that
+-- are put.
 pub record ArePairsOf (bytes : List ℕ) (limit : ℕ) (pairs : List Pair) : Type 0 where
   pub good : List Record
   pub reading : IsReading bytes limit good None

@@ -1,4 +1,5 @@
--- References of chunks, and their text. (SHA-512 is that of FIPS 180-4. The cut to 20 bytes and the text are this project's format.)
+-- References of chunks, and their text. (SHA-512 is that of FIPS 180-4. The cut to 20 bytes and the
+-- text are this project's format.)
 use Rattle.std.specs.Prelude.{zero, suc, ◌+◌, ◌*◌, ◌/◌, ◌%◌, ◌<◌, ◌≡◌, codes, slice_index, length, All, ℕ, List, [], ◌∷◌, ◌++◌, take}
 use Rattle.sha2.specs.Sha512.{sha512}
 use Rattle.prolly_entry.specs.Byte.{IsByte}
@@ -7,7 +8,8 @@ use Rattle.prolly_entry.specs.Byte.{IsByte}
 unfoldable pub reference_of : List ℕ → List ℕ
 reference_of bytes = take 20 (sha512 bytes)
 
--- The number that bytes spell, the highest byte first, behind the number `high` of bytes before them.
+-- The number that bytes spell, the highest byte first, behind the number `high` of bytes before
+-- them.
 abbrev pub number_of : ℕ → List ℕ → ℕ
 number_of high [] = high
 number_of high (b ∷ bytes) = number_of (high * 256 + b) bytes
@@ -21,7 +23,8 @@ abbrev pub characters : ℕ → ℕ → List ℕ
 characters zero number = []
 characters (suc n) number = characters n (number / 32) ++ character (number % 32) ∷ []
 
--- The text of a reference: its 160 bits are a number, written with 32 digits in base 32, so five bits a character.
+-- The text of a reference: its 160 bits are a number, written with 32 digits in base 32, so five
+-- bits a character.
 unfoldable pub reference_text : List ℕ → List ℕ
 reference_text reference = characters 32 (number_of 0 reference)
 

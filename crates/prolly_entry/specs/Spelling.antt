@@ -1,4 +1,5 @@
--- How pairs, records and child entries are spelled as bytes. Numbers are big-endian. (This project's format.)
+-- How pairs, records and child entries are spelled as bytes. Numbers are big-endian. (This
+-- project's format.)
 use Rattle.std.specs.Prelude.{◌≡◌, ℕ, ◌≤◌, List, [], ◌++◌, length, Option, Some, None}
 use Rattle.std.specs.Int.{w16, w32, w64, to_be_bytes}
 use Rattle.prolly_entry.specs.declared.version.Version.{Version}
@@ -18,7 +19,8 @@ value_spelling value = to_be_bytes w32 (length value) ++ value
 abbrev pub pair_spelling : Pair → List ℕ
 pair_spelling p = key_spelling p.key ++ value_spelling p.value
 
--- What a record says of its key: a value that is put, or for a removal the greatest number where a value's length stands.
+-- What a record says of its key: a value that is put, or for a removal the greatest number where a
+-- value's length stands.
 abbrev pub change_spelling : Option (List ℕ) → List ℕ
 change_spelling (Some value) = value_spelling value
 change_spelling None = to_be_bytes w32 0xFFFF_FFFF
@@ -32,12 +34,13 @@ abbrev pub count_spelling : Version → ℕ → List ℕ
 count_spelling One count = []
 count_spelling Two count = to_be_bytes w64 count
 
--- A child entry: the greatest key below the child, the 20 bytes of the child's reference, the count.
+-- A child entry: the greatest key below the child, the 20 bytes of the child's reference, the
+-- count.
 abbrev pub child_spelling : Version → List ℕ → List ℕ → ℕ → List ℕ
 child_spelling version key reference count = key_spelling key ++ reference ++ count_spelling version count
 
--- Laws: no spelling is a proper prefix of another of its kind. Where two spellings begin the same bytes, they are one, and
--- what follows them is the same.
+-- Laws: no spelling is a proper prefix of another of its kind. Where two spellings begin the same
+-- bytes, they are one, and what follows them is the same.
 abbrev pub PairSpellingsApart : Type 0
 PairSpellingsApart = (p q : Pair) (x y : List ℕ) → IsPair p → IsPair q →
     pair_spelling p ++ x ≡ pair_spelling q ++ y → (p ≡ q) × (x ≡ y)

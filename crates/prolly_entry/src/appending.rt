@@ -12,7 +12,8 @@ pub(crate) fn append_parts(
     d: &[u8],
 ) -> Result<(), AllocError>
     requires { length a.now + length b.now + length c.now + length d.now < 2 ^ 64 }
-    ensures ok { OnOk result (out.new.items ≡ out.old.items ++ ((a.now ++ b.now) ++ (c.now ++ d.now))) }
+    ensures ok { OnOk result (out.new.items ≡ out.old.items ++
+        ((a.now ++ b.now) ++ (c.now ++ d.now))) }
     ensures err { OnErr result (out.new.items ≡ out.old.items) }
 {
     out.reserve(a.len() + b.len() + c.len() + d.len())?;
@@ -25,7 +26,8 @@ pub(crate) fn append_parts(
 /// An array that begins with four parts.
 pub(crate) fn joined_parts<const N: usize>(a: &[u8], b: &[u8], c: &[u8], d: &[u8]) -> [u8; N]
     requires { length a.now + length b.now + length c.now + length d.now ≤ N }
-    ensures { take (length a.now + length b.now + length c.now + length d.now) result ≡ (a.now ++ b.now) ++ (c.now ++ d.now) }
+    ensures { take (length a.now + length b.now + length c.now + length d.now) result ≡
+        (a.now ++ b.now) ++ (c.now ++ d.now) }
 {
     let mut bytes = [0; N];
     let b_start = a.len();

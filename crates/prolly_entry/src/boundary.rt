@@ -5,8 +5,8 @@ ghost use Rattle.prolly_entry.specs.Cut.{boundary_number};
 use byteorder::{BigEndian, ByteOrder};
 use sha2::{Digest, Sha512};
 
-/// The big-endian number in the bytes 20 to 23 of the SHA-512 of an entry. The first 20 bytes are left
-/// to references.
+/// The big-endian number in the bytes 20 to 23 of the SHA-512 of an entry. The first 20 bytes are
+/// left to references.
 #[tactic(auto, unfolding(crate::specs::Cut::boundary_number))]
 pub(crate) fn boundary_number(entry: &[u8]) -> u32
     ensures { result ≡ boundary_number entry.now }

@@ -18,16 +18,16 @@ const REFERENCE_SIZE: usize = 20;
 const COUNT_SIZE: usize = 8;
 
 /// Where the parts of a child entry lie that begins bytes: its key is the bytes `2..key_end`, its
-/// reference the 20 bytes behind it, and the whole entry `0..len`. In version Two the last eight bytes
-/// before `len` are the count.
+/// reference the 20 bytes behind it, and the whole entry `0..len`. In version Two the last eight
+/// bytes before `len` are the count.
 #[derive(Clone, Copy, Debug, PartialEq, Eq)]
 pub struct ChildAt {
     pub key_end: usize,
     pub len: usize,
 }
 
-/// The child entry of version One that the bytes begin with, whatever follows it. It is None where the
-/// bytes end inside the entry, and where its key would be longer than 1,024 bytes.
+/// The child entry of version One that the bytes begin with, whatever follows it. It is None where
+/// the bytes end inside the entry, and where its key would be longer than 1,024 bytes.
 pub fn front_child(bytes: &[u8]) -> Option<ChildAt>
     ensures some { IfSome result (λ at. IsChildAt One bytes.now at) }
     ensures none { IfNone result (NoChildAt One bytes.now) }
@@ -35,8 +35,8 @@ pub fn front_child(bytes: &[u8]) -> Option<ChildAt>
     front_child_as(Version::One, bytes)
 }
 
-/// The child entry of a version that the bytes begin with, whatever follows it. It is None where the
-/// bytes end inside the entry, and where its key would be longer than 1,024 bytes.
+/// The child entry of a version that the bytes begin with, whatever follows it. It is None where
+/// the bytes end inside the entry, and where its key would be longer than 1,024 bytes.
 pub fn front_child_as(version: Version, bytes: &[u8]) -> Option<ChildAt>
     ensures some { IfSome result (λ at. IsChildAt version bytes.now at) }
     ensures none { IfNone result (NoChildAt version bytes.now) }

@@ -11,8 +11,8 @@ use std::marker::Model;
 /// The greatest number of bits of a [`Sha512Cut`].
 pub const BITS_LIMIT: u8 = 24;
 
-/// Which entries end a chunk. All answers are functions of the cut's value and the entry's bytes, so
-/// equal contents are cut in equal places.
+/// Which entries end a chunk. All answers are functions of the cut's value and the entry's bytes,
+/// so equal contents are cut in equal places.
 pub trait Cut: Copy + Send {
     /// The cut as the definitions have it.
     ghost cut: { Self → CutValue };
@@ -25,8 +25,8 @@ pub trait Cut: Copy + Send {
     fn is_boundary(&self, entry: &[u8]) -> bool
         ensures { result ≡ (cut self.now).is_boundary entry.now };
 
-    /// Whether a pair of this spelling is a boundary: as [`Cut::is_boundary`] of the spelling, and perhaps
-    /// faster, since a cut may use what the pair carries.
+    /// Whether a pair of this spelling is a boundary: as [`Cut::is_boundary`] of the spelling, and
+    /// perhaps faster, since a cut may use what the pair carries.
     fn is_boundary_pair(&self, pair: &Pair, spelling: &[u8]) -> bool
         requires { spelling.now ≡ pair_spelling pair.now }
         ensures { result ≡ (cut self.now).is_boundary spelling.now }
@@ -35,8 +35,8 @@ pub trait Cut: Copy + Send {
     }
 }
 
-/// The cut of a number of bits q from 0 to 24: an entry is a boundary where its boundary number is a
-/// multiple of 2^q, so about one entry in 2^q is.
+/// The cut of a number of bits q from 0 to 24: an entry is a boundary where its boundary number is
+/// a multiple of 2^q, so about one entry in 2^q is.
 #[derive(Clone, Copy, Debug, PartialEq, Eq)]
 pub struct Sha512Cut {
     bits: u8,
@@ -93,8 +93,9 @@ impl Cut for Sha512Cut {
     }
 }
 
-/// The cut of examples and tests: an entry is a boundary where it holds a key whole, by the length in
-/// its first two bytes, and that key ends with `!`. Its number is 255, which no lawful chunk file has.
+/// The cut of examples and tests: an entry is a boundary where it holds a key whole, by the length
+/// in its first two bytes, and that key ends with `!`. Its number is 255, which no lawful chunk
+/// file has.
 #[derive(Clone, Copy, Debug, PartialEq, Eq)]
 pub struct KeyCut;
 

@@ -30,8 +30,8 @@ pub enum FrontRecord {
     ValueTooLong,
 }
 
-/// The pair that bytes begin with. Its key is the bytes `2..key_end`, its value `value_start..len`, and
-/// its spelling `0..len`.
+/// The pair that bytes begin with. Its key is the bytes `2..key_end`, its value `value_start..len`,
+/// and its spelling `0..len`.
 #[derive(Clone, Copy, Debug, PartialEq, Eq)]
 pub enum Front {
     /// A whole pair.

@@ -1,5 +1,5 @@
-//! Prolly trees over sorted maps of byte strings: keys, records, references, cuts, and the definitions
-//! of everything that the crates above build, write and check.
+//! What prolly trees over sorted maps of byte strings are made of: keys, pairs, records, their
+//! spellings, references, and cuts. Their definitions stand in `specs/`.
 #![tactic(auto)]
 
 mod appending;
@@ -9,7 +9,6 @@ mod cut;
 mod flaw;
 mod front;
 mod keys;
-pub mod laws;
 mod limits;
 mod next;
 mod numbers;

@@ -6,8 +6,9 @@ use crate::flaw::Flaw;
 use crate::front::{FrontRecord, front_record};
 use crate::keys::key_rises;
 
-/// What bytes say of the next record of a record file, where more bytes may follow them. A record's key
-/// is the bytes `2..key_end`, the value of a put is `value_start..len`, and its spelling is `0..len`.
+/// What bytes say of the next record of a record file, where more bytes may follow them. A record's
+/// key is the bytes `2..key_end`, the value of a put is `value_start..len`, and its spelling is
+/// `0..len`.
 #[derive(Clone, Copy, Debug, PartialEq, Eq)]
 pub enum NextRecord {
     /// One more good record, which puts a pair.
@@ -21,15 +22,15 @@ pub enum NextRecord {
         key_end: usize,
         len: usize,
     },
-    /// The bytes are a part of a record, or there are none. Where they are all that is left, the file is
-    /// cut, or clean.
+    /// The bytes are a part of a record, or there are none. Where they are all that is left, the
+    /// file is cut, or clean.
     More,
     /// The record is flawed, whatever follows the bytes.
     Flawed(Flaw),
 }
 
-/// The next record behind `count` good ones, of which at most `limit` are allowed and the last one has
-/// the key `last_key`.
+/// The next record behind `count` good ones, of which at most `limit` are allowed and the last one
+/// has the key `last_key`.
 pub fn next_record(limit: u32, count: u32, last_key: Option<&[u8]>, bytes: &[u8]) -> NextRecord
     ensures { IsNextRecord limit count (option_copied last_key.entry) bytes.now result }
 {

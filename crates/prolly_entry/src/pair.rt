@@ -18,9 +18,9 @@ pub enum EntryFault {
 
 /// A key of at most 1,024 bytes and the value at it, of at most 65,536 bytes. Either may be empty.
 ///
-/// It may carry its boundary number, by which a [`Sha512Cut`](crate::Sha512Cut) decides whether it ends a
-/// chunk. So that hash can be taken by a thread that has time for it. No contract tells such a pair from one
-/// that carries none; `Debug` shows it.
+/// It may carry its boundary number, by which a [`Sha512Cut`](crate::Sha512Cut) decides whether it
+/// ends a chunk. So that hash can be taken by a thread that has time for it. No contract tells such
+/// a pair from one that carries none; `Debug` shows it.
 #[derive(Debug, Drop)]
 pub struct Pair {
     storage: Storage,
@@ -47,7 +47,8 @@ impl Pair {
     pub fn new(key: Vec<u8>, value: Vec<u8>) -> Result<Pair, EntryFault>
         ensures ok { IfOk result (λ p. p ≡ record { key = key.items; value = value.items }) }
         ensures key { (result ≡ Err EntryFault.KeyTooLong) ↔ (1024 < vec_len key) }
-        ensures value { (result ≡ Err EntryFault.ValueTooLong) ↔ ((vec_len key ≤ 1024) × (65536 < vec_len value)) }
+        ensures value { (result ≡ Err EntryFault.ValueTooLong) ↔
+            ((vec_len key ≤ 1024) × (65536 < vec_len value)) }
     {
         if key.len() > KEY_LIMIT {
             return Err(EntryFault::KeyTooLong);
@@ -61,8 +62,8 @@ impl Pair {
         })
     }
 
-    /// A pair of copies of these bytes. Takes one block of memory, or none where key and value have at most 40
-    /// bytes together.
+    /// A pair of copies of these bytes. Takes one block of memory, or none where key and value have
+    /// at most 40 bytes together.
     pub fn copy_of(alloc: Global, key: &[u8], value: &[u8]) -> Result<Pair, AllocError>
         requires key { length key.now ≤ 1024 }
         requires value { length value.now ≤ 65536 }

@@ -116,7 +116,8 @@ impl Record {
 
     /// The pair that is put; none where the key is removed. Takes no memory.
     pub fn into_pair(self) -> Option<Pair>
-        ensures { result ≡ option_map (λ value. record { key = self.key; value = value }) self.value }
+        ensures { result ≡
+            option_map (λ value. record { key = self.key; value = value }) self.value }
     {
         match self.change {
             Change::Put(pair) => Some(pair),

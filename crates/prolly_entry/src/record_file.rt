@@ -9,8 +9,8 @@ use crate::next::{NextRecord, next_record};
 use crate::pair::Pair;
 use std::alloc::{AllocError, Global};
 
-/// Why bytes are no record file. A place is the number of good records before the flawed one, so the
-/// flawed one's own number, counted from 0.
+/// Why bytes are no record file. A place is the number of good records before the flawed one, so
+/// the flawed one's own number, counted from 0.
 #[derive(Clone, Copy, Debug, PartialEq, Eq, Hash)]
 pub enum RecordFault {
     /// Memory was refused.
@@ -37,10 +37,11 @@ impl From<AllocError> for RecordFault {
     }
 }
 
-/// The pairs that the records of a record file put, in the order of their keys, where the bytes are such
-/// a file with at most `limit` records. A removal counts as a record, and puts no pair.
+/// The pairs that the records of a record file put, in the order of their keys, where the bytes are
+/// such a file with at most `limit` records. A removal counts as a record, and puts no pair.
 ///
-/// One pass, in time linear in the bytes; takes memory for the pairs that are answered and nothing else.
+/// One pass, in time linear in the bytes; takes memory for the pairs that are answered and nothing
+/// else.
 pub fn records(alloc: Global, bytes: &[u8], limit: u32) -> Result<Vec<Pair>, RecordFault>
     ensures ok { IfOk result (λ pairs. ArePairsOf bytes.now limit pairs.items) }
     ensures err { IfErr result (λ fault. IsFaultOf bytes.now limit fault) }
@@ -90,7 +91,8 @@ fn push_copy(
 ) -> Result<(), AllocError>
     requires key { length key.now ≤ 1024 }
     requires value { length value.now ≤ 65536 }
-    ensures { OnOk result (pairs.new.items ≡ pairs.old.items ++ record { key = key.now; value = value.now } ∷ []) }
+    ensures { OnOk result (pairs.new.items ≡ pairs.old.items ++
+        record { key = key.now; value = value.now } ∷ []) }
 {
     let pair = Pair::copy_of(alloc, key, value)?;
     if pairs.push(pair).is_err() {

@@ -52,14 +52,15 @@ pub fn append_record(out: &mut Vec<u8>, record: &Record) -> Result<(), AllocErro
 /// Appends the spelling of a child entry of version One. An `Err` leaves `out` as it was.
 pub fn append_child(out: &mut Vec<u8>, key: &[u8], reference: &Ref) -> Result<(), AllocError>
     requires { length key.now ≤ 1024 }
-    ensures ok { OnOk result (out.new.items ≡ out.old.items ++ child_spelling One key.now reference.now.0 0) }
+    ensures ok { OnOk result (out.new.items ≡ out.old.items ++
+        child_spelling One key.now reference.now.0 0) }
     ensures err { OnErr result (out.new.items ≡ out.old.items) }
 {
     append_child_as(out, Version::One, key, reference, 0)
 }
 
-/// Appends the spelling of a child entry: the greatest key below the child, the child's reference and,
-/// in version Two, the number of pairs below it. An `Err` leaves `out` as it was.
+/// Appends the spelling of a child entry: the greatest key below the child, the child's reference
+/// and, in version Two, the number of pairs below it. An `Err` leaves `out` as it was.
 pub fn append_child_as(
     out: &mut Vec<u8>,
     version: Version,
@@ -68,7 +69,8 @@ pub fn append_child_as(
     count: u64,
 ) -> Result<(), AllocError>
     requires { length key.now ≤ 1024 }
-    ensures ok { OnOk result (out.new.items ≡ out.old.items ++ child_spelling version key.now reference.now.0 count) }
+    ensures ok { OnOk result (out.new.items ≡ out.old.items ++
+        child_spelling version key.now reference.now.0 count) }
     ensures err { OnErr result (out.new.items ≡ out.old.items) }
 {
     let key_length = two_bytes(key.len() as u16);

@@ -7,7 +7,8 @@ use crate::appending::{append_parts, joined_parts};
 use crate::numbers::{four_bytes, two_bytes};
 use std::alloc::{AllocError, Global};
 
-/// The longest spelling that is kept in place. Up to it a pair is no larger than two vectors make it.
+/// The longest spelling that is kept in place. Up to it a pair is no larger than two vectors make
+/// it.
 const IN_PLACE_LIMIT: usize = 46;
 
 /// How many bytes of a spelling lie before the key.
@@ -31,8 +32,8 @@ pub(crate) enum Storage {
         spelling: Vec<u8>,
         key_end: usize,
     },
-    /// As its spelling, which is the first `len` bytes. Short pairs are many, and a block of memory for each, which one
-    /// thread takes and another gives back, costs more than the bytes.
+    /// As its spelling, which is the first `len` bytes. Short pairs are many, and a block of memory
+    /// for each, which one thread takes and another gives back, costs more than the bytes.
     InPlace {
         bytes: [u8; IN_PLACE_LIMIT],
         key_end: u8,
@@ -46,7 +47,8 @@ impl Storage {
         requires key { length key.now ≤ 1024 }
         requires value { length value.now ≤ 65536 }
         ensures stored { IfOk result IsStored }
-        ensures pair { IfOk result (λ storage. pair_in storage ≡ record { key = key.now; value = value.now }) }
+        ensures pair { IfOk result (λ storage. pair_in storage ≡
+            record { key = key.now; value = value.now }) }
     {
         let key_length = two_bytes(key.len() as u16);
         let value_length = four_bytes(value.len() as u32);

@@ -5,8 +5,8 @@
 pub enum Version {
     /// A child entry has its key and its reference.
     One,
-    /// A child entry has its key, its reference and the number of pairs below it, so that a pair can be
-    /// found by its place.
+    /// A child entry has its key, its reference and the number of pairs below it, so that a pair
+    /// can be found by its place.
     Two,
 }
 

@@ -8,12 +8,12 @@ use Rattle.prolly_entry.specs.Keys.{Rising}
 use Rattle.prolly_entry.specs.Pair.{Pair}
 use Rattle.prolly_entry.specs.Cut.{Cut}
 use Rattle.prolly_entry.specs.Reference.{reference_of}
-use Rattle.prolly_entry.specs.Tree.{tree_of, level_count}
-use Rattle.prolly_entry.specs.Chunk.{Chunk, chunk_of, chunks}
-use Rattle.prolly_entry.specs.File.{header, frame, end_record, root_reference}
-use Rattle.prolly_entry.specs.Events.{clean}
-use Rattle.prolly_entry.specs.Pipeline.{pipeline_events, HasSecond}
-use Rattle.prolly_entry.proofs.Composition.{composition, enough_stages}
+use Rattle.prolly_tree.specs.Tree.{tree_of, level_count}
+use Rattle.prolly_tree.specs.Chunk.{Chunk, chunk_of, chunks}
+use Rattle.prolly_tree.specs.File.{header, frame, end_record, root_reference}
+use Rattle.prolly_tree.specs.Events.{clean}
+use Rattle.prolly_tree.specs.Pipeline.{pipeline_events, HasSecond}
+use Rattle.prolly_laws.specs.Stages.{composition, enough_stages}
 use Rattle.prolly_file.specs.Scratch.{keys_in, Builds}
 
 module _ (cut : Cut) (version : Version) (pairs : List Pair) (few : length pairs < 2 ^ 64) where

@@ -20,7 +20,8 @@ taken_of_first old new first second t = record {
   );
 }
 
--- Where some bytes more were handed on of those that are held behind a place, what was taken and what is held is the same.
+-- Where some bytes more were handed on of those that are held behind a place, what was taken and
+-- what is held is the same.
 pub handed_on : (old new held : List ℕ) (sent count : ℕ) → new ≡ old ++ take count (take (length held - sent) (drop sent held))
     → new ++ drop (sent + count) held ≡ old ++ drop sent held
 handed_on old new held sent count took =

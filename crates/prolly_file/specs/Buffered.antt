@@ -7,11 +7,13 @@ use Rattle.prolly_file.specs.declared.buffered.Buffered.{Buffered}
 abbrev pub sink_of : {W : Type 0} → Buffered W → W
 sink_of buffer = buffer.sink
 
--- The bytes that were taken: those that the sink behind it took, of which `seen` is what a contract sees, and those that are held.
+-- The bytes that were taken: those that the sink behind it took, of which `seen` is what a contract
+-- sees, and those that are held.
 abbrev pub bytes_taken : {W : Type 0} → (W → SinkView) → Buffered W → List ℕ
 bytes_taken seen buffer = (seen buffer.sink).taken ++ drop buffer.sent buffer.held.items
 
--- A buffer as a contract sees it. It keeps what it takes where the sink behind it does, and counts its own failures.
+-- A buffer as a contract sees it. It keeps what it takes where the sink behind it does, and counts
+-- its own failures.
 abbrev pub seen_before : {W : Type 0} → (W → SinkView) → Buffered W → SinkView
 seen_before seen buffer = record { is_keeping = (seen buffer.sink).is_keeping; taken = bytes_taken seen buffer; failures = buffer.failures }
 

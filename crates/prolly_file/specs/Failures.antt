@@ -1,7 +1,8 @@
 -- How a device counts its failures.
 use Rattle.std.specs.Prelude.{◌≡◌, ℕ, ◌+◌, ◌%◌, ◌^◌, Result, MatchResult}
 
--- The number of failures after one more. It is counted modulo 2 ^ 64, so that no device runs out of numbers.
+-- The number of failures after one more. It is counted modulo 2 ^ 64, so that no device runs out of
+-- numbers.
 abbrev pub after_failure : ℕ → ℕ
 after_failure failures = (failures + 1) % 2 ^ 64
 

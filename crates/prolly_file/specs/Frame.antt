@@ -1,8 +1,8 @@
 -- The frame of a chunk, over the chunk's bytes.
 use Rattle.std.specs.Prelude.{◌≡◌, ℕ, List, ◌∷◌, ◌++◌, length, refl}
 use Rattle.std.specs.Int.{w64, to_be_bytes}
-use Rattle.prolly_entry.specs.Chunk.{Chunk}
-use Rattle.prolly_entry.specs.File.{frame}
+use Rattle.prolly_tree.specs.Chunk.{Chunk}
+use Rattle.prolly_tree.specs.File.{frame}
 
 -- What a frame begins with: the letter C and the chunk's length in eight bytes.
 abbrev pub frame_start : ℕ → List ℕ

@@ -8,8 +8,8 @@ use Rattle.prolly_file.specs.declared.from_read.FromRead.{FromRead}
 abbrev pub has_ended : {R : Type 0} → FromRead R → Bool
 has_ended source = source.has_ended
 
--- A reader as a source, where `remaining` says what it tells of its bytes. It is honest where it tells them, and each of them is a byte.
--- That no read fails is told of none.
+-- A reader as a source, where `remaining` says what it tells of its bytes. It is honest where it
+-- tells them, and each of them is a byte. That no read fails is told of none.
 abbrev pub seen_of : {R : Type 0} → (R → Option (List ℕ)) → FromRead R → SourceView
 seen_of remaining source = record {
   is_honest = are_known_bytes (remaining source.reader);

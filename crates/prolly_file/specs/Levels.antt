@@ -3,7 +3,7 @@ use Rattle.std.specs.Prelude.{ℕ, ◌<◌, List}
 use Rattle.prolly_entry.specs.declared.version.Version.{Version}
 use Rattle.prolly_entry.specs.Pair.{Pair}
 use Rattle.prolly_entry.specs.Cut.{Cut}
-use Rattle.prolly_entry.specs.Tree.{level_count}
+use Rattle.prolly_tree.specs.Tree.{level_count}
 use Rattle.prolly_file.specs.declared.plain.ScratchFault.{ScratchFault}
 use Rattle.prolly_file.specs.declared.plain.ScratchFault.TheVariants.{Memory, OutOfOrder, TooTall}
 

@@ -1,11 +1,12 @@
 -- What the plain builder answers.
-use Rattle.std.specs.Prelude.{◌≡◌, ℕ, ◌+◌, ◌<◌, ◌≤◌, List, ◌++◌, length, take, map}
+use Rattle.std.specs.Prelude.{◌≡◌, ℕ, ◌+◌, ◌<◌, ◌≤◌, List, ◌++◌, length, take, map, Result, IfOk, IfErr, OnErr}
 use Rattle.prolly_entry.specs.declared.version.Version.{Version}
 use Rattle.prolly_entry.specs.Keys.{Rising}
 use Rattle.prolly_entry.specs.Pair.{Pair}
 use Rattle.prolly_entry.specs.Cut.{Cut}
-use Rattle.prolly_entry.specs.Tree.{level_count}
-use Rattle.prolly_entry.specs.File.{file, root_reference}
+use Rattle.prolly_tree.specs.Tree.{level_count}
+use Rattle.prolly_tree.specs.File.{file, root_reference}
+use Rattle.prolly_entry.specs.declared.reference.Ref.{Ref}
 use Rattle.prolly_file.specs.declared.plain.ScratchFault.{ScratchFault}
 use Rattle.prolly_file.specs.declared.plain.ScratchFault.TheVariants.{Memory, OutOfOrder, TooTall}
 
@@ -19,7 +20,8 @@ pub record FallsAt (pairs : List Pair) (place : ℕ) : Type 0 where
   pub rising : Rising (keys_in (take place pairs))
   pub falls : Rising (keys_in (take (place + 1) pairs)) → ⊥
 
--- The pairs are a map whose tree has at most so many levels, its file is appended, and this is the root's reference.
+-- The pairs are a map whose tree has at most so many levels, its file is appended, and this is the
+-- root's reference.
 pub record Builds (cut : Cut) (version : Version) (pairs : List Pair) (max_levels : ℕ) (old new root : List ℕ) : Type 0 where
   pub rising : Rising (keys_in pairs)
   pub low : level_count cut version pairs ≤ max_levels
@@ -36,3 +38,12 @@ abbrev pub IsScratchFault : Cut → Version → List Pair → ℕ → ScratchFau
 IsScratchFault cut version pairs max_levels Memory = Unit {0}
 IsScratchFault cut version pairs max_levels (OutOfOrder pair) = FallsAt pairs pair
 IsScratchFault cut version pairs max_levels TooTall = IsTooTall cut version pairs max_levels
+
+-- What the plain builder answers, over a vector that held `old` before and holds `new` after.
+pub record IsScratched (cut : Cut) (version : Version) (pairs : List Pair) (max_levels : ℕ) (old new : List ℕ)
+    (result : Result Ref ScratchFault) : Type 0 where
+  -- an answer is the root of the file that was appended
+  pub ok : IfOk result (λ root. Builds cut version pairs max_levels old new root.0)
+  pub err : IfErr result (λ fault. IsScratchFault cut version pairs max_levels fault)
+  -- a fault leaves the vector as it was
+  pub unchanged : OnErr result (new ≡ old)

@@ -3,8 +3,8 @@ use Rattle.std.specs.Prelude.{◌≡◌, ℕ, ◌<◌, Bool, List, ◌++◌, len
 use Rattle.prolly_entry.specs.Prefix.{IsPrefix}
 use Rattle.prolly_file.specs.Failures.{after_failure}
 
--- What a contract sees of a sink: whether it keeps the bytes that it takes, those that it took so far, and how many of its calls failed,
--- modulo 2 ^ 64.
+-- What a contract sees of a sink: whether it keeps the bytes that it takes, those that it took so
+-- far, and how many of its calls failed, modulo 2 ^ 64.
 pub record SinkView : Type 0 where
   pub is_keeping : Bool
   pub taken : List ℕ
@@ -14,7 +14,8 @@ pub record SinkView : Type 0 where
 abbrev pub Takes : {E : Type 0} → List ℕ → List ℕ → Result ℕ E → List ℕ → Type 0
 Takes old new result buf = MatchResult result (λ n. new ≡ old ++ take n buf) (λ _. new ≡ old)
 
--- A failed write added one failure, so did one that took no byte of a slice that has some, and no other did.
+-- A failed write added one failure, so did one that took no byte of a slice that has some, and no
+-- other did.
 abbrev pub CountsWriteFailure : {E : Type 0} → ℕ → ℕ → Result ℕ E → List ℕ → Type 0
 CountsWriteFailure old new result buf =
     MatchResult result (λ n. (n ≡ 0 → 0 < length buf → new ≡ after_failure old)

@@ -1,6 +1,6 @@
 //! The bytes of a chunk file that stand around its chunks. Numbers are big-endian.
 ghost use Rattle.std.specs.Prelude.{◌≡◌};
-ghost use Rattle.prolly_entry.specs.File.{header, end_record};
+ghost use Rattle.prolly_tree.specs.File.{header, end_record};
 ghost use Rattle.prolly_file.specs.Frame.{frame_start};
 
 use byteorder::{BigEndian, ByteOrder};

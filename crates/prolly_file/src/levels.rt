@@ -3,10 +3,10 @@ ghost use Rattle.std.specs.Prelude.{◌≡◌, ◌↔◌, ◌<◌, ◌^◌, coun
 ghost use Rattle.std.specs.Option.{option_to_list};
 ghost use Rattle.prolly_entry.specs.declared.version.Version.{Version as VersionValue};
 ghost use Rattle.prolly_entry.specs.Keys.{Rising};
-ghost use Rattle.prolly_entry.specs.Chunk.{chunks};
-ghost use Rattle.prolly_entry.specs.Events.{clean, has_level, leaf_events, inner_events};
-ghost use Rattle.prolly_entry.specs.Pipeline.{HasSecond};
-ghost use Rattle.prolly_entry.specs.Tree.{level_count};
+ghost use Rattle.prolly_tree.specs.Chunk.{chunks};
+ghost use Rattle.prolly_tree.specs.Events.{clean, has_level, leaf_events, inner_events};
+ghost use Rattle.prolly_tree.specs.Pipeline.{HasSecond};
+ghost use Rattle.prolly_tree.specs.Tree.{level_count};
 ghost use Rattle.prolly_file.specs.Scratch.{keys_in, FallsAt};
 ghost use Rattle.prolly_file.specs.Levels.{IsLevelFault};
 

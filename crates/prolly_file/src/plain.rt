@@ -1,9 +1,9 @@
 //! The plain builder: the file of a map as the definitions say it, level by level, in one thread.
-ghost use Rattle.std.specs.Prelude.{◌≡◌, ◌<◌, List, [], ◌∷◌, ◌++◌, length, IfOk, IfErr, OnErr};
+ghost use Rattle.std.specs.Prelude.{◌≡◌, ◌<◌, List, [], ◌∷◌, ◌++◌, length};
 ghost use Rattle.prolly_entry.specs.declared.version.Version.TheVariants.{One};
 ghost use Rattle.prolly_entry.specs.Reference.{reference_of};
-ghost use Rattle.prolly_entry.specs.Chunk.{Chunk};
-ghost use Rattle.prolly_file.specs.Scratch.{Builds, IsScratchFault};
+ghost use Rattle.prolly_tree.specs.Chunk.{Chunk};
+ghost use Rattle.prolly_file.specs.Scratch.{IsScratched};
 
 use crate::levels::{all_chunks, first_fall};
 use crate::whole_file::append_file;
@@ -42,11 +42,7 @@ pub fn scratch<C: Cut>(
     max_levels: u8,
     out: &mut Vec<u8>,
 ) -> Result<Ref, ScratchFault>
-    ensures ok { IfOk result (λ root. Builds (C.cut cut) One pairs.now max_levels out.old.items
-        out.new.items root.0) }
-    ensures err { IfErr result (λ fault. IsScratchFault
-        (C.cut cut) One pairs.now max_levels fault) }
-    ensures unchanged { OnErr result (out.new.items ≡ out.old.items) }
+    ensures { IsScratched (C.cut cut) One pairs.now max_levels out.old.items out.new.items result }
 {
     scratch_as(alloc, cut, Version::One, pairs, max_levels, out)
 }
@@ -64,19 +60,13 @@ pub fn scratch_as<C: Cut>(
     max_levels: u8,
     out: &mut Vec<u8>,
 ) -> Result<Ref, ScratchFault>
-    ensures ok { IfOk result (λ root. Builds (C.cut cut) version pairs.now max_levels out.old.items
-        out.new.items root.0) }
-    ensures err { IfErr result (λ fault. IsScratchFault
-        (C.cut cut) version pairs.now max_levels fault) }
-    ensures unchanged { OnErr result (out.new.items ≡ out.old.items) }
+    ensures { IsScratched (C.cut cut) version pairs.now max_levels out.old.items out.new.items
+        result }
 {
     if let Some(pair) = first_fall(pairs) {
         return Err(ScratchFault::OutOfOrder { pair });
     }
-    let chunks = match all_chunks(alloc, cut, version, pairs, max_levels) {
-        Ok(chunks) => chunks,
-        Err(fault) => return Err(fault),
-    };
+    let chunks = all_chunks(alloc, cut, version, pairs, max_levels)?;
     let root = root_of(&chunks);
     append_file(out, version, cut.bits(), &chunks, &root)?;
     Ok(root)

@@ -18,6 +18,8 @@ pub struct ToWrite<W> {
 
 impl<W: Write> ToWrite<W> {
     /// A sink into the writer, behind the bytes that it holds already.
+    ///
+    /// It writes nothing yet.
     pub fn new(writer: W) -> ToWrite<W>
         ensures taken { (⟦<ToWrite<W> as Sink>⟧.seen result).taken ≡ known_bytes
             (W.contents writer) }

@@ -1,7 +1,7 @@
 //! A whole chunk file in memory.
 ghost use Rattle.std.specs.Prelude.{◌≡◌, ◌++◌, length, take, OnOk, OnErr};
 ghost use Rattle.std.specs.List.{flat_map};
-ghost use Rattle.prolly_entry.specs.File.{header, frame, end_record};
+ghost use Rattle.prolly_tree.specs.File.{header, frame, end_record};
 
 use crate::frame::{end_record, frame_start, header};
 use prolly_chunk::ChunkEvent;

@@ -1,12 +1,12 @@
 //! The writer of a chunk file.
 ghost use Rattle.std.specs.Prelude.{◌≡◌, ◌≢◌, ◌↔◌, ◌<◌, true, false, [], ◌++◌, IsErr, OnOk, OnErr, IfOk};
 ghost use Rattle.prolly_entry.specs.declared.version.Version.TheVariants.{One};
-ghost use Rattle.prolly_entry.specs.Events.{greatest_count};
-ghost use Rattle.prolly_entry.specs.File.{header, end_record};
+ghost use Rattle.prolly_tree.specs.Events.{greatest_count};
+ghost use Rattle.prolly_tree.specs.File.{header, end_record};
 ghost use Rattle.prolly_file.specs.Failures.{CountsFailure};
 ghost use Rattle.prolly_file.specs.Frame.{framed};
 ghost use Rattle.prolly_file.specs.Sink.{TakesPrefix};
-ghost use Rattle.prolly_file.specs.Writer.{next_count};
+ghost use Rattle.prolly_file.specs.Writer.{Begins, next_count};
 
 use crate::frame::{end_record, frame_start, header};
 use crate::sink::Sink;
@@ -42,18 +42,7 @@ impl FileWriter {
     /// Writes the header of a file of version One, whose cut has this number of bits. Any number is
     /// written, also one that no cut has.
     pub fn begin<W: Sink>(sink: &mut W, bits: u8) -> Result<FileWriter, WriteFault>
-        ensures written { (W.seen sink.old).is_keeping ≡ true →
-            OnOk result ((W.seen sink.new).taken ≡ (W.seen sink.old).taken ++ header One bits) }
-        ensures part { (W.seen sink.old).is_keeping ≡ true →
-            OnErr result (TakesPrefix ((W.seen sink.old).taken) ((W.seen sink.new).taken)
-            (header One bits)) }
-        ensures begun { IfOk result (λ writer. writer ≡ record { chunks = 0; has_failed = false }) }
-
-        ensures fault { IsErr result ↔ ((W.seen sink.new).failures ≢ (W.seen sink.old).failures) }
-        ensures failures { CountsFailure ((W.seen sink.old).failures)
-            ((W.seen sink.new).failures) result }
-        ensures keeping { (W.seen sink.old).is_keeping ≡ true →
-            (W.seen sink.new).is_keeping ≡ true }
+        ensures { Begins One bits (W.seen sink.old) (W.seen sink.new) result }
     {
         FileWriter::begin_as(sink, Version::One, bits)
     }
@@ -65,18 +54,7 @@ impl FileWriter {
         version: Version,
         bits: u8,
     ) -> Result<FileWriter, WriteFault>
-        ensures written { (W.seen sink.old).is_keeping ≡ true →
-            OnOk result ((W.seen sink.new).taken ≡ (W.seen sink.old).taken ++ header version bits) }
-        ensures part { (W.seen sink.old).is_keeping ≡ true →
-            OnErr result (TakesPrefix ((W.seen sink.old).taken) ((W.seen sink.new).taken)
-            (header version bits)) }
-        ensures begun { IfOk result (λ writer. writer ≡ record { chunks = 0; has_failed = false }) }
-
-        ensures fault { IsErr result ↔ ((W.seen sink.new).failures ≢ (W.seen sink.old).failures) }
-        ensures failures { CountsFailure ((W.seen sink.old).failures)
-            ((W.seen sink.new).failures) result }
-        ensures keeping { (W.seen sink.old).is_keeping ≡ true →
-            (W.seen sink.new).is_keeping ≡ true }
+        ensures { Begins version bits (W.seen sink.old) (W.seen sink.new) result }
     {
         write_all(sink, &header(version, bits))?;
         Ok(FileWriter {

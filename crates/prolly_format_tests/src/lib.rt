@@ -7,8 +7,6 @@ mod checking;
 #[cfg(test)]
 mod entries;
 #[cfg(test)]
-mod expect;
-#[cfg(test)]
 mod files;
 #[cfg(test)]
 mod levels;

@@ -10,9 +10,11 @@ mod Names
 mod Passes
 -- Where clap takes the words, an argument with a default and a required one have a value.
 mod Presence
--- The subcommands as clap builds them, and what stands in the rows of each where clap takes the words.
+-- The subcommands as clap builds them, and what stands in the rows of each where clap takes the
+-- words.
 mod Shapes
--- Where clap takes the words, the walk over them did not stop at the subcommand `help`, which clap adds.
+-- Where clap takes the words, the walk over them did not stop at the subcommand `help`, which clap
+-- adds.
 mod Stops
 -- What the getters of clap's matches give, by the rows of the subcommand.
 mod ValueLemmas

@@ -1,4 +1,5 @@
--- The subcommands as clap builds them, and what stands in the rows of each where clap takes the words.
+-- The subcommands as clap builds them, and what stands in the rows of each where clap takes the
+-- words.
 use Rattle.std.proofs.Common.{◌≡◌, List, Some, refl, codes}
 use Rattle.clap.specs.Simple.{App, Shape, built_leaf, inherited, marked_built, with_leaf_noted}
 use Rattle.clap.specs.Walk.{Row}

@@ -1,4 +1,5 @@
--- Where clap takes the words, the walk over them did not stop at the subcommand `help`, which clap adds.
+-- Where clap takes the words, the walk over them did not stop at the subcommand `help`, which clap
+-- adds.
 use Rattle.std.proofs.Common.{◌≡◌, ℕ, Bool, List, [], ◌∷◌, Option, Some, None, true, false, refl, ap, subst, codes}
 use Rattle.std.specs.Prelude.{◌&&◌, ◌++◌, if◌then◌else◌, is_some, fold, not}
 use Rattle.std.specs.Str.{bytes_eq}

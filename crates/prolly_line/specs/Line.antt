@@ -94,8 +94,8 @@ abbrev pub scratch_line : App
 scratch_line = with_rule (with_rule (with_rule (with_rule (with_rule (new_app (codes "scratch"))
     bits_option) format_option) out_option) atomic_flag) sync_flag
 
--- `build [--bits Q] [--stages S] [--capacity C] [--max-records M] [--batch B] [--format V] [--atomic] [--sync] OUT
--- [FILES...]`
+-- `build [--bits Q] [--stages S] [--capacity C] [--max-records M] [--batch B] [--format V]
+-- [--atomic] [--sync] OUT [FILES...]`
 abbrev pub build_line : App
 build_line = with_rule (with_rule (with_rule (with_rule (with_rule (with_rule (with_rule (with_rule (with_rule (with_rule
     (new_app (codes "build")) bits_option) stages_option) capacity_option) max_records_option) batch_option)

@@ -4,6 +4,8 @@ pub mod Identity
 pub mod Views
 -- The messages of a link: items, and then at most one end.
 pub mod Messages
+-- What a contract sees of the two ends of a ring of messages.
+pub mod Rings
 -- How far a receiver has come, by the messages that it popped.
 pub mod Agreement
 -- What a receiver gives, and how far it has come by that.

@@ -1,7 +1,7 @@
 -- What a contract sees of the ends of a link.
 use Rattle.std.specs.Prelude.{ℕ, List}
 use Rattle.prolly_link.specs.Identity.{LinkId}
-use Rattle.prolly_link.specs.declared.fault.End.{End}
+use Rattle.prolly_link.specs.declared.end.End.{End}
 use Rattle.prolly_link.specs.declared.progress.Progress.{Progress}
 
 -- the items that went through an end of a link, oldest first, with no end after them
@@ -10,16 +10,16 @@ pub record Sending (T : Type 0) : Type 0 where
   pub items : List T
 
 -- the items that a receiver gave, and how far it has come
-pub record Receiving (T : Type 0) : Type 0 where
+pub record Receiving (T F : Type 0) : Type 0 where
   pub link : LinkId
   pub items : List T
-  pub progress : Progress
+  pub progress : Progress F
 
 -- all items of a link, and the end after them
-pub record Whole (T : Type 0) : Type 0 where
+pub record Whole (T F : Type 0) : Type 0 where
   pub link : LinkId
   pub items : List T
-  pub end : End
+  pub end : End F
 
 -- the items that were given to a sender of batches, and for how many more it has taken room
 pub record Batching (T : Type 0) : Type 0 where

@@ -5,21 +5,17 @@ use std::marker::Model;
 
 /// The sending end of a link, once it has sent the end. Contracts see that end too.
 #[derive(Drop)]
-pub struct ClosedSender<T> {
-    pub(crate) ring: Producer<Message<T>>,
+pub struct ClosedSender<T, F> {
+    pub(crate) ring: Producer<Message<T, F>>,
 }
 
-impl<T> Model for ClosedSender<T> {
-    ghost use Rattle.std.specs.Prelude.{◌≡◌, true};
+impl<T, F> Model for ClosedSender<T, F> {
+    ghost use Rattle.prolly_link.specs.Rings.{whole_sent, SentEnd};
     ghost use Rattle.prolly_link.specs.Views.{Whole};
 
-    ghost Value = { Whole T };
+    ghost Value = { Whole T F };
 
-    ghost use Rattle.rtrb.specs.Ring.{sent as pushed};
-    ghost use Rattle.prolly_link.specs.Identity.{producer_link};
-    ghost use Rattle.prolly_link.specs.Messages.{whole_of, is_closed};
+    ghost view = { λ s. whole_sent s.ring };
 
-    ghost view = { λ s. whole_of (producer_link s.ring) (pushed s.ring) };
-
-    ghost invariant = { λ s. is_closed (pushed s.ring) ≡ true };
+    ghost invariant = { λ s. SentEnd s.ring };
 }

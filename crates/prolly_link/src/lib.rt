@@ -1,4 +1,5 @@
 //! Links between workers: items go from one sender to one receiver, in order, and then one end.
+//! What an end tells of a fault is a parameter: a link hands it on, and does not look at it.
 //!
 //! `link` carries items one by one over a bounded ring, and `batch_link` in batches. A worker is
 //! written over the traits `In` and `Out`, which `ListIn` and `ListOut` meet too, so that it can be
@@ -14,7 +15,7 @@ mod closed;
 mod closed_comparing;
 mod comparing;
 mod drained;
-mod fault;
+mod end;
 mod in_flight;
 mod input;
 mod list_in;
@@ -44,7 +45,7 @@ pub use closed::ClosedSender;
 pub use closed_comparing::compare_closed;
 pub use comparing::compare;
 pub use drained::{Drained, EndedReceiver, LostReceiver};
-pub use fault::{End, RunFault};
+pub use end::End;
 pub use input::In;
 pub use list_in::ListIn;
 pub use list_out::{ClosedList, ListOut};

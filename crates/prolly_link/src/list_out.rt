@@ -1,7 +1,7 @@
 //! An end over a list, which keeps what is sent.
 ghost use Rattle.std.specs.Prelude.{◌≡◌, []};
 
-use crate::fault::End;
+use crate::end::End;
 use crate::output::Out;
 use std::alloc::Global;
 use std::marker::Model;
@@ -23,9 +23,9 @@ impl<T> Model for ListOut<T> {
 
 /// What was sent, and the end.
 #[derive(Drop)]
-pub struct ClosedList<T> {
+pub struct ClosedList<T, F> {
     pub items: Vec<T>,
-    pub last: End,
+    pub last: End<F>,
 }
 
 impl<T> ListOut<T> {
@@ -38,10 +38,10 @@ impl<T> ListOut<T> {
     }
 }
 
-impl<T> Out<T> for ListOut<T> {
+impl<T, F> Out<T, F> for ListOut<T> {
     ghost use Rattle.prolly_link.specs.Identity.{no_link};
 
-    type Closed = ClosedList<T>;
+    type Closed = ClosedList<T, F>;
 
     ghost link = { λ _. no_link };
 
@@ -60,7 +60,10 @@ impl<T> Out<T> for ListOut<T> {
         }
     }
 
-    fn close<R: Wait>(self, _rt: &R, end: End) -> ClosedList<T> {
+    fn close<R: Wait>(self, _rt: &R, end: End<F>) -> ClosedList<T, F>
+        ensures sent { result.items.items ≡ self }
+        ensures end { result.last ≡ end }
+    {
         let ListOut { items } = self;
         ClosedList { items, last: end }
     }

@@ -8,21 +8,21 @@ use std::marker::Model;
 /// The two ends of a link, of which one received all that the other sent. Contracts see the link,
 /// its items and its end.
 #[derive(Drop)]
-pub struct Met<T> {
-    pub(crate) sender: ClosedSender<T>,
-    pub(crate) receiver: EndedReceiver<T>,
+pub struct Met<T, F> {
+    pub(crate) sender: ClosedSender<T, F>,
+    pub(crate) receiver: EndedReceiver<T, F>,
 }
 
-impl<T> Model for Met<T> {
+impl<T, F> Model for Met<T, F> {
     ghost use Rattle.prolly_link.specs.Views.{Whole};
 
-    ghost Value = { Whole T };
+    ghost Value = { Whole T F };
 
     ghost view = { λ m. m.receiver };
 }
 
 /// Shows that all that was sent was received, and nothing else.
-pub fn meet<T>(sender: ClosedSender<T>, receiver: EndedReceiver<T>) -> Met<T>
+pub fn meet<T, F>(sender: ClosedSender<T, F>, receiver: EndedReceiver<T, F>) -> Met<T, F>
     requires { sender.link ≡ receiver.link }
     ensures sent { result ≡ sender }
     ensures received { result ≡ receiver }

@@ -1,9 +1,9 @@
 //! What a ring carries.
-use crate::fault::End;
+use crate::end::End;
 
 /// An item, or the end.
 #[derive(Drop)]
-pub(crate) enum Message<T> {
+pub(crate) enum Message<T, F> {
     Item(T),
-    Last(End),
+    Last(End<F>),
 }

@@ -1,13 +1,13 @@
 //! What a worker asks of an end that it sends to.
 ghost use Rattle.std.specs.Prelude.{◌≡◌, List, [], ◌∷◌, ◌++◌, OnOk, IfErr};
 ghost use Rattle.prolly_link.specs.Identity.{LinkId};
-ghost use Rattle.prolly_link.specs.declared.fault.End.{End};
+ghost use Rattle.prolly_link.specs.declared.end.End.{End};
 
-use crate::fault::End;
+use crate::end::End;
 use std::sync::Wait;
 
 /// An end that items go into, and then one end.
-pub trait Out<T> {
+pub trait Out<T, F> {
     /// What is left of it once the end was sent.
     type Closed;
 
@@ -24,7 +24,7 @@ pub trait Out<T> {
     ghost all_sent: { Self.Closed → List T };
 
     /// The end that a closed one sent.
-    ghost end_sent: { Self.Closed → End };
+    ghost end_sent: { Self.Closed → End F };
 
     /// Sends an item, or hands it back for want of memory.
     fn send<R: Wait>(&mut self, rt: &R, item: T) -> Result<(), T>
@@ -51,7 +51,7 @@ pub trait Out<T> {
     }
 
     /// Sends the end.
-    fn close<R: Wait>(self, rt: &R, end: End) -> Self::Closed
+    fn close<R: Wait>(self, rt: &R, end: End<F>) -> Self::Closed
         ensures link { closed_link result ≡ link self }
         ensures sent { all_sent result ≡ sent self }
         ensures end { end_sent result ≡ end };

@@ -1,10 +1,10 @@
 //! How far a receiver has come.
-use crate::fault::End;
+use crate::end::End;
 
 /// Whether a receiver has given its end, or that it has lost its sender.
 #[derive(Clone, Copy, PartialEq, Eq, Debug)]
-pub enum Progress {
+pub enum Progress<F> {
     Open,
-    Ended(End),
+    Ended(End<F>),
     Lost,
 }

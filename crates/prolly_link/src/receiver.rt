@@ -16,16 +16,16 @@ use std::sync::Wait;
 /// The receiving end of a link. Contracts see its link, the items that it has given, oldest first,
 /// and how far it has come.
 #[derive(Drop)]
-pub struct Receiver<T> {
-    pub(crate) ring: Consumer<Message<T>>,
-    pub(crate) progress: Progress,
+pub struct Receiver<T, F> {
+    pub(crate) ring: Consumer<Message<T, F>>,
+    pub(crate) progress: Progress<F>,
     pub(crate) patience: Patience,
 }
 
-impl<T> Model for Receiver<T> {
+impl<T, F> Model for Receiver<T, F> {
     ghost use Rattle.prolly_link.specs.Views.{Receiving};
 
-    ghost Value = { Receiving T };
+    ghost Value = { Receiving T F };
 
     ghost use Rattle.rtrb.specs.Ring.{received as popped};
     ghost use Rattle.prolly_link.specs.Identity.{consumer_link};
@@ -42,13 +42,13 @@ impl<T> Model for Receiver<T> {
     ghost invariant = { λ r. Agrees r.progress (popped r.ring) };
 }
 
-impl<T> Receiver<T> {
+impl<T, F: Copy> Receiver<T, F> {
     ghost use Rattle.prolly_link.specs.Draining.{IsDrainOf};
 
     /// The next item, or the end, waiting for a message. An end, or `Lost`, is given again and
     /// again.
     #[tactic(auto, using(crate::proofs::MessageLemmas::messages))]
-    pub fn recv<R: Wait>(&mut self, rt: &R) -> Next<T>
+    pub fn recv<R: Wait>(&mut self, rt: &R) -> Next<T, F>
         ensures link { self.new.link ≡ self.old.link }
         ensures items { self.new.items ≡ self.old.items ++ given_items result }
         ensures progress { self.new.progress ≡ progress_after result }
@@ -78,7 +78,7 @@ impl<T> Receiver<T> {
     }
 
     /// Receives until the end, and lets the items go.
-    pub fn drain<R: Wait>(self, rt: &R) -> Drained<T>
+    pub fn drain<R: Wait>(self, rt: &R) -> Drained<T, F>
     where
         T: Drop,
         ensures { IsDrainOf self result }
@@ -88,19 +88,11 @@ impl<T> Receiver<T> {
             match receiver.recv(rt) {
                 Next::Item(_) => {}
                 Next::End(_) => {
-                    let Receiver {
-                        ring,
-                        progress: _,
-                        patience: _,
-                    } = receiver;
+                    let Receiver { ring, .. } = receiver;
                     return Drained::Ended(EndedReceiver { ring });
                 }
                 Next::Lost => {
-                    let Receiver {
-                        ring,
-                        progress: _,
-                        patience: _,
-                    } = receiver;
+                    let Receiver { ring, .. } = receiver;
                     return Drained::Lost(LostReceiver { ring });
                 }
             }
@@ -109,7 +101,7 @@ impl<T> Receiver<T> {
     }
 }
 
-impl<T> In<T> for Receiver<T> {
+impl<T, F: Copy> In<T, F> for Receiver<T, F> {
     ghost use Rattle.prolly_link.specs.Growth.{items_between, between_nothing};
     ghost use Rattle.prolly_link.specs.Following.{IsLater, later_same, later_more, received_in_both, nothing_after_end};
 
@@ -133,7 +125,7 @@ impl<T> In<T> for Receiver<T> {
 
     ghost ended_stays = { λ a b h. h.progress_stays };
 
-    fn recv<R: Wait>(&mut self, rt: &R) -> Next<T> {
+    fn recv<R: Wait>(&mut self, rt: &R) -> Next<T, F> {
         Receiver::recv(self, rt)
     }
 }

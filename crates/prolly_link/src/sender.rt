@@ -2,7 +2,7 @@
 ghost use Rattle.std.specs.Prelude.{◌≡◌, [], ◌∷◌, ◌++◌, IsOk};
 
 use crate::closed::ClosedSender;
-use crate::fault::End;
+use crate::end::End;
 use crate::message::Message;
 use crate::output::Out;
 use crate::patience::Patience;
@@ -13,27 +13,23 @@ use std::sync::Wait;
 
 /// The sending end of a link. Contracts see its link and the items that it has sent, oldest first.
 #[derive(Drop)]
-pub struct Sender<T> {
-    pub(crate) ring: Producer<Message<T>>,
+pub struct Sender<T, F> {
+    pub(crate) ring: Producer<Message<T, F>>,
     pub(crate) patience: Patience,
 }
 
-impl<T> Model for Sender<T> {
-    ghost use Rattle.std.specs.Prelude.{◌≡◌, true};
+impl<T, F> Model for Sender<T, F> {
+    ghost use Rattle.prolly_link.specs.Rings.{sent_so_far, SentNoEnd};
     ghost use Rattle.prolly_link.specs.Views.{Sending};
 
     ghost Value = { Sending T };
 
-    ghost use Rattle.rtrb.specs.Ring.{sent as pushed};
-    ghost use Rattle.prolly_link.specs.Identity.{producer_link};
-    ghost use Rattle.prolly_link.specs.Messages.{sending_of, is_open};
+    ghost view = { λ s. sent_so_far s.ring };
 
-    ghost view = { λ s. sending_of (producer_link s.ring) (pushed s.ring) };
-
-    ghost invariant = { λ s. is_open (pushed s.ring) ≡ true };
+    ghost invariant = { λ s. SentNoEnd s.ring };
 }
 
-impl<T> Sender<T> {
+impl<T, F: Copy> Sender<T, F> {
     // Sends an item, waiting for room.
     #[tactic(auto, using(crate::proofs::MessageLemmas::messages))]
     pub(crate) fn put<R: Wait>(&mut self, rt: &R, item: T, wake: Wake)
@@ -65,7 +61,7 @@ impl<T> Sender<T> {
 
     /// Sends the end, waiting for room.
     #[tactic(auto, using(crate::proofs::MessageLemmas::messages))]
-    pub fn close<R: Wait>(self, rt: &R, end: End) -> ClosedSender<T>
+    pub fn close<R: Wait>(self, rt: &R, end: End<F>) -> ClosedSender<T, F>
         ensures link { result.link ≡ self.link }
         ensures items { result.items ≡ self.items }
         ensures end { result.end ≡ end }
@@ -76,8 +72,8 @@ impl<T> Sender<T> {
     }
 }
 
-impl<T> Out<T> for Sender<T> {
-    type Closed = ClosedSender<T>;
+impl<T, F: Copy> Out<T, F> for Sender<T, F> {
+    type Closed = ClosedSender<T, F>;
 
     ghost link = { λ s. s.link };
 
@@ -97,7 +93,11 @@ impl<T> Out<T> for Sender<T> {
         self.ring.cached_slots() <= self.ring.capacity() / 2
     }
 
-    fn close<R: Wait>(self, rt: &R, end: End) -> ClosedSender<T> {
+    fn close<R: Wait>(self, rt: &R, end: End<F>) -> ClosedSender<T, F>
+        ensures link { result.link ≡ self.link }
+        ensures sent { result.items ≡ self.items }
+        ensures end { result.end ≡ end }
+    {
         Sender::close(self, rt, end)
     }
 }

@@ -8,7 +8,7 @@ use Rattle.prolly_entry.specs.Record.{Record}
 use Rattle.prolly_entry.specs.Reading.{Begins}
 use Rattle.prolly_entry.specs.Spelling.{record_spelling}
 use Rattle.prolly_entry.specs.NextRecord.{IsNext, IsUndecided, IsFlawed}
-use Rattle.prolly_entry.proofs.Endings.{begins_more, begins_none, last_more}
+use Rattle.prolly_laws.specs.Readings.{begins_more, begins_none, last_more}
 use Rattle.prolly_load.specs.Buffered.{Buffered}
 use Rattle.prolly_load.specs.Filling.{Gains, GainsNothing}
 use Rattle.prolly_load.specs.declared.taking.Taken.{Taken}

@@ -3,7 +3,7 @@ ghost use Rattle.std.specs.Prelude.{◌≡◌};
 ghost use Rattle.prolly_load.specs.Fault.{fault_of};
 
 use prolly_entry::Flaw;
-use prolly_link::RunFault;
+use prolly_fault::RunFault;
 
 /// The fault of a file whose record at `place` has a flaw.
 pub(crate) fn fault_of(file: u32, place: u32, flaw: Flaw) -> RunFault

@@ -1,11 +1,12 @@
 //! Loading a record file.
 ghost use Rattle.std.specs.Prelude.{◌≡◌, ◌≢◌, ◌↔◌, true};
-ghost use Rattle.prolly_link.specs.declared.fault.End.TheVariants.{Fault};
-ghost use Rattle.prolly_link.specs.declared.fault.RunFault.TheVariants.{Read};
+ghost use Rattle.prolly_link.specs.declared.end.End.TheVariants.{Fault};
+ghost use Rattle.prolly_fault.specs.declared.fault.RunFault.TheVariants.{Read};
 ghost use Rattle.prolly_load.specs.Loading.{IsLoaded};
 
 use crate::sending::send_records;
 use prolly_entry::Record;
+use prolly_fault::RunFault;
 use prolly_file::Source;
 use prolly_link::Out;
 use std::alloc::Global;
@@ -31,7 +32,7 @@ pub struct Loaded<S, C> {
 /// Takes time linear in the bytes, and copies each record's bytes once. Where the receiver is far
 /// behind, it takes the hash of a pair's boundary, which the pair carries then. Holds one buffer of
 /// 130 KiB, however long the file is, and offers each read 64 KiB or more.
-pub fn load<R: Wait, S: Source, O: Out<Record>>(
+pub fn load<R: Wait, S: Source, O: Out<Record, RunFault>>(
     rt: &R,
     alloc: Global,
     file: u32,

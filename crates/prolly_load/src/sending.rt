@@ -1,18 +1,20 @@
 //! Sending the records of a source.
 ghost use Rattle.std.specs.Prelude.{◌≡◌, ◌≢◌, ◌↔◌, true};
 ghost use Rattle.prolly_load.specs.Loading.{IsLoaded};
+ghost use Rattle.prolly_link.specs.declared.end.End.TheVariants.{Fault};
 
 use crate::buffer::Buffer;
 use crate::fault::fault_of;
 use crate::taking::{Taken, take_record};
 use prolly_entry::{Flaw, Record};
+use prolly_fault::{End, RunFault};
 use prolly_file::Source;
-use prolly_link::{End, Out, RunFault};
+use prolly_link::Out;
 use std::alloc::Global;
 use std::sync::Wait;
 
 /// Sends the good records of what the source has left, and answers the end that follows them.
-pub(crate) fn send_records<R: Wait, S: Source, O: Out<Record>>(
+pub(crate) fn send_records<R: Wait, S: Source, O: Out<Record, RunFault>>(
     rt: &R,
     alloc: Global,
     file: u32,
@@ -23,9 +25,9 @@ pub(crate) fn send_records<R: Wait, S: Source, O: Out<Record>>(
     ensures link { O.link out.new ≡ O.link out.old }
     ensures loaded { IsLoaded file limit (S.seen source.old).is_honest (S.seen source.old).left
         (S.seen source.new).left (O.sent out.old) (O.sent out.new) result }
-    ensures read { (result ≡ End.Fault (RunFault.Read file)) ↔ ((S.seen
+    ensures read { (result ≡ Fault (RunFault.Read file)) ↔ ((S.seen
         source.new).failures ≢ (S.seen source.old).failures) }
-    ensures unfailed { result ≢ End.Fault (RunFault.Read file) →
+    ensures unfailed { result ≢ Fault (RunFault.Read file) →
         (S.seen source.new).failures ≡ (S.seen source.old).failures }
     ensures never { (S.seen source.old).is_steady ≡ true →
         (S.seen source.new).failures ≡ (S.seen source.old).failures }

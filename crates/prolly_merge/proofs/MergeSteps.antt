@@ -7,9 +7,11 @@ use Rattle.std.specs.List.{filter, AllByRecursion}
 use Rattle.prolly_entry.specs.Record.{Record}
 use Rattle.prolly_entry.specs.Keys.{key_order, KeyBelow}
 use Rattle.prolly_entry.specs.Overlay.{raw_overlay, last_change_of, AllRising, NotBelow, rest_after}
-use Rattle.prolly_entry.specs.Merge.{Input, Stop, stop_at, earlier_stop, stop, is_within, raw_merged_part, stop_fault}
+use Rattle.prolly_tree.specs.Merge.{Input, Stop, stop_at, earlier_stop, stop, is_within, raw_merged_part, stop_fault}
 use Rattle.prolly_entry.specs.Position.{Position, last_position, is_before}
-use Rattle.prolly_entry.proofs.Overlays.{IsRising, AllAbove, is_rising, rising_raw, eq_true, order_same, order_self, order_trans, greater_below, not_eq_above, merge_step}
+use Rattle.prolly_entry.specs.lemmas.RisingRecords.{IsRising, AllAbove, is_rising}
+use Rattle.prolly_entry.specs.lemmas.Overlays.{rising_raw, merge_step}
+use Rattle.prolly_entry.specs.lemmas.Orders.{eq_true, order_same, order_self, order_trans, greater_below, not_eq_above}
 
 pub not_below_above : (x y : List ℕ) → is_lt (key_order x y) ≡ false → is_eq (key_order x y) ≡ false → KeyBelow y x
 not_below_above x y h k = go (key_order x y) refl

@@ -7,12 +7,12 @@ use Rattle.prolly_entry.specs.Pair.{Pair}
 use Rattle.prolly_entry.specs.Record.{Record}
 use Rattle.prolly_entry.specs.Keys.{key_order, KeyBelow}
 use Rattle.prolly_entry.specs.Overlay.{change_of, or_else, last_change_of, with_records, raw_overlay, pairs_of_change, pairs_put, AllRising, NotBelow, rest_after}
-use Rattle.prolly_entry.specs.Merge.{Input, Stop, stop_at, earlier_stop, stop, is_within, raw_merged_part, merged_part, stop_fault}
+use Rattle.prolly_tree.specs.Merge.{Input, Stop, stop_at, earlier_stop, stop, is_within, raw_merged_part, merged_part, stop_fault}
 use Rattle.prolly_entry.specs.Position.{Position, last_position, is_before}
-use Rattle.prolly_entry.proofs.Overlays.{IsRising, is_rising, rising_is, found_above, above_trans}
-use Rattle.prolly_link.specs.declared.fault.End.{End}
-use Rattle.prolly_link.specs.declared.fault.End.TheVariants.{Clean, Fault}
-use Rattle.prolly_link.specs.declared.fault.RunFault.{RunFault}
+use Rattle.prolly_entry.specs.lemmas.RisingRecords.{IsRising, is_rising, rising_is, found_above, above_trans}
+use Rattle.prolly_fault.specs.Ends.{End}
+use Rattle.prolly_link.specs.declared.end.End.TheVariants.{Clean, Fault}
+use Rattle.prolly_fault.specs.declared.fault.RunFault.{RunFault}
 use Rattle.prolly_merge.specs.declared.head.Head.{Head}
 use Rattle.prolly_merge.specs.declared.head.Head.TheVariants.{Ready, Ended}
 use Rattle.prolly_merge.specs.Inputs.{fault_of, end_of, input_of, lists_of, stop_end}

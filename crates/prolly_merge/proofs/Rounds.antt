@@ -4,13 +4,12 @@ use Rattle.std.specs.Ordering.{is_lt, is_eq}
 use Rattle.std.specs.List.{AllByRecursion}
 use Rattle.prolly_entry.specs.Record.{Record}
 use Rattle.prolly_entry.specs.Overlay.{change_of, or_else, last_change_of}
-use Rattle.prolly_entry.proofs.Overlays.{order_self}
+use Rattle.prolly_entry.specs.lemmas.Orders.{order_self}
 use Rattle.prolly_link.specs.Identity.{LinkId}
-use Rattle.prolly_link.specs.declared.progress.Progress.{Progress}
+use Rattle.prolly_fault.specs.Ends.{End, Progress}
 use Rattle.prolly_merge.specs.declared.head.Head.{Head}
 use Rattle.prolly_merge.specs.declared.head.Head.TheVariants.{Ready, Ended}
 use Rattle.prolly_merge.specs.declared.step.Step.TheVariants.{Send}
-use Rattle.prolly_link.specs.declared.fault.End.{End}
 use Rattle.std.proofs.lemmas.Option.{slice_get_within}
 use Rattle.prolly_merge.specs.declared.peeked.Peeked.{Peeked}
 use Rattle.prolly_merge.specs.Each.{Each, EachUpto}

@@ -5,13 +5,13 @@ use Rattle.std.specs.Ordering.{is_lt, is_eq}
 use Rattle.prolly_entry.specs.Record.{Record}
 use Rattle.prolly_entry.specs.Keys.{key_order}
 use Rattle.prolly_entry.specs.Overlay.{change_of, or_else}
-use Rattle.prolly_entry.proofs.Overlays.{order_self, below_greater}
+use Rattle.prolly_entry.specs.lemmas.Orders.{order_self, below_greater}
 use Rattle.prolly_merge.specs.declared.head.Head.{Head}
 use Rattle.prolly_merge.specs.declared.head.Head.TheVariants.{Ready, Ended}
 use Rattle.prolly_merge.specs.declared.step.Step.TheVariants.{Send}
 use Rattle.prolly_merge.specs.declared.turn.Turn.TheVariants.{Left, Right, Both}
 use Rattle.prolly_link.specs.Identity.{LinkId}
-use Rattle.prolly_link.specs.declared.progress.Progress.{Progress}
+use Rattle.prolly_fault.specs.Ends.{Progress}
 use Rattle.prolly_merge.specs.declared.peeked.Peeked.{Peeked}
 use Rattle.prolly_merge.specs.Heads.{in_hand, Allows, has_key}
 use Rattle.prolly_merge.specs.PeekedInputs.{Advances}

@@ -2,7 +2,7 @@
 use Rattle.std.specs.Prelude.{◌≡◌, ℕ, zero, suc, Bool, true, false, List, [], ◌∷◌, Option, Some, None}
 use Rattle.std.specs.List.{AllByRecursion}
 use Rattle.prolly_entry.specs.Record.{Record}
-use Rattle.prolly_link.specs.declared.fault.End.TheVariants.{Clean}
+use Rattle.prolly_link.specs.declared.end.End.TheVariants.{Clean}
 use Rattle.prolly_merge.specs.Heads.{Allows, has_key, Stops}
 use Rattle.prolly_merge.specs.declared.head.Head.{Head}
 use Rattle.prolly_merge.specs.declared.head.Head.TheVariants.{Ready, Ended}

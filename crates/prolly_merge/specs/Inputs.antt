@@ -1,13 +1,12 @@
 -- What the inputs of a merger gave, as the inputs that a merged part is made of.
 use Rattle.std.specs.Prelude.{◌≡◌, List, [], ◌∷◌, map, Option, Some, None}
 use Rattle.prolly_entry.specs.Record.{Record}
-use Rattle.prolly_entry.specs.Merge.{Input, stop, stop_fault}
+use Rattle.prolly_tree.specs.Merge.{Input, stop, stop_fault}
 use Rattle.prolly_link.specs.Identity.{LinkId}
-use Rattle.prolly_link.specs.Receipts.{HasEnded, end_given}
-use Rattle.prolly_link.specs.declared.progress.Progress.{Progress}
-use Rattle.prolly_link.specs.declared.fault.End.{End}
-use Rattle.prolly_link.specs.declared.fault.End.TheVariants.{Clean, Fault}
-use Rattle.prolly_link.specs.declared.fault.RunFault.{RunFault}
+use Rattle.prolly_link.specs.Receipts.{HasEnded}
+use Rattle.prolly_fault.specs.Ends.{End, Progress, end_given}
+use Rattle.prolly_link.specs.declared.end.End.TheVariants.{Clean, Fault}
+use Rattle.prolly_fault.specs.declared.fault.RunFault.{RunFault}
 
 -- The fault of an end.
 abbrev pub fault_of : End → Option RunFault

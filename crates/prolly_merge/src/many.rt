@@ -2,7 +2,7 @@
 ghost use Rattle.std.specs.Prelude.{◌≡◌, ◌++◌, List, length};
 ghost use Rattle.prolly_entry.specs.Record.{Record as RecordValue};
 ghost use Rattle.prolly_entry.specs.Overlay.{AllRising, pairs_put};
-ghost use Rattle.prolly_entry.specs.Merge.{merged_part};
+ghost use Rattle.prolly_tree.specs.Merge.{merged_part};
 ghost use Rattle.prolly_merge.specs.Each.{Each};
 ghost use Rattle.prolly_merge.specs.Inputs.{inputs_of, lists_of, stop_end, Ends};
 ghost use Rattle.prolly_merge.specs.Sent.{Sends, Counts};
@@ -16,13 +16,14 @@ use crate::put::send_put;
 use crate::round::next_of_many;
 use crate::step::Step;
 use prolly_entry::{Pair, Record};
-use prolly_link::{End, In, Out, RunFault};
+use prolly_fault::{End, RunFault};
+use prolly_link::{In, Out};
 use std::alloc::Global;
 use std::sync::Wait;
 
 /// What a merger of many inputs gives back: each input in its place.
 #[derive(Drop)]
-pub struct Merged<I, O: Out<Pair>> {
+pub struct Merged<I, O: Out<Pair, RunFault>> {
     pub inputs: Vec<I>,
     pub out: O::Closed,
     /// The number of pairs that were sent, or the greatest number where there were more.
@@ -30,7 +31,7 @@ pub struct Merged<I, O: Out<Pair>> {
 }
 
 // Sends pairs until the merger stops, or memory is refused. Gives their number, and the end.
-fn send_many<I: In<Record>, O: Out<Pair>, R: Wait>(
+fn send_many<I: In<Record, RunFault>, O: Out<Pair, RunFault>, R: Wait>(
     rt: &R,
     inputs: &mut [I],
     heads: &mut [Head],
@@ -60,7 +61,7 @@ fn send_many<I: In<Record>, O: Out<Pair>, R: Wait>(
 }
 
 // Merges inputs in their places. Gives the number of pairs sent, and what is left of the output.
-fn merge_all<I: In<Record>, O: Out<Pair>, R: Wait>(
+fn merge_all<I: In<Record, RunFault>, O: Out<Pair, RunFault>, R: Wait>(
     rt: &R,
     alloc: Global,
     inputs: &mut [I],
@@ -98,7 +99,7 @@ fn merge_all<I: In<Record>, O: Out<Pair>, R: Wait>(
 /// Takes one comparison of keys an input for each record, and one more for those before it where
 /// inputs share its key. Where the receiver is far behind, it takes the hash of a pair's boundary,
 /// which the pair carries then.
-pub fn merge<I: In<Record>, O: Out<Pair>, R: Wait>(
+pub fn merge<I: In<Record, RunFault>, O: Out<Pair, RunFault>, R: Wait>(
     rt: &R,
     alloc: Global,
     mut inputs: Vec<I>,

@@ -11,12 +11,18 @@ use crate::choice::{Choice, Least, choose};
 use crate::head::{Head, receive};
 use crate::step::Step;
 use prolly_entry::{Record, key_order};
+use prolly_fault::RunFault;
 use prolly_link::In;
 use std::mem;
 use std::sync::Wait;
 
 // Gives the head of input number `at`, and receives its next one.
-fn next_of<I: In<Record>, R: Wait>(rt: &R, inputs: &mut [I], heads: &mut [Head], at: usize) -> Head
+fn next_of<I: In<Record, RunFault>, R: Wait>(
+    rt: &R,
+    inputs: &mut [I],
+    heads: &mut [Head],
+    at: usize,
+) -> Head
     requires input { at < length inputs.old }
     requires head { at < length heads.old }
     ensures { (old new : Peeked I) × (slice_get (peeked_of inputs.old heads.old) at ≡ Some old)
@@ -40,7 +46,7 @@ fn has_key(head: &Head, sent: &Record) -> bool
 
 // Lets the inputs before number `at` that have the key of the record that is sent move on: theirs
 // are left out.
-fn skip_key<I: In<Record>, R: Wait>(
+fn skip_key<I: In<Record, RunFault>, R: Wait>(
     rt: &R,
     inputs: &mut [I],
     heads: &mut [Head],
@@ -61,7 +67,7 @@ fn skip_key<I: In<Record>, R: Wait>(
 }
 
 // Takes the record of the chosen input. The others that have its key move on too.
-fn take<I: In<Record>, R: Wait>(
+fn take<I: In<Record, RunFault>, R: Wait>(
     rt: &R,
     inputs: &mut [I],
     heads: &mut [Head],
@@ -84,7 +90,7 @@ fn take<I: In<Record>, R: Wait>(
 }
 
 /// The next record of the inputs, which they give away, or why there is none.
-pub(crate) fn next_of_many<I: In<Record>, R: Wait>(
+pub(crate) fn next_of_many<I: In<Record, RunFault>, R: Wait>(
     rt: &R,
     inputs: &mut [I],
     heads: &mut [Head],

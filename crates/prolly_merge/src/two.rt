@@ -2,7 +2,7 @@
 ghost use Rattle.std.specs.Prelude.{◌≡◌, List, [], ◌∷◌, ◌++◌};
 ghost use Rattle.prolly_entry.specs.Record.{Record as RecordValue};
 ghost use Rattle.prolly_entry.specs.Overlay.{AllRising};
-ghost use Rattle.prolly_entry.specs.Merge.{raw_merged_part};
+ghost use Rattle.prolly_tree.specs.Merge.{raw_merged_part};
 ghost use Rattle.prolly_merge.specs.Each.{Each};
 ghost use Rattle.prolly_merge.specs.Inputs.{inputs_of, lists_of, stop_end, Ends};
 ghost use Rattle.prolly_merge.specs.Sent.{Sends, Counts};
@@ -16,12 +16,13 @@ use crate::peeked::Peeked;
 use crate::step::Step;
 use crate::turn::{Turn, turn_of};
 use prolly_entry::Record;
-use prolly_link::{End, In, Out, RunFault};
+use prolly_fault::{End, RunFault};
+use prolly_link::{In, Out};
 use std::sync::Wait;
 
 /// What a merger of two inputs gives back.
 #[derive(Drop)]
-pub struct MergedTwo<I, O: Out<Record>> {
+pub struct MergedTwo<I, O: Out<Record, RunFault>> {
     pub left: I,
     pub right: I,
     pub out: O::Closed,
@@ -30,7 +31,11 @@ pub struct MergedTwo<I, O: Out<Record>> {
 }
 
 // The next record of the two, which its inputs give away, or why there is none.
-fn next_of_two<I: In<Record>, R: Wait>(rt: &R, left: &mut Peeked<I>, right: &mut Peeked<I>) -> Step
+fn next_of_two<I: In<Record, RunFault>, R: Wait>(
+    rt: &R,
+    left: &mut Peeked<I>,
+    right: &mut Peeked<I>,
+) -> Step
     ensures { IsStep I.link I.progress I.Follows I.received (left.old ∷ right.old ∷ []) result
         (left.new ∷ right.new ∷ []) }
 {
@@ -51,7 +56,7 @@ fn next_of_two<I: In<Record>, R: Wait>(rt: &R, left: &mut Peeked<I>, right: &mut
 
 // Sends records until the merger stops, or one is refused. Gives the number of records sent, and
 // the end.
-fn send_two<I: In<Record>, O: Out<Record>, R: Wait>(
+fn send_two<I: In<Record, RunFault>, O: Out<Record, RunFault>, R: Wait>(
     rt: &R,
     left: &mut Peeked<I>,
     right: &mut Peeked<I>,
@@ -93,7 +98,7 @@ fn send_two<I: In<Record>, O: Out<Record>, R: Wait>(
 /// of others it is known only that they have ended, and how many records were sent.
 ///
 /// Takes one comparison of keys a record, and no memory of its own.
-pub fn merge_two<I: In<Record>, O: Out<Record>, R: Wait>(
+pub fn merge_two<I: In<Record, RunFault>, O: Out<Record, RunFault>, R: Wait>(
     rt: &R,
     left: I,
     right: I,

@@ -6,3 +6,5 @@ pub mod Sends
 pub mod Taking
 -- Workers that stand one behind another.
 pub mod Workers
+-- Lemmas for the crates above.
+pub mod lemmas

@@ -3,7 +3,7 @@ use Rattle.std.specs.Prelude.{◌≡◌, List, [], ◌∷◌, ◌++◌, ◌⊎�
 use Rattle.std.specs.Option.{option_to_list}
 use Rattle.prolly_entry.specs.Pair.{Pair}
 use Rattle.prolly_entry.specs.Cut.{Cut}
-use Rattle.prolly_entry.specs.Chunk.{Chunk}
+use Rattle.prolly_tree.specs.Chunk.{Chunk}
 use Rattle.prolly_chunk.specs.LeafLevel.{LeafState, LeafTakes}
 use Rattle.prolly_chunk.specs.NodeLevel.{NodeState, NodeTakes}
 

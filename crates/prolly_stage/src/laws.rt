@@ -5,7 +5,7 @@ ghost use Rattle.std.specs.Prelude.{ℕ, ◌<◌, ◌^◌, List, length};
 ghost use Rattle.prolly_entry.specs.declared.version.Version.{Version};
 ghost use Rattle.prolly_entry.specs.Pair.{Pair};
 ghost use Rattle.prolly_entry.specs.Cut.{Cut};
-ghost use Rattle.prolly_entry.specs.Events.{Closing};
+ghost use Rattle.prolly_tree.specs.Events.{Closing};
 ghost use Rattle.prolly_stage.specs.Workers.{WorkersJoin, StageFollows, WriterTakes};
 
 /// Two workers, one behind the other, do what a worker of both their stages would do.

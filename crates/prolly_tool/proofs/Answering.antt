@@ -1,7 +1,7 @@
 -- What a command answers where writing its file fails, and of a file that was checked.
 use Rattle.std.proofs.Common.{◌≡◌, ◌≤◌, List, ℕ, length, ◌⊎◌, inl, inr, subst, Result, Ok, Err}
 use Rattle.std.specs.Prelude.{IfOk, OnErr}
-use Rattle.prolly_link.specs.declared.fault.RunFault.TheVariants.{Write}
+use Rattle.prolly_fault.specs.declared.fault.RunFault.TheVariants.{Write}
 use Rattle.prolly_tool.specs.declared.answer.Answer.{Answer}
 use Rattle.prolly_tool.specs.declared.fault.Fault.{Fault}
 use Rattle.prolly_tool.specs.declared.fault.Fault.TheVariants.{Run}

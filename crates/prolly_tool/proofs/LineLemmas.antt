@@ -8,8 +8,8 @@ use Rattle.std.proofs.lemmas.Option.{slice_get_within, unwrap_or-slice_get}
 use Rattle.std.proofs.lemmas.Bool.Decides.{nat_tests}
 use Rattle.hex.specs.Hex.{decode_of, is_hex_digit}
 use Rattle.hex.proofs.HexLemmas.{decode_of-ok}
-use Rattle.prolly_entry.proofs.RecordSteps.{rest_is}
-use Rattle.prolly_entry.specs.Split.{in_front}
+use Rattle.prolly_entry.specs.lemmas.Lists.{rest_is}
+use Rattle.prolly_tree.specs.Split.{in_front}
 use Rattle.prolly_tool.specs.Lines.{lines_of, CutsAtSpace, IsLineOf, IsChangeText, IsBadLine}
 use Rattle.prolly_tool.specs.declared.line.LineFlaw.{LineFlaw}
 use Rattle.prolly_tool.specs.declared.line.LineFlaw.TheVariants as flaws

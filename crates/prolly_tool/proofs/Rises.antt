@@ -3,7 +3,7 @@ use Rattle.std.proofs.Common.{ℕ, zero, suc, ◌+◌, List, [], ◌∷◌, take
 use Rattle.prolly_entry.specs.Keys.{Rising, RisingFrom}
 use Rattle.prolly_entry.specs.Pair.{Pair}
 use Rattle.prolly_entry.specs.RecordList.{ArePairsOf}
-use Rattle.prolly_entry.proofs.Overlays.{overlay_rises}
+use Rattle.prolly_entry.specs.lemmas.Overlays.{overlay_rises}
 use Rattle.prolly_file.specs.Scratch.{keys_in, FallsAt}
 
 pub pairs_rise : (bytes : List ℕ) (limit : ℕ) (pairs : List Pair) → ArePairsOf bytes limit pairs → Rising (keys_in pairs)

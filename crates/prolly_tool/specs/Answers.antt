@@ -2,7 +2,7 @@
 use Rattle.std.specs.Prelude.{◌≡◌, ℕ, List, [], ◌∷◌, ◌++◌, string_bytes}
 use Rattle.prolly_line.specs.declared.command.ParseFault.{ParseFault}
 use Rattle.prolly_line.specs.declared.command.ParseFault.TheVariants.{Memory, Usage, Help, BadKey as BadKeyWord}
-use Rattle.prolly_link.specs.declared.fault.RunFault.TheVariants.{Memory as OutOfMemory}
+use Rattle.prolly_fault.specs.declared.fault.RunFault.TheVariants.{Memory as OutOfMemory}
 use Rattle.prolly_tool.specs.declared.answer.Answer.{Answer}
 use Rattle.prolly_tool.specs.declared.fault.Fault.{Fault}
 use Rattle.prolly_tool.specs.declared.name_fault.NameFault.{NameFault}
@@ -28,12 +28,13 @@ ShowsNothing answer = Shows answer 1 [] []
 abbrev pub ShowsFault : Answer → Fault → Type 0
 ShowsFault answer fault = Shows answer (fault_status fault) [] (fault_line (fault_text fault))
 
--- Not done, since a file that the words name is at fault: a line that ends with its name, and the status of a device's fault.
+-- Not done, since a file that the words name is at fault: a line that ends with its name, and the
+-- status of a device's fault.
 abbrev pub ShowsName : Answer → NameFault → List ℕ → Type 0
 ShowsName answer fault name = Shows answer 5 [] (fault_line (name_fault_text fault ++ shown_name name))
 
--- The words give no command. What clap says of them is shown as it words it: help that was asked for on standard output, and what
--- is wrong with the words on standard error.
+-- The words give no command. What clap says of them is shown as it words it: help that was asked
+-- for on standard output, and what is wrong with the words on standard error.
 abbrev pub ShowsRefusal : Answer → ParseFault → Type 0
 ShowsRefusal answer Memory = ShowsFault answer (Run OutOfMemory)
 ShowsRefusal answer BadKeyWord = ShowsFault answer BadKey

@@ -1,8 +1,8 @@
 -- The line and the status of each fault. (This project's texts.)
 use Rattle.std.specs.Prelude.{ℕ, List, [], ◌∷◌, ◌++◌, codes}
 use Rattle.std.specs.Fmt.{decimal}
-use Rattle.prolly_link.specs.declared.fault.RunFault.{RunFault}
-use Rattle.prolly_link.specs.declared.fault.RunFault.TheVariants as runs
+use Rattle.prolly_fault.specs.declared.fault.RunFault.{RunFault}
+use Rattle.prolly_fault.specs.declared.fault.RunFault.TheVariants as runs
 use Rattle.prolly_check.specs.declared.fault.CheckFault.{CheckFault}
 use Rattle.prolly_check.specs.declared.fault.CheckFault.TheVariants as checks
 use Rattle.prolly_tool.specs.declared.pack.PackFault.{PackFault}
@@ -59,7 +59,8 @@ fault_text BadKey = codes "not a key in hexadecimal"
 fault_text NotUnicode = codes "a word is not UTF-8"
 fault_text OutIsStdout = codes "OUT is also standard output"
 
--- 2: usage. 3: the input is at fault. 4: a chunk file is. 5: a device is. 6: memory or a thread. 7: the tree is too tall.
+-- 2: usage. 3: the input is at fault. 4: a chunk file is. 5: a device is. 6: memory or a thread. 7:
+-- the tree is too tall.
 abbrev pub run_status : RunFault → ℕ
 run_status runs.Memory = 6
 run_status (runs.Read file) = 5

@@ -2,10 +2,10 @@
 use Rattle.std.specs.Prelude.{◌≡◌, ◌≢◌, ℕ, ◌<◌, ◌≤◌, ◌==◌, List, [], ◌∷◌, ◌++◌, length, Option, Some, None, Ok, if◌then◌else◌}
 use Rattle.std.specs.List.{AllByRecursion}
 use Rattle.hex.specs.Hex.{decode_of}
-use Rattle.prolly_entry.specs.Split.{in_front}
+use Rattle.prolly_tree.specs.Split.{in_front}
 
--- The lines of a text: it is cut at newlines. A last line without a newline counts, and the empty rest behind a last newline does
--- not.
+-- The lines of a text: it is cut at newlines. A last line without a newline counts, and the empty
+-- rest behind a last newline does not.
 abbrev pub lines_of : List ℕ → List (List ℕ)
 lines_of [] = []
 lines_of (b ∷ text) = if b == 0x0A then [] ∷ lines_of text else in_front b (lines_of text)
@@ -15,8 +15,8 @@ abbrev pub IsChangeText : List ℕ → Option (List ℕ) → Type 0
 IsChangeText text None = text ≡ 0x2D ∷ []
 IsChangeText text (Some value) = decode_of text ≡ Ok value
 
--- The line stands for a key and what is said of it: the key in hexadecimal, one space, and the text behind it. No text in
--- hexadecimal has a space, so the line has no other one.
+-- The line stands for a key and what is said of it: the key in hexadecimal, one space, and the text
+-- behind it. No text in hexadecimal has a space, so the line has no other one.
 pub record IsLineOf (line key : List ℕ) (change : Option (List ℕ)) : Type 0 where
   pub key_text : List ℕ
   pub change_text : List ℕ

@@ -10,10 +10,10 @@ use Rattle.prolly_check.specs.declared.fault.CheckFault.{CheckFault}
 use Rattle.prolly_check.specs.declared.fault.CheckFault.TheVariants.{Read}
 use Rattle.prolly_entry.specs.declared.version.Version.{Version}
 use Rattle.prolly_entry.specs.declared.version.Version.TheVariants.{One, Two}
-use Rattle.prolly_entry.specs.Chunk.{chunks}
+use Rattle.prolly_tree.specs.Chunk.{chunks}
 use Rattle.prolly_entry.specs.Cut.{sha512_cut}
-use Rattle.prolly_entry.specs.File.{root_reference}
-use Rattle.prolly_entry.specs.LookUp.{find, nth, scan}
+use Rattle.prolly_tree.specs.File.{root_reference}
+use Rattle.prolly_tree.specs.LookUp.{find, nth, scan}
 use Rattle.prolly_entry.specs.Pair.{Pair}
 use Rattle.prolly_entry.specs.Reference.{reference_text}
 use Rattle.prolly_tool.specs.Answers.{Shows, ShowsLine, ShowsNothing, ShowsFault}

@@ -5,8 +5,8 @@ use Rattle.hex.specs.Hex.{encode_lower}
 use Rattle.prolly_tool.specs.declared.name_fault.NameFault.{NameFault}
 use Rattle.prolly_tool.specs.declared.name_fault.NameFault.TheVariants.{CannotOpen, CannotReplace, IsInput}
 
--- A byte of a name as a line shows it: a control byte, which might end the line, as `\x` and two digits, a backslash as two,
--- and every other byte as it stands.
+-- A byte of a name as a line shows it: a control byte, which might end the line, as `\x` and two
+-- digits, a backslash as two, and every other byte as it stands.
 abbrev pub shown_byte : ℕ → List ℕ
 shown_byte byte =
     if nat_lt byte 0x20 || byte == 0x7F then 0x5C ∷ 0x78 ∷ encode_lower (byte ∷ [])

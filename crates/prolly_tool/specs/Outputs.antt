@@ -1,7 +1,7 @@
 -- What a command that makes a file does to the sink that it is lent, and what it answers.
 use Rattle.std.specs.Prelude.{◌≡◌, ◌≢◌, ℕ, ◌⊎◌, true, List, ◌++◌, Option, Some, None}
 use Rattle.prolly_file.specs.Sink.{SinkView, TakesPrefix}
-use Rattle.prolly_link.specs.declared.fault.RunFault.TheVariants.{Write}
+use Rattle.prolly_fault.specs.declared.fault.RunFault.TheVariants.{Write}
 use Rattle.prolly_tool.specs.declared.answer.Answer.{Answer}
 use Rattle.prolly_tool.specs.declared.fault.Fault.{Fault}
 use Rattle.prolly_tool.specs.declared.fault.Fault.TheVariants.{Run}
@@ -55,8 +55,9 @@ pub record IsRefused (at_fault : Fault → Type 0) (answer : Answer) : Type 0 wh
   pub is : at_fault fault
   pub shows : ShowsFault answer fault
 
--- The answer of a command of which `makes` says which file and line it makes, and `at_fault` for which fault it makes none. Of the
--- sink, `took_all` says that it took all of a file, `took_part` that it failed after a part of one, `untouched` that it is as it was.
+-- The answer of a command of which `makes` says which file and line it makes, and `at_fault` for
+-- which fault it makes none. Of the sink, `took_all` says that it took all of a file, `took_part`
+-- that it failed after a part of one, `untouched` that it is as it was.
 abbrev pub IsAnswer : (List ℕ → List ℕ → Type 0) → (Fault → Type 0) → (List ℕ → Type 0) → (List ℕ → Type 0) → Type 0 → Answer → Type 0
 IsAnswer makes at_fault took_all took_part untouched answer =
     IsDone makes took_all answer

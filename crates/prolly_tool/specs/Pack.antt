@@ -20,14 +20,16 @@ use Rattle.prolly_tool.specs.Lines.{lines_of, IsLineOf, IsBadLine, HasLongKey, H
 abbrev pub StandsFor : List ℕ → Record → Type 0
 StandsFor line r = IsLineOf line r.key r.value × IsRecord r
 
--- Each line of the text stands for a record, and so many spellings are appended, in the order of the lines.
+-- Each line of the text stands for a record, and so many spellings are appended, in the order of
+-- the lines.
 pub record Packs (text old new : List ℕ) (count : ℕ) : Type 0 where
   pub records : List Record
   pub stand : AllZip StandsFor (lines_of text) records
   pub appended : new ≡ old ++ flat_map record_spelling records
   pub count_is : count ≡ length records
 
--- The line stands for no lawful record, and this is what is wrong with it; want of memory may come at any line.
+-- The line stands for no lawful record, and this is what is wrong with it; want of memory may come
+-- at any line.
 abbrev pub IsWrongLine : List ℕ → LineFlaw → Type 0
 IsWrongLine line flaws.Memory = Unit {0}
 IsWrongLine line flaws.Bad = IsBadLine line
@@ -46,7 +48,8 @@ abbrev pub flaw_of : EntryFault → LineFlaw
 flaw_of entries.KeyTooLong = flaws.KeyTooLong
 flaw_of entries.ValueTooLong = flaws.ValueTooLong
 
--- The line of this number is the first that stands for no lawful record, and this is what is wrong with it.
+-- The line of this number is the first that stands for no lawful record, and this is what is wrong
+-- with it.
 pub record IsFirstWrong (text : List ℕ) (number : ℕ) (flaw : LineFlaw) : Type 0 where
   pub before : List (List ℕ)
   pub line : List ℕ
@@ -85,7 +88,8 @@ pub record IsLineFault (line : List ℕ) (number : ℕ) (fault : PackFault) : Ty
 
 -- ---- the command
 
--- The text was read whole, it is packed into this record file, and the line is the number of its records.
+-- The text was read whole, it is packed into this record file, and the line is the number of its
+-- records.
 pub record PacksTo (text : List ℕ) (has_failed : Type 0) (file line : List ℕ) : Type 0 where
   pub whole : IsReadWhole text has_failed
   pub count : ℕ

@@ -8,18 +8,20 @@ use Rattle.prolly_entry.specs.Cut.{sha512_cut}
 use Rattle.prolly_entry.specs.RecordList.{ArePairsOf, IsFaultOf}
 use Rattle.prolly_entry.specs.Reference.{reference_text}
 use Rattle.prolly_file.specs.Scratch.{Builds, IsTooTall}
-use Rattle.prolly_link.specs.declared.fault.RunFault.{RunFault}
-use Rattle.prolly_link.specs.declared.fault.RunFault.TheVariants as runs
+use Rattle.prolly_fault.specs.declared.fault.RunFault.{RunFault}
+use Rattle.prolly_fault.specs.declared.fault.RunFault.TheVariants as runs
 use Rattle.prolly_tool.specs.declared.fault.Fault.{Fault}
 use Rattle.prolly_tool.specs.declared.fault.Fault.TheVariants.{Run}
 use Rattle.prolly_tool.specs.Input.{IsReadWhole, IsInputFault}
 
--- The input was read whole, and is a record file of at most 16,777,216 records: these are its pairs.
+-- The input was read whole, and is a record file of at most 16,777,216 records: these are its
+-- pairs.
 pub record HoldsPairs (bytes : List ℕ) (has_failed : Type 0) (pairs : List Pair) : Type 0 where
   pub whole : IsReadWhole bytes has_failed
   pub are : ArePairsOf bytes 16777216 pairs
 
--- This is the chunk file of the input's pairs, whose tree has at most 255 levels, with the reference of its root.
+-- This is the chunk file of the input's pairs, whose tree has at most 255 levels, with the
+-- reference of its root.
 pub record MakesFile (bits : ℕ) (version : Version) (bytes : List ℕ) (has_failed : Type 0) (file root : List ℕ) : Type 0 where
   pub pairs : List Pair
   pub held : HoldsPairs bytes has_failed pairs

@@ -5,8 +5,8 @@ ghost use Rattle.prolly_tool.specs.Answers.{ShowsNothing, ShowsLine, ShowsFault,
 use crate::fault::Fault;
 use crate::line_parts::append_name;
 use crate::name_fault::NameFault;
+use prolly_fault::RunFault;
 use prolly_line::ParseFault;
-use prolly_link::RunFault;
 use std::alloc::{AllocError, Global};
 
 /// What the program prints, and the status with which it ends.

@@ -4,7 +4,7 @@ ghost use Rattle.prolly_tool.specs.Faults.{fault_text, run_status, fault_status}
 
 use crate::pack::PackFault;
 use prolly_check::CheckFault;
-use prolly_link::RunFault;
+use prolly_fault::RunFault;
 use std::fmt;
 use std::fmt::{Display, Formatter};
 use thiserror::Error;

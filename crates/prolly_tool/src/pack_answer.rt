@@ -9,8 +9,8 @@ use crate::answer::Answer;
 use crate::fault::Fault;
 use crate::input::input_of;
 use crate::pack::pack_lines;
+use prolly_fault::RunFault;
 use prolly_file::{Sink, Source, WriteFault, write_whole};
-use prolly_link::RunFault;
 use std::alloc::{AllocError, Global};
 
 /// A record file, and the number of its records.

@@ -10,8 +10,8 @@ use crate::answer::Answer;
 use crate::fault::Fault;
 use crate::input::input_of;
 use prolly_entry::{Pair, RecordFault, Ref, Sha512Cut, Version, records};
+use prolly_fault::RunFault;
 use prolly_file::{ScratchFault, Sink, Source, WriteFault, scratch_as, write_whole};
-use prolly_link::RunFault;
 use std::alloc::{AllocError, Global};
 
 /// How many records a record file has at most.

@@ -4,8 +4,6 @@
 #![tactic(auto)]
 
 #[cfg(test)]
-mod expect;
-#[cfg(test)]
 mod links;
 #[cfg(test)]
 mod loading;

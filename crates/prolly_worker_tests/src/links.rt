@@ -3,9 +3,11 @@ ghost use Rattle.std.specs.Prelude.{◌≡◌};
 
 use between::{copy_into_batches, copy_list, copy_out_of_batches};
 use copies::{Copies, copy_all};
+use prolly_fault::{
+    BatchReceiver, ClosedBatch, ClosedSender, End, ListIn, Next, Receiver, RunFault,
+};
 use prolly_link::{
-    BatchDrained, BatchReceiver, ClosedBatch, ClosedSender, Drained, End, In, ListIn, ListOut,
-    Next, Out, Receiver, RunFault, batch_link, compare, compare_batches, compare_closed,
+    BatchDrained, Drained, In, ListOut, Out, batch_link, compare, compare_batches, compare_closed,
     compare_closed_batches, link, meet, meet_batches, receive_rest,
 };
 use std::process::Abort;
@@ -24,7 +26,7 @@ mod waiting;
 const CLEAN: Next<u32> = Next::End(End::Clean);
 
 // Fails unless each of these items is taken.
-fn sends<O: Out<u32>>(rt: &(impl Abort + Wait), out: &mut O, items: &[u32])
+fn sends<O: Out<u32, RunFault>>(rt: &(impl Abort + Wait), out: &mut O, items: &[u32])
     ensures { O.link out.new ≡ O.link out.old }
 {
     for &item in items {
@@ -33,7 +35,7 @@ fn sends<O: Out<u32>>(rt: &(impl Abort + Wait), out: &mut O, items: &[u32])
 }
 
 // Fails unless this is received, in this order.
-fn receives<I: In<u32>>(rt: &(impl Abort + Wait), input: &mut I, expected: &[Next<u32>])
+fn receives<I: In<u32, RunFault>>(rt: &(impl Abort + Wait), input: &mut I, expected: &[Next<u32>])
     ensures { I.link input.new ≡ I.link input.old }
 {
     for next in expected {
@@ -42,7 +44,7 @@ fn receives<I: In<u32>>(rt: &(impl Abort + Wait), input: &mut I, expected: &[Nex
 }
 
 // Sends these, each of which must be taken, and then a clean end.
-fn send_all<O: Out<u32>>(rt: &(impl Abort + Wait), mut out: O, items: &[u32]) -> O::Closed
+fn send_all<O: Out<u32, RunFault>>(rt: &(impl Abort + Wait), mut out: O, items: &[u32]) -> O::Closed
     ensures { O.closed_link result ≡ O.link out }
 {
     sends(rt, &mut out, items);
@@ -178,7 +180,7 @@ fn expect_numbers(rt: &impl Abort, numbers: &[u32], count: u32) {
 
 // Fails unless four messages of these items are taken, and the sender is ahead from the second one
 // on, where half of the room is left.
-fn fills_four<O: Out<u32>>(rt: &(impl Abort + Wait), out: &mut O, message: &[u32]) {
+fn fills_four<O: Out<u32, RunFault>>(rt: &(impl Abort + Wait), out: &mut O, message: &[u32]) {
     for is_ahead in [false, true, true, true] {
         sends(rt, out, message);
         assert_eq!(rt; out.is_ahead(), is_ahead);

@@ -1,7 +1,8 @@
 //! The loader, over sources that end and fail in many ways.
 use prolly_entry::{Record, append_record};
+use prolly_fault::{ClosedList, End, RunFault};
 use prolly_file::{FromRead, ScriptSource, Source};
-use prolly_link::{ClosedList, End, ListOut, RunFault};
+use prolly_link::ListOut;
 use prolly_load::{Loaded, load};
 use prolly_test_parts::Zeros;
 use sources::Watched;

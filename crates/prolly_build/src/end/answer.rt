@@ -1,14 +1,15 @@
 //! What a build does once its workers have been joined.
 ghost use Rattle.std.specs.Prelude.{◌≡◌, ◌≢◌, ◌-◌, ◌<◌, ◌^◌, true, List, length, IfOk, IfErr, OnOk};
 ghost use Rattle.prolly_entry.specs.Cut.{sha512_cut};
-ghost use Rattle.prolly_entry.specs.Events.{faulty};
-ghost use Rattle.prolly_entry.specs.File.{header};
+ghost use Rattle.prolly_tree.specs.Events.{faulty};
+ghost use Rattle.prolly_tree.specs.File.{header};
 ghost use Rattle.prolly_entry.specs.Pair.{Pair as PairValue};
-ghost use Rattle.prolly_entry.specs.Pipeline.{pipeline_events, before_second};
+ghost use Rattle.prolly_tree.specs.Pipeline.{pipeline_events, before_second};
 ghost use Rattle.prolly_file.specs.Sink.{SinkView, TakesPrefix};
-ghost use Rattle.prolly_link.specs.Receipts.{HasEnded, end_given};
-ghost use Rattle.prolly_link.specs.declared.fault.End.TheVariants.{Clean, Fault};
-ghost use Rattle.prolly_link.specs.declared.fault.RunFault.TheVariants.{Memory, Write};
+ghost use Rattle.prolly_link.specs.Receipts.{HasEnded};
+ghost use Rattle.prolly_fault.specs.Ends.{end_given};
+ghost use Rattle.prolly_link.specs.declared.end.End.TheVariants.{Clean, Fault};
+ghost use Rattle.prolly_fault.specs.declared.fault.RunFault.TheVariants.{Memory, Write};
 ghost use Rattle.prolly_build.specs.Settings.{AreLawful};
 ghost use Rattle.prolly_build.specs.Writing.{HasWritten, frames_of};
 ghost use Rattle.prolly_build.specs.Built.{IsBegun, IsRunOf, IsFileOf, IsUnmadeOf, IsInputEnd, IsStartFault, IsWriterFault};
@@ -20,8 +21,8 @@ use crate::links::link::meet;
 use crate::report::Report;
 use crate::run::stages::Ran;
 use crate::run::writer::Wrote;
+use prolly_fault::RunFault;
 use prolly_file::Sink;
-use prolly_link::RunFault;
 use std::sync::Wait;
 
 /// Meets the last link, and then ends the file.

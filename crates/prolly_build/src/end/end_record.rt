@@ -1,9 +1,9 @@
 //! The end of a build: the end record, or the fault.
 ghost use Rattle.std.specs.Prelude.{◌≡◌, ◌≢◌, ◌<◌, ℕ, List, Some, IfOk, IfErr, OnOk};
-ghost use Rattle.prolly_entry.specs.Chunk.{Chunk};
-ghost use Rattle.prolly_entry.specs.Events.{greatest_count};
+ghost use Rattle.prolly_tree.specs.Chunk.{Chunk};
+ghost use Rattle.prolly_tree.specs.Events.{greatest_count};
 ghost use Rattle.prolly_file.specs.Sink.{SinkView};
-ghost use Rattle.prolly_link.specs.declared.fault.End.TheVariants.{Clean};
+ghost use Rattle.prolly_link.specs.declared.end.End.TheVariants.{Clean};
 ghost use Rattle.prolly_build.specs.declared.run.written.Begun.{Begun as BegunValue};
 ghost use Rattle.prolly_build.specs.declared.run.written.Top.{Top as TopValue};
 ghost use Rattle.prolly_build.specs.declared.run.written.Written.TheVariants.{Whole};
@@ -11,8 +11,8 @@ ghost use Rattle.prolly_build.specs.Writing.{HasWritten, HasEnded, IsEndFault};
 
 use crate::report::Report;
 use crate::run::written::{Begun, Written};
+use prolly_fault::{End, RunFault};
 use prolly_file::Sink;
-use prolly_link::{End, RunFault};
 
 /// What the build answers once all workers have ended: the fault that came through the last link,
 /// or else that a write failed, that the tree is too tall, or what was made, with the end record

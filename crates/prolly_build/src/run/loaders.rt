@@ -11,8 +11,8 @@ use crate::start::permit::Permit;
 use crate::start::site::Site;
 use prolly_chunk::ChunkEvent;
 use prolly_entry::Record;
+use prolly_fault::{BatchReceiver, BatchSender, ClosedBatch};
 use prolly_file::Sink;
-use prolly_link::{BatchReceiver, BatchSender, ClosedBatch};
 use prolly_load::Loaded;
 use prolly_stage::Gate;
 

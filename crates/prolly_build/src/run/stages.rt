@@ -14,8 +14,8 @@ use crate::start::site::Site;
 use crate::start::stages::{StageEnds, start_leaves, start_nodes};
 use prolly_chunk::ChunkEvent;
 use prolly_entry::Pair;
+use prolly_fault::{BatchReceiver, BatchSender, ClosedBatch};
 use prolly_file::Sink;
-use prolly_link::{BatchReceiver, BatchSender, ClosedBatch};
 use prolly_stage::Gate;
 
 /// What the workers up to a stage gave back: its closed output, how many pairs the last merger

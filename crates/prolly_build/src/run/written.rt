@@ -1,7 +1,7 @@
 //! How far the writer came with the file, event by event.
 ghost use Rattle.std.specs.Prelude.{◌≡◌, ◌≤◌, ℕ, List, [], ◌∷◌, ◌++◌};
-ghost use Rattle.prolly_entry.specs.Chunk.{Chunk};
-ghost use Rattle.prolly_entry.specs.File.{header};
+ghost use Rattle.prolly_tree.specs.Chunk.{Chunk};
+ghost use Rattle.prolly_tree.specs.File.{header};
 ghost use Rattle.prolly_file.specs.Sink.{SinkView};
 ghost use Rattle.prolly_build.specs.Writing.{HasWritten};
 

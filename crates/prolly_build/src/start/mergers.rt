@@ -7,7 +7,7 @@ use crate::start::permit::{Permit, permitted};
 use crate::start::site::Site;
 use crate::start::stack::worker_stack;
 use prolly_entry::{Pair, Record};
-use prolly_link::{BatchReceiver, BatchSender, ClosedBatch};
+use prolly_fault::{BatchReceiver, BatchSender, ClosedBatch};
 use prolly_merge::{Merged, MergedTwo, merge, merge_two};
 use prolly_stage::{Gate, Gated, Worker};
 use std::alloc::Global;

@@ -1,7 +1,7 @@
 //! The stages, each in a thread of its own.
 ghost use Rattle.std.specs.Prelude.{◌≡◌, ◌≤◌, [], IfSome};
 ghost use Rattle.prolly_entry.specs.declared.version.Version.{Version as VersionValue};
-ghost use Rattle.prolly_entry.specs.Events.{leaf_events, inner_events};
+ghost use Rattle.prolly_tree.specs.Events.{leaf_events, inner_events};
 ghost use Rattle.prolly_entry.specs.Cut.{sha512_cut};
 ghost use Rattle.prolly_build.specs.Workers.{IsStaged};
 
@@ -10,7 +10,7 @@ use crate::start::site::Site;
 use crate::start::stack::worker_stack;
 use prolly_chunk::ChunkEvent;
 use prolly_entry::{Pair, Sha512Cut, Version};
-use prolly_link::{BatchReceiver, BatchSender, ClosedBatch};
+use prolly_fault::{BatchReceiver, BatchSender, ClosedBatch};
 use prolly_stage::{Gate, Gated, Staged, Worker, inner_stage_as, leaf_stage};
 use std::alloc::Global;
 use std::snapshot::Snapshot;
@@ -34,7 +34,7 @@ pub(crate) struct LeafPromise {
 
 impl Promise<StageEnds<Pair>> for LeafPromise {
     ghost use Rattle.prolly_entry.specs.declared.version.Version.{Version as VersionValue};
-    ghost use Rattle.prolly_entry.specs.Events.{leaf_events};
+    ghost use Rattle.prolly_tree.specs.Events.{leaf_events};
     ghost use Rattle.prolly_entry.specs.Cut.{sha512_cut};
     ghost use Rattle.prolly_build.specs.Workers.{IsStaged};
 
@@ -104,7 +104,7 @@ pub(crate) struct NodesPromise {
 }
 
 impl Promise<StageEnds<ChunkEvent>> for NodesPromise {
-    ghost use Rattle.prolly_entry.specs.Events.{inner_events};
+    ghost use Rattle.prolly_tree.specs.Events.{inner_events};
     ghost use Rattle.prolly_entry.specs.Cut.{sha512_cut};
     ghost use Rattle.prolly_build.specs.Workers.{IsStaged};
 

@@ -2,7 +2,7 @@
 ghost use Rattle.std.specs.Prelude.{◌<◌};
 
 use super::*;
-use prolly_link::RunFault;
+use prolly_fault::RunFault;
 use prolly_stage::OpenGate;
 
 /// Builds from these sources, and fails unless there is this fault, or none, and the sink has taken

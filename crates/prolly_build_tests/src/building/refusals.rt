@@ -1,7 +1,7 @@
 //! Builds that do not start.
 use super::*;
+use prolly_fault::RunFault;
 use prolly_file::{Source, SourceFault};
-use prolly_link::RunFault;
 use prolly_stage::{OpenGate, Worker};
 
 /// A permit that refuses one worker.

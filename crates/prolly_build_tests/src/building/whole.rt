@@ -3,11 +3,10 @@ ghost use Rattle.std.specs.Prelude.{◌<◌};
 
 use super::faults::{OUT_OF_ORDER, THREE_PUTS, WRITE_FAILED, begun_file, expect_taken, source_of};
 use super::*;
-use crate::expect::expect_length;
+use prolly_fault::RunFault;
 use prolly_file::{FromRead, ToWrite};
-use prolly_link::RunFault;
 use prolly_stage::OpenGate;
-use prolly_test_parts::{chunk_file, joined};
+use prolly_test_parts::{chunk_file, expect_length, joined};
 
 const FIVE: &[u8] = b"a1b1c1d1e1";
 

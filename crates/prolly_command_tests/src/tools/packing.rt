@@ -1,6 +1,5 @@
 //! Lines of text, as they are packed.
-use crate::expect::expect_bytes;
-use prolly_test_parts::joined;
+use prolly_test_parts::{expect_bytes, joined};
 use prolly_tool::{PackFault, pack_lines};
 use std::alloc::Global;
 use std::test::Fail;

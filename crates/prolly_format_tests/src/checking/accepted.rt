@@ -1,11 +1,10 @@
 //! Files that are accepted, and sources.
 
 use super::{FILE_OF_NONE, LEAF_OF_A, LEAF_OF_B, checked, file_of_three, file_with};
-use crate::expect::{expect_bytes, expect_length};
 use prolly_check::{CheckFault, check};
 use prolly_entry::{Ref, Version};
 use prolly_file::{FromRead, ScriptSource, Source};
-use prolly_test_parts::{Zeros, joined};
+use prolly_test_parts::{Zeros, expect_bytes, expect_length, joined};
 use std::alloc::Global;
 use std::process::Abort;
 use std::test::Fail;

@@ -1,10 +1,9 @@
 //! Files whose frames and end record are in order, and whose chunks are not those of a map.
 
 use super::{FILE_OF_NONE, LEAF_OF_A, LEAF_OF_B, expect_fault, file_of_three, file_with};
-use crate::expect::expect_length;
 use prolly_check::CheckFault;
 use prolly_entry::Version;
-use prolly_test_parts::joined;
+use prolly_test_parts::{expect_length, joined};
 use std::alloc::Global;
 use std::process::Abort;
 use std::test::Fail;

@@ -1,9 +1,9 @@
 //! A file of which a byte is another, or of which only a part is there.
 
 use super::{checked, expect_fault, file_of_three, flip, put};
-use crate::expect::expect_length;
 use prolly_check::CheckFault;
 use prolly_entry::Version;
+use prolly_test_parts::expect_length;
 use std::test::Fail;
 
 #[test]

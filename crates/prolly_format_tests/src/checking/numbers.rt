@@ -1,9 +1,9 @@
 //! Pairs by their numbers, and the counts that lead to them.
 
 use super::{checked, expect_fault, file_of_three, put};
-use crate::expect::expect_length;
 use prolly_check::{CheckFault, NoCounts, Tree};
 use prolly_entry::Version;
+use prolly_test_parts::expect_length;
 use std::process::Abort;
 use std::test::Fail;
 

@@ -1,8 +1,8 @@
 //! Entries, as they are spelled.
-use crate::expect::{expect_bytes, expect_length};
 use prolly_entry::{
     Pair, Record, Ref, Version, append_child, append_child_as, append_pair, append_record,
 };
+use prolly_test_parts::{expect_bytes, expect_length};
 use std::test::Fail;
 
 const REFERENCE: Ref = Ref([

@@ -1,8 +1,7 @@
 //! The writer of chunk files.
-use crate::expect::{expect_bytes, expect_length};
 use prolly_entry::Ref;
 use prolly_file::{FileWriter, ScriptSink, Sink, ToWrite, WriteFault};
-use prolly_test_parts::joined;
+use prolly_test_parts::{expect_bytes, expect_length, joined};
 use std::alloc::{AllocError, Global};
 use std::process::Abort;
 use std::test::Fail;

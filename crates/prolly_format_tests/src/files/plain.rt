@@ -1,8 +1,7 @@
 //! The plain builder.
-use crate::expect::{expect_bytes, expect_length};
 use prolly_entry::{Cut, KeyCut, Ref, Sha512Cut, Version};
 use prolly_file::{ScratchFault, scratch, scratch_as};
-use prolly_test_parts::{chunk_file, pairs_of};
+use prolly_test_parts::{chunk_file, expect_bytes, expect_length, pairs_of};
 use std::alloc::Global;
 use std::process::Abort;
 use std::test::Fail;

@@ -6,14 +6,14 @@ use std::marker::Model;
 /// The sending end of a batch link, once it has sent the end. Contracts see its link, all items and
 /// the end.
 #[derive(Drop)]
-pub struct ClosedBatch<T> {
-    pub(crate) sender: ClosedSender<Batch<T>>,
+pub struct ClosedBatch<T, F> {
+    pub(crate) sender: ClosedSender<Batch<T>, F>,
 }
 
-impl<T> Model for ClosedBatch<T> {
+impl<T, F> Model for ClosedBatch<T, F> {
     ghost use Rattle.prolly_link.specs.Views.{Whole};
 
-    ghost Value = { Whole T };
+    ghost Value = { Whole T F };
 
     ghost use Rattle.prolly_link.specs.Batches.{unbatched};
 

@@ -6,14 +6,14 @@ use std::marker::Model;
 /// The receiving end of a batch link, once it has given the end. Contracts see its link, all items
 /// and the end.
 #[derive(Drop)]
-pub struct EndedBatch<T> {
-    pub(crate) receiver: EndedReceiver<Batch<T>>,
+pub struct EndedBatch<T, F> {
+    pub(crate) receiver: EndedReceiver<Batch<T>, F>,
 }
 
-impl<T> Model for EndedBatch<T> {
+impl<T, F> Model for EndedBatch<T, F> {
     ghost use Rattle.prolly_link.specs.Views.{Whole};
 
-    ghost Value = { Whole T };
+    ghost Value = { Whole T F };
 
     ghost use Rattle.prolly_link.specs.Batches.{unbatched};
 
@@ -23,11 +23,11 @@ impl<T> Model for EndedBatch<T> {
 /// The receiving end of a batch link that lost its sender. Contracts see its link, and the items of
 /// the batches that came.
 #[derive(Drop)]
-pub struct LostBatch<T> {
-    pub(crate) receiver: LostReceiver<Batch<T>>,
+pub struct LostBatch<T, F> {
+    pub(crate) receiver: LostReceiver<Batch<T>, F>,
 }
 
-impl<T> Model for LostBatch<T> {
+impl<T, F> Model for LostBatch<T, F> {
     ghost use Rattle.prolly_link.specs.Views.{Sending};
 
     ghost Value = { Sending T };
@@ -39,7 +39,7 @@ impl<T> Model for LostBatch<T> {
 
 /// A receiver that gave the end, or one that lost its sender.
 #[derive(Drop)]
-pub enum BatchDrained<T> {
-    Ended(EndedBatch<T>),
-    Lost(LostBatch<T>),
+pub enum BatchDrained<T, F> {
+    Ended(EndedBatch<T, F>),
+    Lost(LostBatch<T, F>),
 }

@@ -10,14 +10,14 @@ use std::marker::Model;
 /// The two ends of a batch link, of which one received all that the other sent. Contracts see the
 /// link, its items and its end.
 #[derive(Drop)]
-pub struct MetBatch<T> {
-    pub(crate) met: Met<Batch<T>>,
+pub struct MetBatch<T, F> {
+    pub(crate) met: Met<Batch<T>, F>,
 }
 
-impl<T> Model for MetBatch<T> {
+impl<T, F> Model for MetBatch<T, F> {
     ghost use Rattle.prolly_link.specs.Views.{Whole};
 
-    ghost Value = { Whole T };
+    ghost Value = { Whole T F };
 
     ghost use Rattle.prolly_link.specs.Batches.{unbatched};
 
@@ -25,7 +25,7 @@ impl<T> Model for MetBatch<T> {
 }
 
 /// Shows that all that was sent was received, and nothing else.
-pub fn meet_batches<T>(sender: ClosedBatch<T>, receiver: EndedBatch<T>) -> MetBatch<T>
+pub fn meet_batches<T, F>(sender: ClosedBatch<T, F>, receiver: EndedBatch<T, F>) -> MetBatch<T, F>
     requires { sender.link ≡ receiver.link }
     ensures sent { result ≡ sender }
     ensures received { result ≡ receiver }

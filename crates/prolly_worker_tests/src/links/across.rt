@@ -1,14 +1,12 @@
 //! Numbers that one thread sends and another receives.
 ghost use Rattle.std.specs.Prelude.{◌≡◌, ◌++◌, IfOk};
 ghost use Rattle.std.specs.List.{range_with_len};
-ghost use Rattle.prolly_link.specs.declared.fault.End.TheVariants.{Clean};
+ghost use Rattle.prolly_link.specs.declared.end.End.TheVariants.{Clean};
 
 use super::gather::gather;
 use super::numbers::send_numbers;
-use prolly_link::{
-    BatchDrained, BatchSender, ClosedBatch, ClosedSender, Drained, End, RunFault, Sender,
-    batch_link, link, meet, meet_batches,
-};
+use prolly_fault::{BatchSender, ClosedBatch, ClosedSender, End, RunFault, Sender};
+use prolly_link::{BatchDrained, Drained, batch_link, link, meet, meet_batches};
 use std::alloc::Global;
 use std::snapshot::Snapshot;
 use std::sync::Wait;
@@ -23,7 +21,8 @@ struct SendsNumbers {
 }
 
 impl Promise<ClosedSender<u32>> for SendsNumbers {
-    ghost kept_by = { λ p r. (r.link ≡ p.sender.value.link) × (r.end ≡ Clean → r.items ≡ p.sender.value.items ++ range_with_len 0 p.count) };
+    ghost kept_by = { λ p r. (r.link ≡ p.sender.value.link) × (r.end ≡ Clean →
+        r.items ≡ p.sender.value.items ++ range_with_len 0 p.count) };
 }
 
 // The same for a sender of batches.
@@ -34,7 +33,8 @@ struct SendsBatches {
 }
 
 impl Promise<ClosedBatch<u32>> for SendsBatches {
-    ghost kept_by = { λ p r. (r.link ≡ p.sender.value.link) × (r.end ≡ Clean → r.items ≡ p.sender.value.items ++ range_with_len 0 p.count) };
+    ghost kept_by = { λ p r. (r.link ≡ p.sender.value.link) × (r.end ≡ Clean →
+        r.items ≡ p.sender.value.items ++ range_with_len 0 p.count) };
 }
 
 // Over a link with room for one message.
@@ -45,7 +45,7 @@ pub(super) fn numbers_across<R: Threads + Wait + Copy + Send + 'static>(
 ) -> Result<Vec<u32>, RunFault>
     ensures { IfOk result (λ got. got.items ≡ range_with_len 0 count) }
 {
-    let Ok((sender, mut receiver)) = link::<u32>(alloc, 1) else {
+    let Ok((sender, mut receiver)) = link::<u32, RunFault>(alloc, 1) else {
         return Err(RunFault::Memory);
     };
     let promise = SendsNumbers {
@@ -77,7 +77,7 @@ pub(super) fn numbers_across_in_batches<R: Threads + Wait + Copy + Send + 'stati
 ) -> Result<Vec<u32>, RunFault>
     ensures { IfOk result (λ got. got.items ≡ range_with_len 0 count) }
 {
-    let Ok((sender, mut receiver)) = batch_link::<u32>(alloc, 1, 16) else {
+    let Ok((sender, mut receiver)) = batch_link::<u32, RunFault>(alloc, 1, 16) else {
         return Err(RunFault::Memory);
     };
     let promise = SendsBatches {

@@ -1,12 +1,14 @@
 //! The worker between ends of each kind.
 ghost use Rattle.std.specs.Prelude.{◌≡◌, ◌≢◌, []};
-ghost use Rattle.prolly_link.specs.Receipts.{end_given};
+ghost use Rattle.prolly_fault.specs.Ends.{end_given};
+ghost use Rattle.prolly_link.specs.declared.end.End.TheVariants.{Fault};
 
 use super::copies::{Copies, copy_all};
-use prolly_link::{
-    BatchReceiver, BatchSender, ClosedBatch, ClosedList, ClosedSender, End, ListIn, ListOut,
-    Receiver, RunFault, Sender,
+use prolly_fault::{
+    BatchReceiver, BatchSender, ClosedBatch, ClosedList, ClosedSender, End, ListIn, Receiver,
+    RunFault, Sender,
 };
+use prolly_link::ListOut;
 use std::alloc::Global;
 use std::sync::Wait;
 
@@ -17,7 +19,8 @@ pub(super) fn copy_list<T: Drop, R: Wait>(
     items: Vec<T>,
     last: End,
 ) -> ClosedList<T>
-    ensures { result.last ≢ End.Fault RunFault.Memory → (result.items.items ≡ items.items) × (result.last ≡ last) }
+    ensures { result.last ≢ Fault RunFault.Memory →
+        (result.items.items ≡ items.items) × (result.last ≡ last) }
 {
     let Copies { input, out } = copy_all(rt, ListIn::new(items, last), ListOut::new(alloc));
     drop(input);
@@ -34,8 +37,10 @@ pub(super) fn copy_into_batches<T: Drop, R: Wait>(
     requires out { out.items ≡ [] }
     ensures input_link { result.input.link ≡ input.link }
     ensures out_link { result.out.link ≡ out.link }
-    ensures items { result.out.end ≢ End.Fault RunFault.Memory → result.out.items ≡ result.input.items }
-    ensures end { result.out.end ≢ End.Fault RunFault.Memory → result.out.end ≡ end_given result.input.progress }
+    ensures items { result.out.end ≢ Fault RunFault.Memory →
+        result.out.items ≡ result.input.items }
+    ensures end { result.out.end ≢ Fault RunFault.Memory →
+        result.out.end ≡ end_given result.input.progress }
 {
     copy_all(rt, input, out)
 }
@@ -50,8 +55,10 @@ pub(super) fn copy_out_of_batches<T: Drop, R: Wait>(
     requires out { out.items ≡ [] }
     ensures input_link { result.input.link ≡ input.link }
     ensures out_link { result.out.link ≡ out.link }
-    ensures items { result.out.end ≢ End.Fault RunFault.Memory → result.out.items ≡ result.input.items }
-    ensures end { result.out.end ≢ End.Fault RunFault.Memory → result.out.end ≡ end_given result.input.progress }
+    ensures items { result.out.end ≢ Fault RunFault.Memory →
+        result.out.items ≡ result.input.items }
+    ensures end { result.out.end ≢ Fault RunFault.Memory →
+        result.out.end ≡ end_given result.input.progress }
 {
     copy_all(rt, input, out)
 }

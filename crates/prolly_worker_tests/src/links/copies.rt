@@ -1,8 +1,11 @@
 //! A worker that sends what it receives.
 ghost use Rattle.std.specs.Prelude.{◌≡◌, ◌≢◌, ◌++◌};
-ghost use Rattle.prolly_link.specs.Receipts.{HasEnded, end_given};
+ghost use Rattle.prolly_link.specs.Receipts.{HasEnded};
+ghost use Rattle.prolly_fault.specs.Ends.{end_given};
+ghost use Rattle.prolly_link.specs.declared.end.End.TheVariants.{Fault};
 
-use prolly_link::{End, In, Next, Out, RunFault, receive_rest};
+use prolly_fault::{End, Next, RunFault};
+use prolly_link::{In, Out, receive_rest};
 use std::sync::Wait;
 
 // What the worker gives back.
@@ -14,7 +17,7 @@ pub(super) struct Copies<I, C> {
 
 // Sends what it receives, and closes with the end that it received, or with a fault where an item
 // was refused.
-pub(super) fn copy_all<T: Drop, I: In<T>, O: Out<T>, R: Wait>(
+pub(super) fn copy_all<T: Drop, I: In<T, RunFault>, O: Out<T, RunFault>, R: Wait>(
     rt: &R,
     input: I,
     out: O,
@@ -23,7 +26,9 @@ pub(super) fn copy_all<T: Drop, I: In<T>, O: Out<T>, R: Wait>(
     ensures follows { I.Follows input result.input }
     ensures ended { HasEnded (I.progress result.input) }
     ensures out_link { O.closed_link result.out ≡ O.link out }
-    ensures copied { O.end_sent result.out ≢ End.Fault RunFault.Memory → (O.all_sent result.out ≡ O.sent out ++ I.received input result.input) × (O.end_sent result.out ≡ end_given (I.progress result.input)) }
+    ensures copied { O.end_sent result.out ≢ Fault RunFault.Memory →
+        (O.all_sent result.out ≡ O.sent out ++ I.received input result.input) ×
+        (O.end_sent result.out ≡ end_given (I.progress result.input)) }
 {
     let mut input = input;
     let mut out = out;

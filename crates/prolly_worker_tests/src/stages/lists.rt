@@ -1,12 +1,13 @@
 //! Stages over lists, in one thread.
 ghost use Rattle.std.specs.Prelude.{◌≡◌, ◌≤◌, []};
 ghost use Rattle.prolly_entry.specs.declared.version.Version.{Version as VersionValue};
-ghost use Rattle.prolly_entry.specs.Events.{leaf_events, inner_events};
-ghost use Rattle.prolly_entry.specs.Pipeline.{pipeline_events};
+ghost use Rattle.prolly_tree.specs.Events.{leaf_events, inner_events};
+ghost use Rattle.prolly_tree.specs.Pipeline.{pipeline_events};
 ghost use Rattle.prolly_stage.specs.Sends.{Sends};
 
 use prolly_entry::{Cut, Pair, Version};
-use prolly_link::{ClosedList, End, ListIn, ListOut};
+use prolly_fault::{ClosedList, End, ListIn};
+use prolly_link::ListOut;
 use prolly_stage::laws::stages_follow;
 use prolly_stage::{ChunkEvent, Staged, inner_stage_as, leaf_stage};
 use std::alloc::Global;

@@ -1,4 +1,6 @@
 //! A gate and an output that see whether the gate is asked in turn.
+ghost use Rattle.std.specs.Prelude.{◌≡◌};
+
 use prolly_link::{End, Out};
 use prolly_stage::{Gate, Worker};
 use std::sync::Wait;
@@ -48,7 +50,7 @@ pub(super) struct Counted<'a, O> {
     pub(super) turns: &'a Turns,
 }
 
-impl<'a, T, O: Out<T>> Out<T> for Counted<'a, O> {
+impl<'a, T, F, O: Out<T, F>> Out<T, F> for Counted<'a, O> {
     type Closed = O::Closed;
 
     ghost link = { λ c. O.link c.out };
@@ -67,7 +69,11 @@ impl<'a, T, O: Out<T>> Out<T> for Counted<'a, O> {
         sent
     }
 
-    fn close<R: Wait>(self, rt: &R, end: End) -> O::Closed {
+    fn close<R: Wait>(self, rt: &R, end: End<F>) -> O::Closed
+        ensures link { O.closed_link result ≡ O.link self.entry.out }
+        ensures sent { O.all_sent result ≡ O.sent self.entry.out }
+        ensures end { O.end_sent result ≡ end }
+    {
         let Counted { out, turns: _ } = self;
         out.close(rt, end)
     }

@@ -1,7 +1,7 @@
 use Rattle.std.proofs.Common.{◌≡◌, ap, sym, subst, ◌∙◌, arith, OnOk}
 use Rattle.std.proofs.lemmas.Result.{IfErr-weaker}
 use Rattle.prolly_entry.specs.Overlay.{overlay}
-use Rattle.prolly_link.specs.declared.fault.End.TheVariants.{Clean}
+use Rattle.prolly_link.specs.declared.end.End.TheVariants.{Clean}
 use Rattle.prolly_build.specs.Built.{IsBegun}
 use Rattle.prolly_build.specs.Outcome.{IsOutcome}
 use Rattle.prolly_build.proofs.Makings.{at_ok, at_err, if_ok, if_ok_any}

@@ -1,5 +1,5 @@
 use Rattle.std.proofs.Common.{sym, ◌∙◌}
-use Rattle.prolly_check.proofs.LeafSteps.{LeafBelow, leaf_begins, at_leaf_of, at_beyond, at_child, at_next}
+use Rattle.prolly_check.proofs.LeafSteps.{LeafBelow, leaf_begins, at_leaf_of, at_beyond, at_child}
 use Rattle.prolly_check.proofs.WayDown.{at_root}
 use Rattle.prolly_check.proofs.find.leaf_for.Goals as goal
 
@@ -17,15 +17,17 @@ returns-in_err-child-in-Node-clause-none c = rw c.from_residual.ensures
 
 pub child-number-requires : goal.child-number-requires
 child-number-requires c =
-    at_child c.args.file.now c.args.key.now c.loop-children.number c.root-number.ensures.file c.loop-children.invariant
-    c.in-Node.children (sym c.entries.ensures ∙ c.in-Node.is) _ c.in_ok-child-in-Node.ensures
+    (at_child c.args.file.now c.args.key.now c.loop-children.number c.root-number.ensures.file c.loop-children.invariant
+    c.in-Node.children (sym c.entries.ensures ∙ c.in-Node.is) _ c.in_ok-child-in-Node.ensures).there
 
 pub loop-children-smaller : goal.loop-children-smaller
 loop-children-smaller c =
-    (at_next c.args.file.now c.args.key.now c.loop-children.number c.root-number.ensures.file c.loop-children.invariant
-    c.in-Node.children (sym c.entries.ensures ∙ c.in-Node.is) _ c.in_ok-child-in-Node.ensures c.child-number.result c.child-number.ensures).1
+    ((at_child c.args.file.now c.args.key.now c.loop-children.number c.root-number.ensures.file c.loop-children.invariant
+    c.in-Node.children (sym c.entries.ensures ∙ c.in-Node.is) _ c.in_ok-child-in-Node.ensures).at
+    c.child-number.result c.child-number.ensures).1
 
 pub loop-children-preserved : goal.loop-children-preserved
 loop-children-preserved c =
-    (at_next c.args.file.now c.args.key.now c.loop-children.number c.root-number.ensures.file c.loop-children.invariant
-    c.in-Node.children (sym c.entries.ensures ∙ c.in-Node.is) _ c.in_ok-child-in-Node.ensures c.child-number.result c.child-number.ensures).0
+    ((at_child c.args.file.now c.args.key.now c.loop-children.number c.root-number.ensures.file c.loop-children.invariant
+    c.in-Node.children (sym c.entries.ensures ∙ c.in-Node.is) _ c.in_ok-child-in-Node.ensures).at
+    c.child-number.result c.child-number.ensures).0

@@ -1,5 +1,5 @@
 use Rattle.std.proofs.Common.{◌≡◌, length}
-use Rattle.prolly_entry.specs.LookUp.{find}
+use Rattle.prolly_tree.specs.LookUp.{find}
 use Rattle.prolly_check.proofs.find.value_in.Given as goal
 
 abbrev pub invariant-loop-found : goal.invariant-loop-found

@@ -1,6 +1,6 @@
-use Rattle.std.proofs.Common.{◌∙◌, sym, ap, subst}
+use Rattle.std.proofs.Common.{◌∙◌, ap, subst}
 use Rattle.std.proofs.lemmas.Result.{err_from_is_err_and}
-use Rattle.prolly_entry.proofs.RecordSteps.{rest_is}
+use Rattle.prolly_entry.specs.lemmas.Lists.{rest_is}
 use Rattle.prolly_check.specs.Entries.{IsBad}
 use Rattle.prolly_check.specs.Spans.{chunks_in}
 use Rattle.prolly_check.specs.Whole.{AreWhole}
@@ -21,10 +21,6 @@ returns-in_err-test_chunks-clause-err c =
     (record { header = c.in_ok-header.ensures.found; version_is = c.in_ok-header.ensures.version; bits_are = c.in_ok-header.ensures.bits; frames = c.in_ok-frames.ensures.frames; all = c.in_ok-frames.ensures.all })
     _ c.len.result (rest_is c.args.bytes.now c.in_ok-frames.frames.end) (c.len.ensures ∙ c.in_ok-frames.frames.spans.ok.0) c.in_ok-test_ending.ensures.found
     c.in_err-test_chunks.field-0.0 (subst (λ s. IsBad c.in_ok-header.header.version (chunks_in c.args.bytes.now s) c.in_err-test_chunks.field-0.0) c.deref.ensures.value c.in_err-test_chunks.ensures.err))
-
-pub new-chunks-requires-clause-whole : goal.new-chunks-requires-clause-whole
-new-chunks-requires-clause-whole c =
-    subst (λ s. AreWhole c.in_ok-header.header.version (chunks_in c.args.bytes.now s)) (c.deref.ensures.value ∙ sym c.deref-3.ensures.value) c.in_ok-test_chunks.ensures.ok
 
 pub test_canonical-requires : goal.test_canonical-requires
 test_canonical-requires c =

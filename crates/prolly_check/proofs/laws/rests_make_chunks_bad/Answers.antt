@@ -1,4 +1,5 @@
-use Rattle.prolly_check.proofs.CheckSteps.{no_leaf, no_node}
+use Rattle.prolly_check.proofs.LeafPairs.{no_leaf}
+use Rattle.prolly_check.proofs.NodeChildren.{no_node}
 use Rattle.prolly_check.proofs.laws.rests_make_chunks_bad.Goals as goal
 
 pub returns : goal.returns

@@ -1,4 +1,4 @@
-use Rattle.prolly_entry.proofs.RecordSteps.{rest_is}
+use Rattle.prolly_entry.specs.lemmas.Lists.{rest_is}
 use Rattle.prolly_check.proofs.NodeChildren.{child_found}
 use Rattle.prolly_check.proofs.node.split_child.Goals as goal
 

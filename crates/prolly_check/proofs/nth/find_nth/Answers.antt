@@ -1,5 +1,5 @@
 use Rattle.std.proofs.Common.{sym, ◌∙◌}
-use Rattle.prolly_check.proofs.CountSteps.{IsAhead, count_begins, at_pair, at_past, at_child, at_next}
+use Rattle.prolly_check.proofs.CountSteps.{IsAhead, count_begins, at_pair, at_past, at_child}
 use Rattle.prolly_check.proofs.WayDown.{at_root}
 use Rattle.prolly_check.proofs.nth.find_nth.Goals as goal
 
@@ -17,15 +17,17 @@ returns-in_err-child-in-Node c = rw c.from_residual.ensures
 
 pub child-number-requires : goal.child-number-requires
 child-number-requires c =
-    at_child c.args.file.now c.args.n c.loop-pairs.ahead c.loop-pairs.number c.root-number.ensures.file c.loop-pairs.invariant
-    c.requires c.in-Node.children (sym c.entries.ensures ∙ c.in-Node.is) _ c.in_ok-child-in-Node.behind c.in_ok-child-in-Node.ensures
+    (at_child c.args.file.now c.args.n c.loop-pairs.ahead c.loop-pairs.number c.root-number.ensures.file c.loop-pairs.invariant
+    c.requires c.in-Node.children (sym c.entries.ensures ∙ c.in-Node.is) _ c.in_ok-child-in-Node.behind c.in_ok-child-in-Node.ensures).there
 
 pub loop-pairs-smaller : goal.loop-pairs-smaller
 loop-pairs-smaller c =
-    (at_next c.args.file.now c.args.n c.loop-pairs.ahead c.loop-pairs.number c.root-number.ensures.file c.loop-pairs.invariant
-    c.requires c.in-Node.children (sym c.entries.ensures ∙ c.in-Node.is) _ c.in_ok-child-in-Node.behind c.in_ok-child-in-Node.ensures c.child-number.result c.child-number.ensures).1
+    ((at_child c.args.file.now c.args.n c.loop-pairs.ahead c.loop-pairs.number c.root-number.ensures.file c.loop-pairs.invariant
+    c.requires c.in-Node.children (sym c.entries.ensures ∙ c.in-Node.is) _ c.in_ok-child-in-Node.behind c.in_ok-child-in-Node.ensures).at
+    c.child-number.result c.child-number.ensures).1
 
 pub loop-pairs-preserved : goal.loop-pairs-preserved
 loop-pairs-preserved c =
-    (at_next c.args.file.now c.args.n c.loop-pairs.ahead c.loop-pairs.number c.root-number.ensures.file c.loop-pairs.invariant
-    c.requires c.in-Node.children (sym c.entries.ensures ∙ c.in-Node.is) _ c.in_ok-child-in-Node.behind c.in_ok-child-in-Node.ensures c.child-number.result c.child-number.ensures).0
+    ((at_child c.args.file.now c.args.n c.loop-pairs.ahead c.loop-pairs.number c.root-number.ensures.file c.loop-pairs.invariant
+    c.requires c.in-Node.children (sym c.entries.ensures ∙ c.in-Node.is) _ c.in_ok-child-in-Node.behind c.in_ok-child-in-Node.ensures).at
+    c.child-number.result c.child-number.ensures).0

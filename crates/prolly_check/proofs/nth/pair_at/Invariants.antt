@@ -1,5 +1,5 @@
 use Rattle.std.proofs.Common.{◌≡◌, length}
-use Rattle.prolly_entry.specs.LookUp.{nth}
+use Rattle.prolly_tree.specs.LookUp.{nth}
 use Rattle.prolly_check.proofs.nth.pair_at.Given as goal
 
 abbrev pub invariant-loop-pair : goal.invariant-loop-pair

@@ -1,11 +1,8 @@
 use Rattle.std.proofs.Common.{sym, ap, ◌∙◌, subst, arith}
 use Rattle.std.specs.Option.{option_copied}
 use Rattle.prolly_check.specs.Order.{rises_behind, RisesTo}
-use Rattle.prolly_check.proofs.OrderSteps.{order_begins, order_goes_on, order_falls}
+use Rattle.prolly_check.proofs.OrderSteps.{order_goes_on, order_falls}
 use Rattle.prolly_check.proofs.order.test_order.Goals as goal
-
-pub loop-number-init : goal.loop-number-init
-loop-number-init c = order_begins c.args.chunks.now
 
 pub returns-in-Err-clause-err : goal.returns-in-Err-clause-err
 returns-in-Err-clause-err c =

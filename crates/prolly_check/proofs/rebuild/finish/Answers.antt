@@ -1,45 +1,26 @@
-use Rattle.std.proofs.Common.{◌++◌, length, take, drop, sym, subst}
-use Rattle.std.proofs.lemmas.Result.{IfOk-weaker, IfErr-weaker, err_from_is_err_and}
-use Rattle.prolly_check.specs.Rebuilt.{IsEnding, FaultOfNodes, MaybePasses, MaybeFault}
-use Rattle.prolly_check.specs.Refusal.{UnlessMemory}
-use Rattle.prolly_check.specs.Taking.{FaultEnding}
-use Rattle.prolly_check.proofs.FinishSteps.{nodes_end, leaf_end_fault}
-use Rattle.prolly_check.proofs.Refusals.{still_refused}
-use Rattle.prolly_check.proofs.RebuildSteps.{written}
+use Rattle.std.proofs.Common.{◌≡◌, ◌∷◌, length, refl, sym, ap, ◌∙◌, arith}
+use Rattle.std.proofs.lemmas.List.{with_items_is}
+use Rattle.std.proofs.lemmas.Result.{err_from_is_err_and}
+use Rattle.prolly_check.proofs.FinishSteps.{leaf_ends, ending_fault, node_ends, taken_out}
 use Rattle.prolly_check.proofs.rebuild.finish.Goals as goal
 
-pub returns-in_err-next-clause-err : goal.returns-in_err-next-clause-err
-returns-in_err-next-clause-err c =
-    let chunks = c.args.chunks.now in
-    let nodes = c.args.rebuild.nodes.items in
-    let fault = c.in_err-next.field-0.0 in
+pub loop-nodes-init : goal.loop-nodes-init
+loop-nodes-init c = λ bits version pairs b. leaf_ends bits version pairs c.args.chunks.now c.args.rebuild _ b c.finish-last.ensures
+
+pub returns-in_err-number : goal.returns-in_err-number
+returns-in_err-number c =
     let p = err_from_is_err_and c.from_residual.result c.from_residual.ensures.1 in
-    rw (p.1, p.2) (still_refused (MaybeFault chunks nodes c.finish.result c.args.rebuild.number) (FaultEnding chunks c.args.rebuild)
-    (λ fault h bits version pairs b. leaf_end_fault bits version chunks pairs c.args.rebuild.leaf nodes c.args.rebuild.number c.finish.result c.finish.ensures b fault h)
-    fault (subst (λ ns. UnlessMemory (MaybeFault chunks ns c.finish.result c.args.rebuild.number) fault) c.deref_mut.ensures.value c.in_err-next.ensures.err))
+    rw (p.1, p.2) (λ bits version pairs b.
+    ending_fault bits version pairs c.args.chunks.now c.loop-nodes.nodes.items _ _ c.deref_mut.ensures.value c.loop-nodes.last c.loop-nodes.number _
+    (c.loop-nodes.invariant bits version pairs b) c.in_err-number.ensures.passed c.in_err-number.ensures.size _ refl)
 
-pub returns-clause-ok : goal.returns-clause-ok
-returns-clause-ok c =
-    let chunks = c.args.chunks.now in
-    let nodes = c.args.rebuild.nodes.items in
-    let new = c.pass_last.new.levels in
-    let next = c.in_ok-next.next in
-    let passed : MaybePasses chunks nodes new c.finish.result c.args.rebuild.number next =
-    subst (λ ns. MaybePasses chunks ns new c.finish.result c.args.rebuild.number next) c.deref_mut.ensures.value c.in_ok-next.ensures.ok in
-    IfOk-weaker c.finish_nodes.result _ _ (λ count h bits version pairs b. h bits version pairs
-    (subst (λ ns. IsEnding bits version chunks pairs ns next) (sym (written nodes new c.args.rebuild.nodes.len c.args.rebuild.nodes.ok.0 passed.size))
-    (nodes_end bits version chunks pairs c.args.rebuild.leaf nodes c.args.rebuild.number c.finish.result c.finish.ensures b new next passed))) c.finish_nodes.ensures.ok
-
-pub returns-clause-err : goal.returns-clause-err
-returns-clause-err c =
-    let chunks = c.args.chunks.now in
-    let nodes = c.args.rebuild.nodes.items in
-    let new = c.pass_last.new.levels in
-    let next = c.in_ok-next.next in
-    let passed : MaybePasses chunks nodes new c.finish.result c.args.rebuild.number next =
-    subst (λ ns. MaybePasses chunks ns new c.finish.result c.args.rebuild.number next) c.deref_mut.ensures.value c.in_ok-next.ensures.ok in
-    let back = take c.args.rebuild.nodes.len (new ++ drop (length new) nodes) in
-    IfErr-weaker c.finish_nodes.result _ _ (still_refused (FaultOfNodes chunks back next) (FaultEnding chunks c.args.rebuild)
-    (λ fault h bits version pairs b. h bits version pairs
-    (subst (λ ns. IsEnding bits version chunks pairs ns next) (sym (written nodes new c.args.rebuild.nodes.len c.args.rebuild.nodes.ok.0 passed.size))
-    (nodes_end bits version chunks pairs c.args.rebuild.leaf nodes c.args.rebuild.number c.finish.result c.finish.ensures b new next passed)))) c.finish_nodes.ensures.err
+pub loop-nodes-preserved : goal.loop-nodes-preserved
+loop-nodes-preserved c = λ bits version pairs b.
+    let size : length c.pass.new.levels ≡ c.loop-nodes.nodes.len =
+    omega (arith, c.in_ok-number.ensures.size, ap length c.deref_mut.ensures.value, c.loop-nodes.nodes.ok.0) in
+    let items = with_items_is c.loop-nodes.nodes c.pass.new.levels size in
+    let out : c.pass.new.levels ≡ c.remove.result ∷ c.remove.new.self.items =
+    sym items ∙ taken_out _ c.remove.new.self.items c.remove.result (omega (arith, ap length items, c.len.ensures)) c.remove.ensures.value c.remove.ensures.items in
+    node_ends bits version pairs c.args.chunks.now c.loop-nodes.nodes.items _ _ c.deref_mut.ensures.value c.loop-nodes.last c.loop-nodes.number _
+    (c.loop-nodes.invariant bits version pairs b) c.in_ok-number.ensures.passed c.in_ok-number.ensures.size _ refl
+    c.remove.result c.remove.new.self.items _ out c.finish-last-in-loop-nodes.ensures

@@ -2,7 +2,8 @@ use Rattle.std.proofs.Common.{ap, sym, ◌∙◌, rules}
 use Rattle.std.specs.Option.{option_copied}
 use Rattle.std.proofs.lemmas.List.{append-nil, nil_from_length}
 use Rattle.prolly_entry.specs.Front.{put_at, removal_at}
-use Rattle.prolly_entry.proofs.RecordSteps.{rest_is, goes_on, all_read, cut_inside, refused}
+use Rattle.prolly_entry.specs.lemmas.Lists.{rest_is}
+use Rattle.prolly_entry.proofs.RecordSteps.{goes_on, all_read, cut_inside, refused}
 use Rattle.prolly_entry.proofs.record_file.records.Goals.{in-Put+in_ok-push_copy-in-Put, in-Remove}
 use Rattle.prolly_entry.proofs.record_file.records.Goals as goal
 

@@ -1,6 +1,6 @@
 use Rattle.std.proofs.Common.{arith, subst, sym, ◌∙◌, rules}
 use Rattle.std.proofs.lemmas.Bool.{false≢true}
-use Rattle.prolly_entry.specs.Pipeline.{HasSecond}
+use Rattle.prolly_tree.specs.Pipeline.{HasSecond}
 use Rattle.prolly_file.proofs.TreeChunks.{goes_on, ends_there, all_there}
 use Rattle.prolly_file.proofs.levels.all_chunks.Goals as goal
 

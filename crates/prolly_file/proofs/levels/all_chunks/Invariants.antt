@@ -1,6 +1,6 @@
 use Rattle.std.proofs.Common.{◌≡◌, ◌<◌, ◌-◌}
-use Rattle.prolly_entry.specs.Events.{clean}
-use Rattle.prolly_entry.specs.Pipeline.{pipeline_events}
+use Rattle.prolly_tree.specs.Events.{clean}
+use Rattle.prolly_tree.specs.Pipeline.{pipeline_events}
 use Rattle.prolly_file.proofs.levels.all_chunks.Given as goal
 
 abbrev pub invariant-loop-alloc : goal.invariant-loop-alloc

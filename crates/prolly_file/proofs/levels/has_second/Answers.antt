@@ -2,7 +2,7 @@ use Rattle.std.proofs.Common.{◌≡◌, length, arith, sym, ◌∙◌}
 use Rattle.std.specs.List.{filter}
 use Rattle.std.proofs.lemmas.Bool.{leb-true, le-leb}
 use Rattle.std.proofs.lemmas.List.Sums.{length-filter}
-use Rattle.prolly_entry.specs.Events.{has_level}
+use Rattle.prolly_tree.specs.Events.{has_level}
 use Rattle.prolly_file.proofs.levels.has_second.Goals as goal
 
 pub returns : goal.returns

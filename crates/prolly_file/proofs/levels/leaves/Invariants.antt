@@ -1,6 +1,6 @@
 use Rattle.std.proofs.Common.{◌≡◌, take}
 use Rattle.prolly_entry.specs.declared.version.Version.{Version}
-use Rattle.prolly_entry.specs.Events.{faulty, leaf_events}
+use Rattle.prolly_tree.specs.Events.{faulty, leaf_events}
 use Rattle.prolly_chunk.specs.LeafLevel.{leaf_level}
 use Rattle.prolly_file.proofs.levels.leaves.Given as goal
 

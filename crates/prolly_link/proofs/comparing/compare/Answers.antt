@@ -5,22 +5,18 @@ use Rattle.prolly_link.specs.Messages.{items_in, is_open}
 use Rattle.prolly_link.proofs.PassingLemmas.{items_begin, not_ended, received_of_open}
 use Rattle.prolly_link.proofs.comparing.compare.Goals as goal
 
-pub returns-clause-prefix : goal.returns-clause-prefix
-returns-clause-prefix g c =
-    let after = c.slots_beside.new.self in
-    items_begin (popped after) (known_items after) (pushed c.slots_beside.new.producer) c.slots_beside.ensures.fifo
-
-pub returns-clause-no_end : goal.returns-clause-no_end
-returns-clause-no_end g c =
+pub returns-clause-passed : goal.returns-clause-passed
+returns-clause-passed g c =
     let after = c.slots_beside.new.self in
     let sent = c.slots_beside.new.producer in
     let progress = c.receiver.inside.progress in
+    let fifo = c.slots_beside.ensures.fifo in
     let agrees : Agrees progress (popped after) = rw c.slots_beside.ensures.looked.1 c.receiver.invariant in
     let unclosed : is_open (pushed sent) ≡ true = ap is_open c.slots_beside.ensures.producer.1 ∙ c.sender.invariant in
-    not_ended progress (popped after) (known_items after) (pushed sent) agrees unclosed c.slots_beside.ensures.fifo
-
-pub returns-clause-messages : goal.returns-clause-messages
-returns-clause-messages g c =
-    let after = c.slots_beside.new.self in
-    let sent = c.slots_beside.new.producer in
-    received_of_open c.receiver.inside.progress (items_in (popped after)) (items_in (pushed sent)) (returns-clause-prefix g c) (returns-clause-no_end g c)
+    let begins = items_begin (popped after) (known_items after) (pushed sent) fifo in
+    let unended = not_ended progress (popped after) (known_items after) (pushed sent) agrees unclosed fifo in
+    record {
+      prefix = begins;
+      no_end = unended;
+      messages = received_of_open progress (items_in (popped after)) (items_in (pushed sent)) begins unended;
+    }

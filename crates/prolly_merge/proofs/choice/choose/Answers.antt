@@ -1,7 +1,7 @@
 use Rattle.std.proofs.lemmas.Grind.{common_steps}
 use Rattle.std.proofs.Common.{◌≡◌, ◌+◌, Some, length, take, refl, sym, ap, ◌∙◌, subst, rules, arith}
 use Rattle.std.proofs.lemmas.Option.{slice_get_read}
-use Rattle.prolly_link.specs.declared.fault.End.TheVariants.{Fault}
+use Rattle.prolly_link.specs.declared.end.End.TheVariants.{Fault}
 use Rattle.prolly_merge.specs.declared.head.Head.TheVariants.{Ended}
 use Rattle.prolly_merge.specs.Choices.{IsLeast}
 use Rattle.prolly_merge.proofs.Choices.{least_ended, first_fault}

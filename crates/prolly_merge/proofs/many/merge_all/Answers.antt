@@ -1,7 +1,7 @@
 use Rattle.std.proofs.Common.{◌≡◌, [], inr, refl, sym, ◌∙◌, subst, arith}
 use Rattle.std.proofs.lemmas.List.{append-nil}
 use Rattle.prolly_entry.specs.Overlay.{AllRising}
-use Rattle.prolly_entry.specs.Merge.{merged_part}
+use Rattle.prolly_tree.specs.Merge.{merged_part}
 use Rattle.prolly_merge.specs.Each.{Each}
 use Rattle.prolly_merge.specs.Inputs.{inputs_of, lists_of, stop_end}
 use Rattle.prolly_merge.specs.PeekedInputs.{peeked_of, AllHeld, places_after, Opens, Finishes}

@@ -1,6 +1,6 @@
 use Rattle.std.proofs.Common.{[], ◌∷◌, ◌∙◌, subst}
 use Rattle.prolly_entry.specs.Overlay.{AllRising}
-use Rattle.prolly_entry.specs.Merge.{raw_merged_part}
+use Rattle.prolly_tree.specs.Merge.{raw_merged_part}
 use Rattle.prolly_merge.specs.Inputs.{lists_of, stop_end}
 use Rattle.prolly_merge.specs.PeekedInputs.{places_after}
 use Rattle.prolly_merge.specs.Sent.{Sends}

@@ -1,5 +1,5 @@
-use Rattle.prolly_entry.specs.Events.{inner_events}
-use Rattle.prolly_stage.proofs.Steps.{gave_up}
+use Rattle.prolly_tree.specs.Events.{inner_events}
+use Rattle.prolly_stage.specs.lemmas.Steps.{gave_up}
 use Rattle.prolly_stage.proofs.inner.inner_stage_as.Goals as goal
 
 pub returns-in-Err-clause-sends : goal.returns-in-Err-clause-sends

@@ -1,10 +1,11 @@
 use Rattle.std.proofs.Common.{◌≡◌, ◌++◌, ◌∷◌, [], rules, ap, sym, ◌∙◌, refl}
 use Rattle.std.proofs.lemmas.Result.{IfOk-from_err}
-use Rattle.prolly_entry.specs.Events.{inner_events, faulty, clean}
+use Rattle.prolly_tree.specs.Events.{inner_events, faulty, clean}
 use Rattle.prolly_chunk.specs.NodeLevel.{node_level}
 use Rattle.prolly_stage.specs.Sends.{GivesUp}
-use Rattle.prolly_stage.proofs.Joins.{nodes_keep, gives_up_in_part}
-use Rattle.prolly_stage.proofs.Steps.{on_err, ended_by, nothing_came, sends_rest, gives_up_at_once, gives_up_before}
+use Rattle.prolly_stage.specs.lemmas.Joins.{nodes_keep, gives_up_in_part}
+use Rattle.prolly_stage.specs.lemmas.Steps.{on_err, ended_by, sends_rest, gives_up_at_once, gives_up_before}
+use Rattle.prolly_entry.specs.lemmas.Lists.{nothing_came}
 use Rattle.prolly_stage.proofs.inner.send_nodes.Goals as goal
 
 pub returns-in_err-nodes : goal.returns-in_err-nodes

@@ -1,5 +1,5 @@
 use Rattle.std.proofs.Common.{◌≡◌, ◌++◌}
-use Rattle.prolly_entry.specs.Events.{faulty, inner_events}
+use Rattle.prolly_tree.specs.Events.{faulty, inner_events}
 use Rattle.prolly_chunk.specs.NodeLevel.{node_level}
 use Rattle.prolly_stage.proofs.inner.send_nodes.Given as goal
 

@@ -1,7 +1,7 @@
 use Rattle.std.proofs.Common.{◌∷◌, [], ◌∙◌, refl, subst, inl, inr}
 use Rattle.std.proofs.lemmas.Result.{on_ok_weaker, on_err_weaker}
 use Rattle.prolly_stage.specs.Taking.{SendsNode, SendsNodeInPart}
-use Rattle.prolly_stage.proofs.Steps.{on_err, sent_both}
+use Rattle.prolly_stage.specs.lemmas.Steps.{on_err, sent_both}
 use Rattle.prolly_stage.proofs.inner.take_event.Goals as goal
 
 pub returns-in_err-closed-clause-err : goal.returns-in_err-closed-clause-err

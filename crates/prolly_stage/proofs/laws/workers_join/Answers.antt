@@ -1,4 +1,4 @@
-use Rattle.prolly_stage.proofs.Joins.{join_workers}
+use Rattle.prolly_stage.specs.lemmas.Joins.{join_workers}
 use Rattle.prolly_stage.proofs.laws.workers_join.Goals as goal
 
 pub returns : goal.returns

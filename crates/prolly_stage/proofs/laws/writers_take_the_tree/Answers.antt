@@ -1,5 +1,5 @@
-use Rattle.prolly_entry.proofs.Composition.{composition}
-use Rattle.prolly_stage.proofs.Takings.{writer_takes}
+use Rattle.prolly_laws.specs.Stages.{composition}
+use Rattle.prolly_stage.specs.lemmas.Takings.{writer_takes}
 use Rattle.prolly_stage.proofs.laws.writers_take_the_tree.Goals as goal
 
 pub returns : goal.returns

@@ -2,11 +2,12 @@ use Rattle.std.proofs.Common.{◌≡◌, ◌++◌, ◌∷◌, [], rules, ap, sym
 use Rattle.std.proofs.lemmas.List.{append-nil}
 use Rattle.std.proofs.lemmas.Result.{IfOk-from_err}
 use Rattle.prolly_entry.specs.declared.version.Version.{Version}
-use Rattle.prolly_entry.specs.Events.{leaf_events, faulty, clean}
+use Rattle.prolly_tree.specs.Events.{leaf_events, faulty, clean}
 use Rattle.prolly_chunk.specs.LeafLevel.{leaf_level}
 use Rattle.prolly_stage.specs.Sends.{GivesUp}
-use Rattle.prolly_stage.proofs.Joins.{leaves_keep}
-use Rattle.prolly_stage.proofs.Steps.{on_err, ended_by, nothing_came, sends_rest, gives_up_at_once, gives_up_before}
+use Rattle.prolly_stage.specs.lemmas.Joins.{leaves_keep}
+use Rattle.prolly_stage.specs.lemmas.Steps.{on_err, ended_by, sends_rest, gives_up_at_once, gives_up_before}
+use Rattle.prolly_entry.specs.lemmas.Lists.{nothing_came}
 use Rattle.prolly_stage.proofs.leaf.send_leaves.Goals as goal
 
 pub returns-in_err-leaves : goal.returns-in_err-leaves

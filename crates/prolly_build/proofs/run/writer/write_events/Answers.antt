@@ -1,5 +1,5 @@
 use Rattle.std.proofs.Common.{rules, ◌++◌, List, ap, ◌∙◌, append-nil}
-use Rattle.prolly_entry.specs.Chunk.{Chunk}
+use Rattle.prolly_tree.specs.Chunk.{Chunk}
 use Rattle.prolly_link.specs.Receipts.{given_items}
 use Rattle.prolly_build.proofs.WritingSteps.{written_of}
 use Rattle.prolly_build.proofs.run.writer.write_events.Goals as goal

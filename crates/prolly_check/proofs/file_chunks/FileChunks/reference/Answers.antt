@@ -1,6 +1,6 @@
 use Rattle.std.proofs.Common.{subst, arith}
 use Rattle.prolly_check.specs.Index.{AreReferences}
-use Rattle.prolly_check.proofs.ReferenceSteps.{as_many, reference_at}
+use Rattle.prolly_check.proofs.IndexSteps.{as_many, reference_at}
 use Rattle.prolly_check.proofs.file_chunks.FileChunks.reference.Goals as goal
 
 pub returns : goal.returns

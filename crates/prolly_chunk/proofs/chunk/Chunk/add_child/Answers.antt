@@ -1,5 +1,5 @@
 use Rattle.std.proofs.Common.{◌∙◌, ◌+◌, min, refl, ap}
-use Rattle.prolly_entry.specs.Events.{greatest_count}
+use Rattle.prolly_tree.specs.Events.{greatest_count}
 use Rattle.prolly_chunk.proofs.Keys.{child_added}
 use Rattle.prolly_chunk.proofs.chunk.Chunk.add_child.Goals as goal
 

@@ -1,7 +1,8 @@
 use Rattle.std.proofs.Common.{◌≡◌, ◌-◌, ◌&&◌, ◌∙◌, true, false, nat_le, length, Some, refl, sym, ap, rules}
-use Rattle.prolly_entry.specs.Events.{event_is_boundary}
+use Rattle.prolly_tree.specs.Events.{event_is_boundary}
 use Rattle.prolly_chunk.specs.NodeLevel.{NodeState}
-use Rattle.prolly_chunk.proofs.Nodes.{node_passes, node_takes}
+use Rattle.prolly_chunk.specs.lemmas.{node_passes}
+use Rattle.prolly_chunk.proofs.Nodes.{node_takes}
 use Rattle.prolly_chunk.proofs.node.NodeLevel.push.Goals as goal
 use Rattle.prolly_chunk.proofs.node.NodeLevel.push.Goals.{then-is_first-via-then-is_first, then-is_first-via-else-is_first+then-not-is_boundary}
 

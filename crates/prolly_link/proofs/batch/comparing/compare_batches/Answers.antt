@@ -6,19 +6,14 @@ use Rattle.prolly_link.proofs.HandLemmas.{given_begins}
 use Rattle.prolly_link.proofs.PassingLemmas.{received_of_open}
 use Rattle.prolly_link.proofs.batch.comparing.compare_batches.Goals as goal
 
-pub returns-clause-prefix : goal.returns-clause-prefix
-returns-clause-prefix g c =
+pub returns-clause-passed : goal.returns-clause-passed
+returns-clause-passed g c =
     let came = c.compare.new.receiver in
     let hand = c.receiver.inside.hand in
+    let pending = c.sender.inside.pending.items in
+    let given = given_of came hand.items in
+    let sent = items_of c.compare.new.sender.items ++ pending in
     let in_hand : IsInHand came hand.items (deque_len hand) = rw c.compare.ensures.receiver c.receiver.invariant in
-    given_begins came c.compare.new.sender.items hand.items c.sender.inside.pending.items (deque_len hand) in_hand c.compare.ensures.prefix
-
-pub returns-clause-no_end : goal.returns-clause-no_end
-returns-clause-no_end g c = c.compare.ensures.no_end
-
-pub returns-clause-messages : goal.returns-clause-messages
-returns-clause-messages g c =
-    let came = c.compare.new.receiver in
-    let given = given_of came c.receiver.inside.hand.items in
-    let sent = items_of c.compare.new.sender.items ++ c.sender.inside.pending.items in
-    received_of_open came.progress given.items sent (returns-clause-prefix g c) (returns-clause-no_end g c)
+    let begins = given_begins came c.compare.new.sender.items hand.items pending (deque_len hand) in_hand c.compare.ensures.passed.prefix in
+    let unended = c.compare.ensures.passed.no_end in
+    record { prefix = begins; no_end = unended; messages = received_of_open came.progress given.items sent begins unended }

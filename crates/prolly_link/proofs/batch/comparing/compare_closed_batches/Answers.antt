@@ -5,24 +5,13 @@ use Rattle.prolly_link.proofs.HandLemmas.{given_begins_whole, given_whole}
 use Rattle.prolly_link.proofs.PassingLemmas.{received_of_closed}
 use Rattle.prolly_link.proofs.batch.comparing.compare_closed_batches.Goals as goal
 
-pub returns-clause-prefix : goal.returns-clause-prefix
-returns-clause-prefix g c =
-    let came = c.compare_closed.new.receiver in
-    let hand = c.receiver.inside.hand in
-    let in_hand : IsInHand came hand.items (deque_len hand) = rw c.compare_closed.ensures.receiver c.receiver.invariant in
-    given_begins_whole came c.compare_closed.new.sender.items hand.items (deque_len hand) in_hand c.compare_closed.ensures.prefix
-
-pub returns-clause-end : goal.returns-clause-end
-returns-clause-end g c =
+pub returns-clause-passed : goal.returns-clause-passed
+returns-clause-passed g c =
     let came = c.compare_closed.new.receiver in
     let sent = c.compare_closed.new.sender in
     let hand = c.receiver.inside.hand in
+    let given = given_of came hand.items in
     let in_hand : IsInHand came hand.items (deque_len hand) = rw c.compare_closed.ensures.receiver c.receiver.invariant in
-    given_whole came sent.items hand.items sent.end (deque_len hand) in_hand c.compare_closed.ensures.end
-
-pub returns-clause-messages : goal.returns-clause-messages
-returns-clause-messages g c =
-    let came = c.compare_closed.new.receiver in
-    let sent = c.compare_closed.new.sender in
-    let given = given_of came c.receiver.inside.hand.items in
-    received_of_closed came.progress given.items (items_of sent.items) sent.end (returns-clause-prefix g c) (returns-clause-end g c)
+    let begins = given_begins_whole came sent.items hand.items (deque_len hand) in_hand c.compare_closed.ensures.passed.prefix in
+    let whole = given_whole came sent.items hand.items sent.end (deque_len hand) in_hand c.compare_closed.ensures.passed.end in
+    record { prefix = begins; end = whole; messages = received_of_closed came.progress given.items (items_of sent.items) sent.end begins whole }

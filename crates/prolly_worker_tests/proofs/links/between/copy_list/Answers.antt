@@ -1,4 +1,5 @@
 use Rattle.std.proofs.Common.{◌++◌, ◌∙◌, ap}
+use Rattle.prolly_fault.specs.Ends.{end_given}
 use Rattle.prolly_link.specs.Remaining.{items_left, last_end, front_lost}
 use Rattle.prolly_link.specs.RemainingLaws.{all_lost}
 use Rattle.prolly_worker_tests.proofs.links.between.copy_list.Goals as goal
@@ -10,5 +11,5 @@ returns g c = λ clean.
     let copied = c.copy_all-input.ensures.copied clean in
     let all = all_lost list after c.copy_all-input.ensures.follows c.copy_all-input.ensures.ended in (
       copied.0 ∙ ap (λ xs. xs ++ front_lost list after) c.new-2.ensures ∙ all.0 ∙ ap items_left c.new.ensures,
-      copied.1 ∙ all.1 ∙ ap last_end c.new.ensures,
+      copied.1 ∙ ap end_given all.1 ∙ ap last_end c.new.ensures,
     )

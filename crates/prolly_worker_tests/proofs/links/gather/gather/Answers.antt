@@ -1,5 +1,5 @@
 use Rattle.std.proofs.Common.{◌∙◌}
-use Rattle.prolly_stage.proofs.Steps.{nothing_came}
+use Rattle.prolly_entry.specs.lemmas.Lists.{nothing_came}
 use Rattle.prolly_worker_tests.proofs.links.gather.gather.Goals as goal
 
 pub returns-in-End-clause-got : goal.returns-in-End-clause-got

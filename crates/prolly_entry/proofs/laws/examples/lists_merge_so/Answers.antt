@@ -1,5 +1,0 @@
-use Rattle.prolly_entry.proofs.Computed.{fault_of_least_position, removals}
-use Rattle.prolly_entry.proofs.laws.examples.lists_merge_so.Goals as goal
-
-pub returns : goal.returns
-returns c = record { fault = fault_of_least_position; removals = removals }

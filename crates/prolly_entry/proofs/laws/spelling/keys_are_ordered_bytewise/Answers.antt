@@ -1,5 +1,0 @@
-use Rattle.prolly_entry.proofs.Orders.{key_order_is}
-use Rattle.prolly_entry.proofs.laws.spelling.keys_are_ordered_bytewise.Goals as goal
-
-pub returns : goal.returns
-returns c = key_order_is

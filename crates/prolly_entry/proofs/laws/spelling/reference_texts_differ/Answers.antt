@@ -1,5 +1,0 @@
-use Rattle.prolly_entry.proofs.Texts.{same_reference}
-use Rattle.prolly_entry.proofs.laws.spelling.reference_texts_differ.Goals as goal
-
-pub returns : goal.returns
-returns c = same_reference

@@ -1,5 +1,0 @@
-use Rattle.prolly_entry.proofs.Steps.{stage_step}
-use Rattle.prolly_entry.proofs.laws.stages.stages_go_on.Goals as goal
-
-pub returns : goal.returns
-returns c = λ is_boundary event_of below events e. stage_step below event_of is_boundary events e

@@ -1,5 +1,0 @@
-use Rattle.prolly_entry.proofs.Composition.{composition}
-use Rattle.prolly_entry.proofs.laws.stages.stages_make_the_tree.Goals as goal
-
-pub returns : goal.returns
-returns c = λ cut version m n few. composition cut version m few n

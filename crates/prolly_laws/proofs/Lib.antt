@@ -1,0 +1,2 @@
+-- The worked examples, by computation.
+pub mod Computed

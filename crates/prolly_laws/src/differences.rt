@@ -1,0 +1,22 @@
+//! What turns one map into another.
+ghost use Rattle.prolly_tree.specs.Difference.{OneDifference, DifferenceTurns, EqualsDifferNowhere, DifferencesCompose};
+
+/// Two maps have at most one difference.
+pub fn maps_have_one_difference()
+    ensures { OneDifference }
+{}
+
+/// The overlay of a map and its difference to another is the other.
+pub fn differences_turn_maps()
+    ensures { DifferenceTurns }
+{}
+
+/// Maps are equal exactly where their difference is empty.
+pub fn equal_maps_differ_nowhere()
+    ensures { EqualsDifferNowhere }
+{}
+
+/// Differences compose by overlay.
+pub fn differences_compose()
+    ensures { DifferencesCompose }
+{}

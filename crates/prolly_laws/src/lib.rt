@@ -1,0 +1,13 @@
+//! Laws of the definitions that contracts speak of. Each is the contract of a function that does
+//! nothing: to call it is to know the law, and to prove the crate is to prove it.
+#![tactic(auto)]
+
+pub mod differences;
+pub mod examples;
+pub mod files;
+pub mod merging;
+pub mod reading;
+pub mod spelling;
+pub mod splitting;
+pub mod stages;
+pub mod trees;

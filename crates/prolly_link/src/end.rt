@@ -1,0 +1,8 @@
+//! How a list of items ends.
+
+/// What follows the last item: nothing more to say, or why there are no more items.
+#[derive(Clone, Copy, PartialEq, Eq, Debug)]
+pub enum End<F> {
+    Clean,
+    Fault(F),
+}

@@ -1,0 +1,9 @@
+-- Lemmas for the crates above, by subject: what a proof may use of trees, pipelines and merging.
+-- Lists of pairs whose keys rise.
+pub mod Maps
+-- How a list is split into groups.
+pub mod Splits
+-- Trees, their chunks and their files.
+pub mod Trees
+-- What the stages of a pipeline send, and its writer takes.
+pub mod Stages
