@@ -44,8 +44,15 @@ pub fn hash_all(alloc: Global, count: u32, value_bytes: u32) -> Result<u32, Allo
     Ok(sum.wrapping_add(u32::from(chunk.finalize()[0])))
 }
 
+/// Times the hashing of so many entries: the milliseconds, and a sum of bytes of the hashes.
+pub fn time_entries<R: Clock>(rt: &R, alloc: Global, count: u32) -> Result<(u128, u32)> {
+    let start = Instant::now(rt)?;
+    let sum = hash_entries(alloc, count)?;
+    Ok((start.elapsed(rt)?.as_millis(), sum))
+}
+
 /// Hashes each entry by itself, and gives a sum of bytes of the hashes.
-pub fn hash_entries(alloc: Global, count: u32) -> Result<u32, AllocError> {
+fn hash_entries(alloc: Global, count: u32) -> Result<u32, AllocError> {
     let mut entry = Entry::new(alloc, VALUE_BYTES)?;
     let mut sum = 0u32;
     for number in 0..count {

@@ -1,5 +1,5 @@
 //! What the workers of a build cost by themselves, over lists in one thread.
-use crate::hashes::{hash_all, hash_entries};
+use crate::hashes::{hash_all, time_entries};
 use crate::samples::{VALUE_BYTES, numbered_pairs, numbered_records};
 use crate::watched::Watched;
 use anyhow::{Result, bail};
@@ -33,9 +33,7 @@ pub fn time_load<R: Print + Clock + Files + Wait>(
     name: &str,
     count: u32,
 ) -> Result<()> {
-    let start = Instant::now(rt)?;
-    let sum = hash_entries(alloc, count)?;
-    let hashing = start.elapsed(rt)?.as_millis();
+    let (hashing, sum) = time_entries(rt, alloc, count)?;
     let source = Watched::new(FromRead::new(fs::open(rt, name)?));
     let start = Instant::now(rt)?;
     let loaded = load(rt, alloc, 0, source, RECORD_LIMIT, ListOut::new(alloc));
@@ -58,9 +56,7 @@ pub fn time_merge<R: Print + Clock + Wait>(
     lists: u32,
     count: u32,
 ) -> Result<()> {
-    let start = Instant::now(rt)?;
-    let sum = hash_entries(alloc, count)?;
-    let hashing = start.elapsed(rt)?.as_millis();
+    let (hashing, sum) = time_entries(rt, alloc, count)?;
     let mut inputs = Vec::new(alloc);
     for first in 0..lists {
         let records = numbered_records(alloc, count, first, lists)?;

@@ -23,16 +23,20 @@ pub record AreLawful (settings : Settings) : Type 0 where
   pub max_records : (1 ≤ settings.max_records) × (settings.max_records ≤ 16777216)
   pub batch : (1 ≤ settings.batch) × (settings.batch ≤ 1024)
 
--- The settings of these four numbers, with messages of one item and version One.
-abbrev pub first_settings : ℕ → ℕ → ℕ → ℕ → Settings
-first_settings bits stages capacity max_records = record {
+-- The settings of these numbers and this version.
+abbrev pub settings_of : ℕ → ℕ → ℕ → ℕ → ℕ → Version → Settings
+settings_of bits stages capacity max_records batch version = record {
   bits = bits;
   stages = stages;
   capacity = capacity;
   max_records = max_records;
-  batch = 1;
-  version = One;
+  batch = batch;
+  version = version;
 }
+
+-- The settings of these four numbers, with messages of one item and version One.
+abbrev pub first_settings : ℕ → ℕ → ℕ → ℕ → Settings
+first_settings bits stages capacity max_records = settings_of bits stages capacity max_records 1 One
 
 -- The number lies outside the range from 1 to `most`.
 abbrev pub IsOutside : ℕ → ℕ → Type 0

@@ -45,27 +45,14 @@ pub struct Config {
 }
 
 impl Model for Config {
-    ghost use Rattle.prolly_build.specs.Settings.{Settings, AreLawful};
+    ghost use Rattle.prolly_build.specs.Settings.{Settings, AreLawful, settings_of};
 
     ghost Value = { Settings };
 
-    ghost view = { λ c. record {
-      bits = c.bits;
-      stages = c.stages;
-      capacity = c.capacity;
-      max_records = c.max_records;
-      batch = c.batch;
-      version = c.version;
-    } };
+    ghost view = { λ c. settings_of c.bits c.stages c.capacity c.max_records c.batch c.version };
 
-    ghost invariant = { λ c. AreLawful (record {
-      bits = c.bits;
-      stages = c.stages;
-      capacity = c.capacity;
-      max_records = c.max_records;
-      batch = c.batch;
-      version = c.version;
-    }) };
+    ghost invariant = { λ c. AreLawful
+        (settings_of c.bits c.stages c.capacity c.max_records c.batch c.version) };
 
     ghost inverse = { λ s. record {
       bits = s.bits;

@@ -7,14 +7,12 @@ ghost use Rattle.prolly_build.specs.Staging.{HasStaged};
 ghost use Rattle.prolly_build.specs.Outcome.{IsOutcome};
 
 use crate::config::Config;
-use crate::end::answer::finish;
-use crate::end::halt::Halt;
-use crate::links::link::NewLink;
-use crate::links::rings::Rings;
+use crate::end::{Halt, finish};
+use crate::links::{NewLink, Rings};
 use crate::report::Report;
-use crate::run::stages::{Ran, run_from_top};
-use crate::start::permit::{AllStart, Permit};
-use crate::start::site::Site;
+use crate::run::{Ran, run_from_top};
+use crate::start::{AllStart, Permit, Site};
+use prolly_chunk::ChunkEvent;
 use prolly_fault::RunFault;
 use prolly_file::{Sink, Source};
 use prolly_stage::Gate;
@@ -45,7 +43,7 @@ fn run_in<
     sink: &mut W,
     gate: &'s G,
     permit: &P,
-) -> Result<Ran, Halt>
+) -> Result<Ran<ChunkEvent>, Halt>
     requires levels { vec_len rings.events < 12 }
     requires files { (rings.feed.files ≡ vec_len sources.old) × (vec_len sources.old ≤ 16) }
     ensures link { IfOk result (λ ran. ran.out.link ≡ ran.wrote.last.link) }
@@ -99,7 +97,7 @@ fn run_workers<R: Wait + Threads + Sync, S: Source + Send + Drop, W: Sink, G: Ga
     let (ran, back, sink) = thread::scope(
         thread::scope_env(),
         rt,
-        move |scope| -> (Result<Ran, Halt>, Vec<S>, &mut W)
+        move |scope| -> (Result<Ran<ChunkEvent>, Halt>, Vec<S>, &mut W)
             requires { (vec_len rings.events < 12) × (rings.feed.files ≡ vec_len lent) ×
                 (vec_len lent ≤ 16) }
             ensures link { IfOk result.0 (λ ran. ran.out.link ≡ ran.wrote.last.link) }

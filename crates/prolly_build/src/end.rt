@@ -1,4 +1,7 @@
 //! The end of a build: a halt where a worker can't start, the end record, and the answer.
-pub(crate) mod answer;
-pub(crate) mod end_record;
-pub(crate) mod halt;
+mod answer;
+mod end_record;
+mod halt;
+
+pub(crate) use answer::finish;
+pub(crate) use halt::{Halt, close_all, refuse};

@@ -13,4 +13,4 @@ mod start;
 pub use config::{Config, ConfigFault};
 pub use driver::{FILES_LIMIT, build, build_with};
 pub use report::Report;
-pub use start::permit::{AllStart, Permit};
+pub use start::{AllStart, Permit};

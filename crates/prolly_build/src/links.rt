@@ -1,5 +1,10 @@
 //! The links of a build: what stands between two workers, from one link to all of them.
-pub(crate) mod feed;
-pub(crate) mod fork;
-pub(crate) mod link;
-pub(crate) mod rings;
+mod feed;
+mod fork;
+mod link;
+mod rings;
+
+pub(crate) use feed::Feed;
+pub(crate) use fork::Fork;
+pub(crate) use link::{NewLink, meet};
+pub(crate) use rings::Rings;

@@ -1,9 +1,9 @@
 //! The build, as its tests call it.
+use crate::expect::expect_bytes;
 use prolly_build::{Config, Permit, Report, build, build_with};
 use prolly_entry::{Pair, Sha512Cut, Version};
 use prolly_file::{ScriptSink, ScriptSource, scratch_as};
 use prolly_stage::Gate;
-use prolly_test_parts::expect_bytes;
 use std::alloc::Global;
 use std::process::Abort;
 use std::sync::Wait;

@@ -1,12 +1,12 @@
 //! A file that was checked, as look-ups see it.
 ghost use Rattle.std.specs.Prelude.{◌≡◌, ◌<◌, ◌^◌, [], length, get_or};
-ghost use Rattle.prolly_check.specs.Checked.{IsChecked, HasFile, HasReference, chunks_of};
 ghost use Rattle.prolly_check.specs.Content.{Content};
 ghost use Rattle.prolly_check.specs.Held.{pairs_held};
 ghost use Rattle.prolly_check.specs.Index.{HasAt};
 ghost use Rattle.prolly_check.specs.Kinds.{kind_of};
 ghost use Rattle.prolly_check.specs.Root.{root_bytes};
 ghost use Rattle.prolly_check.specs.Verdict.{IsFileOf};
+ghost use Rattle.prolly_check.specs.Checked.{IsChecked, HasFile, HasReference, chunks_of};
 
 use crate::entries::{Entries, entries_of, pairs_of};
 use crate::frames::{Span, chunk_at};

@@ -54,6 +54,8 @@ fn commands_have_their_fields(rt: HostRuntime) -> Result<(), Fail> {
             "Scratch { bits: 12, version: 1, out: Some(\"a.prl\"), \
              mode: WriteMode { atomic: false, sync: true } }",
         ),
+        ("check a.prl", "Check { file: \"a.prl\" }"),
+        ("get a.prl 61fF", "Get { file: \"a.prl\", key: [97, 255] }"),
         (
             "build --atomic out.prl",
             "Build { bits: 12, stages: 12, capacity: 64, max_records: 16777216, \
@@ -76,8 +78,6 @@ fn commands_have_their_fields(rt: HostRuntime) -> Result<(), Fail> {
             "Build { bits: 1, stages: 2, capacity: 3, max_records: 4, batch: 5, version: 2, \
              out: \"out.prl\", files: [], mode: WriteMode { atomic: false, sync: false } }",
         ),
-        ("check a.prl", "Check { file: \"a.prl\" }"),
-        ("get a.prl 61fF", "Get { file: \"a.prl\", key: [97, 255] }"),
         (
             "scan a.prl 00 1000000",
             "Scan { file: \"a.prl\", from: [0], limit: 1000000 }",
@@ -96,7 +96,6 @@ fn commands_have_their_fields(rt: HostRuntime) -> Result<(), Fail> {
 
 #[test]
 fn words_out_of_range_are_usage(rt: HostRuntime) -> Result<(), Fail> {
-    let alloc = rt.alloc();
     let lines = [
         "",
         "pack",
@@ -109,7 +108,7 @@ fn words_out_of_range_are_usage(rt: HostRuntime) -> Result<(), Fail> {
         "forget a.prl",
     ];
     for line in lines {
-        assert_eq!(rt; outcome(alloc, line)?, "usage", "{line}");
+        assert_eq!(rt; outcome(rt.alloc(), line)?, "usage", "{line}");
     }
     Ok(())
 }

@@ -1,5 +1,5 @@
 //! What the program shows and writes.
-use prolly_test_parts::expect_bytes;
+use crate::expect::expect_bytes;
 use prolly_tool::Answer;
 use std::process::Abort;
 

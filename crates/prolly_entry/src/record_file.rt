@@ -3,11 +3,12 @@ ghost use Rattle.std.specs.Prelude.{◌≡◌, ◌≤◌, ◌++◌, ◌∷◌, [
 ghost use Rattle.prolly_entry.specs.Front.{pair_at};
 ghost use Rattle.prolly_entry.specs.Pair.{IsPair};
 ghost use Rattle.prolly_entry.specs.RecordList.{ArePairsOf, IsFaultOf, fault_of};
+ghost use Rattle.prolly_entry.specs.declared.record_file.RecordFault.TheVariants.{Memory};
 
 use crate::flaw::Flaw;
 use crate::next::{NextRecord, next_record};
 use crate::pair::Pair;
-use std::alloc::{AllocError, Global};
+use std::alloc::Global;
 
 /// Why bytes are no record file. A place is the number of good records before the flawed one, so
 /// the flawed one's own number, counted from 0.
@@ -25,16 +26,6 @@ pub enum RecordFault {
     OutOfOrder { place: u32 },
     /// As many records as are allowed are good, and a further byte follows.
     TooManyRecords,
-}
-
-impl From<AllocError> for RecordFault {
-    ghost use Rattle.prolly_entry.specs.declared.record_file.RecordFault.TheVariants.{Memory};
-
-    ghost from_gives = { λ _ fault. fault ≡ Memory };
-
-    fn from(_: AllocError) -> Self {
-        RecordFault::Memory
-    }
 }
 
 /// The pairs that the records of a record file put, in the order of their keys, where the bytes are
@@ -88,15 +79,18 @@ fn push_copy(
     alloc: Global,
     key: &[u8],
     value: &[u8],
-) -> Result<(), AllocError>
+) -> Result<(), RecordFault>
     requires key { length key.now ≤ 1024 }
     requires value { length value.now ≤ 65536 }
-    ensures { OnOk result (pairs.new.items ≡ pairs.old.items ++
+    ensures added { OnOk result (pairs.new.items ≡ pairs.old.items ++
         record { key = key.now; value = value.now } ∷ []) }
+    ensures refused { IfErr result (λ fault. fault ≡ Memory) }
 {
-    let pair = Pair::copy_of(alloc, key, value)?;
+    let Ok(pair) = Pair::copy_of(alloc, key, value) else {
+        return Err(RecordFault::Memory);
+    };
     if pairs.push(pair).is_err() {
-        return Err(AllocError);
+        return Err(RecordFault::Memory);
     }
     Ok(())
 }

@@ -1,6 +1,8 @@
 -- What a clause reads of a `Buffered`.
-use Rattle.std.specs.Prelude.{◌≡◌, ℕ, Bool, List, [], ◌++◌, drop, vec_capacity}
-use Rattle.prolly_file.specs.Sink.{SinkView}
+use Rattle.std.specs.Prelude.{◌≡◌, ℕ, ◌≤◌, Bool, true, List, [], ◌++◌, length, drop, vec_capacity, Result, IfOk, OnOk, OnErr}
+use Rattle.prolly_file.specs.declared.sink.SinkFault.{SinkFault}
+use Rattle.prolly_file.specs.Failures.{CountsFailure}
+use Rattle.prolly_file.specs.Sink.{SinkView, Takes, CountsWriteFailure}
 use Rattle.prolly_file.specs.declared.buffered.Buffered.{Buffered}
 
 -- The sink behind the buffer.
@@ -27,3 +29,21 @@ pub record IsEmptied {W : Type 0} (old new : Buffered W) : Type 0 where
   pub sent : new.sent ≡ 0
   pub room : vec_capacity new.held ≡ vec_capacity old.held
   pub has_failed : new.has_failed ≡ old.has_failed
+
+-- What comes of handing on all that is held.
+pub record HandsOn {W : Type 0} (seen : W → SinkView) (old new : Buffered W) (result : Result Unit SinkFault) : Type 0 where
+  pub bytes : (seen old.sink).is_keeping ≡ true → bytes_taken seen new ≡ bytes_taken seen old
+  pub keeping : (seen old.sink).is_keeping ≡ true → (seen new.sink).is_keeping ≡ true
+  pub failures : CountsFailure old.failures new.failures result
+  pub empty : OnOk result (IsEmptied old new)
+  pub failed : OnErr result (has_failed new ≡ true)
+
+-- What comes of a write of `buf` past the buffer, which holds nothing, to the sink behind it: as
+-- much as of any write, and a failure is noted.
+pub record Passes {W : Type 0} (seen : W → SinkView) (old new : Buffered W)
+    (result : Result ℕ SinkFault) (buf : List ℕ) : Type 0 where
+  pub bound : IfOk result (λ n. n ≤ length buf)
+  pub bytes : (seen old.sink).is_keeping ≡ true → Takes (bytes_taken seen old) (bytes_taken seen new) result buf
+  pub keeping : (seen old.sink).is_keeping ≡ true → (seen new.sink).is_keeping ≡ true
+  pub failures : CountsWriteFailure old.failures new.failures result buf
+  pub failed : OnErr result (has_failed new ≡ true)

@@ -50,7 +50,7 @@ impl<W: Sink + Drop> Buffered<W> {
 }
 
 impl<W: Sink> Buffered<W> {
-    ghost use Rattle.prolly_file.specs.Buffered.{bytes_taken, has_failed, sink_of, IsEmptied};
+    ghost use Rattle.prolly_file.specs.Buffered.{has_failed, sink_of, HandsOn, Passes};
 
     /// The sink behind the buffer.
     pub fn sink(&self) -> &W
@@ -61,13 +61,7 @@ impl<W: Sink> Buffered<W> {
 
     /// Hands on all that is held.
     fn hand_on(&mut self) -> Result<(), SinkFault>
-        ensures bytes { (W.seen (sink_of self.old)).is_keeping ≡ true →
-            bytes_taken W.seen self.new ≡ bytes_taken W.seen self.old }
-        ensures keeping { (W.seen (sink_of self.old)).is_keeping ≡ true →
-            (W.seen (sink_of self.new)).is_keeping ≡ true }
-        ensures failures { CountsFailure self.old.failures self.new.failures result }
-        ensures empty { OnOk result (IsEmptied self.old self.new) }
-        ensures failed { OnErr result (has_failed self.new ≡ true) }
+        ensures { HandsOn W.seen self.old self.new result }
     {
         while self.sent < self.held.len() {
             match self.sink.write(&self.held[self.sent..]) {
@@ -83,13 +77,7 @@ impl<W: Sink> Buffered<W> {
     /// Has the other sink take bytes, before which nothing is held.
     fn pass(&mut self, buf: &[u8]) -> Result<usize, SinkFault>
         requires { self.old.held.items ≡ [] }
-        ensures bound { IfOk result (λ n. n ≤ length buf.now) }
-        ensures bytes { (W.seen (sink_of self.old)).is_keeping ≡ true →
-            Takes (bytes_taken W.seen self.old) (bytes_taken W.seen self.new) result buf.now }
-        ensures keeping { (W.seen (sink_of self.old)).is_keeping ≡ true →
-            (W.seen (sink_of self.new)).is_keeping ≡ true }
-        ensures failures { CountsWriteFailure self.old.failures self.new.failures result buf.now }
-        ensures failed { OnErr result (has_failed self.new ≡ true) }
+        ensures { Passes W.seen self.old self.new result buf.now }
     {
         match self.sink.write(buf) {
             Ok(0) if !buf.is_empty() => Err(self.failed()),

@@ -21,11 +21,11 @@ impl<W: Write> ToWrite<W> {
     ///
     /// It writes nothing yet.
     pub fn new(writer: W) -> ToWrite<W>
-        ensures taken { (⟦<ToWrite<W> as Sink>⟧.seen result).taken ≡ known_bytes
-            (W.contents writer) }
+        ensures failures { (⟦<ToWrite<W> as Sink>⟧.seen result).failures ≡ 0 }
         ensures keeping { (⟦<ToWrite<W> as Sink>⟧.seen result).is_keeping ≡ is_some
             (W.contents writer) }
-        ensures failures { (⟦<ToWrite<W> as Sink>⟧.seen result).failures ≡ 0 }
+        ensures taken { (⟦<ToWrite<W> as Sink>⟧.seen result).taken ≡ known_bytes
+            (W.contents writer) }
     {
         ToWrite {
             writer,

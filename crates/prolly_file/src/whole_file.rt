@@ -21,30 +21,31 @@ pub(crate) fn append_file(
     ensures err { OnErr result (out.new.items ≡ out.old.items) }
 {
     let start = out.len();
-    if append_parts(out, version, bits, chunks, root).is_err() {
+    let header = header(version, bits);
+    let end = end_record(root, chunks.len() as u64);
+    if append_parts(out, &header, chunks, &end).is_err() {
         out.truncate(start);
         return Err(AllocError);
     }
     Ok(())
 }
 
-/// Appends the parts of a file; on refusal some of them.
+/// Appends a header, frames and an end; on refusal some of them.
 fn append_parts(
     out: &mut Vec<u8>,
-    version: Version,
-    bits: u8,
+    header: &[u8],
     chunks: &[ChunkEvent],
-    root: &Ref,
+    end: &[u8],
 ) -> Result<(), AllocError>
-    ensures ok { OnOk result (out.new.items ≡ out.old.items ++ (header version bits ++ flat_map
-        frame chunks.now ++ end_record root.now.0 (length chunks.now))) }
+    ensures ok { OnOk result (out.new.items ≡
+        out.old.items ++ (header.now ++ flat_map frame chunks.now ++ end.now)) }
     ensures err { take (length out.old.items) out.new.items ≡ out.old.items }
 {
-    out.extend_from_slice(&header(version, bits))?;
+    out.extend_from_slice(header)?;
     for chunk in chunks {
         let bytes = chunk.bytes();
         out.extend_from_slice(&frame_start(bytes.len() as u64))?;
         out.extend_from_slice(bytes)?;
     }
-    out.extend_from_slice(&end_record(root, chunks.len() as u64))
+    out.extend_from_slice(end)
 }

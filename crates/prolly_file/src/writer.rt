@@ -3,10 +3,10 @@ ghost use Rattle.std.specs.Prelude.{◌≡◌, ◌≢◌, ◌↔◌, ◌<◌, tr
 ghost use Rattle.prolly_entry.specs.declared.version.Version.TheVariants.{One};
 ghost use Rattle.prolly_tree.specs.Events.{greatest_count};
 ghost use Rattle.prolly_tree.specs.File.{header, end_record};
+ghost use Rattle.prolly_file.specs.Writer.{Begins, next_count};
 ghost use Rattle.prolly_file.specs.Failures.{CountsFailure};
 ghost use Rattle.prolly_file.specs.Frame.{framed};
 ghost use Rattle.prolly_file.specs.Sink.{TakesPrefix};
-ghost use Rattle.prolly_file.specs.Writer.{Begins, next_count};
 
 use crate::frame::{end_record, frame_start, header};
 use crate::sink::Sink;

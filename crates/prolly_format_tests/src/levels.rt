@@ -1,9 +1,10 @@
 //! The levels of leaves and of nodes, entry by entry.
 ghost use Rattle.std.specs.Prelude.{◌≤◌};
 
+use crate::expect::expect_bytes;
 use prolly_chunk::{ChunkEvent, LeafLevel, NodeLevel};
 use prolly_entry::{KeyCut, Ref, Version};
-use prolly_test_parts::{expect_bytes, joined, pairs_of};
+use prolly_test_parts::{joined, pairs_of};
 use std::alloc::Global;
 use std::process::Abort;
 use std::test::Fail;

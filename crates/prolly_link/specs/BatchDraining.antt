@@ -3,10 +3,12 @@ use Rattle.std.specs.Prelude.{◌≡◌}
 use Rattle.prolly_link.specs.Views.{Receiving}
 use Rattle.prolly_link.specs.Draining.{Drains}
 use Rattle.prolly_link.specs.declared.progress.Progress.TheVariants.{Ended, Lost}
-use Rattle.prolly_link.specs.declared.batch.drained.BatchDrained.{BatchDrained}
-use Rattle.prolly_link.specs.declared.batch.drained.BatchDrained.TheVariants.{Ended as drained_ended, Lost as drained_lost}
+use Rattle.prolly_link.specs.declared.batch.ends.BatchDrained.{BatchDrained}
+use Rattle.prolly_link.specs.declared.batch.ends.BatchDrained.TheVariants.{Ended as drained_ended}
+use Rattle.prolly_link.specs.declared.batch.ends.BatchDrained.TheVariants.{Lost as drained_lost}
 
 -- what `drain` makes of a receiver of batches
 abbrev pub IsBatchDrainOf : {T F : Type 0} → Receiving T F → BatchDrained T F → Type 0
-IsBatchDrainOf r (drained_ended d) = (d.link ≡ r.link) × Drains r.progress r.items (Ended d.end) d.items
+IsBatchDrainOf r (drained_ended d) = (d.link ≡ r.link) ×
+    Drains r.progress r.items (Ended d.end) d.items
 IsBatchDrainOf r (drained_lost d) = (d.link ≡ r.link) × Drains r.progress r.items Lost d.items

@@ -4,8 +4,9 @@ use mathlib.Core.List.{IsPrefix}
 use Rattle.prolly_link.specs.Views.{Receiving}
 use Rattle.prolly_link.specs.declared.progress.Progress.{Progress}
 use Rattle.prolly_link.specs.declared.progress.Progress.TheVariants.{Open, Ended, Lost}
-use Rattle.prolly_link.specs.declared.drained.Drained.{Drained}
-use Rattle.prolly_link.specs.declared.drained.Drained.TheVariants.{Ended as drained_ended, Lost as drained_lost}
+use Rattle.prolly_link.specs.declared.ends.Drained.{Drained}
+use Rattle.prolly_link.specs.declared.ends.Drained.TheVariants.{Ended as drained_ended}
+use Rattle.prolly_link.specs.declared.ends.Drained.TheVariants.{Lost as drained_lost}
 
 module _ {T F : Type 0} where
   -- a receiver that had come to `before` with the items xs is left with the items ys, having come to `after`
@@ -16,5 +17,6 @@ module _ {T F : Type 0} where
 
   -- what `drain` makes of a receiver
   abbrev pub IsDrainOf : Receiving T F → Drained T F → Type 0
-  IsDrainOf r (drained_ended d) = (d.link ≡ r.link) × Drains r.progress r.items (Ended d.end) d.items
+  IsDrainOf r (drained_ended d) = (d.link ≡ r.link) ×
+      Drains r.progress r.items (Ended d.end) d.items
   IsDrainOf r (drained_lost d) = (d.link ≡ r.link) × Drains r.progress r.items Lost d.items

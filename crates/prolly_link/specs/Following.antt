@@ -12,7 +12,8 @@ module _ {T F : Type 0} where
     pub progress_stays : HasEnded before.progress → after.progress ≡ before.progress
 
   pub later_same : (a : Receiving T F) → IsLater a a
-  later_same a = record { grew = (between_nothing a.items).0; items_stay = λ _. refl; progress_stays = λ _. refl }
+  later_same a = record { grew = (between_nothing a.items).0; items_stay = λ _. refl;
+      progress_stays = λ _. refl }
 
   still_ended : (a b : Receiving T F) → IsLater a b → HasEnded a.progress → HasEnded b.progress
   still_ended a b h ended = subst HasEnded (sym (h.progress_stays ended)) ended
@@ -24,9 +25,12 @@ module _ {T F : Type 0} where
     progress_stays = λ ended. k.progress_stays (still_ended a b h ended) ∙ h.progress_stays ended;
   }
 
-  pub received_in_both : (a b c : Receiving T F) → IsLater a b → IsLater b c → items_between a.items c.items ≡ items_between a.items b.items ++ items_between b.items c.items
+  pub received_in_both : (a b c : Receiving T F) → IsLater a b → IsLater b c →
+      items_between a.items c.items ≡ items_between a.items b.items ++ items_between b.items c.items
   received_in_both a b c h k = (between_more a.items b.items c.items h.grew k.grew).1
 
   -- one that had ended received nothing
-  pub nothing_after_end : (a b : Receiving T F) → IsLater a b → HasEnded a.progress → items_between a.items b.items ≡ []
-  nothing_after_end a b h ended = ap (items_between a.items) (h.items_stay ended) ∙ (between_nothing a.items).1
+  pub nothing_after_end : (a b : Receiving T F) → IsLater a b → HasEnded a.progress →
+      items_between a.items b.items ≡ []
+  nothing_after_end a b h ended = ap (items_between a.items) (h.items_stay ended) ∙
+      (between_nothing a.items).1

@@ -1,5 +1,6 @@
 -- What stands in a list before its end.
-use Rattle.std.proofs.Common.{◌≡◌, ◌-◌, List, [], ◌∷◌, ◌++◌, length, take, refl, ap, arith, length-append}
+use Rattle.std.proofs.Common.{◌≡◌, ◌-◌, List, [], ◌∷◌, ◌++◌, length, take, refl, ap, arith}
+use Rattle.std.proofs.Common.{length-append}
 
 module _ {T : Type 0} where
   -- what stands before `rest` in `all`, where `all` ends with it

@@ -1,5 +1,6 @@
 -- What a list gained at its end.
-use Rattle.std.proofs.Common.{◌≡◌, List, [], ◌∷◌, ◌++◌, length, drop, refl, sym, ◌∙◌, ap, append_assoc}
+use Rattle.std.proofs.Common.{◌≡◌, List, [], ◌∷◌, ◌++◌, length, drop, refl, sym, ◌∙◌, ap}
+use Rattle.std.proofs.Common.{append_assoc}
 use Rattle.std.proofs.lemmas.List.{append-nil}
 
 module _ {T : Type 0} where
@@ -27,7 +28,8 @@ module _ {T : Type 0} where
       let none = rest_is a [] a (sym (append-nil a)) in
       (sym (ap (λ r. a ++ r) none ∙ append-nil a), none)
 
-  pub between_more : (a b c : List T) → Grew a b → Grew b c → Grew a c × (items_between a c ≡ items_between a b ++ items_between b c)
+  pub between_more : (a b c : List T) → Grew a b → Grew b c →
+      Grew a c × (items_between a c ≡ items_between a b ++ items_between b c)
   between_more a b c h k =
       let whole = two_stretches a b c (items_between a b) (items_between b c) h k in
       let both = rest_is a (items_between a b ++ items_between b c) c whole in

@@ -15,4 +15,5 @@ pub record IsOpenBatch (size capacity count : ℕ) : Type 0 where
 
 -- a sender of batches: the items of those sent, and of the open one
 abbrev pub batching_of : {T : Type 0} → Sending (List T) → List T → ℕ → Batching T
-batching_of s pending room = record { link = s.link; items = items_of s.items ++ pending; room = room }
+batching_of s pending room = record { link = s.link; items = items_of s.items ++ pending;
+    room = room }

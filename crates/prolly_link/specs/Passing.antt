@@ -37,5 +37,6 @@ module _ {T F : Type 0} where
   -- a receiver beside a closed sender: what it received begins what was sent, and an end that it has is the sender's, after all items
   pub record IsBesideClosed (receiver : Receiving T F) (sent : Whole T F) : Type 0 where
     pub prefix : IsPrefix receiver.items sent.items
-    pub end : (e : End F) → receiver.progress ≡ Ended e → (e ≡ sent.end) × (receiver.items ≡ sent.items)
+    pub end : (e : End F) → receiver.progress ≡ Ended e →
+        (e ≡ sent.end) × (receiver.items ≡ sent.items)
     pub messages : IsReceivedOf receiver (closed_messages sent.items sent.end)

@@ -1,7 +1,8 @@
 -- What a receiver gives, and how far it has come by that.
 use Rattle.std.specs.Prelude.{◌≡◌, List, [], ◌∷◌}
 use Rattle.prolly_link.specs.declared.next.Next.{Next}
-use Rattle.prolly_link.specs.declared.next.Next.TheVariants.{Item as next_item, End as next_end, Lost as next_lost}
+use Rattle.prolly_link.specs.declared.next.Next.TheVariants.{Item as next_item, End as next_end}
+use Rattle.prolly_link.specs.declared.next.Next.TheVariants.{Lost as next_lost}
 use Rattle.prolly_link.specs.declared.progress.Progress.{Progress}
 use Rattle.prolly_link.specs.declared.progress.Progress.TheVariants.{Open, Ended, Lost}
 

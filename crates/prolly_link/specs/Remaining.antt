@@ -32,7 +32,8 @@ module _ {T F : Type 0} where
   front_lost before after = before_rest (items_left before) (items_left after)
 
   abbrev pub LostFront : Remaining T F → Remaining T F → Type 0
-  LostFront before after = (items_left before ≡ front_lost before after ++ items_left after) × (last_end after ≡ last_end before)
+  LostFront before after = (items_left before ≡ front_lost before after ++ items_left after) ×
+      (last_end after ≡ last_end before)
 
   -- the same list later: it lost items at its front, and where it had given its end it stayed as it was
   pub record IsLaterList (before after : Remaining T F) : Type 0 where

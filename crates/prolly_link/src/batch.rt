@@ -1,7 +1,6 @@
 //! What the ring of a batch link carries, and below it the ends of such a link.
-pub(crate) mod closed;
 pub(crate) mod comparing;
-pub(crate) mod drained;
+pub(crate) mod ends;
 pub(crate) mod meeting;
 pub(crate) mod opening;
 pub(crate) mod receiver;

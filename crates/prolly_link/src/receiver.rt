@@ -2,7 +2,7 @@
 ghost use Rattle.std.specs.Prelude.{◌≡◌, ◌++◌};
 ghost use Rattle.prolly_link.specs.Receipts.{given_items, progress_after, GivesAgain};
 
-use crate::drained::{Drained, EndedReceiver, LostReceiver};
+use crate::ends::{Drained, EndedReceiver, LostReceiver};
 use crate::input::In;
 use crate::message::Message;
 use crate::next::Next;

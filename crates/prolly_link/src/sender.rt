@@ -1,8 +1,8 @@
 //! The end of a link that sends.
 ghost use Rattle.std.specs.Prelude.{◌≡◌, [], ◌∷◌, ◌++◌, IsOk};
 
-use crate::closed::ClosedSender;
 use crate::end::End;
+use crate::ends::ClosedSender;
 use crate::message::Message;
 use crate::output::Out;
 use crate::patience::Patience;
@@ -19,10 +19,11 @@ pub struct Sender<T, F> {
 }
 
 impl<T, F> Model for Sender<T, F> {
-    ghost use Rattle.prolly_link.specs.Rings.{sent_so_far, SentNoEnd};
     ghost use Rattle.prolly_link.specs.Views.{Sending};
 
     ghost Value = { Sending T };
+
+    ghost use Rattle.prolly_link.specs.Rings.{sent_so_far, SentNoEnd};
 
     ghost view = { λ s. sent_so_far s.ring };
 

@@ -69,9 +69,9 @@ fn skip_key<I: In<Record, RunFault>, R: Wait>(
 // Takes the record of the chosen input. The others that have its key move on too.
 fn take<I: In<Record, RunFault>, R: Wait>(
     rt: &R,
+    least: Least,
     inputs: &mut [I],
     heads: &mut [Head],
-    least: Least,
 ) -> Record
     requires inputs { length heads.old ≡ length inputs.old }
     requires least { IsLeast heads.old (Some least) }
@@ -100,7 +100,7 @@ pub(crate) fn next_of_many<I: In<Record, RunFault>, R: Wait>(
         (peeked_of inputs.new heads.new) }
 {
     match choose(heads) {
-        Choice::Take(least) => Step::Send(take(rt, inputs, heads, least)),
+        Choice::Take(least) => Step::Send(take(rt, least, inputs, heads)),
         Choice::Stop(end) => Step::Stop(end),
     }
 }

@@ -1,7 +1,7 @@
 //! Sending through a gate. This stands apart from the fields of `Gated`, so that items leave only
 //! by `send_next`, which requires that the gate was asked.
-ghost use Rattle.std.specs.Prelude.{◌≡◌, ◌∷◌, [], ◌++◌, OnOk, IfErr};
-ghost use Rattle.prolly_stage.specs.Gated.{one_more};
+ghost use Rattle.std.specs.Prelude.{◌≡◌};
+ghost use Rattle.prolly_stage.specs.Gated.{SendsThrough};
 
 use crate::gate::Gate;
 use crate::gated::Gated;
@@ -23,28 +23,14 @@ impl<'a, T, F, G: Gate, O: Out<T, F>> Out<T, F> for Gated<'a, G, O> {
 
     /// Asks the gate, and then sends.
     fn send<R: Wait>(&mut self, rt: &R, item: T) -> Result<(), T>
-        ensures link { O.link self.new.out ≡ O.link self.old.out }
-        ensures ok { OnOk result (O.sent self.new.out ≡ O.sent self.old.out ++ item ∷ []) }
-        ensures err { IfErr result (λ back. (back ≡ item) ×
-            (O.sent self.new.out ≡ O.sent self.old.out)) }
-        ensures asked { G.HasOpened self.old.gate self.old.worker self.old.next }
-        ensures worker { self.new.worker ≡ self.old.worker }
-        ensures gate { self.new.gate ≡ self.old.gate }
-        ensures next { self.new.next ≡ one_more self.old.next }
+        ensures { SendsThrough O.link O.sent G.HasOpened self.old self.new item result }
     {
         self.send_sized(rt, item, 0)
     }
 
     /// Asks the gate, and then sends.
     fn send_sized<R: Wait>(&mut self, rt: &R, item: T, bytes: usize) -> Result<(), T>
-        ensures link { O.link self.new.out ≡ O.link self.old.out }
-        ensures ok { OnOk result (O.sent self.new.out ≡ O.sent self.old.out ++ item ∷ []) }
-        ensures err { IfErr result (λ back. (back ≡ item) ×
-            (O.sent self.new.out ≡ O.sent self.old.out)) }
-        ensures asked { G.HasOpened self.old.gate self.old.worker self.old.next }
-        ensures worker { self.new.worker ≡ self.old.worker }
-        ensures gate { self.new.gate ≡ self.old.gate }
-        ensures next { self.new.next ≡ one_more self.old.next }
+        ensures { SendsThrough O.link O.sent G.HasOpened self.old self.new item result }
     {
         self.ask(rt);
         self.send_next(rt, item, bytes)

@@ -1,12 +1,10 @@
-//! What tests of several libraries share: pairs, bytes, chunk files, a source, and comparisons.
+//! What tests of several libraries put together: pairs, bytes, chunk files, and a source.
 #![tactic(auto)]
 
 mod bytes;
-mod expect;
 mod pairs;
 mod zeros;
 
 pub use bytes::{chunk_file, joined};
-pub use expect::{expect_bytes, expect_length};
 pub use pairs::pairs_of;
 pub use zeros::Zeros;

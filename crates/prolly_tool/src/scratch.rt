@@ -103,14 +103,14 @@ fn tree_of<S: Source>(
 /// The pairs of the record file that a source has left.
 fn pairs_of<S: Source>(alloc: Global, source: &mut S) -> Result<Vec<Pair>, Fault>
     ensures rising { IfOk result (λ pairs. Rising (keys_in pairs.items)) }
+    ensures read { (S.seen source.new).failures ≢ (S.seen source.old).failures →
+        IsErrOf result (Fault.Run (RunFault.Read 0)) }
     ensures ok { (S.seen source.old).is_honest ≡ true →
         IfOk result (λ pairs. HoldsPairs (S.seen source.old).left
         ((S.seen source.new).failures ≢ (S.seen source.old).failures) pairs.items) }
     ensures err { (S.seen source.old).is_honest ≡ true →
         IfErr result (λ fault. IsRecordsFault (S.seen source.old).left
         ((S.seen source.new).failures ≢ (S.seen source.old).failures) fault) }
-    ensures read { (S.seen source.new).failures ≢ (S.seen source.old).failures →
-        IsErrOf result (Fault.Run (RunFault.Read 0)) }
 {
     let input = input_of(alloc, source)?;
     match records(alloc, &input, RECORD_LIMIT) {

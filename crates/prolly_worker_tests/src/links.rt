@@ -141,12 +141,12 @@ fn ends_are_compared_at_any_time(rt: HostRuntime) -> Result<(), Fail> {
 // Also with a batch in hand, and with one that is open.
 #[test]
 fn ends_of_batches_are_compared_at_any_time(rt: HostRuntime) -> Result<(), Fail> {
+    let fault = End::Fault(RunFault::Write);
     let (mut sender, mut receiver) = batch_link(rt.alloc(), 4, 2)?;
     compare_batches(&mut sender, &mut receiver);
     sends(&rt, &mut sender, &[1, 2, 3]);
     receives(&rt, &mut receiver, &[Next::Item(1)]);
     compare_batches(&mut sender, &mut receiver);
-    let fault = End::Fault(RunFault::Write);
     let mut closed = sender.close(&rt, fault);
     compare_closed_batches(&mut closed, &mut receiver);
     receives(
@@ -160,6 +160,14 @@ fn ends_of_batches_are_compared_at_any_time(rt: HostRuntime) -> Result<(), Fail>
     Ok(())
 }
 
+// Fails unless these are the numbers below `count`, in their order.
+fn expect_numbers(rt: &impl Abort, numbers: &[u32], count: u32) {
+    assert_eq!(rt; numbers.len(), count as usize);
+    for i in 0..count {
+        assert_eq!(rt; numbers.get(i as usize).copied(), Some(i));
+    }
+}
+
 // One thread sends by this and another receives.
 #[test]
 fn a_thousand_numbers_go_across(rt: HostRuntime) -> Result<(), Fail> {
@@ -168,14 +176,6 @@ fn a_thousand_numbers_go_across(rt: HostRuntime) -> Result<(), Fail> {
     expect_numbers(&rt, &plain, 1000);
     expect_numbers(&rt, &in_batches, 1000);
     Ok(())
-}
-
-// Fails unless these are the numbers below `count`, in their order.
-fn expect_numbers(rt: &impl Abort, numbers: &[u32], count: u32) {
-    assert_eq!(rt; numbers.len(), count as usize);
-    for i in 0..count {
-        assert_eq!(rt; numbers.get(i as usize).copied(), Some(i));
-    }
 }
 
 // Fails unless four messages of these items are taken, and the sender is ahead from the second one

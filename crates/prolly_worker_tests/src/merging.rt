@@ -1,9 +1,9 @@
 //! The mergers, over lists and over links.
+use crate::expect::expect_bytes;
 use prolly_entry::{Pair, Record};
 use prolly_fault::{ClosedList, End, ListIn, Receiver, RunFault};
 use prolly_link::{ListOut, Out, link};
 use prolly_merge::{merge, merge_two};
-use prolly_test_parts::expect_bytes;
 use std::alloc::{AllocError, Global};
 use std::process::Abort;
 use std::sync::Wait;

@@ -1,13 +1,14 @@
 //! The stages, over lists and over links.
 ghost use Rattle.std.specs.Prelude.{◌≡◌, []};
 
+use crate::expect::expect_bytes;
 use links::leaves_over_links;
 use lists::{leaves_of, two_stages};
 use prolly_entry::{KeyCut, Pair, Sha512Cut, Version};
 use prolly_fault::{BatchReceiver, BatchSender, ClosedList, End, ListIn, Next, RunFault};
 use prolly_link::{ListOut, batch_link, link, receive_rest};
 use prolly_stage::{ChunkEvent, Gated, OpenGate, Staged, Worker, inner_stage, leaf_stage};
-use prolly_test_parts::{expect_bytes, pairs_of};
+use prolly_test_parts::pairs_of;
 use std::alloc::Global;
 use std::process::Abort;
 use std::sync::Wait;

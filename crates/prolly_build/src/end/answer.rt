@@ -17,10 +17,10 @@ ghost use Rattle.prolly_build.specs.Stopped.{IsFileFault, TookBegun};
 
 use crate::config::Config;
 use crate::end::end_record::end_build;
-use crate::links::link::meet;
+use crate::links::meet;
 use crate::report::Report;
-use crate::run::stages::Ran;
-use crate::run::writer::Wrote;
+use crate::run::{Ran, Wrote};
+use prolly_chunk::ChunkEvent;
 use prolly_fault::RunFault;
 use prolly_file::Sink;
 use std::sync::Wait;
@@ -29,7 +29,7 @@ use std::sync::Wait;
 pub(crate) fn finish<R: Wait, W: Sink>(
     rt: &R,
     config: Config,
-    ran: Ran,
+    ran: Ran<ChunkEvent>,
     sink: &mut W,
 ) -> Result<Report, RunFault>
     requires lawful { AreLawful config }

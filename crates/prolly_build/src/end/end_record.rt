@@ -10,7 +10,7 @@ ghost use Rattle.prolly_build.specs.declared.run.written.Written.TheVariants.{Wh
 ghost use Rattle.prolly_build.specs.Writing.{HasWritten, HasEnded, IsEndFault};
 
 use crate::report::Report;
-use crate::run::written::{Begun, Written};
+use crate::run::{Begun, Written};
 use prolly_fault::{End, RunFault};
 use prolly_file::Sink;
 

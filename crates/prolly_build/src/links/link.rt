@@ -5,7 +5,7 @@ ghost use Rattle.prolly_link.specs.declared.progress.Progress.TheVariants.{Open,
 ghost use Rattle.prolly_build.specs.declared.end.halt.Halt.TheVariants.{Lost};
 
 use crate::config::Config;
-use crate::end::halt::Halt;
+use crate::end::Halt;
 use prolly_fault::{BatchReceiver, BatchSender, ClosedBatch};
 use prolly_link::{BatchDrained, LinkFault, batch_link, meet_batches};
 use std::alloc::{AllocError, Global};

@@ -6,31 +6,18 @@ ghost use Rattle.prolly_build.specs.Ran.{HandsOn, IsUnsent, IsUnread};
 ghost use Rattle.prolly_build.specs.Merging.{received_input, sent_input};
 ghost use Rattle.prolly_build.specs.Gathering.{IsGathered};
 
-use crate::end::halt::{Halt, close_all, refuse};
-use crate::links::feed::Feed;
-use crate::links::link::meet;
+use crate::end::{Halt, close_all, refuse};
+use crate::links::{Feed, meet};
 use crate::run::lists::pop_first;
 use crate::run::merger_tree::merge_tree;
-use crate::run::writer::Wrote;
-use crate::start::bounds::{Input, Runtime};
-use crate::start::mergers::{LastEnds, start_last};
-use crate::start::permit::Permit;
-use crate::start::site::Site;
+use crate::run::ran::Ran;
+use crate::start::{Input, LastEnds, Permit, Runtime, Site, start_last};
 use prolly_chunk::ChunkEvent;
 use prolly_entry::{Pair, Record};
 use prolly_fault::{BatchReceiver, BatchSender, ClosedBatch};
 use prolly_file::Sink;
 use prolly_stage::Gate;
 use std::sync::Wait;
-
-/// What the workers up to the last merger gave back: its closed output, how many pairs it sent, and
-/// what the writer gave.
-#[derive(Drop)]
-pub(crate) struct Gathered {
-    pub out: ClosedBatch<Pair>,
-    pub pairs: u64,
-    pub wrote: Wrote,
-}
 
 /// Meets the ends of each link. A receiver may have lost its sender.
 fn meet_all<R: Wait>(
@@ -59,7 +46,7 @@ pub(crate) fn gather<'s, E, R: Runtime, G: Gate, P: Permit, S: Input + 's, W: Si
     sources: &mut Vec<S>,
     last: BatchReceiver<ChunkEvent>,
     sink: &mut W,
-) -> Result<Gathered, Halt>
+) -> Result<Ran<Pair>, Halt>
     requires files { (feed.files ≡ vec_len sources.old) × (vec_len sources.old ≤ 16) }
     requires unsent { out.items ≡ [] }
     requires unread { last.items ≡ [] }
@@ -86,5 +73,5 @@ pub(crate) fn gather<'s, E, R: Runtime, G: Gate, P: Permit, S: Input + 's, W: Si
     let LastEnds { inputs, out, pairs } = handle.join(site.rt);
     let wrote = wrote?;
     meet_all(site.rt, closed, inputs)?;
-    Ok(Gathered { out, pairs, wrote })
+    Ok(Ran { out, pairs, wrote })
 }

@@ -2,13 +2,10 @@
 ghost use Rattle.std.specs.Prelude.{◌≡◌, ◌+◌, ◌<◌, ◌≤◌, [], All, vec_len, vec_capacity, OnOk};
 ghost use Rattle.prolly_build.specs.Ran.{HandsOn, IsUnsent, AreLoaded};
 
-use crate::end::halt::{Halt, close_all, refuse};
+use crate::end::{Halt, close_all, refuse};
 use crate::run::lists::{pop_first, push_first};
 use crate::run::writer::{Wrote, write_all};
-use crate::start::bounds::{Input, Runtime};
-use crate::start::loaders::start_loader;
-use crate::start::permit::Permit;
-use crate::start::site::Site;
+use crate::start::{Input, Permit, Runtime, Site, start_loader};
 use prolly_chunk::ChunkEvent;
 use prolly_entry::Record;
 use prolly_fault::{BatchReceiver, BatchSender, ClosedBatch};

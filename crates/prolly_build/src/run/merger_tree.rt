@@ -3,17 +3,13 @@ ghost use Rattle.std.specs.Prelude.{◌≡◌, ◌+◌, ◌<◌, ◌≤◌, [], 
 ghost use Rattle.prolly_build.specs.Ran.{HandsOn, IsUnsent};
 ghost use Rattle.prolly_build.specs.Feeding.{IsFed};
 
-use crate::end::halt::{Halt, close_all, refuse};
-use crate::links::fork::Fork;
-use crate::links::link::{NewLink, meet};
+use crate::end::{Halt, close_all, refuse};
+use crate::links::{Fork, NewLink, meet};
 use crate::run::lists::{fork_at, join_at};
 use crate::run::loaders::load_all;
 use crate::run::merger_place::place_of_merger;
 use crate::run::writer::Wrote;
-use crate::start::bounds::{Input, Runtime};
-use crate::start::mergers::{TwoEnds, start_two};
-use crate::start::permit::Permit;
-use crate::start::site::Site;
+use crate::start::{Input, Permit, Runtime, Site, TwoEnds, start_two};
 use prolly_chunk::ChunkEvent;
 use prolly_entry::Record;
 use prolly_fault::{BatchReceiver, BatchSender, ClosedBatch};

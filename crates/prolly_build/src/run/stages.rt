@@ -3,29 +3,16 @@ ghost use Rattle.std.specs.Prelude.{◌≡◌, ◌<◌, ◌≤◌, [], vec_len, 
 ghost use Rattle.prolly_build.specs.Ran.{HandsOn};
 ghost use Rattle.prolly_build.specs.Staging.{HasStaged};
 
-use crate::end::halt::{Halt, refuse};
-use crate::links::feed::Feed;
-use crate::links::link::{NewLink, meet};
-use crate::run::last_merger::{Gathered, gather};
-use crate::run::writer::Wrote;
-use crate::start::bounds::{Input, Runtime};
-use crate::start::permit::Permit;
-use crate::start::site::Site;
-use crate::start::stages::{StageEnds, start_leaves, start_nodes};
+use crate::end::{Halt, refuse};
+use crate::links::{Feed, NewLink, meet};
+use crate::run::last_merger::gather;
+use crate::run::ran::Ran;
+use crate::start::{Input, Permit, Runtime, Site, StageEnds, start_leaves, start_nodes};
 use prolly_chunk::ChunkEvent;
 use prolly_entry::Pair;
-use prolly_fault::{BatchReceiver, BatchSender, ClosedBatch};
+use prolly_fault::{BatchReceiver, BatchSender};
 use prolly_file::Sink;
 use prolly_stage::Gate;
-
-/// What the workers up to a stage gave back: its closed output, how many pairs the last merger
-/// sent, and what the writer gave.
-#[derive(Drop)]
-pub(crate) struct Ran {
-    pub out: ClosedBatch<ChunkEvent>,
-    pub pairs: u64,
-    pub wrote: Wrote,
-}
 
 /// Starts the stage of the leaves, then all workers below it, writes, joins it, and meets the link
 /// into it.
@@ -38,7 +25,7 @@ fn run_from_leaves<'s, E, R: Runtime, G: Gate, P: Permit, S: Input + 's, W: Sink
     sources: &mut Vec<S>,
     last: BatchReceiver<ChunkEvent>,
     sink: &mut W,
-) -> Result<Ran, Halt>
+) -> Result<Ran<ChunkEvent>, Halt>
     requires files { (feed.files ≡ vec_len sources.old) × (vec_len sources.old ≤ 16) }
     requires unsent { out.items ≡ [] }
     requires unread { last.items ≡ [] }
@@ -54,7 +41,7 @@ fn run_from_leaves<'s, E, R: Runtime, G: Gate, P: Permit, S: Input + 's, W: Sink
     };
     let gathered = gather(site, feed, sender, sources, last, sink);
     let StageEnds { input, out } = handle.join(site.rt);
-    let Gathered {
+    let Ran {
         out: sent,
         pairs,
         wrote,
@@ -76,7 +63,7 @@ pub(crate) fn run_from_top<'s, E, R: Runtime, G: Gate, P: Permit, S: Input + 's,
     sources: &mut Vec<S>,
     last: BatchReceiver<ChunkEvent>,
     sink: &mut W,
-) -> Result<Ran, Halt>
+) -> Result<Ran<ChunkEvent>, Halt>
     requires levels { vec_len events < 12 }
     requires files { (feed.files ≡ vec_len sources.old) × (vec_len sources.old ≤ 16) }
     requires unsent { out.items ≡ [] }

@@ -4,7 +4,6 @@ ghost use Rattle.prolly_build.specs.Workers.{IsLoadedFrom};
 
 use crate::start::permit::{Permit, permitted};
 use crate::start::site::Site;
-use crate::start::stack::worker_stack;
 use prolly_entry::Record;
 use prolly_fault::{BatchSender, ClosedBatch};
 use prolly_file::Source;
@@ -65,20 +64,16 @@ pub(crate) fn start_loader<'s, E, R: Wait + Sync, G: Gate, P: Permit, S: Source 
     let (rt, alloc, gate) = (site.rt, site.alloc, site.gate);
     let limit = site.config.max_records();
     let out = permitted(rt, site.permit, Worker::Loader(file), out)?;
-    let promise = LoadPromise {
-        file,
-        limit,
-        source: Snapshot::of(&source),
-        out: Snapshot::of(&out),
-    };
-    worker_stack()
-        .spawn_scoped_with(
-            site.scope,
-            promise,
-            move || -> Loaded<S, ClosedBatch<Record>>
-                requires { out.items ≡ [] }
-                ensures { IsLoadedFrom S.seen file limit source out result.source result.out }
-            { run_loader(rt, alloc, gate, file, limit, source, out) },
-        )
-        .ok()
+    site.start(
+        LoadPromise {
+            file,
+            limit,
+            source: Snapshot::of(&source),
+            out: Snapshot::of(&out),
+        },
+        move || -> Loaded<S, ClosedBatch<Record>>
+            requires { out.items ≡ [] }
+            ensures { IsLoadedFrom S.seen file limit source out result.source result.out }
+        { run_loader(rt, alloc, gate, file, limit, source, out) },
+    )
 }

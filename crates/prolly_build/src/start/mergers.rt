@@ -5,7 +5,6 @@ ghost use Rattle.prolly_build.specs.Merging.{IsMergedTwo, IsMerged};
 
 use crate::start::permit::{Permit, permitted};
 use crate::start::site::Site;
-use crate::start::stack::worker_stack;
 use prolly_entry::{Pair, Record};
 use prolly_fault::{BatchReceiver, BatchSender, ClosedBatch};
 use prolly_merge::{Merged, MergedTwo, merge, merge_two};
@@ -76,21 +75,17 @@ pub(crate) fn start_two<'s, E, R: Wait + Sync, G: Gate, P: Permit>(
 {
     let (rt, gate) = (site.rt, site.gate);
     let out = permitted(rt, site.permit, Worker::Merger(number), out)?;
-    let promise = TwoPromise {
-        left: Snapshot::of(&left),
-        right: Snapshot::of(&right),
-        out: Snapshot::of(&out),
-    };
-    worker_stack()
-        .spawn_scoped_with(
-            site.scope,
-            promise,
-            move || -> TwoEnds
-                requires { IsUnread left × IsUnread right × (out.items ≡ []) }
-                ensures { IsMergedTwo left right out result.left result.right result.out }
-            { run_two(rt, gate, number, left, right, out) },
-        )
-        .ok()
+    site.start(
+        TwoPromise {
+            left: Snapshot::of(&left),
+            right: Snapshot::of(&right),
+            out: Snapshot::of(&out),
+        },
+        move || -> TwoEnds
+            requires { IsUnread left × IsUnread right × (out.items ≡ []) }
+            ensures { IsMergedTwo left right out result.left result.right result.out }
+        { run_two(rt, gate, number, left, right, out) },
+    )
 }
 
 /// What the last merger gives back: its ends, and how many pairs it sent.
@@ -146,18 +141,14 @@ pub(crate) fn start_last<'s, E, R: Wait + Sync, G: Gate, P: Permit>(
 {
     let (rt, alloc, gate) = (site.rt, site.alloc, site.gate);
     let out = permitted(rt, site.permit, Worker::Merger(number), out)?;
-    let promise = LastPromise {
-        inputs: Snapshot::of(&inputs),
-        out: Snapshot::of(&out),
-    };
-    worker_stack()
-        .spawn_scoped_with(
-            site.scope,
-            promise,
-            move || -> LastEnds
-                requires { All IsUnread inputs.items × (out.items ≡ []) }
-                ensures { IsMerged inputs.items out result.inputs.items result.out result.pairs }
-            { run_last(rt, alloc, gate, number, inputs, out) },
-        )
-        .ok()
+    site.start(
+        LastPromise {
+            inputs: Snapshot::of(&inputs),
+            out: Snapshot::of(&out),
+        },
+        move || -> LastEnds
+            requires { All IsUnread inputs.items × (out.items ≡ []) }
+            ensures { IsMerged inputs.items out result.inputs.items result.out result.pairs }
+        { run_last(rt, alloc, gate, number, inputs, out) },
+    )
 }

@@ -7,7 +7,6 @@ ghost use Rattle.prolly_build.specs.Workers.{IsStaged};
 
 use crate::start::permit::{Permit, permitted};
 use crate::start::site::Site;
-use crate::start::stack::worker_stack;
 use prolly_chunk::ChunkEvent;
 use prolly_entry::{Pair, Sha512Cut, Version};
 use prolly_fault::{BatchReceiver, BatchSender, ClosedBatch};
@@ -75,22 +74,18 @@ pub(crate) fn start_leaves<'s, E, R: Wait + Sync, G: Gate, P: Permit>(
     let (rt, alloc, gate) = (site.rt, site.alloc, site.gate);
     let cut = site.config.cut();
     let out = permitted(rt, site.permit, Worker::Stage(0), out)?;
-    let promise = LeafPromise {
-        cut,
-        input: Snapshot::of(&input),
-        out: Snapshot::of(&out),
-    };
-    worker_stack()
-        .spawn_scoped_with(
-            site.scope,
-            promise,
-            move || -> StageEnds<Pair>
-                requires { (input.items ≡ []) × (out.items ≡ []) }
-                ensures { (version : VersionValue) → IsStaged (leaf_events (sha512_cut cut) version)
-                    input out result.input result.out }
-            { run_leaves(rt, alloc, gate, cut, input, out) },
-        )
-        .ok()
+    site.start(
+        LeafPromise {
+            cut,
+            input: Snapshot::of(&input),
+            out: Snapshot::of(&out),
+        },
+        move || -> StageEnds<Pair>
+            requires { (input.items ≡ []) × (out.items ≡ []) }
+            ensures { (version : VersionValue) → IsStaged (leaf_events (sha512_cut cut) version)
+                input out result.input result.out }
+        { run_leaves(rt, alloc, gate, cut, input, out) },
+    )
 }
 
 /// What a stage of nodes promises.
@@ -153,22 +148,18 @@ pub(crate) fn start_nodes<'s, E, R: Wait + Sync, G: Gate, P: Permit>(
     let cut = site.config.cut();
     let version = site.config.version();
     let out = permitted(rt, site.permit, Worker::Stage(u32::from(level)), out)?;
-    let promise = NodesPromise {
-        level,
-        cut,
-        version,
-        input: Snapshot::of(&input),
-        out: Snapshot::of(&out),
-    };
-    worker_stack()
-        .spawn_scoped_with(
-            site.scope,
-            promise,
-            move || -> StageEnds<ChunkEvent>
-                requires { (1 ≤ level) × (input.items ≡ []) × (out.items ≡ []) }
-                ensures { IsStaged (inner_events level (sha512_cut cut) version)
-                    input out result.input result.out }
-            { run_nodes(rt, alloc, gate, level, cut, version, input, out) },
-        )
-        .ok()
+    site.start(
+        NodesPromise {
+            level,
+            cut,
+            version,
+            input: Snapshot::of(&input),
+            out: Snapshot::of(&out),
+        },
+        move || -> StageEnds<ChunkEvent>
+            requires { (1 ≤ level) × (input.items ≡ []) × (out.items ≡ []) }
+            ensures { IsStaged (inner_events level (sha512_cut cut) version)
+                input out result.input result.out }
+        { run_nodes(rt, alloc, gate, level, cut, version, input, out) },
+    )
 }

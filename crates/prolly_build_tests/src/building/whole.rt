@@ -6,7 +6,7 @@ use super::*;
 use prolly_fault::RunFault;
 use prolly_file::{FromRead, ToWrite};
 use prolly_stage::OpenGate;
-use prolly_test_parts::{chunk_file, expect_length, joined};
+use prolly_test_parts::{chunk_file, joined};
 
 const FIVE: &[u8] = b"a1b1c1d1e1";
 
@@ -31,7 +31,7 @@ const WHOLE_FILES: [(&[&[u8]], &[u8], usize, (u64, u64, u8)); 12] = [
 fn links_of_any_size_give_the_same(rt: HostRuntime) -> Result<(), Fail> {
     for (files, map, length, numbers) in WHOLE_FILES {
         let file = file_of(rt.alloc(), map)?;
-        expect_length(&rt, &file, length);
+        assert!(rt; file.len() == length);
         for (capacity, batch) in [(4, 1), (1, 1), (1, 2), (1, 3), (1, 1_024)] {
             let config = Config::new(0, 12, capacity, 1_000)?.with_batch(batch)?;
             let report = expect_file(&rt, rt.alloc(), &config, &OpenGate, files, &file)?;
@@ -61,7 +61,7 @@ fn version_two_is_longer(rt: HostRuntime) -> Result<(), Fail> {
     for (map, stages, fault, taken) in VERSION_TWO {
         let mut begun = file_cut(rt.alloc(), 0, Version::Two, map)?;
         begun.truncate(taken);
-        expect_length(&rt, &begun, taken);
+        assert!(rt; begun.len() == taken);
         assert_eq!(rt; begun.get(4), Some(&2));
         let config = settings(stages)?.with_version(2)?;
         let sources = sources_of(rt.alloc(), &[map])?;
@@ -104,7 +104,7 @@ fn readers_and_writers_of_std_serve(rt: HostRuntime) -> Result<(), Fail> {
     let config = settings(12)?;
     let built = build(&rt, rt.alloc(), &config, &mut sources, &mut sink, &OpenGate);
     assert_eq!(rt; built.err(), None);
-    expect_length(&rt, &out, 234);
+    assert!(rt; out.len() == 234);
     expect_bytes(&rt, &out, &file_of(rt.alloc(), b"a1b1c1")?);
     Ok(())
 }
@@ -125,7 +125,7 @@ fn the_longest_keys_and_values_are_built(rt: HostRuntime) -> Result<(), Fail> {
         )?;
         let leaf = joined(alloc, &[b"\0", &record])?;
         let file = chunk_file(alloc, [1, 0], &[&leaf])?;
-        expect_length(&rt, &file, length);
+        assert!(rt; file.len() == length);
         let sources = source_of(alloc, &record, 4_096, None)?;
         let sink = ScriptSink::new(alloc, 65_536, None);
         expect_taken(&rt, alloc, &settings(12)?, sources, sink, None, &file);

@@ -1,7 +1,7 @@
 //! What `pack` answers.
 use super::expect_answer;
+use crate::expect::expect_bytes;
 use prolly_file::{FromRead, ScriptSink};
-use prolly_test_parts::expect_bytes;
 use prolly_tool::answer_pack;
 use std::test::Fail;
 

@@ -1,5 +1,6 @@
 //! Lines of text, as they are packed.
-use prolly_test_parts::{expect_bytes, joined};
+use crate::expect::expect_bytes;
+use prolly_test_parts::joined;
 use prolly_tool::{PackFault, pack_lines};
 use std::alloc::Global;
 use std::test::Fail;

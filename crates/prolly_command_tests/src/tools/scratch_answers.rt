@@ -1,8 +1,8 @@
 //! What `scratch` answers.
 use super::expect_answer;
+use crate::expect::expect_bytes;
 use prolly_entry::Version;
 use prolly_file::{FromRead, ScriptSink, ScriptSource};
-use prolly_test_parts::expect_bytes;
 use prolly_tool::answer_scratch;
 use std::test::Fail;
 

@@ -1,10 +1,11 @@
 //! Files that are accepted, and sources.
 
 use super::{FILE_OF_NONE, LEAF_OF_A, LEAF_OF_B, checked, file_of_three, file_with};
+use crate::expect::expect_bytes;
 use prolly_check::{CheckFault, check};
 use prolly_entry::{Ref, Version};
 use prolly_file::{FromRead, ScriptSource, Source};
-use prolly_test_parts::{Zeros, expect_bytes, expect_length, joined};
+use prolly_test_parts::{Zeros, joined};
 use std::alloc::Global;
 use std::process::Abort;
 use std::test::Fail;
@@ -12,7 +13,7 @@ use std::test::Fail;
 #[test]
 fn accepts_a_file(rt: HostRuntime) -> Result<(), Fail> {
     let file = file_of_three(rt.alloc(), Version::One)?;
-    expect_length(&rt, &file, 234);
+    assert!(rt; file.len() == 234);
     let tree = checked(rt.alloc(), &file)?;
     assert_eq!(rt;
         (tree.bits(), tree.chunks(), tree.version()),
@@ -29,7 +30,7 @@ fn accepts_a_file_that_was_not_built_here(rt: HostRuntime) -> Result<(), Fail> {
     let parts = [b"\x01\0\x01a".as_slice(), &first.0, b"\0\x01b", &second.0];
     let node = joined(rt.alloc(), &parts)?;
     let file = file_with(rt.alloc(), &[LEAF_OF_A, LEAF_OF_B, &node])?;
-    expect_length(&rt, &file, 127);
+    assert!(rt; file.len() == 127);
     let tree = checked(rt.alloc(), &file)?;
     assert_eq!(rt; (tree.chunks(), tree.root()), (3, Ref::of(&node)));
     Ok(())

@@ -3,7 +3,7 @@
 use super::{FILE_OF_NONE, LEAF_OF_A, LEAF_OF_B, expect_fault, file_of_three, file_with};
 use prolly_check::CheckFault;
 use prolly_entry::Version;
-use prolly_test_parts::{expect_length, joined};
+use prolly_test_parts::joined;
 use std::alloc::Global;
 use std::process::Abort;
 use std::test::Fail;
@@ -45,7 +45,7 @@ fn expect_not_canonical(
 #[test]
 fn refuses_a_leaf_too_many(rt: HostRuntime) -> Result<(), Fail> {
     let file = file_of_three(rt.alloc(), Version::One)?;
-    expect_length(&rt, &file, 234);
+    assert!(rt; file.len() == 234);
     let leaf_of_none = &FILE_OF_NONE[6..16];
     expect_not_canonical(
         &rt,
@@ -58,7 +58,7 @@ fn refuses_a_leaf_too_many(rt: HostRuntime) -> Result<(), Fail> {
 #[test]
 fn refuses_a_node_before_its_child(rt: HostRuntime) -> Result<(), Fail> {
     let file = file_of_three(rt.alloc(), Version::One)?;
-    expect_length(&rt, &file, 234);
+    assert!(rt; file.len() == 234);
     let parts = [&file[..24], &file[42..98], &file[24..42], &file[98..]];
     expect_not_canonical(&rt, rt.alloc(), &parts, 1)
 }

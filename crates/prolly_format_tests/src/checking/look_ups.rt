@@ -1,9 +1,9 @@
 //! Values by their keys, and ranges of pairs.
 
 use super::{checked, file_of_three};
+use crate::expect::expect_bytes;
 use prolly_check::Tree;
 use prolly_entry::Version;
-use prolly_test_parts::expect_bytes;
 use std::alloc::Global;
 use std::process::Abort;
 use std::test::Fail;

@@ -1,6 +1,6 @@
 //! Pairs, and their copies.
+use crate::expect::expect_bytes;
 use prolly_entry::{Pair, VALUE_LIMIT};
-use prolly_test_parts::expect_bytes;
 use std::test::Fail;
 
 #[test]

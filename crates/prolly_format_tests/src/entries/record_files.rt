@@ -1,6 +1,6 @@
 //! Record files, as they are read.
+use crate::expect::expect_bytes;
 use prolly_entry::{RecordFault, records};
-use prolly_test_parts::expect_bytes;
 use std::alloc::Global;
 use std::process::Abort;
 use std::test::Fail;

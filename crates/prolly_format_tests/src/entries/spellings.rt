@@ -1,8 +1,8 @@
 //! Entries, as they are spelled.
+use crate::expect::expect_bytes;
 use prolly_entry::{
     Pair, Record, Ref, Version, append_child, append_child_as, append_pair, append_record,
 };
-use prolly_test_parts::{expect_bytes, expect_length};
 use std::test::Fail;
 
 const REFERENCE: Ref = Ref([
@@ -37,11 +37,11 @@ fn appends_records(rt: HostRuntime) -> Result<(), Fail> {
 fn appends_child_entries(rt: HostRuntime) -> Result<(), Fail> {
     let mut out = Vec::new(rt.alloc());
     append_child(&mut out, b"a", &REFERENCE)?;
-    expect_length(&rt, &out, 23);
+    assert!(rt; out.len() == 23);
     expect_bytes(&rt, &out[..3], b"\0\x01a");
     expect_bytes(&rt, &out[3..], &REFERENCE.0);
     append_child_as(&mut out, Version::Two, b"a", &REFERENCE, 1)?;
-    expect_length(&rt, &out, 54);
+    assert!(rt; out.len() == 54);
     expect_bytes(&rt, &out[46..], b"\0\0\0\0\0\0\0\x01");
     Ok(())
 }

@@ -1,7 +1,7 @@
 //! A sink that gathers small writes.
 use super::{flushes, writes};
+use crate::expect::expect_bytes;
 use prolly_file::{Buffered, ScriptSink, SinkFault};
-use prolly_test_parts::expect_bytes;
 use std::alloc::{AllocError, Global};
 use std::test::Fail;
 

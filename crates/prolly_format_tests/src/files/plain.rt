@@ -1,7 +1,8 @@
 //! The plain builder.
+use crate::expect::expect_bytes;
 use prolly_entry::{Cut, KeyCut, Ref, Sha512Cut, Version};
 use prolly_file::{ScratchFault, scratch, scratch_as};
-use prolly_test_parts::{chunk_file, expect_bytes, expect_length, pairs_of};
+use prolly_test_parts::{chunk_file, pairs_of};
 use std::alloc::Global;
 use std::process::Abort;
 use std::test::Fail;
@@ -60,7 +61,7 @@ fn expect(
     head: [u8; 2],
     chunks: &[&[u8]],
 ) -> Result<(), Fail> {
-    expect_length(rt, &made, length);
+    assert!(rt; made.len() == length);
     expect_bytes(rt, &made, &chunk_file(alloc, head, chunks)?);
     Ok(())
 }

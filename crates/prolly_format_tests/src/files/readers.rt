@@ -1,7 +1,7 @@
 //! A reader of std as a source.
 use super::reads;
+use crate::expect::expect_bytes;
 use prolly_file::{FromRead, SourceFault};
-use prolly_test_parts::expect_bytes;
 use std::io;
 use std::io::{ErrorKind, Read};
 

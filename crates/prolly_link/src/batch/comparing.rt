@@ -2,11 +2,10 @@
 ghost use Rattle.std.specs.Prelude.{◌≡◌};
 ghost use Rattle.prolly_link.specs.Passing.{IsBesideOpen, IsBesideClosed};
 
-use crate::batch::closed::ClosedBatch;
+use crate::batch::ends::ClosedBatch;
 use crate::batch::receiver::BatchReceiver;
 use crate::batch::sender::BatchSender;
-use crate::closed_comparing::compare_closed;
-use crate::comparing::compare;
+use crate::comparing::{compare, compare_closed};
 
 /// Shows that what was received begins what was sent, where both ends are in one thread. Received
 /// are the items that `recv` gave, without the rest of the batch in hand; sent are those given to

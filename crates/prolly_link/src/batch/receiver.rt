@@ -5,8 +5,8 @@ ghost use Rattle.prolly_link.specs.Hands.{given_of, IsInHand};
 ghost use Rattle.prolly_link.specs.Receipts.{given_items, progress_after, GivesAgain};
 
 use crate::batch::Batch;
-use crate::batch::drained::{BatchDrained, EndedBatch, LostBatch};
-use crate::drained::Drained;
+use crate::batch::ends::{BatchDrained, EndedBatch, LostBatch};
+use crate::ends::Drained;
 use crate::in_flight::InFlight;
 use crate::input::In;
 use crate::next::Next;

@@ -3,7 +3,7 @@ ghost use Rattle.std.specs.Prelude.{◌≡◌, ◌<◌, ◌≤◌, ◌+◌, [], 
 ghost use Rattle.prolly_link.specs.Batches.{items_of};
 
 use crate::batch::Batch;
-use crate::batch::closed::ClosedBatch;
+use crate::batch::ends::ClosedBatch;
 use crate::end::End;
 use crate::in_flight::{InFlight, LARGE_BATCH_BYTES};
 use crate::output::Out;

@@ -93,16 +93,6 @@ fn a_large_item_does_not_wait_for_its_batch(rt: HostRuntime) -> Result<(), Fail>
     Ok(())
 }
 
-// So it is lost with its sender, where that is dropped before the batch is full.
-#[test]
-fn a_small_item_waits_for_its_batch(rt: HostRuntime) -> Result<(), Fail> {
-    let (mut sender, mut receiver) = batch_link(rt.alloc(), 4, 2)?;
-    sends_sized(&rt, &mut sender, 7, LARGE - 1);
-    drop(sender);
-    receives(&rt, &mut receiver, &[Next::Lost]);
-    Ok(())
-}
-
 // The bytes of a batch are counted together.
 #[test]
 fn items_that_are_large_together_do_not_wait_for_their_batch(rt: HostRuntime) -> Result<(), Fail> {
@@ -110,6 +100,16 @@ fn items_that_are_large_together_do_not_wait_for_their_batch(rt: HostRuntime) ->
     sends_sized(&rt, &mut sender, 7, LARGE - 1);
     sends_sized(&rt, &mut sender, 8, 1);
     receives(&rt, &mut receiver, &[Next::Item(7), Next::Item(8)]);
+    Ok(())
+}
+
+// A small one is lost with its sender, where that is dropped before the batch is full.
+#[test]
+fn a_small_item_waits_for_its_batch(rt: HostRuntime) -> Result<(), Fail> {
+    let (mut sender, mut receiver) = batch_link(rt.alloc(), 4, 2)?;
+    sends_sized(&rt, &mut sender, 7, LARGE - 1);
+    drop(sender);
+    receives(&rt, &mut receiver, &[Next::Lost]);
     Ok(())
 }
 

@@ -53,15 +53,15 @@ pub(super) struct Counted<'a, O> {
 impl<'a, T, F, O: Out<T, F>> Out<T, F> for Counted<'a, O> {
     type Closed = O::Closed;
 
-    ghost link = { λ c. O.link c.out };
-
-    ghost sent = { λ c. O.sent c.out };
-
     ghost closed_link = { O.closed_link };
 
     ghost all_sent = { O.all_sent };
 
     ghost end_sent = { O.end_sent };
+
+    ghost link = { λ c. O.link c.out };
+
+    ghost sent = { λ c. O.sent c.out };
 
     fn send<R: Wait>(&mut self, rt: &R, item: T) -> Result<(), T> {
         let sent = self.out.send(rt, item);

@@ -28,7 +28,7 @@ loop-key_end-preserved c = elim c.match-next_record.branch [
       goes_on c.args.bytes.now c.args.limit c.loop-key_end.rest.now c.match-next_record.rest.now c.loop-key_end.count
       (option_copied c.loop-key_end.last_key) (option_copied c.match-next_record.last_key) c.loop-key_end.pairs.items c.match-next_record.pairs.items
       (put_at c.loop-key_end.rest.now w.in-Put.key_end w.in-Put.value_start w.in-Put.len) w.in-Put.len
-      c.loop-key_end.invariant w.in-Put.ensures.0 (ap (λ v. v.items) w.pairs-is ∙ w.in_ok-push_copy-in-Put.ensures)
+      c.loop-key_end.invariant w.in-Put.ensures.0 (ap (λ v. v.items) w.pairs-is ∙ w.in_ok-push_copy-in-Put.ensures.added)
       (ap (λ r. r.now) w.rest-is ∙ rest_is c.loop-key_end.rest.now w.in-Put.len) (ap option_copied w.last_key-is)
   | in-Remove w ↦
       goes_on c.args.bytes.now c.args.limit c.loop-key_end.rest.now c.match-next_record.rest.now c.loop-key_end.count

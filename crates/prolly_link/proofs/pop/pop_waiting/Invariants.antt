@@ -4,4 +4,5 @@ use Rattle.prolly_link.specs.Identity.{consumer_link}
 use Rattle.prolly_link.proofs.pop.pop_waiting.Given as goal
 
 abbrev pub invariant-loop : goal.invariant-loop
-invariant-loop g l = (consumer_link l.ring ≡ consumer_link l.initial.ring) × (popped l.ring ≡ popped l.initial.ring)
+invariant-loop g l = (consumer_link l.ring ≡ consumer_link l.initial.ring) ×
+    (popped l.ring ≡ popped l.initial.ring)

@@ -14,6 +14,8 @@ loop-preserved-in-Item g c =
     let before = c.loop.receiver in
     let after = c.recv.new.self in (
       c.in-Item.ensures.link ∙ c.loop.invariant.0,
-      drains_item c.args.self.progress before.progress after.progress c.args.self.items before.items after.items c.in-Item.field-0
-          c.loop.invariant.1 c.in-Item.ensures.again c.in-Item.ensures.progress c.in-Item.ensures.items,
+      drains_item c.args.self.progress before.progress after.progress c.args.self.items before.items
+          after.items c.in-Item.field-0
+          c.loop.invariant.1 c.in-Item.ensures.again c.in-Item.ensures.progress
+              c.in-Item.ensures.items,
     )

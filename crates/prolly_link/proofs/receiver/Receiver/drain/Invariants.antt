@@ -3,4 +3,5 @@ use Rattle.prolly_link.specs.Draining.{Drains}
 use Rattle.prolly_link.proofs.receiver.Receiver.drain.Given as goal
 
 abbrev pub invariant-loop : goal.invariant-loop
-invariant-loop g l = (l.receiver.link ≡ l.fn.self.link) × Drains l.fn.self.progress l.fn.self.items l.receiver.progress l.receiver.items
+invariant-loop g l = (l.receiver.link ≡ l.fn.self.link) × Drains l.fn.self.progress l.fn.self.items
+    l.receiver.progress l.receiver.items

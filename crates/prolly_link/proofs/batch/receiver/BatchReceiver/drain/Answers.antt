@@ -9,7 +9,8 @@ returns-in-Ended g c =
     let ended = c.in-Ended.receiver in
     rw (← c.self.view_is) (
       c.in-Ended.ensures.0,
-      drained_batches c.self.inside.receiver (Ended ended.end) ended.items hand.items (deque_len hand) c.self.invariant c.in-Ended.ensures.1,
+      drained_batches c.self.inside.receiver (Ended ended.end) ended.items hand.items
+          (deque_len hand) c.self.invariant c.in-Ended.ensures.1,
     )
 
 pub returns : goal.returns
@@ -18,5 +19,6 @@ returns g c =
     let lost = c.in-Lost.receiver in
     rw (← c.self.view_is) (
       c.in-Lost.ensures.0,
-      drained_batches c.self.inside.receiver Lost lost.items hand.items (deque_len hand) c.self.invariant c.in-Lost.ensures.1,
+      drained_batches c.self.inside.receiver Lost lost.items hand.items (deque_len hand)
+          c.self.invariant c.in-Lost.ensures.1,
     )

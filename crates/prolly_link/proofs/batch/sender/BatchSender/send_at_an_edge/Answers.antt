@@ -2,7 +2,8 @@ use Rattle.std.proofs.lemmas.Grind.{common_steps}
 use Rattle.std.proofs.Common.{arith, rules}
 use Rattle.prolly_link.proofs.batch.sender.BatchSender.send_at_an_edge.Goals as goal
 
-pub returns-then-bytes-lt-LARGE_BATCH_BYTES-clause-ok : goal.returns-then-bytes-lt-LARGE_BATCH_BYTES-clause-ok
+pub returns-then-bytes-lt-LARGE_BATCH_BYTES-clause-ok
+    : goal.returns-then-bytes-lt-LARGE_BATCH_BYTES-clause-ok
 returns-then-bytes-lt-LARGE_BATCH_BYTES-clause-ok g c = grind (arith, common_steps) steps 2000000
 
 pub returns-in-Err-clause-ok : goal.returns-in-Err-clause-ok

@@ -1,7 +1,25 @@
-//! What is left of a receiver of batches that has given all that it can.
+//! The ends of a batch link that are through: a sender that has sent the end, what is left of a
+//! receiver that has given all that it can, and the two where they met.
 use crate::batch::Batch;
-use crate::drained::{EndedReceiver, LostReceiver};
+use crate::ends::{ClosedSender, EndedReceiver, LostReceiver, Met};
 use std::marker::Model;
+
+/// The sending end of a batch link, once it has sent the end. Contracts see its link, all items and
+/// the end.
+#[derive(Drop)]
+pub struct ClosedBatch<T, F> {
+    pub(crate) sender: ClosedSender<Batch<T>, F>,
+}
+
+impl<T, F> Model for ClosedBatch<T, F> {
+    ghost use Rattle.prolly_link.specs.Views.{Whole};
+
+    ghost Value = { Whole T F };
+
+    ghost use Rattle.prolly_link.specs.Batches.{unbatched};
+
+    ghost view = { λ s. unbatched s.sender };
+}
 
 /// The receiving end of a batch link, once it has given the end. Contracts see its link, all items
 /// and the end.
@@ -42,4 +60,21 @@ impl<T, F> Model for LostBatch<T, F> {
 pub enum BatchDrained<T, F> {
     Ended(EndedBatch<T, F>),
     Lost(LostBatch<T, F>),
+}
+
+/// The two ends of a batch link, of which one received all that the other sent. Contracts see the
+/// link, its items and its end.
+#[derive(Drop)]
+pub struct MetBatch<T, F> {
+    pub(crate) met: Met<Batch<T>, F>,
+}
+
+impl<T, F> Model for MetBatch<T, F> {
+    ghost use Rattle.prolly_link.specs.Views.{Whole};
+
+    ghost Value = { Whole T F };
+
+    ghost use Rattle.prolly_link.specs.Batches.{unbatched};
+
+    ghost view = { λ m. unbatched m.met };
 }

@@ -1,7 +1,25 @@
-//! What is left of a receiver that has given all that it can.
+//! The ends of a link that are through: a sender that has sent the end, what is left of a receiver
+//! that has given all that it can, and the two where they met.
 use crate::message::Message;
-use rtrb::Consumer;
+use rtrb::{Consumer, Producer};
 use std::marker::Model;
+
+/// The sending end of a link, once it has sent the end. Contracts see that end too.
+#[derive(Drop)]
+pub struct ClosedSender<T, F> {
+    pub(crate) ring: Producer<Message<T, F>>,
+}
+
+impl<T, F> Model for ClosedSender<T, F> {
+    ghost use Rattle.prolly_link.specs.Rings.{whole_sent, SentEnd};
+    ghost use Rattle.prolly_link.specs.Views.{Whole};
+
+    ghost Value = { Whole T F };
+
+    ghost view = { λ s. whole_sent s.ring };
+
+    ghost invariant = { λ s. SentEnd s.ring };
+}
 
 /// The receiving end of a link, once it has given the end. Contracts see its link, all items of the
 /// link, and the end.
@@ -44,4 +62,20 @@ impl<T, F> Model for LostReceiver<T, F> {
 pub enum Drained<T, F> {
     Ended(EndedReceiver<T, F>),
     Lost(LostReceiver<T, F>),
+}
+
+/// The two ends of a link, of which one received all that the other sent. Contracts see the link,
+/// its items and its end.
+#[derive(Drop)]
+pub struct Met<T, F> {
+    pub(crate) sender: ClosedSender<T, F>,
+    pub(crate) receiver: EndedReceiver<T, F>,
+}
+
+impl<T, F> Model for Met<T, F> {
+    ghost use Rattle.prolly_link.specs.Views.{Whole};
+
+    ghost Value = { Whole T F };
+
+    ghost view = { λ m. m.receiver };
 }
