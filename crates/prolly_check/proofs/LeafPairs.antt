@@ -7,6 +7,7 @@ use Rattle.prolly_entry.specs.Pair.{Pair, IsPair}
 use Rattle.prolly_entry.specs.Reading.{key_length, value_length}
 use Rattle.prolly_entry.specs.Spelling.{key_spelling, pair_spelling}
 use Rattle.prolly_entry.specs.lemmas.Spellings.{numbers, key_size, pair_spellings_apart}
+use Rattle.prolly_tree.specs.RecordFile.{record_file}
 use Rattle.prolly_check.specs.Entries.{NoLeaf, IsLeaf, BeginsWith, entries_in, first_pair, behind_pair, pairs_in}
 use Rattle.prolly_check.specs.Whole.{IsSomeLeaf}
 use Rattle.prolly_check.proofs.EntryLists.{AreEntries, AreApart, one_more, one_less, nothing_left, rest_is_none, Shrinks, Reads, reads_on, reads_all, drop_front}
@@ -77,3 +78,7 @@ next_pair entries p rest b = reads_on first_pair behind_pair pair_shrinks entrie
 pub no_next : (entries : List ℕ) → NoPairAt entries → IsSomeLeaf entries → pairs_in entries ≡ []
 unfolding pairs_in
 no_next entries none l = ap (entries_in first_pair behind_pair) (leaf_left entries none l)
+
+-- the bytes of a leaf's entries are the spellings of its pairs
+pub leaf_spelled : (entries : List ℕ) → IsSomeLeaf entries → entries ≡ record_file (pairs_in entries)
+leaf_spelled entries l = l.is.is ∙ ap record_file (sym (leaf_pairs entries l.pairs l.is))

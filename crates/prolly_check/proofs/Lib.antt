@@ -44,6 +44,8 @@ pub mod LeafSteps
 pub mod CountSteps
 -- Scanning pairs from a key on, in a leaf and over chunks.
 pub mod Scans
+-- The pairs of chunks, written one chunk after another.
+pub mod Dumps
 -- Events that pass levels of nodes, and the chunks of a file.
 pub mod Rebuilds
 -- Rebuilding the chunks of pairs.

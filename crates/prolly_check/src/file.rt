@@ -76,7 +76,8 @@ impl<'a> CheckedFile<'a> {
 
     /// The number of chunks.
     pub(crate) fn len(&self) -> usize
-        ensures { result ≡ length (chunks_of self.now) }
+        ensures count { result ≡ length (chunks_of self.now) }
+        ensures file { HasFile self.now }
     {
         self.spans.len()
     }

@@ -4,6 +4,7 @@ ghost use Rattle.std.specs.Prelude.{IfSome, IfNone, MatchOption};
 ghost use Rattle.prolly_entry.specs.Front.{NoPairAt};
 ghost use Rattle.prolly_entry.specs.Pair.{Pair as PairValue, IsPair};
 ghost use Rattle.prolly_entry.specs.Spelling.{pair_spelling};
+ghost use Rattle.prolly_tree.specs.RecordFile.{record_file};
 ghost use Rattle.prolly_check.specs.Entries.{IsLeaf, BeginsWith, pairs_in};
 ghost use Rattle.prolly_check.specs.Whole.{IsSomeLeaf};
 
@@ -85,5 +86,12 @@ impl<'a> Pairs<'a> {
         let (key, value, rest) = split_pair(self.entries)?;
         self.entries = rest;
         Some((key, value))
+    }
+
+    /// The spellings of the pairs, as they lie in the leaf's bytes.
+    pub(crate) fn spellings(&self) -> &'a [u8]
+        ensures { result.now ≡ record_file self.now }
+    {
+        self.entries
     }
 }

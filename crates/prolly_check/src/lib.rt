@@ -3,6 +3,7 @@
 
 mod canonical;
 mod checker;
+mod dump;
 mod ending;
 mod entries;
 mod fault;

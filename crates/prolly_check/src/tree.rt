@@ -5,12 +5,15 @@ ghost use Rattle.prolly_tree.specs.Chunk.{chunks};
 ghost use Rattle.prolly_entry.specs.Cut.{sha512_cut};
 ghost use Rattle.prolly_tree.specs.File.{root_reference};
 ghost use Rattle.prolly_tree.specs.LookUp.{find, nth, scan};
+ghost use Rattle.prolly_tree.specs.RecordFile.{record_file};
+ghost use Rattle.prolly_file.specs.Writes.{Writes};
 ghost use Rattle.prolly_check.specs.Checked.{IsChecked, IsFile};
 ghost use Rattle.prolly_check.specs.Content.{Content};
 ghost use Rattle.prolly_check.specs.Counted.{pair_of};
 ghost use Rattle.prolly_check.specs.Refusal.{UnlessMemory};
 ghost use Rattle.prolly_check.specs.Verdict.{IsVerdict, IsFileOf};
 
+use crate::dump::write_records;
 use crate::fault::CheckFault;
 use crate::file::CheckedFile;
 use crate::find::find_value;
@@ -20,6 +23,7 @@ use crate::inspect::{Layout, inspect};
 use crate::nth::find_nth;
 use crate::scan::scan_pairs;
 use prolly_entry::{Pair, Ref, Version};
+use prolly_file::{Sink, WriteFault};
 use std::alloc::{AllocError, Global};
 use std::marker::Model;
 
@@ -132,6 +136,18 @@ impl Tree {
             Version::One => Err(NoCounts),
             Version::Two => Ok(find_nth(&file, n)),
         }
+    }
+
+    /// Writes the pairs of the map to a sink, as a record file, and flushes the sink.
+    ///
+    /// Takes no memory, and makes one call of the sink for each leaf, or more where the sink takes
+    /// only a part. After a `WriteFault` the sink has a part of the record file. Where that ends
+    /// between two records, no reader can tell that more was to follow.
+    pub fn write_records<W: Sink>(&self, sink: &mut W) -> Result<(), WriteFault>
+        ensures { (content : Content) → IsFileOf self.now content →
+            Writes (record_file content.pairs) (W.seen sink.old) (W.seen sink.new) result }
+    {
+        write_records(&self.file(), sink)
     }
 
     /// The version of the file.

@@ -12,6 +12,8 @@ pub mod Source
 pub mod FromRead
 -- What a contract sees of a sink, and what a write does to the bytes that it took.
 pub mod Sink
+-- What comes of writing bytes to a sink.
+pub mod Writes
 -- What a clause reads of a `ToWrite`.
 pub mod ToWrite
 -- What a clause reads of a `Buffered`.

@@ -27,4 +27,4 @@ pub use sink::{Sink, SinkFault};
 pub use source::{Source, SourceFault};
 pub use to_write::ToWrite;
 pub use whole::{WholeFault, read_whole};
-pub use writer::{FileWriter, WriteFault, write_whole};
+pub use writer::{FileWriter, WriteFault, write_all, write_whole};

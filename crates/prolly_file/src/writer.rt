@@ -4,6 +4,7 @@ ghost use Rattle.prolly_entry.specs.declared.version.Version.TheVariants.{One};
 ghost use Rattle.prolly_tree.specs.Events.{greatest_count};
 ghost use Rattle.prolly_tree.specs.File.{header, end_record};
 ghost use Rattle.prolly_file.specs.Writer.{Begins, next_count};
+ghost use Rattle.prolly_file.specs.Writes.{Writes};
 ghost use Rattle.prolly_file.specs.Failures.{CountsFailure};
 ghost use Rattle.prolly_file.specs.Frame.{framed};
 ghost use Rattle.prolly_file.specs.Sink.{TakesPrefix};
@@ -154,29 +155,16 @@ pub fn write_whole<W: Sink>(sink: &mut W, bytes: &[u8]) -> Result<(), WriteFault
 
 /// Writes the frame of a chunk, its start and then its bytes.
 fn write_frame<W: Sink>(sink: &mut W, bytes: &[u8]) -> Result<(), WriteFault>
-    ensures written { (W.seen sink.old).is_keeping ≡ true →
-        OnOk result ((W.seen sink.new).taken ≡ (W.seen sink.old).taken ++ framed bytes.now) }
-    ensures part { (W.seen sink.old).is_keeping ≡ true →
-        OnErr result (TakesPrefix ((W.seen sink.old).taken) ((W.seen sink.new).taken)
-        (framed bytes.now)) }
-    ensures failures { CountsFailure ((W.seen sink.old).failures)
-        ((W.seen sink.new).failures) result }
-    ensures keeping { (W.seen sink.old).is_keeping ≡ true → (W.seen sink.new).is_keeping ≡ true }
+    ensures { Writes (framed bytes.now) (W.seen sink.old) (W.seen sink.new) result }
 {
     write_all(sink, &frame_start(bytes.len() as u64))?;
     write_all(sink, bytes)
 }
 
-/// Writes all of these bytes, in as many writes as the sink wants. No write is of no bytes, so an
-/// `Ok(0)` is always a failure.
-fn write_all<W: Sink>(sink: &mut W, bytes: &[u8]) -> Result<(), WriteFault>
-    ensures written { (W.seen sink.old).is_keeping ≡ true →
-        OnOk result ((W.seen sink.new).taken ≡ (W.seen sink.old).taken ++ bytes.now) }
-    ensures part { (W.seen sink.old).is_keeping ≡ true →
-        OnErr result (TakesPrefix ((W.seen sink.old).taken) ((W.seen sink.new).taken) bytes.now) }
-    ensures failures { CountsFailure ((W.seen sink.old).failures)
-        ((W.seen sink.new).failures) result }
-    ensures keeping { (W.seen sink.old).is_keeping ≡ true → (W.seen sink.new).is_keeping ≡ true }
+/// Writes all of these bytes, in as many writes as the sink wants, and does not flush the sink. No
+/// write is of no bytes, so an `Ok(0)` is always a failure.
+pub fn write_all<W: Sink>(sink: &mut W, bytes: &[u8]) -> Result<(), WriteFault>
+    ensures writes { Writes bytes.now (W.seen sink.old) (W.seen sink.new) result }
     ensures nothing { bytes.now ≡ [] → sink.new ≡ sink.old }
 {
     let mut rest = bytes;

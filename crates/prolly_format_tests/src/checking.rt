@@ -1,7 +1,7 @@
 //! The checker and look-ups on small files.
 
 use prolly_check::{CheckFault, Tree, check};
-use prolly_entry::{Sha512Cut, Version};
+use prolly_entry::{Pair, Sha512Cut, Version};
 use prolly_file::{FromRead, scratch_as};
 use prolly_test_parts::{chunk_file, pairs_of};
 use std::alloc::Global;
@@ -11,6 +11,7 @@ use std::test::Fail;
 mod accepted;
 mod chunks;
 mod damaged;
+mod dumps;
 mod look_ups;
 mod numbers;
 mod short;
@@ -27,15 +28,19 @@ const LEAF_OF_A: &[u8] = b"\0\0\x01a\0\0\0\x011";
 
 const LEAF_OF_B: &[u8] = b"\0\0\x01b\0\0\0\x011";
 
+/// The file of these pairs, of 0 bits.
+fn file_of(alloc: Global, version: Version, pairs: &[Pair]) -> Result<Vec<u8>, Fail> {
+    let mut file = Vec::new(alloc);
+    let cut = Sha512Cut::new(0).ok_or("bits")?;
+    scratch_as(alloc, cut, version, pairs, 12, &mut file)?;
+    Ok(file)
+}
+
 /// The file of a=1, b=1 and c=1, of 0 bits. Its chunks are two leaves, their node, a leaf, its node
 /// and the root. In version One they begin at 15, 33, 51, 107, 125 and 158, and the end record at
 /// 205.
 fn file_of_three(alloc: Global, version: Version) -> Result<Vec<u8>, Fail> {
-    let pairs = pairs_of(alloc, &[b"a", b"b", b"c"])?;
-    let mut file = Vec::new(alloc);
-    let cut = Sha512Cut::new(0).ok_or("bits")?;
-    scratch_as(alloc, cut, version, &pairs, 12, &mut file)?;
-    Ok(file)
+    file_of(alloc, version, &pairs_of(alloc, &[b"a", b"b", b"c"])?)
 }
 
 /// The bytes of a file of version One and 0 bits with these chunks, of which the last is the root.

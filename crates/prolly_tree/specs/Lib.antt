@@ -28,3 +28,5 @@ pub mod Pipeline
 pub mod lemmas
 -- The difference of two maps: the records that turn the one into the other.
 pub mod Difference
+-- The record file of a map. (This project's format.)
+pub mod RecordFile

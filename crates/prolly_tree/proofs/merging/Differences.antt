@@ -1,13 +1,13 @@
 -- Maps by what they say of each key, and their differences.
-use Rattle.std.proofs.Common.{◌≡◌, ◌≢◌, ℕ, Bool, true, false, cond, List, [], ◌∷◌, ◌++◌, map, Option, Some, None, refl, sym, ap, ◌∙◌, subst}
+use Rattle.std.proofs.Common.{◌≡◌, ℕ, Bool, true, false, cond, List, [], ◌∷◌, ◌++◌, map, Option, Some, None, refl, sym, ap, ◌∙◌, subst}
 use Rattle.std.specs.Ordering.{is_eq}
-use Rattle.prolly_entry.specs.Keys.{key_order, KeyBelow, Rising, RisingFrom}
+use Rattle.prolly_entry.specs.Keys.{key_order, Rising}
 use Rattle.prolly_entry.specs.Overlay.{change_of, or_else, last_change_of, raw_overlay, pairs_put, pairs_of_change, overlay, AllRising}
 use Rattle.prolly_entry.specs.Pair.{Pair}
 use Rattle.prolly_entry.specs.Record.{Record, keys_of}
 use Rattle.prolly_entry.specs.lemmas.Orders.{order_same, eq_true, not_eq_above}
-use Rattle.prolly_entry.specs.lemmas.Overlays.{or_none, found_raw, rising_raw, same_lookups, overlay_rises}
-use Rattle.prolly_entry.specs.lemmas.RisingRecords.{AllAbove, IsRising, is_rising, rising_is, found_above}
+use Rattle.prolly_entry.specs.lemmas.Overlays.{found_raw, rising_raw, same_lookups, overlay_rises}
+use Rattle.prolly_entry.specs.lemmas.RisingRecords.{AllAbove, IsRising, is_rising}
 use Rattle.prolly_tree.specs.LookUp.{find}
 use Rattle.prolly_tree.specs.Difference.{IsChangeTo, IsDifference, IsMap, puts, OneDifference, DifferenceTurns, EqualsDifferNowhere, DifferencesCompose}
 
@@ -17,7 +17,8 @@ put_keys : (m : List Pair) → keys_of (puts m) ≡ map (λ p. p.key) m
 put_keys [] = refl
 put_keys (p ∷ m) = ap (λ ks. p.key ∷ ks) (put_keys m)
 
-puts_rise : (m : List Pair) → IsMap m → Rising (keys_of (puts m))
+-- The records that put the pairs of a map rise.
+pub puts_rise : (m : List Pair) → IsMap m → Rising (keys_of (puts m))
 puts_rise m h = subst Rising (sym (put_keys m)) h
 
 -- What a value that is found, or none, says of its key.
@@ -102,6 +103,11 @@ unfolding as_change
 word_turns None after None e = e
 word_turns (Some v) after None e = e
 word_turns before after (Some said) e = e.0
+
+-- The overlay of a map alone is the map.
+pub overlay_alone : (m : List Pair) → IsMap m → overlay (puts m ∷ []) ≡ m
+overlay_alone m h = same_finds (overlay (puts m ∷ [])) m (overlay_rises (puts m ∷ [])) h
+    (λ key. overlay_finds (puts m ∷ []) key (puts_rise m h, tt) ∙ ap found_by (puts_say m key) ∙ word_turns (find m key) (find m key) None refl)
 
 turns : (m after : List Pair) (d : List Record) → IsMap m → IsDifference m after d → (key : List ℕ) →
     found_by (or_else (change_of d key) (change_of (puts m) key)) ≡ find after key

@@ -5,5 +5,10 @@ use Rattle.prolly_file.proofs.writer.write_all.Goals as goal
 pub loop-rest-preserved : goal.loop-rest-preserved
 loop-rest-preserved g c = grind (arith, common_steps) steps 2000000
 
-pub returns-clause-written : goal.returns-clause-written
-returns-clause-written g c = grind (arith, common_steps) steps 2000000
+pub returns-clause-writes : goal.returns-clause-writes
+returns-clause-writes g c = record {
+  written = grind (arith, common_steps) steps 2000000;
+  part = λ keeps. tt;
+  failures = c.loop-rest.invariant.failures;
+  keeping = c.loop-rest.invariant.keeping;
+}
