@@ -20,8 +20,9 @@ use std::env;
 use std::io::Print;
 use std::time::{Clock, Instant};
 
-const USAGE: &str =
-    "prolly_bench hash PAIRS [VALUE_BYTES] | scratch PAIRS | load RECORDS FILE | merge-of-2 RECORDS | merge-of-16 RECORDS | leaves PARTS | link ITEMS | batches-of-16 ITEMS | batches-of-64 ITEMS | wait 1";
+const USAGE: &str = "prolly_bench hash PAIRS [VALUE_BYTES] | scratch PAIRS | load RECORDS FILE | \
+     merge-of-2 RECORDS | merge-of-16 RECORDS | leaves PARTS | link ITEMS | \
+     batches-of-16 ITEMS | batches-of-64 ITEMS | wait 1";
 
 /// The bits of the cut: about one entry in 4,096 ends a chunk.
 const BITS: u8 = 12;

@@ -1,5 +1,6 @@
 -- What the files of a build count for, by what the loaders sent of them.
-use Rattle.std.proofs.Common.{◌≡◌, ◌≢◌, ◌+◌, ◌⊎◌, ℕ, true, List, [], ◌∷◌, ◌++◌, All, map, length, Option, Some, None, inl, inr, refl, ap, sym, subst, ◌∙◌}
+use Rattle.std.proofs.Common.{◌≡◌, ◌≢◌, ◌+◌, ◌⊎◌, ℕ, true, List, [], ◌∷◌, ◌++◌, All, map, length}
+use Rattle.std.proofs.Common.{Option, Some, None, inl, inr, refl, ap, sym, subst, ◌∙◌}
 use Rattle.prolly_entry.specs.Byte.{IsByte}
 use Rattle.prolly_tree.specs.CutShort.{IsSentOf, AreSentOf}
 use Rattle.prolly_tree.specs.Merge.{Input}
@@ -33,26 +34,37 @@ module _ {S : Type 0} (seen : S → SourceView) (limit : ℕ) where
     sent_of : IsSentOf faults.Memory input sent
 
   -- a reading that was sent whole
-  whole : (file : ℕ) (s t : S) (records : List Record) (ending : Option Flaw) (end : End) → IsReading (seen s).left limit records ending →
-      fault_of end ≡ ending_told file (length records) ending → Counts file s t (input_of records end)
+  whole : (file : ℕ) (s t : S) (records : List Record) (ending : Option Flaw) (end : End) →
+      IsReading (seen s).left limit records ending →
+      fault_of end ≡ ending_told file (length records) ending →
+      Counts file s t (input_of records end)
   whole file s t records ending end h told = record {
     input = input_of records end;
     counts = inl (record { ending = ending; reading = h; told = told });
     sent_of = inl refl;
   }
 
-  same_file : (f file place : ℕ) (records : List Record) (make : ℕ → ℕ → RunFault) → f ≡ file → place ≡ length records →
+  same_file : (f file place : ℕ) (records : List Record) (make : ℕ → ℕ → RunFault) → f ≡ file →
+      place ≡ length records →
       ◌≡◌ {A = Option RunFault} (Some (make f place)) (Some (make file (length records)))
-  same_file f file place records make e k = ap (λ (n : ℕ). Some (make n place)) e ∙ ap (λ (n : ℕ). Some (make file n)) k
+  same_file f file place records make e k = ap (λ (n : ℕ). Some (make n place)) e ∙
+      ap (λ (n : ℕ). Some (make file n)) k
 
-  one_fault : (file : ℕ) (s t : S) (records : List Record) (handed : List ℕ) (fault : RunFault) → All IsByte (seen s).left → (seen s).left ≡ handed ++ (seen t).left →
-      FailsAs file limit handed records fault → (Fault fault ≢ Fault (faults.Read file) → FailsAs file limit (seen s).left records fault) →
-      (Fault fault ≡ Fault (faults.Read file) → (seen t).failures ≢ (seen s).failures) → Counts file s t (input_of records (Fault fault))
+  one_fault : (file : ℕ) (s t : S) (records : List Record) (handed : List ℕ) (fault : RunFault) →
+      All IsByte (seen s).left → (seen s).left ≡ handed ++ (seen t).left →
+      FailsAs file limit handed records fault →
+      (Fault fault ≢ Fault (faults.Read file) → FailsAs file limit (seen s).left records fault)
+      →
+      (Fault fault ≡ Fault (faults.Read file) → (seen t).failures ≢ (seen s).failures) →
+      Counts file s t (input_of records (Fault fault))
   one_fault file s t records handed faults.Memory bytes kept ends all failed =
       let has = reading_is (seen s).left limit bytes in
       let first = all (λ e. cc) in
       record {
-        input = record { records = has.good; fault = ending_told file (length has.good) has.ending };
+        input = record {
+          records = has.good;
+          fault = ending_told file (length has.good) has.ending;
+        };
         counts = inl (record { ending = has.ending; reading = has.reading; told = refl });
         sent_of = inr (refl, first.prefix has.good has.ending has.reading);
       }
@@ -68,34 +80,51 @@ module _ {S : Type 0} (seen : S → SourceView) (limit : ℕ) where
     sent_of = inl refl;
   }
   one_fault file s t records handed (faults.Truncated f place) bytes kept ends all failed =
-      let h = all (λ e. cc) in whole file s t records (Some flaws.Truncated) (Fault (faults.Truncated f place)) h.2 (same_file f file place records faults.Truncated h.0 h.1)
+      let h = all (λ e. cc) in whole file s t records (Some flaws.Truncated)
+      (Fault (faults.Truncated f place)) h.2
+      (same_file f file place records faults.Truncated h.0 h.1)
   one_fault file s t records handed (faults.KeyTooLong f place) bytes kept ends all failed =
-      let h = all (λ e. cc) in whole file s t records (Some flaws.KeyTooLong) (Fault (faults.KeyTooLong f place)) h.2 (same_file f file place records faults.KeyTooLong h.0 h.1)
+      let h = all (λ e. cc) in whole file s t records (Some flaws.KeyTooLong)
+      (Fault (faults.KeyTooLong f place)) h.2
+      (same_file f file place records faults.KeyTooLong h.0 h.1)
   one_fault file s t records handed (faults.ValueTooLong f place) bytes kept ends all failed =
-      let h = all (λ e. cc) in whole file s t records (Some flaws.ValueTooLong) (Fault (faults.ValueTooLong f place)) h.2 (same_file f file place records faults.ValueTooLong h.0 h.1)
+      let h = all (λ e. cc) in whole file s t records (Some flaws.ValueTooLong)
+      (Fault (faults.ValueTooLong f place)) h.2
+      (same_file f file place records faults.ValueTooLong h.0 h.1)
   one_fault file s t records handed (faults.OutOfOrder f place) bytes kept ends all failed =
-      let h = all (λ e. cc) in whole file s t records (Some flaws.OutOfOrder) (Fault (faults.OutOfOrder f place)) h.2 (same_file f file place records faults.OutOfOrder h.0 h.1)
+      let h = all (λ e. cc) in whole file s t records (Some flaws.OutOfOrder)
+      (Fault (faults.OutOfOrder f place)) h.2
+      (same_file f file place records faults.OutOfOrder h.0 h.1)
   one_fault file s t records handed (faults.TooManyRecords f) bytes kept ends all failed =
-      let h = all (λ e. cc) in whole file s t records (Some flaws.TooManyRecords) (Fault (faults.TooManyRecords f)) h.1 (ap (λ (n : ℕ). Some (faults.TooManyRecords n)) h.0)
+      let h = all (λ e. cc) in whole file s t records (Some flaws.TooManyRecords)
+      (Fault (faults.TooManyRecords f)) h.1 (ap (λ (n : ℕ). Some (faults.TooManyRecords n)) h.0)
   one_fault file s t records handed faults.Write bytes kept ends all failed = absurd ends
   one_fault file s t records handed faults.TooTall bytes kept ends all failed = absurd ends
   one_fault file s t records handed faults.NoThread bytes kept ends all failed = absurd ends
   one_fault file s t records handed faults.Lost bytes kept ends all failed = absurd ends
   one_fault file s t records handed faults.TooManyFiles bytes kept ends all failed = absurd ends
 
-  one_end : (file : ℕ) (s t : S) (records : List Record) (handed : List ℕ) (end : End) → All IsByte (seen s).left → (seen s).left ≡ handed ++ (seen t).left →
-      EndsAs file limit handed records end → (end ≢ Fault (faults.Read file) → EndsAs file limit (seen s).left records end) →
-      (end ≡ Fault (faults.Read file) → (seen t).failures ≢ (seen s).failures) → Counts file s t (input_of records end)
-  one_end file s t records handed Clean bytes kept ends all failed = whole file s t records None Clean (all (λ e. cc)) refl
-  one_end file s t records handed (Fault fault) bytes kept ends all failed = one_fault file s t records handed fault bytes kept ends all failed
+  one_end : (file : ℕ) (s t : S) (records : List Record) (handed : List ℕ) (end : End) →
+      All IsByte (seen s).left → (seen s).left ≡ handed ++ (seen t).left →
+      EndsAs file limit handed records end → (end ≢ Fault (faults.Read file) →
+      EndsAs file limit (seen s).left records end) →
+      (end ≡ Fault (faults.Read file) → (seen t).failures ≢ (seen s).failures) →
+      Counts file s t (input_of records end)
+  one_end file s t records handed Clean bytes kept ends all failed =
+      whole file s t records None Clean (all (λ e. cc)) refl
+  one_end file s t records handed (Fault fault) bytes kept ends all failed =
+      one_fault file s t records handed fault bytes kept ends all failed
 
   abbrev One : ℕ → S → Batching Record → S → Whole Record → Type 0
   One file s o t c = IsLoadedFrom seen file limit s o t c
 
-  one_counts : (file : ℕ) (s : S) (o : Batching Record) (t : S) (c : Whole Record) → One file s o t c → (seen s).is_honest ≡ true → All IsByte (seen s).left → Counts file s t (sent_input c)
+  one_counts : (file : ℕ) (s : S) (o : Batching Record) (t : S) (c : Whole Record) →
+      One file s o t c → (seen s).is_honest ≡ true → All IsByte (seen s).left →
+      Counts file s t (sent_input c)
   one_counts file s o t c h honest bytes =
       subst (λ (rs : List Record). Counts file s t (input_of rs c.end)) (sym h.loaded.sent)
-      (one_end file s t h.loaded.records h.loaded.handed c.end bytes (h.loaded.kept honest) h.loaded.ends (h.loaded.whole honest) h.read.0)
+      (one_end file s t h.loaded.records h.loaded.handed c.end bytes (h.loaded.kept honest)
+      h.loaded.ends (h.loaded.whole honest) h.read.0)
 
   -- ---- all files
 
@@ -104,8 +133,10 @@ module _ {S : Type 0} (seen : S → SourceView) (limit : ℕ) where
     pub count_for : CountFor seen file limit ss ts inputs
     pub sent_of : AreSentOf faults.Memory inputs sent
 
-  pub all_count : LeftAreBytes seen → (file : ℕ) (ss : List S) (os : List (Batching Record)) (ts : List S) (cs : List (Whole Record)) →
-      AreLoaded seen limit file ss os ts cs → AreHonest seen ss → AllCounts file ss ts (map sent_input cs)
+  pub all_count : LeftAreBytes seen → (file : ℕ) (ss : List S) (os : List (Batching Record))
+      (ts : List S) (cs : List (Whole Record)) →
+      AreLoaded seen limit file ss os ts cs → AreHonest seen ss →
+      AllCounts file ss ts (map sent_input cs)
   all_count bytes file [] [] [] [] h honest = record { inputs = []; count_for = tt; sent_of = tt }
   all_count bytes file [] [] [] (c ∷ cs) h honest = absurd h
   all_count bytes file [] [] (t ∷ ts) cs h honest = absurd h
@@ -116,4 +147,8 @@ module _ {S : Type 0} (seen : S → SourceView) (limit : ℕ) where
   all_count bytes file (s ∷ ss) (o ∷ os) (t ∷ ts) (c ∷ cs) h honest =
       let one = one_counts file s o t c h.0 honest.0 (bytes s honest.0) in
       let rest = all_count bytes (file + 1) ss os ts cs h.1 honest.1 in
-      record { inputs = one.input ∷ rest.inputs; count_for = (one.counts, rest.count_for); sent_of = (one.sent_of, rest.sent_of) }
+      record {
+        inputs = one.input ∷ rest.inputs;
+        count_for = (one.counts, rest.count_for);
+        sent_of = (one.sent_of, rest.sent_of);
+      }

@@ -1,5 +1,6 @@
 -- What the driver's parts give back.
-use Rattle.std.proofs.Common.{◌≡◌, ℕ, ◌-◌, List, [], ◌++◌, ◌≢◌, inl, inr, refl, sym, subst, ap, ◌∙◌, Result}
+use Rattle.std.proofs.Common.{◌≡◌, ℕ, ◌-◌, List, [], ◌++◌, ◌≢◌, inl, inr, refl, sym, subst, ap, ◌∙◌}
+use Rattle.std.proofs.Common.{Result}
 use Rattle.std.proofs.lemmas.List.{append-nil}
 use Rattle.std.proofs.lemmas.Result.{err_from_is_err_and}
 use Rattle.std.specs.Prelude.{IsErrAnd}
@@ -28,35 +29,64 @@ pub nothing_begun : (settings : Settings) (old : SinkView) → IsBegun settings 
 nothing_begun settings old = record {
   chunks_begun = [];
   small = tt;
-  taken = λ k. record { part = []; grown = sym (append-nil old.taken); is_prefix = (frames_of (header settings.version settings.bits) [], refl) };
+  taken = λ k. record {
+    part = [];
+    grown = sym (append-nil old.taken);
+    is_prefix = (frames_of (header settings.version settings.bits) [], refl);
+  };
 }
 
 pub all_taken : {old new wanted : List ℕ} → new ≡ old ++ wanted → TakesPrefix old new wanted
-all_taken {wanted} h = record { part = wanted; grown = h; is_prefix = ([], sym (append-nil wanted)) }
+all_taken {wanted} h = record {
+  part = wanted;
+  grown = h;
+  is_prefix = ([], sym (append-nil wanted));
+}
 
 -- a sink that the writer wrote to
-pub written_begun : (settings : Settings) (level : ℕ) (events : List Chunk) (old new : SinkView) (written : Written) →
-    HasWritten (header settings.version settings.bits) level events old new written → IsBegun settings old new
-written_begun settings level events old new (Whole begun) h = record { chunks_begun = events; small = h.small; taken = λ k. all_taken (h.taken_is k) }
-written_begun settings level events old new TooTall h = record { chunks_begun = before_second level events; small = h.small; taken = λ k. all_taken (h.taken_is k) }
-written_begun settings level events old new Failed h = record { chunks_begun = h.tried; small = h.small; taken = h.taken_is }
+pub written_begun : (settings : Settings) (level : ℕ) (events : List Chunk) (old new : SinkView)
+    (written : Written) →
+    HasWritten (header settings.version settings.bits) level events old new written →
+    IsBegun settings old new
+written_begun settings level events old new (Whole begun) h =
+    record { chunks_begun = events; small = h.small; taken = λ k. all_taken (h.taken_is k) }
+written_begun settings level events old new TooTall h =
+    record {
+      chunks_begun = before_second level events;
+      small = h.small;
+      taken = λ k. all_taken (h.taken_is k);
+    }
+written_begun settings level events old new Failed h =
+    record { chunks_begun = h.tried; small = h.small; taken = h.taken_is }
 
 -- and once the build has ended with another fault than a failed write
-pub ended_begun : (settings : Settings) (level : ℕ) (events : List Chunk) (old before after : SinkView) (written : Written) (end : End) (fault : RunFault) →
+pub ended_begun : (settings : Settings) (level : ℕ) (events : List Chunk)
+    (old before after : SinkView) (written : Written) (end : End) (fault : RunFault) →
     HasWritten (header settings.version settings.bits) level events old before written →
-    IsEndFault (header settings.version settings.bits) level events old before after end fault → fault ≢ Write → IsBegun settings old after
+    IsEndFault (header settings.version settings.bits) level events old before after end fault →
+    fault ≢ Write → IsBegun settings old after
 ended_begun settings level events old before after written (Fault f) fault h end_is other =
-    subst (λ (s : SinkView). IsBegun settings old s) (sym end_is.1) (written_begun settings level events old before written h)
-ended_begun settings level events old before after written Clean fault h (inl failed) other = absurd (other failed.0)
+    subst (λ (s : SinkView). IsBegun settings old s) (sym end_is.1)
+    (written_begun settings level events old before written h)
+ended_begun settings level events old before after written Clean fault h (inl failed) other =
+    absurd (other failed.0)
 ended_begun settings level events old before after written Clean fault h (inr tall) other =
-    record { chunks_begun = before_second level events; small = tall.1.small; taken = λ k. all_taken (tall.1.taken_is k) }
+    record {
+      chunks_begun = before_second level events;
+      small = tall.1.small;
+      taken = λ k. all_taken (tall.1.taken_is k);
+    }
 
-pub all_begun : (settings : Settings) (last : Receiving Chunk) (old new : SinkView) (wrote : Wrote) → IsWritten settings last old new wrote → IsBegun settings old new
-all_begun settings last old new wrote h = written_begun settings (settings.stages - 1) wrote.last.items old new wrote.written h.written
+pub all_begun : (settings : Settings) (last : Receiving Chunk) (old new : SinkView)
+    (wrote : Wrote) → IsWritten settings last old new wrote → IsBegun settings old new
+all_begun settings last old new wrote h = written_begun settings (settings.stages - 1)
+    wrote.last.items old new wrote.written h.written
 
 -- a level that could not meet a link, above a writer that wrote
-pub unmet_hands_on : {T : Type 0} (settings : Settings) (last : Receiving Chunk) (old new : SinkView) (untouched : Type 0) (got : Wrote) (wrote : T → Wrote)
-    (result : Result T Halt) (halt : Halt) → IsWritten settings last old new got → IsErrAnd result (λ h. h ≡ halt) → halt ≡ Lost →
+pub unmet_hands_on : {T : Type 0} (settings : Settings) (last : Receiving Chunk)
+    (old new : SinkView) (untouched : Type 0) (got : Wrote) (wrote : T → Wrote)
+    (result : Result T Halt) (halt : Halt) → IsWritten settings last old new got →
+    IsErrAnd result (λ h. h ≡ halt) → halt ≡ Lost →
     HandsOn settings last old new untouched result wrote
 unmet_hands_on settings last old new untouched got wrote result halt h is lost =
     let e = err_from_is_err_and result is in
@@ -74,15 +104,22 @@ between_all : (before after : List Chunk) → before ≡ [] → items_between be
 between_all before after e = ap (λ (xs : List Chunk). items_between xs after) e
 
 -- the writer received all of the last link
-pub all_written : (settings : Settings) (last : Receiving Chunk) (old new : SinkView) (after : Receiving Chunk) (end : End) (written : Written)
-    (bits level : ℕ) → after.link ≡ last.link → HasEnded after.progress → end ≡ end_given after.progress → bits ≡ settings.bits → level ≡ settings.stages - 1 →
-    last.items ≡ [] → HasWritten (header settings.version bits) level (items_between last.items after.items) old new written →
+pub all_written : (settings : Settings) (last : Receiving Chunk) (old new : SinkView)
+    (after : Receiving Chunk) (end : End) (written : Written)
+    (bits level : ℕ) → after.link ≡ last.link → HasEnded after.progress →
+    end ≡ end_given after.progress → bits ≡ settings.bits → level ≡ settings.stages - 1 →
+    last.items ≡ [] → HasWritten (header settings.version bits) level
+    (items_between last.items after.items) old new written →
     IsWritten settings last old new (record { last = after; end = end; written = written })
-all_written settings last old new after end written bits level link ended end_is bits_are level_is none h = record {
-  link = link;
-  has_ended = ended;
-  end_is = end_is;
-  written = subst (λ l. HasWritten (header settings.version settings.bits) l after.items old new written) level_is
-      (subst (λ b. HasWritten (header settings.version b) level after.items old new written) bits_are
-      (subst (λ (es : List Chunk). HasWritten (header settings.version bits) level es old new written) (between_all last.items after.items none) h));
-}
+all_written settings last old new after end written bits level link ended end_is bits_are level_is
+    none h = record {
+      link = link;
+      has_ended = ended;
+      end_is = end_is;
+      written = subst (λ l. HasWritten (header settings.version settings.bits) l after.items old new
+          written) level_is
+          (subst (λ b. HasWritten (header settings.version b) level after.items old new written)
+          bits_are
+          (subst (λ (es : List Chunk). HasWritten (header settings.version bits) level es old new
+          written) (between_all last.items after.items none) h));
+    }

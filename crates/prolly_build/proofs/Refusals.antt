@@ -1,5 +1,7 @@
 -- What the workers of a build sent where one of them was refused memory.
-use Rattle.std.proofs.Common.{◌≡◌, ◌≤◌, ◌<◌, ◌+◌, ◌-◌, ◌*◌, ◌^◌, ℕ, zero, suc, true, List, [], ◌∷◌, ◌++◌, map, length, Option, Some, None, inl, inr, refl, ap, sym, subst, ◌∙◌, arith}
+use Rattle.std.proofs.Common.{◌≡◌, ◌≤◌, ◌<◌, ◌+◌, ◌-◌, ◌*◌, ◌^◌, ℕ, zero, suc, true, List, [], ◌∷◌}
+use Rattle.std.proofs.Common.{◌++◌, map, length, Option, Some, None, inl, inr, refl, ap, sym, subst}
+use Rattle.std.proofs.Common.{◌∙◌, arith}
 use Rattle.std.specs.List.{flat_map}
 use Rattle.std.proofs.lemmas.List.{append-nil, length-append}
 use Rattle.std.proofs.lemmas.List.Concat.{flat_map-append}
@@ -16,7 +18,8 @@ use Rattle.prolly_entry.specs.Reading.{IsReading}
 use Rattle.prolly_entry.specs.Record.{Record}
 use Rattle.prolly_entry.specs.declared.flaw.Flaw.{Flaw}
 use Rattle.prolly_laws.specs.Stages.{composition, within_is_prefix}
-use Rattle.prolly_laws.specs.Merging.{all_rising, fronts_merge, rising_two_as_one, two_of_all, overlay_of_two, overlay_is_small}
+use Rattle.prolly_laws.specs.Merging.{all_rising, fronts_merge, rising_two_as_one, two_of_all}
+use Rattle.prolly_laws.specs.Merging.{overlay_of_two, overlay_is_small}
 use Rattle.prolly_laws.specs.Readings.{begins_all, first_are_good, one_reading, reading_is}
 use Rattle.prolly_file.specs.Source.{SourceView}
 use Rattle.prolly_file.specs.Sink.{SinkView, TakesPrefix}
@@ -53,14 +56,22 @@ record Apart (lists : List (List Record)) (xs ys : Inputs) : Type 0 where
   fronts : AreFrontsOf front xs
   backs : AreFrontsOf back ys
 
-apart : (lists : List (List Record)) (xs ys : Inputs) → AreFrontsOf lists (xs ++ ys) → Apart lists xs ys
+apart : (lists : List (List Record)) (xs ys : Inputs) → AreFrontsOf lists (xs ++ ys) →
+    Apart lists xs ys
 apart lists [] ys h = record { front = []; back = lists; is = refl; fronts = tt; backs = h }
 apart [] (x ∷ xs) ys h = absurd h
 apart (l ∷ lists) (x ∷ xs) ys h =
     let k = apart lists xs ys h.1 in
-    record { front = l ∷ k.front; back = k.back; is = ap (λ ls. l ∷ ls) k.is; fronts = (h.0, k.fronts); backs = k.backs }
+    record {
+      front = l ∷ k.front;
+      back = k.back;
+      is = ap (λ ls. l ∷ ls) k.is;
+      fronts = (h.0, k.fronts);
+      backs = k.backs;
+    }
 
-together : (front : List (List Record)) (xs : Inputs) (back : List (List Record)) (ys : Inputs) → AreFrontsOf front xs → AreFrontsOf back ys → AreFrontsOf (front ++ back) (xs ++ ys)
+together : (front : List (List Record)) (xs : Inputs) (back : List (List Record)) (ys : Inputs) →
+    AreFrontsOf front xs → AreFrontsOf back ys → AreFrontsOf (front ++ back) (xs ++ ys)
 together [] [] back ys h k = k
 together [] (x ∷ xs) back ys h k = absurd h
 together (l ∷ front) [] back ys h k = absurd h
@@ -76,66 +87,98 @@ record AreSent (inputs : Inputs) (whole : List Record) : Type 0 where
 -- ---- the mergers
 
 -- what a merger of two sent was sent of the overlay of its two lists
-front_of_two : (l r : Input RunFault) (a b sent : List Record) (end : End) → Sends [] (raw_merged_part (l ∷ r ∷ [])) (stop_end (l ∷ r ∷ [])) sent end →
-    AllRising (a ∷ b ∷ []) → IsFrontOf a l → IsFrontOf b r → IsFrontOf (raw_overlay (a ∷ b ∷ [])) (input_of sent end)
-front_of_two l r a b sent end sends rising h k = go (fronts_merge RunFault (a ∷ b ∷ []) (l ∷ r ∷ []) rising (h, (k, tt))) sends
+front_of_two : (l r : Input RunFault) (a b sent : List Record) (end : End) →
+    Sends [] (raw_merged_part (l ∷ r ∷ [])) (stop_end (l ∷ r ∷ [])) sent end →
+    AllRising (a ∷ b ∷ []) → IsFrontOf a l → IsFrontOf b r →
+    IsFrontOf (raw_overlay (a ∷ b ∷ [])) (input_of sent end)
+front_of_two l r a b sent end sends rising h k =
+    go (fronts_merge RunFault (a ∷ b ∷ []) (l ∷ r ∷ []) rising (h, (k, tt))) sends
   where
     merged : Input RunFault
-    merged = record { records = raw_merged_part (l ∷ r ∷ []); fault = stop_fault (stop (l ∷ r ∷ [])) }
+    merged = record {
+      records = raw_merged_part (l ∷ r ∷ []);
+      fault = stop_fault (stop (l ∷ r ∷ []));
+    }
 
     none_is_memory : None ≡ Some Memory → ⊥
     none_is_memory e = cc
 
-    go : IsFrontOf (raw_overlay (a ∷ b ∷ [])) merged → Sends [] (raw_merged_part (l ∷ r ∷ [])) (stop_end (l ∷ r ∷ [])) sent end → IsFrontOf (raw_overlay (a ∷ b ∷ [])) (input_of sent end)
+    go : IsFrontOf (raw_overlay (a ∷ b ∷ [])) merged →
+        Sends [] (raw_merged_part (l ∷ r ∷ [])) (stop_end (l ∷ r ∷ [])) sent end →
+        IsFrontOf (raw_overlay (a ∷ b ∷ [])) (input_of sent end)
     go front (inl s) = record {
-      first = subst (λ (rs : List Record). IsPrefix rs (raw_overlay (a ∷ b ∷ []))) (sym s.0) front.first;
-      all = λ e. s.0 ∙ front.all (sym (ap fault_of s.1 ∙ fault_of_end_of (stop_fault (stop (l ∷ r ∷ [])))) ∙ e);
+      first = subst (λ (rs : List Record). IsPrefix rs (raw_overlay (a ∷ b ∷ []))) (sym s.0)
+          front.first;
+      all = λ e. s.0 ∙ front.all (sym (ap fault_of s.1 ∙
+          fault_of_end_of (stop_fault (stop (l ∷ r ∷ [])))) ∙ e);
     }
     go front (inr s) = record {
       first = subst (λ (rs : List Record). IsPrefix rs (raw_overlay (a ∷ b ∷ []))) (sym s.1.2)
-          (prefix_trans s.1.0 (raw_merged_part (l ∷ r ∷ [])) (raw_overlay (a ∷ b ∷ [])) s.1.1 front.first);
+          (prefix_trans s.1.0 (raw_merged_part (l ∷ r ∷ [])) (raw_overlay (a ∷ b ∷ [])) s.1.1
+          front.first);
       all = λ e. absurd (none_is_memory (sym e ∙ ap fault_of s.0));
     }
 
-joint_sent : (before after : Inputs) (j : IsJoint before after) (whole : List Record) → AreSent before whole → AreSent after whole
+joint_sent : (before after : Inputs) (j : IsJoint before after) (whole : List Record) →
+    AreSent before whole → AreSent after whole
 joint_sent before after j whole h =
-    let parts = apart h.lists j.forked.front (j.left ∷ j.right ∷ j.forked.back) (subst (λ (is : Inputs). AreFrontsOf h.lists is) j.forked.now h.fronts) in
+    let parts = apart h.lists j.forked.front (j.left ∷ j.right ∷ j.forked.back)
+    (subst (λ (is : Inputs). AreFrontsOf h.lists is) j.forked.now h.fronts) in
     go parts.front parts.back parts.is parts.fronts parts.backs
   where
-    go : (front back : List (List Record)) → h.lists ≡ front ++ back → AreFrontsOf front j.forked.front → AreFrontsOf back (j.left ∷ j.right ∷ j.forked.back) → AreSent after whole
+    go : (front back : List (List Record)) → h.lists ≡ front ++ back →
+        AreFrontsOf front j.forked.front → AreFrontsOf back (j.left ∷ j.right ∷ j.forked.back) →
+        AreSent after whole
     go front [] is f k = absurd k
     go front (a ∷ []) is f k = absurd k.1
     go front (a ∷ b ∷ back) is f k =
         let rising = subst AllRising is h.rising in
         let two = two_of_all front back a b rising in
-        let sends = j.merges (all_rising (a ∷ b ∷ []) (j.left ∷ j.right ∷ []) two (k.0, (k.1.0, tt))) in
+        let sends = j.merges (all_rising (a ∷ b ∷ []) (j.left ∷ j.right ∷ []) two (
+          k.0,
+          (k.1.0, tt),
+        )) in
         let one = front_of_two j.left j.right a b j.sent j.end sends two k.0 k.1.0 in
         record {
           lists = front ++ raw_overlay (a ∷ b ∷ []) ∷ back;
           rising = rising_two_as_one front back a b rising;
-          fronts = subst (λ (is : Inputs). AreFrontsOf (front ++ raw_overlay (a ∷ b ∷ []) ∷ back) is) (sym j.forked.was)
-              (together front j.forked.front (raw_overlay (a ∷ b ∷ []) ∷ back) (input_of j.sent j.end ∷ j.forked.back) f (one, k.1.1));
-          overlay_is = sym (overlay_of_two front back a b rising) ∙ (ap raw_overlay (sym is) ∙ h.overlay_is);
+          fronts = subst (λ (is : Inputs). AreFrontsOf (front ++ raw_overlay (a ∷ b ∷ []) ∷ back)
+              is) (sym j.forked.was)
+              (together front j.forked.front (raw_overlay (a ∷ b ∷ []) ∷ back)
+              (input_of j.sent j.end ∷ j.forked.back) f (one, k.1.1));
+          overlay_is = sym (overlay_of_two front back a b rising) ∙
+              (ap raw_overlay (sym is) ∙ h.overlay_is);
         }
 
-joined_sent : (n : ℕ) (files inputs : Inputs) → Joined n files inputs → (whole : List Record) → AreSent files whole → AreSent inputs whole
+joined_sent : (n : ℕ) (files inputs : Inputs) → Joined n files inputs → (whole : List Record) →
+    AreSent files whole → AreSent inputs whole
 joined_sent zero files inputs j whole h = subst (λ (is : Inputs). AreSent is whole) (sym j) h
-joined_sent (suc n) files inputs j whole h = joint_sent j.0 inputs j.2 whole (joined_sent n files j.0 j.1 whole h)
+joined_sent (suc n) files inputs j whole h = joint_sent j.0 inputs j.2 whole
+    (joined_sent n files j.0 j.1 whole h)
 
 put_front : (a b : List Record) → IsPrefix a b → IsPrefix (pairs_put a) (pairs_put b)
-put_front a b h = (pairs_put h.0, ap pairs_put h.1 ∙ flat_map-append (λ (r : Record). pairs_of_change r.key r.value) a h.0)
+put_front a b h = (
+  pairs_put h.0,
+  ap pairs_put h.1 ∙
+      flat_map-append (λ (r : Record). pairs_of_change r.key r.value) a h.0,
+)
 
 -- the last merger sent the first pairs that the whole overlay puts
-first_pairs : (inputs : Inputs) (pairs : List Pair) (end : End) (whole : List Record) → AreSent inputs whole → MergesAll inputs pairs end → IsPrefix pairs (pairs_put whole)
-first_pairs inputs pairs end whole h merges = go (merges (all_rising h.lists inputs h.rising h.fronts))
+first_pairs : (inputs : Inputs) (pairs : List Pair) (end : End) (whole : List Record) →
+    AreSent inputs whole → MergesAll inputs pairs end → IsPrefix pairs (pairs_put whole)
+first_pairs inputs pairs end whole h merges =
+    go (merges (all_rising h.lists inputs h.rising h.fronts))
   where
     part : IsPrefix (merged_part inputs) (pairs_put whole)
     part = put_front (raw_merged_part inputs) whole
-        (subst (λ (rs : List Record). IsPrefix (raw_merged_part inputs) rs) h.overlay_is (fronts_merge RunFault h.lists inputs h.rising h.fronts).first)
+        (subst (λ (rs : List Record). IsPrefix (raw_merged_part inputs) rs) h.overlay_is
+        (fronts_merge RunFault h.lists inputs h.rising h.fronts).first)
 
-    go : Sends [] (merged_part inputs) (stop_end inputs) pairs end → IsPrefix pairs (pairs_put whole)
+    go : Sends [] (merged_part inputs) (stop_end inputs) pairs end →
+        IsPrefix pairs (pairs_put whole)
     go (inl s) = subst (λ (ps : List Pair). IsPrefix ps (pairs_put whole)) (sym s.0) part
-    go (inr s) = subst (λ (ps : List Pair). IsPrefix ps (pairs_put whole)) (sym s.1.2) (prefix_trans s.1.0 (merged_part inputs) (pairs_put whole) s.1.1 part)
+    go (inr s) = subst (λ (ps : List Pair). IsPrefix ps (pairs_put whole)) (sym s.1.2)
+        (prefix_trans s.1.0 (merged_part inputs) (pairs_put whole) s.1.1 part)
 
 -- ---- the loaders
 
@@ -148,19 +191,26 @@ module _ {S : Type 0} (seen : S → SourceView) (limit : ℕ) where
     rising : AllRising goods
 
   -- what a loader sent are the first good records of its file
-  one_front : (file : ℕ) (s : S) (o : Batching Record) (t : S) (c : Whole Record) → IsLoadedFrom seen file limit s o t c → (seen s).is_honest ≡ true →
-      (good : List Record) (ending : Option Flaw) → IsReading (seen s).left limit good ending → IsFrontOf good (sent_input c)
+  one_front : (file : ℕ) (s : S) (o : Batching Record) (t : S) (c : Whole Record) →
+      IsLoadedFrom seen file limit s o t c → (seen s).is_honest ≡ true →
+      (good : List Record) (ending : Option Flaw) → IsReading (seen s).left limit good ending →
+      IsFrontOf good (sent_input c)
   one_front file s o t c h honest good ending reading =
       let sent = begun seen limit file s o t c h in record {
         first = first_are_good (seen s).left limit c.items (sent.rest ++ (seen t).left) good ending
-            (begins_all (seen s).left h.loaded.handed (seen t).left limit c.items sent.rest sent.begins (h.loaded.kept honest)) reading;
+            (begins_all (seen s).left h.loaded.handed (seen t).left limit c.items sent.rest
+            sent.begins (h.loaded.kept honest)) reading;
         all = λ e.
-            (one_reading (seen s).left limit c.items good None ending ((one_read seen limit file s o t c h (clean_end c.end e)).reading honest) reading).0;
+            (one_reading (seen s).left limit c.items good None ending
+            ((one_read seen limit file s o t c h (clean_end c.end e)).reading honest)
+            reading).0;
       }
 
-  all_fronts : LeftAreBytes seen → (file : ℕ) (ss : List S) (os : List (Batching Record)) (ts : List S) (cs : List (Whole Record)) →
+  all_fronts : LeftAreBytes seen → (file : ℕ) (ss : List S) (os : List (Batching Record))
+      (ts : List S) (cs : List (Whole Record)) →
       AreLoaded seen limit file ss os ts cs → AreHonest seen ss → Good ss (map sent_input cs)
-  all_fronts bytes file [] [] [] [] h honest = record { goods = []; are_good = tt; fronts = tt; rising = tt }
+  all_fronts bytes file [] [] [] [] h honest =
+      record { goods = []; are_good = tt; fronts = tt; rising = tt }
   all_fronts bytes file [] [] [] (c ∷ cs) h honest = absurd h
   all_fronts bytes file [] [] (t ∷ ts) cs h honest = absurd h
   all_fronts bytes file [] (o ∷ os) ts cs h honest = absurd h
@@ -178,7 +228,8 @@ module _ {S : Type 0} (seen : S → SourceView) (limit : ℕ) where
       }
 
   -- n files have at most n times as many good records as one may have
-  good_few : (ss : List S) (goods : List (List Record)) → AreGood seen limit ss goods → limit ≤ 16777216 → length (flat_map (λ records. records) goods) ≤ length ss * 16777216
+  good_few : (ss : List S) (goods : List (List Record)) → AreGood seen limit ss goods →
+      limit ≤ 16777216 → length (flat_map (λ records. records) goods) ≤ length ss * 16777216
   good_few [] [] h small = omega arith
   good_few [] (g ∷ goods) h small = absurd h
   good_few (s ∷ ss) [] h small = absurd h
@@ -189,7 +240,8 @@ module _ {S : Type 0} (seen : S → SourceView) (limit : ℕ) where
       omega (arith, one, rest, both, small)
 
   -- honest sources have good records
-  some_good : LeftAreBytes seen → (ss : List S) → AreHonest seen ss → (goods : List (List Record)) × AreGood seen limit ss goods
+  some_good : LeftAreBytes seen → (ss : List S) → AreHonest seen ss → (goods : List (List Record)) ×
+      AreGood seen limit ss goods
   some_good bytes [] honest = ([], tt)
   some_good bytes (s ∷ ss) honest =
       let has = reading_is (seen s).left limit (bytes s honest.0) in
@@ -199,7 +251,8 @@ module _ {S : Type 0} (seen : S → SourceView) (limit : ℕ) where
 -- ---- all workers
 
 -- a sink that was left alone
-pub untouched_refused : {S : Type 0} (seen : S → SourceView) → LeftAreBytes seen → (settings : Settings) (before : List S) (old : SinkView) →
+pub untouched_refused : {S : Type 0} (seen : S → SourceView) → LeftAreBytes seen →
+    (settings : Settings) (before : List S) (old : SinkView) →
     AreHonest seen before → IsRefused seen settings before old old
 untouched_refused seen bytes settings before old honest =
     let has = some_good seen settings.max_records bytes before honest in record {
@@ -210,11 +263,16 @@ untouched_refused seen bytes settings before old honest =
       taken = λ keeps. record {
         part = [];
         grown = sym (append-nil old.taken);
-        is_prefix = (frames_of (header settings.version settings.bits) (chunks (sha512_cut settings.bits) settings.version []), refl);
+        is_prefix = (
+          frames_of (header settings.version settings.bits)
+              (chunks (sha512_cut settings.bits) settings.version []),
+          refl,
+        );
       };
     }
 
-module _ {S : Type 0} (seen : S → SourceView) (settings : Settings) (before after : List S) (count : ℕ) where
+module _ {S : Type 0} (seen : S → SourceView) (settings : Settings) (before after : List S)
+    (count : ℕ) where
   abbrev cut : Cut
   cut = sha512_cut settings.bits
 
@@ -229,45 +287,68 @@ module _ {S : Type 0} (seen : S → SourceView) (settings : Settings) (before af
     pub first : IsPrefix pairs (overlay goods)
     pub taken : IsPrefix (before_second level events) (chunks cut settings.version pairs)
 
-  source_refused : LeftAreBytes seen → AreLawful settings → length before ≤ 16 → AreHonest seen before → (events : List Chunk) (end : End) →
-      HasStaged seen settings level before after events end count → end ≡ Fault Memory → IsRefusedRun events
+  source_refused : LeftAreBytes seen → AreLawful settings → length before ≤ 16 →
+      AreHonest seen before → (events : List Chunk) (end : End) →
+      HasStaged seen settings level before after events end count → end ≡ Fault Memory →
+      IsRefusedRun events
   source_refused bytes lawful sixteen honest events end h end_is =
-      let sent = all_fronts seen settings.max_records bytes 0 before h.gathered.loader_outs after h.gathered.files h.gathered.loaded honest in
-      let files : AreSent (map sent_input h.gathered.files) (raw_overlay sent.goods) = record { lists = sent.goods; rising = sent.rising; fronts = sent.fronts; overlay_is = refl } in
-      let inputs = joined_sent h.gathered.mergers (map sent_input h.gathered.files) h.gathered.inputs h.gathered.joined (raw_overlay sent.goods) files in
-      let first = first_pairs h.gathered.inputs h.pairs h.pairs_end (raw_overlay sent.goods) inputs h.gathered.merges in
-      let all = good_few seen settings.max_records before sent.goods sent.are_good lawful.max_records.1 in
+      let sent = all_fronts seen settings.max_records bytes 0 before h.gathered.loader_outs after
+      h.gathered.files h.gathered.loaded honest in
+      let files : AreSent (map sent_input h.gathered.files) (raw_overlay sent.goods) =
+      record {
+        lists = sent.goods;
+        rising = sent.rising;
+        fronts = sent.fronts;
+        overlay_is = refl;
+      } in
+      let inputs = joined_sent h.gathered.mergers (map sent_input h.gathered.files)
+      h.gathered.inputs h.gathered.joined (raw_overlay sent.goods) files in
+      let first = first_pairs h.gathered.inputs h.pairs h.pairs_end (raw_overlay sent.goods) inputs
+      h.gathered.merges in
+      let all = good_few seen settings.max_records before sent.goods sent.are_good
+      lawful.max_records.1 in
       let small = overlay_is_small sent.goods in
-      let more : length (overlay sent.goods) ≡ length (h.pairs ++ first.0) = ap (λ (ps : List Pair). length ps) first.1 in
+      let more : length (overlay sent.goods) ≡ length (h.pairs ++ first.0) =
+      ap (λ (ps : List Pair). length ps) first.1 in
       let sum = length-append h.pairs first.0 in
       let few : length h.pairs < 2 ^ 64 = omega (arith, all, small, more, sum, sixteen) in
-      let takes = writer_takes cut settings.version h.pairs level (composition cut settings.version h.pairs few level) h.pairs_end events end h.staged in
+      let takes = writer_takes cut settings.version h.pairs level
+      (composition cut settings.version h.pairs few level) h.pairs_end events end h.staged in
       let tree = chunks cut settings.version h.pairs in
       record {
         goods = sent.goods;
         are_good = sent.are_good;
         pairs = h.pairs;
         first = first;
-        taken = prefix_trans (before_second level events) (before_second level tree) tree (takes.memory end_is)
+        taken = prefix_trans (before_second level events) (before_second level tree) tree
+            (takes.memory end_is)
             (within_is_prefix (suc level) tree tree ([], sym (append-nil tree))).1;
       }
 
   -- what the sink took of that
   pub refused : {old new : SinkView} {events : List Chunk} → IsRefusedRun events →
-      (old.is_keeping ≡ true → TakesPrefix old.taken new.taken (frames_of (header settings.version settings.bits) (before_second level events))) → IsRefused seen settings before old new
+      (old.is_keeping ≡ true → TakesPrefix old.taken new.taken
+      (frames_of (header settings.version settings.bits) (before_second level events))) →
+      IsRefused seen settings before old new
   refused h took = record {
     goods = h.goods;
     are_good = h.are_good;
     pairs = h.pairs;
     first = h.first;
-    taken = λ keeps. prefix_on _ (took keeps) (frames_front (header settings.version settings.bits) _ (chunks cut settings.version h.pairs) h.taken);
+    taken = λ keeps. prefix_on _ (took keeps)
+        (frames_front (header settings.version settings.bits) _
+        (chunks cut settings.version h.pairs) h.taken);
   }
 
 -- the same over sources that were lent
-pub lent_refused : {S : Type 0} (seen : S → SourceView) → LeftAreBytes seen → (settings : Settings) (level : ℕ) (before lent after : List S) (count : ℕ) →
-    AreLawful settings → length before ≤ 16 → level + 1 ≡ settings.stages → lent ≡ before → AreHonest seen before → (events : List Chunk) (end : End) →
-    HasStaged seen settings level lent after events end count → end ≡ Fault Memory → IsRefusedRun seen settings before after count events
-lent_refused {S} seen bytes settings level before lent after count lawful sixteen levels same honest events end h =
+pub lent_refused : {S : Type 0} (seen : S → SourceView) → LeftAreBytes seen →
+    (settings : Settings) (level : ℕ) (before lent after : List S) (count : ℕ) →
+    AreLawful settings → length before ≤ 16 → level + 1 ≡ settings.stages → lent ≡ before →
+    AreHonest seen before → (events : List Chunk) (end : End) →
+    HasStaged seen settings level lent after events end count → end ≡ Fault Memory →
+    IsRefusedRun seen settings before after count events
+lent_refused {S} seen bytes settings level before lent after count lawful sixteen levels same honest
+    events end h =
     let below : level ≡ settings.stages - 1 = omega (arith, levels) in
     source_refused seen settings before after count bytes lawful sixteen honest events end
     (subst (λ (l : ℕ). HasStaged seen settings l before after events end count) below

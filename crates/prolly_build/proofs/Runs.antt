@@ -1,5 +1,6 @@
 -- What the workers of a build sent, seen from the sources.
-use Rattle.std.proofs.Common.{◌≡◌, ◌≢◌, ◌≤◌, ◌<◌, ◌+◌, ◌-◌, ◌^◌, ℕ, List, [], map, length, inl, inr, refl, ap, sym, subst, ◌∙◌, arith}
+use Rattle.std.proofs.Common.{◌≡◌, ◌≢◌, ◌≤◌, ◌<◌, ◌+◌, ◌-◌, ◌^◌, ℕ, List, [], map, length, inl, inr}
+use Rattle.std.proofs.Common.{refl, ap, sym, subst, ◌∙◌, arith}
 use Rattle.prolly_tree.specs.Chunk.{Chunk}
 use Rattle.prolly_entry.specs.Cut.{sha512_cut}
 use Rattle.prolly_tree.specs.Events.{Closing, clean, faulty}
@@ -14,14 +15,17 @@ use Rattle.prolly_file.specs.Sink.{SinkView}
 use Rattle.prolly_fault.specs.Ends.{End}
 use Rattle.prolly_link.specs.declared.end.End.TheVariants.{Clean, Fault}
 use Rattle.prolly_fault.specs.declared.fault.RunFault.{RunFault}
-use Rattle.prolly_fault.specs.declared.fault.RunFault.TheVariants.{Memory, NoThread, Lost, TooManyFiles}
+use Rattle.prolly_fault.specs.declared.fault.RunFault.TheVariants.{Memory, NoThread, Lost}
+use Rattle.prolly_fault.specs.declared.fault.RunFault.TheVariants.{TooManyFiles}
 use Rattle.prolly_build.specs.declared.end.halt.Halt.{Halt}
-use Rattle.prolly_build.specs.declared.end.halt.Halt.TheVariants.{NoThread as NoThread_halt, Lost as Lost_halt}
+use Rattle.prolly_build.specs.declared.end.halt.Halt.TheVariants.{NoThread as NoThread_halt}
+use Rattle.prolly_build.specs.declared.end.halt.Halt.TheVariants.{Lost as Lost_halt}
 use Rattle.prolly_build.specs.Ran.{IsHaltFault}
 use Rattle.prolly_merge.specs.Inputs.{fault_of, lists_of}
 use Rattle.prolly_merge.specs.Sent.{Counts}
 use Rattle.prolly_stage.specs.Sends.{Sends, closing_of}
-use Rattle.prolly_build.specs.Built.{AreRead, AreKept, IsBuilt, IsFileOf, IsUnmade, IsUnmadeOf, IsRunOf, IsInputFault, IsInputEnd, IsStartFault, IsWriterFault}
+use Rattle.prolly_build.specs.Built.{AreRead, AreKept, IsBuilt, IsFileOf, IsUnmade, IsUnmadeOf}
+use Rattle.prolly_build.specs.Built.{IsRunOf, IsInputFault, IsInputEnd, IsStartFault, IsWriterFault}
 use Rattle.prolly_build.specs.Stopped.{IsFileFault, IsStopped, TookBegun}
 use Rattle.prolly_build.specs.declared.report.Report.{Report}
 use Rattle.prolly_build.specs.Gathering.{IsGathered}
@@ -31,14 +35,16 @@ use Rattle.prolly_build.specs.Staging.{HasStaged}
 use Rattle.prolly_build.proofs.Loads.{all_rise, all_only, all_kept, all_read, all_few}
 use Rattle.prolly_build.proofs.Stops.{IsStoppedRun}
 use Rattle.prolly_build.proofs.Takings.{lost_is_no_memory}
-use Rattle.prolly_build.proofs.Mergings.{IfFault, clean_pairs, joined_rises, joined_only, rises_all, sends_only}
+use Rattle.prolly_build.proofs.Mergings.{IfFault, clean_pairs, joined_rises, joined_only, rises_all}
+use Rattle.prolly_build.proofs.Mergings.{sends_only}
 
 -- an end whose fault is one of the input's
 input_end : (end : End) → IfFault IsInputFault (fault_of end) → IsInputEnd end
 input_end Clean h = tt
 input_end (Fault f) h = h
 
-module _ {S : Type 0} (seen : S → SourceView) (settings : Settings) (before after : List S) (count : ℕ) where
+module _ {S : Type 0} (seen : S → SourceView) (settings : Settings) (before after : List S)
+    (count : ℕ) where
   -- what the last stage sent, by what the loaders sent
   pub record IsSourceRun (events : List Chunk) (end : End) : Type 0 where
     pub goods : List (List Record)
@@ -48,13 +54,16 @@ module _ {S : Type 0} (seen : S → SourceView) (settings : Settings) (before af
     pub run : IsRunOf settings (overlay goods) events end count
 
   -- the end of the pairs is one that workers may send
-  pairs_input : (pairs : List Pair) (end : End) → IsGathered seen settings.max_records before after pairs end count → IsInputEnd end
+  pairs_input : (pairs : List Pair) (end : End) →
+      IsGathered seen settings.max_records before after pairs end count → IsInputEnd end
   pairs_input pairs end h =
-      let rises = all_rise seen settings.max_records 0 before h.loader_outs after h.files h.loaded in
+      let rises = all_rise seen settings.max_records 0 before h.loader_outs after h.files h.loaded
+      in
       let only = all_only seen settings.max_records 0 before h.loader_outs after h.files h.loaded in
       let inputs_rise = joined_rises h.mergers (map sent_input h.files) h.inputs h.joined rises in
       input_end end
-      (sends_only IsInputFault tt h.inputs (merged_part h.inputs) pairs end (h.merges (rises_all h.inputs inputs_rise))
+      (sends_only IsInputFault tt h.inputs (merged_part h.inputs) pairs end
+      (h.merges (rises_all h.inputs inputs_rise))
       (joined_only IsInputFault tt h.mergers (map sent_input h.files) h.inputs h.joined rises only))
 
   -- the pairs of a clean end are the overlay of the files, and few
@@ -64,16 +73,23 @@ module _ {S : Type 0} (seen : S → SourceView) (settings : Settings) (before af
     few : length (overlay goods) ≤ 268435456
     counted : count ≡ length (overlay goods)
 
-  clean_gathered : AreLawful settings → length before ≤ 16 → (pairs : List Pair) (end : End) (h : IsGathered seen settings.max_records before after pairs end count) →
+  clean_gathered : AreLawful settings → length before ≤ 16 →
+      (pairs : List Pair) (end : End) (h : IsGathered seen settings.max_records before after pairs
+      end count) →
       end ≡ Clean → ArePairs (lists_of (map sent_input h.files)) pairs
   clean_gathered lawful sixteen pairs end h end_is =
-      let rises = all_rise seen settings.max_records 0 before h.loader_outs after h.files h.loaded in
-      let merges : MergesAll h.inputs pairs Clean = subst (λ (e : End). MergesAll h.inputs pairs e) end_is h.merges in
+      let rises = all_rise seen settings.max_records 0 before h.loader_outs after h.files h.loaded
+      in
+      let merges : MergesAll h.inputs pairs Clean =
+      subst (λ (e : End). MergesAll h.inputs pairs e) end_is h.merges in
       let p = clean_pairs h.mergers (map sent_input h.files) h.inputs pairs h.joined rises merges in
       let small = overlay_is_small (lists_of (map sent_input h.files)) in
-      let all = all_few seen settings.max_records 0 before h.loader_outs after h.files h.loaded lawful.max_records.1 in
-      let few : length (overlay (lists_of (map sent_input h.files))) ≤ 268435456 = omega (arith, small, all, sixteen) in
-      let n : length pairs ≡ length (overlay (lists_of (map sent_input h.files))) = ap (λ (ps : List Pair). length ps) p.1 in
+      let all = all_few seen settings.max_records 0 before h.loader_outs after h.files h.loaded
+      lawful.max_records.1 in
+      let few : length (overlay (lists_of (map sent_input h.files))) ≤ 268435456 =
+      omega (arith, small, all, sixteen) in
+      let n : length pairs ≡ length (overlay (lists_of (map sent_input h.files))) =
+      ap (λ (ps : List Pair). length ps) p.1 in
       record {
         read = all_read seen settings.max_records 0 before h.loader_outs after h.files h.loaded p.0;
         pairs_are = p.1;
@@ -81,19 +97,23 @@ module _ {S : Type 0} (seen : S → SourceView) (settings : Settings) (before af
         counted = counted pairs (overlay (lists_of (map sent_input h.files))) h.counts n few;
       }
     where
-      counted : (ps m : List Pair) → Counts [] ps count → length ps ≡ length m → length m ≤ 268435456 → count ≡ length m
+      counted : (ps m : List Pair) → Counts [] ps count → length ps ≡ length m →
+          length m ≤ 268435456 → count ≡ length m
       counted ps m c n few =
           let k : length ps ≡ length c.0 = ap (λ (qs : List Pair). length qs) c.1 in
           let l = c.2 in
           omega (arith, k, l, n, few)
 
   pub source_run : AreLawful settings → length before ≤ 16 → (events : List Chunk) (end : End) →
-      HasStaged seen settings (settings.stages - 1) before after events end count → IsSourceRun events end
+      HasStaged seen settings (settings.stages - 1) before after events end count →
+      IsSourceRun events end
   source_run lawful sixteen events end h = record {
     goods = lists_of (map sent_input h.gathered.files);
-    kept = all_kept seen settings.max_records 0 before h.gathered.loader_outs after h.gathered.files h.gathered.loaded;
+    kept = all_kept seen settings.max_records 0 before h.gathered.loader_outs after h.gathered.files
+        h.gathered.loaded;
     input = input_of_end h.staged;
-    read = λ e. (clean_gathered lawful sixteen h.pairs h.pairs_end h.gathered (pairs_clean e h.staged).0).read;
+    read = λ e. (clean_gathered lawful sixteen h.pairs h.pairs_end h.gathered
+        (pairs_clean e h.staged).0).read;
     run = λ e.
         let c = pairs_clean e h.staged in
         let g = clean_gathered lawful sixteen h.pairs h.pairs_end h.gathered c.0 in
@@ -111,7 +131,8 @@ module _ {S : Type 0} (seen : S → SourceView) (settings : Settings) (before af
       input_of_end (inl s) = subst IsInputEnd (sym s.1) (pairs_input h.pairs h.pairs_end h.gathered)
       input_of_end (inr s) = subst IsInputEnd (sym s.0) tt
 
-      pairs_clean : end ≡ Clean → Sends stage h.pairs h.pairs_end [] events end → (h.pairs_end ≡ Clean) × (events ≡ stage clean h.pairs)
+      pairs_clean : end ≡ Clean → Sends stage h.pairs h.pairs_end [] events end →
+          (h.pairs_end ≡ Clean) × (events ≡ stage clean h.pairs)
       pairs_clean e (inl s) =
           let is : h.pairs_end ≡ Clean = sym s.1 ∙ e in
           (is, s.0 ∙ ap (λ (x : End). stage (closing_of x) h.pairs) is)
@@ -121,9 +142,12 @@ module _ {S : Type 0} (seen : S → SourceView) (settings : Settings) (before af
           apart x = cc
 
 -- the same over sources that were lent, where the level is one less than the number of stages
-pub lent_run : {S : Type 0} (seen : S → SourceView) (settings : Settings) (level : ℕ) (before lent after : List S) (count : ℕ) →
-    AreLawful settings → length before ≤ 16 → level + 1 ≡ settings.stages → lent ≡ before → (events : List Chunk) (end : End) →
-    HasStaged seen settings level lent after events end count → IsSourceRun seen settings before after count events end
+pub lent_run : {S : Type 0} (seen : S → SourceView) (settings : Settings) (level : ℕ)
+    (before lent after : List S) (count : ℕ) →
+    AreLawful settings → length before ≤ 16 → level + 1 ≡ settings.stages → lent ≡ before →
+    (events : List Chunk) (end : End) →
+    HasStaged seen settings level lent after events end count →
+    IsSourceRun seen settings before after count events end
 lent_run {S} seen settings level before lent after count lawful sixteen levels same events end h =
     let below : level ≡ settings.stages - 1 = omega (arith, levels) in
     source_run seen settings before after count lawful sixteen events end
@@ -131,14 +155,18 @@ lent_run {S} seen settings level before lent after count lawful sixteen levels s
     (subst (λ (ss : List S). HasStaged seen settings level ss after events end count) same h))
 
 -- the file of what the sources hold
-pub built : {S : Type 0} {seen : S → SourceView} {settings : Settings} {before after : List S} {old new : SinkView} {report : Report} →
-    (goods : List (List Record)) → AreRead seen settings.max_records before after goods → IsFileOf settings (overlay goods) old new report →
+pub built : {S : Type 0} {seen : S → SourceView} {settings : Settings} {before after : List S}
+    {old new : SinkView} {report : Report} →
+    (goods : List (List Record)) → AreRead seen settings.max_records before after goods →
+    IsFileOf settings (overlay goods) old new report →
     IsBuilt seen settings before after old new report
 built goods read made = record { goods = goods; read = read; made = made }
 
 -- why there is none
-pub not_built : {S : Type 0} {seen : S → SourceView} {settings : Settings} {before after : List S} {old new : SinkView} {fault : RunFault} →
-    (goods : List (List Record)) → AreRead seen settings.max_records before after goods → IsUnmadeOf settings (overlay goods) old new fault →
+pub not_built : {S : Type 0} {seen : S → SourceView} {settings : Settings} {before after : List S}
+    {old new : SinkView} {fault : RunFault} →
+    (goods : List (List Record)) → AreRead seen settings.max_records before after goods →
+    IsUnmadeOf settings (overlay goods) old new fault →
     IsUnmade seen settings before after old new fault
 not_built goods read unmade = record { goods = goods; read = read; unmade = unmade }
 
@@ -153,21 +181,31 @@ lost_is_no_count : Lost ≡ TooManyFiles → ⊥
 lost_is_no_count e = cc
 
 -- why the fault of a file is named
-pub stopped : {S : Type 0} {seen : S → SourceView} {settings : Settings} {before after : List S} {old new : SinkView} {count : ℕ}
-    {events : List Chunk} (fault : RunFault) → IsFileFault fault → (fault ≢ Memory → IsStoppedRun seen settings before after count events fault) →
-    ((p : List Pair) → length p < 2 ^ 64 → events ≡ pipeline_events (settings.stages - 1) (sha512_cut settings.bits) settings.version faulty p → TookBegun settings p old new) →
+pub stopped : {S : Type 0} {seen : S → SourceView} {settings : Settings} {before after : List S}
+    {old new : SinkView} {count : ℕ}
+    {events : List Chunk} (fault : RunFault) → IsFileFault fault →
+    (fault ≢ Memory → IsStoppedRun seen settings before after count events fault) →
+    ((p : List Pair) → length p < 2 ^ 64 → events ≡ pipeline_events (settings.stages - 1)
+    (sha512_cut settings.bits) settings.version faulty p → TookBegun settings p old new) →
     IsStopped seen settings before after old new fault
 stopped fault file run took =
     let h = run (λ e. subst IsFileFault e file) in
-    record { inputs = h.inputs; count_for = h.count_for; named = h.named; took = took (merged_part h.inputs) h.few h.sent }
+    record {
+      inputs = h.inputs;
+      count_for = h.count_for;
+      named = h.named;
+      took = took (merged_part h.inputs) h.few h.sent;
+    }
 
 -- a halt is no fault of a file
-pub halted_unstopped : (halt : Halt) (fault : RunFault) → IsHaltFault halt fault → IsFileFault fault → ⊥
+pub halted_unstopped : (halt : Halt) (fault : RunFault) → IsHaltFault halt fault →
+    IsFileFault fault → ⊥
 halted_unstopped NoThread_halt fault is f = subst IsFileFault is f
 halted_unstopped Lost_halt fault is f = subst IsFileFault is f
 
 -- a halt is no want of memory
-pub halted_unrefused : (halt : Halt) (fault : RunFault) → IsHaltFault halt fault → fault ≡ Memory → ⊥
+pub halted_unrefused : (halt : Halt) (fault : RunFault) → IsHaltFault halt fault → fault ≡ Memory →
+    ⊥
 halted_unrefused NoThread_halt fault is m = no_thread (sym is ∙ m)
   where
     no_thread : NoThread ≡ Memory → ⊥
@@ -175,26 +213,32 @@ halted_unrefused NoThread_halt fault is m = no_thread (sym is ∙ m)
 halted_unrefused Lost_halt fault is m = lost_is_no_memory (sym is ∙ m)
 
 -- a halt is no fault of the writer
-pub halted_unmade : (halt : Halt) (fault : RunFault) → IsHaltFault halt fault → IsWriterFault fault → ⊥
+pub halted_unmade : (halt : Halt) (fault : RunFault) → IsHaltFault halt fault →
+    IsWriterFault fault → ⊥
 halted_unmade NoThread_halt fault is w = subst IsWriterFault is w
 halted_unmade Lost_halt fault is w = subst IsWriterFault is w
 
 -- a halt is not that of too many files
-pub halted_counted : (halt : Halt) (fault : RunFault) → IsHaltFault halt fault → fault ≢ TooManyFiles
+pub halted_counted : (halt : Halt) (fault : RunFault) → IsHaltFault halt fault →
+    fault ≢ TooManyFiles
 halted_counted NoThread_halt fault is e = no_thread_is_no_count (sym is ∙ e)
 halted_counted Lost_halt fault is e = lost_is_no_count (sym is ∙ e)
 
--- what is known after a halt: of want of a thread that the sink is as it was; of no halt that the sources are there
+-- what is known after a halt: of want of a thread that the sink is as it was; of no halt that the
+-- sources are there
 pub record IsRefusal (untouched kept : Type 0) (fault : RunFault) : Type 0 where
   pub unstarted : IsStartFault fault → untouched
   pub left_behind : fault ≢ NoThread → fault ≢ Lost → kept
 
-pub halted_refusal : {untouched kept : Type 0} (halt : Halt) (fault : RunFault) → IsHaltFault halt fault → (halt ≡ NoThread_halt → untouched) → IsRefusal untouched kept fault
-halted_refusal {untouched} {kept} NoThread_halt fault is h = subst (λ f. IsRefusal untouched kept f) (sym is) (record {
-  unstarted = λ s. h refl;
-  left_behind = λ a b. absurd (a refl);
-})
-halted_refusal {untouched} {kept} Lost_halt fault is h = subst (λ f. IsRefusal untouched kept f) (sym is) (record {
-  unstarted = λ s. absurd s;
-  left_behind = λ a b. absurd (b refl);
-})
+pub halted_refusal : {untouched kept : Type 0} (halt : Halt) (fault : RunFault) →
+    IsHaltFault halt fault → (halt ≡ NoThread_halt → untouched) → IsRefusal untouched kept fault
+halted_refusal {untouched} {kept} NoThread_halt fault is h =
+    subst (λ f. IsRefusal untouched kept f) (sym is) (record {
+      unstarted = λ s. h refl;
+      left_behind = λ a b. absurd (a refl);
+    })
+halted_refusal {untouched} {kept} Lost_halt fault is h =
+    subst (λ f. IsRefusal untouched kept f) (sym is) (record {
+      unstarted = λ s. absurd s;
+      left_behind = λ a b. absurd (b refl);
+    })

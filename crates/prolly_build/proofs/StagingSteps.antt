@@ -18,15 +18,21 @@ use Rattle.prolly_build.specs.Staging.{HasStaged}
 use Rattle.prolly_build.specs.Workers.{IsStaged}
 
 -- what a stage sent of a link that was met, it sent of what its sender sent
-sends_met : {A : Type 0} (stage : Closing → List A → List Chunk) (input : Receiving A) (out : Batching Chunk) (ended : Receiving A) (closed : Whole Chunk) (sent : Whole A) →
-    IsStaged stage input out ended closed → (ended.items ≡ sent.items) × (ended.progress ≡ Ended sent.end) →
+sends_met : {A : Type 0} (stage : Closing → List A → List Chunk) (input : Receiving A)
+    (out : Batching Chunk) (ended : Receiving A) (closed : Whole Chunk) (sent : Whole A) →
+    IsStaged stage input out ended closed → (ended.items ≡ sent.items) ×
+    (ended.progress ≡ Ended sent.end) →
     Sends stage sent.items sent.end [] closed.items closed.end
 sends_met {A} stage input out ended closed sent h met =
     subst (λ (xs : List A). Sends stage xs sent.end [] closed.items closed.end) met.0
-    (subst (λ (e : End). Sends stage ended.items e [] closed.items closed.end) (ap end_given met.1) h.sends)
+    (subst (λ (e : End). Sends stage ended.items e [] closed.items closed.end) (ap end_given met.1)
+    h.sends)
 
-module _ {S : Type 0} (seen : S → SourceView) (settings : Settings) (before after : List S) (count : ℕ) where
-  pub leaves_staged : (cut : ℕ) → cut ≡ settings.bits → (input : Receiving Pair) (out : Batching Chunk) (ended : Receiving Pair) (closed : Whole Chunk) (sent : Whole Pair) →
+module _ {S : Type 0} (seen : S → SourceView) (settings : Settings) (before after : List S)
+    (count : ℕ) where
+  pub leaves_staged : (cut : ℕ) → cut ≡ settings.bits →
+      (input : Receiving Pair) (out : Batching Chunk) (ended : Receiving Pair)
+      (closed : Whole Chunk) (sent : Whole Pair) →
       IsGathered seen settings.max_records before after sent.items sent.end count →
       IsStaged (leaf_events (sha512_cut cut) settings.version) input out ended closed →
       (ended.items ≡ sent.items) × (ended.progress ≡ Ended sent.end) →
@@ -35,27 +41,39 @@ module _ {S : Type 0} (seen : S → SourceView) (settings : Settings) (before af
     pairs = sent.items;
     pairs_end = sent.end;
     gathered = gathered;
-    staged = subst (λ (q : ℕ). Sends (pipeline_events 0 (sha512_cut q) settings.version) sent.items sent.end [] closed.items closed.end) cut_is
-        (sends_met (leaf_events (sha512_cut cut) settings.version) input out ended closed sent h met);
+    staged = subst (λ (q : ℕ). Sends (pipeline_events 0 (sha512_cut q) settings.version) sent.items
+        sent.end [] closed.items closed.end) cut_is
+        (sends_met (leaf_events (sha512_cut cut) settings.version) input out ended closed sent h
+        met);
   }
 
-  pub nodes_staged : (n level top cut : ℕ) (version : Version) → level ≡ n + 1 → top ≡ n + 1 → cut ≡ settings.bits → version ≡ settings.version →
-      (input : Receiving Chunk) (out : Batching Chunk) (ended : Receiving Chunk) (closed : Whole Chunk) (sent : Whole Chunk) →
+  pub nodes_staged : (n level top cut : ℕ) (version : Version) → level ≡ n + 1 → top ≡ n + 1 →
+      cut ≡ settings.bits → version ≡ settings.version →
+      (input : Receiving Chunk) (out : Batching Chunk) (ended : Receiving Chunk)
+      (closed : Whole Chunk) (sent : Whole Chunk) →
       HasStaged seen settings n before after sent.items sent.end count →
       IsStaged (inner_events level (sha512_cut cut) version) input out ended closed →
       (ended.items ≡ sent.items) × (ended.progress ≡ Ended sent.end) →
       HasStaged seen settings top before after closed.items closed.end count
-  nodes_staged n level top cut version level_is top_is cut_is version_is input out ended closed sent below h met =
-      let mine : Sends (inner_events (suc n) (sha512_cut settings.bits) settings.version) sent.items sent.end [] closed.items closed.end =
-      subst (λ (l : ℕ). Sends (inner_events l (sha512_cut settings.bits) settings.version) sent.items sent.end [] closed.items closed.end) (level_is ∙ add-one n)
-      (subst (λ (q : ℕ). Sends (inner_events level (sha512_cut q) settings.version) sent.items sent.end [] closed.items closed.end) cut_is
-      (subst (λ (v : Version). Sends (inner_events level (sha512_cut cut) v) sent.items sent.end [] closed.items closed.end) version_is
-      (sends_met (inner_events level (sha512_cut cut) version) input out ended closed sent h met))) in
+  nodes_staged n level top cut version level_is top_is cut_is version_is input out ended closed sent
+      below h met =
+      let mine : Sends (inner_events (suc n) (sha512_cut settings.bits) settings.version) sent.items
+      sent.end [] closed.items closed.end =
+      subst (λ (l : ℕ). Sends (inner_events l (sha512_cut settings.bits) settings.version)
+      sent.items sent.end [] closed.items closed.end) (level_is ∙ add-one n)
+      (subst (λ (q : ℕ). Sends (inner_events level (sha512_cut q) settings.version) sent.items
+      sent.end [] closed.items closed.end) cut_is
+      (subst (λ (v : Version). Sends (inner_events level (sha512_cut cut) v) sent.items sent.end []
+      closed.items closed.end) version_is
+      (sends_met (inner_events level (sha512_cut cut) version) input out ended closed sent h met)))
+      in
       record {
         pairs = below.pairs;
         pairs_end = below.pairs_end;
         gathered = below.gathered;
-        staged = subst (λ (l : ℕ). Sends (pipeline_events l (sha512_cut settings.bits) settings.version) below.pairs below.pairs_end [] closed.items closed.end)
+        staged = subst (λ (l : ℕ). Sends (pipeline_events l (sha512_cut settings.bits)
+            settings.version) below.pairs below.pairs_end [] closed.items closed.end)
             (sym (top_is ∙ add-one n))
-            (stage_follows (sha512_cut settings.bits) settings.version n below.pairs below.pairs_end sent.items sent.end closed.items closed.end below.staged mine);
+            (stage_follows (sha512_cut settings.bits) settings.version n below.pairs below.pairs_end
+            sent.items sent.end closed.items closed.end below.staged mine);
       }

@@ -1,5 +1,7 @@
 -- How the writer's state goes on.
-use Rattle.std.proofs.Common.{◌≡◌, ◌≢◌, ◌<◌, ◌^◌, Option, Some, length, ℕ, suc, ◌≤◌, Bool, true, false, List, [], ◌∷◌, ◌++◌, refl, sym, ap, ◌∙◌, subst, arith, append_assoc}
+use Rattle.std.proofs.Common.{◌≡◌, ◌≢◌, ◌<◌, ◌^◌, Option, Some, length, ℕ, suc, ◌≤◌, Bool, true}
+use Rattle.std.proofs.Common.{false, List, [], ◌∷◌, ◌++◌, refl, sym, ap, ◌∙◌, subst, arith}
+use Rattle.std.proofs.Common.{append_assoc}
 use Rattle.std.proofs.lemmas.List.{append-nil}
 use Rattle.prolly_tree.specs.Chunk.{Chunk}
 use Rattle.prolly_tree.specs.File.{frame, end_record}
@@ -13,22 +15,28 @@ use Rattle.prolly_file.specs.Sink.{SinkView, TakesPrefix}
 use Rattle.prolly_build.specs.declared.run.written.Begun.{Begun}
 use Rattle.prolly_build.specs.declared.run.written.Top.{Top}
 use Rattle.prolly_build.specs.declared.run.written.Written.{Written}
-use Rattle.prolly_build.specs.Writing.{AreSmall, frames_of, tops_counted, IsTopOf, IsWhole, IsTall, IsFailed, IsUnended, HasWritten}
-use Rattle.prolly_build.proofs.Tops.{one_more, second_all, second_last, second_stays, frames_front, frames_more}
+use Rattle.prolly_build.specs.Writing.{AreSmall, frames_of, tops_counted, IsTopOf, IsWhole, IsTall}
+use Rattle.prolly_build.specs.Writing.{IsFailed, IsUnended, HasWritten}
+use Rattle.prolly_build.proofs.Tops.{one_more, second_all, second_last, second_stays, frames_front}
+use Rattle.prolly_build.proofs.Tops.{frames_more}
 
 -- too tall a tree stays so
-pub tall_stays : {head : List ℕ} {level : ℕ} {events : List Chunk} {old new : SinkView} (e : Chunk) → IsTall head level events old new →
+pub tall_stays : {head : List ℕ} {level : ℕ} {events : List Chunk} {old new : SinkView}
+    (e : Chunk) → IsTall head level events old new →
     IsTall head level (events ++ e ∷ []) old new
-tall_stays {head} {level} {events} {old} e h = let more = one_more level events e in let two = h.second in record {
-  second = omega (arith, more, two);
-  small = subst AreSmall (sym (second_stays level events (e ∷ []) h.second)) h.small;
-  unfailed = h.unfailed;
-  taken_is = λ k. h.taken_is k ∙ ap (λ cs. old.taken ++ frames_of head cs) (sym (second_stays level events (e ∷ []) h.second));
-  keeps = h.keeps;
-}
+tall_stays {head} {level} {events} {old} e h = let more = one_more level events e in let two =
+    h.second in record {
+      second = omega (arith, more, two);
+      small = subst AreSmall (sym (second_stays level events (e ∷ []) h.second)) h.small;
+      unfailed = h.unfailed;
+      taken_is = λ k. h.taken_is k ∙ ap (λ cs. old.taken ++ frames_of head cs)
+          (sym (second_stays level events (e ∷ []) h.second));
+      keeps = h.keeps;
+    }
 
 -- what is a prefix of the wanted bytes is one of bytes that they begin
-pub prefix_on : {old new wanted : List ℕ} (more : List ℕ) → TakesPrefix old new wanted → IsPrefix wanted more → TakesPrefix old new more
+pub prefix_on : {old new wanted : List ℕ} (more : List ℕ) → TakesPrefix old new wanted →
+    IsPrefix wanted more → TakesPrefix old new more
 prefix_on {wanted} more h k = record {
   part = h.part;
   grown = h.grown;
@@ -36,30 +44,36 @@ prefix_on {wanted} more h k = record {
 }
 
 -- so does a failed file
-pub failed_stays : {head : List ℕ} {level : ℕ} {events : List Chunk} {old new : SinkView} (e : Chunk) → IsFailed head level events old new →
+pub failed_stays : {head : List ℕ} {level : ℕ} {events : List Chunk} {old new : SinkView}
+    (e : Chunk) → IsFailed head level events old new →
     IsFailed head level (events ++ e ∷ []) old new
 failed_stays {head} {level} {events} e h = record {
   failed = h.failed;
   tried = h.tried;
   small = h.small;
-  first = prefix_trans h.tried (before_second level events) (before_second level (events ++ e ∷ [])) h.first
+  first = prefix_trans h.tried (before_second level events) (before_second level (events ++ e ∷ []))
+      h.first
       (within_is_prefix (suc level) events (events ++ e ∷ []) (e ∷ [], refl)).0;
   taken_is = h.taken_is;
   keeps = h.keeps;
 }
 
 -- and what was taken of it is a prefix of the frames of all that the writer takes
-pub failed_part : {head : List ℕ} {level : ℕ} {events : List Chunk} {old new : SinkView} → IsFailed head level events old new → old.is_keeping ≡ true →
+pub failed_part : {head : List ℕ} {level : ℕ} {events : List Chunk} {old new : SinkView} →
+    IsFailed head level events old new → old.is_keeping ≡ true →
     TakesPrefix old.taken new.taken (frames_of head (before_second level events))
 failed_part {head} {level} {events} h k =
-    prefix_on (frames_of head (before_second level events)) (h.taken_is k) (frames_front head h.tried (before_second level events) h.first)
+    prefix_on (frames_of head (before_second level events)) (h.taken_is k)
+    (frames_front head h.tried (before_second level events) h.first)
 
 -- a chunk more whose length its frame can spell
-pub small_more : (events : List Chunk) (e : Chunk) → AreSmall events → length e.bytes < 2 ^ 64 → AreSmall (events ++ e ∷ [])
+pub small_more : (events : List Chunk) (e : Chunk) → AreSmall events → length e.bytes < 2 ^ 64 →
+    AreSmall (events ++ e ∷ [])
 small_more events e h k = all_append (λ c. length c.bytes < 2 ^ 64) events (e ∷ []) h (k, tt)
 
 -- the second event of the last stage's level
-pub tall_now : {head : List ℕ} {level : ℕ} {events : List Chunk} {old new : SinkView} {begun : Begun} (e : Chunk) → IsWhole head level events old new begun →
+pub tall_now : {head : List ℕ} {level : ℕ} {events : List Chunk} {old new : SinkView}
+    {begun : Begun} (e : Chunk) → IsWhole head level events old new begun →
     begun.has_top ≡ true → has_level level e ≡ true → IsTall head level (events ++ e ∷ []) old new
 tall_now {head} {level} {events} {old} e h top t =
     let one : count level events ≡ 1 = h.few ∙ ap tops_counted top in
@@ -68,49 +82,73 @@ tall_now {head} {level} {events} {old} e h top t =
       second = omega (arith, one, more, its);
       small = subst AreSmall (sym (second_last level events e one t)) h.small;
       unfailed = h.unfailed;
-      taken_is = λ k. h.taken_is k ∙ ap (λ cs. old.taken ++ frames_of head cs) (sym (second_last level events e one t));
+      taken_is = λ k. h.taken_is k ∙ ap (λ cs. old.taken ++ frames_of head cs)
+          (sym (second_last level events e one t));
       keeps = h.keeps;
     }
 
 -- no second one of the last stage's level is there with one event more
 abbrev pub IsFew : ℕ → List Chunk → Bool → Bool → Chunk → Type 0
-IsFew level events has_top is_top e = (has_level level e ≡ is_top) × (is_top ≡ true → has_top ≡ false)
+IsFew level events has_top is_top e = (has_level level e ≡ is_top) ×
+    (is_top ≡ true → has_top ≡ false)
 
 one_at_most : (b : Bool) → tops_counted b ≤ 1
 one_at_most true = omega arith
 one_at_most false = omega arith
 
-part_behind : (old mid new before wanted : List ℕ) → mid ≡ old ++ before → TakesPrefix mid new wanted → TakesPrefix old new (before ++ wanted)
+part_behind : (old mid new before wanted : List ℕ) → mid ≡ old ++ before →
+    TakesPrefix mid new wanted → TakesPrefix old new (before ++ wanted)
 part_behind old mid new before wanted e h = record {
   part = before ++ h.part;
   grown = h.grown ∙ (ap (λ (z : List ℕ). z ++ h.part) e ∙ append_assoc old before h.part);
-  is_prefix = (h.is_prefix.0, ap (λ (z : List ℕ). before ++ z) h.is_prefix.1 ∙ sym (append_assoc before h.part h.is_prefix.0));
+  is_prefix = (
+    h.is_prefix.0,
+    ap (λ (z : List ℕ). before ++ z) h.is_prefix.1 ∙
+        sym (append_assoc before h.part h.is_prefix.0),
+  );
 }
 
 -- a frame fails
-pub failed_now : {head : List ℕ} {level : ℕ} {events : List Chunk} {old mid new : SinkView} {begun : Begun} (e : Chunk) (is_top : Bool) →
-    IsWhole head level events old mid begun → IsFew level events begun.has_top is_top e → length e.bytes < 2 ^ 64 →
-    (mid.is_keeping ≡ true → TakesPrefix mid.taken new.taken (frame e)) → new.failures ≢ mid.failures → (mid.is_keeping ≡ true → new.is_keeping ≡ true) →
+pub failed_now : {head : List ℕ} {level : ℕ} {events : List Chunk} {old mid new : SinkView}
+    {begun : Begun} (e : Chunk) (is_top : Bool) →
+    IsWhole head level events old mid begun → IsFew level events begun.has_top is_top e →
+    length e.bytes < 2 ^ 64 →
+    (mid.is_keeping ≡ true → TakesPrefix mid.taken new.taken (frame e)) →
+    new.failures ≢ mid.failures → (mid.is_keeping ≡ true → new.is_keeping ≡ true) →
     IsFailed head level (events ++ e ∷ []) old new
-failed_now {head} {level} {events} {old} {mid} {new} {begun} e is_top h few short part failed keeps = record {
-  failed = λ f. failed (f ∙ sym h.unfailed);
-  tried = events ++ e ∷ [];
-  small = small_more events e h.small short;
-  first = ([], second_all level (events ++ e ∷ []) (low begun.has_top is_top h.few few) ∙ sym (append-nil (events ++ e ∷ [])));
-  taken_is = λ k. subst (TakesPrefix old.taken new.taken) (sym (frames_more head events e)) (part_behind old.taken mid.taken new.taken (frames_of head events) (frame e) (h.taken_is k) (part (h.keeps k)));
-  keeps = λ k. keeps (h.keeps k);
-}
+failed_now {head} {level} {events} {old} {mid} {new} {begun} e is_top h few short part failed keeps
+    = record {
+      failed = λ f. failed (f ∙ sym h.unfailed);
+      tried = events ++ e ∷ [];
+      small = small_more events e h.small short;
+      first = (
+        [],
+        second_all level (events ++ e ∷ []) (low begun.has_top is_top h.few few) ∙
+            sym (append-nil (events ++ e ∷ [])),
+      );
+      taken_is = λ k. subst (TakesPrefix old.taken new.taken) (sym (frames_more head events e))
+          (part_behind old.taken mid.taken new.taken (frames_of head events) (frame e)
+          (h.taken_is k)
+          (part (h.keeps k)));
+      keeps = λ k. keeps (h.keeps k);
+    }
   where
-    low : (b c : Bool) → count level events ≡ tops_counted b → IsFew level events b c e → count level (events ++ e ∷ []) ≤ 1
+    low : (b c : Bool) → count level events ≡ tops_counted b → IsFew level events b c e →
+        count level (events ++ e ∷ []) ≤ 1
     low true true h k = absurd (let f : true ≡ false = k.1 refl in cc)
-    low true false h k = let more = one_more level events e in let its = count_false level e [] k.0 in omega (arith, h, more, its)
-    low false true h k = let more = one_more level events e in let its = count_true level e [] k.0 in omega (arith, h, more, its)
-    low false false h k = let more = one_more level events e in let its = count_false level e [] k.0 in omega (arith, h, more, its)
+    low true false h k = let more = one_more level events e in let its =
+        count_false level e [] k.0 in omega (arith, h, more, its)
+    low false true h k = let more = one_more level events e in let its =
+        count_true level e [] k.0 in omega (arith, h, more, its)
+    low false false h k = let more = one_more level events e in let its =
+        count_false level e [] k.0 in omega (arith, h, more, its)
 
 -- the end record fails
-pub unended : {head : List ℕ} {level : ℕ} {events : List Chunk} {old mid new : SinkView} {begun : Begun} (top : Top) → IsWhole head level events old mid begun →
+pub unended : {head : List ℕ} {level : ℕ} {events : List Chunk} {old mid new : SinkView}
+    {begun : Begun} (top : Top) → IsWhole head level events old mid begun →
     begun.top ≡ Some top → begun.file.chunks < greatest_count →
-    (mid.is_keeping ≡ true → TakesPrefix mid.taken new.taken (end_record top.root.0 begun.file.chunks)) → new.failures ≢ mid.failures →
+    (mid.is_keeping ≡ true → TakesPrefix mid.taken new.taken
+    (end_record top.root.0 begun.file.chunks)) → new.failures ≢ mid.failures →
     IsUnended head level events old new
 unended {head} {level} {events} {old} {mid} {new} {begun} top h top_is few part failed =
     let last = subst (λ (t : Option Top). IsTopOf events t) top_is h.top_is in
@@ -125,12 +163,17 @@ unended {head} {level} {events} {old} {mid} {new} {begun} top h top_is few part 
       few = omega (arith, one, some);
       failed = λ f. failed (f ∙ sym h.unfailed);
       taken_is = λ k.
-          subst (λ (bytes : List ℕ). TakesPrefix old.taken new.taken (frames_of head events ++ bytes))
-          (ap (λ (n : ℕ). end_record top.root.0 n) chunks_are ∙ ap (λ (r : List ℕ). end_record r (length events)) last.3)
-          (part_behind old.taken mid.taken new.taken (frames_of head events) (end_record top.root.0 begun.file.chunks) (h.taken_is k) (part (h.keeps k)));
+          subst (λ (bytes : List ℕ). TakesPrefix old.taken new.taken
+          (frames_of head events ++ bytes))
+          (ap (λ (n : ℕ). end_record top.root.0 n) chunks_are ∙
+          ap (λ (r : List ℕ). end_record r (length events)) last.3)
+          (part_behind old.taken mid.taken new.taken (frames_of head events)
+          (end_record top.root.0 begun.file.chunks) (h.taken_is k) (part (h.keeps k)));
     }
 
 -- the same events
-pub written_of : (head : List ℕ) (level : ℕ) (es more : List Chunk) (old new : SinkView) (written : Written) → more ≡ es → HasWritten head level es old new written →
+pub written_of : (head : List ℕ) (level : ℕ) (es more : List Chunk) (old new : SinkView)
+    (written : Written) → more ≡ es → HasWritten head level es old new written →
     HasWritten head level more old new written
-written_of head level es more old new written e h = subst (λ (cs : List Chunk). HasWritten head level cs old new written) (sym e) h
+written_of head level es more old new written e h =
+    subst (λ (cs : List Chunk). HasWritten head level cs old new written) (sym e) h

@@ -22,43 +22,57 @@ use Rattle.prolly_build.specs.declared.report.Report.{Report}
 use Rattle.prolly_build.specs.Settings.{Settings}
 use Rattle.prolly_build.specs.Writing.{AreSmall, frames_of}
 
--- The sink took the chunk file of a map, and the report is that of its tree, which has no more levels than there are stages.
-pub record IsFileOf (settings : Settings) (m : List Pair) (old new : SinkView) (report : Report) : Type 0 where
+-- The sink took the chunk file of a map, and the report is that of its tree, which has no more
+-- levels than there are stages.
+pub record IsFileOf (settings : Settings) (m : List Pair) (old new : SinkView) (report : Report)
+    : Type 0 where
   pub stages : level_count (sha512_cut settings.bits) settings.version m ≤ settings.stages
-  pub taken : old.is_keeping ≡ true → new.taken ≡ old.taken ++ file (sha512_cut settings.bits) settings.version m
+  pub taken : old.is_keeping ≡ true → new.taken ≡ old.taken ++ file (sha512_cut settings.bits)
+      settings.version m
   pub unfailed : new.failures ≡ old.failures
   pub root : report.root.0 ≡ root_reference (sha512_cut settings.bits) settings.version m
   pub chunks_are : report.chunks ≡ length (chunks (sha512_cut settings.bits) settings.version m)
   pub pairs : report.pairs ≡ length m
   pub levels : report.levels ≡ level_count (sha512_cut settings.bits) settings.version m
 
--- The sink took a prefix of a header and of the frames of some chunks, each of a length that its frame can spell: no end record is begun.
+-- The sink took a prefix of a header and of the frames of some chunks, each of a length that its
+-- frame can spell: no end record is begun.
 pub record IsBegun (settings : Settings) (old new : SinkView) : Type 0 where
   pub chunks_begun : List Chunk
   pub small : AreSmall chunks_begun
-  pub taken : old.is_keeping ≡ true → TakesPrefix old.taken new.taken (frames_of (header settings.version settings.bits) chunks_begun)
+  pub taken : old.is_keeping ≡ true → TakesPrefix old.taken new.taken
+      (frames_of (header settings.version settings.bits) chunks_begun)
 
--- Law: what the sink took then does not begin with a header, frames and the first letter of an end record, so it begins with no whole file.
+-- Law: what the sink took then does not begin with a header, frames and the first letter of an end
+-- record, so it begins with no whole file.
 abbrev pub NoEndIsBegun : Settings → SinkView → SinkView → Type 0
-NoEndIsBegun settings old new = IsBegun settings old new → old.is_keeping ≡ true → (whole : List Chunk) (behind : List ℕ) → AreSmall whole →
-    IsPrefix (old.taken ++ (header settings.version settings.bits ++ (flat_map frame whole ++ 0x45 ∷ behind))) new.taken → ⊥
+NoEndIsBegun settings old new = IsBegun settings old new → old.is_keeping ≡ true →
+    (whole : List Chunk) (behind : List ℕ) → AreSmall whole →
+    IsPrefix (old.taken ++ (header settings.version settings.bits ++
+    (flat_map frame whole ++ 0x45 ∷ behind))) new.taken → ⊥
 
--- The chunk file of a map up to, and without, the second chunk of the last stage's level: what is written of a tree that is too tall.
+-- The chunk file of a map up to, and without, the second chunk of the last stage's level: what is
+-- written of a tree that is too tall.
 abbrev pub tall_file : Settings → List Pair → List ℕ
 tall_file settings m =
-    frames_of (header settings.version settings.bits) (within_stages settings.stages (chunks (sha512_cut settings.bits) settings.version m))
+    frames_of (header settings.version settings.bits)
+    (within_stages settings.stages (chunks (sha512_cut settings.bits) settings.version m))
 
--- The tree of a map has more levels than there are stages. The sink has not failed, and took the file up to there.
+-- The tree of a map has more levels than there are stages. The sink has not failed, and took the
+-- file up to there.
 pub record IsTooTall (settings : Settings) (m : List Pair) (old new : SinkView) : Type 0 where
   pub levels : settings.stages < level_count (sha512_cut settings.bits) settings.version m
   pub unfailed : new.failures ≡ old.failures
   pub taken : old.is_keeping ≡ true → new.taken ≡ old.taken ++ tall_file settings m
 
--- The sink failed, and took a prefix of the file of a map; of a tree that is too tall, a prefix of what is written of it.
+-- The sink failed, and took a prefix of the file of a map; of a tree that is too tall, a prefix of
+-- what is written of it.
 pub record IsCutOff (settings : Settings) (m : List Pair) (old new : SinkView) : Type 0 where
   pub failed : new.failures ≢ old.failures
-  pub taken : old.is_keeping ≡ true → TakesPrefix old.taken new.taken (file (sha512_cut settings.bits) settings.version m)
-  pub tall : settings.stages < level_count (sha512_cut settings.bits) settings.version m → old.is_keeping ≡ true →
+  pub taken : old.is_keeping ≡ true → TakesPrefix old.taken new.taken
+      (file (sha512_cut settings.bits) settings.version m)
+  pub tall : settings.stages < level_count (sha512_cut settings.bits) settings.version m →
+      old.is_keeping ≡ true →
       TakesPrefix old.taken new.taken (tall_file settings m)
 
 -- A fault of the writer: the sink's, or too tall a tree.
@@ -73,17 +87,21 @@ IsUnmadeOf settings m old new faults.Write = IsCutOff settings m old new
 IsUnmadeOf settings m old new faults.TooTall = IsTooTall settings m old new
 IsUnmadeOf settings m old new _ = ⊥
 
--- What the stages sent, where it ended clean: what they make of a map, which is small, and whose pairs were counted.
-pub record IsCleanRun (settings : Settings) (m : List Pair) (events : List Chunk) (count : ℕ) : Type 0 where
+-- What the stages sent, where it ended clean: what they make of a map, which is small, and whose
+-- pairs were counted.
+pub record IsCleanRun (settings : Settings) (m : List Pair) (events : List Chunk) (count : ℕ) : Type
+    0 where
   pub few : length m ≤ 268435456
-  pub sent : events ≡ pipeline_events (settings.stages - 1) (sha512_cut settings.bits) settings.version clean m
+  pub sent : events ≡ pipeline_events (settings.stages - 1) (sha512_cut settings.bits)
+      settings.version clean m
   pub counted : count ≡ length m
 
 abbrev pub IsRunOf : Settings → List Pair → List Chunk → End → ℕ → Type 0
 IsRunOf settings m events end count = end ≡ Clean → IsCleanRun settings m events count
 
 module _ {S : Type 0} (seen : S → SourceView) where
-  -- No read of the source failed, and the bytes that it had left are these records, one after another, and nothing else.
+  -- No read of the source failed, and the bytes that it had left are these records, one after
+  -- another, and nothing else.
   pub record IsRead (limit : ℕ) (before after : S) (good : List Record) : Type 0 where
     pub reading : (seen before).is_honest ≡ true → IsReading (seen before).left limit good None
     pub unfailed : (seen after).failures ≡ (seen before).failures
@@ -94,7 +112,8 @@ module _ {S : Type 0} (seen : S → SourceView) where
   AreRead limit (s ∷ ss) (t ∷ ts) (g ∷ gs) = IsRead limit s t g × AreRead limit ss ts gs
   AreRead limit _ _ _ = ⊥
 
-  -- The source is there as its loader left it: behind some bytes that it handed out are those that it has left.
+  -- The source is there as its loader left it: behind some bytes that it handed out are those that
+  -- it has left.
   pub record IsKept (before after : S) : Type 0 where
     pub honest : (seen before).is_honest ≡ true → (seen after).is_honest ≡ true
     pub handed : List ℕ
@@ -107,13 +126,16 @@ module _ {S : Type 0} (seen : S → SourceView) where
   AreKept _ _ = ⊥
 
   -- The sources were read, each to its end, and the file of the overlay of their records was made.
-  pub record IsBuilt (settings : Settings) (before after : List S) (old new : SinkView) (report : Report) : Type 0 where
+  pub record IsBuilt (settings : Settings) (before after : List S) (old new : SinkView)
+      (report : Report) : Type 0 where
     pub goods : List (List Record)
     pub read : AreRead settings.max_records before after goods
     pub made : IsFileOf settings (overlay goods) old new report
 
-  -- The sources were read, each to its end, and the file of the overlay of their records was not made, for this fault of the writer.
-  pub record IsUnmade (settings : Settings) (before after : List S) (old new : SinkView) (fault : RunFault) : Type 0 where
+  -- The sources were read, each to its end, and the file of the overlay of their records was not
+  -- made, for this fault of the writer.
+  pub record IsUnmade (settings : Settings) (before after : List S) (old new : SinkView)
+      (fault : RunFault) : Type 0 where
     pub goods : List (List Record)
     pub read : AreRead settings.max_records before after goods
     pub unmade : IsUnmadeOf settings (overlay goods) old new fault

@@ -24,9 +24,11 @@ pub record IsJoint (before after : List (Input RunFault)) : Type 0 where
 -- So many mergers of two made the inputs out of the files.
 abbrev pub Joined : ℕ → List (Input RunFault) → List (Input RunFault) → Type 0
 Joined zero files inputs = inputs ≡ files
-Joined (suc n) files inputs = (before : List (Input RunFault)) × Joined n files before × IsJoint before inputs
+Joined (suc n) files inputs = (before : List (Input RunFault)) × Joined n files before ×
+    IsJoint before inputs
 
--- The outputs carried what mergers of two made of what the loaders sent of the sources, from the first file on.
+-- The outputs carried what mergers of two made of what the loaders sent of the sources, from the
+-- first file on.
 pub record IsFed {S : Type 0} (seen : S → SourceView) (limit : ℕ) (before after : List S)
     (outs : List (Batching Record)) (closed : List (Whole Record)) : Type 0 where
   pub links : map (λ c. c.link) closed ≡ map (λ o. o.link) outs

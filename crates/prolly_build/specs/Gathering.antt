@@ -12,7 +12,8 @@ use Rattle.prolly_build.specs.Feeding.{Joined}
 use Rattle.prolly_build.specs.Merging.{MergesAll, sent_input}
 use Rattle.prolly_build.specs.Ran.{AreLoaded}
 
--- The last merger sent these pairs, with this end, of its inputs, which mergers of two made out of what the loaders sent of the sources.
+-- The last merger sent these pairs, with this end, of its inputs, which mergers of two made out of
+-- what the loaders sent of the sources.
 pub record IsGathered {S : Type 0} (seen : S → SourceView) (limit : ℕ) (before after : List S)
     (pairs : List Pair) (end : End) (count : ℕ) : Type 0 where
   pub loader_outs : List (Batching Record)

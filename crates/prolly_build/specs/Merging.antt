@@ -25,10 +25,13 @@ MergesTwo left right sent end = AllRising (lists_of (left ∷ right ∷ [])) →
 
 -- The last merger sent these pairs, with this end.
 abbrev pub MergesAll : List (Input RunFault) → List Pair → End → Type 0
-MergesAll inputs sent end = AllRising (lists_of inputs) → Sends [] (merged_part inputs) (stop_end inputs) sent end
+MergesAll inputs sent end = AllRising (lists_of inputs) →
+    Sends [] (merged_part inputs) (stop_end inputs) sent end
 
--- Both inputs of a merger of two have ended, and what it makes of them was sent, on the links that it was given.
-pub record IsMergedTwo (left right : Receiving Record) (out : Batching Record) (left' right' : Receiving Record) (closed : Whole Record) : Type 0 where
+-- Both inputs of a merger of two have ended, and what it makes of them was sent, on the links that
+-- it was given.
+pub record IsMergedTwo (left right : Receiving Record) (out : Batching Record)
+    (left' right' : Receiving Record) (closed : Whole Record) : Type 0 where
   pub reads_left : left'.link ≡ left.link
   pub reads_right : right'.link ≡ right.link
   pub left_ended : HasEnded left'.progress
@@ -36,8 +39,10 @@ pub record IsMergedTwo (left right : Receiving Record) (out : Batching Record) (
   pub writes : closed.link ≡ out.link
   pub merges : MergesTwo (received_input left') (received_input right') closed.items closed.end
 
--- All inputs of the last merger have ended, and the pairs that it makes of them were sent, on the links that it was given.
-pub record IsMerged (inputs : List (Receiving Record)) (out : Batching Pair) (inputs' : List (Receiving Record)) (closed : Whole Pair) (count : ℕ) : Type 0 where
+-- All inputs of the last merger have ended, and the pairs that it makes of them were sent, on the
+-- links that it was given.
+pub record IsMerged (inputs : List (Receiving Record)) (out : Batching Pair)
+    (inputs' : List (Receiving Record)) (closed : Whole Pair) (count : ℕ) : Type 0 where
   pub reads : map (λ r. r.link) inputs' ≡ map (λ r. r.link) inputs
   pub have_ended : All (λ r. HasEnded r.progress) inputs'
   pub writes : closed.link ≡ out.link

@@ -10,7 +10,8 @@ use Rattle.prolly_fault.specs.Ends.{Receiving, Whole, end_given}
 use Rattle.prolly_link.specs.Receipts.{HasEnded}
 use Rattle.prolly_link.specs.declared.progress.Progress.TheVariants.{Open}
 use Rattle.prolly_fault.specs.declared.fault.RunFault.{RunFault}
-use Rattle.prolly_fault.specs.declared.fault.RunFault.TheVariants.{NoThread as NoThread_fault, Lost as Lost_fault}
+use Rattle.prolly_fault.specs.declared.fault.RunFault.TheVariants.{NoThread as NoThread_fault}
+use Rattle.prolly_fault.specs.declared.fault.RunFault.TheVariants.{Lost as Lost_fault}
 use Rattle.prolly_build.specs.declared.end.halt.Halt.{Halt}
 use Rattle.prolly_build.specs.declared.end.halt.Halt.TheVariants.{NoThread, Lost}
 use Rattle.prolly_build.specs.Settings.{Settings}
@@ -20,16 +21,21 @@ use Rattle.prolly_build.specs.Workers.{IsLoadedFrom}
 use Rattle.prolly_build.specs.declared.run.writer.Wrote.{Wrote}
 
 -- The writer has received the last link to its end, and has written what it received.
-pub record IsWritten (settings : Settings) (last : Receiving Chunk) (old new : SinkView) (wrote : Wrote) : Type 0 where
+pub record IsWritten (settings : Settings) (last : Receiving Chunk) (old new : SinkView)
+    (wrote : Wrote) : Type 0 where
   pub link : wrote.last.link ≡ last.link
   pub has_ended : HasEnded wrote.last.progress
   pub end_is : wrote.end ≡ end_given wrote.last.progress
-  pub written : HasWritten (header settings.version settings.bits) (settings.stages - 1) wrote.last.items old new wrote.written
+  pub written : HasWritten (header settings.version settings.bits) (settings.stages - 1)
+      wrote.last.items old new wrote.written
 
--- What each level of the run hands on of the writer at its bottom, whose part of the result `wrote` names.
-pub record HandsOn {T : Type 0} (settings : Settings) (last : Receiving Chunk) (old new : SinkView) (untouched : Type 0)
+-- What each level of the run hands on of the writer at its bottom, whose part of the result `wrote`
+-- names.
+pub record HandsOn {T : Type 0} (settings : Settings) (last : Receiving Chunk) (old new : SinkView)
+    (untouched : Type 0)
     (result : Result T Halt) (wrote : T → Wrote) : Type 0 where
-  -- All workers were met: the writer has received the last link to its end, and has written what it received.
+  -- All workers were met: the writer has received the last link to its end, and has written what it
+  -- received.
   pub written : IfOk result (λ t. IsWritten settings last old new (wrote t))
   -- A worker was not started: the sink is as it was.
   pub refused : IfErr result (λ halt. halt ≡ NoThread → untouched)
@@ -37,7 +43,8 @@ pub record HandsOn {T : Type 0} (settings : Settings) (last : Receiving Chunk) (
   pub begun : IfErr result (λ halt. IsBegun settings old new)
 
 -- Each source was loaded into the output of its place, the first one being file number `file`.
-abbrev pub AreLoaded : {S : Type 0} → (S → SourceView) → ℕ → ℕ → List S → List (Batching Record) → List S → List (Whole Record) → Type 0
+abbrev pub AreLoaded : {S : Type 0} → (S → SourceView) → ℕ → ℕ → List S → List (Batching Record) →
+    List S → List (Whole Record) → Type 0
 AreLoaded seen limit file [] [] [] [] = Unit {0}
 AreLoaded seen limit file (s ∷ ss) (o ∷ os) (t ∷ ts) (c ∷ cs) =
     IsLoadedFrom seen file limit s o t c × AreLoaded seen limit (file + 1) ss os ts cs

@@ -26,12 +26,13 @@ module _ {S : Type 0} (seen : S → SourceView) where
   AreGood limit (s ∷ ss) (g ∷ gs) = AreGoodOf limit s g × AreGood limit ss gs
   AreGood limit _ _ = ⊥
 
-  -- The sink took a prefix of the header and of the frames of the tree's chunks, without the end record, of the first pairs of the overlay
-  -- of all good records.
+  -- The sink took a prefix of the header and of the frames of the tree's chunks, without the end
+  -- record, of the first pairs of the overlay of all good records.
   pub record IsRefused (settings : Settings) (before : List S) (old new : SinkView) : Type 0 where
     pub goods : List (List Record)
     pub are_good : AreGood settings.max_records before goods
     pub pairs : List Pair
     pub first : IsPrefix pairs (overlay goods)
     pub taken : old.is_keeping ≡ true → TakesPrefix old.taken new.taken
-        (frames_of (header settings.version settings.bits) (chunks (sha512_cut settings.bits) settings.version pairs))
+        (frames_of (header settings.version settings.bits)
+        (chunks (sha512_cut settings.bits) settings.version pairs))

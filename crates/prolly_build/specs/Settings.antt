@@ -3,10 +3,13 @@ use Rattle.std.specs.Prelude.{◌≡◌, ℕ, ◌<◌, ◌≤◌, ◌⊎◌}
 use Rattle.prolly_entry.specs.declared.version.Version.{Version}
 use Rattle.prolly_entry.specs.declared.version.Version.TheVariants.{One}
 use Rattle.prolly_build.specs.declared.config.ConfigFault.{ConfigFault}
-use Rattle.prolly_build.specs.declared.config.ConfigFault.TheVariants.{BadBits, BadStages, BadCapacity, BadMaxRecords, BadBatch, BadVersion}
+use Rattle.prolly_build.specs.declared.config.ConfigFault.TheVariants.{BadBits, BadStages}
+use Rattle.prolly_build.specs.declared.config.ConfigFault.TheVariants.{BadCapacity, BadMaxRecords}
+use Rattle.prolly_build.specs.declared.config.ConfigFault.TheVariants.{BadBatch, BadVersion}
 
--- The bits of the cut, the greatest number of levels, how many messages a link holds, how many records a file has at most, how many
--- items a message has at most, and the version of the chunk file.
+-- The bits of the cut, the greatest number of levels, how many messages a link holds, how many
+-- records a file has at most, how many items a message has at most, and the version of the chunk
+-- file.
 pub record Settings : Type 0 where
   pub bits : ℕ
   pub stages : ℕ
@@ -49,7 +52,8 @@ IsWithin most n = (1 ≤ n) × (n ≤ most)
 abbrev pub IsConfigFault : ℕ → ℕ → ℕ → ℕ → ConfigFault → Type 0
 IsConfigFault bits stages capacity max_records BadBits = 24 < bits
 IsConfigFault bits stages capacity max_records BadStages = (bits ≤ 24) × IsOutside 12 stages
-IsConfigFault bits stages capacity max_records BadCapacity = (bits ≤ 24) × IsWithin 12 stages × IsOutside 4096 capacity
+IsConfigFault bits stages capacity max_records BadCapacity = (bits ≤ 24) × IsWithin 12 stages ×
+    IsOutside 4096 capacity
 IsConfigFault bits stages capacity max_records BadMaxRecords =
     (bits ≤ 24) × IsWithin 12 stages × IsWithin 4096 capacity × IsOutside 16777216 max_records
 IsConfigFault bits stages capacity max_records BadBatch = ⊥

@@ -1,5 +1,6 @@
 -- What a build names, and what it leaves, where a record file is at fault.
-use Rattle.std.specs.Prelude.{◌≡◌, ◌≢◌, ◌⊎◌, ℕ, ◌+◌, true, List, [], ◌∷◌, ◌++◌, length, Option, Some, None}
+use Rattle.std.specs.Prelude.{◌≡◌, ◌≢◌, ◌⊎◌, ℕ, ◌+◌, true, List, [], ◌∷◌, ◌++◌, length, Option}
+use Rattle.std.specs.Prelude.{Some, None}
 use Rattle.std.specs.List.{AllByRecursion}
 use Rattle.prolly_tree.specs.Chunk.{begun_chunks}
 use Rattle.prolly_entry.specs.Cut.{sha512_cut}
@@ -18,7 +19,8 @@ use Rattle.prolly_load.specs.Loading.{IsReadTo}
 use Rattle.prolly_build.specs.Settings.{Settings}
 use Rattle.prolly_build.specs.Writing.{frames_of}
 
--- How the ending of a file's reading is told: not at all where it is clean, else as the flaw of the record at this place.
+-- How the ending of a file's reading is told: not at all where it is clean, else as the flaw of the
+-- record at this place.
 abbrev pub ending_told : ℕ → ℕ → Option Flaw → Option RunFault
 ending_told file place None = None
 ending_told file place (Some flaw) = Some (fault_of_flaw file place flaw)
@@ -40,7 +42,8 @@ module _ {S : Type 0} (seen : S → SourceView) where
     pub reading : IsReading (seen before).left limit input.records ending
     pub told : input.fault ≡ ending_told file (length input.records) ending
 
-  -- The source failed: the records of the bytes that it had handed out till then, with a failed read.
+  -- The source failed: the records of the bytes that it had handed out till then, with a failed
+  -- read.
   pub record IsFailureOf (file limit : ℕ) (before after : S) (input : Input RunFault) : Type 0 where
     pub failed : (seen after).failures ≢ (seen before).failures
     pub handed : List ℕ
@@ -51,26 +54,32 @@ module _ {S : Type 0} (seen : S → SourceView) where
   -- What the files count for, each in its place, from this file number on.
   abbrev pub CountFor : ℕ → ℕ → List S → List S → List (Input RunFault) → Type 0
   CountFor file limit [] [] [] = Unit {0}
-  CountFor file limit (s ∷ ss) (t ∷ ts) (i ∷ inputs) = (IsReadingOf file limit s i ⊎ IsFailureOf file limit s t i) × CountFor (file + 1) limit ss ts inputs
+  CountFor file limit (s ∷ ss) (t ∷ ts) (i ∷ inputs) =
+      (IsReadingOf file limit s i ⊎ IsFailureOf file limit s t i) ×
+      CountFor (file + 1) limit ss ts inputs
   CountFor file limit _ _ _ = ⊥
 
 -- Honest sources.
 abbrev pub AreHonest : {S : Type 0} → (S → SourceView) → List S → Type 0
 AreHonest seen sources = AllByRecursion (λ s. (seen s).is_honest ≡ true) sources
 
--- What is written of the pairs that come before a fault: the header, and a frame for each chunk that they close, up to, and without, the
--- second one of the last stage's level.
+-- What is written of the pairs that come before a fault: the header, and a frame for each chunk
+-- that they close, up to, and without, the second one of the last stage's level.
 abbrev pub begun_of : Settings → List Pair → List ℕ
 begun_of settings p =
-    frames_of (header settings.version settings.bits) (within_stages settings.stages (begun_chunks (sha512_cut settings.bits) settings.version p))
+    frames_of (header settings.version settings.bits)
+    (within_stages settings.stages (begun_chunks (sha512_cut settings.bits) settings.version p))
 
 -- The sink took just that, or, where it failed, a prefix of it.
 pub record TookBegun (settings : Settings) (p : List Pair) (old new : SinkView) : Type 0 where
-  pub all : new.failures ≡ old.failures → old.is_keeping ≡ true → new.taken ≡ old.taken ++ begun_of settings p
+  pub all : new.failures ≡ old.failures → old.is_keeping ≡ true →
+      new.taken ≡ old.taken ++ begun_of settings p
   pub part : old.is_keeping ≡ true → TakesPrefix old.taken new.taken (begun_of settings p)
 
--- The fault is the stop of what the files count for, and the sink took what the pairs before it begin.
-pub record IsStopped {S : Type 0} (seen : S → SourceView) (settings : Settings) (before after : List S) (old new : SinkView)
+-- The fault is the stop of what the files count for, and the sink took what the pairs before it
+-- begin.
+pub record IsStopped {S : Type 0} (seen : S → SourceView) (settings : Settings)
+    (before after : List S) (old new : SinkView)
     (fault : RunFault) : Type 0 where
   pub inputs : List (Input RunFault)
   pub count_for : CountFor seen 0 settings.max_records before after inputs

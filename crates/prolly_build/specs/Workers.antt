@@ -12,19 +12,24 @@ use Rattle.prolly_entry.specs.Record.{Record}
 use Rattle.prolly_load.specs.Loading.{IsLoaded}
 use Rattle.prolly_stage.specs.Sends.{Sends}
 
--- The stage's input has ended, and what the stage makes of it was sent, on the links that it was given.
-pub record IsStaged {A : Type 0} (stage : Closing → List A → List Chunk) (input : Receiving A) (out : Batching Chunk) (ended : Receiving A) (closed : Whole Chunk) : Type 0 where
+-- The stage's input has ended, and what the stage makes of it was sent, on the links that it was
+-- given.
+pub record IsStaged {A : Type 0} (stage : Closing → List A → List Chunk) (input : Receiving A)
+    (out : Batching Chunk) (ended : Receiving A) (closed : Whole Chunk) : Type 0 where
   pub reads : ended.link ≡ input.link
   pub has_ended : HasEnded ended.progress
   pub writes : closed.link ≡ out.link
   pub sends : Sends stage ended.items (end_given ended.progress) [] closed.items closed.end
 
--- The source was loaded into the output, whose link is kept: what was sent and the end are what the bytes come to, and the end tells a
--- failed read exactly where a read failed. An honest source stays honest.
-pub record IsLoadedFrom {S : Type 0} (seen : S → SourceView) (file limit : ℕ) (source : S) (out : Batching Record)
+-- The source was loaded into the output, whose link is kept: what was sent and the end are what the
+-- bytes come to, and the end tells a failed read exactly where a read failed. An honest source
+-- stays honest.
+pub record IsLoadedFrom {S : Type 0} (seen : S → SourceView) (file limit : ℕ) (source : S)
+    (out : Batching Record)
     (source' : S) (closed : Whole Record) : Type 0 where
   pub writes : closed.link ≡ out.link
-  pub loaded : IsLoaded file limit (seen source).is_honest (seen source).left (seen source').left [] closed.items closed.end
+  pub loaded : IsLoaded file limit (seen source).is_honest (seen source).left (seen source').left []
+      closed.items closed.end
   pub read : (closed.end ≡ Fault (Read file)) ↔ ((seen source').failures ≢ (seen source).failures)
   pub unfailed : closed.end ≢ Fault (Read file) → (seen source').failures ≡ (seen source).failures
   pub honest : (seen source).is_honest ≡ true → (seen source').is_honest ≡ true

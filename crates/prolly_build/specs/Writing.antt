@@ -1,5 +1,6 @@
 -- What the writer of a pipeline has written of the events that it received.
-use Rattle.std.specs.Prelude.{◌≡◌, ◌≢◌, ◌<◌, ◌≤◌, ◌+◌, ◌^◌, ◌⊎◌, ℕ, min, Bool, true, false, List, [], ◌∷◌, ◌++◌, length, Option, Some, None}
+use Rattle.std.specs.Prelude.{◌≡◌, ◌≢◌, ◌<◌, ◌≤◌, ◌+◌, ◌^◌, ◌⊎◌, ℕ, min, Bool, true, false, List}
+use Rattle.std.specs.Prelude.{[], ◌∷◌, ◌++◌, length, Option, Some, None}
 use Rattle.std.specs.List.{flat_map, filter, AllByRecursion}
 use Rattle.prolly_tree.specs.Chunk.{Chunk}
 use Rattle.prolly_tree.specs.File.{frame, end_record}
@@ -22,7 +23,8 @@ use Rattle.prolly_build.specs.declared.run.written.Written.TheVariants.{Whole, T
 abbrev pub frames_of : List ℕ → List Chunk → List ℕ
 frames_of head chunks = head ++ flat_map frame chunks
 
--- Each chunk is short enough for its frame to spell its length; the frame of a longer one could spell any bytes, also a whole file's.
+-- Each chunk is short enough for its frame to spell its length; the frame of a longer one could
+-- spell any bytes, also a whole file's.
 abbrev pub AreSmall : List Chunk → Type 0
 AreSmall chunks = AllByRecursion (λ c. length c.bytes < 2 ^ 64) chunks
 
@@ -35,10 +37,12 @@ tops_counted false = 0
 abbrev pub IsTopOf : List Chunk → Option Top → Type 0
 IsTopOf events None = events ≡ []
 IsTopOf events (Some top) =
-    (before : List Chunk) × (last : Chunk) × (events ≡ before ++ last ∷ []) × (top.root.0 ≡ reference_of last.bytes) × (top.level ≡ last.level)
+    (before : List Chunk) × (last : Chunk) × (events ≡ before ++ last ∷ []) ×
+    (top.root.0 ≡ reference_of last.bytes) × (top.level ≡ last.level)
 
 -- All events are written, of which at most one is of the last stage's level.
-pub record IsWhole (head : List ℕ) (level : ℕ) (events : List Chunk) (old new : SinkView) (begun : Begun) : Type 0 where
+pub record IsWhole (head : List ℕ) (level : ℕ) (events : List Chunk) (old new : SinkView)
+    (begun : Begun) : Type 0 where
   pub few : length (filter (has_level level) events) ≡ tops_counted begun.has_top
   pub small : AreSmall events
   pub unfailed : new.failures ≡ old.failures
@@ -49,21 +53,25 @@ pub record IsWhole (head : List ℕ) (level : ℕ) (events : List Chunk) (old ne
   pub top_is : IsTopOf events begun.top
 
 -- The events up to, and without, the second one of the last stage's level are written.
-pub record IsTall (head : List ℕ) (level : ℕ) (events : List Chunk) (old new : SinkView) : Type 0 where
-  pub second : HasSecond level events
-  pub small : AreSmall (before_second level events)
-  pub unfailed : new.failures ≡ old.failures
-  pub taken_is : old.is_keeping ≡ true → new.taken ≡ old.taken ++ frames_of head (before_second level events)
-  pub keeps : old.is_keeping ≡ true → new.is_keeping ≡ true
+pub record IsTall (head : List ℕ) (level : ℕ) (events : List Chunk) (old new : SinkView) : Type 0
+  where
+    pub second : HasSecond level events
+    pub small : AreSmall (before_second level events)
+    pub unfailed : new.failures ≡ old.failures
+    pub taken_is : old.is_keeping ≡ true → new.taken ≡ old.taken ++
+        frames_of head (before_second level events)
+    pub keeps : old.is_keeping ≡ true → new.is_keeping ≡ true
 
--- A write failed, and what was taken is a prefix of what was to be written till then, the first of the chunks.
-pub record IsFailed (head : List ℕ) (level : ℕ) (events : List Chunk) (old new : SinkView) : Type 0 where
-  pub failed : new.failures ≢ old.failures
-  pub tried : List Chunk
-  pub small : AreSmall tried
-  pub first : IsPrefix tried (before_second level events)
-  pub taken_is : old.is_keeping ≡ true → TakesPrefix old.taken new.taken (frames_of head tried)
-  pub keeps : old.is_keeping ≡ true → new.is_keeping ≡ true
+-- A write failed, and what was taken is a prefix of what was to be written till then, the first of
+-- the chunks.
+pub record IsFailed (head : List ℕ) (level : ℕ) (events : List Chunk) (old new : SinkView) : Type 0
+  where
+    pub failed : new.failures ≢ old.failures
+    pub tried : List Chunk
+    pub small : AreSmall tried
+    pub first : IsPrefix tried (before_second level events)
+    pub taken_is : old.is_keeping ≡ true → TakesPrefix old.taken new.taken (frames_of head tried)
+    pub keeps : old.is_keeping ≡ true → new.is_keeping ≡ true
 
 -- The writer behind a last stage of this level, once it has received these events.
 abbrev pub HasWritten : List ℕ → ℕ → List Chunk → SinkView → SinkView → Written → Type 0
@@ -74,31 +82,40 @@ HasWritten head level events old new Failed = IsFailed head level events old new
 -- ---- the end
 
 -- All events are written, and then the end record, and the report is that of the last event.
-pub record HasEnded (head : List ℕ) (level : ℕ) (events : List Chunk) (old new : SinkView) (pairs : ℕ) (report : Report) : Type 0 where
+pub record HasEnded (head : List ℕ) (level : ℕ) (events : List Chunk) (old new : SinkView)
+    (pairs : ℕ) (report : Report) : Type 0 where
   pub before : List Chunk
   pub root : Chunk
   pub whole : events ≡ before ++ root ∷ []
   pub few : length (filter (has_level level) events) ≤ 1
   pub unfailed : new.failures ≡ old.failures
-  pub taken_is : old.is_keeping ≡ true → new.taken ≡ old.taken ++ (frames_of head events ++ end_record (reference_of root.bytes) (length events))
+  pub taken_is : old.is_keeping ≡ true → new.taken ≡ old.taken ++
+      (frames_of head events ++ end_record (reference_of root.bytes) (length events))
   pub root_is : report.root.0 ≡ reference_of root.bytes
   pub chunks_are : report.chunks ≡ length events
   pub pairs_are : report.pairs ≡ pairs
   pub levels_are : report.levels ≡ min 255 (root.level + 1)
 
--- All events are written, of which at most one is of the last stage's level, and the end record failed.
-pub record IsUnended (head : List ℕ) (level : ℕ) (events : List Chunk) (old new : SinkView) : Type 0 where
-  pub before : List Chunk
-  pub root : Chunk
-  pub whole : events ≡ before ++ root ∷ []
-  pub few : length (filter (has_level level) events) ≤ 1
-  pub failed : new.failures ≢ old.failures
-  pub taken_is : old.is_keeping ≡ true → TakesPrefix old.taken new.taken (frames_of head events ++ end_record (reference_of root.bytes) (length events))
+-- All events are written, of which at most one is of the last stage's level, and the end record
+-- failed.
+pub record IsUnended (head : List ℕ) (level : ℕ) (events : List Chunk) (old new : SinkView) : Type 0
+  where
+    pub before : List Chunk
+    pub root : Chunk
+    pub whole : events ≡ before ++ root ∷ []
+    pub few : length (filter (has_level level) events) ≤ 1
+    pub failed : new.failures ≢ old.failures
+    pub taken_is : old.is_keeping ≡ true → TakesPrefix old.taken new.taken
+        (frames_of head events ++ end_record (reference_of root.bytes) (length events))
 
--- Why nothing was made: the fault that came with the last link's end, which leaves the sink alone; or, at a clean end, a frame or the end
--- record that failed, or a second event of the last stage's level, at which nothing more was written.
-abbrev pub IsEndFault : List ℕ → ℕ → List Chunk → SinkView → SinkView → SinkView → End → RunFault → Type 0
-IsEndFault head level events old before after (Fault fault) answer = (answer ≡ fault) × (after ≡ before)
+-- Why nothing was made: the fault that came with the last link's end, which leaves the sink alone;
+-- or, at a clean end, a frame or the end record that failed, or a second event of the last stage's
+-- level, at which nothing more was written.
+abbrev pub IsEndFault : List ℕ → ℕ → List Chunk → SinkView → SinkView → SinkView → End → RunFault →
+    Type 0
+IsEndFault head level events old before after (Fault fault) answer =
+    (answer ≡ fault) × (after ≡ before)
 IsEndFault head level events old before after Clean answer =
-    ((answer ≡ Write) × (IsFailed head level events old after ⊎ IsUnended head level events old after))
+    ((answer ≡ Write) × (IsFailed head level events old after ⊎
+    IsUnended head level events old after))
     ⊎ ((answer ≡ TooTall_fault) × IsTall head level events old after)

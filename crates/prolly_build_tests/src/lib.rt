@@ -1,5 +1,6 @@
 //! What no contract says of a build: that it succeeds where memory is at hand, that its workers run
 //! at once, and what it gives for examples that were worked out elsewhere.
+#![tactic(auto)]
 
 #[cfg(test)]
 mod building;

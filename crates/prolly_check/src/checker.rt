@@ -1,5 +1,6 @@
 //! The checker.
-ghost use Rattle.std.specs.Prelude.{◌≡◌, ◌≢◌, ◌↔◌, ◌⊎◌, ◌≤◌, true, length, IfOk, OnOk, IfErr, IsErrOf};
+ghost use Rattle.std.specs.Prelude.{◌≡◌, ◌≢◌, ◌↔◌, ◌⊎◌, ◌≤◌, true, length, IfOk, OnOk, IfErr};
+ghost use Rattle.std.specs.Prelude.{IsErrOf};
 ghost use Rattle.prolly_check.specs.Check.{IsRefusal};
 ghost use Rattle.prolly_check.specs.Checked.{IsFile};
 ghost use Rattle.prolly_check.specs.Content.{Content};

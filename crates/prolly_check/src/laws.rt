@@ -1,7 +1,8 @@
 //! Laws of the verdict and of look-ups. Each is the contract of a function that does nothing: to
 //! call it is to know the law, and to prove the crate is to prove it.
 ghost use Rattle.prolly_entry.specs.declared.version.Version.{Version};
-ghost use Rattle.prolly_check.specs.Descent.{ReferenceLeads, FindInChild, FindInNone, NthInChild, StandsAtRoot, FirstEntry, StepsDown};
+ghost use Rattle.prolly_check.specs.Descent.{ReferenceLeads, FindInChild, FindInNone, NthInChild};
+ghost use Rattle.prolly_check.specs.Descent.{StandsAtRoot, FirstEntry, StepsDown};
 ghost use Rattle.prolly_check.specs.Entries.{NoLeaf, NoNode};
 ghost use Rattle.prolly_check.specs.Verdict.{OneVerdict, AcceptsFiles};
 

@@ -5,7 +5,8 @@ ghost use Rattle.std.specs.Int.{w64, from_be_bytes};
 ghost use Rattle.prolly_entry.specs.ChildAt.{NoChildAt, tail_length};
 ghost use Rattle.prolly_entry.specs.Pair.{Pair as PairValue};
 ghost use Rattle.prolly_entry.specs.Spelling.{count_spelling};
-ghost use Rattle.prolly_check.specs.Entries.{IsNode, IsChild, BeginsWith, entry_of, first_count, children_in};
+ghost use Rattle.prolly_check.specs.Entries.{IsNode, IsChild, BeginsWith, entry_of, first_count};
+ghost use Rattle.prolly_check.specs.Entries.{children_in};
 ghost use Rattle.prolly_check.specs.Children.{value_of};
 
 use crate::leaf::KEY_START;

@@ -1,5 +1,6 @@
 //! Rebuilding the chunks of pairs that come one by one.
-ghost use Rattle.std.specs.Prelude.{◌≡◌, [], ◌∷◌, ◌<◌, ◌≤◌, ◌^◌, None, Some, List, ℕ, length, OnOk, IfOk, IfErr};
+ghost use Rattle.std.specs.Prelude.{◌≡◌, [], ◌∷◌, ◌<◌, ◌≤◌, ◌^◌, None, Some, List, ℕ, length, OnOk};
+ghost use Rattle.std.specs.Prelude.{IfOk, IfErr};
 ghost use Rattle.std.specs.List.{flat_map};
 ghost use Rattle.prolly_check.specs.Canonical.{CompareAs};
 ghost use Rattle.prolly_check.specs.Held.{pairs_held};

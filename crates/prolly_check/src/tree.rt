@@ -7,11 +7,11 @@ ghost use Rattle.prolly_tree.specs.File.{root_reference};
 ghost use Rattle.prolly_tree.specs.LookUp.{find, nth, scan};
 ghost use Rattle.prolly_tree.specs.RecordFile.{record_file};
 ghost use Rattle.prolly_file.specs.Writes.{Writes};
-ghost use Rattle.prolly_check.specs.Checked.{IsChecked, IsFile};
 ghost use Rattle.prolly_check.specs.Content.{Content};
 ghost use Rattle.prolly_check.specs.Counted.{pair_of};
 ghost use Rattle.prolly_check.specs.Refusal.{UnlessMemory};
 ghost use Rattle.prolly_check.specs.Verdict.{IsVerdict, IsFileOf};
+ghost use Rattle.prolly_check.specs.Checked.{IsChecked, IsFile};
 
 use crate::dump::write_records;
 use crate::fault::CheckFault;

@@ -1,5 +1,7 @@
 -- What the leaf stage sends, and its open leaf, with one pair more and at a clean end.
-use Rattle.std.proofs.Common.{◌≡◌, ℕ, ◌+◌, ◌<◌, ◌≤◌, ◌^◌, Bool, true, false, not, cond, min, ◌||◌, nat_le, List, [], ◌∷◌, ◌++◌, length, map, Option, refl, sym, ap, ◌∙◌, subst, arith, append-nil, length-append}
+use Rattle.std.proofs.Common.{◌≡◌, ℕ, ◌+◌, ◌<◌, ◌≤◌, ◌^◌, Bool, true, false, not, cond, min, ◌||◌}
+use Rattle.std.proofs.Common.{nat_le, List, [], ◌∷◌, ◌++◌, length, map, Option, refl, sym, ap, ◌∙◌}
+use Rattle.std.proofs.Common.{subst, arith, append-nil, length-append}
 use Rattle.std.proofs.lemmas.List.{map-append}
 use Rattle.std.proofs.lemmas.Grind.{flat_map-append}
 use Rattle.std.proofs.lemmas.Bool.{le-leb}
@@ -30,14 +32,20 @@ last_key-snoc (q ∷ r ∷ ps) p = last_key-snoc (r ∷ ps) p
 spelling_long : (p : Pair) → 6 ≤ length (pair_spelling p)
 spelling_long p = omega (
   arith,
-  length-append (to_be_bytes w16 (length p.key) ++ p.key) (to_be_bytes w32 (length p.value) ++ p.value),
+  length-append (to_be_bytes w16 (length p.key) ++ p.key) (to_be_bytes w32 (length p.value) ++
+      p.value),
   length-append (to_be_bytes w16 (length p.key)) p.key,
   length-append (to_be_bytes w32 (length p.value)) p.value,
 )
 
 leaf_long : (ps : List Pair) → length ps ≤ length (flat_map pair_spelling ps)
 leaf_long [] = omega arith
-leaf_long (p ∷ ps) = omega (arith, spelling_long p, leaf_long ps, length-append (pair_spelling p) (flat_map pair_spelling ps))
+leaf_long (p ∷ ps) = omega (
+  arith,
+  spelling_long p,
+  leaf_long ps,
+  length-append (pair_spelling p) (flat_map pair_spelling ps),
+)
 
 count_fits : (n : ℕ) → n + 1 < 2 ^ 64 → min (n + 1) greatest_count ≡ n + 1
 count_fits n h = omega (arith, h)
@@ -47,9 +55,17 @@ count_fits n h = omega (arith, h)
 leaf_with : (ps : List Pair) (p : Pair) → length (with_pair (chunk_of One 0 ps) p).bytes < 2 ^ 64 →
     with_pair (chunk_of One 0 ps) p ≡ chunk_of One 0 (ps ++ p ∷ [])
 leaf_with ps p h =
-    let entries : flat_map pair_spelling (ps ++ p ∷ []) ≡ flat_map pair_spelling ps ++ pair_spelling p =
-    flat_map-append pair_spelling ps (p ∷ []) ∙ ap (λ s. flat_map pair_spelling ps ++ s) (append-nil (pair_spelling p)) in
-    let room : length ps + 1 < 2 ^ 64 = omega (arith, h, leaf_long ps, spelling_long p, length-append (0 ∷ flat_map pair_spelling ps) (pair_spelling p)) in
+    let entries : flat_map pair_spelling (ps ++ p ∷ []) ≡ flat_map pair_spelling ps ++
+    pair_spelling p =
+    flat_map-append pair_spelling ps (p ∷ []) ∙
+    ap (λ s. flat_map pair_spelling ps ++ s) (append-nil (pair_spelling p)) in
+    let room : length ps + 1 < 2 ^ 64 = omega (
+      arith,
+      h,
+      leaf_long ps,
+      spelling_long p,
+      length-append (0 ∷ flat_map pair_spelling ps) (pair_spelling p),
+    ) in
     same_chunk refl (sym (last_key-snoc ps p))
     (count_fits (length ps) room ∙ sym (length-append ps (p ∷ [])))
     (ap (λ s. 0 ∷ s) (sym entries))
@@ -60,10 +76,13 @@ open_leaf cut pairs = chunk_of One 0 (open_entries (pair_is_boundary cut) 1 pair
 -- One pair more adds the leaf that it closes.
 record Step (cut : Cut) (pairs : List Pair) (p : Pair) : Type 0 where
   events : (version : Version) → leaf_events cut version faulty (pairs ++ p ∷ [])
-      ≡ leaf_events cut version faulty pairs ++ option_to_list (some_if (pair_is_boundary cut p) (with_pair (open_leaf cut pairs) p))
-  leaf : open_leaf cut (pairs ++ p ∷ []) ≡ cond (pair_is_boundary cut p) (empty_chunk 0) (with_pair (open_leaf cut pairs) p)
+      ≡ leaf_events cut version faulty pairs ++
+      option_to_list (some_if (pair_is_boundary cut p) (with_pair (open_leaf cut pairs) p))
+  leaf : open_leaf cut (pairs ++ p ∷ []) ≡ cond (pair_is_boundary cut p) (empty_chunk 0)
+      (with_pair (open_leaf cut pairs) p)
 
-leaf_step : (cut : Cut) (pairs : List Pair) (p : Pair) → length (with_pair (open_leaf cut pairs) p).bytes < 2 ^ 64 → Step cut pairs p
+leaf_step : (cut : Cut) (pairs : List Pair) (p : Pair) →
+    length (with_pair (open_leaf cut pairs) p).bytes < 2 ^ 64 → Step cut pairs p
 leaf_step cut pairs p room =
     let test = pair_is_boundary cut in
     let group = open_entries test 1 pairs in
@@ -72,19 +91,27 @@ leaf_step cut pairs p room =
     let more = leaf_with group p room in
     record {
       events = λ version.
-          ap (map (chunk_of version 0)) (step.0 ∙ ap (λ b. closed_groups test 1 pairs ++ cond b ((group ++ p ∷ []) ∷ []) []) closed)
-          ∙ map-append (chunk_of version 0) (closed_groups test 1 pairs) (cond (test p) ((group ++ p ∷ []) ∷ []) [])
-          ∙ ap (λ gs. map (chunk_of version 0) (closed_groups test 1 pairs) ++ gs) (sent version (test p) group more);
-      leaf = ap (chunk_of One 0) (step.1 ∙ ap (λ b. cond b [] (group ++ p ∷ [])) closed) ∙ left (test p) group more;
+          ap (map (chunk_of version 0)) (step.0 ∙
+          ap (λ b. closed_groups test 1 pairs ++ cond b ((group ++ p ∷ []) ∷ []) []) closed)
+          ∙ map-append (chunk_of version 0) (closed_groups test 1 pairs)
+          (cond (test p) ((group ++ p ∷ []) ∷ []) [])
+          ∙ ap (λ gs. map (chunk_of version 0) (closed_groups test 1 pairs) ++ gs)
+          (sent version (test p) group more);
+      leaf = ap (chunk_of One 0) (step.1 ∙ ap (λ b. cond b [] (group ++ p ∷ [])) closed) ∙
+          left (test p) group more;
     }
   where
-    sent : (version : Version) (b : Bool) (group : List Pair) → with_pair (chunk_of One 0 group) p ≡ chunk_of One 0 (group ++ p ∷ []) →
-        map (chunk_of version 0) (cond b ((group ++ p ∷ []) ∷ []) []) ≡ option_to_list (some_if b (with_pair (chunk_of One 0 group) p))
+    sent : (version : Version) (b : Bool) (group : List Pair) →
+        with_pair (chunk_of One 0 group) p ≡ chunk_of One 0 (group ++ p ∷ []) →
+        map (chunk_of version 0) (cond b ((group ++ p ∷ []) ∷ []) []) ≡
+        option_to_list (some_if b (with_pair (chunk_of One 0 group) p))
     sent version true group more = ap (λ c. c ∷ []) (sym more)
     sent version false group more = refl
 
-    left : (b : Bool) (group : List Pair) → with_pair (chunk_of One 0 group) p ≡ chunk_of One 0 (group ++ p ∷ []) →
-        chunk_of One 0 (cond b [] (group ++ p ∷ [])) ≡ cond b (empty_chunk 0) (with_pair (chunk_of One 0 group) p)
+    left : (b : Bool) (group : List Pair) → with_pair (chunk_of One 0 group) p ≡
+        chunk_of One 0 (group ++ p ∷ []) →
+        chunk_of One 0 (cond b [] (group ++ p ∷ [])) ≡ cond b (empty_chunk 0)
+        (with_pair (chunk_of One 0 group) p)
     left true group more = refl
     left false group more = sym more
 
@@ -103,26 +130,32 @@ module _ {C : Type 0} (cut_of : C → Cut) where
 
   -- What a pair does to the level, where it is the one behind these pairs.
   abbrev Takes : Chunk → Pair → Option Chunk → Bool → C → List Pair → LeafState C → Type 0
-  Takes leaf pair closed is_boundary cut pairs old = is_boundary ≡ pair_is_boundary (cut_of old.cut) pair →
+  Takes leaf pair closed is_boundary cut pairs old =
+      is_boundary ≡ pair_is_boundary (cut_of old.cut) pair →
       length (with_pair old.leaf pair).bytes < 2 ^ 64 →
       closed ≡ some_if is_boundary (with_pair old.leaf pair) →
       leaf ≡ cond is_boundary (empty_chunk old.leaf.level) (with_pair old.leaf pair) →
       (state old.cut leaf true ≡ leaf_level cut_of cut (pairs ++ pair ∷ []))
-      × ((version : Version) → leaf_events (cut_of cut) version faulty (pairs ++ pair ∷ []) ≡ leaf_events (cut_of cut) version faulty pairs ++ option_to_list closed)
+      × ((version : Version) → leaf_events (cut_of cut) version faulty (pairs ++ pair ∷ []) ≡
+      leaf_events (cut_of cut) version faulty pairs ++ option_to_list closed)
 
-  takes_behind : (leaf : Chunk) (pair : Pair) (closed : Option Chunk) (is_boundary : Bool) (cut : C) (pairs : List Pair) →
+  takes_behind : (leaf : Chunk) (pair : Pair) (closed : Option Chunk) (is_boundary : Bool) (cut : C)
+      (pairs : List Pair) →
       Takes leaf pair closed is_boundary cut pairs (leaf_level cut_of cut pairs)
   takes_behind leaf pair closed is_boundary cut pairs b room c l =
       let chunk = with_pair (open_leaf (cut_of cut) pairs) pair in
       let step = leaf_step (cut_of cut) pairs pair room in (
         ap (λ x. state cut x true) (l ∙ ap (λ x. cond x (empty_chunk 0) chunk) b ∙ sym step.leaf)
-            ∙ ap (state cut (open_leaf (cut_of cut) (pairs ++ pair ∷ []))) (sym (has_entries-snoc pairs pair)),
+            ∙ ap (state cut (open_leaf (cut_of cut) (pairs ++ pair ∷ [])))
+            (sym (has_entries-snoc pairs pair)),
         λ version. step.events version
-            ∙ ap (λ o. leaf_events (cut_of cut) version faulty pairs ++ option_to_list o) (sym (c ∙ ap (λ x. some_if x chunk) b)),
+            ∙ ap (λ o. leaf_events (cut_of cut) version faulty pairs ++ option_to_list o)
+            (sym (c ∙ ap (λ x. some_if x chunk) b)),
       )
 
   -- What the level's code does with a pair is what `LeafTakes` says.
-  pub leaf_takes : (old : LeafState C) (cut : C) (before after leaf : Chunk) (had_pairs : Bool) (pair : Pair) (closed : Option Chunk) (is_boundary : Bool) →
+  pub leaf_takes : (old : LeafState C) (cut : C) (before after leaf : Chunk) (had_pairs : Bool)
+      (pair : Pair) (closed : Option Chunk) (is_boundary : Bool) →
       state cut before had_pairs ≡ old → after ≡ with_pair before pair →
       is_boundary ≡ pair_is_boundary (cut_of cut) pair → length after.bytes < 2 ^ 64 →
       closed ≡ some_if is_boundary after → leaf ≡ cond is_boundary (empty_chunk after.level) after →
@@ -133,10 +166,13 @@ module _ {C : Type 0} (cut_of : C → Cut) where
         events = λ cut' version pairs e. (at cut' pairs e).1 version;
       })
     where
-      at : (cut' : C) (pairs : List Pair) → state cut before had_pairs ≡ leaf_level cut_of cut' pairs →
+      at : (cut' : C) (pairs : List Pair) → state cut before had_pairs ≡ leaf_level cut_of cut'
+          pairs →
           (state cut leaf true ≡ leaf_level cut_of cut' (pairs ++ pair ∷ []))
-          × ((version : Version) → leaf_events (cut_of cut') version faulty (pairs ++ pair ∷ []) ≡ leaf_events (cut_of cut') version faulty pairs ++ option_to_list closed)
-      at cut' pairs e = subst (Takes leaf pair closed is_boundary cut' pairs) (sym e) (takes_behind leaf pair closed is_boundary cut' pairs) b
+          × ((version : Version) → leaf_events (cut_of cut') version faulty (pairs ++ pair ∷ []) ≡
+          leaf_events (cut_of cut') version faulty pairs ++ option_to_list closed)
+      at cut' pairs e = subst (Takes leaf pair closed is_boundary cut' pairs) (sym e)
+          (takes_behind leaf pair closed is_boundary cut' pairs) b
           (subst (λ (x : Chunk). length x.bytes < 2 ^ 64) a room)
           (c ∙ ap (some_if is_boundary) a)
           (l ∙ ap (λ (x : Chunk). cond is_boundary (empty_chunk x.level) x) a)
@@ -165,12 +201,14 @@ module _ (version : Version) where
   last_leaf [] ([] ∷ groups) rest e h = absurd (omega (arith, h.0))
   last_leaf [] ((x ∷ xs) ∷ groups) rest e h = cc
   last_leaf (p ∷ ps) (group ∷ groups) [] e h = map-append leaf_chunk (group ∷ groups) []
-  last_leaf (p ∷ ps) (group ∷ groups) (x ∷ xs) e h = map-append leaf_chunk (group ∷ groups) ((x ∷ xs) ∷ [])
+  last_leaf (p ∷ ps) (group ∷ groups) (x ∷ xs) e h =
+      map-append leaf_chunk (group ∷ groups) ((x ∷ xs) ∷ [])
 
 -- At a clean end the open leaf is sent where it has pairs, or where no pair came.
 leaf_end : (cut : Cut) (version : Version) (pairs : List Pair) →
     leaf_events cut version clean pairs ≡ leaf_events cut version faulty pairs
-    ++ option_to_list (some_if (not (has_entries pairs) || nat_le 2 (length (open_leaf cut pairs).bytes)) (open_leaf cut pairs))
+    ++ option_to_list (some_if (not (has_entries pairs) || nat_le 2
+    (length (open_leaf cut pairs).bytes)) (open_leaf cut pairs))
 leaf_end cut version pairs =
     let test = pair_is_boundary cut in
     let rest = open_entries test 1 pairs in
@@ -178,14 +216,22 @@ leaf_end cut version pairs =
     let s = split_splits test 1 pairs in
     let whole : split test 1 pairs ≡ closed ++ as_group rest = (in_parts test 1 pairs).whole in
     ap (λ gs. map (chunk_of version 0) (leaves_of gs)) whole
-    ∙ last_leaf version pairs closed rest (ap flat (sym whole) ∙ s.whole) (subst (AllByRecursion (λ group. 0 < length group)) whole s.nonempty)
-    ∙ ap (λ b. map (chunk_of version 0) closed ++ option_to_list (some_if (not (has_entries pairs) || b) (chunk_of version 0 rest))) (sym (leaf_has rest))
+    ∙ last_leaf version pairs closed rest (ap flat (sym whole) ∙ s.whole)
+    (subst (AllByRecursion (λ group. 0 < length group)) whole s.nonempty)
+    ∙ ap (λ b. map (chunk_of version 0) closed ++
+    option_to_list (some_if (not (has_entries pairs) || b) (chunk_of version 0 rest)))
+    (sym (leaf_has rest))
 
 -- What the level's code answers at the end is what `LeafEnds` says.
-pub leaf_ends : {C : Type 0} (cut_of : C → Cut) (level : LeafState C) (cut : C) (leaf : Chunk) (had_pairs : Bool) (last : Option Chunk) (is_left : Bool) →
-    state cut_of cut leaf had_pairs ≡ level → is_left ≡ (not had_pairs || nat_le 2 (length leaf.bytes)) → last ≡ some_if is_left leaf →
+pub leaf_ends : {C : Type 0} (cut_of : C → Cut) (level : LeafState C) (cut : C) (leaf : Chunk)
+    (had_pairs : Bool) (last : Option Chunk) (is_left : Bool) →
+    state cut_of cut leaf had_pairs ≡ level →
+    is_left ≡ (not had_pairs || nat_le 2 (length leaf.bytes)) → last ≡ some_if is_left leaf →
     LeafEnds cut_of level last
 leaf_ends {C} cut_of level cut leaf had_pairs last is_left o i l cut' version pairs e =
-    let Last : LeafState C → Type 0 = λ s. last ≡ some_if (not s.has_pairs || nat_le 2 (length s.leaf.bytes)) s.leaf in
-    let l' : Last (leaf_level cut_of cut' pairs) = subst Last (o ∙ e) (l ∙ ap (λ b. some_if b leaf) i) in
-    leaf_end (cut_of cut') version pairs ∙ ap (λ x. leaf_events (cut_of cut') version faulty pairs ++ option_to_list x) (sym l')
+    let Last : LeafState C → Type 0 = λ s. last ≡
+    some_if (not s.has_pairs || nat_le 2 (length s.leaf.bytes)) s.leaf in
+    let l' : Last (leaf_level cut_of cut' pairs) =
+    subst Last (o ∙ e) (l ∙ ap (λ b. some_if b leaf) i) in
+    leaf_end (cut_of cut') version pairs ∙ ap (λ x. leaf_events (cut_of cut') version faulty
+    pairs ++ option_to_list x) (sym l')

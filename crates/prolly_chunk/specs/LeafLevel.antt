@@ -31,12 +31,18 @@ pub record LeafBegins {C : Type 0} (cut_of : C → Cut) (cut : C) (level : LeafS
   pub events : (version : Version) → leaf_events (cut_of cut) version faulty [] ≡ []
 
 -- The level takes a pair, whatever pairs came before, and answers what the leaf stage sends for it.
-pub record LeafTakes {C : Type 0} (cut_of : C → Cut) (old new : LeafState C) (pair : Pair) (closed : Option Chunk) : Type 0 where
-  pub state : (cut : C) (pairs : List Pair) → old ≡ leaf_level cut_of cut pairs → new ≡ leaf_level cut_of cut (pairs ++ pair ∷ [])
-  pub events : (cut : C) (version : Version) (pairs : List Pair) → old ≡ leaf_level cut_of cut pairs →
-      leaf_events (cut_of cut) version faulty (pairs ++ pair ∷ []) ≡ leaf_events (cut_of cut) version faulty pairs ++ option_to_list closed
+pub record LeafTakes {C : Type 0} (cut_of : C → Cut) (old new : LeafState C) (pair : Pair)
+    (closed : Option Chunk) : Type 0 where
+  pub state : (cut : C) (pairs : List Pair) → old ≡ leaf_level cut_of cut pairs →
+      new ≡ leaf_level cut_of cut (pairs ++ pair ∷ [])
+  pub events : (cut : C) (version : Version) (pairs : List Pair) →
+      old ≡ leaf_level cut_of cut pairs →
+      leaf_events (cut_of cut) version faulty (pairs ++ pair ∷ []) ≡ leaf_events (cut_of cut)
+      version faulty pairs ++ option_to_list closed
 
 -- The level answers what the leaf stage sends at a clean end, whatever pairs came.
 abbrev pub LeafEnds : {C : Type 0} → (C → Cut) → LeafState C → Option Chunk → Type 0
-LeafEnds {C} cut_of level last = (cut : C) (version : Version) (pairs : List Pair) → level ≡ leaf_level cut_of cut pairs →
-    leaf_events (cut_of cut) version clean pairs ≡ leaf_events (cut_of cut) version faulty pairs ++ option_to_list last
+LeafEnds {C} cut_of level last = (cut : C) (version : Version) (pairs : List Pair) →
+    level ≡ leaf_level cut_of cut pairs →
+    leaf_events (cut_of cut) version clean pairs ≡ leaf_events (cut_of cut) version faulty pairs ++
+    option_to_list last

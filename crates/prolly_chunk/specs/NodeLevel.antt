@@ -6,7 +6,8 @@ use Rattle.prolly_entry.specs.declared.version.Version.{Version}
 use Rattle.prolly_entry.specs.Cut.{Cut}
 use Rattle.prolly_tree.specs.Split.{open_entries}
 use Rattle.prolly_tree.specs.Chunk.{Chunk}
-use Rattle.prolly_tree.specs.Events.{clean, faulty, inner_events, group_event, event_is_boundary, has_level}
+use Rattle.prolly_tree.specs.Events.{clean, faulty, inner_events, group_event, event_is_boundary}
+use Rattle.prolly_tree.specs.Events.{has_level}
 use Rattle.prolly_chunk.specs.declared.node.Received.{Received}
 use Rattle.prolly_chunk.specs.declared.node.Received.TheVariants.{Nothing, Single, Several}
 
@@ -43,21 +44,26 @@ abbrev pub node_level : {C : Type 0} → (C → Cut) → C → Version → ℕ �
 node_level cut_of cut version level events = record {
   cut = cut;
   version = version;
-  node = group_event version level (open_entries (event_is_boundary (cut_of cut) version) 2 (children_at level events));
+  node = group_event version level (open_entries (event_is_boundary (cut_of cut) version) 2
+      (children_at level events));
   received = received_of (children_at level events);
 }
 
 -- The level begins as the one behind no events, of which the inner stage sends nothing yet.
-pub record NodeBegins {C : Type 0} (cut_of : C → Cut) (cut : C) (version : Version) (level : ℕ) (begun : NodeState C) : Type 0 where
+pub record NodeBegins {C : Type 0} (cut_of : C → Cut) (cut : C) (version : Version) (level : ℕ)
+    (begun : NodeState C) : Type 0 where
   pub state : begun ≡ node_level cut_of cut version level []
   pub events : inner_events level (cut_of cut) version faulty [] ≡ []
 
 -- The level takes an event, whatever events came before, and answers what the inner stage sends
 -- behind the event itself.
-pub record NodeTakes {C : Type 0} (cut_of : C → Cut) (old new : NodeState C) (event : Chunk) (closed : Option Chunk) : Type 0 where
-  pub state : (cut : C) (version : Version) (level : ℕ) (events : List Chunk) → old ≡ node_level cut_of cut version level events →
+pub record NodeTakes {C : Type 0} (cut_of : C → Cut) (old new : NodeState C) (event : Chunk)
+    (closed : Option Chunk) : Type 0 where
+  pub state : (cut : C) (version : Version) (level : ℕ) (events : List Chunk) →
+      old ≡ node_level cut_of cut version level events →
       new ≡ node_level cut_of cut version level (events ++ event ∷ [])
-  pub events : (cut : C) (version : Version) (level : ℕ) (events : List Chunk) → old ≡ node_level cut_of cut version level events →
+  pub events : (cut : C) (version : Version) (level : ℕ) (events : List Chunk) →
+      old ≡ node_level cut_of cut version level events →
       inner_events level (cut_of cut) version faulty (events ++ event ∷ [])
       ≡ inner_events level (cut_of cut) version faulty events ++ event ∷ option_to_list closed
 
@@ -65,4 +71,5 @@ pub record NodeTakes {C : Type 0} (cut_of : C → Cut) (old new : NodeState C) (
 abbrev pub NodeEnds : {C : Type 0} → (C → Cut) → NodeState C → Option Chunk → Type 0
 NodeEnds {C} cut_of state last = (cut : C) (version : Version) (level : ℕ) (events : List Chunk) →
     state ≡ node_level cut_of cut version level events →
-    inner_events level (cut_of cut) version clean events ≡ inner_events level (cut_of cut) version faulty events ++ option_to_list last
+    inner_events level (cut_of cut) version clean events ≡ inner_events level (cut_of cut) version
+    faulty events ++ option_to_list last

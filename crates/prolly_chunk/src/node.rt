@@ -1,6 +1,7 @@
 //! A level of nodes.
 ghost use Rattle.std.specs.Prelude.{◌≡◌, ◌≤◌, IfOk};
-ghost use Rattle.prolly_chunk.specs.NodeLevel.{NodeBegins, NodeTakes, NodeEnds, one_more, is_several};
+ghost use Rattle.prolly_chunk.specs.NodeLevel.{NodeBegins, NodeTakes, NodeEnds, one_more};
+ghost use Rattle.prolly_chunk.specs.NodeLevel.{is_several};
 
 use crate::chunk::Chunk;
 use crate::event::ChunkEvent;

@@ -1,5 +1,6 @@
 -- What is read as a child entry is spelled there.
-use Rattle.std.proofs.Common.{◌≡◌, ℕ, ◌+◌, ◌-◌, ◌≤◌, List, ◌++◌, length, take, drop, refl, sym, ap, ◌∙◌, subst, arith, append_assoc}
+use Rattle.std.proofs.Common.{◌≡◌, ℕ, ◌+◌, ◌-◌, ◌≤◌, List, ◌++◌, length, take, drop, refl, sym, ap}
+use Rattle.std.proofs.Common.{◌∙◌, subst, arith, append_assoc}
 use Rattle.std.proofs.lemmas.List.{length-take}
 use Rattle.std.proofs.lemmas.Nat.{be_bytes_8}
 use Rattle.std.specs.Int.{w64, to_be_bytes, from_be_bytes}
@@ -8,30 +9,38 @@ use Rattle.prolly_entry.specs.declared.version.Version.TheVariants.{One, Two}
 use Rattle.prolly_entry.specs.Spelling.{key_spelling, count_spelling, child_spelling}
 use Rattle.prolly_entry.specs.Reading.{key_length}
 use Rattle.prolly_entry.specs.ChildAt.{tail_length, IsChildAt}
-use Rattle.prolly_entry.proofs.ByteLists.{AreBytes, AreBytes-drop, AreBytes-take, cut_at, length_of_cut, key_is_spelled}
+use Rattle.prolly_entry.proofs.ByteLists.{AreBytes, AreBytes-drop, AreBytes-take, cut_at}
+use Rattle.prolly_entry.proofs.ByteLists.{length_of_cut, key_is_spelled}
 
 -- The count lies behind a reference at place a. Version One has none, so what follows the reference
 -- is left as it is.
-count_is_spelled : (version : Version) (a : ℕ) (bytes : List ℕ) → AreBytes bytes → a + tail_length version ≤ length bytes →
-    drop (a + 20) bytes ≡ count_spelling version (from_be_bytes w64 (take 8 (drop (a + 20) bytes))) ++ drop (a + tail_length version) bytes
+count_is_spelled : (version : Version) (a : ℕ) (bytes : List ℕ) → AreBytes bytes →
+    a + tail_length version ≤ length bytes →
+    drop (a + 20) bytes ≡ count_spelling version (from_be_bytes w64 (take 8 (drop (a + 20) bytes)))
+    ++ drop (a + tail_length version) bytes
 count_is_spelled One a bytes h w = refl
 count_is_spelled Two a bytes h w =
     let eight = take 8 (drop (a + 20) bytes) in
     let there : a + 20 + 8 ≡ a + 28 = omega arith in
-    let back : to_be_bytes w64 (from_be_bytes w64 eight) ≡ eight = be_bytes_8 eight (from_be_bytes w64 eight)
-    (length_of_cut (a + 20) 8 bytes (omega arith)) (AreBytes-take 8 (drop (a + 20) bytes) (AreBytes-drop (a + 20) bytes h)) refl in
+    let back : to_be_bytes w64 (from_be_bytes w64 eight) ≡ eight =
+    be_bytes_8 eight (from_be_bytes w64 eight)
+    (length_of_cut (a + 20) 8 bytes (omega arith))
+    (AreBytes-take 8 (drop (a + 20) bytes) (AreBytes-drop (a + 20) bytes h)) refl in
     cut_at (a + 20) 8 bytes
     ∙ (ap (λ k. eight ++ drop k bytes) there
     ∙ ap (λ (t : List ℕ). t ++ drop (a + 28) bytes) (sym back))
 
 -- The parts of a child entry, one behind the other, are its spelling.
 joined : (version : Version) (key reference : List ℕ) (count : ℕ) (more : List ℕ) →
-    key_spelling key ++ (reference ++ (count_spelling version count ++ more)) ≡ child_spelling version key reference count ++ more
+    key_spelling key ++ (reference ++ (count_spelling version count ++ more)) ≡
+    child_spelling version key reference count ++ more
 joined version key reference count more = simp append_assoc
 
 -- The key, the reference and the count together.
-child_is_spelled : (version : Version) (bytes : List ℕ) (n : ℕ) → AreBytes bytes → n ≡ key_length bytes → 2 + n + tail_length version ≤ length bytes →
-    bytes ≡ child_spelling version (take n (drop 2 bytes)) (take 20 (drop (2 + n) bytes)) (from_be_bytes w64 (take 8 (drop (2 + n + 20) bytes)))
+child_is_spelled : (version : Version) (bytes : List ℕ) (n : ℕ) → AreBytes bytes →
+    n ≡ key_length bytes → 2 + n + tail_length version ≤ length bytes →
+    bytes ≡ child_spelling version (take n (drop 2 bytes)) (take 20 (drop (2 + n) bytes))
+    (from_be_bytes w64 (take 8 (drop (2 + n + 20) bytes)))
     ++ drop (2 + n + tail_length version) bytes
 child_is_spelled version bytes n h e w =
     let key = take n (drop 2 bytes) in
@@ -39,7 +48,8 @@ child_is_spelled version bytes n h e w =
     let count = from_be_bytes w64 (take 8 (drop (2 + n + 20) bytes)) in
     key_is_spelled bytes n h e (omega arith)
     ∙ (ap (λ (t : List ℕ). key_spelling key ++ t) (cut_at (2 + n) 20 bytes)
-    ∙ (ap (λ (t : List ℕ). key_spelling key ++ (reference ++ t)) (count_is_spelled version (2 + n) bytes h w)
+    ∙ (ap (λ (t : List ℕ). key_spelling key ++ (reference ++ t))
+    (count_is_spelled version (2 + n) bytes h w)
     ∙ joined version key reference count (drop (2 + n + tail_length version) bytes)))
 
 -- A reference follows each key.
@@ -48,13 +58,17 @@ least_tail One = omega arith
 least_tail Two = omega arith
 
 -- A child entry whose key is not too long lies in front of bytes that hold the whole of it.
-pub child_is_there : (version : Version) (bytes : List ℕ) (n : ℕ) → AreBytes bytes → n ≡ key_length bytes → n ≤ 1024 →
-    2 + n + tail_length version ≤ length bytes → IsChildAt version bytes (record { key_end = 2 + n; len = 2 + n + tail_length version })
+pub child_is_there : (version : Version) (bytes : List ℕ) (n : ℕ) → AreBytes bytes →
+    n ≡ key_length bytes → n ≤ 1024 →
+    2 + n + tail_length version ≤ length bytes →
+    IsChildAt version bytes (record { key_end = 2 + n; len = 2 + n + tail_length version })
 child_is_there version bytes n h e k w =
     let same : n ≡ 2 + n - 2 = omega arith in
     let least = least_tail version in record {
-      spelled = subst (λ m. bytes ≡ child_spelling version (take m (drop 2 bytes)) (take 20 (drop (2 + n) bytes))
-          (from_be_bytes w64 (take 8 (drop (2 + n + 20) bytes))) ++ drop (2 + n + tail_length version) bytes)
+      spelled = subst (λ m. bytes ≡ child_spelling version (take m (drop 2 bytes))
+          (take 20 (drop (2 + n) bytes))
+          (from_be_bytes w64 (take 8 (drop (2 + n + 20) bytes))) ++
+          drop (2 + n + tail_length version) bytes)
           same (child_is_spelled version bytes n h e w);
       key = omega (arith, length-take (2 + n - 2) (drop 2 bytes));
       reference = length_of_cut (2 + n) 20 bytes (omega arith);

@@ -17,14 +17,16 @@ byte_at-lt (suc i) number = mod_below (number / 256 ^ suc i) 256 (omega arith)
 All-bytes_high_first : (n number : ℕ) → All IsByte (bytes_high_first n number)
 All-bytes_high_first zero number = All-nil IsByte
 All-bytes_high_first (suc n) number =
-    All-cons IsByte (byte_at n number) (bytes_high_first n number) (byte_at-lt n number) (All-bytes_high_first n number)
+    All-cons IsByte (byte_at n number) (bytes_high_first n number) (byte_at-lt n number)
+    (All-bytes_high_first n number)
 
 All-digest_bytes : (words : List ℕ) (n : ℕ) → All IsByte (digest_bytes words n)
 unfolding digest_bytes
 All-digest_bytes words zero = All-nil IsByte
 All-digest_bytes words (suc n) =
     let word = slice_index words n in
-    All-append IsByte (digest_bytes words n) (to_be_bytes w64 word) (All-digest_bytes words n) (All-bytes_high_first 8 word)
+    All-append IsByte (digest_bytes words n) (to_be_bytes w64 word) (All-digest_bytes words n)
+    (All-bytes_high_first 8 word)
 
 All-sha512 : (bytes : List ℕ) → All IsByte (sha512 bytes)
 unfolding sha512

@@ -1,5 +1,7 @@
 -- The digits of a number in base 32, and their characters.
-use Rattle.std.proofs.Common.{◌≡◌, ℕ, zero, suc, ◌+◌, ◌*◌, ◌/◌, ◌%◌, ◌^◌, ◌<◌, ◌≤◌, [], ◌∷◌, ◌++◌, length, ◌⊎◌, inl, inr, cond, ltb, eqb, true, All, add-one, refl, sym, ◌∙◌, arith}
+use Rattle.std.proofs.Common.{◌≡◌, ℕ, zero, suc, ◌+◌, ◌*◌, ◌/◌, ◌%◌, ◌^◌, ◌<◌, ◌≤◌, [], ◌∷◌, ◌++◌}
+use Rattle.std.proofs.Common.{length, ◌⊎◌, inl, inr, cond, ltb, eqb, true, All, add-one, refl, sym}
+use Rattle.std.proofs.Common.{◌∙◌, arith}
 use Rattle.std.proofs.lemmas.Bool.{agree_below_at, eqb-true, cases_lt}
 use Rattle.std.proofs.lemmas.Bool.Decides.{nat_tests}
 use Rattle.std.proofs.lemmas.List.{append_assoc, append-nil, length_push, same_from_push}
@@ -14,7 +16,8 @@ code_of digit = cond (ltb digit 10) (48 + digit) (87 + digit)
 
 pub character-code : (digit : ℕ) → digit < 32 → character digit ≡ code_of digit
 character-code digit below =
-    eqb-true _ _ (agree_below_at (λ d. eqb (character d) (code_of d)) (λ _. true) 32 digit refl below)
+    eqb-true _ _ (agree_below_at (λ d. eqb (character d) (code_of d)) (λ _. true) 32 digit refl
+    below)
 
 pub character-figure : (digit : ℕ) → digit < 10 → character digit ≡ 48 + digit
 character-figure digit below =
@@ -25,7 +28,8 @@ character-letter digit above below =
     let code = character-code digit below in grind (arith, nat_tests, code)
 
 -- two digits with one character are the same
-pub same_digit : (first second : ℕ) → first < 32 → second < 32 → character first ≡ character second → first ≡ second
+pub same_digit : (first second : ℕ) → first < 32 → second < 32 →
+    character first ≡ character second → first ≡ second
 same_digit first second first_below second_below same =
     let first_code = character-code first first_below in
     let second_code = character-code second second_below in
@@ -34,22 +38,27 @@ same_digit first second first_below second_below same =
 pub length-characters : (n number : ℕ) → length (characters n number) ≡ n
 length-characters zero number = refl
 length-characters (suc n) number =
-    length_push (characters n (number / 32)) (character (number % 32)) ∙ omega (arith, length-characters n (number / 32))
+    length_push (characters n (number / 32)) (character (number % 32)) ∙
+    omega (arith, length-characters n (number / 32))
 
 pub All-characters : (n number : ℕ) → All IsCharacter (characters n number)
 All-characters zero number = All-nil IsCharacter
 All-characters (suc n) number =
-    let last : IsCharacter (character (number % 32)) = record { digit = number % 32; below = omega arith; written = refl } in
-    All-push IsCharacter (characters n (number / 32)) (character (number % 32)) (All-characters n (number / 32)) last
+    let last : IsCharacter (character (number % 32)) =
+    record { digit = number % 32; below = omega arith; written = refl } in
+    All-push IsCharacter (characters n (number / 32)) (character (number % 32))
+    (All-characters n (number / 32)) last
 
 -- one digit more
-pub characters_more : (n number digit : ℕ) → digit < 32 → characters (n + 1) (number * 32 + digit) ≡ characters n number ++ character digit ∷ []
+pub characters_more : (n number digit : ℕ) → digit < 32 → characters (n + 1) (number * 32 + digit) ≡
+    characters n number ++ character digit ∷ []
 characters_more n number digit below =
     rw (add-one, div-mul-add number 32 digit below, mod-mul-add number 32 digit below) refl
 
 -- the digits above the last
 above_last-lt : (n number : ℕ) → number < 32 ^ suc n → number / 32 < 32 ^ n
-above_last-lt n number below = div_below number 32 (32 ^ n) (omega arith) (omega (arith, pow-suc 32 n))
+above_last-lt n number below = div_below number 32 (32 ^ n) (omega arith)
+    (omega (arith, pow-suc 32 n))
 
 -- the low digits stand last, whatever is above them
 pub characters-append : (m n high low : ℕ) → low < 32 ^ n
@@ -61,14 +70,17 @@ characters-append m zero high low below =
 characters-append m (suc n) high low below =
     let above = high * 32 ^ n + low / 32 in
     let count : m + suc n ≡ (m + n) + 1 = omega arith in
-    let number : high * 32 ^ suc n + low ≡ above * 32 + low % 32 = rw (pow-suc 32 n) (omega arith) in
+    let number : high * 32 ^ suc n + low ≡ above * 32 + low % 32 =
+    rw (pow-suc 32 n) (omega arith) in
     let more = characters_more (m + n) above (low % 32) (omega arith) in
     let front = characters-append m n high (low / 32) (above_last-lt n low below) in
-    let joined = append_assoc (characters m high) (characters n (low / 32)) (character (low % 32) ∷ []) in
+    let joined = append_assoc (characters m high) (characters n (low / 32))
+    (character (low % 32) ∷ []) in
     rw (count, number, more, front) joined
 
 -- two numbers with the same digits are the same
-pub same_number : (n first second : ℕ) → first < 32 ^ n → second < 32 ^ n → characters n first ≡ characters n second → first ≡ second
+pub same_number : (n first second : ℕ) → first < 32 ^ n → second < 32 ^ n →
+    characters n first ≡ characters n second → first ≡ second
 same_number zero first second first_below second_below same = omega arith
 same_number (suc n) first second first_below second_below same =
     let pushed = same_from_push (characters n (first / 32)) (characters n (second / 32)) _ _ same in

@@ -24,7 +24,8 @@ count_at bytes at = from_be_bytes w64 (take 8 (drop (at.key_end + 20) bytes))
 
 -- A lawful child entry is the first `len` bytes, and its key ends at `key_end`.
 pub record IsChildAt (version : Version) (bytes : List ℕ) (at : ChildAt) : Type 0 where
-  pub spelled : bytes ≡ child_spelling version (key_at bytes at) (reference_at bytes at) (count_at bytes at) ++ drop at.len bytes
+  pub spelled : bytes ≡ child_spelling version (key_at bytes at) (reference_at bytes at)
+      (count_at bytes at) ++ drop at.len bytes
   pub key : length (key_at bytes at) ≤ 1024
   pub reference : length (reference_at bytes at) ≡ 20
   pub starts : 2 ≤ at.key_end
@@ -34,4 +35,5 @@ pub record IsChildAt (version : Version) (bytes : List ℕ) (at : ChildAt) : Typ
 -- No lawful child entry begins the bytes.
 abbrev pub NoChildAt : Version → List ℕ → Type 0
 NoChildAt version bytes = (key reference : List ℕ) (count : ℕ) (more : List ℕ) →
-    length key ≤ 1024 → length reference ≡ 20 → bytes ≡ child_spelling version key reference count ++ more → ⊥
+    length key ≤ 1024 → length reference ≡ 20 →
+    bytes ≡ child_spelling version key reference count ++ more → ⊥

@@ -1,7 +1,8 @@
 -- Cuts: which entries end a chunk. (SHA-512 is that of FIPS 180-4. The rest is this project's
 -- format: Noms decides by a rolling hash over a window of bytes, here the hash of exactly one entry
 -- decides.)
-use Rattle.std.specs.Prelude.{ℕ, ◌-◌, ◌%◌, ◌^◌, Bool, ◌&&◌, ◌==◌, nat_le, List, length, take, drop, slice_index}
+use Rattle.std.specs.Prelude.{ℕ, ◌-◌, ◌%◌, ◌^◌, Bool, ◌&&◌, ◌==◌, nat_le, List, length, take, drop}
+use Rattle.std.specs.Prelude.{slice_index}
 use Rattle.std.specs.Int.{w16, w32, from_be_bytes}
 use Rattle.sha2.specs.Sha512.{sha512}
 
@@ -22,7 +23,8 @@ sha512_cut q = record { bits = q; is_boundary = λ entry. boundary_number entry 
 -- The entry has a key of at least one byte by its first two bytes, it holds that key whole, and the
 -- key ends with `!`.
 abbrev pub ends_with_mark : List ℕ → Bool
-ends_with_mark entry = let n = from_be_bytes w16 (take 2 entry) in let key = take n (drop 2 entry) in
+ends_with_mark entry = let n = from_be_bytes w16 (take 2 entry) in let key =
+    take n (drop 2 entry) in
     nat_le 1 n && (length key == n) && (slice_index key (n - 1) == 0x21)
 
 -- The cut of examples and tests, whose boundaries a reader sees: those entries. Its number, 255, is

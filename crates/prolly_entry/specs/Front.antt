@@ -1,7 +1,9 @@
 -- What bytes begin with: a record, a pair, or no whole one. (This project's format.)
-use Rattle.std.specs.Prelude.{◌≡◌, ◌≢◌, ℕ, ◌+◌, ◌-◌, ◌<◌, ◌≤◌, nat_lt, ◌==◌, List, ◌++◌, length, take, drop, Some, None, if◌then◌else◌}
+use Rattle.std.specs.Prelude.{◌≡◌, ◌≢◌, ℕ, ◌+◌, ◌-◌, ◌<◌, ◌≤◌, nat_lt, ◌==◌, List, ◌++◌, length}
+use Rattle.std.specs.Prelude.{take, drop, Some, None, if◌then◌else◌}
 use Rattle.prolly_entry.specs.declared.front.FrontRecord.{FrontRecord}
-use Rattle.prolly_entry.specs.declared.front.FrontRecord.TheVariants.{Put, Remove, More, KeyTooLong, ValueTooLong}
+use Rattle.prolly_entry.specs.declared.front.FrontRecord.TheVariants.{Put, Remove, More, KeyTooLong}
+use Rattle.prolly_entry.specs.declared.front.FrontRecord.TheVariants.{ValueTooLong}
 use Rattle.prolly_entry.specs.declared.front.Front.{Front}
 use Rattle.prolly_entry.specs.declared.front.Front.TheVariants as pairs
 use Rattle.prolly_entry.specs.Pair.{Pair, IsPair}
@@ -67,11 +69,14 @@ pub record HasLongValue (bytes : List ℕ) : Type 0 where
 -- What the bytes begin with, where a removal is a record.
 abbrev pub IsFrontRecord : List ℕ → FrontRecord → Type 0
 IsFrontRecord bytes (Put key_end value_start len) =
-    IsRecordAt bytes (put_at bytes key_end value_start len) len × (key_end ≤ value_start) × (value_start ≤ len) × (2 ≤ key_end)
-IsFrontRecord bytes (Remove key_end len) = IsRecordAt bytes (removal_at bytes key_end) len × (key_end ≤ len) × (2 ≤ key_end)
+    IsRecordAt bytes (put_at bytes key_end value_start len) len × (key_end ≤ value_start) ×
+    (value_start ≤ len) × (2 ≤ key_end)
+IsFrontRecord bytes (Remove key_end len) = IsRecordAt bytes (removal_at bytes key_end) len ×
+    (key_end ≤ len) × (2 ≤ key_end)
 IsFrontRecord bytes More = NoRecordAt bytes × IsCut bytes
 IsFrontRecord bytes KeyTooLong = NoRecordAt bytes × HasLongKey bytes
-IsFrontRecord bytes ValueTooLong = NoRecordAt bytes × HasLongValue bytes × (value_length bytes ≢ 0xFFFF_FFFF)
+IsFrontRecord bytes ValueTooLong = NoRecordAt bytes × HasLongValue bytes ×
+    (value_length bytes ≢ 0xFFFF_FFFF)
 
 -- The same as a function that computes: of `size` bytes that spell a key of n bytes and the number
 -- m for the value's length.
@@ -98,7 +103,8 @@ as_pair ValueTooLong = pairs.ValueTooLong
 
 abbrev pub IsFrontPair : List ℕ → Front → Type 0
 IsFrontPair bytes (pairs.Pair key_end value_start len) =
-    IsPairAt bytes (pair_at bytes key_end value_start len) len × (key_end ≤ value_start) × (value_start ≤ len) × (2 ≤ key_end)
+    IsPairAt bytes (pair_at bytes key_end value_start len) len × (key_end ≤ value_start) ×
+    (value_start ≤ len) × (2 ≤ key_end)
 IsFrontPair bytes pairs.More = NoPairAt bytes × IsCut bytes
 IsFrontPair bytes pairs.KeyTooLong = NoPairAt bytes × HasLongKey bytes
 IsFrontPair bytes pairs.ValueTooLong = NoPairAt bytes × HasLongValue bytes

@@ -9,7 +9,8 @@ use Rattle.std.specs.Cmp.Lexicographic.{slice_cmp}
 -- they differ x's byte is less, bytes being unsigned.
 pub data ComesBefore : List ℕ → List ℕ → Type 0 where
   is_prefix : (x : List ℕ) (b : ℕ) (y : List ℕ) → ComesBefore x (x ++ b ∷ y)
-  is_less : (same : List ℕ) (a b : ℕ) (x y : List ℕ) → a < b → ComesBefore (same ++ a ∷ x) (same ++ b ∷ y)
+  is_less : (same : List ℕ) (a b : ℕ) (x y : List ℕ) → a < b →
+      ComesBefore (same ++ a ∷ x) (same ++ b ∷ y)
 
 -- The same as a comparison that computes: byte by byte.
 abbrev pub key_order : List ℕ → List ℕ → Ordering

@@ -11,7 +11,8 @@ use Rattle.prolly_entry.specs.Reading.{next_flaw}
 use Rattle.prolly_entry.specs.Front.{IsRecordAt, put_at, removal_at}
 
 -- The record is the next good one, whatever follows it.
-pub record IsNext (limit count : ℕ) (position : Position) (bytes : List ℕ) (r : Record) (len : ℕ) : Type 0 where
+pub record IsNext (limit count : ℕ) (position : Position) (bytes : List ℕ) (r : Record) (len : ℕ)
+    : Type 0 where
   pub there : IsRecordAt bytes r len
   pub room : count ≢ limit
   pub rises : is_before position (Some r.key) ≡ true
@@ -23,16 +24,19 @@ pub record IsUndecided (limit count : ℕ) (position : Position) (bytes : List �
   pub cut : 0 < length bytes → next_flaw limit count position bytes ≡ Some Truncated
 
 -- The next record has this flaw, whatever follows the bytes.
-pub record IsFlawed (limit count : ℕ) (position : Position) (bytes : List ℕ) (flaw : Flaw) : Type 0 where
-  pub some : 0 < length bytes
-  pub is : (more : List ℕ) → next_flaw limit count position (bytes ++ more) ≡ Some flaw
+pub record IsFlawed (limit count : ℕ) (position : Position) (bytes : List ℕ) (flaw : Flaw) : Type 0
+  where
+    pub some : 0 < length bytes
+    pub is : (more : List ℕ) → next_flaw limit count position (bytes ++ more) ≡ Some flaw
 
 -- What the bytes say of the next record behind `count` good ones, at most `limit`, of which the
 -- last stands at the position.
 abbrev pub IsNextRecord : ℕ → ℕ → Position → List ℕ → NextRecord → Type 0
 IsNextRecord limit count position bytes (Put key_end value_start len) =
-    IsNext limit count position bytes (put_at bytes key_end value_start len) len × (key_end ≤ value_start) × (value_start ≤ len) × (2 ≤ key_end)
+    IsNext limit count position bytes (put_at bytes key_end value_start len) len ×
+    (key_end ≤ value_start) × (value_start ≤ len) × (2 ≤ key_end)
 IsNextRecord limit count position bytes (Remove key_end len) =
-    IsNext limit count position bytes (removal_at bytes key_end) len × (key_end ≤ len) × (2 ≤ key_end)
+    IsNext limit count position bytes (removal_at bytes key_end) len × (key_end ≤ len) ×
+    (2 ≤ key_end)
 IsNextRecord limit count position bytes More = IsUndecided limit count position bytes
 IsNextRecord limit count position bytes (Flawed flaw) = IsFlawed limit count position bytes flaw

@@ -1,6 +1,7 @@
 -- The overlay of lists of records: the map that they make where a later list wins a key. (This
 -- project's format.)
-use Rattle.std.specs.Prelude.{◌≡◌, ℕ, false, List, [], ◌∷◌, ◌++◌, map, Option, Some, None, if◌then◌else◌}
+use Rattle.std.specs.Prelude.{◌≡◌, ℕ, false, List, [], ◌∷◌, ◌++◌, map, Option, Some, None}
+use Rattle.std.specs.Prelude.{if◌then◌else◌}
 use Rattle.std.specs.declared.cmp.Ordering.TheVariants.{Less, Equal, Greater}
 use Rattle.std.specs.declared.cmp.Ordering.{Ordering}
 use Rattle.std.specs.Ordering.{is_lt, is_eq}
@@ -54,7 +55,8 @@ AllRising lists = AllByRecursion (λ records. Rising (keys_of records)) lists
 -- Law: lists with rising keys have one raw overlay, and it is that one.
 abbrev pub OneRawOverlay : Type 0
 OneRawOverlay = (lists : List (List Record)) → AllRising lists →
-    IsRawOverlay lists (raw_overlay lists) × ((m : List Record) → IsRawOverlay lists m → m ≡ raw_overlay lists)
+    IsRawOverlay lists (raw_overlay lists) × ((m : List Record) → IsRawOverlay lists m →
+    m ≡ raw_overlay lists)
 
 -- ---- The overlay.
 
@@ -77,12 +79,14 @@ OverlayIsMap = (lists : List (List Record)) → Rising (map (λ p. p.key) (overl
 
 -- Law: the overlay stays the same where one of the lists is divided into two.
 abbrev pub DivisionKeepsOverlay : Type 0
-DivisionKeepsOverlay = (before after : List (List Record)) (x y : List Record) → Rising (keys_of (x ++ y)) →
+DivisionKeepsOverlay = (before after : List (List Record)) (x y : List Record) →
+    Rising (keys_of (x ++ y)) →
     overlay (before ++ x ∷ y ∷ after) ≡ overlay (before ++ (x ++ y) ∷ after)
 
 -- Law: two neighbours may be overlaid first.
 abbrev pub NeighboursOverlayFirst : Type 0
-NeighboursOverlayFirst = (before after : List (List Record)) (a b : List Record) → AllRising (before ++ a ∷ b ∷ after) →
+NeighboursOverlayFirst = (before after : List (List Record)) (a b : List Record) →
+    AllRising (before ++ a ∷ b ∷ after) →
     raw_overlay (before ++ a ∷ b ∷ after) ≡ raw_overlay (before ++ raw_overlay (a ∷ b ∷ []) ∷ after)
 
 -- ---- How the raw overlay goes on, one key after another.
@@ -102,4 +106,5 @@ NotBelow key (r ∷ rs) = is_lt (key_order r.key key) ≡ false
 abbrev pub OverlayStep : Type 0
 OverlayStep = (lists : List (List Record)) (key : List ℕ) (value : Option (List ℕ)) →
     AllRising lists → AllByRecursion (NotBelow key) lists → last_change_of lists key ≡ Some value →
-    raw_overlay lists ≡ record { key = key; value = value } ∷ raw_overlay (map (rest_after key) lists)
+    raw_overlay lists ≡ record { key = key; value = value } ∷ raw_overlay
+    (map (rest_after key) lists)

@@ -1,10 +1,12 @@
 -- The records that the bytes of a record file spell, and what follows them. (This project's
 -- format.)
-use Rattle.std.specs.Prelude.{◌≡◌, ℕ, ◌+◌, ◌≤◌, nat_lt, ◌==◌, List, [], ◌∷◌, ◌++◌, length, take, drop, All, Option, Some, None, if◌then◌else◌}
+use Rattle.std.specs.Prelude.{◌≡◌, ℕ, ◌+◌, ◌≤◌, nat_lt, ◌==◌, List, [], ◌∷◌, ◌++◌, length, take}
+use Rattle.std.specs.Prelude.{drop, All, Option, Some, None, if◌then◌else◌}
 use Rattle.std.specs.Int.{w16, w32, from_be_bytes}
 use Rattle.std.specs.List.{flat_map, AllByRecursion}
 use Rattle.prolly_entry.specs.declared.flaw.Flaw.{Flaw}
-use Rattle.prolly_entry.specs.declared.flaw.Flaw.TheVariants.{Truncated, KeyTooLong, ValueTooLong, OutOfOrder, TooManyRecords}
+use Rattle.prolly_entry.specs.declared.flaw.Flaw.TheVariants.{Truncated, KeyTooLong, ValueTooLong}
+use Rattle.prolly_entry.specs.declared.flaw.Flaw.TheVariants.{OutOfOrder, TooManyRecords}
 use Rattle.prolly_entry.specs.Byte.{IsByte}
 use Rattle.prolly_entry.specs.Keys.{Rising}
 use Rattle.prolly_entry.specs.Prefix.{IsPrefix}
@@ -14,11 +16,12 @@ use Rattle.prolly_entry.specs.Position.{Position, last_position, is_before}
 
 -- The records are lawful, at most `limit` many, their keys rise, and their spellings, one after
 -- another, begin the bytes; the rest follows.
-pub record Begins (bytes : List ℕ) (limit : ℕ) (records : List Record) (rest : List ℕ) : Type 0 where
-  pub spelled : bytes ≡ flat_map record_spelling records ++ rest
-  pub lawful : AllByRecursion IsRecord records
-  pub rising : Rising (keys_of records)
-  pub few : length records ≤ limit
+pub record Begins (bytes : List ℕ) (limit : ℕ) (records : List Record) (rest : List ℕ) : Type 0
+  where
+    pub spelled : bytes ≡ flat_map record_spelling records ++ rest
+    pub lawful : AllByRecursion IsRecord records
+    pub rising : Rising (keys_of records)
+    pub few : length records ≤ limit
 
 -- The numbers that stand where the lengths of a record's key and value stand.
 abbrev pub key_length : List ℕ → ℕ
@@ -57,20 +60,25 @@ next_flaw limit count position rest =
 abbrev pub EndsIn : ℕ → List Record → List ℕ → Option Flaw → Type 0
 EndsIn limit good [] ending = ending ≡ None
 EndsIn limit good (b ∷ rest) None = ⊥
-EndsIn limit good (b ∷ rest) (Some flaw) = next_flaw limit (length good) (last_position good) (b ∷ rest) ≡ Some flaw
+EndsIn limit good (b ∷ rest) (Some flaw) = next_flaw limit (length good) (last_position good)
+    (b ∷ rest) ≡ Some flaw
 
 -- The reading of bytes: the good records are the longest list of records that begins them, and what
 -- follows them is the ending. A flaw's place is the number of good records.
-pub record IsReading (bytes : List ℕ) (limit : ℕ) (good : List Record) (ending : Option Flaw) : Type 0 where
+pub record IsReading (bytes : List ℕ) (limit : ℕ) (good : List Record) (ending : Option Flaw) : Type
+    0 where
   pub rest : List ℕ
   pub begins : Begins bytes limit good rest
-  pub longest : (records : List Record) (more : List ℕ) → Begins bytes limit records more → length records ≤ length good
+  pub longest : (records : List Record) (more : List ℕ) → Begins bytes limit records more →
+      length records ≤ length good
   pub ends : EndsIn limit good rest ending
 
 -- Law: bytes have at most one reading.
 abbrev pub OneReading : Type 0
-OneReading = (bytes : List ℕ) (limit : ℕ) (good good' : List Record) (ending ending' : Option Flaw) →
-    IsReading bytes limit good ending → IsReading bytes limit good' ending' → (good ≡ good') × (ending ≡ ending')
+OneReading = (bytes : List ℕ) (limit : ℕ) (good good' : List Record) (ending ending' : Option Flaw)
+    →
+    IsReading bytes limit good ending → IsReading bytes limit good' ending' →
+    (good ≡ good') × (ending ≡ ending')
 
 -- Law: and they have one.
 pub record HasReading (bytes : List ℕ) (limit : ℕ) : Type 0 where
@@ -83,5 +91,6 @@ SomeReading = (bytes : List ℕ) (limit : ℕ) → All IsByte bytes → HasReadi
 
 -- Law: records that begin the bytes are the first ones of their reading.
 abbrev pub FirstAreGood : Type 0
-FirstAreGood = (bytes : List ℕ) (limit : ℕ) (records : List Record) (rest : List ℕ) (good : List Record) (ending : Option Flaw) →
+FirstAreGood = (bytes : List ℕ) (limit : ℕ) (records : List Record) (rest : List ℕ)
+    (good : List Record) (ending : Option Flaw) →
     Begins bytes limit records rest → IsReading bytes limit good ending → IsPrefix records good

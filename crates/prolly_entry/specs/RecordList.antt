@@ -3,7 +3,11 @@ use Rattle.std.specs.Prelude.{◌≡◌, ℕ, List, [], ◌∷◌, length, Some,
 use Rattle.prolly_entry.specs.declared.flaw.Flaw.{Flaw}
 use Rattle.prolly_entry.specs.declared.flaw.Flaw.TheVariants as flaws
 use Rattle.prolly_entry.specs.declared.record_file.RecordFault.{RecordFault}
-use Rattle.prolly_entry.specs.declared.record_file.RecordFault.TheVariants.{Memory, Truncated, KeyTooLong, ValueTooLong, OutOfOrder, TooManyRecords}
+use Rattle.prolly_entry.specs.declared.record_file.RecordFault.TheVariants.{Memory, Truncated}
+use Rattle.prolly_entry.specs.declared.record_file.RecordFault.TheVariants.{KeyTooLong}
+use Rattle.prolly_entry.specs.declared.record_file.RecordFault.TheVariants.{ValueTooLong}
+use Rattle.prolly_entry.specs.declared.record_file.RecordFault.TheVariants.{OutOfOrder}
+use Rattle.prolly_entry.specs.declared.record_file.RecordFault.TheVariants.{TooManyRecords}
 use Rattle.prolly_entry.specs.Pair.{Pair}
 use Rattle.prolly_entry.specs.Record.{Record}
 use Rattle.prolly_entry.specs.Reading.{IsReading}

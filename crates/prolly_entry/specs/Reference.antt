@@ -1,6 +1,7 @@
 -- References of chunks, and their text. (SHA-512 is that of FIPS 180-4. The cut to 20 bytes and the
 -- text are this project's format.)
-use Rattle.std.specs.Prelude.{zero, suc, ◌+◌, ◌*◌, ◌/◌, ◌%◌, ◌<◌, ◌≡◌, codes, slice_index, length, All, ℕ, List, [], ◌∷◌, ◌++◌, take}
+use Rattle.std.specs.Prelude.{zero, suc, ◌+◌, ◌*◌, ◌/◌, ◌%◌, ◌<◌, ◌≡◌, codes, slice_index, length}
+use Rattle.std.specs.Prelude.{All, ℕ, List, [], ◌∷◌, ◌++◌, take}
 use Rattle.sha2.specs.Sha512.{sha512}
 use Rattle.prolly_entry.specs.Byte.{IsByte}
 

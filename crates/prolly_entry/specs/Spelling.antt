@@ -37,7 +37,8 @@ count_spelling Two count = to_be_bytes w64 count
 -- A child entry: the greatest key below the child, the 20 bytes of the child's reference, the
 -- count.
 abbrev pub child_spelling : Version → List ℕ → List ℕ → ℕ → List ℕ
-child_spelling version key reference count = key_spelling key ++ reference ++ count_spelling version count
+child_spelling version key reference count = key_spelling key ++ reference ++ count_spelling version
+    count
 
 -- Laws: no spelling is a proper prefix of another of its kind. Where two spellings begin the same
 -- bytes, they are one, and what follows them is the same.
@@ -50,7 +51,10 @@ RecordSpellingsApart = (r s : Record) (x y : List ℕ) → IsRecord r → IsReco
     record_spelling r ++ x ≡ record_spelling s ++ y → (r ≡ s) × (x ≡ y)
 
 abbrev pub ChildSpellingsApart : Version → Type 0
-ChildSpellingsApart version = (key key' reference reference' : List ℕ) (count count' : ℕ) (x y : List ℕ) →
+ChildSpellingsApart version = (key key' reference reference' : List ℕ) (count count' : ℕ)
+    (x y : List ℕ) →
     length key ≤ 1024 → length key' ≤ 1024 → length reference ≡ length reference' →
-    child_spelling version key reference count ++ x ≡ child_spelling version key' reference' count' ++ y →
-    (key ≡ key') × (reference ≡ reference') × (count_spelling version count ≡ count_spelling version count') × (x ≡ y)
+    child_spelling version key reference count ++ x ≡ child_spelling version key' reference'
+    count' ++ y →
+    (key ≡ key') × (reference ≡ reference') ×
+    (count_spelling version count ≡ count_spelling version count') × (x ≡ y)

@@ -1,5 +1,6 @@
 -- How a pair is kept, and what it carries. (This project's own; no promise outside rests on it.)
-use Rattle.std.specs.Prelude.{◌≡◌, ℕ, ◌+◌, ◌-◌, ◌≤◌, List, length, vec_len, take, drop, Option, IfSome}
+use Rattle.std.specs.Prelude.{◌≡◌, ℕ, ◌+◌, ◌-◌, ◌≤◌, List, length, vec_len, take, drop, Option}
+use Rattle.std.specs.Prelude.{IfSome}
 use Rattle.prolly_entry.specs.Cut.{boundary_number}
 use Rattle.prolly_entry.specs.Pair.{Pair, IsPair}
 use Rattle.prolly_entry.specs.Spelling.{pair_spelling}
@@ -9,7 +10,10 @@ use Rattle.prolly_entry.specs.declared.storage.Storage.TheVariants.{Apart, Block
 
 -- The pair whose spelling the bytes are, where its key ends there.
 abbrev pub pair_of : List ℕ → ℕ → Pair
-pair_of bytes key_end = record { key = take (key_end - 2) (drop 2 bytes); value = drop (key_end + 4) bytes }
+pair_of bytes key_end = record {
+  key = take (key_end - 2) (drop 2 bytes);
+  value = drop (key_end + 4) bytes;
+}
 
 -- The pair that is kept so.
 abbrev pub pair_in : Storage → Pair

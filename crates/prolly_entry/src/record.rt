@@ -31,7 +31,8 @@ impl Model for Record {
 }
 
 impl Record {
-    ghost use Rattle.std.specs.Prelude.{◌≤◌, ◌<◌, ◌+◌, ◌↔◌, [], length, vec_len, None, Some, Err, IfOk};
+    ghost use Rattle.std.specs.Prelude.{◌≤◌, ◌<◌, ◌+◌, ◌↔◌, [], length, vec_len, None, Some, Err};
+    ghost use Rattle.std.specs.Prelude.{IfOk};
     ghost use Rattle.std.specs.Option.{option_copied, option_map, unwrap_or};
     ghost use Rattle.prolly_entry.specs.Record.{IsChange};
 

@@ -1,5 +1,6 @@
 //! All records of bytes.
-ghost use Rattle.std.specs.Prelude.{◌≡◌, ◌≤◌, ◌++◌, ◌∷◌, [], length, take, drop, ◌-◌, IfOk, IfErr, OnOk};
+ghost use Rattle.std.specs.Prelude.{◌≡◌, ◌≤◌, ◌++◌, ◌∷◌, [], length, take, drop, ◌-◌, IfOk, IfErr};
+ghost use Rattle.std.specs.Prelude.{OnOk};
 ghost use Rattle.prolly_entry.specs.Front.{pair_at};
 ghost use Rattle.prolly_entry.specs.Pair.{IsPair};
 ghost use Rattle.prolly_entry.specs.RecordList.{ArePairsOf, IsFaultOf, fault_of};

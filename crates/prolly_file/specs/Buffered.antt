@@ -1,5 +1,6 @@
 -- What a clause reads of a `Buffered`.
-use Rattle.std.specs.Prelude.{◌≡◌, ℕ, ◌≤◌, Bool, true, List, [], ◌++◌, length, drop, vec_capacity, Result, IfOk, OnOk, OnErr}
+use Rattle.std.specs.Prelude.{◌≡◌, ℕ, ◌≤◌, Bool, true, List, [], ◌++◌, length, drop, vec_capacity}
+use Rattle.std.specs.Prelude.{Result, IfOk, OnOk, OnErr}
 use Rattle.prolly_file.specs.declared.sink.SinkFault.{SinkFault}
 use Rattle.prolly_file.specs.Failures.{CountsFailure}
 use Rattle.prolly_file.specs.Sink.{SinkView, Takes, CountsWriteFailure}
@@ -17,7 +18,11 @@ bytes_taken seen buffer = (seen buffer.sink).taken ++ drop buffer.sent buffer.he
 -- A buffer as a contract sees it. It keeps what it takes where the sink behind it does, and counts
 -- its own failures.
 abbrev pub seen_before : {W : Type 0} → (W → SinkView) → Buffered W → SinkView
-seen_before seen buffer = record { is_keeping = (seen buffer.sink).is_keeping; taken = bytes_taken seen buffer; failures = buffer.failures }
+seen_before seen buffer = record {
+  is_keeping = (seen buffer.sink).is_keeping;
+  taken = bytes_taken seen buffer;
+  failures = buffer.failures;
+}
 
 -- The sink behind it failed, so it is asked no more.
 abbrev pub has_failed : {W : Type 0} → Buffered W → Bool
@@ -31,7 +36,8 @@ pub record IsEmptied {W : Type 0} (old new : Buffered W) : Type 0 where
   pub has_failed : new.has_failed ≡ old.has_failed
 
 -- What comes of handing on all that is held.
-pub record HandsOn {W : Type 0} (seen : W → SinkView) (old new : Buffered W) (result : Result Unit SinkFault) : Type 0 where
+pub record HandsOn {W : Type 0} (seen : W → SinkView) (old new : Buffered W)
+    (result : Result Unit SinkFault) : Type 0 where
   pub bytes : (seen old.sink).is_keeping ≡ true → bytes_taken seen new ≡ bytes_taken seen old
   pub keeping : (seen old.sink).is_keeping ≡ true → (seen new.sink).is_keeping ≡ true
   pub failures : CountsFailure old.failures new.failures result
@@ -43,7 +49,8 @@ pub record HandsOn {W : Type 0} (seen : W → SinkView) (old new : Buffered W) (
 pub record Passes {W : Type 0} (seen : W → SinkView) (old new : Buffered W)
     (result : Result ℕ SinkFault) (buf : List ℕ) : Type 0 where
   pub bound : IfOk result (λ n. n ≤ length buf)
-  pub bytes : (seen old.sink).is_keeping ≡ true → Takes (bytes_taken seen old) (bytes_taken seen new) result buf
+  pub bytes : (seen old.sink).is_keeping ≡ true →
+      Takes (bytes_taken seen old) (bytes_taken seen new) result buf
   pub keeping : (seen old.sink).is_keeping ≡ true → (seen new.sink).is_keeping ≡ true
   pub failures : CountsWriteFailure old.failures new.failures result buf
   pub failed : OnErr result (has_failed new ≡ true)

@@ -1,5 +1,6 @@
 -- What the test of bytes tells.
-use Rattle.std.proofs.Common.{◌≡◌, ℕ, Bool, true, false, List, [], Option, Some, None, All, refl, if◌then◌else◌}
+use Rattle.std.proofs.Common.{◌≡◌, ℕ, Bool, true, false, List, [], Option, Some, None, All, refl}
+use Rattle.std.proofs.Common.{if◌then◌else◌}
 use Rattle.std.proofs.lemmas.Bool.{false≢true}
 use Rattle.std.proofs.lemmas.Bool.Decides.{Decides-by_and, Decides-ltb}
 use Rattle.std.proofs.lemmas.List.Elements.{All-nil}
@@ -11,7 +12,8 @@ use Rattle.prolly_file.specs.Known.{known_bytes, are_known_bytes}
 
 -- The test decides whether each number is a byte.
 decided : (numbers : List ℕ) → Decides (are_bytes numbers) (All IsByte numbers)
-decided numbers = Decides-by_and (λ n. nat_lt n 256) IsByte are_bytes (λ n. Decides-ltb n 256) refl (λ _ _. refl) numbers
+decided numbers = Decides-by_and (λ n. nat_lt n 256) IsByte are_bytes (λ n. Decides-ltb n 256) refl
+    (λ _ _. refl) numbers
 
 -- Where the test passes, each number is a byte.
 pub bytes_from_test : (numbers : List ℕ) → are_bytes numbers ≡ true → All IsByte numbers
@@ -22,7 +24,8 @@ pub test_from_bytes : (numbers : List ℕ) → All IsByte numbers → are_bytes 
 test_from_bytes numbers = (decided numbers).1
 
 -- What a reader that told bytes has left is bytes, also once it has ended.
-pub bytes_left_are_bytes : (has_ended : Bool) (known : Option (List ℕ)) → are_known_bytes known ≡ true
+pub bytes_left_are_bytes : (has_ended : Bool) (known : Option (List ℕ)) →
+    are_known_bytes known ≡ true
     → All IsByte (if has_ended then [] else known_bytes known)
 bytes_left_are_bytes true known told = All-nil IsByte
 bytes_left_are_bytes false None told = absurd (false≢true told)

@@ -1,5 +1,6 @@
 -- What the plain builder answers.
-use Rattle.std.specs.Prelude.{◌≡◌, ℕ, ◌+◌, ◌<◌, ◌≤◌, List, ◌++◌, length, take, map, Result, IfOk, IfErr, OnErr}
+use Rattle.std.specs.Prelude.{◌≡◌, ℕ, ◌+◌, ◌<◌, ◌≤◌, List, ◌++◌, length, take, map, Result, IfOk}
+use Rattle.std.specs.Prelude.{IfErr, OnErr}
 use Rattle.prolly_entry.specs.declared.version.Version.{Version}
 use Rattle.prolly_entry.specs.Keys.{Rising}
 use Rattle.prolly_entry.specs.Pair.{Pair}
@@ -22,16 +23,18 @@ pub record FallsAt (pairs : List Pair) (place : ℕ) : Type 0 where
 
 -- The pairs are a map whose tree has at most so many levels, its file is appended, and this is the
 -- root's reference.
-pub record Builds (cut : Cut) (version : Version) (pairs : List Pair) (max_levels : ℕ) (old new root : List ℕ) : Type 0 where
+pub record Builds (cut : Cut) (version : Version) (pairs : List Pair) (max_levels : ℕ)
+    (old new root : List ℕ) : Type 0 where
   pub rising : Rising (keys_in pairs)
   pub low : level_count cut version pairs ≤ max_levels
   pub appended : new ≡ old ++ file cut version pairs
   pub root_is : root ≡ root_reference cut version pairs
 
 -- The pairs are a map, whose tree has more levels.
-pub record IsTooTall (cut : Cut) (version : Version) (pairs : List Pair) (max_levels : ℕ) : Type 0 where
-  pub rising : Rising (keys_in pairs)
-  pub tall : max_levels < level_count cut version pairs
+pub record IsTooTall (cut : Cut) (version : Version) (pairs : List Pair) (max_levels : ℕ) : Type 0
+  where
+    pub rising : Rising (keys_in pairs)
+    pub tall : max_levels < level_count cut version pairs
 
 -- What is wrong with the pairs; want of memory may come over any.
 abbrev pub IsScratchFault : Cut → Version → List Pair → ℕ → ScratchFault → Type 0
@@ -40,7 +43,8 @@ IsScratchFault cut version pairs max_levels (OutOfOrder pair) = FallsAt pairs pa
 IsScratchFault cut version pairs max_levels TooTall = IsTooTall cut version pairs max_levels
 
 -- What the plain builder answers, over a vector that held `old` before and holds `new` after.
-pub record IsScratched (cut : Cut) (version : Version) (pairs : List Pair) (max_levels : ℕ) (old new : List ℕ)
+pub record IsScratched (cut : Cut) (version : Version) (pairs : List Pair) (max_levels : ℕ)
+    (old new : List ℕ)
     (result : Result Ref ScratchFault) : Type 0 where
   -- an answer is the root of the file that was appended
   pub ok : IfOk result (λ root. Builds cut version pairs max_levels old new root.0)

@@ -14,4 +14,5 @@ pub record SourceView : Type 0 where
 -- where none is left or the buffer has no room. A failed read handed out none.
 abbrev pub HandsOut : {E : Type 0} → List ℕ → List ℕ → Result ℕ E → List ℕ → Type 0
 HandsOut old new result buf =
-    MatchResult result (λ n. (old ≡ take n buf ++ new) × (n ≡ 0 → 0 < length buf → new ≡ [])) (λ _. new ≡ old)
+    MatchResult result (λ n. (old ≡ take n buf ++ new) × (n ≡ 0 → 0 < length buf → new ≡ []))
+    (λ _. new ≡ old)

@@ -8,4 +8,8 @@ use Rattle.prolly_file.specs.declared.to_write.ToWrite.{ToWrite}
 -- tells them.
 abbrev pub seen_of : {W : Type 0} → (W → Option (List ℕ)) → ToWrite W → SinkView
 seen_of contents sink =
-    record { is_keeping = is_some (contents sink.writer); taken = known_bytes (contents sink.writer); failures = sink.failures }
+    record {
+      is_keeping = is_some (contents sink.writer);
+      taken = known_bytes (contents sink.writer);
+      failures = sink.failures;
+    }

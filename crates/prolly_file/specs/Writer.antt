@@ -1,5 +1,6 @@
 -- How far a writer of a chunk file is.
-use Rattle.std.specs.Prelude.{◌≡◌, ◌≢◌, ◌↔◌, ℕ, ◌+◌, min, Bool, true, false, ◌++◌, Result, IsErr, OnOk, OnErr, IfOk}
+use Rattle.std.specs.Prelude.{◌≡◌, ◌≢◌, ◌↔◌, ℕ, ◌+◌, min, Bool, true, false, ◌++◌, Result, IsErr}
+use Rattle.std.specs.Prelude.{OnOk, OnErr, IfOk}
 use Rattle.prolly_entry.specs.declared.version.Version.{Version}
 use Rattle.prolly_tree.specs.Events.{greatest_count}
 use Rattle.prolly_tree.specs.File.{header}
@@ -17,9 +18,11 @@ abbrev pub next_count : ℕ → ℕ
 next_count chunks = min greatest_count (chunks + 1)
 
 -- What comes of writing the header to a sink that was seen as `old` and is seen as `new`.
-pub record Begins (version : Version) (bits : ℕ) (old new : SinkView) (result : Result Progress WriteFault) : Type 0 where
+pub record Begins (version : Version) (bits : ℕ) (old new : SinkView)
+    (result : Result Progress WriteFault) : Type 0 where
   pub written : old.is_keeping ≡ true → OnOk result (new.taken ≡ old.taken ++ header version bits)
-  pub part : old.is_keeping ≡ true → OnErr result (TakesPrefix old.taken new.taken (header version bits))
+  pub part : old.is_keeping ≡ true → OnErr result
+      (TakesPrefix old.taken new.taken (header version bits))
   pub begun : IfOk result (λ writer. writer ≡ record { chunks = 0; has_failed = false })
   pub fault : IsErr result ↔ (new.failures ≢ old.failures)
   pub failures : CountsFailure old.failures new.failures result

@@ -6,7 +6,8 @@ use Rattle.prolly_file.specs.Sink.{SinkView, TakesPrefix}
 -- All of the bytes were to be written to a sink that was seen as `old` and is seen as `new`: a sink
 -- that keeps what it takes took them all, or, at an error, some prefix of them, and keeps what it
 -- takes from then on too; an error is one failure of it, and there is no other.
-pub record Writes {T E : Type 0} (wanted : List ℕ) (old new : SinkView) (result : Result T E) : Type 0 where
+pub record Writes {T E : Type 0} (wanted : List ℕ) (old new : SinkView) (result : Result T E) : Type
+    0 where
   pub written : old.is_keeping ≡ true → OnOk result (new.taken ≡ old.taken ++ wanted)
   pub part : old.is_keeping ≡ true → OnErr result (TakesPrefix old.taken new.taken wanted)
   pub failures : CountsFailure old.failures new.failures result

@@ -1,5 +1,6 @@
 //! A sink that gathers small writes.
-ghost use Rattle.std.specs.Prelude.{◌≡◌, ◌≤◌, true, false, [], length, vec_len, IsErr, IfOk, OnOk, OnErr};
+ghost use Rattle.std.specs.Prelude.{◌≡◌, ◌≤◌, true, false, [], length, vec_len, IsErr, IfOk, OnOk};
+ghost use Rattle.std.specs.Prelude.{OnErr};
 ghost use Rattle.prolly_file.specs.Failures.{CountsFailure, after_failure};
 ghost use Rattle.prolly_file.specs.Sink.{Takes, CountsWriteFailure};
 

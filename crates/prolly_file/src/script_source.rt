@@ -1,5 +1,6 @@
 //! A source in memory that follows a script, for tests.
-ghost use Rattle.std.specs.Prelude.{◌≡◌, ◌≤◌, ◌<◌, ◌↔◌, true, length, take, drop, min, ◌++◌, not, is_some, IsErr, IfOk, OnErr};
+ghost use Rattle.std.specs.Prelude.{◌≡◌, ◌≤◌, ◌<◌, ◌↔◌, true, length, take, drop, min, ◌++◌, not};
+ghost use Rattle.std.specs.Prelude.{is_some, IsErr, IfOk, OnErr};
 ghost use Rattle.prolly_file.specs.Bytes.{are_bytes};
 ghost use Rattle.prolly_file.specs.Failures.{CountsFailure};
 ghost use Rattle.prolly_file.specs.Script.{after_call};

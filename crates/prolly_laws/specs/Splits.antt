@@ -1,6 +1,7 @@
 -- How a list is split into groups.
 use Rattle.std.proofs.Common.{◌≡◌, ℕ, Bool, List, ◌++◌}
-use Rattle.prolly_tree.specs.Split.{split, closed_groups, open_groups, IsSplit, OneSplit, FewGroups, SplitStep}
+use Rattle.prolly_tree.specs.Split.{split, closed_groups, open_groups, IsSplit, OneSplit, FewGroups}
+use Rattle.prolly_tree.specs.Split.{SplitStep}
 use Rattle.prolly_tree.specs.lemmas.Splits.{flat, as_group, Open, AllEnd, Parts}
 use Rattle.prolly_tree.proofs.splits.Parts as proved
 use Rattle.prolly_tree.proofs.splits.Splits as splits
@@ -11,7 +12,8 @@ pub parts : {A : Type 0} (test : A → Bool) (least : ℕ) (xs : List A) → Par
 parts = proved.parts
 
 -- Their rest is open.
-pub open_rest_of : {A : Type 0} (test : A → Bool) (least : ℕ) (xs : List A) (p : Parts test least 0 xs) →
+pub open_rest_of : {A : Type 0} (test : A → Bool) (least : ℕ) (xs : List A)
+    (p : Parts test least 0 xs) →
     Open test least 0 p.rest
 open_rest_of = proved.open_rest_of
 
@@ -23,7 +25,8 @@ split_parts = proved.split_parts
 
 -- Their groups are the closed ones.
 pub closed_parts : {A : Type 0} (test : A → Bool) (least : ℕ) (gs : List (List A)) (rest : List A) →
-    AllEnd test least 0 gs → Open test least 0 rest → closed_groups test least (flat gs ++ rest) ≡ gs
+    AllEnd test least 0 gs → Open test least 0 rest → closed_groups test least (flat gs ++ rest) ≡
+    gs
 closed_parts = proved.closed_parts
 
 -- Their rest is the open one.
@@ -38,11 +41,13 @@ pub flat_parts : {A : Type 0} (gs : List (List A)) (rest : List A) →
 flat_parts = splits.flat_parts
 
 -- The split of a list is one.
-pub split_splits : {A : Type 0} (test : A → Bool) (least : ℕ) (list : List A) → IsSplit test least list (split test least list)
+pub split_splits : {A : Type 0} (test : A → Bool) (least : ℕ) (list : List A) →
+    IsSplit test least list (split test least list)
 split_splits = splits.split_splits
 
 -- A list has one split.
-pub one_split : {A : Type 0} (test : A → Bool) (least : ℕ) (list : List A) → OneSplit test least list
+pub one_split : {A : Type 0} (test : A → Bool) (least : ℕ) (list : List A) →
+    OneSplit test least list
 one_split = splits.one_split
 
 -- Groups of two entries or more are few.
@@ -50,5 +55,6 @@ pub few_groups : {A : Type 0} (test : A → Bool) (list : List A) → FewGroups 
 few_groups = splits.few_groups
 
 -- A split goes on entry by entry.
-pub split_step : {A : Type 0} (test : A → Bool) (least : ℕ) (list : List A) (x : A) → SplitStep test least list x
+pub split_step : {A : Type 0} (test : A → Bool) (least : ℕ) (list : List A) (x : A) →
+    SplitStep test least list x
 split_step = steps.split_step

@@ -1,5 +1,6 @@
 //! What turns one map into another.
-ghost use Rattle.prolly_tree.specs.Difference.{OneDifference, DifferenceTurns, EqualsDifferNowhere, DifferencesCompose};
+ghost use Rattle.prolly_tree.specs.Difference.{OneDifference, DifferenceTurns, EqualsDifferNowhere};
+ghost use Rattle.prolly_tree.specs.Difference.{DifferencesCompose};
 
 /// Two maps have at most one difference.
 pub fn maps_have_one_difference()

@@ -1,5 +1,7 @@
 //! Worked examples, shown by computation.
-ghost use Rattle.prolly_laws.specs.Examples.{TextOfAbc, FileOfNone, FileOfOne, FileOfThree, MarkedChunks, ChunksOfFive, TwoStagesAtAFault, MarkedEvents, FaultOfLeastPosition, Removals};
+ghost use Rattle.prolly_laws.specs.Examples.{TextOfAbc, FileOfNone, FileOfOne, FileOfThree};
+ghost use Rattle.prolly_laws.specs.Examples.{MarkedChunks, ChunksOfFive, TwoStagesAtAFault};
+ghost use Rattle.prolly_laws.specs.Examples.{MarkedEvents, FaultOfLeastPosition, Removals};
 
 /// The files of no pair, of one and of three are these bytes.
 pub fn files_are_these_bytes()

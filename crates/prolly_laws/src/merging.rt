@@ -1,5 +1,6 @@
 //! Overlays of lists of records, and merging them.
-ghost use Rattle.prolly_entry.specs.Overlay.{OneRawOverlay, OverlayIsMap, DivisionKeepsOverlay, NeighboursOverlayFirst, OverlayStep};
+ghost use Rattle.prolly_entry.specs.Overlay.{OneRawOverlay, OverlayIsMap, DivisionKeepsOverlay};
+ghost use Rattle.prolly_entry.specs.Overlay.{NeighboursOverlayFirst, OverlayStep};
 ghost use Rattle.prolly_tree.specs.CutShort.{CutBehindStop, FrontsMergeToFront};
 ghost use Rattle.prolly_tree.specs.Merge.{NeighboursMergeFirst};
 ghost use Rattle.prolly_tree.specs.MergedParts.{MergedPartRises, OverlayIsSmall};

@@ -2,7 +2,8 @@
 ghost use Rattle.prolly_entry.specs.declared.version.Version.{Version};
 ghost use Rattle.prolly_entry.specs.Reference.{ReferenceTextsDiffer};
 ghost use Rattle.prolly_entry.specs.Keys.{KeyOrderIsBytewise};
-ghost use Rattle.prolly_entry.specs.Spelling.{PairSpellingsApart, RecordSpellingsApart, ChildSpellingsApart};
+ghost use Rattle.prolly_entry.specs.Spelling.{PairSpellingsApart, RecordSpellingsApart};
+ghost use Rattle.prolly_entry.specs.Spelling.{ChildSpellingsApart};
 
 /// Keys are compared byte by byte, as the words say.
 pub fn keys_are_ordered_bytewise()

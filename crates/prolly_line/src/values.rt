@@ -4,7 +4,8 @@ ghost use Rattle.std.specs.Prelude.{option_map, codes, IsTrue, ◌↔◌};
 ghost use Rattle.clap.specs.Words.{first_of};
 ghost use Rattle.prolly_line.specs.Given.{GivesKey, GivesMode, GivesOption, GivesWord, GivesWords};
 ghost use Rattle.prolly_line.specs.Given.{HasFlag, IsKeyText};
-ghost use Rattle.prolly_line.specs.Accepted.{HasNumber, HasWord, IsRefusedKey, ReadsNumber, rows_in};
+ghost use Rattle.prolly_line.specs.Accepted.{HasNumber, HasWord, IsRefusedKey, ReadsNumber};
+ghost use Rattle.prolly_line.specs.Accepted.{rows_in};
 ghost use Rattle.prolly_line.specs.declared.command.ParseFault.TheVariants.{BadKey, Memory};
 
 use crate::command::{ParseFault, WriteMode};

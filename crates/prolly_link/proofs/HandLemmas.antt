@@ -21,15 +21,15 @@ module _ {T : Type 0} where
       left ≡ x ∷ rest → before_rest all rest ≡ before_rest all left ++ x ∷ []
   given_one all left rest x e is =
       front_is (before_rest all left ++ x ∷ []) rest all
-          (e ∙ ap (λ r. before_rest all left ++ r) is ∙
-          sym (append_assoc (before_rest all left) (x ∷ []) rest))
+      (e ∙ ap (λ r. before_rest all left ++ r) is ∙
+      sym (append_assoc (before_rest all left) (x ∷ []) rest))
 
   still_ends : (all left rest : List T) (x : T) → all ≡ before_rest all left ++ left →
       left ≡ x ∷ rest → all ≡ before_rest all rest ++ rest
   still_ends all left rest x e is =
       e ∙ ap (λ r. before_rest all left ++ r) is ∙
-          sym (append_assoc (before_rest all left) (x ∷ []) rest) ∙
-          ap (λ r. r ++ rest) (sym (given_one all left rest x e is))
+      sym (append_assoc (before_rest all left) (x ∷ []) rest) ∙
+      ap (λ r. r ++ rest) (sym (given_one all left rest x e is))
 
   -- with nothing left, all was given
   given_all : (all left : List T) → all ≡ before_rest all left ++ left → left ≡ [] →
@@ -47,7 +47,7 @@ module _ {T : Type 0} where
       new ≡ old ++ b ∷ [] → b ≡ x ∷ rest → items_of new ≡ (items_of old ++ x ∷ []) ++ rest
   items_came old new b x rest is l =
       ap items_of is ∙ items_of_push old b ∙ ap (λ r. items_of old ++ r) l ∙
-          sym (append_assoc (items_of old) (x ∷ []) rest)
+      sym (append_assoc (items_of old) (x ∷ []) rest)
 
   given_begins_items : (came sent : List (List T)) (left : List T) →
       items_of came ≡ before_rest (items_of came) left ++ left → IsPrefix came sent →
@@ -98,7 +98,7 @@ module _ {T F : Type 0} where
 
   pub batch_in_hand : (old new : Receiving (List T) F) (b : List T) (x : T) (rest : List T) (n : ℕ)
       → new.items ≡ old.items ++ b ∷ [] → new.progress ≡ Open → b ≡ x ∷ rest → n ≡ length rest →
-          IsInHand new rest n
+      IsInHand new rest n
   batch_in_hand old new b x rest n is o l c =
       let came = items_came old.items new.items b x rest is l in
       record {
@@ -111,12 +111,12 @@ module _ {T F : Type 0} where
   pub first_given : (old new : Receiving (List T) F) (b : List T) (x : T) (left rest : List T)
       (n : ℕ)
       → IsInHand old left n → n ≡ 0 → new.items ≡ old.items ++ b ∷ [] → b ≡ x ∷ rest →
-          (given_of new rest).items ≡ (given_of old left).items ++ x ∷ []
+      (given_of new rest).items ≡ (given_of old left).items ++ x ∷ []
   first_given old new b x left rest n h none is l =
       front_is (items_of old.items ++ x ∷ []) rest (items_of new.items)
-          (items_came old.items new.items b x rest is l)
+      (items_came old.items new.items b x rest is l)
       ∙ ap (λ r. r ++ x ∷ []) (sym (given_all (items_of old.items) left h.ends_is
-          (no_items left n h.counted_is none)))
+      (no_items left n h.counted_is none)))
 
   -- the items given begin those sent in full batches
   pub given_begins_whole : (r : Receiving (List T) F) (sent : List (List T)) (left : List T) (n : ℕ)
@@ -127,11 +127,13 @@ module _ {T F : Type 0} where
   pub given_begins : (r : Receiving (List T) F) (sent : List (List T)) (left pending : List T)
       (n : ℕ)
       → IsInHand r left n → IsPrefix r.items sent →
-          IsPrefix (given_of r left).items (items_of sent ++ pending)
+      IsPrefix (given_of r left).items (items_of sent ++ pending)
   given_begins r sent left pending n h p =
-      let begins = given_begins_whole r sent left n h p in
-      (begins.0 ++ pending, sym (append_assoc (before_rest (items_of r.items) left) begins.0
-          pending) ∙ ap (λ xs. xs ++ pending) begins.1)
+      let begins = given_begins_whole r sent left n h p in (
+        begins.0 ++ pending,
+        sym (append_assoc (before_rest (items_of r.items) left) begins.0
+            pending) ∙ ap (λ xs. xs ++ pending) begins.1,
+      )
 
   left_none_ended : (p : Progress F) (left : List T) → empty_after p left ≡ true → p ≢ Open →
       left ≡ []
@@ -141,31 +143,38 @@ module _ {T F : Type 0} where
   left_none_ended Lost [] h o = refl
   left_none_ended Lost (x ∷ left) h o = cc
 
-  -- a receiver of batches that has an end gave all that was sent, where the batches that came are those that were sent
+  -- a receiver of batches that has an end gave all that was sent, where the batches that came are
+  -- those that were sent
   pub given_whole : (r : Receiving (List T) F) (sent : List (List T)) (left : List T) (last : End F)
       (n : ℕ) → IsInHand r left n
       → ((e : End F) → r.progress ≡ Ended e → (e ≡ last) × (r.items ≡ sent)) → (e : End F) →
-          r.progress ≡ Ended e → (e ≡ last) × ((given_of r left).items ≡ items_of sent)
+      r.progress ≡ Ended e → (e ≡ last) × ((given_of r left).items ≡ items_of sent)
   given_whole r sent left last n h whole e ended =
-      let none = left_none_ended r.progress left h.empty_is (λ unended. cc (unended, ended)) in
-      ((whole e ended).0, given_all (items_of r.items) left h.ends_is none ∙
-          ap items_of (whole e ended).1)
+      let none = left_none_ended r.progress left h.empty_is (λ unended. cc (unended, ended)) in (
+        (whole e ended).0,
+        given_all (items_of r.items) left h.ends_is none ∙
+            ap items_of (whole e ended).1,
+      )
 
   drained_items : (p after : Progress F) (came got : List (List T)) (left : List T) →
       empty_after p left ≡ true → items_of came ≡ before_rest (items_of came) left ++ left
       → Drains p came after got → Drains p (before_rest (items_of came) left) after (items_of got)
   drained_items Open after came got left h e d = given_begins_items came got left e d
-  drained_items (Ended c) after came got left h e d =
-      (d.0, ap items_of d.1 ∙ sym (given_all (items_of came) left e
-          (left_none_ended (Ended c) left h (λ q. cc))))
-  drained_items Lost after came got left h e d =
-      (d.0, ap items_of d.1 ∙ sym (given_all (items_of came) left e
-          (left_none_ended Lost left h (λ q. cc))))
+  drained_items (Ended c) after came got left h e d = (
+    d.0,
+    ap items_of d.1 ∙ sym (given_all (items_of came) left e
+        (left_none_ended (Ended c) left h (λ q. cc))),
+  )
+  drained_items Lost after came got left h e d = (
+    d.0,
+    ap items_of d.1 ∙ sym (given_all (items_of came) left e
+        (left_none_ended Lost left h (λ q. cc))),
+  )
 
   -- draining the batches drains their items
   pub drained_batches : (r : Receiving (List T) F) (after : Progress F) (got : List (List T))
       (left : List T) (n : ℕ)
       → IsInHand r left n → Drains r.progress r.items after got →
-          Drains r.progress (given_of r left).items after (items_of got)
+      Drains r.progress (given_of r left).items after (items_of got)
   drained_batches r after got left n h d = drained_items r.progress after r.items got left
       h.empty_is h.ends_is d

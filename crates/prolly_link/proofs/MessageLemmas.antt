@@ -70,5 +70,11 @@ module _ {T F : Type 0} where
   same_whole l m ms ns e f = ap (λ k. whole_of k ms) e ∙ ap (whole_of m) f
 
 -- what one more message changes
-pub ruleset messages = (items_in-item, items_in-last, is_open-item, is_closed-last, end_in-last,
-    append-nil)
+pub ruleset messages = (
+  items_in-item,
+  items_in-last,
+  is_open-item,
+  is_closed-last,
+  end_in-last,
+  append-nil,
+)

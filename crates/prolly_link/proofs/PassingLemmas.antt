@@ -38,7 +38,7 @@ module _ {T F : Type 0} where
   ended_whole p ms ns all a c is e ended =
       let whole = closed_is_whole ms ns all (a.closed_is ∙ ap is_ended ended) c is in
       let own : Ended (end_in ms) ≡ Ended e = sym (ap (λ q. with_end q (end_in ms)) ended) ∙
-          a.end_is ∙ ended in
+      a.end_is ∙ ended in
       let first : end_in ms ≡ e = cc own in
       (sym first ∙ ap end_in whole, ap items_in whole)
 
@@ -49,15 +49,20 @@ module _ {T F : Type 0} where
 
   begins_open : (xs sent : List T) → IsPrefix xs sent →
       IsPrefix (open_messages {F = F} xs) (open_messages sent)
-  begins_open xs sent b = (open_messages b.0, sym (open_messages-append xs b.0) ∙
-      ap open_messages b.1)
+  begins_open xs sent b = (
+    open_messages b.0,
+    sym (open_messages-append xs b.0) ∙
+        ap open_messages b.1,
+  )
 
   begins_closed : (xs sent : List T) (e : End F) → IsPrefix xs sent →
       IsPrefix (open_messages xs) (closed_messages sent e)
   begins_closed xs sent e b =
-      let front = begins_open xs sent b in
-      (front.0 ++ Last e ∷ [], sym (append_assoc (open_messages xs) front.0 (Last e ∷ [])) ∙
-          ap (λ ms. ms ++ Last e ∷ []) front.1)
+      let front = begins_open xs sent b in (
+        front.0 ++ Last e ∷ [],
+        sym (append_assoc (open_messages xs) front.0 (Last e ∷ [])) ∙
+            ap (λ ms. ms ++ Last e ∷ []) front.1,
+      )
 
   pub received_of_open : (p : Progress F) (xs sent : List T) → IsPrefix xs sent →
       ((e : End F) → p ≢ Ended e) → IsPrefix (given_messages xs p) (open_messages sent)
@@ -71,7 +76,9 @@ module _ {T F : Type 0} where
   received_of_closed Open xs sent last b w = begins_closed xs sent last b
   received_of_closed (Ended e) xs sent last b w =
       let end_is = (w e refl).0 in
-      let all = (w e refl).1 in
-      ([], append-nil (closed_messages xs e) ∙ ap (λ ys. closed_messages ys e) all ∙
-          ap (closed_messages sent) end_is)
+      let all = (w e refl).1 in (
+        [],
+        append-nil (closed_messages xs e) ∙ ap (λ ys. closed_messages ys e) all ∙
+            ap (closed_messages sent) end_is,
+      )
   received_of_closed Lost xs sent last b w = begins_closed xs sent last b

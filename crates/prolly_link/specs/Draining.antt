@@ -9,7 +9,8 @@ use Rattle.prolly_link.specs.declared.ends.Drained.TheVariants.{Ended as drained
 use Rattle.prolly_link.specs.declared.ends.Drained.TheVariants.{Lost as drained_lost}
 
 module _ {T F : Type 0} where
-  -- a receiver that had come to `before` with the items xs is left with the items ys, having come to `after`
+  -- a receiver that had come to `before` with the items xs is left with the items ys, having come
+  -- to `after`
   abbrev pub Drains : Progress F → List T → Progress F → List T → Type 0
   Drains Open xs after ys = IsPrefix xs ys
   Drains (Ended e) xs after ys = (after ≡ Ended e) × (ys ≡ xs)

@@ -12,8 +12,11 @@ module _ {T F : Type 0} where
     pub progress_stays : HasEnded before.progress → after.progress ≡ before.progress
 
   pub later_same : (a : Receiving T F) → IsLater a a
-  later_same a = record { grew = (between_nothing a.items).0; items_stay = λ _. refl;
-      progress_stays = λ _. refl }
+  later_same a = record {
+    grew = (between_nothing a.items).0;
+    items_stay = λ _. refl;
+    progress_stays = λ _. refl;
+  }
 
   still_ended : (a b : Receiving T F) → IsLater a b → HasEnded a.progress → HasEnded b.progress
   still_ended a b h ended = subst HasEnded (sym (h.progress_stays ended)) ended

@@ -7,10 +7,14 @@ use Rattle.prolly_link.specs.declared.progress.Progress.{Progress}
 use Rattle.prolly_link.specs.declared.progress.Progress.TheVariants.{Open, Ended, Lost}
 
 module _ {T F : Type 0} where
-  -- a receiver of batches: the items of those that came, without those that are left of the last one
+  -- a receiver of batches: the items of those that came, without those that are left of the last
+  -- one
   abbrev pub given_of : Receiving (List T) F → List T → Receiving T F
-  given_of r left = record { link = r.link; items = before_rest (items_of r.items) left;
-      progress = r.progress }
+  given_of r left = record {
+    link = r.link;
+    items = before_rest (items_of r.items) left;
+    progress = r.progress;
+  }
 
   -- an end or Lost is given only where nothing is left in hand
   abbrev pub empty_after : Progress F → List T → Bool

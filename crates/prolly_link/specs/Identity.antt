@@ -20,9 +20,17 @@ pub data LinkId : Type 0 where
 
 module _ {M : Type 0} where
   abbrev pub producer_link : Producer M Global AnyItems → LinkId
-  producer_link p = ring_link record { words = p.end.words; slots = p.end.slots;
-      names = p.end.names; heap = p.end.heap }
+  producer_link p = ring_link record {
+    words = p.end.words;
+    slots = p.end.slots;
+    names = p.end.names;
+    heap = p.end.heap;
+  }
 
   abbrev pub consumer_link : Consumer M Global AnyItems → LinkId
-  consumer_link c = ring_link record { words = c.end.words; slots = c.end.slots;
-      names = c.end.names; heap = c.end.heap }
+  consumer_link c = ring_link record {
+    words = c.end.words;
+    slots = c.end.slots;
+    names = c.end.names;
+    heap = c.end.heap;
+  }

@@ -7,7 +7,8 @@ use Rattle.prolly_link.specs.Batches.{items_of}
 abbrev pub room_of : ℕ → ℕ → ℕ → ℕ
 room_of size capacity count = if nat_le size capacity then size - count else 0
 
--- an open batch has fewer items than a full one, and where it has some, room for a full one was taken
+-- an open batch has fewer items than a full one, and where it has some, room for a full one was
+-- taken
 pub record IsOpenBatch (size capacity count : ℕ) : Type 0 where
   pub least : 1 ≤ size
   pub below : count < size
@@ -15,5 +16,8 @@ pub record IsOpenBatch (size capacity count : ℕ) : Type 0 where
 
 -- a sender of batches: the items of those sent, and of the open one
 abbrev pub batching_of : {T : Type 0} → Sending (List T) → List T → ℕ → Batching T
-batching_of s pending room = record { link = s.link; items = items_of s.items ++ pending;
-    room = room }
+batching_of s pending room = record {
+  link = s.link;
+  items = items_of s.items ++ pending;
+  room = room;
+}

@@ -28,13 +28,15 @@ module _ {T F : Type 0} where
   abbrev pub IsReceivedOf : Receiving T F → List (Message T F) → Type 0
   IsReceivedOf receiver sent = IsPrefix (given_messages receiver.items receiver.progress) sent
 
-  -- a receiver beside an open sender of these items: what it received begins what was sent, and it has no end
+  -- a receiver beside an open sender of these items: what it received begins what was sent, and it
+  -- has no end
   pub record IsBesideOpen (receiver : Receiving T F) (sent : List T) : Type 0 where
     pub prefix : IsPrefix receiver.items sent
     pub no_end : (e : End F) → receiver.progress ≢ Ended e
     pub messages : IsReceivedOf receiver (open_messages sent)
 
-  -- a receiver beside a closed sender: what it received begins what was sent, and an end that it has is the sender's, after all items
+  -- a receiver beside a closed sender: what it received begins what was sent, and an end that it
+  -- has is the sender's, after all items
   pub record IsBesideClosed (receiver : Receiving T F) (sent : Whole T F) : Type 0 where
     pub prefix : IsPrefix receiver.items sent.items
     pub end : (e : End F) → receiver.progress ≡ Ended e →

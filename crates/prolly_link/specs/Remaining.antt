@@ -35,7 +35,8 @@ module _ {T F : Type 0} where
   LostFront before after = (items_left before ≡ front_lost before after ++ items_left after) ×
       (last_end after ≡ last_end before)
 
-  -- the same list later: it lost items at its front, and where it had given its end it stayed as it was
+  -- the same list later: it lost items at its front, and where it had given its end it stayed as it
+  -- was
   pub record IsLaterList (before after : Remaining T F) : Type 0 where
     pub lost : LostFront before after
     pub stays : HasEnded (progress_of before) → after ≡ before

@@ -21,7 +21,7 @@ module _ {T F : Type 0} where
       LostFront a c × (front_lost a c ≡ front_lost a b ++ front_lost b c)
   lost_more a b c h k =
       let whole = two_fronts (items_left a) (items_left b) (items_left c) (front_lost a b)
-          (front_lost b c) h.0 k.0 in
+      (front_lost b c) h.0 k.0 in
       let both = front_is (front_lost a b ++ front_lost b c) (items_left c) (items_left a) whole in
       ((whole ∙ ap (λ r. r ++ items_left c) (sym both), k.1 ∙ h.1), both)
 
@@ -52,5 +52,7 @@ module _ {T F : Type 0} where
   pub all_lost : (a b : Remaining T F) → IsLaterList a b → HasEnded (progress_of b) →
       (front_lost a b ≡ items_left a) × (progress_of b ≡ Ended (last_end a))
   all_lost a (Unread xs e) h ended = absurd ended
-  all_lost a (Read e) h ended = (sym (h.lost.0 ∙ append-nil (front_lost a (Read e))),
-      ap Ended h.lost.1)
+  all_lost a (Read e) h ended = (
+    sym (h.lost.0 ∙ append-nil (front_lost a (Read e))),
+    ap Ended h.lost.1,
+  )

@@ -46,7 +46,9 @@ impl<T, F> ListIn<T, F> {
 impl<T, F: Copy> In<T, F> for ListIn<T, F> {
     ghost use Rattle.prolly_link.specs.Identity.{no_link};
     ghost use Rattle.prolly_link.specs.Remaining.{progress_of, front_lost, IsLaterList};
-    ghost use Rattle.prolly_link.specs.RemainingLaws.{lost_nothing, lost_more, later_list_same, later_list_more, nothing_lost_after_end, read_stays};
+    ghost use Rattle.prolly_link.specs.RemainingLaws.{lost_nothing, lost_more, later_list_same};
+    ghost use Rattle.prolly_link.specs.RemainingLaws.{later_list_more, nothing_lost_after_end};
+    ghost use Rattle.prolly_link.specs.RemainingLaws.{read_stays};
 
     ghost link = { λ _. no_link };
 

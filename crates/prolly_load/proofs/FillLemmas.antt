@@ -5,8 +5,10 @@ use Rattle.prolly_file.specs.Source.{HandsOut}
 use Rattle.prolly_load.specs.Filling.{Fills}
 use Rattle.prolly_load.specs.declared.span.Span.{Span}
 use Rattle.prolly_load.specs.Span.{part}
-use Rattle.std.proofs.Common.{◌≡◌, ℕ, ◌+◌, ◌-◌, ◌<◌, ◌≤◌, List, ◌++◌, length, take, drop, sym, ap, ◌∙◌, arith}
-use Rattle.std.proofs.lemmas.List.{length-take-le, take-append-le, append-nil, drop-take, drop-append-le}
+use Rattle.std.proofs.Common.{◌≡◌, ℕ, ◌+◌, ◌-◌, ◌<◌, ◌≤◌, List, ◌++◌, length, take, drop, sym, ap}
+use Rattle.std.proofs.Common.{◌∙◌, arith}
+use Rattle.std.proofs.lemmas.List.{length-take-le, take-append-le, append-nil, drop-take}
+use Rattle.std.proofs.lemmas.List.{drop-append-le}
 use Rattle.std.proofs.Math.Seq.{take-append-add}
 
 -- The first bytes are kept, and n of the buffer's come behind them.
@@ -15,26 +17,36 @@ take_behind : (bytes buf rest : List ℕ) (end n : ℕ) → end ≤ length bytes
 take_behind bytes buf rest end n h k =
     let size : length (take end bytes) ≡ end = length-take-le end bytes h in
     ap (λ i. take (i + n) (take end bytes ++ (buf ++ rest))) (sym size)
-    ∙ (take-append-add (take end bytes) (buf ++ rest) n ∙ ap (λ (t : List ℕ). take end bytes ++ t) (take-append-le n buf rest k))
+    ∙ (take-append-add (take end bytes) (buf ++ rest) n ∙
+    ap (λ (t : List ℕ). take end bytes ++ t) (take-append-le n buf rest k))
 
 -- A part that ends there grows by them.
-grown : (bytes buf rest : List ℕ) (unparsed : Span) (n : ℕ) → unparsed.start ≤ unparsed.end → unparsed.end ≤ length bytes → n ≤ length buf →
-    part (take unparsed.end bytes ++ (buf ++ rest)) (record unparsed { end = unparsed.end + n }) ≡ part bytes unparsed ++ take n buf
+grown : (bytes buf rest : List ℕ) (unparsed : Span) (n : ℕ) → unparsed.start ≤ unparsed.end →
+    unparsed.end ≤ length bytes → n ≤ length buf →
+    part (take unparsed.end bytes ++ (buf ++ rest)) (record unparsed { end = unparsed.end + n }) ≡
+    part bytes unparsed ++ take n buf
 grown bytes buf rest unparsed n order h k =
     let all = take unparsed.end bytes ++ (buf ++ rest) in
-    let split : unparsed.end + n ≡ unparsed.start + (unparsed.end + n - unparsed.start) = omega arith in
+    let split : unparsed.end + n ≡ unparsed.start + (unparsed.end + n - unparsed.start) =
+    omega arith in
     let left : unparsed.end ≡ unparsed.start + (unparsed.end - unparsed.start) = omega arith in
-    let size : length (take unparsed.end bytes) ≡ unparsed.end = length-take-le unparsed.end bytes h in
-    sym (ap (λ m. drop unparsed.start (take m all)) split ∙ drop-take unparsed.start (unparsed.end + n - unparsed.start) all)
+    let size : length (take unparsed.end bytes) ≡ unparsed.end =
+    length-take-le unparsed.end bytes h in
+    sym (ap (λ m. drop unparsed.start (take m all)) split ∙
+    drop-take unparsed.start (unparsed.end + n - unparsed.start) all)
     ∙ (ap (drop unparsed.start) (take_behind bytes buf rest unparsed.end n h k)
     ∙ (drop-append-le unparsed.start (take unparsed.end bytes) (take n buf) (omega arith)
-    ∙ ap (λ xs. xs ++ take n buf) (ap (λ m. drop unparsed.start (take m bytes)) left ∙ drop-take unparsed.start (unparsed.end - unparsed.start) bytes)))
+    ∙ ap (λ xs. xs ++ take n buf) (ap (λ m. drop unparsed.start (take m bytes)) left ∙
+    drop-take unparsed.start (unparsed.end - unparsed.start) bytes)))
 
-pub read_fills : {E : Type 0} (result : Result ℕ E) (honest : Bool) (left left' bytes buf rest : List ℕ) (unparsed : Span) →
-    unparsed.start ≤ unparsed.end → unparsed.end < length bytes → length buf ≡ length bytes - unparsed.end →
+pub read_fills : {E : Type 0} (result : Result ℕ E) (honest : Bool)
+    (left left' bytes buf rest : List ℕ) (unparsed : Span) →
+    unparsed.start ≤ unparsed.end → unparsed.end < length bytes →
+    length buf ≡ length bytes - unparsed.end →
     IfOk result (λ n. n ≤ length buf) → (honest ≡ true → HandsOut left left' result buf) →
     Fills honest left left' (part bytes unparsed)
-    (part (take unparsed.end bytes ++ (buf ++ rest)) (record unparsed { end = unparsed.end + result_unwrap_or result 0 })) result
+    (part (take unparsed.end bytes ++ (buf ++ rest))
+    (record unparsed { end = unparsed.end + result_unwrap_or result 0 })) result
 read_fills (Ok n) honest left left' bytes buf rest unparsed order room size bound hands = record {
   given = take n buf;
   behind = grown bytes buf rest unparsed n order (omega arith) bound;
@@ -43,6 +55,7 @@ read_fills (Ok n) honest left left' bytes buf rest unparsed order room size boun
   over = λ e none. (hands e).1 none (omega arith);
 }
 read_fills (Err _) honest left left' bytes buf rest unparsed order room size bound hands = record {
-  same = grown bytes buf rest unparsed 0 order (omega arith) (omega arith) ∙ append-nil (part bytes unparsed);
+  same = grown bytes buf rest unparsed 0 order (omega arith) (omega arith) ∙
+      append-nil (part bytes unparsed);
   kept = hands;
 }

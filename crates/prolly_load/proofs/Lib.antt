@@ -2,7 +2,8 @@
 pub mod PartLemmas
 -- What a read behind some bytes puts there.
 pub mod FillLemmas
--- A loading under way: the records that were sent, the unparsed bytes and those that the source has left.
+-- A loading under way: the records that were sent, the unparsed bytes and those that the source has
+-- left.
 pub mod UnderWay
 -- The ends of a loading.
 pub mod LoadEnds

@@ -1,5 +1,6 @@
 -- The ends of a loading.
-use Rattle.std.proofs.Common.{◌≡◌, ℕ, ◌<◌, Bool, true, List, [], ◌∷◌, ◌++◌, length, Some, None, inl, inr, refl, sym, ap, ◌∙◌, subst, arith}
+use Rattle.std.proofs.Common.{◌≡◌, ℕ, ◌<◌, Bool, true, List, [], ◌∷◌, ◌++◌, length, Some, None, inl}
+use Rattle.std.proofs.Common.{inr, refl, sym, ap, ◌∙◌, subst, arith}
 use Rattle.std.proofs.lemmas.List.{append-nil}
 use Rattle.prolly_entry.specs.declared.flaw.Flaw.{Flaw}
 use Rattle.prolly_entry.specs.declared.flaw.Flaw.TheVariants as flaws
@@ -7,7 +8,8 @@ use Rattle.prolly_entry.specs.Position.{last_position}
 use Rattle.prolly_entry.specs.Record.{Record}
 use Rattle.prolly_entry.specs.Reading.{Begins, IsReading}
 use Rattle.prolly_entry.specs.NextRecord.{IsUndecided, IsFlawed}
-use Rattle.prolly_laws.specs.Readings.{ends_clean, ends_flawed, ends_cut, first_are_good, begins_all}
+use Rattle.prolly_laws.specs.Readings.{ends_clean, ends_flawed, ends_cut, first_are_good}
+use Rattle.prolly_laws.specs.Readings.{begins_all}
 use Rattle.prolly_link.specs.declared.end.End.TheVariants.{Clean, Fault}
 use Rattle.prolly_fault.specs.declared.fault.RunFault.{RunFault}
 use Rattle.prolly_fault.specs.declared.fault.RunFault.TheVariants as faults
@@ -18,7 +20,8 @@ use Rattle.prolly_load.proofs.UnderWay.{IsUnderWay}
 
 -- ---- first records
 
-first_good : (bytes : List ℕ) (limit : ℕ) (records : List Record) (rest : List ℕ) → Begins bytes limit records rest → AreFirstGood bytes limit records
+first_good : (bytes : List ℕ) (limit : ℕ) (records : List Record) (rest : List ℕ) →
+    Begins bytes limit records rest → AreFirstGood bytes limit records
 first_good bytes limit records rest h = record {
   rest = rest;
   begins = h;
@@ -27,24 +30,30 @@ first_good bytes limit records rest h = record {
 
 -- ---- the ends
 
-module _ (file limit : ℕ) (honest : Bool) (count : ℕ) (buffered : Buffered) (bytes left : List ℕ) (before after : List Record) where
+module _ (file limit : ℕ) (honest : Bool) (count : ℕ) (buffered : Buffered) (bytes left : List ℕ)
+    (before after : List Record) where
   -- Where memory is refused, some first good records were sent.
-  pub memory_ends : IsUnderWay honest limit count buffered bytes left before after → IsLoaded file limit honest bytes left before after (Fault faults.Memory)
+  pub memory_ends : IsUnderWay honest limit count buffered bytes left before after →
+      IsLoaded file limit honest bytes left before after (Fault faults.Memory)
   memory_ends h = record {
     handed = h.handed;
     records = h.records;
     kept = h.kept;
     sent = h.sent;
     ends = first_good h.handed limit h.records buffered.unparsed h.begins;
-    whole = λ o _. first_good bytes limit h.records (buffered.unparsed ++ left) (begins_all bytes h.handed left limit h.records buffered.unparsed h.begins (h.kept o));
+    whole = λ o _. first_good bytes limit h.records (buffered.unparsed ++ left)
+        (begins_all bytes h.handed left limit h.records buffered.unparsed h.begins (h.kept o));
   }
 
-  pub refused_ends : (after' : List Record) → IsUnderWay honest limit count buffered bytes left before after → after' ≡ after →
+  pub refused_ends : (after' : List Record) →
+      IsUnderWay honest limit count buffered bytes left before after → after' ≡ after →
       IsLoaded file limit honest bytes left before after' (Fault faults.Memory)
-  refused_ends after' h e = subst (λ (xs : List Record). IsLoaded file limit honest bytes left before xs (Fault faults.Memory)) (sym e) (memory_ends h)
+  refused_ends after' h e = subst (λ (xs : List Record). IsLoaded file limit honest bytes left
+      before xs (Fault faults.Memory)) (sym e) (memory_ends h)
 
   -- A flaw is told by its fault.
-  flaw_fails : (xs : List ℕ) (records : List Record) (flaw : Flaw) → count ≡ length records → IsReading xs limit records (Some flaw) →
+  flaw_fails : (xs : List ℕ) (records : List Record) (flaw : Flaw) → count ≡ length records →
+      IsReading xs limit records (Some flaw) →
       FailsAs file limit xs records (fault_of file count flaw)
   flaw_fails xs records flaws.Truncated e h = (refl, e, h)
   flaw_fails xs records flaws.KeyTooLong e h = (refl, e, h)
@@ -52,12 +61,16 @@ module _ (file limit : ℕ) (honest : Bool) (count : ℕ) (buffered : Buffered) 
   flaw_fails xs records flaws.OutOfOrder e h = (refl, e, h)
   flaw_fails xs records flaws.TooManyRecords e h = (refl, h)
 
-  told_as : (told fault : RunFault) → told ≡ fault → IsLoaded file limit honest bytes left before after (Fault fault) →
+  told_as : (told fault : RunFault) → told ≡ fault →
+      IsLoaded file limit honest bytes left before after (Fault fault) →
       IsLoaded file limit honest bytes left before after (Fault told)
-  told_as told fault e h = subst (λ x. IsLoaded file limit honest bytes left before after (Fault x)) (sym e) h
+  told_as told fault e h = subst (λ x. IsLoaded file limit honest bytes left before after (Fault x))
+      (sym e) h
 
-  pub flaw_ends : (flaw : Flaw) (told : RunFault) → IsUnderWay honest limit count buffered bytes left before after →
-      IsFlawed limit count buffered.last_key buffered.unparsed flaw → told ≡ fault_of file count flaw →
+  pub flaw_ends : (flaw : Flaw) (told : RunFault) →
+      IsUnderWay honest limit count buffered bytes left before after →
+      IsFlawed limit count buffered.last_key buffered.unparsed flaw →
+      told ≡ fault_of file count flaw →
       IsLoaded file limit honest bytes left before after (Fault told)
   flaw_ends flaw told h k e = told_as told (fault_of file count flaw) e (record {
     handed = h.handed;
@@ -65,20 +78,25 @@ module _ (file limit : ℕ) (honest : Bool) (count : ℕ) (buffered : Buffered) 
     kept = h.kept;
     sent = h.sent;
     ends = flaw_fails h.handed h.records flaw h.count_is
-        (ends_flawed h.handed limit h.records buffered.unparsed buffered.unparsed [] flaw h.begins (sym (append-nil buffered.unparsed)) flawed);
+        (ends_flawed h.handed limit h.records buffered.unparsed buffered.unparsed [] flaw h.begins
+        (sym (append-nil buffered.unparsed)) flawed);
     whole = λ o _. flaw_fails bytes h.records flaw h.count_is
         (ends_flawed bytes limit h.records (buffered.unparsed ++ left) buffered.unparsed left flaw
-        (begins_all bytes h.handed left limit h.records buffered.unparsed h.begins (h.kept o)) refl flawed);
+        (begins_all bytes h.handed left limit h.records buffered.unparsed h.begins (h.kept o)) refl
+        flawed);
   })
     where
       flawed : IsFlawed limit (length h.records) (last_position h.records) buffered.unparsed flaw
       flawed = rw (← h.count_is, ← h.position_is) k
 
   -- Where the source is over, the bytes that were handed out are all.
-  all_handed : (h : IsUnderWay honest limit count buffered bytes left before after) → (honest ≡ true → left ≡ []) → honest ≡ true → h.handed ≡ bytes
-  all_handed h over o = sym (h.kept o ∙ (ap (λ (x : List ℕ). h.handed ++ x) (over o) ∙ append-nil h.handed))
+  all_handed : (h : IsUnderWay honest limit count buffered bytes left before after) →
+      (honest ≡ true → left ≡ []) → honest ≡ true → h.handed ≡ bytes
+  all_handed h over o = sym (h.kept o ∙ (ap (λ (x : List ℕ). h.handed ++ x) (over o) ∙
+      append-nil h.handed))
 
-  pub clean_ends : IsUnderWay honest limit count buffered bytes left before after → buffered.unparsed ≡ [] → (honest ≡ true → left ≡ []) →
+  pub clean_ends : IsUnderWay honest limit count buffered bytes left before after →
+      buffered.unparsed ≡ [] → (honest ≡ true → left ≡ []) →
       IsLoaded file limit honest bytes left before after Clean
   clean_ends h e over = record {
     handed = h.handed;
@@ -86,20 +104,27 @@ module _ (file limit : ℕ) (honest : Bool) (count : ℕ) (buffered : Buffered) 
     kept = h.kept;
     sent = h.sent;
     ends = reading;
-    whole = λ o _. subst (λ (x : List ℕ). IsReading x limit h.records None) (all_handed h over o) reading;
+    whole = λ o _. subst (λ (x : List ℕ). IsReading x limit h.records None) (all_handed h over o)
+        reading;
   }
     where
       reading : IsReading h.handed limit h.records None
-      reading = ends_clean h.handed limit h.records (subst (λ (x : List ℕ). Begins h.handed limit h.records x) e h.begins)
+      reading = ends_clean h.handed limit h.records
+          (subst (λ (x : List ℕ). Begins h.handed limit h.records x) e h.begins)
 
   -- Where nothing is decided and some bytes are in unparsed, they are cut.
-  cut_reading : (h : IsUnderWay honest limit count buffered bytes left before after) → IsUndecided limit count buffered.last_key buffered.unparsed → 0 < length buffered.unparsed →
+  cut_reading : (h : IsUnderWay honest limit count buffered bytes left before after) →
+      IsUndecided limit count buffered.last_key buffered.unparsed → 0 < length buffered.unparsed →
       IsReading h.handed limit h.records (Some flaws.Truncated)
-  cut_reading h k some = ends_cut h.handed limit h.records buffered.unparsed h.begins some (rw (← h.count_is, ← h.position_is) k)
+  cut_reading h k some = ends_cut h.handed limit h.records buffered.unparsed h.begins some
+      (rw (← h.count_is, ← h.position_is) k)
 
-  pub cut_ends : (told : RunFault) → IsUnderWay honest limit count buffered bytes left before after →
-      IsUndecided limit count buffered.last_key buffered.unparsed → 0 < length buffered.unparsed → (honest ≡ true → left ≡ []) →
-      told ≡ fault_of file count flaws.Truncated → IsLoaded file limit honest bytes left before after (Fault told)
+  pub cut_ends : (told : RunFault) → IsUnderWay honest limit count buffered bytes left before
+      after →
+      IsUndecided limit count buffered.last_key buffered.unparsed → 0 < length buffered.unparsed →
+      (honest ≡ true → left ≡ []) →
+      told ≡ fault_of file count flaws.Truncated →
+      IsLoaded file limit honest bytes left before after (Fault told)
   cut_ends told h k some over e = told_as told (fault_of file count flaws.Truncated) e (record {
     handed = h.handed;
     records = h.records;
@@ -107,10 +132,12 @@ module _ (file limit : ℕ) (honest : Bool) (count : ℕ) (buffered : Buffered) 
     sent = h.sent;
     ends = flaw_fails h.handed h.records flaws.Truncated h.count_is (cut_reading h k some);
     whole = λ o _. flaw_fails bytes h.records flaws.Truncated h.count_is
-        (subst (λ (x : List ℕ). IsReading x limit h.records (Some flaws.Truncated)) (all_handed h over o) (cut_reading h k some));
+        (subst (λ (x : List ℕ). IsReading x limit h.records (Some flaws.Truncated))
+        (all_handed h over o) (cut_reading h k some));
   })
 
-  pub read_ends : IsUnderWay honest limit count buffered bytes left before after → IsUndecided limit count buffered.last_key buffered.unparsed →
+  pub read_ends : IsUnderWay honest limit count buffered bytes left before after →
+      IsUndecided limit count buffered.last_key buffered.unparsed →
       IsLoaded file limit honest bytes left before after (Fault (faults.Read file))
   read_ends h k = record {
     handed = h.handed;
@@ -124,7 +151,8 @@ module _ (file limit : ℕ) (honest : Bool) (count : ℕ) (buffered : Buffered) 
       go : (unparsed : List ℕ) → buffered.unparsed ≡ unparsed → IsReadTo h.handed limit h.records
       go [] e = record {
         ending = None;
-        reading = ends_clean h.handed limit h.records (subst (λ (x : List ℕ). Begins h.handed limit h.records x) e h.begins);
+        reading = ends_clean h.handed limit h.records
+            (subst (λ (x : List ℕ). Begins h.handed limit h.records x) e h.begins);
         is_cut = inl refl;
       }
       go (b ∷ unparsed) e = record {

@@ -1,67 +1,87 @@
 -- Parts of parts of bytes.
-use Rattle.std.proofs.Common.{◌≡◌, ℕ, ◌+◌, ◌-◌, ◌≤◌, List, length, take, drop, ◌++◌, Option, Some, None, refl, sym, ap, ◌∙◌, subst, arith}
+use Rattle.std.proofs.Common.{◌≡◌, ℕ, ◌+◌, ◌-◌, ◌≤◌, List, length, take, drop, ◌++◌, Option, Some}
+use Rattle.std.proofs.Common.{None, refl, sym, ap, ◌∙◌, subst, arith}
 use Rattle.std.specs.Option.{option_map}
 use Rattle.prolly_entry.specs.Position.{Position}
 use Rattle.prolly_load.specs.declared.span.Span.{Span}
 use Rattle.prolly_load.specs.Span.{part, IsKeyBefore}
-use Rattle.std.proofs.lemmas.List.{append-nil, drop_all, drop-take, drop-drop, length-take, take_all, take-take}
+use Rattle.std.proofs.lemmas.List.{append-nil, drop_all, drop-take, drop-drop, length-take}
+use Rattle.std.proofs.lemmas.List.{take_all, take-take}
 
 -- The bytes from i to j of the part between two places.
-pub part_within : (bytes : List ℕ) (start end i j : ℕ) → i ≤ j → j ≤ length (take (end - start) (drop start bytes)) →
-    take (start + j - (start + i)) (drop (start + i) bytes) ≡ take (j - i) (drop i (take (end - start) (drop start bytes)))
+pub part_within : (bytes : List ℕ) (start end i j : ℕ) → i ≤ j →
+    j ≤ length (take (end - start) (drop start bytes)) →
+    take (start + j - (start + i)) (drop (start + i) bytes) ≡
+    take (j - i) (drop i (take (end - start) (drop start bytes)))
 part_within bytes start end i j h k =
     let xs = drop start bytes in
     let n = end - start in
     let size : j ≤ n = omega (arith, length-take n xs) in
     let split : n ≡ i + (n - i) = omega arith in
     let same : start + j - (start + i) ≡ j - i = omega arith in
-    let inner : drop i (take n xs) ≡ take (n - i) (drop i xs) = ap (λ m. drop i (take m xs)) split ∙ drop-take i (n - i) xs in
+    let inner : drop i (take n xs) ≡ take (n - i) (drop i xs) = ap (λ m. drop i (take m xs)) split ∙
+    drop-take i (n - i) xs in
     ap (λ m. take m (drop (start + i) bytes)) same
     ∙ (ap (take (j - i)) (sym (drop-drop i start bytes))
     ∙ (sym (take-take (j - i) (n - i) (drop i xs) (omega arith)) ∙ ap (take (j - i)) (sym inner)))
 
 -- What is behind the first bytes of a part.
-pub part_behind : (bytes : List ℕ) (start end count : ℕ) → count ≤ length (take (end - start) (drop start bytes)) →
-    take (end - (start + count)) (drop (start + count) bytes) ≡ drop count (take (end - start) (drop start bytes))
+pub part_behind : (bytes : List ℕ) (start end count : ℕ) →
+    count ≤ length (take (end - start) (drop start bytes)) →
+    take (end - (start + count)) (drop (start + count) bytes) ≡
+    drop count (take (end - start) (drop start bytes))
 part_behind bytes start end count h =
-    let size : end - start ≡ count + (end - (start + count)) = omega (arith, length-take (end - start) (drop start bytes)) in
+    let size : end - start ≡ count + (end - (start + count)) =
+    omega (arith, length-take (end - start) (drop start bytes)) in
     sym (ap (λ k. drop count (take k (drop start bytes))) size
-    ∙ (drop-take count (end - (start + count)) (drop start bytes) ∙ ap (take (end - (start + count))) (drop-drop count start bytes)))
+    ∙ (drop-take count (end - (start + count)) (drop start bytes) ∙
+    ap (take (end - (start + count))) (drop-drop count start bytes)))
 
 -- A part is the same in bytes that agree from a place before it on.
-pub same_behind : (bytes bytes' : List ℕ) (place : ℕ) (span : Span) → place ≤ span.start → drop place bytes' ≡ drop place bytes →
+pub same_behind : (bytes bytes' : List ℕ) (place : ℕ) (span : Span) → place ≤ span.start →
+    drop place bytes' ≡ drop place bytes →
     part bytes' span ≡ part bytes span
 same_behind bytes bytes' place span h e =
     let split : span.start ≡ place + (span.start - place) = omega arith in
-    let from : drop span.start bytes' ≡ drop span.start bytes = subst (λ n. drop n bytes' ≡ drop n bytes) (sym split)
-    (sym (drop-drop (span.start - place) place bytes') ∙ ap (drop (span.start - place)) e ∙ drop-drop (span.start - place) place bytes) in
+    let from : drop span.start bytes' ≡ drop span.start bytes =
+    subst (λ n. drop n bytes' ≡ drop n bytes) (sym split)
+    (sym (drop-drop (span.start - place) place bytes') ∙ ap (drop (span.start - place)) e ∙
+    drop-drop (span.start - place) place bytes) in
     ap (take (span.end - span.start)) from
 
 -- A part is the same in bytes that agree up to a place behind it.
-pub same_before : (bytes bytes' : List ℕ) (place : ℕ) (span : Span) → span.start ≤ span.end → span.end ≤ place → take place bytes' ≡ take place bytes →
+pub same_before : (bytes bytes' : List ℕ) (place : ℕ) (span : Span) → span.start ≤ span.end →
+    span.end ≤ place → take place bytes' ≡ take place bytes →
     part bytes' span ≡ part bytes span
 same_before bytes bytes' place span o h e = sym (cut bytes') ∙ ap (λ xs. part xs span) e ∙ cut bytes
   where
     cut : (xs : List ℕ) → part (take place xs) span ≡ part xs span
     cut xs =
         let split : place ≡ span.start + (place - span.start) = omega arith in
-        ap (take (span.end - span.start)) (ap (λ n. drop span.start (take n xs)) split ∙ drop-take span.start (place - span.start) xs)
+        ap (take (span.end - span.start)) (ap (λ n. drop span.start (take n xs)) split ∙
+        drop-take span.start (place - span.start) xs)
         ∙ take-take (span.end - span.start) (place - span.start) (drop span.start xs) (omega arith)
 
 -- So is a key before the place, if there is one.
-pub same_key : (bytes bytes' : List ℕ) (place end : ℕ) (key : Option Span) → IsKeyBefore place key → place ≤ end → take end bytes' ≡ take end bytes →
+pub same_key : (bytes bytes' : List ℕ) (place end : ℕ) (key : Option Span) → IsKeyBefore place key →
+    place ≤ end → take end bytes' ≡ take end bytes →
     option_map (part bytes') key ≡ option_map (part bytes) key
 same_key bytes bytes' place end None h k e = refl
-same_key bytes bytes' place end (Some key) h k e = ap Some (same_before bytes bytes' end key h.0 (omega arith) e)
+same_key bytes bytes' place end (Some key) h k e =
+    ap Some (same_before bytes bytes' end key h.0 (omega arith) e)
 
 -- A key is the same where its bytes were lent and given back with the first ones kept.
-pub key_given_back : (items lent given : List ℕ) (len : ℕ) (key : Option Span) (unparsed : Span) (position : Position) →
-    lent ≡ items → length lent ≡ len → length given ≡ length lent → IsKeyBefore unparsed.start key → unparsed.start ≤ unparsed.end →
+pub key_given_back : (items lent given : List ℕ) (len : ℕ) (key : Option Span) (unparsed : Span)
+    (position : Position) →
+    lent ≡ items → length lent ≡ len → length given ≡ length lent → IsKeyBefore unparsed.start key →
+    unparsed.start ≤ unparsed.end →
     take unparsed.end given ≡ take unparsed.end lent → option_map (part items) key ≡ position →
     option_map (part (take len (given ++ drop (length given) items))) key ≡ position
 key_given_back items lent given len key unparsed position value size same before order kept is =
     let all : length items ≤ length given = omega (arith, ap length value) in
     let back : take len (given ++ drop (length given) items) ≡ given =
-    ap (take len) (ap (λ xs. given ++ xs) (drop_all (length given) items all) ∙ append-nil given) ∙ take_all len given (omega arith) in
+    ap (take len) (ap (λ xs. given ++ xs) (drop_all (length given) items all) ∙ append-nil given) ∙
+    take_all len given (omega arith) in
     ap (λ xs. option_map (part xs) key) back
-    ∙ (same_key lent given unparsed.start unparsed.end key before order kept ∙ (ap (λ xs. option_map (part xs) key) value ∙ is))
+    ∙ (same_key lent given unparsed.start unparsed.end key before order kept ∙
+    (ap (λ xs. option_map (part xs) key) value ∙ is))

@@ -1,5 +1,7 @@
--- A loading under way: the records that were sent, the unparsed bytes and those that the source has left.
-use Rattle.std.proofs.Common.{◌≡◌, ℕ, ◌+◌, Bool, true, List, [], ◌∷◌, ◌++◌, length, drop, None, refl, sym, ap, ◌∙◌, subst, arith, append_assoc, length-append}
+-- A loading under way: the records that were sent, the unparsed bytes and those that the source has
+-- left.
+use Rattle.std.proofs.Common.{◌≡◌, ℕ, ◌+◌, Bool, true, List, [], ◌∷◌, ◌++◌, length, drop, None}
+use Rattle.std.proofs.Common.{refl, sym, ap, ◌∙◌, subst, arith, append_assoc, length-append}
 use Rattle.std.proofs.lemmas.List.{append-nil, nil_from_length}
 use Rattle.std.specs.List.{flat_map}
 use Rattle.prolly_entry.specs.declared.flaw.Flaw.{Flaw}
@@ -15,8 +17,10 @@ use Rattle.prolly_load.specs.declared.taking.Taken.{Taken}
 use Rattle.prolly_load.specs.declared.taking.Taken.TheVariants as takes
 use Rattle.prolly_load.specs.Taking.{TakesRecord, Takes}
 
--- Some records are sent: they begin the bytes that were handed out, and behind them are the unparsed ones.
-pub record IsUnderWay (honest : Bool) (limit count : ℕ) (buffered : Buffered) (bytes left : List ℕ) (before after : List Record) : Type 0 where
+-- Some records are sent: they begin the bytes that were handed out, and behind them are the
+-- unparsed ones.
+pub record IsUnderWay (honest : Bool) (limit count : ℕ) (buffered : Buffered) (bytes left : List ℕ)
+    (before after : List Record) : Type 0 where
   pub handed : List ℕ
   pub records : List Record
   pub kept : honest ≡ true → bytes ≡ handed ++ left
@@ -25,7 +29,8 @@ pub record IsUnderWay (honest : Bool) (limit count : ℕ) (buffered : Buffered) 
   pub count_is : count ≡ length records
   pub position_is : buffered.last_key ≡ last_position records
 
-pub none_sent : (honest : Bool) (limit : ℕ) (buffered : Buffered) (bytes : List ℕ) (before : List Record) → buffered.last_key ≡ None → buffered.unparsed ≡ [] →
+pub none_sent : (honest : Bool) (limit : ℕ) (buffered : Buffered) (bytes : List ℕ)
+    (before : List Record) → buffered.last_key ≡ None → buffered.unparsed ≡ [] →
     IsUnderWay honest limit 0 buffered bytes bytes before before
 none_sent honest limit buffered bytes before e f = record {
   handed = [];
@@ -37,82 +42,110 @@ none_sent honest limit buffered bytes before e f = record {
   position_is = e;
 }
 
-pub one_sent : (honest : Bool) (limit count : ℕ) (old new : Buffered) (bytes left : List ℕ) (before after after' : List Record) (r : Record) →
-    IsUnderWay honest limit count old bytes left before after → TakesRecord limit count old new r → after' ≡ after ++ r ∷ [] →
+pub one_sent : (honest : Bool) (limit count : ℕ) (old new : Buffered) (bytes left : List ℕ)
+    (before after after' : List Record) (r : Record) →
+    IsUnderWay honest limit count old bytes left before after → TakesRecord limit count old new r →
+    after' ≡ after ++ r ∷ [] →
     IsUnderWay honest limit (count + 1) new bytes left before after'
 one_sent honest limit count old new bytes left before after after' r h k e = record {
   handed = h.handed;
   records = h.records ++ r ∷ [];
   kept = h.kept;
-  sent = e ∙ (ap (λ (q : List Record). q ++ r ∷ []) h.sent ∙ append_assoc before h.records (r ∷ []));
-  begins = subst (λ (x : List ℕ). Begins h.handed limit (h.records ++ r ∷ []) x) (append-nil (drop k.len old.unparsed) ∙ sym k.unparsed)
-      (begins_more h.handed limit h.records old.unparsed old.unparsed [] r k.len h.begins (sym (append-nil old.unparsed)) next);
+  sent = e ∙ (ap (λ (q : List Record). q ++ r ∷ []) h.sent ∙
+      append_assoc before h.records (r ∷ []));
+  begins = subst (λ (x : List ℕ). Begins h.handed limit (h.records ++ r ∷ []) x)
+      (append-nil (drop k.len old.unparsed) ∙ sym k.unparsed)
+      (begins_more h.handed limit h.records old.unparsed old.unparsed [] r k.len h.begins
+      (sym (append-nil old.unparsed)) next);
   count_is = let c = h.count_is in let n = length-append h.records (r ∷ []) in omega arith;
   position_is = k.last_key ∙ sym (last_more h.records r);
 }
   where
     next : IsNext limit (length h.records) (last_position h.records) old.unparsed r k.len
-    next = record { there = k.next.there; room = λ q. k.next.room (h.count_is ∙ q); rises = rw (← h.position_is) k.next.rises }
+    next = record {
+      there = k.next.there;
+      room = λ q. k.next.room (h.count_is ∙ q);
+      rises = rw (← h.position_is) k.next.rises;
+    }
 
-pub more_read : (honest honest' : Bool) (limit count n : ℕ) (buffered old new : Buffered) (bytes left left' : List ℕ) (before after : List Record) →
-    IsUnderWay honest limit count buffered bytes left before after → old ≡ buffered → Gains honest' left left' old.unparsed new.unparsed n → new.last_key ≡ old.last_key →
+pub more_read : (honest honest' : Bool) (limit count n : ℕ) (buffered old new : Buffered)
+    (bytes left left' : List ℕ) (before after : List Record) →
+    IsUnderWay honest limit count buffered bytes left before after → old ≡ buffered →
+    Gains honest' left left' old.unparsed new.unparsed n → new.last_key ≡ old.last_key →
     (honest ≡ true → honest' ≡ true) → IsUnderWay honest limit count new bytes left' before after
-more_read honest honest' limit count n buffered old new bytes left left' before after h same k e still = record {
-  handed = h.handed ++ k.given;
-  records = h.records;
-  kept = λ o. h.kept o ∙ (ap (λ (x : List ℕ). h.handed ++ x) (k.first (still o)) ∙ sym (append_assoc h.handed k.given left'));
-  sent = h.sent;
-  begins = record {
-    spelled = ap (λ (x : List ℕ). x ++ k.given) h.begins.spelled
-        ∙ (append_assoc (flat_map record_spelling h.records) buffered.unparsed k.given
-        ∙ ap (λ (x : List ℕ). flat_map record_spelling h.records ++ x) (sym (k.behind ∙ ap (λ (x : Buffered). x.unparsed ++ k.given) same)));
-    lawful = h.begins.lawful;
-    rising = h.begins.rising;
-    few = h.begins.few;
-  };
-  count_is = h.count_is;
-  position_is = e ∙ (ap (λ (x : Buffered). x.last_key) same ∙ h.position_is);
-}
+more_read honest honest' limit count n buffered old new bytes left left' before after h same k e
+    still = record {
+      handed = h.handed ++ k.given;
+      records = h.records;
+      kept = λ o. h.kept o ∙ (ap (λ (x : List ℕ). h.handed ++ x) (k.first (still o)) ∙
+          sym (append_assoc h.handed k.given left'));
+      sent = h.sent;
+      begins = record {
+        spelled = ap (λ (x : List ℕ). x ++ k.given) h.begins.spelled
+            ∙ (append_assoc (flat_map record_spelling h.records) buffered.unparsed k.given
+            ∙ ap (λ (x : List ℕ). flat_map record_spelling h.records ++ x)
+            (sym (k.behind ∙ ap (λ (x : Buffered). x.unparsed ++ k.given) same)));
+        lawful = h.begins.lawful;
+        rising = h.begins.rising;
+        few = h.begins.few;
+      };
+      count_is = h.count_is;
+      position_is = e ∙ (ap (λ (x : Buffered). x.last_key) same ∙ h.position_is);
+    }
 
-pub nothing_read : (honest honest' : Bool) (limit count : ℕ) (buffered old new : Buffered) (bytes left left' : List ℕ) (before after : List Record) →
-    IsUnderWay honest limit count buffered bytes left before after → old ≡ buffered → GainsNothing honest' left left' old.unparsed new.unparsed → new.last_key ≡ old.last_key →
+pub nothing_read : (honest honest' : Bool) (limit count : ℕ) (buffered old new : Buffered)
+    (bytes left left' : List ℕ) (before after : List Record) →
+    IsUnderWay honest limit count buffered bytes left before after → old ≡ buffered →
+    GainsNothing honest' left left' old.unparsed new.unparsed → new.last_key ≡ old.last_key →
     (honest ≡ true → honest' ≡ true) → IsUnderWay honest limit count new bytes left' before after
-nothing_read honest honest' limit count buffered old new bytes left left' before after h same k e still = record {
-  handed = h.handed;
-  records = h.records;
-  kept = λ o. h.kept o ∙ ap (λ (x : List ℕ). h.handed ++ x) (sym (k.kept (still o)));
-  sent = h.sent;
-  begins = subst (λ (x : List ℕ). Begins h.handed limit h.records x) (sym (k.same ∙ ap (λ (x : Buffered). x.unparsed) same)) h.begins;
-  count_is = h.count_is;
-  position_is = e ∙ (ap (λ (x : Buffered). x.last_key) same ∙ h.position_is);
-}
+nothing_read honest honest' limit count buffered old new bytes left left' before after h same k e
+    still = record {
+      handed = h.handed;
+      records = h.records;
+      kept = λ o. h.kept o ∙ ap (λ (x : List ℕ). h.handed ++ x) (sym (k.kept (still o)));
+      sent = h.sent;
+      begins = subst (λ (x : List ℕ). Begins h.handed limit h.records x)
+          (sym (k.same ∙ ap (λ (x : Buffered). x.unparsed) same)) h.begins;
+      count_is = h.count_is;
+      position_is = e ∙ (ap (λ (x : Buffered). x.last_key) same ∙ h.position_is);
+    }
 
 -- ---- what was taken
 
-pub record_taken : (limit count : ℕ) (old new : Buffered) (taken : Taken) (r : Record) → Takes limit count old new taken → taken ≡ takes.Record r →
+pub record_taken : (limit count : ℕ) (old new : Buffered) (taken : Taken) (r : Record) →
+    Takes limit count old new taken → taken ≡ takes.Record r →
     TakesRecord limit count old new r
 record_taken limit count old new taken r h e = subst (Takes limit count old new) e h
 
-pub flaw_taken : (limit count : ℕ) (old new : Buffered) (taken : Taken) (flaw : Flaw) → Takes limit count old new taken → taken ≡ takes.Flawed flaw →
+pub flaw_taken : (limit count : ℕ) (old new : Buffered) (taken : Taken) (flaw : Flaw) →
+    Takes limit count old new taken → taken ≡ takes.Flawed flaw →
     IsFlawed limit count old.last_key old.unparsed flaw
-flaw_taken limit count old new taken flaw h e = let is = subst (Takes limit count old new) e h in is.0
+flaw_taken limit count old new taken flaw h e = let is = subst (Takes limit count old new) e h in
+    is.0
 
 -- Nothing was taken, so nothing is decided, and the buffer is as it was.
 pub record TakesNothing (limit count : ℕ) (old new : Buffered) : Type 0 where
   pub undecided : IsUndecided limit count old.last_key old.unparsed
   pub same : new ≡ old
 
-pub nothing_taken : (limit count : ℕ) (old new : Buffered) (taken : Taken) → Takes limit count old new taken → taken ≡ takes.Nothing →
+pub nothing_taken : (limit count : ℕ) (old new : Buffered) (taken : Taken) →
+    Takes limit count old new taken → taken ≡ takes.Nothing →
     TakesNothing limit count old new
-nothing_taken limit count old new taken h e = let is = subst (Takes limit count old new) e h in record { undecided = is.0; same = is.1 }
+nothing_taken limit count old new taken h e = let is = subst (Takes limit count old new) e h in
+    record { undecided = is.0; same = is.1 }
 
 -- ---- a read that brings nothing
 
-pub gains_none : (n : ℕ) (honest : Bool) (left left' unparsed unparsed' : List ℕ) → Gains honest left left' unparsed unparsed' n → n ≡ 0 → unparsed' ≡ unparsed
+pub gains_none : (n : ℕ) (honest : Bool) (left left' unparsed unparsed' : List ℕ) →
+    Gains honest left left' unparsed unparsed' n → n ≡ 0 → unparsed' ≡ unparsed
 gains_none n honest left left' unparsed unparsed' h e =
-    h.behind ∙ (ap (λ (x : List ℕ). unparsed ++ x) (nil_from_length h.given (h.size ∙ e)) ∙ append-nil unparsed)
+    h.behind ∙ (ap (λ (x : List ℕ). unparsed ++ x) (nil_from_length h.given (h.size ∙ e)) ∙
+    append-nil unparsed)
 
-pub still_undecided : (limit count : ℕ) (buffered old new : Buffered) → TakesNothing limit count buffered old →
-    new.last_key ≡ old.last_key → new.unparsed ≡ old.unparsed → IsUndecided limit count new.last_key new.unparsed
+pub still_undecided : (limit count : ℕ) (buffered old new : Buffered) →
+    TakesNothing limit count buffered old →
+    new.last_key ≡ old.last_key → new.unparsed ≡ old.unparsed →
+    IsUndecided limit count new.last_key new.unparsed
 still_undecided limit count buffered old new h e f =
-    rw (e, f) (subst (λ (x : Buffered). IsUndecided limit count x.last_key x.unparsed) (sym h.same) h.undecided)
+    rw (e, f) (subst (λ (x : Buffered). IsUndecided limit count x.last_key x.unparsed) (sym h.same)
+    h.undecided)

@@ -1,7 +1,8 @@
 -- What a read adds to the unparsed bytes.
 use Rattle.std.specs.Prelude.{◌≡◌, ℕ, Bool, true, List, [], ◌++◌, length, Result, MatchResult}
 
--- Some bytes came behind the unparsed ones: the first that an honest source had left, and none only where it had none.
+-- Some bytes came behind the unparsed ones: the first that an honest source had left, and none only
+-- where it had none.
 pub record Gains (honest : Bool) (left left' unparsed unparsed' : List ℕ) (count : ℕ) : Type 0 where
   pub given : List ℕ
   pub behind : unparsed' ≡ unparsed ++ given
@@ -17,4 +18,5 @@ pub record GainsNothing (honest : Bool) (left left' unparsed unparsed' : List �
 -- What a read did, by its answer.
 abbrev pub Fills : {E : Type 0} → Bool → List ℕ → List ℕ → List ℕ → List ℕ → Result ℕ E → Type 0
 Fills honest left left' unparsed unparsed' result =
-    MatchResult result (λ count. Gains honest left left' unparsed unparsed' count) (λ _. GainsNothing honest left left' unparsed unparsed')
+    MatchResult result (λ count. Gains honest left left' unparsed unparsed' count)
+    (λ _. GainsNothing honest left left' unparsed unparsed')

@@ -20,18 +20,25 @@ pub record IsReadTo (bytes : List ℕ) (limit : ℕ) (records : List Record) : T
 pub record AreFirstGood (bytes : List ℕ) (limit : ℕ) (records : List Record) : Type 0 where
   pub rest : List ℕ
   pub begins : Begins bytes limit records rest
-  pub prefix : (good : List Record) (ending : Option Flaw) → IsReading bytes limit good ending → IsPrefix records good
+  pub prefix : (good : List Record) (ending : Option Flaw) → IsReading bytes limit good ending →
+      IsPrefix records good
 
--- The records and the fault are what the bytes of this file come to: the good records and the flaw of the next one, at its place;
--- those up to a failed read; or some first ones, where memory was refused. There is no other fault.
+-- The records and the fault are what the bytes of this file come to: the good records and the flaw
+-- of the next one, at its place; those up to a failed read; or some first ones, where memory was
+-- refused. There is no other fault.
 abbrev pub FailsAs : ℕ → ℕ → List ℕ → List Record → RunFault → Type 0
 FailsAs file limit bytes records faults.Memory = AreFirstGood bytes limit records
 FailsAs file limit bytes records (faults.Read f) = (f ≡ file) × IsReadTo bytes limit records
-FailsAs file limit bytes records (faults.Truncated f place) = (f ≡ file) × (place ≡ length records) × IsReading bytes limit records (Some flaws.Truncated)
-FailsAs file limit bytes records (faults.KeyTooLong f place) = (f ≡ file) × (place ≡ length records) × IsReading bytes limit records (Some flaws.KeyTooLong)
-FailsAs file limit bytes records (faults.ValueTooLong f place) = (f ≡ file) × (place ≡ length records) × IsReading bytes limit records (Some flaws.ValueTooLong)
-FailsAs file limit bytes records (faults.OutOfOrder f place) = (f ≡ file) × (place ≡ length records) × IsReading bytes limit records (Some flaws.OutOfOrder)
-FailsAs file limit bytes records (faults.TooManyRecords f) = (f ≡ file) × IsReading bytes limit records (Some flaws.TooManyRecords)
+FailsAs file limit bytes records (faults.Truncated f place) =
+    (f ≡ file) × (place ≡ length records) × IsReading bytes limit records (Some flaws.Truncated)
+FailsAs file limit bytes records (faults.KeyTooLong f place) =
+    (f ≡ file) × (place ≡ length records) × IsReading bytes limit records (Some flaws.KeyTooLong)
+FailsAs file limit bytes records (faults.ValueTooLong f place) =
+    (f ≡ file) × (place ≡ length records) × IsReading bytes limit records (Some flaws.ValueTooLong)
+FailsAs file limit bytes records (faults.OutOfOrder f place) =
+    (f ≡ file) × (place ≡ length records) × IsReading bytes limit records (Some flaws.OutOfOrder)
+FailsAs file limit bytes records (faults.TooManyRecords f) =
+    (f ≡ file) × IsReading bytes limit records (Some flaws.TooManyRecords)
 FailsAs file limit bytes records other = ⊥
 
 -- The records and the end are what the bytes of this file come to.
@@ -39,9 +46,11 @@ abbrev pub EndsAs : ℕ → ℕ → List ℕ → List Record → End → Type 0
 EndsAs file limit bytes records Clean = IsReading bytes limit records None
 EndsAs file limit bytes records (Fault fault) = FailsAs file limit bytes records fault
 
--- A source that had some bytes left handed out the first of them, and the records sent and the end are what these come to; where
--- no read failed, also what all the bytes come to. (Of a source that is not honest nothing is known but the bytes handed out.)
-pub record IsLoaded (file limit : ℕ) (honest : Bool) (left left' : List ℕ) (before after : List Record) (end : End) : Type 0 where
+-- A source that had some bytes left handed out the first of them, and the records sent and the end
+-- are what these come to; where no read failed, also what all the bytes come to. (Of a source that
+-- is not honest nothing is known but the bytes handed out.)
+pub record IsLoaded (file limit : ℕ) (honest : Bool) (left left' : List ℕ)
+    (before after : List Record) (end : End) : Type 0 where
   pub handed : List ℕ
   pub records : List Record
   pub kept : honest ≡ true → left ≡ handed ++ left'

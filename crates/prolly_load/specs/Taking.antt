@@ -6,7 +6,8 @@ use Rattle.prolly_load.specs.declared.taking.Taken.{Taken}
 use Rattle.prolly_load.specs.declared.taking.Taken.TheVariants.{Record, Nothing, Flawed}
 use Rattle.prolly_load.specs.Buffered.{Buffered}
 
--- The next good record was taken: its bytes are gone from the unparsed ones, and its key is the last one.
+-- The next good record was taken: its bytes are gone from the unparsed ones, and its key is the
+-- last one.
 pub record TakesRecord (limit count : ℕ) (old new : Buffered) (r : RecordValue) : Type 0 where
   pub len : ℕ
   pub next : IsNext limit count old.last_key old.unparsed r len
@@ -17,4 +18,5 @@ pub record TakesRecord (limit count : ℕ) (old new : Buffered) (r : RecordValue
 abbrev pub Takes : ℕ → ℕ → Buffered → Buffered → Taken → Type 0
 Takes limit count old new (Record r) = TakesRecord limit count old new r
 Takes limit count old new Nothing = IsUndecided limit count old.last_key old.unparsed × (new ≡ old)
-Takes limit count old new (Flawed flaw) = IsFlawed limit count old.last_key old.unparsed flaw × (new ≡ old)
+Takes limit count old new (Flawed flaw) = IsFlawed limit count old.last_key old.unparsed flaw ×
+    (new ≡ old)

@@ -1,5 +1,6 @@
 -- Relations between two lists, while a loop goes over them.
-use Rattle.std.proofs.Common.{◌≡◌, ℕ, zero, suc, ◌+◌, List, [], ◌∷◌, length, Some, slice_get, slice_set, refl, sym, subst, add-one}
+use Rattle.std.proofs.Common.{◌≡◌, ℕ, zero, suc, ◌+◌, List, [], ◌∷◌, length, Some, slice_get}
+use Rattle.std.proofs.Common.{slice_set, refl, sym, subst, add-one}
 use Rattle.prolly_merge.specs.Each.{Each, EachUpto}
 use Rattle.prolly_merge.proofs.Equal.{none_some, some_same}
 
@@ -24,7 +25,8 @@ module _ {A B : Type 0} (R S : A → B → Type 0) where
   upto_all (x ∷ xs) (y ∷ ys) h = (h.0, upto_all xs ys h.1)
 
   -- The next value was replaced.
-  pub upto_next : (k : ℕ) (xs : List A) (ys : List B) (y y' : B) → EachUpto R S k xs ys → slice_get ys k ≡ Some y → ((x : A) → slice_get xs k ≡ Some x → S x y → R x y') →
+  pub upto_next : (k : ℕ) (xs : List A) (ys : List B) (y y' : B) → EachUpto R S k xs ys →
+      slice_get ys k ≡ Some y → ((x : A) → slice_get xs k ≡ Some x → S x y → R x y') →
       EachUpto R S (suc k) xs (slice_set ys k y')
   upto_next k xs [] y y' h e f = absurd (none_some y e)
   upto_next zero [] (z ∷ ys) y y' h e f = absurd h
@@ -33,21 +35,30 @@ module _ {A B : Type 0} (R S : A → B → Type 0) where
   upto_next (suc k) (x ∷ xs) (z ∷ ys) y y' h e f = (h.0, upto_next k xs ys y y' h.1 e f)
 
   -- The next value is as it was.
-  pub upto_get : (k : ℕ) (xs : List A) (ys : List B) (x : A) (y : B) → EachUpto R S k xs ys → slice_get xs k ≡ Some x → slice_get ys k ≡ Some y → S x y
+  pub upto_get : (k : ℕ) (xs : List A) (ys : List B) (x : A) (y : B) → EachUpto R S k xs ys →
+      slice_get xs k ≡ Some x → slice_get ys k ≡ Some y → S x y
   upto_get k [] ys x y h e f = absurd (none_some x e)
   upto_get zero (w ∷ xs) [] x y h e f = absurd h
-  upto_get zero (w ∷ xs) (z ∷ ys) x y h e f = subst (S x) (some_same z y f) (subst (λ v. S v z) (some_same w x e) h.0)
+  upto_get zero (w ∷ xs) (z ∷ ys) x y h e f =
+      subst (S x) (some_same z y f) (subst (λ v. S v z) (some_same w x e) h.0)
   upto_get (suc k) (w ∷ xs) [] x y h e f = absurd h
   upto_get (suc k) (w ∷ xs) (z ∷ ys) x y h e f = upto_get k xs ys x y h.1 e f
 
   -- The next value stayed.
-  pub upto_skip : (k : ℕ) (xs : List A) (ys : List B) (y : B) → EachUpto R S k xs ys → slice_get ys k ≡ Some y → ((x : A) → S x y → R x y) → EachUpto R S (suc k) xs ys
+  pub upto_skip : (k : ℕ) (xs : List A) (ys : List B) (y : B) → EachUpto R S k xs ys →
+      slice_get ys k ≡ Some y → ((x : A) → S x y → R x y) → EachUpto R S (suc k) xs ys
   upto_skip k xs [] y h e f = absurd (none_some y e)
   upto_skip zero [] (z ∷ ys) y h e f = absurd h
-  upto_skip zero (x ∷ xs) (z ∷ ys) y h e f = (subst (R x) (sym (some_same z y e)) (f x (subst (S x) (some_same z y e) h.0)), h.1)
+  upto_skip zero (x ∷ xs) (z ∷ ys) y h e f = (
+    subst (R x) (sym (some_same z y e))
+        (f x (subst (S x) (some_same z y e) h.0)),
+    h.1,
+  )
   upto_skip (suc k) [] (z ∷ ys) y h e f = absurd h
   upto_skip (suc k) (x ∷ xs) (z ∷ ys) y h e f = (h.0, upto_skip k xs ys y h.1 e f)
 
   -- The same, as the loop counts.
-  pub upto_at : (k : ℕ) (xs : List A) (ys zs : List B) → EachUpto R S (suc k) xs ys → zs ≡ ys → EachUpto R S (k + 1) xs zs
-  upto_at k xs ys zs h e = subst (λ n. EachUpto R S n xs zs) (sym (add-one k)) (subst (EachUpto R S (suc k) xs) (sym e) h)
+  pub upto_at : (k : ℕ) (xs : List A) (ys zs : List B) → EachUpto R S (suc k) xs ys → zs ≡ ys →
+      EachUpto R S (k + 1) xs zs
+  upto_at k xs ys zs h e = subst (λ n. EachUpto R S n xs zs) (sym (add-one k))
+      (subst (EachUpto R S (suc k) xs) (sym e) h)

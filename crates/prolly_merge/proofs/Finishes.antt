@@ -1,5 +1,6 @@
 -- A merger from the inputs that it was given to those that it gives back.
-use Rattle.std.proofs.Common.{◌≡◌, ℕ, zero, suc, List, [], ◌∷◌, ◌++◌, map, Some, slice_get, refl, sym, ap, ◌∙◌, subst}
+use Rattle.std.proofs.Common.{◌≡◌, ℕ, zero, suc, List, [], ◌∷◌, ◌++◌, map, Some, slice_get, refl}
+use Rattle.std.proofs.Common.{sym, ap, ◌∙◌, subst}
 use Rattle.prolly_entry.specs.Record.{Record}
 use Rattle.prolly_tree.specs.Merge.{Input}
 use Rattle.prolly_link.specs.Identity.{LinkId}
@@ -15,7 +16,8 @@ use Rattle.prolly_merge.specs.PeekedInputs.{AllHeld, Advances, places_after, Ope
 use Rattle.prolly_merge.proofs.Peeks.{peeked}
 use Rattle.prolly_merge.proofs.Equal.{none_some, some_same}
 
-module _ {I : Type 0} (link : I → LinkId) (progress : I → Progress) (Follows : I → I → Type 0) (received : I → I → List Record) where
+module _ {I : Type 0} (link : I → LinkId) (progress : I → Progress) (Follows : I → I → Type 0)
+    (received : I → I → List Record) where
   abbrev Open : List I → List (Peeked I) → Type 0
   Open = Each (Opens link progress Follows received)
 
@@ -37,21 +39,26 @@ module _ {I : Type 0} (link : I → LinkId) (progress : I → Progress) (Follows
   advance_held (o ∷ os) [] a = absurd a
   advance_held (o ∷ os) (m ∷ ms) a = (a.0.held, advance_held os ms a.1)
 
-  pub held_get : (ms : List (Peeked I)) (at : ℕ) (m : Peeked I) → AllHeld progress ms → slice_get ms at ≡ Some m → IsHeld m.head (progress m.input)
+  pub held_get : (ms : List (Peeked I)) (at : ℕ) (m : Peeked I) → AllHeld progress ms →
+      slice_get ms at ≡ Some m → IsHeld m.head (progress m.input)
   held_get [] at m h e = absurd (none_some m e)
   held_get (x ∷ ms) zero m h e = subst (λ p. IsHeld p.head (progress p.input)) (some_same x m e) h.0
   held_get (x ∷ ms) (suc at) m h e = held_get ms at m h.1 e
 
   -- The input that was finished is this one.
-  pub finishes_same : (m : Peeked I) (n n' : I) (h : Head) → n ≡ m.input → h ≡ m.head → Finishes link progress Follows received (peeked n h) n' → Finishes link progress Follows received m n'
+  pub finishes_same : (m : Peeked I) (n n' : I) (h : Head) → n ≡ m.input → h ≡ m.head →
+      Finishes link progress Follows received (peeked n h) n' →
+      Finishes link progress Follows received m n'
   finishes_same m n n' h e f fin =
-      subst (λ x. Finishes link progress Follows received (peeked m.input x) n') f (subst (λ x. Finishes link progress Follows received (peeked x h) n') e fin)
+      subst (λ x. Finishes link progress Follows received (peeked m.input x) n') f
+      (subst (λ x. Finishes link progress Follows received (peeked x h) n') e fin)
 
   -- What the inputs gave behind their heads.
   abbrev pub rest_of : List (Peeked I) → List I → List (Input RunFault)
   rest_of ms ns = inputs_of progress received (map (λ p. p.input) ms) ns
 
-  pub rest_fits : (os ms : List (Peeked I)) (ns : List I) → Advance os ms → Finish ms ns → AllFit (places_after received os ms) (rest_of ms ns)
+  pub rest_fits : (os ms : List (Peeked I)) (ns : List I) → Advance os ms → Finish ms ns →
+      AllFit (places_after received os ms) (rest_of ms ns)
   rest_fits [] [] [] a f = tt
   rest_fits [] [] (n ∷ ns) a f = absurd f
   rest_fits [] (m ∷ ms) ns a f = absurd a
@@ -59,15 +66,21 @@ module _ {I : Type 0} (link : I → LinkId) (progress : I → Progress) (Follows
   rest_fits (o ∷ os) (m ∷ ms) [] a f = absurd f
   rest_fits (o ∷ os) (m ∷ ms) (n ∷ ns) a f = (f.0.fits, rest_fits os ms ns a.1 f.1)
 
-  module _ (goes_on : (a b c : I) → Follows a b → Follows b c → Follows a c) (received_both : (a b c : I) → Follows a b → Follows b c → received a c ≡ received a b ++ received b c) where
-    one_whole : (e : I) (o m : Peeked I) (n : I) → Opens link progress Follows received e o → Advances link progress Follows o m → Finishes link progress Follows received m n →
+  module _ (goes_on : (a b c : I) → Follows a b → Follows b c → Follows a c)
+      (received_both : (a b c : I) → Follows a b → Follows b c →
+      received a c ≡ received a b ++ received b c) where
+    one_whole : (e : I) (o m : Peeked I) (n : I) → Opens link progress Follows received e o →
+        Advances link progress Follows o m → Finishes link progress Follows received m n →
         (in_hand o.head ++ received o.input m.input) ++ received m.input n ≡ received e n
     one_whole e o m n b a f =
         ap (λ x. (x ++ received o.input m.input) ++ received m.input n) (sym b.received_is)
-        ∙ ap (λ x. x ++ received m.input n) (sym (received_both e o.input m.input b.follows a.follows))
-        ∙ sym (received_both e m.input n (goes_on e o.input m.input b.follows a.follows) f.ends.follows)
+        ∙ ap (λ x. x ++ received m.input n) (sym
+        (received_both e o.input m.input b.follows a.follows))
+        ∙ sym (received_both e m.input n (goes_on e o.input m.input b.follows a.follows)
+        f.ends.follows)
 
-    pub wholes_are : (es : List I) (os ms : List (Peeked I)) (ns : List I) → Open es os → Advance os ms → Finish ms ns →
+    pub wholes_are : (es : List I) (os ms : List (Peeked I)) (ns : List I) → Open es os →
+        Advance os ms → Finish ms ns →
         wholes (places_after received os ms) (rest_of ms ns) ≡ inputs_of progress received es ns
     wholes_are [] [] [] [] b a f = refl
     wholes_are [] [] [] (n ∷ ns) b a f = absurd f
@@ -77,10 +90,13 @@ module _ {I : Type 0} (link : I → LinkId) (progress : I → Progress) (Follows
     wholes_are (e ∷ es) (o ∷ os) [] ns b a f = absurd a
     wholes_are (e ∷ es) (o ∷ os) (m ∷ ms) [] b a f = absurd f
     wholes_are (e ∷ es) (o ∷ os) (m ∷ ms) (n ∷ ns) b a f =
-        ap (λ x. input_of x (end_given (progress n)) ∷ wholes (places_after received os ms) (rest_of ms ns)) (one_whole e o m n b.0 a.0 f.0)
-        ∙ ap (λ is. input_of (received e n) (end_given (progress n)) ∷ is) (wholes_are es os ms ns b.1 a.1 f.1)
+        ap (λ x. input_of x (end_given (progress n)) ∷ wholes (places_after received os ms)
+        (rest_of ms ns)) (one_whole e o m n b.0 a.0 f.0)
+        ∙ ap (λ is. input_of (received e n) (end_given (progress n)) ∷ is)
+        (wholes_are es os ms ns b.1 a.1 f.1)
 
-    one_ends : (e : I) (o m : Peeked I) (n : I) → Opens link progress Follows received e o → Advances link progress Follows o m → Finishes link progress Follows received m n →
+    one_ends : (e : I) (o m : Peeked I) (n : I) → Opens link progress Follows received e o →
+        Advances link progress Follows o m → Finishes link progress Follows received m n →
         Ends link progress Follows e n
     one_ends e o m n b a f = record {
       link_is = f.ends.link_is ∙ a.link_is ∙ b.link_is;
@@ -88,7 +104,8 @@ module _ {I : Type 0} (link : I → LinkId) (progress : I → Progress) (Follows
       ended = f.ends.ended;
     }
 
-    pub all_end : (es : List I) (os ms : List (Peeked I)) (ns : List I) → Open es os → Advance os ms → Finish ms ns → Each (Ends link progress Follows) es ns
+    pub all_end : (es : List I) (os ms : List (Peeked I)) (ns : List I) → Open es os →
+        Advance os ms → Finish ms ns → Each (Ends link progress Follows) es ns
     all_end [] [] [] [] b a f = tt
     all_end [] [] [] (n ∷ ns) b a f = absurd f
     all_end [] [] (m ∷ ms) ns b a f = absurd a
@@ -96,4 +113,5 @@ module _ {I : Type 0} (link : I → LinkId) (progress : I → Progress) (Follows
     all_end (e ∷ es) [] ms ns b a f = absurd b
     all_end (e ∷ es) (o ∷ os) [] ns b a f = absurd a
     all_end (e ∷ es) (o ∷ os) (m ∷ ms) [] b a f = absurd f
-    all_end (e ∷ es) (o ∷ os) (m ∷ ms) (n ∷ ns) b a f = (one_ends e o m n b.0 a.0 f.0, all_end es os ms ns b.1 a.1 f.1)
+    all_end (e ∷ es) (o ∷ os) (m ∷ ms) (n ∷ ns) b a f =
+        (one_ends e o m n b.0 a.0 f.0, all_end es os ms ns b.1 a.1 f.1)

@@ -1,5 +1,6 @@
 -- Inputs beside their heads, read and written.
-use Rattle.std.proofs.Common.{◌≡◌, ℕ, zero, suc, ◌<◌, List, [], ◌∷◌, length, Some, slice_get, slice_set, get_or, take, drop, ◌++◌, refl, sym, ap, ◌∙◌, subst, arith}
+use Rattle.std.proofs.Common.{◌≡◌, ℕ, zero, suc, ◌<◌, List, [], ◌∷◌, length, Some, slice_get}
+use Rattle.std.proofs.Common.{slice_set, get_or, take, drop, ◌++◌, refl, sym, ap, ◌∙◌, subst, arith}
 use Rattle.std.proofs.Math.Seq.{take-append_seam}
 use Rattle.std.proofs.lemmas.Option.{slice_get-get_or}
 use Rattle.prolly_merge.specs.declared.head.Head.{Head}
@@ -18,32 +19,41 @@ module _ {I : Type 0} where
   abbrev pub peeked : I → Head → Peeked I
   peeked n h = record { input = n; head = h }
 
-  pub peeked_get : (ns : List I) (hs : List Head) (at : ℕ) (n : I) (h : Head) → slice_get ns at ≡ Some n → slice_get hs at ≡ Some h → slice_get (peeked_of ns hs) at ≡ Some (peeked n h)
+  pub peeked_get : (ns : List I) (hs : List Head) (at : ℕ) (n : I) (h : Head) →
+      slice_get ns at ≡ Some n → slice_get hs at ≡ Some h →
+      slice_get (peeked_of ns hs) at ≡ Some (peeked n h)
   peeked_get [] hs at n h e f = absurd (none_some n e)
   peeked_get (m ∷ ns) [] at n h e f = absurd (none_some h f)
-  peeked_get (m ∷ ns) (k ∷ hs) zero n h e f = ap (λ x. Some (peeked x k)) (some_same m n e) ∙ ap (λ x. Some (peeked n x)) (some_same k h f)
+  peeked_get (m ∷ ns) (k ∷ hs) zero n h e f = ap (λ x. Some (peeked x k)) (some_same m n e) ∙
+      ap (λ x. Some (peeked n x)) (some_same k h f)
   peeked_get (m ∷ ns) (k ∷ hs) (suc at) n h e f = peeked_get ns hs at n h e f
 
-  pub peeked_set : (ns : List I) (hs : List Head) (at : ℕ) (n : I) (h : Head) → peeked_of (slice_set ns at n) (slice_set hs at h) ≡ slice_set (peeked_of ns hs) at (peeked n h)
+  pub peeked_set : (ns : List I) (hs : List Head) (at : ℕ) (n : I) (h : Head) →
+      peeked_of (slice_set ns at n) (slice_set hs at h) ≡ slice_set (peeked_of ns hs)
+      at (peeked n h)
   peeked_set [] hs at n h = refl
   peeked_set (m ∷ ns) [] zero n h = refl
   peeked_set (m ∷ ns) [] (suc at) n h = refl
   peeked_set (m ∷ ns) (k ∷ hs) zero n h = refl
   peeked_set (m ∷ ns) (k ∷ hs) (suc at) n h = ap (λ ps. peeked m k ∷ ps) (peeked_set ns hs at n h)
 
-  pub peeked_head : (ns : List I) (hs : List Head) (at : ℕ) (p : Peeked I) → slice_get (peeked_of ns hs) at ≡ Some p → slice_get hs at ≡ Some p.head
+  pub peeked_head : (ns : List I) (hs : List Head) (at : ℕ) (p : Peeked I) →
+      slice_get (peeked_of ns hs) at ≡ Some p → slice_get hs at ≡ Some p.head
   peeked_head [] hs at p e = absurd (none_some p e)
   peeked_head (m ∷ ns) [] at p e = absurd (none_some p e)
   peeked_head (m ∷ ns) (k ∷ hs) zero p e = ap (λ x. Some x.head) (some_same (peeked m k) p e)
   peeked_head (m ∷ ns) (k ∷ hs) (suc at) p e = peeked_head ns hs at p e
 
-  pub peeked_some : (ns : List I) (hs : List Head) (at : ℕ) → at < length ns → at < length hs → (p : Peeked I) × (slice_get (peeked_of ns hs) at ≡ Some p)
+  pub peeked_some : (ns : List I) (hs : List Head) (at : ℕ) → at < length ns → at < length hs →
+      (p : Peeked I) × (slice_get (peeked_of ns hs) at ≡ Some p)
   peeked_some [] hs at lt lt' = absurd (not_less_zero at lt)
   peeked_some (m ∷ ns) [] at lt lt' = absurd (not_less_zero at lt')
   peeked_some (m ∷ ns) (k ∷ hs) zero lt lt' = (peeked m k, refl)
-  peeked_some (m ∷ ns) (k ∷ hs) (suc at) lt lt' = peeked_some ns hs at (pred_less at (length ns) lt) (pred_less at (length hs) lt')
+  peeked_some (m ∷ ns) (k ∷ hs) (suc at) lt lt' =
+      peeked_some ns hs at (pred_less at (length ns) lt) (pred_less at (length hs) lt')
 
-  pub heads_are : (ns : List I) (hs : List Head) → length hs ≡ length ns → heads_in (peeked_of ns hs) ≡ hs
+  pub heads_are : (ns : List I) (hs : List Head) → length hs ≡ length ns →
+      heads_in (peeked_of ns hs) ≡ hs
   heads_are [] [] e = refl
   heads_are [] (h ∷ hs) e = absurd (suc_zero (length hs) e)
     where
@@ -53,20 +63,25 @@ module _ {I : Type 0} where
     where
       zero_suc : (n : ℕ) → 0 ≡ suc n → ⊥
       zero_suc n e = omega arith
-  heads_are (m ∷ ns) (h ∷ hs) e = ap (λ xs. h ∷ xs) (heads_are ns hs (same (length hs) (length ns) e))
+  heads_are (m ∷ ns) (h ∷ hs) e = ap (λ xs. h ∷ xs)
+      (heads_are ns hs (same (length hs) (length ns) e))
     where
       same : (n k : ℕ) → suc n ≡ suc k → n ≡ k
       same n k e = omega arith
 
-  pub get_same : (xs : List (Peeked I)) (at : ℕ) (p q : Peeked I) → slice_get xs at ≡ Some p → slice_get xs at ≡ Some q → p ≡ q
+  pub get_same : (xs : List (Peeked I)) (at : ℕ) (p q : Peeked I) → slice_get xs at ≡ Some p →
+      slice_get xs at ≡ Some q → p ≡ q
   get_same xs at p q e f = some_same p q (sym e ∙ f)
 
   -- The head that was read is that of the input.
-  pub read_same : (ns : List I) (hs : List Head) (at : ℕ) (p : Peeked I) (d : Head) → slice_get (peeked_of ns hs) at ≡ Some p → at < length hs → p.head ≡ get_or hs at d
-  read_same ns hs at p d e lt = some_same p.head (get_or hs at d) (sym (peeked_head ns hs at p e) ∙ slice_get-get_or hs at d lt)
+  pub read_same : (ns : List I) (hs : List Head) (at : ℕ) (p : Peeked I) (d : Head) →
+      slice_get (peeked_of ns hs) at ≡ Some p → at < length hs → p.head ≡ get_or hs at d
+  read_same ns hs at p d e lt = some_same p.head (get_or hs at d) (sym (peeked_head ns hs at p e) ∙
+      slice_get-get_or hs at d lt)
 
   -- The inputs are those beside the heads.
-  pub inputs_are : (ns : List I) (hs : List Head) → length hs ≡ length ns → Each (λ old new. new ≡ old.input) (peeked_of ns hs) ns
+  pub inputs_are : (ns : List I) (hs : List Head) → length hs ≡ length ns →
+      Each (λ old new. new ≡ old.input) (peeked_of ns hs) ns
   inputs_are [] hs e = tt
   inputs_are (m ∷ ns) [] e = absurd (zero_suc (length ns) e)
     where
@@ -78,5 +93,7 @@ module _ {I : Type 0} where
       same n k e = omega arith
 
 -- A vector whose slice was written has what was written.
-pub written : {A : Type 0} (new old : List A) (len : ℕ) → length new ≡ len → take len (new ++ drop (length new) old) ≡ new
-written new old len e = subst (λ k. take k (new ++ drop (length new) old) ≡ new) e (take-append_seam new (drop (length new) old))
+pub written : {A : Type 0} (new old : List A) (len : ℕ) → length new ≡ len →
+    take len (new ++ drop (length new) old) ≡ new
+written new old len e = subst (λ k. take k (new ++ drop (length new) old) ≡ new) e
+    (take-append_seam new (drop (length new) old))

@@ -1,5 +1,6 @@
 -- Which of many inputs is next.
-use Rattle.std.specs.Prelude.{◌≡◌, ℕ, zero, suc, Bool, true, false, List, [], ◌∷◌, Option, Some, None}
+use Rattle.std.specs.Prelude.{◌≡◌, ℕ, zero, suc, Bool, true, false, List, [], ◌∷◌, Option, Some}
+use Rattle.std.specs.Prelude.{None}
 use Rattle.std.specs.List.{AllByRecursion}
 use Rattle.prolly_entry.specs.Record.{Record}
 use Rattle.prolly_link.specs.declared.end.End.TheVariants.{Clean}
@@ -34,7 +35,8 @@ IsFirstUnless false at hs r = IsFirst at hs r
 -- The last head of the least key; none where all heads are clean ends.
 abbrev pub IsLeast : List Head → Option Least → Type 0
 IsLeast hs None = AllByRecursion (λ h. h ≡ Ended Clean) hs
-IsLeast hs (Some least) = (r : Record) × IsChosen least.at hs r × IsFirstUnless least.is_shared least.at hs r
+IsLeast hs (Some least) = (r : Record) × IsChosen least.at hs r ×
+    IsFirstUnless least.is_shared least.at hs r
 
 -- The choice is the last head of the least key; or the merger stops.
 abbrev pub IsChoice : List Head → Choice → Type 0

@@ -9,7 +9,8 @@ Each R (x ∷ xs) [] = ⊥
 Each R (x ∷ xs) (y ∷ ys) = R x y × Each R xs ys
 
 -- The first relation holds at the first places, of this number, and the other one behind them.
-abbrev pub EachUpto : {A B : Type 0} → (A → B → Type 0) → (A → B → Type 0) → ℕ → List A → List B → Type 0
+abbrev pub EachUpto : {A B : Type 0} → (A → B → Type 0) → (A → B → Type 0) → ℕ → List A → List B →
+    Type 0
 EachUpto R S zero xs ys = Each S xs ys
 EachUpto R S (suc k) [] ys = ⊥
 EachUpto R S (suc k) (x ∷ xs) [] = ⊥

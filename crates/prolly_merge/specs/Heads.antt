@@ -56,4 +56,5 @@ IsFaultIn (Ended (Fault f) ∷ heads) end = end ≡ Fault f
 
 -- A merger stops with the first fault among the heads, or where all of them are clean ends.
 abbrev pub Stops : List Head → End → Type 0
-Stops heads end = IsFaultIn heads end ⊎ ((end ≡ Clean) × AllByRecursion (λ h. h ≡ Ended Clean) heads)
+Stops heads end = IsFaultIn heads end ⊎ ((end ≡ Clean) ×
+    AllByRecursion (λ h. h ≡ Ended Clean) heads)

@@ -31,13 +31,16 @@ abbrev pub stop_end : List (Input RunFault) → End
 stop_end inputs = end_of (stop_fault (stop inputs))
 
 -- The new value is the same end of the same link, and it has given its end.
-pub record Ends {I : Type 0} (link : I → LinkId) (progress : I → Progress) (Follows : I → I → Type 0) (old new : I) : Type 0 where
+pub record Ends {I : Type 0} (link : I → LinkId) (progress : I → Progress) (Follows : I → I →
+    Type 0) (old new : I) : Type 0 where
   pub link_is : link new ≡ link old
   pub follows : Follows old new
   pub ended : HasEnded (progress new)
 
 -- What inputs gave from the old values to the new ones, and their ends.
-abbrev pub inputs_of : {I : Type 0} → (I → Progress) → (I → I → List Record) → List I → List I → List (Input RunFault)
+abbrev pub inputs_of : {I : Type 0} → (I → Progress) → (I → I → List Record) → List I → List I →
+    List (Input RunFault)
 inputs_of progress received [] ns = []
 inputs_of progress received (o ∷ os) [] = []
-inputs_of progress received (o ∷ os) (n ∷ ns) = input_of (received o n) (end_given (progress n)) ∷ inputs_of progress received os ns
+inputs_of progress received (o ∷ os) (n ∷ ns) =
+    input_of (received o n) (end_given (progress n)) ∷ inputs_of progress received os ns

@@ -36,7 +36,10 @@ module _ {I : Type 0} (link : I → LinkId) (progress : I → Progress) (Follows
 module _ {I : Type 0} (received : I → I → List Record) where
   -- The place of an input, counted from its old head on.
   abbrev pub place_after : Peeked I → Peeked I → Place
-  place_after old new = record { received = in_hand old.head ++ received old.input new.input; head = new.head }
+  place_after old new = record {
+    received = in_hand old.head ++ received old.input new.input;
+    head = new.head;
+  }
 
   -- The places of inputs.
   abbrev pub places_after : List (Peeked I) → List (Peeked I) → List Place
@@ -44,7 +47,8 @@ module _ {I : Type 0} (received : I → I → List Record) where
   places_after (o ∷ os) [] = []
   places_after (o ∷ os) (n ∷ ns) = place_after o n ∷ places_after os ns
 
-module _ {I : Type 0} (link : I → LinkId) (progress : I → Progress) (Follows : I → I → Type 0) (received : I → I → List Record) where
+module _ {I : Type 0} (link : I → LinkId) (progress : I → Progress) (Follows : I → I → Type 0)
+    (received : I → I → List Record) where
   -- The input was received for the first time, and what it gave is its head.
   pub record Opens (old : I) (new : Peeked I) : Type 0 where
     pub link_is : link new.input ≡ link old

@@ -11,7 +11,8 @@ use Rattle.prolly_merge.specs.Inputs.{lists_of}
 use Rattle.prolly_merge.specs.Heads.{in_hand, Fits, Stops}
 use Rattle.prolly_merge.specs.declared.head.Head.{Head}
 
--- The place of an input: the records that were received of it, the last of which may still be in hand, and its head.
+-- The place of an input: the records that were received of it, the last of which may still be in
+-- hand, and its head.
 pub record Place : Type 0 where
   pub received : List Record
   pub head : Head
@@ -43,20 +44,23 @@ lefts [] fs = []
 lefts (p ∷ ps) [] = []
 lefts (p ∷ ps) (f ∷ fs) = after (in_hand p.head) f ∷ lefts ps fs
 
--- The merged part of the whole is the records and then the merged part of what is left, and the fault that is named is that
--- of what is left.
-pub record Continues (whole : List (Input RunFault)) (records : List Record) (left : List (Input RunFault)) : Type 0 where
+-- The merged part of the whole is the records and then the merged part of what is left, and the
+-- fault that is named is that of what is left.
+pub record Continues (whole : List (Input RunFault)) (records : List Record)
+    (left : List (Input RunFault)) : Type 0 where
   pub merged : raw_merged_part whole ≡ records ++ raw_merged_part left
   pub fault : stop_fault (stop whole) ≡ stop_fault (stop left)
   pub rising : AllRising (lists_of left)
 
--- Whatever the inputs may still give, as long as they rise: the records come first in what is to be sent.
+-- Whatever the inputs may still give, as long as they rise: the records come first in what is to be
+-- sent.
 abbrev pub ComeFirst : List Place → List Record → Type 0
-ComeFirst places records = (fs : List (Input RunFault)) → AllFit places fs → AllRising (lists_of (wholes places fs)) →
+ComeFirst places records = (fs : List (Input RunFault)) → AllFit places fs →
+    AllRising (lists_of (wholes places fs)) →
     Continues (wholes places fs) records (lefts places fs)
 
--- A merger halts with an end: the records were all that is to be sent, and the heads say so; or memory was refused, and other
--- records come behind them.
+-- A merger halts with an end: the records were all that is to be sent, and the heads say so; or
+-- memory was refused, and other records come behind them.
 abbrev pub Halts : List Place → List Record → End → Type 0
 Halts places records end =
     (ComeFirst places records × Stops (heads_of places) end)

@@ -5,7 +5,8 @@ use Rattle.prolly_fault.specs.Ends.{End}
 use Rattle.prolly_link.specs.declared.end.End.TheVariants.{Fault}
 use Rattle.prolly_fault.specs.declared.fault.RunFault.TheVariants.{Memory}
 
--- After `before`, all of the items were sent, and then the end; or memory was refused, and a prefix of them was sent.
+-- After `before`, all of the items were sent, and then the end; or memory was refused, and a prefix
+-- of them was sent.
 abbrev pub Sends : {T : Type 0} → List T → List T → End → List T → End → Type 0
 Sends {T} before items end all_sent end_sent =
     ((all_sent ≡ before ++ items) × (end_sent ≡ end))
@@ -13,4 +14,5 @@ Sends {T} before items end all_sent end_sent =
 
 -- So many items were sent after `before`, or more than the greatest number that a count has.
 abbrev pub Counts : {T : Type 0} → List T → List T → ℕ → Type 0
-Counts {T} before all_sent count = (xs : List T) × (all_sent ≡ before ++ xs) × (count ≡ min (length xs) 0xFFFF_FFFF_FFFF_FFFF)
+Counts {T} before all_sent count = (xs : List T) × (all_sent ≡ before ++ xs) ×
+    (count ≡ min (length xs) 0xFFFF_FFFF_FFFF_FFFF)

@@ -17,16 +17,21 @@ use Rattle.prolly_merge.specs.declared.step.Step.TheVariants.{Send, Stop}
 abbrev pub hands_of : List Head → List (List Record)
 hands_of heads = map in_hand heads
 
-module _ {I : Type 0} (link : I → LinkId) (progress : I → Progress) (Follows : I → I → Type 0) (received : I → I → List Record) where
-  -- Where the record of a key is sent, an input that has the key gives its next head, and any other one stays.
+module _ {I : Type 0} (link : I → LinkId) (progress : I → Progress) (Follows : I → I → Type 0)
+    (received : I → I → List Record) where
+  -- Where the record of a key is sent, an input that has the key gives its next head, and any other
+  -- one stays.
   pub record MovesOn (key : List ℕ) (old new : Peeked I) : Type 0 where
     pub link_is : link new.input ≡ link old.input
     pub follows : Follows old.input new.input
     pub held : IsHeld old.head (progress old.input) → IsHeld new.head (progress new.input)
     pub moves : Moves key old.head (received old.input new.input) new.head
 
-  -- The last record of the least key among the heads is sent, and the inputs that have the key move on; or the merger stops.
+  -- The last record of the least key among the heads is sent, and the inputs that have the key move
+  -- on; or the merger stops.
   abbrev pub IsStep : List (Peeked I) → Step → List (Peeked I) → Type 0
   IsStep os (Send r) ns =
-      AllByRecursion (Allows r.key) (heads_in os) × (last_change_of (hands_of (heads_in os)) r.key ≡ Some r.value) × Each (MovesOn r.key) os ns
+      AllByRecursion (Allows r.key) (heads_in os) ×
+      (last_change_of (hands_of (heads_in os)) r.key ≡ Some r.value) ×
+      Each (MovesOn r.key) os ns
   IsStep os (Stop end) ns = Stops (heads_in os) end × (ns ≡ os)

@@ -17,7 +17,8 @@ one_more n = min (n + 1) 0xFFFF_FFFF_FFFF_FFFF
 -- What comes of sending an item through a gate: what comes of sending it to the output alone; the
 -- gate had opened for its number, which the next one follows, and nothing else changed. `link` and
 -- `sent` are what an output says of itself, `opened` is what a gate says of an item.
-pub record SendsThrough {T G O : Type 0} (link : O → LinkId) (sent : O → List T) (opened : G → Worker → ℕ → Type 0)
+pub record SendsThrough {T G O : Type 0} (link : O → LinkId) (sent : O → List T) (opened : G →
+    Worker → ℕ → Type 0)
     (old new : GatedOutput G O) (item : T) (result : Result Unit T) : Type 0 where
   pub link_is : link new.out ≡ link old.out
   pub ok : OnOk result (sent new.out ≡ sent old.out ++ item ∷ [])

@@ -1,5 +1,6 @@
 //! One line of text, and the record that it stands for.
-ghost use Rattle.std.specs.Prelude.{◌≡◌, ◌≢◌, ◌<◌, ◌≤◌, ◌∷◌, ◌++◌, [], ℕ, List, All, length, take, Some, None, Ok, slice_get, IfOk, IfErr, IfSome, IfNone, Option};
+ghost use Rattle.std.specs.Prelude.{◌≡◌, ◌≢◌, ◌<◌, ◌≤◌, ◌∷◌, ◌++◌, [], ℕ, List, All, length, take};
+ghost use Rattle.std.specs.Prelude.{Some, None, Ok, slice_get, IfOk, IfErr, IfSome, IfNone, Option};
 ghost use Rattle.hex.specs.Hex.{decode_of};
 ghost use Rattle.prolly_tool.specs.Lines.{lines_of, CutsAtSpace, IsBadLine};
 ghost use Rattle.prolly_tool.specs.Pack.{StandsFor, IsWrongLine, IsNoHex, flaw_of};

@@ -3,8 +3,10 @@ ghost use Rattle.std.specs.Prelude.{◌≡◌, ◌≢◌, ◌≤◌, ◌⊎◌, 
 ghost use Rattle.prolly_file.specs.Scratch.{keys_in};
 ghost use Rattle.prolly_entry.specs.Keys.{Rising};
 ghost use Rattle.prolly_tool.specs.Answers.{ShowsFault};
-ghost use Rattle.prolly_tool.specs.Outputs.{TookAll, TookPart, IfSink, OfSink, IsAnswer, IsCutShort};
-ghost use Rattle.prolly_tool.specs.Scratch.{HoldsPairs, MakesFile, Scratches, IsRecordsFault, IsScratchFault, run_fault};
+ghost use Rattle.prolly_tool.specs.Outputs.{TookAll, TookPart, IfSink, OfSink, IsAnswer};
+ghost use Rattle.prolly_tool.specs.Outputs.{IsCutShort};
+ghost use Rattle.prolly_tool.specs.Scratch.{HoldsPairs, MakesFile, Scratches, IsRecordsFault};
+ghost use Rattle.prolly_tool.specs.Scratch.{IsScratchFault, run_fault};
 
 use crate::answer::Answer;
 use crate::fault::Fault;

@@ -1,5 +1,6 @@
 -- The chunks of a tree, in the order in which a file has them. (This project's format.)
-use Rattle.std.specs.Prelude.{◌≡◌, ℕ, zero, suc, ◌+◌, ◌*◌, ◌≤◌, Bool, ◌&&◌, List, [], ◌∷◌, ◌++◌, length, map, if◌then◌else◌, ◌⊎◌}
+use Rattle.std.specs.Prelude.{◌≡◌, ℕ, zero, suc, ◌+◌, ◌*◌, ◌≤◌, Bool, ◌&&◌, List, [], ◌∷◌, ◌++◌}
+use Rattle.std.specs.Prelude.{length, map, if◌then◌else◌, ◌⊎◌}
 use Rattle.std.specs.List.{flat_map, list_all, AllByRecursion}
 use Rattle.prolly_entry.specs.declared.version.Version.{Version}
 use Rattle.prolly_entry.specs.Keys.{Rising}
@@ -7,7 +8,8 @@ use Rattle.prolly_entry.specs.Pair.{Pair, IsPair}
 use Rattle.prolly_entry.specs.Reference.{reference_of}
 use Rattle.prolly_entry.specs.Cut.{Cut}
 use Rattle.prolly_tree.specs.Split.{is_closed}
-use Rattle.prolly_tree.specs.Tree.{Tree, greatest_key, pair_count, bytes_of, pair_is_boundary, child_is_boundary, tree_of}
+use Rattle.prolly_tree.specs.Tree.{Tree, greatest_key, pair_count, bytes_of, pair_is_boundary}
+use Rattle.prolly_tree.specs.Tree.{child_is_boundary, tree_of}
 
 -- A chunk: its level, its greatest key, the number of pairs below it, its bytes. Its reference is
 -- that of its bytes.
@@ -37,7 +39,8 @@ post_order version (suc level) children =
 abbrev pub is_closed_tree : Cut → Version → (level : ℕ) → Tree level → Bool
 is_closed_tree cut version zero leaf = is_closed (pair_is_boundary cut) 1 leaf
 is_closed_tree cut version (suc level) children =
-    is_closed (child_is_boundary cut version level) 2 children && list_all (is_closed_tree cut version level) children
+    is_closed (child_is_boundary cut version level) 2 children && list_all
+    (is_closed_tree cut version level) children
 
 -- The closed chunks of the post-order, in that order.
 abbrev pub closed_post_order : Cut → Version → (level : ℕ) → Tree level → List Chunk
@@ -45,7 +48,8 @@ closed_post_order cut version zero leaf =
     if is_closed_tree cut version 0 leaf then chunk_of version 0 leaf ∷ [] else []
 closed_post_order cut version (suc level) children =
     flat_map (closed_post_order cut version level) children
-    ++ (if is_closed_tree cut version (suc level) children then chunk_of version (suc level) children ∷ [] else [])
+    ++ (if is_closed_tree cut version (suc level) children then chunk_of version (suc level)
+    children ∷ [] else [])
 
 -- The chunks of a map's tree.
 abbrev pub chunks : Cut → Version → List Pair → List Chunk
@@ -53,7 +57,8 @@ chunks cut version m = post_order version (tree_of cut version m).level (tree_of
 
 -- Those of them that are closed.
 abbrev pub begun_chunks : Cut → Version → List Pair → List Chunk
-begun_chunks cut version m = closed_post_order cut version (tree_of cut version m).level (tree_of cut version m).tree
+begun_chunks cut version m = closed_post_order cut version (tree_of cut version m).level
+    (tree_of cut version m).tree
 
 -- Law: the tree of n pairs has at most 3 n + 1 chunks.
 abbrev pub FewChunks : Cut → Version → Type 0
@@ -65,7 +70,8 @@ AllDiffer [] = Unit {0}
 AllDiffer (c ∷ cs) = AllByRecursion (λ d. c.bytes ≡ d.bytes → ⊥) cs × AllDiffer cs
 
 abbrev pub ChunksDiffer : Cut → Version → Type 0
-ChunksDiffer cut version = (m : List Pair) → AllByRecursion IsPair m → Rising (map (λ p. p.key) m) → AllDiffer (chunks cut version m)
+ChunksDiffer cut version = (m : List Pair) → AllByRecursion IsPair m → Rising (map (λ p. p.key) m) →
+    AllDiffer (chunks cut version m)
 
 -- The list has the element.
 abbrev pub IsIn : {A : Type 0} → A → List A → Type 0

@@ -9,7 +9,8 @@ use Rattle.prolly_entry.specs.Record.{Record}
 -- What was sent of an input: the whole of it, or its first records, and then the fault of a worker
 -- that was refused.
 abbrev pub IsSentOf : {Fault : Type 0} → Fault → Input Fault → Input Fault → Type 0
-IsSentOf refused input sent = (sent ≡ input) ⊎ ((sent.fault ≡ Some refused) × IsPrefix sent.records input.records)
+IsSentOf refused input sent = (sent ≡ input) ⊎
+    ((sent.fault ≡ Some refused) × IsPrefix sent.records input.records)
 
 -- So it is of each input, in its place.
 abbrev pub AreSentOf : {Fault : Type 0} → Fault → List (Input Fault) → List (Input Fault) → Type 0
@@ -20,7 +21,8 @@ AreSentOf refused _ _ = ⊥
 -- Law: where the stop of what was sent names another fault, it is the stop of the inputs, and the
 -- merged part is theirs.
 abbrev pub CutBehindStop : Type 0 → Type 0
-CutBehindStop Fault = (refused : Fault) (inputs sent : List (Input Fault)) (s : Stop Fault) → AllRising (map (λ i. i.records) inputs) →
+CutBehindStop Fault = (refused : Fault) (inputs sent : List (Input Fault)) (s : Stop Fault) →
+    AllRising (map (λ i. i.records) inputs) →
     AreSentOf refused inputs sent → stop sent ≡ Some s → s.fault ≢ refused →
     (stop inputs ≡ Some s) × (raw_merged_part inputs ≡ raw_merged_part sent)
 
@@ -39,5 +41,9 @@ AreFrontsOf _ _ = ⊥
 
 -- Law: what was sent of lists is merged to what may be sent of their raw overlay.
 abbrev pub FrontsMergeToFront : Type 0 → Type 0
-FrontsMergeToFront Fault = (lists : List (List Record)) (sent : List (Input Fault)) → AllRising lists → AreFrontsOf lists sent →
-    IsFrontOf (raw_overlay lists) (record { records = raw_merged_part sent; fault = stop_fault (stop sent) })
+FrontsMergeToFront Fault = (lists : List (List Record)) (sent : List (Input Fault)) →
+    AllRising lists → AreFrontsOf lists sent →
+    IsFrontOf (raw_overlay lists) (record {
+      records = raw_merged_part sent;
+      fault = stop_fault (stop sent);
+    })

@@ -28,11 +28,13 @@ puts m = map (λ p. record { key = p.key; value = Some p.value }) m
 
 -- Law: two maps have at most one difference.
 abbrev pub OneDifference : Type 0
-OneDifference = (old new : List Pair) (d e : List Record) → IsDifference old new d → IsDifference old new e → d ≡ e
+OneDifference = (old new : List Pair) (d e : List Record) → IsDifference old new d →
+    IsDifference old new e → d ≡ e
 
 -- Law: the overlay of a map and its difference to another is the other.
 abbrev pub DifferenceTurns : Type 0
-DifferenceTurns = (old new : List Pair) (d : List Record) → IsMap old → IsMap new → IsDifference old new d →
+DifferenceTurns = (old new : List Pair) (d : List Record) → IsMap old → IsMap new →
+    IsDifference old new d →
     overlay (puts old ∷ d ∷ []) ≡ new
 
 -- Law: maps are equal exactly where their difference is empty.

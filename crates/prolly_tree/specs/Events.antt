@@ -1,6 +1,7 @@
 -- What the stages of a pipeline send, as a function of all that they received. An event is a chunk.
 -- (This project's rules.)
-use Rattle.std.specs.Prelude.{◌≡◌, ℕ, zero, suc, ◌+◌, Bool, true, false, ◌==◌, nat_le, ◌&&◌, min, List, [], ◌∷◌, ◌++◌, length, map, if◌then◌else◌}
+use Rattle.std.specs.Prelude.{◌≡◌, ℕ, zero, suc, ◌+◌, Bool, true, false, ◌==◌, nat_le, ◌&&◌, min}
+use Rattle.std.specs.Prelude.{List, [], ◌∷◌, ◌++◌, length, map, if◌then◌else◌}
 use Rattle.std.specs.List.{flat_map, filter}
 use Rattle.prolly_entry.specs.declared.version.Version.{Version}
 use Rattle.prolly_entry.specs.Prefix.{IsPrefix}
@@ -20,7 +21,8 @@ pub data Closing : Type 0 where
 -- each closed group.
 abbrev pub leaf_events : Cut → Version → Closing → List Pair → List Chunk
 leaf_events cut version clean pairs = map (chunk_of version 0) (leaves cut pairs)
-leaf_events cut version faulty pairs = map (chunk_of version 0) (closed_groups (pair_is_boundary cut) 1 pairs)
+leaf_events cut version faulty pairs = map (chunk_of version 0)
+    (closed_groups (pair_is_boundary cut) 1 pairs)
 
 -- The child entry that an event stands for.
 abbrev pub event_entry : Version → Chunk → List ℕ
@@ -75,11 +77,13 @@ events_beyond level (suc n) (e ∷ es) = elim (has_level level e) [
 -- The events, where after the event of the last entry of each group the event of that group is put
 -- in. The entries are the events of one level, and the groups follow one another from the first
 -- entry on.
-abbrev pub with_group_events : ℕ → (List Chunk → Chunk) → List (List Chunk) → List Chunk → List Chunk
+abbrev pub with_group_events : ℕ → (List Chunk → Chunk) → List (List Chunk) → List Chunk →
+    List Chunk
 with_group_events level event_of [] events = events
 with_group_events level event_of (group ∷ groups) events =
     events_through level (length group) events
-    ++ event_of group ∷ with_group_events level event_of groups (events_beyond level (length group) events)
+    ++ event_of group ∷ with_group_events level event_of groups
+    (events_beyond level (length group) events)
 
 -- What a stage sends at its input's end of the group that is not closed: at a clean end, where it
 -- has received two entries or more, the group's event.
@@ -89,7 +93,8 @@ events_at_end clean event_of entries groups = if nat_le 2 entries then map event
 
 -- What a stage sends of events, where the events of level `below` are its entries, a test says
 -- which of them are boundaries, and a function what the event of a group is.
-abbrev pub stage_events : (Chunk → Bool) → (List Chunk → Chunk) → ℕ → Closing → List Chunk → List Chunk
+abbrev pub stage_events : (Chunk → Bool) → (List Chunk → Chunk) → ℕ → Closing → List Chunk →
+    List Chunk
 stage_events is_boundary event_of below closing events =
     let entries = filter (has_level below) events in
     with_group_events below event_of (closed_groups is_boundary 2 entries) events
@@ -98,7 +103,8 @@ stage_events is_boundary event_of below closing events =
 -- What the stage above level `below` sends.
 abbrev pub events_above : ℕ → Cut → Version → Closing → List Chunk → List Chunk
 events_above below cut version closing events =
-    stage_events (event_is_boundary cut version) (group_event version (suc below)) below closing events
+    stage_events (event_is_boundary cut version) (group_event version (suc below)) below closing
+    events
 
 -- What the inner stage of a level, 1 or more, sends.
 abbrev pub inner_events : ℕ → Cut → Version → Closing → List Chunk → List Chunk
@@ -110,9 +116,11 @@ inner_events (suc below) cut version closing events = events_above below cut ver
 abbrev pub FaultSendsPrefix : Cut → Version → Type 0
 FaultSendsPrefix cut version =
     ((closing : Closing) (prefix more : List Pair) →
-    IsPrefix (leaf_events cut version faulty prefix) (leaf_events cut version closing (prefix ++ more)))
+    IsPrefix (leaf_events cut version faulty prefix)
+    (leaf_events cut version closing (prefix ++ more)))
     × ((closing : Closing) (level : ℕ) (prefix more : List Chunk) →
-    IsPrefix (inner_events level cut version faulty prefix) (inner_events level cut version closing (prefix ++ more)))
+    IsPrefix (inner_events level cut version faulty prefix)
+    (inner_events level cut version closing (prefix ++ more)))
 
 -- Law: what one more event adds to what a stage has sent, and what a clean end adds.
 abbrev pub StageStep : (Chunk → Bool) → (List Chunk → Chunk) → ℕ → List Chunk → Chunk → Type 0
@@ -123,4 +131,5 @@ StageStep is_boundary event_of below events e =
     ++ e ∷ (if has_level below e && is_closed is_boundary 2 group then event_of group ∷ [] else []))
     × (stage_events is_boundary event_of below clean events
     ≡ stage_events is_boundary event_of below faulty events
-    ++ events_at_end clean event_of (length (filter (has_level below) events)) (open_groups is_boundary 2 (filter (has_level below) events)))
+    ++ events_at_end clean event_of (length (filter (has_level below) events))
+    (open_groups is_boundary 2 (filter (has_level below) events)))

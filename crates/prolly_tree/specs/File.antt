@@ -26,7 +26,8 @@ end_record root count = 0x45 ∷ root ++ to_be_bytes w64 count
 
 -- The reference of a map's root: that of its tree's top.
 abbrev pub root_reference : Cut → Version → List Pair → List ℕ
-root_reference cut version m = reference_of (bytes_of version (tree_of cut version m).level (tree_of cut version m).tree)
+root_reference cut version m = reference_of (bytes_of version (tree_of cut version m).level
+    (tree_of cut version m).tree)
 
 -- The file of a map: the header, a frame for each chunk in post-order, the end record.
 abbrev pub file : Cut → Version → List Pair → List ℕ
@@ -39,14 +40,19 @@ begun_file cut version m = header version cut.bits ++ flat_map frame (begun_chun
 
 -- Law: what a prefix of a map has begun is a prefix of the map's file.
 abbrev pub BegunIsPrefix : Cut → Version → Type 0
-BegunIsPrefix cut version = (prefix m : List Pair) → IsPrefix prefix m → IsPrefix (begun_file cut version prefix) (file cut version m)
+BegunIsPrefix cut version = (prefix m : List Pair) → IsPrefix prefix m →
+    IsPrefix (begun_file cut version prefix) (file cut version m)
 
 -- Law: a file decides its version, its bits and its map.
 abbrev pub FileDecidesMap : Type 0
-FileDecidesMap = (v w : Version) (c d : Cut) (m m' : List Pair) → AllByRecursion IsPair m → AllByRecursion IsPair m' →
-    length m < 2 ^ 40 → length m' < 2 ^ 40 → file c v m ≡ file d w m' → (v ≡ w) × (c.bits ≡ d.bits) × (m ≡ m')
+FileDecidesMap = (v w : Version) (c d : Cut) (m m' : List Pair) → AllByRecursion IsPair m →
+    AllByRecursion IsPair m' →
+    length m < 2 ^ 40 → length m' < 2 ^ 40 → file c v m ≡ file d w m' →
+    (v ≡ w) × (c.bits ≡ d.bits) × (m ≡ m')
 
 -- Law: maps with one root are the same, or their chunks show a collision.
 abbrev pub RootsTellMaps : Version → Type 0
-RootsTellMaps version = (c d : Cut) (m m' : List Pair) → AllByRecursion IsPair m → AllByRecursion IsPair m' →
-    root_reference c version m ≡ root_reference d version m' → (m ≡ m') ⊎ Collision (chunks c version m) (chunks d version m')
+RootsTellMaps version = (c d : Cut) (m m' : List Pair) → AllByRecursion IsPair m →
+    AllByRecursion IsPair m' →
+    root_reference c version m ≡ root_reference d version m' →
+    (m ≡ m') ⊎ Collision (chunks c version m) (chunks d version m')

@@ -1,5 +1,6 @@
 -- Look-ups in a map, a list of pairs with rising keys.
-use Rattle.std.specs.Prelude.{ℕ, not, List, [], ◌∷◌, take, slice_get, Option, Some, None, if◌then◌else◌}
+use Rattle.std.specs.Prelude.{ℕ, not, List, [], ◌∷◌, take, slice_get, Option, Some, None}
+use Rattle.std.specs.Prelude.{if◌then◌else◌}
 use Rattle.std.specs.Ordering.{is_lt, is_eq}
 use Rattle.std.specs.List.{filter}
 use Rattle.prolly_entry.specs.Keys.{key_order}

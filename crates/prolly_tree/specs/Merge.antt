@@ -1,6 +1,7 @@
 -- Merging inputs of which some end with a fault: which fault is named, and which records come
 -- before it. (This project's rules.)
-use Rattle.std.specs.Prelude.{◌≡◌, ℕ, Bool, true, not, List, [], ◌∷◌, ◌++◌, map, Option, Some, None, if◌then◌else◌}
+use Rattle.std.specs.Prelude.{◌≡◌, ℕ, Bool, true, not, List, [], ◌∷◌, ◌++◌, map, Option, Some, None}
+use Rattle.std.specs.Prelude.{if◌then◌else◌}
 use Rattle.std.specs.List.{filter}
 use Rattle.prolly_entry.specs.Pair.{Pair}
 use Rattle.prolly_entry.specs.Record.{Record}
@@ -22,7 +23,8 @@ stop_at position None = None
 stop_at position (Some fault) = Some (record { position = position; fault = fault })
 
 -- The one of less position, the first one among equals.
-abbrev pub earlier_stop : {Fault : Type 0} → Option (Stop Fault) → Option (Stop Fault) → Option (Stop Fault)
+abbrev pub earlier_stop : {Fault : Type 0} → Option (Stop Fault) → Option (Stop Fault) →
+    Option (Stop Fault)
 earlier_stop None t = t
 earlier_stop (Some s) None = Some s
 earlier_stop (Some s) (Some t) = if is_before t.position s.position then Some t else Some s
@@ -45,7 +47,8 @@ is_within (Some s) key = not (is_before s.position (Some key))
 
 -- The raw merged part: the raw overlay of the inputs, up to and with the stop's position.
 abbrev pub raw_merged_part : {Fault : Type 0} → List (Input Fault) → List Record
-raw_merged_part inputs = filter (λ r. is_within (stop inputs) r.key) (raw_overlay (map (λ i. i.records) inputs))
+raw_merged_part inputs = filter (λ r. is_within (stop inputs) r.key)
+    (raw_overlay (map (λ i. i.records) inputs))
 
 -- The merged part: the pairs that it puts.
 abbrev pub merged_part : {Fault : Type 0} → List (Input Fault) → List Pair
@@ -53,7 +56,10 @@ merged_part inputs = pairs_put (raw_merged_part inputs)
 
 -- Two inputs as one: their raw merged part, with the fault that their stop names.
 abbrev pub joined_input : {Fault : Type 0} → Input Fault → Input Fault → Input Fault
-joined_input a b = record { records = raw_merged_part (a ∷ b ∷ []); fault = stop_fault (stop (a ∷ b ∷ [])) }
+joined_input a b = record {
+  records = raw_merged_part (a ∷ b ∷ []);
+  fault = stop_fault (stop (a ∷ b ∷ []));
+}
 
 -- Law: two neighbours may be merged first. The same fault is named at the same position, and the
 -- merged part is the same.
@@ -61,4 +67,5 @@ abbrev pub NeighboursMergeFirst : Type 0 → Type 0
 NeighboursMergeFirst Fault = (before after : List (Input Fault)) (a b : Input Fault) →
     AllRising (map (λ i. i.records) (before ++ a ∷ b ∷ after)) →
     (stop (before ++ a ∷ b ∷ after) ≡ stop (before ++ joined_input a b ∷ after))
-    × (raw_merged_part (before ++ a ∷ b ∷ after) ≡ raw_merged_part (before ++ joined_input a b ∷ after))
+    × (raw_merged_part (before ++ a ∷ b ∷ after) ≡
+    raw_merged_part (before ++ joined_input a b ∷ after))

@@ -12,4 +12,5 @@ MergedPartRises Fault = (inputs : List (Input Fault)) → Rising (keys_of (raw_m
 
 -- Law: an overlay has at most as many pairs as the lists have records.
 abbrev pub OverlayIsSmall : Type 0
-OverlayIsSmall = (lists : List (List Record)) → length (overlay lists) ≤ length (flat_map (λ records. records) lists)
+OverlayIsSmall = (lists : List (List Record)) →
+    length (overlay lists) ≤ length (flat_map (λ records. records) lists)

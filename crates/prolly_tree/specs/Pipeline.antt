@@ -1,5 +1,6 @@
 -- The stages of a pipeline one behind another, and what its writer takes. (This project's rules.)
-use Rattle.std.specs.Prelude.{◌≡◌, ℕ, zero, suc, ◌<◌, ◌≤◌, ◌↔◌, List, [], ◌∷◌, ◌++◌, length, if◌then◌else◌}
+use Rattle.std.specs.Prelude.{◌≡◌, ℕ, zero, suc, ◌<◌, ◌≤◌, ◌↔◌, List, [], ◌∷◌, ◌++◌, length}
+use Rattle.std.specs.Prelude.{if◌then◌else◌}
 use Rattle.std.specs.List.{filter}
 use Rattle.prolly_entry.specs.declared.version.Version.{Version}
 use Rattle.prolly_entry.specs.Prefix.{IsPrefix}
@@ -13,7 +14,8 @@ use Rattle.prolly_tree.specs.Events.{Closing, clean, faulty, leaf_events, inner_
 -- stage what the one before it sent.
 abbrev pub pipeline_events : ℕ → Cut → Version → Closing → List Pair → List Chunk
 pipeline_events zero cut version closing pairs = leaf_events cut version closing pairs
-pipeline_events (suc n) cut version closing pairs = inner_events (suc n) cut version closing (pipeline_events n cut version closing pairs)
+pipeline_events (suc n) cut version closing pairs =
+    inner_events (suc n) cut version closing (pipeline_events n cut version closing pairs)
 
 -- The chunks up to, and without, the first of a level; and the second.
 abbrev pub before_first : ℕ → List Chunk → List Chunk
@@ -22,7 +24,8 @@ before_first level (e ∷ es) = if has_level level e then [] else e ∷ before_f
 
 abbrev pub before_second : ℕ → List Chunk → List Chunk
 before_second level [] = []
-before_second level (e ∷ es) = e ∷ (if has_level level e then before_first level es else before_second level es)
+before_second level (e ∷ es) = e ∷ (if has_level level e then before_first level es else
+    before_second level es)
 
 -- What a writer behind `stages` stages takes: the chunks up to, and without, the second one of the
 -- last stage's level.
@@ -39,9 +42,11 @@ HasSecond level events = 2 ≤ length (filter (has_level level) events)
 -- sends a second event of its level exactly where the tree has more levels than there are stages.
 abbrev pub StagesMakeTree : Cut → Version → List Pair → ℕ → Type 0
 StagesMakeTree cut version m n =
-    (within_stages (suc n) (pipeline_events n cut version clean m) ≡ within_stages (suc n) (chunks cut version m))
+    (within_stages (suc n) (pipeline_events n cut version clean m) ≡ within_stages (suc n)
+    (chunks cut version m))
     × (HasSecond n (pipeline_events n cut version clean m) ↔ (suc n < level_count cut version m))
-    × (within_stages (suc n) (pipeline_events n cut version faulty m) ≡ within_stages (suc n) (begun_chunks cut version m))
+    × (within_stages (suc n) (pipeline_events n cut version faulty m) ≡ within_stages (suc n)
+    (begun_chunks cut version m))
 
 -- Law: where the stages are enough, the last one sends the chunks of the tree, all of which the
 -- writer takes, and the root last.
@@ -56,4 +61,5 @@ EnoughStages cut version m n =
 -- prefix of the list.
 abbrev pub WriterTakesPrefix : Type 0
 WriterTakesPrefix = (stages : ℕ) (prefix list : List Chunk) → IsPrefix prefix list →
-    IsPrefix (within_stages stages prefix) (within_stages stages list) × IsPrefix (within_stages stages list) list
+    IsPrefix (within_stages stages prefix) (within_stages stages list) ×
+    IsPrefix (within_stages stages list) list

@@ -19,11 +19,14 @@ record_file m = flat_map pair_spelling m
 -- Law: the record file of a map is read as the records that put its pairs, and ends clean; the
 -- overlay of these alone is the map.
 abbrev pub RecordFilesAreRead : Type 0
-RecordFilesAreRead = (m : List Pair) (limit : ℕ) → IsMap m → AllByRecursion IsPair m → length m ≤ limit →
+RecordFilesAreRead = (m : List Pair) (limit : ℕ) → IsMap m → AllByRecursion IsPair m →
+    length m ≤ limit →
     IsReading (record_file m) limit (puts m) None × (overlay (puts m ∷ []) ≡ m)
 
 -- Law: what is read of it makes the map's file again, byte for byte.
 abbrev pub RecordFilesMakeFiles : Type 0
-RecordFilesMakeFiles = (cut : Cut) (version : Version) (m : List Pair) (limit : ℕ) (good : List Record) (ending : Option Flaw) →
-    IsMap m → AllByRecursion IsPair m → length m ≤ limit → IsReading (record_file m) limit good ending →
+RecordFilesMakeFiles = (cut : Cut) (version : Version) (m : List Pair) (limit : ℕ)
+    (good : List Record) (ending : Option Flaw) →
+    IsMap m → AllByRecursion IsPair m → length m ≤ limit →
+    IsReading (record_file m) limit good ending →
     (ending ≡ None) × (file cut version (overlay (good ∷ [])) ≡ file cut version m)

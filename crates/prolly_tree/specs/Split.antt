@@ -1,6 +1,7 @@
 -- How a list of entries is cut into groups. (The idea is that of the Noms documentation; `least` is
 -- this project's.) An entry may be of any type, and a test says which entries are boundaries.
-use Rattle.std.specs.Prelude.{◌≡◌, ℕ, suc, ◌+◌, ◌*◌, ◌<◌, ◌≤◌, Bool, true, false, not, ◌&&◌, nat_le, List, [], ◌∷◌, ◌++◌, length, if◌then◌else◌}
+use Rattle.std.specs.Prelude.{◌≡◌, ℕ, suc, ◌+◌, ◌*◌, ◌<◌, ◌≤◌, Bool, true, false, not, ◌&&◌, nat_le}
+use Rattle.std.specs.Prelude.{List, [], ◌∷◌, ◌++◌, length, if◌then◌else◌}
 use Rattle.std.specs.List.{flat_map, filter, AllByRecursion}
 
 -- The last entry is a boundary; a list without entries has no last one.
@@ -24,7 +25,8 @@ NoneEarlier {A} test least group = (front : List A) (x y : A) (rest : List A) �
     group ≡ front ++ x ∷ y ∷ rest → least ≤ suc (length front) → test x ≡ false
 
 -- The groups are a split of the list.
-pub record IsSplit {A : Type 0} (test : A → Bool) (least : ℕ) (list : List A) (groups : List (List A)) : Type 0 where
+pub record IsSplit {A : Type 0} (test : A → Bool) (least : ℕ) (list : List A)
+    (groups : List (List A)) : Type 0 where
   -- the groups, one after another, are the list
   pub whole : flat_map (λ group. group) groups ≡ list
   pub nonempty : AllByRecursion (λ group. 0 < length group) groups
@@ -67,7 +69,8 @@ closed_groups test least list = filter (is_closed test least) (split test least 
 
 -- The last group, where it is not closed.
 abbrev pub open_groups : {A : Type 0} → (A → Bool) → ℕ → List A → List (List A)
-open_groups test least list = filter (λ group. not (is_closed test least group)) (split test least list)
+open_groups test least list = filter (λ group. not (is_closed test least group))
+    (split test least list)
 
 -- The entries of that group.
 abbrev pub open_entries : {A : Type 0} → (A → Bool) → ℕ → List A → List A
@@ -77,5 +80,7 @@ open_entries test least list = flat_map (λ group. group) (open_groups test leas
 abbrev pub SplitStep : {A : Type 0} → (A → Bool) → ℕ → List A → A → Type 0
 SplitStep test least list x =
     let group = open_entries test least list ++ x ∷ [] in
-    (closed_groups test least (list ++ x ∷ []) ≡ closed_groups test least list ++ (if is_closed test least group then group ∷ [] else []))
-    × (open_entries test least (list ++ x ∷ []) ≡ (if is_closed test least group then [] else group))
+    (closed_groups test least (list ++ x ∷ []) ≡ closed_groups test least list ++
+    (if is_closed test least group then group ∷ [] else []))
+    × (open_entries test least (list ++ x ∷ []) ≡
+    (if is_closed test least group then [] else group))

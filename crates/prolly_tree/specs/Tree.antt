@@ -39,12 +39,14 @@ pair_count level tree = length (pairs_below level tree)
 abbrev pub bytes_of : Version → (level : ℕ) → Tree level → List ℕ
 bytes_of version zero leaf = 0 ∷ flat_map pair_spelling leaf
 bytes_of version (suc level) children = suc level ∷ flat_map (λ child. child_spelling version
-    (greatest_key level child) (reference_of (bytes_of version level child)) (pair_count level child)) children
+    (greatest_key level child) (reference_of (bytes_of version level child))
+    (pair_count level child)) children
 
 -- The entry of a child: its greatest key, the reference of its bytes, the number of pairs below it.
 abbrev pub child_entry : Version → (level : ℕ) → Tree level → List ℕ
 child_entry version level child = child_spelling version
-    (greatest_key level child) (reference_of (bytes_of version level child)) (pair_count level child)
+    (greatest_key level child) (reference_of (bytes_of version level child))
+    (pair_count level child)
 
 -- Which pairs are boundaries in a leaf, and which children in a node, by their entries.
 abbrev pub pair_is_boundary : Cut → Pair → Bool
@@ -88,7 +90,10 @@ grow cut version level trees = grow_within (length trees) cut version level tree
 -- are fewer.
 abbrev pub GrowsByNodes : Cut → Version → Type 0
 GrowsByNodes cut version =
-    ((level : ℕ) (tree : Tree level) → grow cut version level (tree ∷ []) ≡ record { level = level; tree = tree })
+    ((level : ℕ) (tree : Tree level) → grow cut version level (tree ∷ []) ≡ record {
+      level = level;
+      tree = tree;
+    })
     × ((level : ℕ) (trees : List (Tree level)) → 2 ≤ length trees →
     (grow cut version level trees ≡ grow cut version (suc level) (nodes cut version level trees))
     × (length (nodes cut version level trees) < length trees))
@@ -103,8 +108,10 @@ level_count cut version m = suc (tree_of cut version m).level
 
 -- Law: the pairs below the tree of a map are the map.
 abbrev pub KeepsPairs : Cut → Version → Type 0
-KeepsPairs cut version = (m : List Pair) → pairs_below (tree_of cut version m).level (tree_of cut version m).tree ≡ m
+KeepsPairs cut version = (m : List Pair) → pairs_below (tree_of cut version m).level
+    (tree_of cut version m).tree ≡ m
 
 -- Law: a map of at most 2 ^ k pairs has at most k + 1 levels.
 abbrev pub FewLevels : Cut → Version → Type 0
-FewLevels cut version = (m : List Pair) (k : ℕ) → length m ≤ 2 ^ k → level_count cut version m ≤ suc k
+FewLevels cut version = (m : List Pair) (k : ℕ) → length m ≤ 2 ^ k →
+    level_count cut version m ≤ suc k

@@ -1,5 +1,4 @@
 //! The mergers, over lists and over links.
-use crate::expect::expect_bytes;
 use prolly_entry::{Pair, Record};
 use prolly_fault::{ClosedList, End, ListIn, Receiver, RunFault};
 use prolly_link::{ListOut, Out, link};
@@ -117,7 +116,7 @@ fn expect_merged(
         (merged.items, merged.out.last),
         (sent.len() as u64 / 2, last)
     );
-    expect_bytes(rt, &bytes_of_records(alloc, &merged.out.items)?, sent);
+    assert!(rt; bytes_of_records(alloc, &merged.out.items)?.as_slice() == sent);
     Ok(())
 }
 
@@ -130,11 +129,9 @@ fn merges_sixteen_inputs(rt: HostRuntime) -> Result<(), Fail> {
     }
     let merged = merge(&rt, rt.alloc(), lists, ListOut::new(rt.alloc()));
     let sent = bytes_of_pairs(rt.alloc(), &merged.out.items)?;
-    expect_bytes(
-        &rt,
-        &sent,
-        b"a\x00b\x01c\x02d\x03e\x04f\x05g\x06h\x07i\x08j\x09k\x0Al\x0Bm\x0Cn\x0Do\x0Ep\x0Fz\x0F",
-    );
+    let expected: &[u8] =
+        b"a\x00b\x01c\x02d\x03e\x04f\x05g\x06h\x07i\x08j\x09k\x0Al\x0Bm\x0Cn\x0Do\x0Ep\x0Fz\x0F";
+    assert!(rt; sent.as_slice() == expected);
     assert_eq!(rt; merged.pairs, 17);
     Ok(())
 }

@@ -1,7 +1,6 @@
 //! The stages, over lists and over links.
 ghost use Rattle.std.specs.Prelude.{◌≡◌, []};
 
-use crate::expect::expect_bytes;
 use links::leaves_over_links;
 use lists::{leaves_of, two_stages};
 use prolly_entry::{KeyCut, Pair, Sha512Cut, Version};
@@ -46,7 +45,7 @@ fn expect_leaves<R: Abort + Wait>(
     let sent = leaves_of(rt, alloc, KeyCut, pairs_of(alloc, keys)?, last);
     expect_sent(rt, &sent, leaves.len(), last);
     for (event, leaf) in sent.items.iter().zip(leaves) {
-        expect_bytes(rt, event.bytes(), leaf);
+        assert!(rt; event.bytes() == *leaf);
     }
     Ok(())
 }
@@ -157,7 +156,7 @@ fn receive_leaves<R: Abort + Wait>(
         let Next::Item(event) = input.recv(rt) else {
             return Err("no event".into());
         };
-        expect_bytes(rt, event.bytes(), leaf);
+        assert!(rt; event.bytes() == *leaf);
     }
     Ok(())
 }

@@ -12,7 +12,8 @@ ghost use Rattle.prolly_link.specs.declared.end.End.TheVariants.{Clean, Fault};
 ghost use Rattle.prolly_fault.specs.declared.fault.RunFault.TheVariants.{Memory, Write};
 ghost use Rattle.prolly_build.specs.Settings.{AreLawful};
 ghost use Rattle.prolly_build.specs.Writing.{HasWritten, frames_of};
-ghost use Rattle.prolly_build.specs.Built.{IsBegun, IsRunOf, IsFileOf, IsUnmadeOf, IsInputEnd, IsStartFault, IsWriterFault};
+ghost use Rattle.prolly_build.specs.Built.{IsBegun, IsRunOf, IsFileOf, IsUnmadeOf, IsInputEnd};
+ghost use Rattle.prolly_build.specs.Built.{IsStartFault, IsWriterFault};
 ghost use Rattle.prolly_build.specs.Stopped.{IsFileFault, TookBegun};
 
 use crate::config::Config;

@@ -1,6 +1,7 @@
 //! The lists of the recursion: the front of a vector, and one element in the place of two. They are
 //! few and short, so that moving the rest costs nothing.
-ghost use Rattle.std.specs.Prelude.{◌≡◌, ◌+◌, ◌<◌, ◌≤◌, ◌∷◌, [], MatchOption, vec_len, vec_capacity};
+ghost use Rattle.std.specs.Prelude.{◌≡◌, ◌+◌, ◌<◌, ◌≤◌, ◌∷◌, [], MatchOption, vec_len};
+ghost use Rattle.std.specs.Prelude.{vec_capacity};
 ghost use Rattle.prolly_build.specs.Forks.{IsForked};
 
 /// Takes the first element.

@@ -7,8 +7,9 @@ use prolly_tool::answer_scratch;
 use std::test::Fail;
 
 /// The chunk file of the empty map, cut by 0 bits.
-const EMPTY_FILE: &[u8] =
-    b"PRLY\x01\0C\0\0\0\0\0\0\0\x01\0E\xB8\x24\x4D\x02\x89\x81\xD6\x93\xAF\x7B\x45\x6A\xF8\xEF\xA4\xCA\xD6\x3D\x28\x2E\0\0\0\0\0\0\0\x01";
+const EMPTY_FILE: &[u8] = b"PRLY\x01\0C\0\0\0\0\0\0\0\x01\0E\
+      \xB8\x24\x4D\x02\x89\x81\xD6\x93\xAF\x7B\x45\x6A\xF8\xEF\xA4\xCA\xD6\x3D\x28\x2E\
+      \0\0\0\0\0\0\0\x01";
 
 #[test]
 fn shows_the_root_and_writes_the_file(rt: HostRuntime) -> Result<(), Fail> {

@@ -20,7 +20,8 @@ pub above_trans : (x y : List ℕ) (rs : List Record) → KeyBelow x y → AllAb
 above_trans x y [] h k = tt
 above_trans x y (r ∷ rs) h k = (order_trans x y r.key h k.0, above_trans x y rs h k.1)
 
-rising_from : (x : List ℕ) (rs : List Record) → RisingFrom x (keys_of rs) → AllAbove x rs × IsRising rs
+rising_from : (x : List ℕ) (rs : List Record) → RisingFrom x (keys_of rs) →
+    AllAbove x rs × IsRising rs
 rising_from x [] h = (tt, tt)
 rising_from x (r ∷ rs) h = let more = rising_from r.key rs h.1 in
     ((h.0, above_trans x r.key rs h.0 more.0), more)
@@ -30,7 +31,8 @@ pub is_rising : (rs : List Record) → Rising (keys_of rs) → IsRising rs
 is_rising [] h = tt
 is_rising (r ∷ rs) h = rising_from r.key rs h
 
-from_rising : (x : List ℕ) (rs : List Record) → AllAbove x rs → IsRising rs → RisingFrom x (keys_of rs)
+from_rising : (x : List ℕ) (rs : List Record) → AllAbove x rs → IsRising rs →
+    RisingFrom x (keys_of rs)
 from_rising x [] h k = tt
 from_rising x (r ∷ rs) h k = (h.0, from_rising r.key rs k.0 k.1)
 

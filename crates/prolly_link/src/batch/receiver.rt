@@ -118,7 +118,8 @@ impl<T: Drop, F: Copy> BatchReceiver<T, F> {
 
 impl<T: Drop, F: Copy> In<T, F> for BatchReceiver<T, F> {
     ghost use Rattle.prolly_link.specs.Growth.{items_between, between_nothing};
-    ghost use Rattle.prolly_link.specs.Following.{IsLater, later_same, later_more, received_in_both, nothing_after_end};
+    ghost use Rattle.prolly_link.specs.Following.{IsLater, later_same, later_more};
+    ghost use Rattle.prolly_link.specs.Following.{received_in_both, nothing_after_end};
 
     ghost link = { λ r. r.link };
 

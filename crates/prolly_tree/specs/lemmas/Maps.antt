@@ -1,5 +1,6 @@
 -- Lists of pairs whose keys rise.
-use Rattle.std.proofs.Common.{◌≡◌, ℕ, ◌≤◌, ◌⊎◌, inl, inr, List, [], ◌∷◌, ◌++◌, length, map, refl, sym, ap, ◌∙◌, subst, arith}
+use Rattle.std.proofs.Common.{◌≡◌, ℕ, ◌≤◌, ◌⊎◌, inl, inr, List, [], ◌∷◌, ◌++◌, length, map, refl}
+use Rattle.std.proofs.Common.{sym, ap, ◌∙◌, subst, arith}
 use Rattle.std.specs.List.{flat_map, AllByRecursion}
 use Rattle.prolly_entry.specs.Keys.{KeyBelow, Rising, RisingFrom}
 use Rattle.prolly_entry.specs.Pair.{Pair, IsPair}
@@ -33,9 +34,11 @@ pub above_more : (x y : List ℕ) (ps : List Pair) → KeyBelow x y → Above y 
 above_more x y [] h k = tt
 above_more x y (p ∷ ps) h k = (order_trans x y p.key h k.0, above_more x y ps h k.1)
 
-rises_from : (x : List ℕ) (ps : List Pair) → RisingFrom x (map (λ p. p.key) ps) → Above x ps × Rises ps
+rises_from : (x : List ℕ) (ps : List Pair) → RisingFrom x (map (λ p. p.key) ps) →
+    Above x ps × Rises ps
 rises_from x [] h = (tt, tt)
-rises_from x (p ∷ ps) h = let r = rises_from p.key ps h.1 in ((h.0, above_more x p.key ps h.0 r.0), (r.0, r.1))
+rises_from x (p ∷ ps) h = let r = rises_from p.key ps h.1 in
+    ((h.0, above_more x p.key ps h.0 r.0), (r.0, r.1))
 
 -- Where each key is above the one before it, it is above all before it.
 pub rises : (ps : List Pair) → Rising (map (λ p. p.key) ps) → Rises ps
@@ -65,7 +68,8 @@ last_key_short (p ∷ []) h = h.0.key
 last_key_short (p ∷ q ∷ ps) h = last_key_short (q ∷ ps) h.1
 
 -- Lists of pairs that are spelled alike are the same.
-pub leaf_same : (ps qs : List Pair) → AllByRecursion IsPair ps → AllByRecursion IsPair qs → flat_map pair_spelling ps ≡ flat_map pair_spelling qs → ps ≡ qs
+pub leaf_same : (ps qs : List Pair) → AllByRecursion IsPair ps → AllByRecursion IsPair qs →
+    flat_map pair_spelling ps ≡ flat_map pair_spelling qs → ps ≡ qs
 leaf_same [] [] h k e = refl
 leaf_same [] (q ∷ qs) h k e = absurd (nil_cons e)
   where
@@ -76,5 +80,6 @@ leaf_same (p ∷ ps) [] h k e = absurd (cons_nil e)
     cons_nil : {x : ℕ} {xs : List ℕ} → ◌≡◌ {A = List ℕ} (x ∷ xs) [] → ⊥
     cons_nil e = cc
 leaf_same (p ∷ ps) (q ∷ qs) h k e =
-    let r = pair_spellings_apart p q (flat_map pair_spelling ps) (flat_map pair_spelling qs) h.0 k.0 e in
+    let r = pair_spellings_apart p q (flat_map pair_spelling ps) (flat_map pair_spelling qs) h.0 k.0
+    e in
     ap (λ x. x ∷ ps) r.0 ∙ ap (λ x. q ∷ x) (leaf_same ps qs h.1 k.1 r.1)

@@ -18,13 +18,15 @@ closes test least before x = nat_le least (suc before) && test x
 -- No entry closes the group that they go on.
 abbrev pub Open : {A : Type 0} → (A → Bool) → ℕ → ℕ → List A → Type 0
 Open test least before [] = Unit {0}
-Open test least before (x ∷ xs) = (closes test least before x ≡ false) × Open test least (suc before) xs
+Open test least before (x ∷ xs) = (closes test least before x ≡ false) ×
+    Open test least (suc before) xs
 
 -- The last entry closes the group, and none before it does.
 abbrev pub Ends : {A : Type 0} → (A → Bool) → ℕ → ℕ → List A → Type 0
 Ends test least before [] = ⊥
 Ends test least before (x ∷ []) = closes test least before x ≡ true
-Ends test least before (x ∷ y ∷ ys) = (closes test least before x ≡ false) × Ends test least (suc before) (y ∷ ys)
+Ends test least before (x ∷ y ∷ ys) = (closes test least before x ≡ false) ×
+    Ends test least (suc before) (y ∷ ys)
 
 -- Each of the groups ends so.
 abbrev pub AllEnd : {A : Type 0} → (A → Bool) → ℕ → ℕ → List (List A) → Type 0

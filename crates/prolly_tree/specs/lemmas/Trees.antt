@@ -1,5 +1,6 @@
 -- Trees, their chunks and their files.
-use Rattle.std.proofs.Common.{◌≡◌, ℕ, zero, suc, ◌<◌, inl, inr, List, [], ◌∷◌, ◌++◌, length, refl, ap, arith}
+use Rattle.std.proofs.Common.{◌≡◌, ℕ, zero, suc, ◌<◌, inl, inr, List, [], ◌∷◌, ◌++◌, length, refl}
+use Rattle.std.proofs.Common.{ap, arith}
 use Rattle.std.specs.List.{flat_map, AllByRecursion}
 use Rattle.prolly_entry.specs.Pair.{Pair}
 use Rattle.prolly_tree.specs.Chunk.{IsIn}
@@ -22,9 +23,15 @@ Full zero leaf = 0 < length leaf
 Full (suc level) ts = (0 < length ts) × AllByRecursion (Full level) ts
 
 -- A full tree has a first pair.
-pub full_pairs : (level : ℕ) (t : Tree level) → Full level t → (p : Pair) × ((ps : List Pair) × (pairs_below level t ≡ p ∷ ps))
+pub full_pairs : (level : ℕ) (t : Tree level) → Full level t →
+    (p : Pair) × ((ps : List Pair) × (pairs_below level t ≡ p ∷ ps))
 full_pairs zero [] h = absurd (omega arith)
 full_pairs zero (p ∷ ps) h = (p, (ps, refl))
 full_pairs (suc level) [] h = absurd (let z : 0 < 0 = h.0 in omega arith)
-full_pairs (suc level) (t ∷ ts) h = let r = full_pairs level t h.1.0 in
-    (r.0, (r.1.0 ++ flat_map (pairs_below level) ts, ap (λ x. x ++ flat_map (pairs_below level) ts) r.1.1))
+full_pairs (suc level) (t ∷ ts) h = let r = full_pairs level t h.1.0 in (
+  r.0,
+  (
+    r.1.0 ++ flat_map (pairs_below level) ts,
+    ap (λ x. x ++ flat_map (pairs_below level) ts) r.1.1,
+  ),
+)

@@ -5,20 +5,28 @@ use Rattle.prolly_link.specs.declared.end.End.TheVariants.{Clean}
 use Rattle.prolly_build.specs.Built.{IsBegun}
 use Rattle.prolly_build.specs.Outcome.{IsOutcome}
 use Rattle.prolly_build.proofs.Makings.{at_ok, at_err, if_ok, if_ok_any}
-use Rattle.prolly_build.proofs.Runs.{lent_run, built, not_built, halted_counted, halted_refusal, not_counted, halted_unmade, halted_unrefused, halted_unstopped, stopped}
+use Rattle.prolly_build.proofs.Runs.{lent_run, built, not_built, halted_counted, halted_refusal}
+use Rattle.prolly_build.proofs.Runs.{not_counted, halted_unmade, halted_unrefused, halted_unstopped}
+use Rattle.prolly_build.proofs.Runs.{stopped}
 use Rattle.prolly_build.proofs.Refusals.{lent_refused, refused}
 use Rattle.prolly_build.proofs.Stops.{lent_stops}
 use Rattle.prolly_build.proofs.driver.run_workers.Goals as goal
 
 pub finish-requires-clause-run : goal.finish-requires-clause-run
 finish-requires-clause-run g c =
-    let r = lent_run g.S.Source.seen _ _ c.args.sources.now.items c.replace-lent.result.items c.scoped-ran.result.1.items _ c.requires.lawful (omega (arith, c.requires.files, c.args.sources.now.ok.0)) c.requires.levels (ap (λ v. v.items) c.replace-lent.ensures.value) _ _
+    let r = lent_run g.S.Source.seen _ _ c.args.sources.now.items c.replace-lent.result.items
+    c.scoped-ran.result.1.items _ c.requires.lawful
+    (omega (arith, c.requires.files, c.args.sources.now.ok.0)) c.requires.levels
+    (ap (λ v. v.items) c.replace-lent.ensures.value) _ _
     (at_ok _ _ _ c.in-Ok.is c.scoped-ran.ensures.1.1.1.0) in
     (_, r.run)
 
 pub finish-requires-clause-faults : goal.finish-requires-clause-faults
 finish-requires-clause-faults g c =
-    let r = lent_run g.S.Source.seen _ _ c.args.sources.now.items c.replace-lent.result.items c.scoped-ran.result.1.items _ c.requires.lawful (omega (arith, c.requires.files, c.args.sources.now.ok.0)) c.requires.levels (ap (λ v. v.items) c.replace-lent.ensures.value) _ _
+    let r = lent_run g.S.Source.seen _ _ c.args.sources.now.items c.replace-lent.result.items
+    c.scoped-ran.result.1.items _ c.requires.lawful
+    (omega (arith, c.requires.files, c.args.sources.now.ok.0)) c.requires.levels
+    (ap (λ v. v.items) c.replace-lent.ensures.value) _ _
     (at_ok _ _ _ c.in-Ok.is c.scoped-ran.ensures.1.1.1.0) in
     r.input
 
@@ -31,30 +39,48 @@ pub returns-in-Ok-clause-outcome : goal.returns-in-Ok-clause-outcome
 returns-in-Ok-clause-outcome g c =
     let before = c.args.sources.now.items in
     let after = c.scoped-ran.result.1.items in
-    let source = g.met.S.Source g.world.𝓛 g.world.𝓜 g.world.𝓡 ((λ s x. x), (λ x. x), (λ x. x), λ x. x) in
+    let source = g.met.S.Source g.world.𝓛 g.world.𝓜 g.world.𝓡 (
+      (λ s x. x),
+      (λ x. x),
+      (λ x. x),
+      λ x. x,
+    ) in
     let staged = at_ok _ _ _ c.in-Ok.is c.scoped-ran.ensures.1.1.1.0 in
-    let r = lent_run g.S.Source.seen _ _ c.args.sources.now.items c.replace-lent.result.items c.scoped-ran.result.1.items _ c.requires.lawful
-    (omega (arith, c.requires.files, c.args.sources.now.ok.0)) c.requires.levels (ap (λ v. v.items) c.replace-lent.ensures.value) _ _ staged in
+    let r = lent_run g.S.Source.seen _ _ c.args.sources.now.items c.replace-lent.result.items
+    c.scoped-ran.result.1.items _ c.requires.lawful
+    (omega (arith, c.requires.files, c.args.sources.now.ok.0)) c.requires.levels
+    (ap (λ v. v.items) c.replace-lent.ensures.value) _ _ staged in
     let written = at_ok _ _ _ c.in-Ok.is c.scoped-ran.ensures.1.1.0.written in
     let clean : OnOk c.finish.result (c.in-Ok.ran.out.end ≡ Clean) = c.finish.ensures.clean in
     let back = c.sink-1.given.1 (sym c.scoped-ran.ensures.1.1.1.1) in
-    subst (λ (w : g.row.W.Denot). IsOutcome g.S.Source.seen c.args.config before after (g.W.Sink.seen c.args.sink.now) (g.W.Sink.seen w)
+    subst (λ (w : g.row.W.Denot). IsOutcome g.S.Source.seen c.args.config before after
+    (g.W.Sink.seen c.args.sink.now) (g.W.Sink.seen w)
     (w ≡ c.args.sink.now) c.finish.result) (sym back) (record {
-      built = if_ok c.finish.result _ _ _ (λ clean report file. built r.goods (r.read clean) file) clean
+      built = if_ok c.finish.result _ _ _ (λ clean report file. built r.goods (r.read clean) file)
+          clean
           (c.finish.ensures.ok (overlay r.goods) _ r.run written.written);
       kept = if_ok_any c.finish.result r.kept;
-      unmade = IfErr-weaker c.finish.result _ _ (λ fault h w. not_built r.goods (r.read (h w).0) (h w).1)
+      unmade = IfErr-weaker c.finish.result _ _
+          (λ fault h w. not_built r.goods (r.read (h w).0) (h w).1)
           (c.finish.ensures.unmade (overlay r.goods) _ r.run written.written);
       stopped = IfErr-weaker c.finish.result _ _ (λ fault h file honest. stopped fault file
-          (lent_stops g.S.Source.seen source.left_are_bytes _ _ c.args.sources.now.items c.replace-lent.result.items c.scoped-ran.result.1.items _ c.requires.lawful
-          (omega (arith, c.requires.files, c.args.sources.now.ok.0)) c.requires.levels (ap (λ v. v.items) c.replace-lent.ensures.value) honest _ _ fault staged (h file).0) (h file).1)
+          (lent_stops g.S.Source.seen source.left_are_bytes _ _ c.args.sources.now.items
+          c.replace-lent.result.items c.scoped-ran.result.1.items _ c.requires.lawful
+          (omega (arith, c.requires.files, c.args.sources.now.ok.0)) c.requires.levels
+          (ap (λ v. v.items) c.replace-lent.ensures.value) honest _ _ fault staged (h file).0)
+          (h file).1)
           (c.finish.ensures.stopped _ written.written);
-      refused = IfErr-weaker c.finish.result _ _ (λ fault h memory honest. refused g.S.Source.seen _ before after _
-          (lent_refused g.S.Source.seen source.left_are_bytes _ _ c.args.sources.now.items c.replace-lent.result.items c.scoped-ran.result.1.items _ c.requires.lawful
-          (omega (arith, c.requires.files, c.args.sources.now.ok.0)) c.requires.levels (ap (λ v. v.items) c.replace-lent.ensures.value) honest _ _ staged (h memory).0) (h memory).1)
+      refused = IfErr-weaker c.finish.result _ _
+          (λ fault h memory honest. refused g.S.Source.seen _ before after _
+          (lent_refused g.S.Source.seen source.left_are_bytes _ _ c.args.sources.now.items
+          c.replace-lent.result.items c.scoped-ran.result.1.items _ c.requires.lawful
+          (omega (arith, c.requires.files, c.args.sources.now.ok.0)) c.requires.levels
+          (ap (λ v. v.items) c.replace-lent.ensures.value) honest _ _ staged (h memory).0)
+          (h memory).1)
           (c.finish.ensures.refused _ written.written);
       begun = c.finish.ensures.begun _ written.written;
-      unstarted = IfErr-weaker c.finish.result _ _ (λ fault h start. absurd (h start)) c.finish.ensures.err;
+      unstarted = IfErr-weaker c.finish.result _ _ (λ fault h start. absurd (h start))
+          c.finish.ensures.err;
       left_behind = IfErr-weaker c.finish.result _ _ (λ fault h a b. r.kept) c.finish.ensures.err;
     })
 
@@ -71,8 +97,10 @@ returns-in-Err-clause-outcome g c =
       kept = tt;
       unmade = λ w. absurd (halted_unmade c.in-Err.halt c.fault.result c.fault.ensures w);
       stopped = λ file. absurd (halted_unstopped c.in-Err.halt c.fault.result c.fault.ensures file);
-      refused = λ memory. absurd (halted_unrefused c.in-Err.halt c.fault.result c.fault.ensures memory);
-      begun = λ other. subst (λ (w : g.row.W.Denot). IsBegun c.args.config (g.W.Sink.seen c.args.sink.now) (g.W.Sink.seen w)) (sym back)
+      refused = λ memory. absurd (halted_unrefused c.in-Err.halt c.fault.result c.fault.ensures
+          memory);
+      begun = λ other. subst (λ (w : g.row.W.Denot). IsBegun c.args.config
+          (g.W.Sink.seen c.args.sink.now) (g.W.Sink.seen w)) (sym back)
           (at_err _ _ _ c.in-Err.is c.scoped-ran.ensures.1.1.0.begun);
       unstarted = halted.unstarted;
       left_behind = halted.left_behind;

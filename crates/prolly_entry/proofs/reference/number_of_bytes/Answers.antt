@@ -6,7 +6,11 @@ use Rattle.prolly_entry.proofs.reference.number_of_bytes.Goals as goal
 
 pub overflow_mul-number : goal.overflow_mul-number
 overflow_mul-number c =
-    omega (arith, push_below 256 c.loop-byte.byte-index 8 c.loop-byte.number 0 c.loop-byte.invariant.0 (omega arith) (omega arith))
+    omega (
+      arith,
+      push_below 256 c.loop-byte.byte-index 8 c.loop-byte.number 0
+          c.loop-byte.invariant.0 (omega arith) (omega arith),
+    )
 
 pub overflow_add-number : goal.overflow_add-number
 overflow_add-number c = grind (arith, common_steps) steps 2000000

@@ -7,12 +7,20 @@ use Rattle.prolly_entry.proofs.reference.number_of_characters.Goals as goal
 
 pub overflow_mul-number : goal.overflow_mul-number
 overflow_mul-number c =
-    omega (arith, push_below 32 c.loop-byte.byte-index 12 c.loop-byte.number 0 c.loop-byte.invariant.0 (omega arith) (omega arith))
+    omega (
+      arith,
+      push_below 32 c.loop-byte.byte-index 12 c.loop-byte.number 0
+          c.loop-byte.invariant.0 (omega arith) (omega arith),
+    )
 
 pub overflow_add-number : goal.overflow_add-number
 overflow_add-number c =
     let digit_below = c.in_ok-digit_of.ensures.below in
-    omega (arith, push_below 32 c.loop-byte.byte-index 12 c.loop-byte.number c.from.result c.loop-byte.invariant.0 (omega (arith, digit_below)) (omega arith))
+    omega (
+      arith,
+      push_below 32 c.loop-byte.byte-index 12 c.loop-byte.number c.from.result
+          c.loop-byte.invariant.0 (omega (arith, digit_below)) (omega arith),
+    )
 
 pub loop-byte-preserved : goal.loop-byte-preserved
 loop-byte-preserved c =
@@ -21,7 +29,8 @@ loop-byte-preserved c =
     let digit_below : digit < 32 = omega (arith, c.in_ok-digit_of.ensures.below) in
     let pushed = characters_more i c.loop-byte.number digit digit_below in
     let read = take_more c.args.text.now i 0 (omega arith) in (
-      push_below 32 i (i + 1) c.loop-byte.number digit c.loop-byte.invariant.0 digit_below (omega arith),
+      push_below 32 i (i + 1) c.loop-byte.number digit c.loop-byte.invariant.0 digit_below
+          (omega arith),
       cc (pushed, read, c.loop-byte.invariant.1, c.in_ok-digit_of.ensures.read),
     )
 

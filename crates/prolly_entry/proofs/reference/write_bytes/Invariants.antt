@@ -5,4 +5,5 @@ use Rattle.prolly_entry.proofs.reference.write_bytes.Given as goal
 
 abbrev pub invariant-loop-place : goal.invariant-loop-place
 invariant-loop-place l =
-    (l.number < 256 ^ l.place) × (number_of l.number (drop l.place l.bytes) ≡ l.fn.number) × All IsByte (drop l.place l.bytes)
+    (l.number < 256 ^ l.place) × (number_of l.number (drop l.place l.bytes) ≡ l.fn.number) ×
+    All IsByte (drop l.place l.bytes)

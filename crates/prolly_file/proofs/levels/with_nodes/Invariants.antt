@@ -8,5 +8,6 @@ abbrev pub invariant-loop-event : goal.invariant-loop-event
 invariant-loop-event g l = record {
   whole : l.yielded ++ into_iter_items l.event-iterator ≡ l.fn.events.items;
   state : l.nodes ≡ node_level g.C.Cut.cut l.fn.cut l.fn.version l.fn.level l.yielded;
-  sent : l.more.items ≡ inner_events l.fn.level (g.C.Cut.cut l.fn.cut) l.fn.version faulty l.yielded;
+  sent : l.more.items ≡ inner_events l.fn.level (g.C.Cut.cut l.fn.cut) l.fn.version faulty
+      l.yielded;
 }

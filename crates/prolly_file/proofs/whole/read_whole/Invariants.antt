@@ -3,10 +3,13 @@ use Rattle.prolly_file.proofs.whole.read_whole.Given as goal
 
 abbrev pub invariant-loop-count : goal.invariant-loop-count
 invariant-loop-count g l = record {
-  honest : (g.S.Source.seen l.initial.source).is_honest ≡ true → (g.S.Source.seen l.source).is_honest ≡ true;
-  bytes : (g.S.Source.seen l.initial.source).is_honest ≡ true → (g.S.Source.seen l.initial.source).left ≡ l.whole.items ++ (g.S.Source.seen l.source).left;
+  honest : (g.S.Source.seen l.initial.source).is_honest ≡ true →
+      (g.S.Source.seen l.source).is_honest ≡ true;
+  bytes : (g.S.Source.seen l.initial.source).is_honest ≡ true →
+      (g.S.Source.seen l.initial.source).left ≡ l.whole.items ++ (g.S.Source.seen l.source).left;
   failures : (g.S.Source.seen l.source).failures ≡ (g.S.Source.seen l.initial.source).failures;
-  steady : (g.S.Source.seen l.initial.source).is_steady ≡ true → (g.S.Source.seen l.source).is_steady ≡ true;
+  steady : (g.S.Source.seen l.initial.source).is_steady ≡ true →
+      (g.S.Source.seen l.source).is_steady ≡ true;
   within : vec_len l.whole ≤ l.max_bytes;
   room : 0 < vec_len l.part;
 }

@@ -5,10 +5,12 @@ use Rattle.prolly_file.proofs.whole_file.append_parts.Goals as goal
 pub returns-in_err-extend_from_slice-clause-err : goal.returns-in_err-extend_from_slice-clause-err
 returns-in_err-extend_from_slice-clause-err c = grind (arith, common_steps) steps 2000000
 
-pub returns-in_err-extend_from_slice-2-clause-err : goal.returns-in_err-extend_from_slice-2-clause-err
+pub returns-in_err-extend_from_slice-2-clause-err
+    : goal.returns-in_err-extend_from_slice-2-clause-err
 returns-in_err-extend_from_slice-2-clause-err c = grind (arith, common_steps) steps 2000000
 
-pub returns-in_err-extend_from_slice-3-clause-err : goal.returns-in_err-extend_from_slice-3-clause-err
+pub returns-in_err-extend_from_slice-3-clause-err
+    : goal.returns-in_err-extend_from_slice-3-clause-err
 returns-in_err-extend_from_slice-3-clause-err c = grind (arith, common_steps) steps 2000000
 
 pub loop-chunk-preserved : goal.loop-chunk-preserved

@@ -4,4 +4,5 @@ use Rattle.prolly_tree.specs.File.{frame}
 use Rattle.prolly_file.proofs.whole_file.append_parts.Given as goal
 
 abbrev pub invariant-loop-chunk : goal.invariant-loop-chunk
-invariant-loop-chunk l = l.out.items ≡ l.fn.out.items ++ (l.fn.header ++ flat_map frame (take l.chunk-index l.chunks))
+invariant-loop-chunk l = l.out.items ≡ l.fn.out.items ++
+    (l.fn.header ++ flat_map frame (take l.chunk-index l.chunks))

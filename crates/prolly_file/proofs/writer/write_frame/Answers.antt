@@ -11,7 +11,8 @@ returns-in_err-write_all g c =
     let start = rw c.frame_start.ensures at c.in_err-write_all.ensures.writes in
     rw p.1 record {
       written = λ keeps. tt;
-      part = λ keeps. taken_of_first _ _ (frame_start (length c.args.bytes.now)) c.args.bytes.now (start.part keeps);
+      part = λ keeps. taken_of_first _ _ (frame_start (length c.args.bytes.now)) c.args.bytes.now
+          (start.part keeps);
       failures = start.failures;
       keeping = start.keeping;
     }

@@ -12,12 +12,12 @@ returns-clause-passed g c =
     let progress = c.receiver.inside.progress in
     let fifo = c.slots_beside.ensures.fifo in
     let agrees : Agrees progress (popped after) =
-        rw c.slots_beside.ensures.looked.1 c.receiver.invariant in
+    rw c.slots_beside.ensures.looked.1 c.receiver.invariant in
     let unclosed : is_open (pushed sent) ≡ true = ap is_open c.slots_beside.ensures.producer.1 ∙
-        c.sender.invariant in
+    c.sender.invariant in
     let begins = items_begin (popped after) (known_items after) (pushed sent) fifo in
     let unended = not_ended progress (popped after) (known_items after) (pushed sent) agrees
-        unclosed fifo in
+    unclosed fifo in
     record {
       prefix = begins;
       no_end = unended;

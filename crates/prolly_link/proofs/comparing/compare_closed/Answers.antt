@@ -12,12 +12,12 @@ returns-clause-passed g c =
     let progress = c.receiver.inside.progress in
     let fifo = c.slots_beside.ensures.fifo in
     let agrees : Agrees progress (popped after) =
-        rw c.slots_beside.ensures.looked.1 c.receiver.invariant in
+    rw c.slots_beside.ensures.looked.1 c.receiver.invariant in
     let closed : is_closed (pushed sent) ≡ true = ap is_closed c.slots_beside.ensures.producer.1 ∙
-        c.closed.invariant in
+    c.closed.invariant in
     let begins = items_begin (popped after) (known_items after) (pushed sent) fifo in
     let whole = ended_whole progress (popped after) (known_items after) (pushed sent) agrees closed
-        fifo in
+    fifo in
     record {
       prefix = begins;
       end = whole;

@@ -7,6 +7,7 @@ pub returns-clause-fills : goal.returns-clause-fills
 returns-clause-fills g c =
     let bytes = c.args.bytes.now in
     let unparsed = c.args.unparsed in
-    read_fills c.read.result (g.S.Source.seen c.args.source.now).is_honest (g.S.Source.seen c.args.source.now).left (g.S.Source.seen c.read.new.self).left
+    read_fills c.read.result (g.S.Source.seen c.args.source.now).is_honest
+    (g.S.Source.seen c.args.source.now).left (g.S.Source.seen c.read.new.self).left
     bytes c.read.new.buf (post_of unparsed.end (length bytes - unparsed.end) bytes) unparsed
     c.requires.0 c.requires.1 (search rules) (search rules) c.read.ensures.bytes

@@ -13,17 +13,20 @@ returns-in-Ended-Fault c =
     let hs = c.args.heads.now in
     let fault : c.index-heads-i.result ≡ Ended (Fault c.in-Ended-Fault.fault) = search rules in
     first_fault hs c.loop-i.i c.loop-i.least c.in-Ended-Fault.fault c.loop-i.invariant
-    (slice_get_read hs (length hs) c.loop-i.i c.index-heads-i.result refl c.loop-i-test.true c.index-heads-i.is ∙ ap Some fault)
+    (slice_get_read hs (length hs) c.loop-i.i c.index-heads-i.result refl c.loop-i-test.true
+    c.index-heads-i.is ∙ ap Some fault)
 
 pub loop-i-preserved : goal.loop-i-preserved
 loop-i-preserved c =
     let hs = c.args.heads.now in
     let i = c.loop-i.i in
-    let read = slice_get_read hs (length hs) i c.index-heads-i.result refl c.loop-i-test.true c.index-heads-i.is in
+    let read = slice_get_read hs (length hs) i c.index-heads-i.result refl c.loop-i-test.true
+    c.index-heads-i.is in
     elim c.match-head.branch [
       | in-Ready w ↦ subst (IsLeast (take (i + 1) hs)) (sym w.least-is) w.least_with.ensures
       | in-Ended-Clean w ↦ subst (IsLeast (take (i + 1) hs)) (sym w.least-is)
-          (least_ended hs i c.index-heads-i.result c.loop-i.least read (search rules) c.loop-i.invariant)
+          (least_ended hs i c.index-heads-i.result c.loop-i.least read (search rules)
+          c.loop-i.invariant)
     ]
 
 pub returns-in-Some : goal.returns-in-Some

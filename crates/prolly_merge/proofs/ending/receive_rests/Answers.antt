@@ -21,8 +21,13 @@ loop-input-preserved g c =
     let auto = c.loop-input.auto.inputs in
     let within : i < length ns = omega arith in
     upto_at R (λ old new. new ≡ old) i os (slice_set ns i n') (slice_set ns i n')
-    (upto_next R (λ old new. new ≡ old) i os ns n n' c.loop-input.invariant (slice_get-get_or ns i c.input-item.result within)
-    (λ o got same. subst (λ x. R x n') same (record { link_is = e.link; follows = e.follows; ended = e.ended }))) refl
+    (upto_next R (λ old new. new ≡ old) i os ns n n' c.loop-input.invariant
+    (slice_get-get_or ns i c.input-item.result within)
+    (λ o got same. subst (λ x. R x n') same (record {
+      link_is = e.link;
+      follows = e.follows;
+      ended = e.ended;
+    }))) refl
 
 pub returns : goal.returns
 returns g c =
@@ -32,4 +37,5 @@ returns g c =
     let auto = c.loop-input.auto.inputs in
     let all : c.loop-input.input-index ≡ length c.loop-input.inputs = omega arith in
     upto_all R (λ old new. new ≡ old) c.args.inputs.now c.loop-input.inputs
-    (subst (λ k. EachUpto R (λ old new. new ≡ old) k c.args.inputs.now c.loop-input.inputs) all c.loop-input.invariant)
+    (subst (λ k. EachUpto R (λ old new. new ≡ old) k c.args.inputs.now c.loop-input.inputs) all
+    c.loop-input.invariant)

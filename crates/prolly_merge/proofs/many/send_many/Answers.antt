@@ -11,13 +11,15 @@ pub loop-init : goal.loop-init
 loop-init g c =
     let os = peeked_of c.args.inputs.now c.args.heads.now in
     record {
-      advance = all_stay g.I.In.link g.I.In.progress g.I.In.Follows g.I.In.received g.met.I.In.stays g.met.I.In.received_none os c.requires.held;
+      advance = all_stay g.I.In.link g.I.In.progress g.I.In.Follows g.I.In.received g.met.I.In.stays
+          g.met.I.In.received_none os c.requires.held;
       out_link = refl;
       pairs = count_none (g.O.Out.sent c.args.out.now);
       first = (
         [],
         sym (append-nil (g.O.Out.sent c.args.out.now)),
-        start g.I.In.link g.I.In.progress g.I.In.Follows g.I.In.received g.met.I.In.stays g.met.I.In.received_none os,
+        start g.I.In.link g.I.In.progress g.I.In.Follows g.I.In.received g.met.I.In.stays
+            g.met.I.In.received_none os,
       );
     }
 
@@ -32,13 +34,17 @@ loop-preserved g c =
     let put = pairs_of_change r.key r.value in
     let ok = c.in-Ok.ensures.sent in
     record {
-      advance = step_advances g.I.In.link g.I.In.progress g.I.In.Follows g.I.In.received g.met.I.In.goes_on g.met.I.In.received_both os ms ns r i.advance c.in-Send.ensures;
+      advance = step_advances g.I.In.link g.I.In.progress g.I.In.Follows g.I.In.received
+          g.met.I.In.goes_on g.met.I.In.received_both os ms ns r i.advance c.in-Send.ensures;
       out_link = c.send_put.ensures.link ∙ i.out_link;
-      pairs = count_more sent (g.O.Out.sent c.loop.out) (g.O.Out.sent c.send_put.new.out) put c.loop.pairs c.in-Ok.count i.pairs ok c.in-Ok.ensures.count;
+      pairs = count_more sent (g.O.Out.sent c.loop.out) (g.O.Out.sent c.send_put.new.out) put
+          c.loop.pairs c.in-Ok.count i.pairs ok c.in-Ok.ensures.count;
       first = (
         i.first.0 ++ r ∷ [],
-        ok ∙ ap (λ x. x ++ put) i.first.1 ∙ append_assoc sent (pairs_put i.first.0) put ∙ ap (λ x. sent ++ x) (sym (pairs_more i.first.0 r)),
-        step_sends g.I.In.link g.I.In.progress g.I.In.Follows g.I.In.received g.met.I.In.goes_on g.met.I.In.received_both os ms ns i.first.0 r i.advance i.first.2 c.in-Send.ensures,
+        ok ∙ ap (λ x. x ++ put) i.first.1 ∙ append_assoc sent (pairs_put i.first.0) put ∙
+            ap (λ x. sent ++ x) (sym (pairs_more i.first.0 r)),
+        step_sends g.I.In.link g.I.In.progress g.I.In.Follows g.I.In.received g.met.I.In.goes_on
+            g.met.I.In.received_both os ms ns i.first.0 r i.advance i.first.2 c.in-Send.ensures,
       );
     }
 
@@ -47,7 +53,9 @@ returns-in-Err-clause-advance g c =
     let os = peeked_of c.args.inputs.now c.args.heads.now in
     let ms = peeked_of c.loop.inputs c.loop.heads in
     let ns = peeked_of c.next_of_many.new.inputs c.next_of_many.new.heads in
-    step_advances g.I.In.link g.I.In.progress g.I.In.Follows g.I.In.received g.met.I.In.goes_on g.met.I.In.received_both os ms ns c.in-Send.record c.loop.invariant.advance c.in-Send.ensures
+    step_advances g.I.In.link g.I.In.progress g.I.In.Follows g.I.In.received g.met.I.In.goes_on
+    g.met.I.In.received_both os ms ns c.in-Send.record c.loop.invariant.advance
+    c.in-Send.ensures
 
 pub returns-in-Err-clause-halts : goal.returns-in-Err-clause-halts
 returns-in-Err-clause-halts g c =
@@ -62,7 +70,8 @@ returns-in-Err-clause-halts g c =
         refl,
         (
           r ∷ [],
-          step_sends g.I.In.link g.I.In.progress g.I.In.Follows g.I.In.received g.met.I.In.goes_on g.met.I.In.received_both os ms ns i.first.0 r i.advance i.first.2 c.in-Send.ensures,
+          step_sends g.I.In.link g.I.In.progress g.I.In.Follows g.I.In.received g.met.I.In.goes_on
+              g.met.I.In.received_both os ms ns i.first.0 r i.advance i.first.2 c.in-Send.ensures,
         ),
       ),
     )
@@ -75,5 +84,7 @@ returns-in-Stop-clause-halts g c =
     let ns = peeked_of c.next_of_many.new.inputs c.next_of_many.new.heads in (
       i.first.0,
       i.first.1,
-      inl (step_stops g.I.In.link g.I.In.progress g.I.In.Follows g.I.In.received g.met.I.In.goes_on g.met.I.In.received_both os ms ns i.first.0 c.in-Stop.end i.advance i.first.2 c.in-Stop.ensures),
+      inl (step_stops g.I.In.link g.I.In.progress g.I.In.Follows g.I.In.received g.met.I.In.goes_on
+          g.met.I.In.received_both os ms ns i.first.0 c.in-Stop.end i.advance i.first.2
+          c.in-Stop.ensures),
     )

@@ -9,9 +9,11 @@ use Rattle.prolly_merge.proofs.many.send_many.Given as goal
 
 abbrev pub invariant-loop : goal.invariant-loop
 invariant-loop g l = record {
-  advance : Each (Advances g.I.In.link g.I.In.progress g.I.In.Follows) (peeked_of l.initial.inputs l.initial.heads) (peeked_of l.inputs l.heads);
+  advance : Each (Advances g.I.In.link g.I.In.progress g.I.In.Follows)
+      (peeked_of l.initial.inputs l.initial.heads) (peeked_of l.inputs l.heads);
   out_link : g.O.Out.link l.out ≡ g.O.Out.link l.initial.out;
   pairs : Counts (g.O.Out.sent l.initial.out) (g.O.Out.sent l.out) l.pairs;
   first : (xs : List Record) × (g.O.Out.sent l.out ≡ g.O.Out.sent l.initial.out ++ pairs_put xs)
-      × ComeFirst (places_after g.I.In.received (peeked_of l.initial.inputs l.initial.heads) (peeked_of l.inputs l.heads)) xs;
+      × ComeFirst (places_after g.I.In.received (peeked_of l.initial.inputs l.initial.heads)
+      (peeked_of l.inputs l.heads)) xs;
 }

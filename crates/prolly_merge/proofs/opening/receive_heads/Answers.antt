@@ -19,9 +19,16 @@ loop-input-preserved g c =
     record {
       room = omega (arith, inv.room, c.push.ensures.capacity);
       len = pushed.len ∙ ap (λ k. k + 1) inv.len;
-      opened = open_at g.I.In.link g.I.In.progress g.I.In.Follows g.I.In.received c.args.inputs.now ns hs.items c.push.new.self.items n c.receive-head.new.input c.receive-head.result i inv.opened len
+      opened = open_at g.I.In.link g.I.In.progress g.I.In.Follows g.I.In.received c.args.inputs.now
+          ns hs.items c.push.new.self.items n c.receive-head.new.input c.receive-head.result i
+          inv.opened len
           (slice_get-get_or ns i c.input-item.result within)
-          (record { link_is = e.link; follows = e.follows; received_is = e.received; held = e.held }) pushed.items;
+          (record {
+            link_is = e.link;
+            follows = e.follows;
+            received_is = e.received;
+            held = e.held;
+          }) pushed.items;
     }
 
 pub returns-clause-opened : goal.returns-clause-opened
@@ -32,4 +39,5 @@ returns-clause-opened g c =
     let auto = c.loop-input.auto.inputs in
     let upto = c.loop-input.auto.input-index-end in
     let len : length hs.items ≡ length c.loop-input.inputs = omega (arith, hs.ok.0, inv.len) in
-    open_all g.I.In.link g.I.In.progress g.I.In.Follows g.I.In.received c.args.inputs.now c.loop-input.inputs hs.items inv.opened len
+    open_all g.I.In.link g.I.In.progress g.I.In.Follows g.I.In.received c.args.inputs.now
+    c.loop-input.inputs hs.items inv.opened len

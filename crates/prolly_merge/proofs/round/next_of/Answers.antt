@@ -15,9 +15,14 @@ returns g c =
     let e = c.receive-next.ensures in (
       peeked n h,
       peeked n' h',
-      peeked_get ns hs c.args.at n h (slice_get-get_or ns c.args.at c.index-inputs-at.result c.requires.input) (slice_get-get_or hs c.args.at c.index-heads-at.result c.requires.head),
+      peeked_get ns hs c.args.at n h (slice_get-get_or ns c.args.at c.index-inputs-at.result
+          c.requires.input) (slice_get-get_or hs c.args.at c.index-heads-at.result c.requires.head),
       peeked_set ns hs c.args.at n' h',
       c.replace.ensures.value,
-      record { link_is = e.link; follows = e.follows; held = subst (λ x. IsHeld x (g.I.In.progress n')) (sym c.replace.ensures.after) e.held },
+      record {
+        link_is = e.link;
+        follows = e.follows;
+        held = subst (λ x. IsHeld x (g.I.In.progress n')) (sym c.replace.ensures.after) e.held;
+      },
       e.received ∙ ap in_hand (sym c.replace.ensures.after),
     )

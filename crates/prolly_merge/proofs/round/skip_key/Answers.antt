@@ -8,7 +8,8 @@ use Rattle.prolly_merge.proofs.round.skip_key.Goals as goal
 use Rattle.prolly_merge.proofs.round.skip_key.Goals.{then-has_key, else-has_key}
 
 pub loop-i-init : goal.loop-i-init
-loop-i-init g c = each_self (λ old new. new ≡ old) (peeked_of c.args.inputs.now c.args.heads.now) (λ p. refl)
+loop-i-init g c = each_self (λ old new. new ≡ old) (peeked_of c.args.inputs.now c.args.heads.now)
+    (λ p. refl)
 
 pub loop-i-preserved : goal.loop-i-preserved
 loop-i-preserved g c =
@@ -17,24 +18,34 @@ loop-i-preserved g c =
     let os = peeked_of c.args.inputs.now c.args.heads.now in
     let ns = c.loop-i.inputs in
     let hs = c.loop-i.heads in
-    let M = Move g.I.In.link g.I.In.progress g.I.In.Follows g.I.In.received g.met.I.In.stays g.met.I.In.received_none key in
-    let S = Stay g.I.In.link g.I.In.progress g.I.In.Follows g.I.In.received g.met.I.In.stays g.met.I.In.received_none in
+    let M = Move g.I.In.link g.I.In.progress g.I.In.Follows g.I.In.received g.met.I.In.stays
+    g.met.I.In.received_none key in
+    let S = Stay g.I.In.link g.I.In.progress g.I.In.Follows g.I.In.received g.met.I.In.stays
+    g.met.I.In.received_none in
     let test = c.loop-i-test.true in
     let in_inputs : i < length ns = omega arith in
     let in_heads : i < length hs = omega arith in
     elim c.if-has_key.branch [
       | then-has_key w ↦
           let e = w.next_of.ensures in
-          let due : has_key key e.0.head ≡ true = ap (has_key key) (read_same ns hs i e.0 c.index-heads-i.result e.2 in_heads) ∙ sym c.has_key.ensures ∙ w.if-has_key.true in
+          let due : has_key key e.0.head ≡ true =
+          ap (has_key key) (read_same ns hs i e.0 c.index-heads-i.result e.2 in_heads) ∙
+          sym c.has_key.ensures ∙ w.if-has_key.true in
           let next = upto_next M S i os (peeked_of ns hs) e.0 e.1 c.loop-i.invariant e.2
-          (λ p got same. due_moves g.I.In.link g.I.In.progress g.I.In.Follows g.I.In.received g.met.I.In.stays g.met.I.In.received_none key p e.0 e.1 same e.5 e.6 due) in
-          upto_at M S i os (slice_set (peeked_of ns hs) i e.1) (peeked_of c.if-has_key.inputs c.if-has_key.heads) next
-          (ap (λ x. peeked_of x c.if-has_key.heads) w.inputs-is ∙ ap (peeked_of w.next_of.new.inputs) w.heads-is ∙ e.3)
+          (λ p got same. due_moves g.I.In.link g.I.In.progress g.I.In.Follows g.I.In.received
+          g.met.I.In.stays g.met.I.In.received_none key p e.0 e.1 same e.5 e.6 due) in
+          upto_at M S i os (slice_set (peeked_of ns hs) i e.1)
+          (peeked_of c.if-has_key.inputs c.if-has_key.heads) next
+          (ap (λ x. peeked_of x c.if-has_key.heads) w.inputs-is ∙
+          ap (peeked_of w.next_of.new.inputs) w.heads-is ∙ e.3)
       | else-has_key w ↦
           let p = peeked_some ns hs i in_inputs in_heads in
-          let due : has_key key p.0.head ≡ false = ap (has_key key) (read_same ns hs i p.0 c.index-heads-i.result p.1 in_heads) ∙ sym c.has_key.ensures ∙ w.if-has_key.false in
+          let due : has_key key p.0.head ≡ false =
+          ap (has_key key) (read_same ns hs i p.0 c.index-heads-i.result p.1 in_heads) ∙
+          sym c.has_key.ensures ∙ w.if-has_key.false in
           let next = upto_skip M S i os (peeked_of ns hs) p.0 c.loop-i.invariant p.1
-          (λ q same. other_stays g.I.In.link g.I.In.progress g.I.In.Follows g.I.In.received g.met.I.In.stays g.met.I.In.received_none key q p.0 same due) in
+          (λ q same. other_stays g.I.In.link g.I.In.progress g.I.In.Follows g.I.In.received
+          g.met.I.In.stays g.met.I.In.received_none key q p.0 same due) in
           upto_at M S i os (peeked_of ns hs) (peeked_of c.if-has_key.inputs c.if-has_key.heads) next
           (ap (λ x. peeked_of x c.if-has_key.heads) w.inputs-is ∙ ap (peeked_of ns) w.heads-is)
     ]

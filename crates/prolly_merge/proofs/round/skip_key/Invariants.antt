@@ -6,5 +6,6 @@ use Rattle.prolly_merge.proofs.round.skip_key.Given as goal
 
 abbrev pub invariant-loop-i : goal.invariant-loop-i
 invariant-loop-i g l =
-    EachUpto (MovesOn g.I.In.link g.I.In.progress g.I.In.Follows g.I.In.received l.sent.key) (λ old new. new ≡ old) l.i
+    EachUpto (MovesOn g.I.In.link g.I.In.progress g.I.In.Follows g.I.In.received l.sent.key)
+    (λ old new. new ≡ old) l.i
     (peeked_of l.initial.inputs l.initial.heads) (peeked_of l.inputs l.heads)

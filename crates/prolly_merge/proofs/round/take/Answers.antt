@@ -4,31 +4,38 @@ use Rattle.prolly_merge.specs.PeekedInputs.{peeked_of}
 use Rattle.prolly_merge.specs.Steps.{MovesOn}
 use Rattle.prolly_merge.specs.Choices.{IsChosen, IsFirst, IsFirstUnless}
 use Rattle.prolly_merge.proofs.Peeks.{heads_are}
-use Rattle.prolly_merge.proofs.Rounds.{chosen_head, chosen_within, chosen_same, chosen_not_ended, round_step, first_stays}
+use Rattle.prolly_merge.proofs.Rounds.{chosen_head, chosen_within, chosen_same, chosen_not_ended}
+use Rattle.prolly_merge.proofs.Rounds.{round_step, first_stays}
 use Rattle.prolly_merge.proofs.round.take.Goals as goal
 
 pub next_of-requires-clause-head : goal.next_of-requires-clause-head
-next_of-requires-clause-head g c = chosen_within c.args.heads.now c.args.least.at c.requires.least.0 c.requires.least.1
+next_of-requires-clause-head g c = chosen_within c.args.heads.now c.args.least.at c.requires.least.0
+    c.requires.least.1
 
 pub next_of-requires-clause-input : goal.next_of-requires-clause-input
 next_of-requires-clause-input g c =
-    let within : c.args.least.at < length c.args.heads.now = chosen_within c.args.heads.now c.args.least.at c.requires.least.0 c.requires.least.1 in
+    let within : c.args.least.at < length c.args.heads.now =
+    chosen_within c.args.heads.now c.args.least.at c.requires.least.0 c.requires.least.1 in
     omega arith
 
 pub unreachable-requires : goal.unreachable-requires
 unreachable-requires g c =
     let l = c.requires.least in
     let e = c.next_of.ensures in
-    chosen_not_ended l.0 e.0.head c.next_of.result c.in-Ended.field-0 (chosen_head c.args.inputs.now c.args.heads.now c.args.least.at l.0 e.0 l.1 e.2) e.4 c.in-Ended.is
+    chosen_not_ended l.0 e.0.head c.next_of.result c.in-Ended.field-0
+    (chosen_head c.args.inputs.now c.args.heads.now c.args.least.at l.0 e.0 l.1 e.2) e.4
+    c.in-Ended.is
 
 pub skip_key-requires-clause-head : goal.skip_key-requires-clause-head
 skip_key-requires-clause-head g c =
-    let within : c.args.least.at < length c.args.heads.now = chosen_within c.args.heads.now c.args.least.at c.requires.least.0 c.requires.least.1 in
+    let within : c.args.least.at < length c.args.heads.now =
+    chosen_within c.args.heads.now c.args.least.at c.requires.least.0 c.requires.least.1 in
     omega arith
 
 pub skip_key-requires-clause-input : goal.skip_key-requires-clause-input
 skip_key-requires-clause-input g c =
-    let within : c.args.least.at < length c.args.heads.now = chosen_within c.args.heads.now c.args.least.at c.requires.least.0 c.requires.least.1 in
+    let within : c.args.least.at < length c.args.heads.now =
+    chosen_within c.args.heads.now c.args.least.at c.requires.least.0 c.requires.least.1 in
     omega arith
 
 pub returns-then-least : goal.returns-then-least
@@ -39,10 +46,15 @@ returns-then-least g c =
     let l = c.requires.least in
     let e = c.next_of.ensures in
     let r = c.in-Ready.record in
-    let same = chosen_same l.0 r e.0.head c.next_of.result (chosen_head ns hs at l.0 e.0 l.1 e.2) e.4 c.in-Ready.is in
-    round_step g.I.In.link g.I.In.progress g.I.In.Follows g.I.In.received g.met.I.In.stays g.met.I.In.received_none at r ns hs e.0 e.1 (peeked_of c.skip_key.new.inputs c.skip_key.new.heads)
+    let same = chosen_same l.0 r e.0.head c.next_of.result (chosen_head ns hs at l.0 e.0 l.1 e.2)
+    e.4 c.in-Ready.is in
+    round_step g.I.In.link g.I.In.progress g.I.In.Follows g.I.In.received g.met.I.In.stays
+    g.met.I.In.received_none at r ns hs e.0 e.1
+    (peeked_of c.skip_key.new.inputs c.skip_key.new.heads)
     c.requires.inputs (subst (IsChosen at hs) same l.1) e.2 (sym e.4 ∙ c.in-Ready.is) e.5 e.6
-    (subst (λ ps. EachUpto (MovesOn g.I.In.link g.I.In.progress g.I.In.Follows g.I.In.received r.key) (λ old new. new ≡ old) at ps (peeked_of c.skip_key.new.inputs c.skip_key.new.heads)) e.3 c.skip_key.ensures)
+    (subst (λ ps. EachUpto (MovesOn g.I.In.link g.I.In.progress g.I.In.Follows g.I.In.received
+    r.key) (λ old new. new ≡ old) at ps (peeked_of c.skip_key.new.inputs c.skip_key.new.heads))
+    e.3 c.skip_key.ensures)
 
 pub returns-else-least : goal.returns-else-least
 returns-else-least g c =
@@ -52,10 +64,16 @@ returns-else-least g c =
     let l = c.requires.least in
     let e = c.next_of.ensures in
     let r = c.in-Ready.record in
-    let same = chosen_same l.0 r e.0.head c.next_of.result (chosen_head ns hs at l.0 e.0 l.1 e.2) e.4 c.in-Ready.is in
-    let first : IsFirst at hs r = subst (IsFirst at hs) same (subst (λ b. IsFirstUnless b at hs l.0) c.if-least.false l.2) in
-    round_step g.I.In.link g.I.In.progress g.I.In.Follows g.I.In.received g.met.I.In.stays g.met.I.In.received_none at r ns hs e.0 e.1 (peeked_of c.next_of.new.inputs c.next_of.new.heads)
+    let same = chosen_same l.0 r e.0.head c.next_of.result (chosen_head ns hs at l.0 e.0 l.1 e.2)
+    e.4 c.in-Ready.is in
+    let first : IsFirst at hs r = subst (IsFirst at hs) same
+    (subst (λ b. IsFirstUnless b at hs l.0) c.if-least.false l.2) in
+    round_step g.I.In.link g.I.In.progress g.I.In.Follows g.I.In.received g.met.I.In.stays
+    g.met.I.In.received_none at r ns hs e.0 e.1
+    (peeked_of c.next_of.new.inputs c.next_of.new.heads)
     c.requires.inputs (subst (IsChosen at hs) same l.1) e.2 (sym e.4 ∙ c.in-Ready.is) e.5 e.6
-    (subst (EachUpto (MovesOn g.I.In.link g.I.In.progress g.I.In.Follows g.I.In.received r.key) (λ old new. new ≡ old) at (slice_set (peeked_of ns hs) at e.1)) (sym e.3)
-    (first_stays g.I.In.link g.I.In.progress g.I.In.Follows g.I.In.received g.met.I.In.stays g.met.I.In.received_none at r (peeked_of ns hs) e.1
+    (subst (EachUpto (MovesOn g.I.In.link g.I.In.progress g.I.In.Follows g.I.In.received r.key)
+    (λ old new. new ≡ old) at (slice_set (peeked_of ns hs) at e.1)) (sym e.3)
+    (first_stays g.I.In.link g.I.In.progress g.I.In.Follows g.I.In.received g.met.I.In.stays
+    g.met.I.In.received_none at r (peeked_of ns hs) e.1
     (subst (λ xs. IsFirst at xs r) (sym (heads_are ns hs c.requires.inputs)) first)))

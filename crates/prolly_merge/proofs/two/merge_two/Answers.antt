@@ -15,9 +15,19 @@ returns-clause-merged g c =
     let os = c.new-left.result ∷ c.new-right.result ∷ [] in
     let ms = c.send_two-items.new.left ∷ c.send_two-items.new.right ∷ [] in
     let ns = c.finish.result ∷ c.finish-2.result ∷ [] in
-    let all = wholes_are g.I.In.link g.I.In.progress g.I.In.Follows g.I.In.received g.met.I.In.goes_on g.met.I.In.received_both es os ms ns
-    (c.new-left.ensures, (c.new-right.ensures, tt)) e.advance (c.finish.ensures, (c.finish-2.ensures, tt)) in
-    subst (λ is. AllRising (lists_of is) → Sends (g.O.Out.sent c.args.out) (raw_merged_part is) (stop_end is) (g.O.Out.all_sent c.close-out.result) (g.O.Out.end_sent c.close-out.result)) all
-    (sends_records (places_after g.I.In.received os ms) (g.O.Out.sent c.args.out) (g.O.Out.all_sent c.close-out.result) e.halts.0 c.send_two-items.result.1 (g.O.Out.end_sent c.close-out.result)
-    e.halts.2 (c.close-out.ensures.sent ∙ e.halts.1) c.close-out.ensures.end (rest_of g.I.In.link g.I.In.progress g.I.In.Follows g.I.In.received ms ns)
-    (rest_fits g.I.In.link g.I.In.progress g.I.In.Follows g.I.In.received os ms ns e.advance (c.finish.ensures, (c.finish-2.ensures, tt))))
+    let all = wholes_are g.I.In.link g.I.In.progress g.I.In.Follows g.I.In.received
+    g.met.I.In.goes_on g.met.I.In.received_both es os ms ns
+    (c.new-left.ensures, (c.new-right.ensures, tt)) e.advance (
+      c.finish.ensures,
+      (c.finish-2.ensures, tt),
+    ) in
+    subst (λ is. AllRising (lists_of is) → Sends (g.O.Out.sent c.args.out) (raw_merged_part is)
+    (stop_end is) (g.O.Out.all_sent c.close-out.result) (g.O.Out.end_sent c.close-out.result))
+    all
+    (sends_records (places_after g.I.In.received os ms) (g.O.Out.sent c.args.out)
+    (g.O.Out.all_sent c.close-out.result) e.halts.0 c.send_two-items.result.1
+    (g.O.Out.end_sent c.close-out.result)
+    e.halts.2 (c.close-out.ensures.sent ∙ e.halts.1) c.close-out.ensures.end
+    (rest_of g.I.In.link g.I.In.progress g.I.In.Follows g.I.In.received ms ns)
+    (rest_fits g.I.In.link g.I.In.progress g.I.In.Follows g.I.In.received os ms ns e.advance
+    (c.finish.ensures, (c.finish-2.ensures, tt))))

@@ -11,14 +11,18 @@ loop-init g c =
     record {
       advance = (
         record { link_is = refl; follows = g.met.I.In.stays l.input; held = c.requires.left },
-        (record { link_is = refl; follows = g.met.I.In.stays r.input; held = c.requires.right }, tt),
+        (
+          record { link_is = refl; follows = g.met.I.In.stays r.input; held = c.requires.right },
+          tt,
+        ),
       );
       out_link = refl;
       items = count_none (g.O.Out.sent c.args.out.now);
       first = (
         [],
         sym (append-nil (g.O.Out.sent c.args.out.now)),
-        start g.I.In.link g.I.In.progress g.I.In.Follows g.I.In.received g.met.I.In.stays g.met.I.In.received_none (l ∷ r ∷ []),
+        start g.I.In.link g.I.In.progress g.I.In.Follows g.I.In.received g.met.I.In.stays
+            g.met.I.In.received_none (l ∷ r ∷ []),
       );
     }
 
@@ -32,13 +36,17 @@ loop-preserved g c =
     let r = c.in-Send.record in
     let sent = g.O.Out.sent c.args.out.now in
     record {
-      advance = step_advances g.I.In.link g.I.In.progress g.I.In.Follows g.I.In.received g.met.I.In.goes_on g.met.I.In.received_both os ms ns r i.advance c.in-Send.ensures;
+      advance = step_advances g.I.In.link g.I.In.progress g.I.In.Follows g.I.In.received
+          g.met.I.In.goes_on g.met.I.In.received_both os ms ns r i.advance c.in-Send.ensures;
       out_link = c.send_sized.ensures.link ∙ i.out_link;
-      items = count_more sent (g.O.Out.sent c.loop.out) (g.O.Out.sent c.send_sized.new.self) (r ∷ []) c.loop.items c.saturating_add-items.result i.items ok c.saturating_add-items.ensures;
+      items = count_more sent (g.O.Out.sent c.loop.out) (g.O.Out.sent c.send_sized.new.self)
+          (r ∷ []) c.loop.items c.saturating_add-items.result i.items ok
+          c.saturating_add-items.ensures;
       first = (
         i.first.0 ++ r ∷ [],
         ok ∙ ap (λ x. x ++ r ∷ []) i.first.1 ∙ append_assoc sent i.first.0 (r ∷ []),
-        step_sends g.I.In.link g.I.In.progress g.I.In.Follows g.I.In.received g.met.I.In.goes_on g.met.I.In.received_both os ms ns i.first.0 r i.advance i.first.2 c.in-Send.ensures,
+        step_sends g.I.In.link g.I.In.progress g.I.In.Follows g.I.In.received g.met.I.In.goes_on
+            g.met.I.In.received_both os ms ns i.first.0 r i.advance i.first.2 c.in-Send.ensures,
       );
     }
 
@@ -55,7 +63,8 @@ returns-in-Err-clause-halts g c =
         refl,
         (
           r ∷ [],
-          step_sends g.I.In.link g.I.In.progress g.I.In.Follows g.I.In.received g.met.I.In.goes_on g.met.I.In.received_both os ms ns i.first.0 r i.advance i.first.2 c.in-Send.ensures,
+          step_sends g.I.In.link g.I.In.progress g.I.In.Follows g.I.In.received g.met.I.In.goes_on
+              g.met.I.In.received_both os ms ns i.first.0 r i.advance i.first.2 c.in-Send.ensures,
         ),
       ),
     )
@@ -68,5 +77,7 @@ returns-in-Stop-clause-halts g c =
     let ns = c.next_of_two.new.left ∷ c.next_of_two.new.right ∷ [] in (
       i.first.0,
       i.first.1,
-      inl (step_stops g.I.In.link g.I.In.progress g.I.In.Follows g.I.In.received g.met.I.In.goes_on g.met.I.In.received_both os ms ns i.first.0 c.in-Stop.end i.advance i.first.2 c.in-Stop.ensures),
+      inl (step_stops g.I.In.link g.I.In.progress g.I.In.Follows g.I.In.received g.met.I.In.goes_on
+          g.met.I.In.received_both os ms ns i.first.0 c.in-Stop.end i.advance i.first.2
+          c.in-Stop.ensures),
     )

@@ -8,6 +8,8 @@ invariant-loop g l = record {
   input_link : g.I.In.link l.input ≡ g.I.In.link l.fn.input;
   follows : g.I.In.Follows l.fn.input l.input;
   out_link : g.O.Out.link l.out ≡ g.O.Out.link l.fn.out;
-  state : l.nodes ≡ node_level g.C.Cut.cut l.fn.cut l.fn.version l.fn.level (g.I.In.received l.fn.input l.input);
-  sent : g.O.Out.sent l.out ≡ g.O.Out.sent l.fn.out ++ inner_events l.fn.level (g.C.Cut.cut l.fn.cut) l.fn.version faulty (g.I.In.received l.fn.input l.input);
+  state : l.nodes ≡ node_level g.C.Cut.cut l.fn.cut l.fn.version l.fn.level
+      (g.I.In.received l.fn.input l.input);
+  sent : g.O.Out.sent l.out ≡ g.O.Out.sent l.fn.out ++ inner_events l.fn.level
+      (g.C.Cut.cut l.fn.cut) l.fn.version faulty (g.I.In.received l.fn.input l.input);
 }

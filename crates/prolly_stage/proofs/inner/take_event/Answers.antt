@@ -14,14 +14,20 @@ pub returns-clause-ok : goal.returns-clause-ok
 returns-clause-ok g c =
     let before = g.O.Out.sent c.args.out.now in
     on_ok_weaker c.send_closed.result
-    (λ sent. subst (λ e. SendsNode g.C.Cut.cut c.args.nodes.now c.push.new.self e before (g.O.Out.sent c.send_closed.new.out)) c.with_reference-event.ensures
-    (c.in_ok-closed.closed, c.in_ok-closed.ensures, sent_both before (c.with_reference-event.result ∷ []) _ _ _ c.in_ok-send_event.ensures.ok sent))
+    (λ sent. subst (λ e. SendsNode g.C.Cut.cut c.args.nodes.now c.push.new.self e before
+    (g.O.Out.sent c.send_closed.new.out)) c.with_reference-event.ensures (
+      c.in_ok-closed.closed,
+      c.in_ok-closed.ensures,
+      sent_both before (c.with_reference-event.result ∷ []) _ _ _ c.in_ok-send_event.ensures.ok
+          sent,
+    ))
     c.send_closed.ensures.ok
 
 pub returns-clause-err : goal.returns-clause-err
 returns-clause-err g c =
     let before = g.O.Out.sent c.args.out.now in
     on_err_weaker c.send_closed.result
-    (λ same. subst (λ e. SendsNodeInPart g.C.Cut.cut c.args.nodes.now c.push.new.self e before (g.O.Out.sent c.send_closed.new.out)) c.with_reference-event.ensures
+    (λ same. subst (λ e. SendsNodeInPart g.C.Cut.cut c.args.nodes.now c.push.new.self e before
+    (g.O.Out.sent c.send_closed.new.out)) c.with_reference-event.ensures
     (inr (c.in_ok-closed.closed, c.in_ok-closed.ensures, same ∙ c.in_ok-send_event.ensures.ok)))
     c.send_closed.ensures.err

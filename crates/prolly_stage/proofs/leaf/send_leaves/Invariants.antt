@@ -10,5 +10,6 @@ invariant-loop g l = record {
   follows : g.I.In.Follows l.fn.input l.input;
   out_link : g.O.Out.link l.out ≡ g.O.Out.link l.fn.out;
   state : l.leaves ≡ leaf_level g.C.Cut.cut l.fn.cut (g.I.In.received l.fn.input l.input);
-  sent : (version : Version) → g.O.Out.sent l.out ≡ g.O.Out.sent l.fn.out ++ leaf_events (g.C.Cut.cut l.fn.cut) version faulty (g.I.In.received l.fn.input l.input);
+  sent : (version : Version) → g.O.Out.sent l.out ≡ g.O.Out.sent l.fn.out ++
+      leaf_events (g.C.Cut.cut l.fn.cut) version faulty (g.I.In.received l.fn.input l.input);
 }

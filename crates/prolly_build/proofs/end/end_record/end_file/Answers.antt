@@ -5,7 +5,11 @@ use Rattle.prolly_build.proofs.end.end_record.end_file.Goals as goal
 
 pub returns-in-Err-clause-err : goal.returns-in-Err-clause-err
 returns-in-Err-clause-err g c = λ head level events old h.
-    inl (refl, inr (unended c.unwrap-top.result h c.unwrap-top.ensures c.requires.few (search rules) (search rules)))
+    inl (
+      refl,
+      inr (unended c.unwrap-top.result h c.unwrap-top.ensures c.requires.few (search rules)
+          (search rules)),
+    )
 
 pub returns-in-Ok-clause-ok : goal.returns-in-Ok-clause-ok
 returns-in-Ok-clause-ok g c = grind (arith, common_steps) steps 2000000

@@ -4,8 +4,10 @@ use Rattle.prolly_build.proofs.run.lists.+join_at.Goals as goal
 
 pub returns-then-at-eq0-clause-items : goal.returns-then-at-eq0-clause-items
 returns-then-at-eq0-clause-items g t c =
-    fork_here _ _ _ _ _ _ _ (omega arith) c.push_first.ensures.items (c.in-Some.ensures.items ∙ ap (λ xs. c.in-Some.first ∷ xs) c.in-Some-pop_first.ensures.items)
+    fork_here _ _ _ _ _ _ _ (omega arith) c.push_first.ensures.items (c.in-Some.ensures.items ∙
+    ap (λ xs. c.in-Some.first ∷ xs) c.in-Some-pop_first.ensures.items)
 
 pub returns-clause-items : goal.returns-clause-items
 returns-clause-items g t c =
-    fork_later _ (c.args.at - 1) _ _ _ _ _ _ _ _ (omega arith) c.push_first-2.ensures.items c.in-Some.ensures.items c.join_at-two.ensures.items
+    fork_later _ (c.args.at - 1) _ _ _ _ _ _ _ _ (omega arith) c.push_first-2.ensures.items
+    c.in-Some.ensures.items c.join_at-two.ensures.items

@@ -10,48 +10,83 @@ use Rattle.prolly_build.proofs.FeedingSteps.{fed_by_loaders, fed_by_merger, merg
 use Rattle.prolly_build.proofs.run.merger_tree.+merge_tree.Goals as goal
 
 pub returns-in_default-start_two : goal.returns-in_default-start_two
-returns-in_default-start_two g t c = record { fed = tt; hands_on = record { written = tt; refused = λ _. refl; begun = nothing_begun c.args.site.now.config _ } }
+returns-in_default-start_two g t c = record {
+  fed = tt;
+  hands_on = record {
+    written = tt;
+    refused = λ _. refl;
+    begun = nothing_begun c.args.site.now.config _;
+  };
+}
 
 pub returns-in_default-clause-fed : goal.returns-in_default-clause-fed
 returns-in_default-clause-fed g t c =
-    on_ok_weaker c.load_all.result (fed_by_loaders g.S.Source.seen _ _ _ _ _) c.load_all.ensures.loaded
+    on_ok_weaker c.load_all.result (fed_by_loaders g.S.Source.seen _ _ _ _ _)
+    c.load_all.ensures.loaded
 
 pub start_two-requires-after_bounds : goal.start_two-requires-after_bounds
-start_two-requires-after_bounds g t c κs within =
-    (c.in-Some.fork.left.unreceived, c.in-Some.fork.right.unreceived, forked_one IsUnsent c.fork_at-out.ensures.items c.requires.unsent)
+start_two-requires-after_bounds g t c κs within = (
+  c.in-Some.fork.left.unreceived,
+  c.in-Some.fork.right.unreceived,
+  forked_one IsUnsent c.fork_at-out.ensures.items c.requires.unsent,
+)
 
 pub merge_tree-wrote-requires-clause-unsent : goal.merge_tree-wrote-requires-clause-unsent
 merge_tree-wrote-requires-clause-unsent g t c κs within =
-    forked_all IsUnsent c.fork_at-out.ensures.items c.requires.unsent c.in-Some.fork.left.unsent c.in-Some.fork.right.unsent
+    forked_all IsUnsent c.fork_at-out.ensures.items c.requires.unsent c.in-Some.fork.left.unsent
+    c.in-Some.fork.right.unsent
 
 pub join_at-left_sent-requires : goal.join_at-left_sent-requires
 join_at-left_sent-requires g t c =
-    let same = same_length (λ (s : Whole Record). s.link) (λ (o : Batching Record). o.link) c.merge_tree-wrote.new.closed.items c.fork_at-out.new.list.items c.in_ok-wrote.ensures.fed.links in
-    omega (arith, same, c.merge_tree-wrote.new.closed.ok.0, c.fork_at-out.new.list.ok.0, c.fork_at-out.ensures.len, c.place_of_merger-place.ensures, c.len.ensures, c.len-number.ensures, c.requires.each, c.in-Some.ensures.len, c.in-Some.ensures.cases)
+    let same = same_length (λ (s : Whole Record). s.link) (λ (o : Batching Record). o.link)
+    c.merge_tree-wrote.new.closed.items c.fork_at-out.new.list.items
+    c.in_ok-wrote.ensures.fed.links in
+    omega (
+      arith,
+      same,
+      c.merge_tree-wrote.new.closed.ok.0,
+      c.fork_at-out.new.list.ok.0,
+      c.fork_at-out.ensures.len,
+      c.place_of_merger-place.ensures,
+      c.len.ensures,
+      c.len-number.ensures,
+      c.requires.each,
+      c.in-Some.ensures.len,
+      c.in-Some.ensures.cases,
+    )
 
 pub meet-requires : goal.meet-requires
 meet-requires g t c =
-    let m = forked_maps (λ (s : Whole Record). s.link) (λ (o : Batching Record). o.link) c.join_at-left_sent.ensures.items c.fork_at-out.ensures.items c.in_ok-wrote.ensures.fed.links in
-    m.0 ∙ (c.in-Some.fork.left.paired ∙ sym (c.join-left.ensures.reads_left ∙ ap (λ r. r.link) c.in-Some-start_two.ensures.left))
+    let m = forked_maps (λ (s : Whole Record). s.link) (λ (o : Batching Record). o.link)
+    c.join_at-left_sent.ensures.items c.fork_at-out.ensures.items
+    c.in_ok-wrote.ensures.fed.links in
+    m.0 ∙ (c.in-Some.fork.left.paired ∙ sym (c.join-left.ensures.reads_left ∙
+    ap (λ r. r.link) c.in-Some-start_two.ensures.left))
 
 pub meet-requires-2 : goal.meet-requires-2
 meet-requires-2 g t c =
-    let m = forked_maps (λ (s : Whole Record). s.link) (λ (o : Batching Record). o.link) c.join_at-left_sent.ensures.items c.fork_at-out.ensures.items c.in_ok-wrote.ensures.fed.links in
-    m.1 ∙ (c.in-Some.fork.right.paired ∙ sym (c.join-left.ensures.reads_right ∙ ap (λ r. r.link) c.in-Some-start_two.ensures.right))
+    let m = forked_maps (λ (s : Whole Record). s.link) (λ (o : Batching Record). o.link)
+    c.join_at-left_sent.ensures.items c.fork_at-out.ensures.items
+    c.in_ok-wrote.ensures.fed.links in
+    m.1 ∙ (c.in-Some.fork.right.paired ∙ sym (c.join-left.ensures.reads_right ∙
+    ap (λ r. r.link) c.in-Some-start_two.ensures.right))
 
 pub returns-clause-fed : goal.returns-clause-fed
 returns-clause-fed g t c =
     fed_by_merger g.S.Source.seen _ _ _ _ _ _ _ _ _ _ _ _ _ _
     c.in_ok-wrote.ensures.fed c.fork_at-out.ensures.items c.join_at-left_sent.ensures.items
     (c.join-left.ensures.writes ∙ ap (λ o. o.link) c.in-Some-start_two.ensures.out)
-    (merges_met c.join-left.result.left c.join-left.result.right c.join_at-left_sent.result.0 c.join_at-left_sent.result.1 c.join-left.result.out c.join-left.ensures.merges
+    (merges_met c.join-left.result.left c.join-left.result.right c.join_at-left_sent.result.0
+    c.join_at-left_sent.result.1 c.join-left.result.out c.join-left.ensures.merges
     (c.in_ok-meet.ensures.met c.join-left.ensures.left_ended)
     (c.in_ok-meet-2.ensures.met c.join-left.ensures.right_ended))
 
 pub returns-in_err-meet-clause-hands_on : goal.returns-in_err-meet-clause-hands_on
 returns-in_err-meet-clause-hands_on g t c =
-    unmet_hands_on _ _ _ _ _ _ _ _ _ c.in_ok-wrote.ensures.hands_on.written c.from_residual-in_err-meet.ensures.1 c.in_err-meet.ensures.lost
+    unmet_hands_on _ _ _ _ _ _ _ _ _ c.in_ok-wrote.ensures.hands_on.written
+    c.from_residual-in_err-meet.ensures.1 c.in_err-meet.ensures.lost
 
 pub returns-in_err-meet-2-clause-hands_on : goal.returns-in_err-meet-2-clause-hands_on
 returns-in_err-meet-2-clause-hands_on g t c =
-    unmet_hands_on _ _ _ _ _ _ _ _ _ c.in_ok-wrote.ensures.hands_on.written c.from_residual-in_err-meet-2.ensures.1 c.in_err-meet-2.ensures.lost
+    unmet_hands_on _ _ _ _ _ _ _ _ _ c.in_ok-wrote.ensures.hands_on.written
+    c.from_residual-in_err-meet-2.ensures.1 c.in_err-meet-2.ensures.lost

@@ -9,5 +9,6 @@ invariant-loop g l = record {
   follows : g.I.In.Follows l.initial.input l.input;
   written : (head : List ℕ) (old : SinkView) →
       HasWritten head l.last_level [] old (g.W.Sink.seen l.initial.sink) l.fn.begun →
-      HasWritten head l.last_level (g.I.In.received l.initial.input l.input) old (g.W.Sink.seen l.sink) l.written;
+      HasWritten head l.last_level (g.I.In.received l.initial.input l.input) old
+      (g.W.Sink.seen l.sink) l.written;
 }

@@ -7,4 +7,5 @@ unfolding reference_of
 returns-clause-hashed c = cc (c.copy_from_slice.ensures.after, c.digest-digest.ensures)
 
 pub returns-clause-reference : goal.returns-clause-reference
-returns-clause-reference c = rw (returns-clause-hashed c) (IsReference-reference_of c.args.bytes.now)
+returns-clause-reference c = rw (returns-clause-hashed c)
+    (IsReference-reference_of c.args.bytes.now)

@@ -15,10 +15,13 @@ loop-group-init c = record {
 pub loop-group-preserved : goal.loop-group-preserved
 loop-group-preserved c = record {
   long = search (rules, places);
-  written = text_of-written c.loop-group.group c.number_of_bytes-number.result c.args.self.now.0 c.loop-group.text c.write_characters.new.text
-      (omega arith) (omega arith) (omega arith) c.number_of_bytes-number.ensures.spelled c.number_of_bytes-number.ensures.below
+  written = text_of-written c.loop-group.group c.number_of_bytes-number.result c.args.self.now.0
+      c.loop-group.text c.write_characters.new.text
+      (omega arith) (omega arith) (omega arith) c.number_of_bytes-number.ensures.spelled
+      c.number_of_bytes-number.ensures.below
       c.write_characters.ensures c.loop-group.invariant.written;
-  in_range = All-take_more c.loop-group.group c.args.self.now.0 c.loop-group.invariant.in_range c.number_of_bytes-number.ensures.in_range;
+  in_range = All-take_more c.loop-group.group c.args.self.now.0 c.loop-group.invariant.in_range
+      c.number_of_bytes-number.ensures.in_range;
 }
 
 pub returns-clause-written : goal.returns-clause-written
@@ -30,4 +33,8 @@ returns-clause-written c =
 pub returns-clause-reference : goal.returns-clause-reference
 returns-clause-reference c =
     let whole = take_all (5 * c.loop-group.group) c.args.self.now.0 (omega arith) in
-    record { twenty = omega arith; in_range = All-same IsByte _ _ (sym whole) c.loop-group.invariant.in_range }
+    record {
+      twenty = omega arith;
+      in_range = All-same IsByte _ _ (sym whole)
+          c.loop-group.invariant.in_range;
+    }

@@ -9,10 +9,13 @@ pub returns-clause-bytes : goal.returns-clause-bytes
 returns-clause-bytes c =
     let given = c.copy_some-count.ensures in (
       sym (ap (λ (s : SourceScript). s.left) c.self.view_is)
-          ∙ handed_out _ _ c.args.buf.now c.copy_some-count.new.to _ _ _ c.deref.ensures.value given.count given.copied,
+          ∙ handed_out _ _ c.args.buf.now c.copy_some-count.new.to _ _ _ c.deref.ensures.value
+          given.count given.copied,
       λ none more.
-          let size : length c.copy_some-count.new.to ≡ length c.args.buf.now = c.copy_some-count.auto.to in
-          all_given _ _ c.args.buf.now _ _ _ c.self.invariant.1 c.deref.ensures.value given.count none (omega arith),
+          let size : length c.copy_some-count.new.to ≡ length c.args.buf.now =
+          c.copy_some-count.auto.to in
+          all_given _ _ c.args.buf.now _ _ _ c.self.invariant.1 c.deref.ensures.value given.count
+          none (omega arith),
     )
 
 pub returns-clause-honest : goal.returns-clause-honest

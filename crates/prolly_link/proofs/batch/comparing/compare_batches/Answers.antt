@@ -14,9 +14,12 @@ returns-clause-passed g c =
     let given = given_of came hand.items in
     let sent = items_of c.compare.new.sender.items ++ pending in
     let in_hand : IsInHand came hand.items (deque_len hand) =
-        rw c.compare.ensures.receiver c.receiver.invariant in
+    rw c.compare.ensures.receiver c.receiver.invariant in
     let begins = given_begins came c.compare.new.sender.items hand.items pending (deque_len hand)
-        in_hand c.compare.ensures.passed.prefix in
+    in_hand c.compare.ensures.passed.prefix in
     let unended = c.compare.ensures.passed.no_end in
-    record { prefix = begins; no_end = unended;
-        messages = received_of_open came.progress given.items sent begins unended }
+    record {
+      prefix = begins;
+      no_end = unended;
+      messages = received_of_open came.progress given.items sent begins unended;
+    }

@@ -12,10 +12,14 @@ returns-clause-passed g c =
     let hand = c.receiver.inside.hand in
     let given = given_of came hand.items in
     let in_hand : IsInHand came hand.items (deque_len hand) =
-        rw c.compare_closed.ensures.receiver c.receiver.invariant in
+    rw c.compare_closed.ensures.receiver c.receiver.invariant in
     let begins = given_begins_whole came sent.items hand.items (deque_len hand) in_hand
-        c.compare_closed.ensures.passed.prefix in
+    c.compare_closed.ensures.passed.prefix in
     let whole = given_whole came sent.items hand.items sent.end (deque_len hand) in_hand
-        c.compare_closed.ensures.passed.end in
-    record { prefix = begins; end = whole; messages = received_of_closed came.progress given.items
-        (items_of sent.items) sent.end begins whole }
+    c.compare_closed.ensures.passed.end in
+    record {
+      prefix = begins;
+      end = whole;
+      messages = received_of_closed came.progress given.items
+          (items_of sent.items) sent.end begins whole;
+    }

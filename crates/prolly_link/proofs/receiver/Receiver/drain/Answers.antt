@@ -17,5 +17,5 @@ loop-preserved-in-Item g c =
       drains_item c.args.self.progress before.progress after.progress c.args.self.items before.items
           after.items c.in-Item.field-0
           c.loop.invariant.1 c.in-Item.ensures.again c.in-Item.ensures.progress
-              c.in-Item.ensures.items,
+          c.in-Item.ensures.items,
     )

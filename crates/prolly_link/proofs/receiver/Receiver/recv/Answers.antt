@@ -7,11 +7,11 @@ invariant_of-self g c =
     let before = c.self.inside in
     let came = rw c.in-Some-Item.field-0-is at c.in-Some-Item.ensures.some in
     agrees_item before.progress (popped before.ring) (popped c.pop_waiting.new.ring)
-        c.in-Some-Item.item c.in-Open.is c.self.invariant.open_is came
+    c.in-Some-Item.item c.in-Open.is c.self.invariant.open_is came
 
 pub invariant_of-self-in-Some-Last : goal.invariant_of-self-in-Some-Last
 invariant_of-self-in-Some-Last g c =
     let before = c.self.inside in
     let came = rw c.in-Some-Last.field-0-is at c.in-Some-Last.ensures.some in
     agrees_last before.progress (popped before.ring) (popped c.pop_waiting.new.ring)
-        c.in-Some-Last.end c.in-Open.is c.self.invariant.open_is came
+    c.in-Some-Last.end c.in-Open.is c.self.invariant.open_is came

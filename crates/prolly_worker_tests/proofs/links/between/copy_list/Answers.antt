@@ -9,7 +9,9 @@ returns g c = λ clean.
     let list = c.new.result in
     let after = c.copy_all-input.result.input in
     let copied = c.copy_all-input.ensures.copied clean in
-    let all = all_lost list after c.copy_all-input.ensures.follows c.copy_all-input.ensures.ended in (
-      copied.0 ∙ ap (λ xs. xs ++ front_lost list after) c.new-2.ensures ∙ all.0 ∙ ap items_left c.new.ensures,
+    let all = all_lost list after c.copy_all-input.ensures.follows c.copy_all-input.ensures.ended
+    in (
+      copied.0 ∙ ap (λ xs. xs ++ front_lost list after) c.new-2.ensures ∙ all.0 ∙
+          ap items_left c.new.ensures,
       copied.1 ∙ ap end_given all.1 ∙ ap last_end c.new.ensures,
     )

@@ -5,5 +5,6 @@ pub loop-number-preserved : goal.loop-number-preserved
 loop-number-preserved g c =
     let sent = g.O.Out.sent in (
       cc (c.send.ensures.link, c.loop-number.invariant.0),
-      number_sent (sent c.loop-number.out) (sent c.args.out) (sent c.send.new.self) c.loop-number.number c.loop-number.invariant.1 c.in_default.ensures.ok,
+      number_sent (sent c.loop-number.out) (sent c.args.out) (sent c.send.new.self)
+          c.loop-number.number c.loop-number.invariant.1 c.in_default.ensures.ok,
     )

@@ -10,6 +10,9 @@ pub returns : goal.returns
 returns g c = λ version.
     let list = c.new.result in
     let after = c.leaf_stage-input.result.input in
-    let all = all_lost list after c.leaf_stage-input.ensures.follows c.leaf_stage-input.ensures.ended in
-    sends_of (leaf_events (g.C.Cut.cut c.args.cut) version) _ _ _ _ _ _ _ _ (all.0 ∙ ap items_left c.new.ensures) (ap end_given all.1 ∙ ap last_end c.new.ensures) c.new-2.ensures
+    let all = all_lost list after c.leaf_stage-input.ensures.follows
+    c.leaf_stage-input.ensures.ended in
+    sends_of (leaf_events (g.C.Cut.cut c.args.cut) version) _ _ _ _ _ _ _ _
+    (all.0 ∙ ap items_left c.new.ensures) (ap end_given all.1 ∙ ap last_end c.new.ensures)
+    c.new-2.ensures
     (c.leaf_stage-input.ensures.sends version)

@@ -10,7 +10,7 @@ invariant_of-self g c =
     let hand = c.self.inside.hand in
     let next = c.pop_front.new.self in
     hand_after c.self.inside.receiver hand.items next.items (deque_len hand) (deque_len next)
-        c.pop_front.result c.self.invariant c.pop_front.ensures.items c.pop_front.ensures.cases
+    c.pop_front.result c.self.invariant c.pop_front.ensures.items c.pop_front.ensures.cases
 
 pub returns-in-Some-clause-items : goal.returns-in-Some-clause-items
 returns-in-Some-clause-items g c =
@@ -18,6 +18,6 @@ returns-in-Some-clause-items g c =
     let next = c.pop_front.new.self in
     rw (← c.self.view_is) (
     given_one (items_of c.self.inside.receiver.items) hand.items next.items c.in-Some.item
-        c.self.invariant.ends_is
+    c.self.invariant.ends_is
     (c.pop_front.ensures.items ∙ ap (λ given. option_to_list given ++ next.items) c.in-Some.is)
     )

@@ -1,8 +1,0 @@
-//! Bytes, compared. A comparison that can show both its sides makes a large proof, so that it
-//! stands here once.
-use std::process::Abort;
-
-/// Fails unless the bytes are those that are expected.
-pub(crate) fn expect_bytes(rt: &impl Abort, bytes: &[u8], expected: &[u8]) {
-    assert_eq!(rt; bytes, expected);
-}
