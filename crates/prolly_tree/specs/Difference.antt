@@ -26,6 +26,16 @@ IsMap m = Rising (map (λ p. p.key) m)
 abbrev pub puts : List Pair → List Record
 puts m = map (λ p. record { key = p.key; value = Some p.value }) m
 
+-- Law: the difference of two maps says nothing of a key that both have alike.
+abbrev pub SaysNoEqual : Type 0
+SaysNoEqual = (old new : List Pair) (d : List Record) (key : List ℕ) → IsDifference old new d →
+    find old key ≡ find new key → change_of d key ≡ None
+
+-- Law: two maps have a difference.
+abbrev pub SomeDifference : Type 0
+SomeDifference = (old new : List Pair) → IsMap old → IsMap new →
+    (d : List Record) × IsDifference old new d
+
 -- Law: two maps have at most one difference.
 abbrev pub OneDifference : Type 0
 OneDifference = (old new : List Pair) (d e : List Record) → IsDifference old new d →

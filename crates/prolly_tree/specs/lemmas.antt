@@ -1,6 +1,8 @@
 -- Lemmas for the crates above, by subject: what a proof may use of trees, pipelines and merging.
 -- Lists of pairs whose keys rise.
 pub mod Maps
+-- The difference of two maps, from that of what is behind their first pairs.
+pub mod Differences
 -- How a list is split into groups.
 pub mod Splits
 -- Trees, their chunks and their files.

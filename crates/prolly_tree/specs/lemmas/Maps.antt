@@ -1,13 +1,14 @@
 -- Lists of pairs whose keys rise.
 use Rattle.std.proofs.Common.{◌≡◌, ℕ, ◌≤◌, ◌⊎◌, inl, inr, List, [], ◌∷◌, ◌++◌, length, map, refl}
-use Rattle.std.proofs.Common.{sym, ap, ◌∙◌, subst, arith}
+use Rattle.std.proofs.Common.{None, sym, ap, ◌∙◌, subst, arith}
 use Rattle.std.specs.List.{flat_map, AllByRecursion}
 use Rattle.prolly_entry.specs.Keys.{KeyBelow, Rising, RisingFrom}
 use Rattle.prolly_entry.specs.Pair.{Pair, IsPair}
 use Rattle.prolly_entry.specs.Spelling.{pair_spelling}
 use Rattle.prolly_entry.specs.lemmas.Lists.{all_front}
-use Rattle.prolly_entry.specs.lemmas.Orders.{order_trans}
+use Rattle.prolly_entry.specs.lemmas.Orders.{order_trans, not_eq_above}
 use Rattle.prolly_entry.specs.lemmas.Spellings.{pair_spellings_apart}
+use Rattle.prolly_tree.specs.LookUp.{find}
 use Rattle.prolly_tree.specs.Tree.{last_key}
 
 -- The key is that of a pair of the list.
@@ -44,6 +45,33 @@ rises_from x (p ∷ ps) h = let r = rises_from p.key ps h.1 in
 pub rises : (ps : List Pair) → Rising (map (λ p. p.key) ps) → Rises ps
 rises [] h = tt
 rises (p ∷ ps) h = let r = rises_from p.key ps h in (r.0, r.1)
+
+-- What is behind the first pairs of a map is a map.
+pub map_behind : (ps qs : List Pair) → Rising (map (λ p. p.key) (ps ++ qs)) →
+    Rising (map (λ p. p.key) qs)
+map_behind [] qs h = h
+map_behind (p ∷ ps) qs h = map_behind ps qs (behind p.key (ps ++ qs) h)
+  where
+    behind : (x : List ℕ) (rs : List Pair) → RisingFrom x (map (λ p. p.key) rs) →
+        Rising (map (λ p. p.key) rs)
+    behind x [] h = tt
+    behind x (r ∷ rs) h = h.1
+
+-- The first key of the list, if there is one, is above this key.
+abbrev pub FirstAbove : List ℕ → List Pair → Type 0
+FirstAbove key [] = Unit {0}
+FirstAbove key (p ∷ ps) = KeyBelow key p.key
+
+-- A key below the first one of a map is below all of them.
+pub above_first : (key : List ℕ) (ps : List Pair) → Rising (map (λ p. p.key) ps) →
+    FirstAbove key ps → Above key ps
+above_first key [] h k = tt
+above_first key (p ∷ ps) h k = (k, above_more key p.key ps k (rises (p ∷ ps) h).0)
+
+-- A list of keys above a key has nothing at that key.
+pub find_above : (ps : List Pair) (key : List ℕ) → Above key ps → find ps key ≡ None
+find_above [] key h = refl
+find_above (p ∷ ps) key h = rw (not_eq_above key p.key h.0) (find_above ps key h.1)
 
 -- The first pairs of a rising list rise.
 pub rises_front : (ps qs : List Pair) → Rises (ps ++ qs) → Rises ps
