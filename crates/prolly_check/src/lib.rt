@@ -27,4 +27,5 @@ mod whole;
 
 pub use checker::check;
 pub use fault::CheckFault;
+pub use leaf::Pairs;
 pub use tree::{NoCounts, Tree};
