@@ -1,5 +1,6 @@
 -- The tests against the file of the pairs.
-use Rattle.std.proofs.Common.{◌≡◌, ℕ, ◌<◌, true, false, not, List, ◌∷◌, ◌++◌, length, map, Some, None, sym, ap, ◌∙◌, subst}
+use Rattle.std.proofs.Common.{◌≡◌, ℕ, ◌<◌, true, false, not, List, ◌∷◌, ◌++◌, length, map, Some}
+use Rattle.std.proofs.Common.{None, sym, ap, ◌∙◌, subst}
 use Rattle.std.specs.Int.{w64, to_be_bytes}
 use Rattle.std.specs.List.{flat_map}
 use Rattle.std.specs.Str.{bytes_eq}
@@ -29,14 +30,19 @@ unequal x y e f = false≢true (sym (e ∙ ap not ((bytes_eq-Decides x y).1 f)))
 pub equal : (x y : List ℕ) → false ≡ not (bytes_eq x y) → x ≡ y
 equal x y e = (bytes_eq-Decides x y).0 (not-false (bytes_eq x y) (sym e))
 
-ending_is : (version : Version) (bits : ℕ) (pairs : List Pair) → ending_of_chunks (chunk_bytes version bits pairs) ≡ ending_for version bits pairs
+ending_is : (version : Version) (bits : ℕ) (pairs : List Pair) →
+    ending_of_chunks (chunk_bytes version bits pairs) ≡ ending_for version bits pairs
 ending_is version bits pairs =
-    ap (λ c. reference_of c ++ to_be_bytes w64 (length (chunk_bytes version bits pairs))) (chunks_last version bits pairs)
-    ∙ ap (λ n. root_reference (sha512_cut bits) version pairs ++ to_be_bytes w64 n) (length-map (chunks (sha512_cut bits) version pairs) (λ c. c.bytes))
+    ap (λ c. reference_of c ++ to_be_bytes w64 (length (chunk_bytes version bits pairs)))
+    (chunks_last version bits pairs)
+    ∙ ap (λ n. root_reference (sha512_cut bits) version pairs ++ to_be_bytes w64 n)
+    (length-map (chunks (sha512_cut bits) version pairs) (λ c. c.bytes))
 
 -- where the keys rise, the chunks are tested, and then the end record
-module _ (version : Version) (bits : ℕ) (cs : List (List ℕ)) (rise : order_fault None 0 (map pairs_held cs) ≡ None) (behind : List ℕ) where
-  pub chunks_say : (fault : CheckFault) → CompareAs version bits cs (Some fault) → Says version bits cs behind (Some fault)
+module _ (version : Version) (bits : ℕ) (cs : List (List ℕ))
+    (rise : order_fault None 0 (map pairs_held cs) ≡ None) (behind : List ℕ) where
+  pub chunks_say : (fault : CheckFault) → CompareAs version bits cs (Some fault) →
+      Says version bits cs behind (Some fault)
   chunks_say fault differ ending e = rw (rise, flat_held cs, differ)
 
   module _ (same : CompareAs version bits cs None) where
@@ -47,16 +53,23 @@ module _ (version : Version) (bits : ℕ) (cs : List (List ℕ)) (rise : order_f
     are_chunks = difference_ok 0 (chunk_bytes version bits (flat_map pairs_held cs)) cs same
 
     pub some_chunks : 0 < length cs
-    some_chunks = subst (λ ws. 0 < length ws) are_chunks (chunks_some version bits (flat_map pairs_held cs))
+    some_chunks = subst (λ ws. 0 < length ws) are_chunks
+        (chunks_some version bits (flat_map pairs_held cs))
 
     ends_as : 0x45 ∷ ending_of_chunks cs ≡ 0x45 ∷ wanted
-    ends_as = ap (λ ws. 0x45 ∷ ending_of_chunks ws) (sym are_chunks) ∙ ap (λ e. 0x45 ∷ e) (ending_is version bits (flat_map pairs_held cs))
+    ends_as = ap (λ ws. 0x45 ∷ ending_of_chunks ws) (sym are_chunks) ∙
+        ap (λ e. 0x45 ∷ e) (ending_is version bits (flat_map pairs_held cs))
 
-    pub end_says : (fault : CheckFault) → (fault ≡ faults.BadEnd) × (behind ≡ 0x45 ∷ ending_of_chunks cs → ⊥) → Says version bits cs behind (Some fault)
+    pub end_says : (fault : CheckFault) → (fault ≡ faults.BadEnd) ×
+        (behind ≡ 0x45 ∷ ending_of_chunks cs → ⊥) → Says version bits cs behind (Some fault)
     end_says fault bad ending e = rw (rise, flat_held cs, same, bad.0)
         (cond-false (bytes_eq ending wanted) None (Some faults.BadEnd)
-        (false_from_ne_true (bytes_eq ending wanted) (λ t. bad.1 (e ∙ ap (λ x. 0x45 ∷ x) ((bytes_eq-Decides ending wanted).0 t) ∙ sym ends_as))))
+        (false_from_ne_true (bytes_eq ending wanted)
+        (λ t. bad.1 (e ∙ ap (λ x. 0x45 ∷ x) ((bytes_eq-Decides ending wanted).0 t) ∙
+        sym ends_as))))
 
     pub all_say : behind ≡ 0x45 ∷ ending_of_chunks cs → Says version bits cs behind None
     all_say is ending e = rw (rise, flat_held cs, same)
-        (cond-true (bytes_eq ending wanted) None (Some faults.BadEnd) ((bytes_eq-Decides ending wanted).1 (cells 0x45 0x45 ending wanted (sym e ∙ is ∙ ends_as))))
+        (cond-true (bytes_eq ending wanted) None (Some faults.BadEnd)
+        ((bytes_eq-Decides ending wanted).1
+        (cells 0x45 0x45 ending wanted (sym e ∙ is ∙ ends_as))))

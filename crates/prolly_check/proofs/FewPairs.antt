@@ -1,5 +1,6 @@
 -- A file has no more pairs than bytes.
-use Rattle.std.proofs.Common.{ℕ, zero, suc, ◌≤◌, List, [], ◌∷◌, ◌++◌, length, drop, ap, ◌∙◌, arith, length-drop}
+use Rattle.std.proofs.Common.{ℕ, zero, suc, ◌≤◌, List, [], ◌∷◌, ◌++◌, length, drop, ap, ◌∙◌, arith}
+use Rattle.std.proofs.Common.{length-drop}
 use Rattle.std.specs.Int.{w64, to_be_bytes}
 use Rattle.std.specs.List.{flat_map}
 use Rattle.std.proofs.lemmas.List.{length-append}
@@ -29,14 +30,16 @@ each_has_bytes (p ∷ pairs) =
     let e = length-append (pair_spelling p) (flat_map pair_spelling pairs) in
     omega arith
 
-few_in_one : (version : Version) (chunk : List ℕ) → IsWhole version chunk → length (pairs_held chunk) ≤ length chunk
+few_in_one : (version : Version) (chunk : List ℕ) → IsWhole version chunk →
+    length (pairs_held chunk) ≤ length chunk
 few_in_one version [] w = omega arith
 few_in_one version (zero ∷ entries) w =
     let few = each_has_bytes w.pairs in
     omega (arith, ap length w.holds.is, ap length (leaf_pairs entries w.pairs w.holds))
 few_in_one version (suc level ∷ entries) w = omega arith
 
-few_in_frames : (version : Version) (cs : List (List ℕ)) → AreWhole version cs → length (flat_map pairs_held cs) ≤ length (flat_map framed cs)
+few_in_frames : (version : Version) (cs : List (List ℕ)) → AreWhole version cs →
+    length (flat_map pairs_held cs) ≤ length (flat_map framed cs)
 few_in_frames version [] w = omega arith
 few_in_frames version (c ∷ cs) w =
     let here = few_in_one version c w.0 in
@@ -46,7 +49,8 @@ few_in_frames version (c ∷ cs) w =
     let frame = length-append (0x43 ∷ to_be_bytes w64 (length c)) c in
     omega arith
 
-pub few_held : (version : Version) (bytes : List ℕ) (spans : List Span) (place : ℕ) → FramesTo bytes spans place → AreWhole version (chunks_in bytes spans) →
+pub few_held : (version : Version) (bytes : List ℕ) (spans : List Span) (place : ℕ) →
+    FramesTo bytes spans place → AreWhole version (chunks_in bytes spans) →
     length (flat_map pairs_held (chunks_in bytes spans)) ≤ length bytes
 few_held version bytes spans place frames whole =
     let few = few_in_frames version (chunks_in bytes spans) whole in
@@ -55,15 +59,19 @@ few_held version bytes spans place frames whole =
     let behind = length-drop 6 bytes in
     omega arith
 
-pub few_pairs : (bytes : List ℕ) (content : Content) → IsFileOf bytes content → length content.pairs ≤ length bytes
+pub few_pairs : (bytes : List ℕ) (content : Content) → IsFileOf bytes content →
+    length content.pairs ≤ length bytes
 few_pairs bytes content f =
     let cut = sha512_cut content.bits in
     let holding = map_holds content.version content.bits content.pairs f.lawful in
-    let few = few_in_frames content.version (chunk_bytes content.version content.bits content.pairs) holding.whole in
+    let few = few_in_frames content.version (chunk_bytes content.version content.bits content.pairs)
+    holding.whole in
     let all = ap length holding.are in
     let frames = flat_map frame (chunks cut content.version content.pairs) in
     let framed = ap length (frames_bytes (chunks cut content.version content.pairs)) in
-    let ending = end_record (root_reference cut content.version content.pairs) (length (chunks cut content.version content.pairs)) in
-    let size = ap length f.is ∙ length-append (header content.version content.bits) (frames ++ ending) in
+    let ending = end_record (root_reference cut content.version content.pairs)
+    (length (chunks cut content.version content.pairs)) in
+    let size = ap length f.is ∙ length-append (header content.version content.bits)
+    (frames ++ ending) in
     let rest = length-append frames ending in
     omega arith

@@ -1,5 +1,6 @@
 -- The chunks of a file that was checked, found by their numbers and their references.
-use Rattle.std.proofs.Common.{◌≡◌, ℕ, ◌-◌, ◌<◌, List, [], length, get_or, Some, None, sym, ap, ◌∙◌, subst}
+use Rattle.std.proofs.Common.{◌≡◌, ℕ, ◌-◌, ◌<◌, List, [], length, get_or, Some, None, sym, ap, ◌∙◌}
+use Rattle.std.proofs.Common.{subst}
 use Rattle.std.specs.Prelude.{is_some}
 use Rattle.std.specs.BTreeMap.{BTreeMap}
 use Rattle.std.proofs.lemmas.Bool.{false≢true}
@@ -18,21 +19,34 @@ use Rattle.std.proofs.lemmas.List.{length-map}
 use Rattle.prolly_check.proofs.CheckedTree.{chunks_last}
 use Rattle.prolly_check.proofs.HeldPairs.{each_whole, map_holds}
 
-module _ (bytes : List ℕ) (version : Version) (spans : List Span) (index : BTreeMap Ref ℕ) (checked : IsChecked bytes version spans index) (content : Content) (same : content_in bytes version spans ≡ content) where
+module _ (bytes : List ℕ) (version : Version) (spans : List Span) (index : BTreeMap Ref ℕ)
+    (checked : IsChecked bytes version spans index) (content : Content)
+    (same : content_in bytes version spans ≡ content) where
   chunks_so : chunks_in bytes spans ≡ chunks_of content
   chunks_so = checked.chunks_are ∙ ap chunks_of same
 
   pub root_there : get_or (chunks_of content) (length spans - 1) [] ≡ root_bytes content
-  root_there = ap (λ n. get_or (chunks_of content) (n - 1) []) (sym (length-map spans (chunk_in bytes)) ∙ ap length chunks_so) ∙ chunks_last content.version content.bits content.pairs
+  root_there = ap (λ n. get_or (chunks_of content) (n - 1) [])
+      (sym (length-map spans (chunk_in bytes)) ∙ ap length chunks_so) ∙
+      chunks_last content.version content.bits content.pairs
 
-  pub chunk_whole : (chunk : List ℕ) (number : ℕ) → number < length (chunks_of content) → chunk ≡ get_or (chunks_of content) number [] → IsWhole version chunk
+  pub chunk_whole : (chunk : List ℕ) (number : ℕ) → number < length (chunks_of content) →
+      chunk ≡ get_or (chunks_of content) number [] → IsWhole version chunk
   chunk_whole chunk number within is =
-      subst (IsWhole version) (sym is) (subst (λ v. IsWhole v (get_or (chunks_of content) number [])) (sym (ap (λ x. x.version) same))
-      (each_whole content.version (chunks_of content) number (map_holds content.version content.bits content.pairs (subst (IsFileOf bytes) same checked.is).lawful).whole within))
+      subst (IsWhole version) (sym is) (subst
+      (λ v. IsWhole v (get_or (chunks_of content) number [])) (sym (ap (λ x. x.version) same))
+      (each_whole content.version (chunks_of content) number
+      (map_holds content.version content.bits content.pairs
+      (subst (IsFileOf bytes) same checked.is).lawful).whole within))
 
   module _ (reference : List ℕ) where
-    pub reference_there : HasReference (chunks_of content) reference → number_of index reference ≡ None → ⊥
-    reference_there h none = false≢true (sym (ap is_some none) ∙ ap (λ r. is_some (number_of index r)) (sym h.is) ∙ checked.indexed.whole h.chunk (subst (IsIn h.chunk) (sym chunks_so) h.is_in))
+    pub reference_there : HasReference (chunks_of content) reference →
+        number_of index reference ≡ None → ⊥
+    reference_there h none = false≢true (sym (ap is_some none) ∙
+        ap (λ r. is_some (number_of index r)) (sym h.is) ∙
+        checked.indexed.whole h.chunk (subst (IsIn h.chunk) (sym chunks_so) h.is_in))
 
-    pub number_has : (number : ℕ) → number_of index reference ≡ Some number → HasAt (chunks_of content) number reference
-    number_has number e = subst (λ cs. HasAt cs number reference) chunks_so (checked.indexed.right reference number e)
+    pub number_has : (number : ℕ) → number_of index reference ≡ Some number →
+        HasAt (chunks_of content) number reference
+    number_has number e = subst (λ cs. HasAt cs number reference) chunks_so
+        (checked.indexed.right reference number e)

@@ -1,5 +1,7 @@
 -- The end of the rebuilt chunks.
-use Rattle.std.proofs.Common.{◌≡◌, ℕ, zero, suc, ◌+◌, ◌^◌, ◌<◌, ◌≤◌, List, [], ◌∷◌, ◌++◌, length, take, drop, get_or, Option, Some, None, Result, Ok, Err, sym, ap, ◌∙◌, subst, arith, append-nil}
+use Rattle.std.proofs.Common.{◌≡◌, ℕ, zero, suc, ◌+◌, ◌^◌, ◌<◌, ◌≤◌, List, [], ◌∷◌, ◌++◌, length}
+use Rattle.std.proofs.Common.{take, drop, get_or, Option, Some, None, Result, Ok, Err, sym, ap, ◌∙◌}
+use Rattle.std.proofs.Common.{subst, arith, append-nil}
 use Rattle.std.specs.Option.{option_to_list}
 use Rattle.std.proofs.Math.Seq.{drop-cons}
 use Rattle.std.proofs.lemmas.List.{take_all}
@@ -21,10 +23,12 @@ use Rattle.prolly_check.proofs.HeldPairs.{bytes_in}
 use Rattle.prolly_check.specs.declared.fault.CheckFault.{CheckFault}
 use Rattle.prolly_check.specs.declared.rebuild.Rebuild.{Rebuild}
 use Rattle.prolly_check.specs.Judged.{difference, chunk_bytes}
-use Rattle.prolly_check.specs.Rebuilt.{node_levels, sent_through, sent_of, AreBehind, AreBelow, AreFirst, DifferAs, Passed, Passes, HasTaken}
+use Rattle.prolly_check.specs.Rebuilt.{node_levels, sent_through, sent_of, AreBehind, AreBelow}
+use Rattle.prolly_check.specs.Rebuilt.{AreFirst, DifferAs, Passed, Passes, HasTaken}
 use Rattle.prolly_check.specs.Refusal.{UnlessMemory}
 use Rattle.std.proofs.Math.Logic.{⊎_map}
-use Rattle.prolly_check.proofs.Rebuilds.{prefix_of, sent_prefix, difference_along, still_differ, ended_below, leaf_below}
+use Rattle.prolly_check.proofs.Rebuilds.{prefix_of, sent_prefix, difference_along, still_differ}
+use Rattle.prolly_check.proofs.Rebuilds.{ended_below, leaf_below}
 
 module _ (bits : ℕ) (version : Version) (pairs : List Pair) where
   abbrev cut : Cut
@@ -35,9 +39,12 @@ module _ (bits : ℕ) (version : Version) (pairs : List Pair) where
 
   -- ---- the levels above send a prefix of what the last one sends
 
-  sends_prefix : (level count : ℕ) → IsPrefix (sent_through cut version (suc level) count (clean_events level)) (clean_events (level + count))
+  sends_prefix : (level count : ℕ) → IsPrefix
+      (sent_through cut version (suc level) count (clean_events level))
+      (clean_events (level + count))
   sends_prefix level zero =
-      let e : level + 0 ≡ level = omega arith in ([], ap clean_events e ∙ sym (append-nil (clean_events level)))
+      let e : level + 0 ≡ level = omega arith in
+      ([], ap clean_events e ∙ sym (append-nil (clean_events level)))
   sends_prefix level (suc count) =
       let sent = sent_through cut version (suc (suc level)) count in
       let below = clean_events level in
@@ -48,38 +55,52 @@ module _ (bits : ℕ) (version : Version) (pairs : List Pair) where
       let e : suc level + count ≡ level + suc count = omega arith in
       subst (λ n. IsPrefix (sent inner) (clean_events n)) e
       (prefix_of (sent inner) (sent (clean_events (suc level))) (clean_events (suc level + count))
-      (sent_prefix cut version (suc (suc level)) count inner (clean_events (suc level)) more) (sends_prefix (suc level) count))
+      (sent_prefix cut version (suc (suc level)) count inner (clean_events (suc level)) more)
+      (sends_prefix (suc level) count))
 
   module _ (chunks : List (List ℕ)) where
     -- so what differs on the way differs at the end
     differ_at_end : (level count : ℕ) (fault : CheckFault) → level + count ≡ node_levels →
-        UnlessMemory (DifferAs chunks (sent_through cut version (suc level) count (clean_events level))) fault → UnlessMemory (DifferAs chunks (clean_events node_levels)) fault
+        UnlessMemory (DifferAs chunks (sent_through cut version (suc level) count
+        (clean_events level))) fault → UnlessMemory (DifferAs chunks (clean_events node_levels))
+        fault
     differ_at_end level count fault e =
-        still_differ chunks (sent_through cut version (suc level) count (clean_events level)) (clean_events node_levels) fault
-        (subst (λ n. IsPrefix (sent_through cut version (suc level) count (clean_events level)) (clean_events n)) e (sends_prefix level count))
+        still_differ chunks (sent_through cut version (suc level) count (clean_events level))
+        (clean_events node_levels) fault
+        (subst (λ n. IsPrefix (sent_through cut version (suc level) count (clean_events level))
+        (clean_events n)) e (sends_prefix level count))
 
-    pub differ_by_end : (fault : CheckFault) → UnlessMemory (DifferAs chunks (sent_of bits version pairs)) fault → UnlessMemory (DifferAs chunks (clean_events node_levels)) fault
+    pub differ_by_end : (fault : CheckFault) →
+        UnlessMemory (DifferAs chunks (sent_of bits version pairs)) fault →
+        UnlessMemory (DifferAs chunks (clean_events node_levels)) fault
     differ_by_end fault h =
         let p = (fault_is_prefix cut version).0 clean pairs [] in
         let leaves = leaf_events cut version faulty pairs in
         let e : 0 + node_levels ≡ node_levels = omega arith in
         differ_at_end 0 node_levels fault e
-        (still_differ chunks (sent_of bits version pairs) (sent_through cut version 1 node_levels (clean_events 0)) fault
-        (sent_prefix cut version 1 node_levels leaves (clean_events 0) (p.0, ap (leaf_events cut version clean) (sym (append-nil pairs)) ∙ p.1)) h)
+        (still_differ chunks (sent_of bits version pairs)
+        (sent_through cut version 1 node_levels (clean_events 0)) fault
+        (sent_prefix cut version 1 node_levels leaves (clean_events 0) (
+          p.0,
+          ap (leaf_events cut version clean) (sym (append-nil pairs)) ∙ p.1,
+        )) h)
 
     -- ---- level by level
 
     -- the levels up to this one have ended, and what it sends last is still to pass those above it
-    pub record IsEnding (nodes : List (NodeState ℕ)) (last : Option Chunk) (number : ℕ) : Type 0 where
-      pub level : ℕ
-      pub events : List Chunk
-      pub count : level + length nodes ≡ node_levels
-      pub sends : clean_events level ≡ events ++ option_to_list last
-      pub below : AreBelow (suc level) (option_to_list last)
-      pub behind : AreBehind bits version (suc level) nodes events
-      pub first : AreFirst chunks number (sent_through cut version (suc level) (length nodes) events)
+    pub record IsEnding (nodes : List (NodeState ℕ)) (last : Option Chunk) (number : ℕ) : Type 0
+      where
+        pub level : ℕ
+        pub events : List Chunk
+        pub count : level + length nodes ≡ node_levels
+        pub sends : clean_events level ≡ events ++ option_to_list last
+        pub below : AreBelow (suc level) (option_to_list last)
+        pub behind : AreBehind bits version (suc level) nodes events
+        pub first : AreFirst chunks number (sent_through cut version (suc level) (length nodes)
+            events)
 
-    pub leaf_ends : (rebuild : Rebuild) (last : Option Chunk) → HasTaken bits version chunks pairs rebuild → LeafEnds sha512_cut rebuild.leaf last →
+    pub leaf_ends : (rebuild : Rebuild) (last : Option Chunk) →
+        HasTaken bits version chunks pairs rebuild → LeafEnds sha512_cut rebuild.leaf last →
         IsEnding rebuild.nodes.items last rebuild.number
     leaf_ends rebuild last b ends =
         let leaves = leaf_events cut version faulty pairs in
@@ -92,24 +113,33 @@ module _ (bits : ℕ) (version : Version) (pairs : List Pair) where
           sends = sends;
           below = leaf_below cut version clean pairs leaves last sends;
           behind = b.nodes;
-          first = subst (λ n. AreFirst chunks rebuild.number (sent_through cut version 1 n leaves)) (sym count) b.first;
+          first = subst (λ n. AreFirst chunks rebuild.number (sent_through cut version 1 n leaves))
+              (sym count) b.first;
         }
 
-    module _ (nodes levels nodes' : List (NodeState ℕ)) (are : levels ≡ nodes) (last : Option Chunk) (number : ℕ) (result : Result ℕ CheckFault) (b : IsEnding nodes last number)
-        (passes : Passes chunks levels nodes' last number result) (same_size : length nodes' ≡ length levels) where
+    module _ (nodes levels nodes' : List (NodeState ℕ)) (are : levels ≡ nodes) (last : Option Chunk)
+        (number : ℕ) (result : Result ℕ CheckFault) (b : IsEnding nodes last number)
+        (passes : Passes chunks levels nodes' last number result)
+        (same_size : length nodes' ≡ length levels) where
       size : length nodes' ≡ length nodes
       size = same_size ∙ ap length are
 
       passed : Passed bits version chunks (suc b.level) nodes' (clean_events b.level) result
-      passed = subst (λ es. Passed bits version chunks (suc b.level) nodes' es result) (sym b.sends) ((rw are at passes) bits version (suc b.level) b.events b.below b.behind b.first)
+      passed = subst (λ es. Passed bits version chunks (suc b.level) nodes' es result) (sym b.sends)
+          ((rw are at passes) bits version (suc b.level) b.events b.below b.behind b.first)
 
-      pub ending_fault : (fault : CheckFault) → result ≡ Err fault → UnlessMemory (DifferAs chunks (clean_events node_levels)) fault
-      ending_fault fault e = let count = b.count in differ_at_end b.level (length nodes') fault (omega (arith, size)) (rw e at passed.compared)
+      pub ending_fault : (fault : CheckFault) → result ≡ Err fault →
+          UnlessMemory (DifferAs chunks (clean_events node_levels)) fault
+      ending_fault fault e = let count = b.count in
+          differ_at_end b.level (length nodes') fault (omega (arith, size))
+          (rw e at passed.compared)
 
       module _ (next : ℕ) (ok : result ≡ Ok next) where
-        pub node_ends : (state : NodeState ℕ) (rest : List (NodeState ℕ)) (last' : Option Chunk) → nodes' ≡ state ∷ rest → NodeEnds sha512_cut state last' → IsEnding rest last' next
+        pub node_ends : (state : NodeState ℕ) (rest : List (NodeState ℕ)) (last' : Option Chunk) →
+            nodes' ≡ state ∷ rest → NodeEnds sha512_cut state last' → IsEnding rest last' next
         node_ends state rest last' is ends =
-            let p : Passed bits version chunks (suc b.level) (state ∷ rest) (clean_events b.level) (Ok next) = rw (is, ok) at passed in
+            let p : Passed bits version chunks (suc b.level) (state ∷ rest) (clean_events b.level)
+            (Ok next) = rw (is, ok) at passed in
             let sends = ends bits version (suc b.level) (clean_events b.level) p.behind.0 in
             let count = b.count in
             record {
@@ -125,36 +155,50 @@ module _ (bits : ℕ) (version : Version) (pairs : List Pair) where
 -- ---- the same, as the code has it
 
 -- the first of the levels was taken out
-pub taken_out : {A : Type 0} (old new : List A) (first : A) → 0 < length old → first ≡ get_or old 0 first → new ≡ take 0 old ++ drop (0 + 1) old → old ≡ first ∷ new
+pub taken_out : {A : Type 0} (old new : List A) (first : A) → 0 < length old →
+    first ≡ get_or old 0 first → new ≡ take 0 old ++ drop (0 + 1) old → old ≡ first ∷ new
 taken_out [] new first some v e = absurd (omega arith)
 taken_out (x ∷ xs) new first some v e = ap (λ y. y ∷ xs) (sym v) ∙ ap (λ ys. first ∷ ys) (sym e)
 
 -- ---- from the pairs to the verdict
 
 -- so many levels are enough
-levels_enough : (cut : Cut) (version : Version) (pairs : List Pair) → length pairs < 2 ^ 64 → level_count cut version pairs ≤ suc node_levels
+levels_enough : (cut : Cut) (version : Version) (pairs : List Pair) → length pairs < 2 ^ 64 →
+    level_count cut version pairs ≤ suc node_levels
 unfolding node_levels
 levels_enough cut version pairs few = few_levels cut version pairs 64 (omega arith)
 
-all_sent : (bits : ℕ) (version : Version) (pairs : List Pair) → length pairs < 2 ^ 64 → pipeline_events node_levels (sha512_cut bits) version clean pairs ≡ chunks (sha512_cut bits) version pairs
-all_sent bits version pairs few = (enough_stages (sha512_cut bits) version pairs few node_levels (levels_enough (sha512_cut bits) version pairs few)).0
+all_sent : (bits : ℕ) (version : Version) (pairs : List Pair) → length pairs < 2 ^ 64 →
+    pipeline_events node_levels (sha512_cut bits) version clean pairs ≡ chunks (sha512_cut bits)
+    version pairs
+all_sent bits version pairs few = (enough_stages (sha512_cut bits) version pairs few node_levels
+    (levels_enough (sha512_cut bits) version pairs few)).0
 
-module _ (bits : ℕ) (version : Version) (cs : List (List ℕ)) (pairs : List Pair) (few : length pairs < 2 ^ 64) where
-  wanted : bytes_in (pipeline_events node_levels (sha512_cut bits) version clean pairs) ≡ chunk_bytes version bits pairs
+module _ (bits : ℕ) (version : Version) (cs : List (List ℕ)) (pairs : List Pair)
+    (few : length pairs < 2 ^ 64) where
+  wanted : bytes_in (pipeline_events node_levels (sha512_cut bits) version clean pairs) ≡
+      chunk_bytes version bits pairs
   wanted = ap bytes_in (all_sent bits version pairs few)
 
   abbrev all : List Chunk
   all = pipeline_events node_levels (sha512_cut bits) version clean pairs
 
-  pub verdict_fault : (fault : CheckFault) → UnlessMemory (DifferAs cs all) fault → UnlessMemory (λ fault. difference 0 (chunk_bytes version bits pairs) cs ≡ Some fault) fault
-  verdict_fault fault = ⊎_map (λ memory. memory) (λ h. ap (λ ws. difference 0 ws cs) (sym wanted ∙ sym (append-nil (bytes_in all))) ∙ h [])
+  pub verdict_fault : (fault : CheckFault) → UnlessMemory (DifferAs cs all) fault →
+      UnlessMemory (λ fault. difference 0 (chunk_bytes version bits pairs) cs ≡ Some fault) fault
+  verdict_fault fault = ⊎_map (λ memory. memory)
+      (λ h. ap (λ ws. difference 0 ws cs) (sym wanted ∙ sym (append-nil (bytes_in all))) ∙ h [])
 
-  module _ (count : ℕ) (a : AreFirst cs count (pipeline_events node_levels (sha512_cut bits) version clean pairs)) where
-    pub verdict_short : count < length cs → difference 0 (chunk_bytes version bits pairs) cs ≡ Some (faults.NotCanonical count)
+  module _ (count : ℕ) (a : AreFirst cs count
+      (pipeline_events node_levels (sha512_cut bits) version clean pairs)) where
+    pub verdict_short : count < length cs → difference 0 (chunk_bytes version bits pairs) cs ≡
+        Some (faults.NotCanonical count)
     verdict_short h =
         let e : 0 + count ≡ count = omega arith in
-        ap (λ ws. difference 0 ws cs) (sym wanted ∙ a.are ∙ sym (append-nil (take count cs))) ∙ difference_along cs [] 0 count (omega arith)
-        ∙ ap (difference (0 + count) []) (drop-cons cs count [] h) ∙ ap (λ n. Some (faults.NotCanonical n)) e
+        ap (λ ws. difference 0 ws cs) (sym wanted ∙ a.are ∙ sym (append-nil (take count cs))) ∙
+        difference_along cs [] 0 count (omega arith)
+        ∙ ap (difference (0 + count) []) (drop-cons cs count [] h) ∙
+        ap (λ n. Some (faults.NotCanonical n)) e
 
     pub verdict_none : length cs ≤ count → difference 0 (chunk_bytes version bits pairs) cs ≡ None
-    verdict_none h = ap (λ ws. difference 0 ws cs) (sym wanted ∙ a.are ∙ take_all count cs h) ∙ difference_same 0 cs
+    verdict_none h = ap (λ ws. difference 0 ws cs) (sym wanted ∙ a.are ∙ take_all count cs h) ∙
+        difference_same 0 cs

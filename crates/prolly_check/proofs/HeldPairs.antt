@@ -1,5 +1,6 @@
 -- The pairs that chunks hold.
-use Rattle.std.proofs.Common.{◌≡◌, ℕ, zero, suc, ◌<◌, List, [], ◌∷◌, ◌++◌, length, map, get_or, refl, sym, ap, ◌∙◌, subst, arith, append-nil}
+use Rattle.std.proofs.Common.{◌≡◌, ℕ, zero, suc, ◌<◌, List, [], ◌∷◌, ◌++◌, length, map, get_or}
+use Rattle.std.proofs.Common.{refl, sym, ap, ◌∙◌, subst, arith, append-nil}
 use Rattle.std.specs.List.{flat_map, AllByRecursion}
 use Rattle.std.proofs.lemmas.List.{map-append}
 use Rattle.std.proofs.lemmas.List.Concat.{flat_map-append}
@@ -12,7 +13,8 @@ use Rattle.prolly_tree.specs.lemmas.Maps.{last_key_short}
 use Rattle.prolly_entry.specs.lemmas.Spellings.{reference_length}
 use Rattle.prolly_entry.specs.Pair.{Pair, IsPair}
 use Rattle.prolly_entry.specs.Reference.{reference_of}
-use Rattle.prolly_tree.specs.Tree.{Tree, pairs_below, greatest_key, pair_count, bytes_of, tree_of, child_entry}
+use Rattle.prolly_tree.specs.Tree.{Tree, pairs_below, greatest_key, pair_count, bytes_of, tree_of}
+use Rattle.prolly_tree.specs.Tree.{child_entry}
 use Rattle.prolly_tree.specs.Chunk.{Chunk, chunk_of, post_order}
 use Rattle.prolly_entry.specs.declared.version.Version.{Version}
 use Rattle.prolly_check.specs.Entries.{Child, IsChild, entry_of, Holds, AllHold, pairs_in}
@@ -33,7 +35,8 @@ pub flat_held : (chunks : List (List ℕ)) → flat (map pairs_held chunks) ≡ 
 flat_held [] = refl
 flat_held (chunk ∷ chunks) = ap (λ ps. pairs_held chunk ++ ps) (flat_held chunks)
 
-pub leaf_node : (pairs : List Pair) (children : List Child) → ◌≡◌ {A = Entries} (Leaf pairs) (Node children) → ⊥
+pub leaf_node : (pairs : List Pair) (children : List Child) →
+    ◌≡◌ {A = Entries} (Leaf pairs) (Node children) → ⊥
 leaf_node pairs children e = cc
 
 module _ (version : Version) where
@@ -43,34 +46,46 @@ module _ (version : Version) where
   held_is (suc level ∷ entries) held h = h.none
 
   -- a node holds none
-  pub node_holds : (chunk : List ℕ) (children : List Child) → kind_of version chunk ≡ Node children → pairs_held chunk ≡ pairs_in []
+  pub node_holds : (chunk : List ℕ) (children : List Child) →
+      kind_of version chunk ≡ Node children → pairs_held chunk ≡ pairs_in []
   unfolding pairs_in
   node_holds [] children e = refl
   node_holds (zero ∷ entries) children e = absurd (leaf_node (pairs_in entries) children e)
   node_holds (suc level ∷ entries) children e = refl
 
   -- chunks that have lists of pairs have just these
-  pub lists_are : (chunks : List (List ℕ)) (lists : List (List Pair)) → AllHold version chunks lists → lists ≡ map pairs_held chunks
+  pub lists_are : (chunks : List (List ℕ)) (lists : List (List Pair)) →
+      AllHold version chunks lists → lists ≡ map pairs_held chunks
   lists_are [] [] h = refl
   lists_are [] (held ∷ lists) h = absurd h
   lists_are (chunk ∷ chunks) [] h = absurd h
-  lists_are (chunk ∷ chunks) (held ∷ lists) h = ap (λ ps. ps ∷ lists) (held_is chunk held h.0) ∙ ap (λ ls. pairs_held chunk ∷ ls) (lists_are chunks lists h.1)
+  lists_are (chunk ∷ chunks) (held ∷ lists) h = ap (λ ps. ps ∷ lists) (held_is chunk held h.0) ∙
+      ap (λ ls. pairs_held chunk ∷ ls) (lists_are chunks lists h.1)
 
   -- and they are whole; whole chunks have them
-  pub are_whole : (chunks : List (List ℕ)) (lists : List (List Pair)) → AllHold version chunks lists → AreWhole version chunks
+  pub are_whole : (chunks : List (List ℕ)) (lists : List (List Pair)) →
+      AllHold version chunks lists → AreWhole version chunks
   are_whole [] lists h = tt
   are_whole (chunk ∷ chunks) [] h = absurd h
-  are_whole (chunk ∷ chunks) (held ∷ lists) h = (record { pairs = held; holds = h.0 }, are_whole chunks lists h.1)
+  are_whole (chunk ∷ chunks) (held ∷ lists) h =
+      (record { pairs = held; holds = h.0 }, are_whole chunks lists h.1)
 
-  pub all_hold : (chunks : List (List ℕ)) → AreWhole version chunks → AllHold version chunks (map pairs_held chunks)
+  pub all_hold : (chunks : List (List ℕ)) → AreWhole version chunks →
+      AllHold version chunks (map pairs_held chunks)
   all_hold [] w = tt
-  all_hold (chunk ∷ chunks) w = (subst (Holds version chunk) (held_is chunk w.0.pairs w.0.holds) w.0.holds, all_hold chunks w.1)
+  all_hold (chunk ∷ chunks) w = (
+    subst (Holds version chunk) (held_is chunk w.0.pairs w.0.holds)
+        w.0.holds,
+    all_hold chunks w.1,
+  )
 
-  pub each_whole : (chunks : List (List ℕ)) (number : ℕ) → AreWhole version chunks → number < length chunks → IsWhole version (get_or chunks number [])
+  pub each_whole : (chunks : List (List ℕ)) (number : ℕ) → AreWhole version chunks →
+      number < length chunks → IsWhole version (get_or chunks number [])
   each_whole [] number w within = absurd (omega arith)
   each_whole (chunk ∷ chunks) zero w within = w.0
   each_whole (chunk ∷ chunks) (suc number) w within =
-      let within' : suc number < suc (length chunks) = within in each_whole chunks number w.1 (omega arith)
+      let within' : suc number < suc (length chunks) = within in
+      each_whole chunks number w.1 (omega arith)
 
 -- ---- the chunks of a tree
 
@@ -80,65 +95,102 @@ pub record HoldPairs (version : Version) (chunks : List (List ℕ)) (pairs : Lis
   pub are : flat_map pairs_held chunks ≡ pairs
 
 module _ (version : Version) where
-  both : (cs ds : List (List ℕ)) (ps qs : List Pair) → HoldPairs version cs ps → HoldPairs version ds qs → HoldPairs version (cs ++ ds) (ps ++ qs)
+  both : (cs ds : List (List ℕ)) (ps qs : List Pair) → HoldPairs version cs ps →
+      HoldPairs version ds qs → HoldPairs version (cs ++ ds) (ps ++ qs)
   both cs ds ps qs h k = record {
     whole = all_append (IsWhole version) cs ds h.whole k.whole;
-    are = flat_map-append pairs_held cs ds ∙ ap (λ a. a ++ flat_map pairs_held ds) h.are ∙ ap (λ b. ps ++ b) k.are;
+    are = flat_map-append pairs_held cs ds ∙ ap (λ a. a ++ flat_map pairs_held ds) h.are ∙
+        ap (λ b. ps ++ b) k.are;
   }
 
   abbrev child_of : (level : ℕ) → Tree level → Child
-  child_of level t = record { key = greatest_key level t; reference = reference_of (bytes_of version level t); count = pair_count level t }
+  child_of level t = record {
+    key = greatest_key level t;
+    reference = reference_of (bytes_of version level t);
+    count = pair_count level t;
+  }
 
-  entries_are : (level : ℕ) (ts : List (Tree level)) → flat_map (child_entry version level) ts ≡ flat_map (entry_of version) (map (child_of level) ts)
+  entries_are : (level : ℕ) (ts : List (Tree level)) →
+      flat_map (child_entry version level) ts ≡ flat_map (entry_of version)
+      (map (child_of level) ts)
   entries_are level [] = refl
-  entries_are level (t ∷ ts) = ap (λ a. entry_of version (child_of level t) ++ a) (entries_are level ts)
+  entries_are level (t ∷ ts) = ap (λ a. entry_of version (child_of level t) ++ a)
+      (entries_are level ts)
 
-  all_children : (level : ℕ) (ts : List (Tree level)) → AllByRecursion IsPair (flat_map (pairs_below level) ts) → AllByRecursion IsChild (map (child_of level) ts)
+  all_children : (level : ℕ) (ts : List (Tree level)) →
+      AllByRecursion IsPair (flat_map (pairs_below level) ts) →
+      AllByRecursion IsChild (map (child_of level) ts)
   all_children level [] h = tt
   all_children level (t ∷ ts) h = (
     record {
-      key = last_key_short (pairs_below level t) (all_front IsPair (pairs_below level t) (flat_map (pairs_below level) ts) h);
+      key = last_key_short (pairs_below level t)
+          (all_front IsPair (pairs_below level t) (flat_map (pairs_below level) ts) h);
       reference = reference_length (bytes_of version level t);
     },
-    all_children level ts (all_back IsPair (pairs_below level t) (flat_map (pairs_below level) ts) h),
+    all_children level ts (all_back IsPair (pairs_below level t) (flat_map (pairs_below level) ts)
+        h),
   )
 
   abbrev Holding : (level : ℕ) → Tree level → Type 0
-  Holding level t = AllByRecursion IsPair (pairs_below level t) → HoldPairs version (bytes_in (post_order version level t)) (pairs_below level t)
+  Holding level t = AllByRecursion IsPair (pairs_below level t) →
+      HoldPairs version (bytes_in (post_order version level t)) (pairs_below level t)
 
-  all_trees : (level : ℕ) → ((t : Tree level) → Holding level t) → (ts : List (Tree level)) → AllByRecursion IsPair (flat_map (pairs_below level) ts) →
-      HoldPairs version (bytes_in (flat_map (post_order version level) ts)) (flat_map (pairs_below level) ts)
+  all_trees : (level : ℕ) → ((t : Tree level) → Holding level t) → (ts : List (Tree level)) →
+      AllByRecursion IsPair (flat_map (pairs_below level) ts) →
+      HoldPairs version (bytes_in (flat_map (post_order version level) ts))
+      (flat_map (pairs_below level) ts)
   all_trees level holding [] h = record { whole = tt; are = refl }
   all_trees level holding (t ∷ ts) h =
       let own = pairs_below level t in
       let rest = flat_map (pairs_below level) ts in
-      subst (λ cs. HoldPairs version cs (own ++ rest)) (sym (bytes_append (post_order version level t) (flat_map (post_order version level) ts)))
-      (both (bytes_in (post_order version level t)) (bytes_in (flat_map (post_order version level) ts)) own rest
-      (holding t (all_front IsPair own rest h)) (all_trees level holding ts (all_back IsPair own rest h)))
+      subst (λ cs. HoldPairs version cs (own ++ rest))
+      (sym (bytes_append (post_order version level t) (flat_map (post_order version level) ts)))
+      (both (bytes_in (post_order version level t))
+      (bytes_in (flat_map (post_order version level) ts)) own rest
+      (holding t (all_front IsPair own rest h))
+      (all_trees level holding ts (all_back IsPair own rest h)))
 
   pub tree_holds : (level : ℕ) (t : Tree level) → Holding level t
   tree_holds zero leaf h = record {
     whole = (record { pairs = leaf; holds = record { is = refl; lawful = h } }, tt);
-    are = append-nil (pairs_held (bytes_of version 0 leaf)) ∙ leaf_pairs _ leaf (record { is = refl; lawful = h });
+    are = append-nil (pairs_held (bytes_of version 0 leaf)) ∙
+        leaf_pairs _ leaf (record { is = refl; lawful = h });
   }
   tree_holds (suc level) ts h =
       let pairs = flat_map (pairs_below level) ts in
       let below = flat_map (post_order version level) ts in
       -- a node has no pairs itself
       let own : HoldPairs version (bytes_of version (suc level) ts ∷ []) [] = record {
-        whole = (record { pairs = []; holds = record { children = map (child_of level) ts; is = entries_are level ts; lawful = all_children level ts h; none = refl } }, tt);
+        whole = (
+          record {
+            pairs = [];
+            holds = record {
+              children = map (child_of level) ts;
+              is = entries_are level ts;
+              lawful = all_children level ts h;
+              none = refl;
+            };
+          },
+          tt,
+        );
         are = refl;
       } in
-      subst (λ cs. HoldPairs version cs pairs) (sym (bytes_append below (chunk_of version (suc level) ts ∷ [])))
-      (subst (HoldPairs version (bytes_in below ++ bytes_of version (suc level) ts ∷ [])) (append-nil pairs)
-      (both (bytes_in below) (bytes_of version (suc level) ts ∷ []) pairs [] (all_trees level (tree_holds level) ts h) own))
+      subst (λ cs. HoldPairs version cs pairs)
+      (sym (bytes_append below (chunk_of version (suc level) ts ∷ [])))
+      (subst (HoldPairs version (bytes_in below ++ bytes_of version (suc level) ts ∷ []))
+      (append-nil pairs)
+      (both (bytes_in below) (bytes_of version (suc level) ts ∷ []) pairs []
+      (all_trees level (tree_holds level) ts h) own))
 
-  pub trees_hold : (level : ℕ) (ts : List (Tree level)) → AllByRecursion IsPair (flat_map (pairs_below level) ts) →
-      HoldPairs version (bytes_in (flat_map (post_order version level) ts)) (flat_map (pairs_below level) ts)
+  pub trees_hold : (level : ℕ) (ts : List (Tree level)) →
+      AllByRecursion IsPair (flat_map (pairs_below level) ts) →
+      HoldPairs version (bytes_in (flat_map (post_order version level) ts))
+      (flat_map (pairs_below level) ts)
   trees_hold level ts h = all_trees level (tree_holds level) ts h
 
 -- the chunks of a map hold its pairs
-pub map_holds : (version : Version) (bits : ℕ) (pairs : List Pair) → AllByRecursion IsPair pairs → HoldPairs version (chunk_bytes version bits pairs) pairs
+pub map_holds : (version : Version) (bits : ℕ) (pairs : List Pair) → AllByRecursion IsPair pairs →
+    HoldPairs version (chunk_bytes version bits pairs) pairs
 map_holds version bits pairs lawful =
     let t = tree_of (sha512_cut bits) version pairs in
     let below : pairs_below t.level t.tree ≡ pairs = pairs_are (sha512_cut bits) version pairs in

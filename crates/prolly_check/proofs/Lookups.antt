@@ -1,5 +1,7 @@
 -- How a look-up goes down a tree.
-use Rattle.std.proofs.Common.{◌≡◌, ℕ, zero, suc, ◌+◌, ◌<◌, inl, inr, false, cond, List, [], ◌∷◌, ◌++◌, length, Some, None, Ordering, refl, sym, ap, ◌∙◌, subst, arith, append-nil, map}
+use Rattle.std.proofs.Common.{◌≡◌, ℕ, zero, suc, ◌+◌, ◌<◌, inl, inr, false, cond, List, [], ◌∷◌}
+use Rattle.std.proofs.Common.{◌++◌, length, Some, None, Ordering, refl, sym, ap, ◌∙◌, subst, arith}
+use Rattle.std.proofs.Common.{append-nil, map}
 use Rattle.std.specs.declared.cmp.Ordering.TheVariants.{Less, Equal, Greater}
 use Rattle.std.specs.Ordering.{is_lt, is_eq}
 use Rattle.std.specs.List.{flat_map, slice_get, AllByRecursion}
@@ -9,16 +11,20 @@ use Rattle.prolly_entry.specs.Keys.{key_order, KeyBelow, Rising, RisingFrom}
 use Rattle.prolly_entry.specs.Pair.{Pair, IsPair}
 use Rattle.prolly_entry.specs.declared.version.Version.{Version}
 use Rattle.prolly_entry.specs.Reference.{reference_of}
-use Rattle.prolly_tree.specs.Tree.{Tree, pairs_below, greatest_key, bytes_of, last_key, pair_count, tree_of, child_entry, grow}
+use Rattle.prolly_tree.specs.Tree.{Tree, pairs_below, greatest_key, bytes_of, last_key, pair_count}
+use Rattle.prolly_tree.specs.Tree.{tree_of, child_entry, grow}
 use Rattle.prolly_tree.specs.Chunk.{Chunk, chunk_of, post_order, IsIn, chunks}
 use Rattle.prolly_tree.specs.LookUp.{find}
 use Rattle.prolly_check.specs.Verdict.{AllApart}
-use Rattle.prolly_check.specs.Descent.{ReferenceLeads, FindInChild, FindInNone, NthInChild, NodeFull, StandsAtRoot, FirstEntry, StepsDown, IsTreeOf}
+use Rattle.prolly_check.specs.Descent.{ReferenceLeads, FindInChild, FindInNone, NthInChild}
+use Rattle.prolly_check.specs.Descent.{NodeFull, StandsAtRoot, FirstEntry, StepsDown, IsTreeOf}
 use Rattle.prolly_tree.specs.lemmas.Trees.{in_front, in_back, Full, full_pairs}
 use Rattle.prolly_laws.specs.Trees.{top_in, tree_full, pairs_are}
-use Rattle.prolly_tree.specs.lemmas.Maps.{last_key_short, Above, Rises, rises, rises_front, rises_back, above_key, above_more, has_last}
+use Rattle.prolly_tree.specs.lemmas.Maps.{last_key_short, Above, Rises, rises, rises_front}
+use Rattle.prolly_tree.specs.lemmas.Maps.{rises_back, above_key, above_more, has_last}
 use Rattle.prolly_entry.specs.lemmas.Spellings.{reference_length, child_spellings_apart}
-use Rattle.prolly_entry.specs.lemmas.Orders.{order_trans, order_same, greater_below, not_eq_below, not_eq_above}
+use Rattle.prolly_entry.specs.lemmas.Orders.{order_trans, order_same, greater_below, not_eq_below}
+use Rattle.prolly_entry.specs.lemmas.Orders.{not_eq_above}
 use Rattle.prolly_entry.specs.Cut.{sha512_cut}
 use Rattle.prolly_tree.specs.Split.{split}
 use Rattle.prolly_file.specs.Scratch.{keys_in}
@@ -27,67 +33,91 @@ use Rattle.prolly_check.specs.Judged.{chunk_bytes}
 
 -- ---- references
 
-pub apart_from : (c d : List ℕ) (cs : List (List ℕ)) → AllByRecursion (λ d. reference_of c ≡ reference_of d → ⊥) cs → IsIn d cs → reference_of c ≡ reference_of d → ⊥
+pub apart_from : (c d : List ℕ) (cs : List (List ℕ)) →
+    AllByRecursion (λ d. reference_of c ≡ reference_of d → ⊥) cs → IsIn d cs →
+    reference_of c ≡ reference_of d → ⊥
 apart_from c d [] h k e = k
 apart_from c d (x ∷ cs) h (inl f) e = h.0 (e ∙ ap reference_of f)
 apart_from c d (x ∷ cs) h (inr k) e = apart_from c d cs h.1 k e
 
-one_chunk : (cs : List (List ℕ)) (c d : List ℕ) → AllApart cs → IsIn c cs → IsIn d cs → reference_of c ≡ reference_of d → c ≡ d
+one_chunk : (cs : List (List ℕ)) (c d : List ℕ) → AllApart cs → IsIn c cs → IsIn d cs →
+    reference_of c ≡ reference_of d → c ≡ d
 one_chunk [] c d h k l e = absurd k
 one_chunk (x ∷ cs) c d h (inl f) (inl g) e = f ∙ sym g
-one_chunk (x ∷ cs) c d h (inl f) (inr l) e = absurd (apart_from x d cs h.0 l (ap reference_of (sym f) ∙ e))
-one_chunk (x ∷ cs) c d h (inr k) (inl g) e = absurd (apart_from x c cs h.0 k (ap reference_of (sym g) ∙ sym e))
+one_chunk (x ∷ cs) c d h (inl f) (inr l) e = absurd
+    (apart_from x d cs h.0 l (ap reference_of (sym f) ∙ e))
+one_chunk (x ∷ cs) c d h (inr k) (inl g) e = absurd
+    (apart_from x c cs h.0 k (ap reference_of (sym g) ∙ sym e))
 one_chunk (x ∷ cs) c d h (inr k) (inr l) e = one_chunk cs c d h.1 k l e
 
-in_child : (version : Version) (level : ℕ) (before after : List (Tree level)) (t : Tree level) (c : Chunk) →
-    IsIn c (post_order version level t) → IsIn c (flat_map (post_order version level) (before ++ t ∷ after))
-in_child version level before after t c h = subst (IsIn c) (sym (flat_map-append (post_order version level) before (t ∷ after)))
-    (in_back c (flat_map (post_order version level) before) (flat_map (post_order version level) (t ∷ after))
+in_child : (version : Version) (level : ℕ) (before after : List (Tree level)) (t : Tree level)
+    (c : Chunk) →
+    IsIn c (post_order version level t) → IsIn c
+    (flat_map (post_order version level) (before ++ t ∷ after))
+in_child version level before after t c h = subst (IsIn c)
+    (sym (flat_map-append (post_order version level) before (t ∷ after)))
+    (in_back c (flat_map (post_order version level) before)
+    (flat_map (post_order version level) (t ∷ after))
     (in_front c (post_order version level t) (flat_map (post_order version level) after) h))
 
 pub reference_leads : (version : Version) → ReferenceLeads version
 reference_leads version = (
-  λ cs level t chunk apart has is_in e. one_chunk cs chunk (bytes_of version level t) apart is_in (has (chunk_of version level t) (top_in version level t)) e,
-  λ cs level before after t has c h. has c (in_front c (flat_map (post_order version level) (before ++ t ∷ after)) (chunk_of version (suc level) (before ++ t ∷ after) ∷ []) (in_child version level before after t c h)),
+  λ cs level t chunk apart has is_in e. one_chunk cs chunk (bytes_of version level t) apart is_in
+      (has (chunk_of version level t) (top_in version level t)) e,
+  λ cs level before after t has c h. has c (in_front c
+      (flat_map (post_order version level) (before ++ t ∷ after))
+      (chunk_of version (suc level) (before ++ t ∷ after) ∷ [])
+      (in_child version level before after t c h)),
 )
 
 -- ---- keys
 
-all_below : (ps : List Pair) (key : List ℕ) → Rises ps → KeyBelow (last_key ps) key → AllByRecursion (λ p. KeyBelow p.key key) ps
+all_below : (ps : List Pair) (key : List ℕ) → Rises ps → KeyBelow (last_key ps) key →
+    AllByRecursion (λ p. KeyBelow p.key key) ps
 all_below [] key h k = tt
 all_below (p ∷ []) key h k = (k, tt)
 all_below (p ∷ q ∷ ps) key h k = (
-  order_trans p.key (last_key (q ∷ ps)) key (above_key p.key (last_key (q ∷ ps)) (q ∷ ps) h.0 (has_last q ps)) k,
+  order_trans p.key (last_key (q ∷ ps)) key (above_key p.key (last_key (q ∷ ps)) (q ∷ ps) h.0
+      (has_last q ps)) k,
   all_below (q ∷ ps) key h.1 k,
 )
 
 -- where the greatest keys of trees are below a key, all keys below them are
-pub trees_below : (level : ℕ) (ts : List (Tree level)) (key : List ℕ) → Rises (flat_map (pairs_below level) ts) → AllByRecursion (λ u. KeyBelow (greatest_key level u) key) ts →
+pub trees_below : (level : ℕ) (ts : List (Tree level)) (key : List ℕ) →
+    Rises (flat_map (pairs_below level) ts) →
+    AllByRecursion (λ u. KeyBelow (greatest_key level u) key) ts →
     AllByRecursion (λ p. KeyBelow p.key key) (flat_map (pairs_below level) ts)
 trees_below level [] key h k = tt
 trees_below level (t ∷ ts) key h k =
     let own = pairs_below level t in
     let rest = flat_map (pairs_below level) ts in
-    all_append (λ p. KeyBelow p.key key) own rest (all_below own key (rises_front own rest h) k.0) (trees_below level ts key (rises_back own rest h) k.1)
+    all_append (λ p. KeyBelow p.key key) own rest (all_below own key (rises_front own rest h) k.0)
+    (trees_below level ts key (rises_back own rest h) k.1)
 
 find_above : (ps : List Pair) (key : List ℕ) → Above key ps → find ps key ≡ None
 find_above [] key h = refl
-find_above (p ∷ ps) key h = cond-false (is_eq (key_order p.key key)) (Some p.value) (find ps key) (not_eq_above key p.key h.0) ∙ find_above ps key h.1
+find_above (p ∷ ps) key h = cond-false (is_eq (key_order p.key key)) (Some p.value) (find ps key)
+    (not_eq_above key p.key h.0) ∙ find_above ps key h.1
 
-find_over : (xs ys : List Pair) (key : List ℕ) → AllByRecursion (λ p. KeyBelow p.key key) xs → find (xs ++ ys) key ≡ find ys key
+find_over : (xs ys : List Pair) (key : List ℕ) → AllByRecursion (λ p. KeyBelow p.key key) xs →
+    find (xs ++ ys) key ≡ find ys key
 find_over [] ys key h = refl
-find_over (p ∷ xs) ys key h = cond-false (is_eq (key_order p.key key)) (Some p.value) (find (xs ++ ys) key) (not_eq_below p.key key h.0) ∙ find_over xs ys key h.1
+find_over (p ∷ xs) ys key h = cond-false (is_eq (key_order p.key key)) (Some p.value)
+    (find (xs ++ ys) key) (not_eq_below p.key key h.0) ∙ find_over xs ys key h.1
 
-find_first : (xs ys : List Pair) (key : List ℕ) → find ys key ≡ None → find (xs ++ ys) key ≡ find xs key
+find_first : (xs ys : List Pair) (key : List ℕ) → find ys key ≡ None →
+    find (xs ++ ys) key ≡ find xs key
 find_first [] ys key h = h
-find_first (p ∷ xs) ys key h = ap (cond (is_eq (key_order p.key key)) (Some p.value)) (find_first xs ys key h)
+find_first (p ∷ xs) ys key h = ap (cond (is_eq (key_order p.key key)) (Some p.value))
+    (find_first xs ys key h)
 
 above_last : (ps ys : List Pair) → 0 < length ps → Rises (ps ++ ys) → Above (last_key ps) ys
 above_last [] ys some h = absurd (omega arith)
 above_last (p ∷ []) ys some h = h.0
 above_last (p ∷ q ∷ ps) ys some h = above_last (q ∷ ps) ys (omega arith) h.1
 
-above_not : (x key : List ℕ) (ps : List Pair) → is_lt (key_order x key) ≡ false → Above x ps → Above key ps
+above_not : (x key : List ℕ) (ps : List Pair) → is_lt (key_order x key) ≡ false → Above x ps →
+    Above key ps
 above_not x key ps h k = go (key_order x key) refl h
   where
     go : (o : Ordering) → key_order x key ≡ o → is_lt o ≡ false → Above key ps
@@ -98,29 +128,35 @@ above_not x key ps h k = go (key_order x key) refl h
 pub find_in_none : FindInNone
 find_in_none level ts key h k =
     let ps = flat_map (pairs_below level) ts in
-    ap (λ ps. find ps key) (sym (append-nil ps)) ∙ find_over ps [] key (trees_below level ts key (rises ps h) k)
+    ap (λ ps. find ps key) (sym (append-nil ps)) ∙
+    find_over ps [] key (trees_below level ts key (rises ps h) k)
 
 pub find_in_child : FindInChild
 find_in_child level before after t key h some past here =
     let a = flat_map (pairs_below level) before in
     let b = pairs_below level t in
     let c = flat_map (pairs_below level) after in
-    let whole : flat_map (pairs_below level) (before ++ t ∷ after) ≡ a ++ (b ++ c) = flat_map-append (pairs_below level) before (t ∷ after) in
-    let r : Rises (a ++ (b ++ c)) = subst Rises whole (rises (flat_map (pairs_below level) (before ++ t ∷ after)) h) in
+    let whole : flat_map (pairs_below level) (before ++ t ∷ after) ≡ a ++ (b ++ c) =
+    flat_map-append (pairs_below level) before (t ∷ after) in
+    let r : Rises (a ++ (b ++ c)) = subst Rises whole
+    (rises (flat_map (pairs_below level) (before ++ t ∷ after)) h) in
     ap (λ ps. find ps key) whole
     ∙ find_over a (b ++ c) key (trees_below level before key (rises_front a (b ++ c) r) past)
-    ∙ find_first b c key (find_above c key (above_not (greatest_key level t) key c here (above_last b c some (rises_back a (b ++ c) r))))
+    ∙ find_first b c key (find_above c key (above_not (greatest_key level t) key c here
+    (above_last b c some (rises_back a (b ++ c) r))))
 
 -- ---- places
 
 nth_front : (xs ys : List Pair) (n : ℕ) → n < length xs → slice_get (xs ++ ys) n ≡ slice_get xs n
 nth_front [] ys n h = absurd (omega arith)
 nth_front (x ∷ xs) ys zero h = refl
-nth_front (x ∷ xs) ys (suc n) h = let h' : suc n < suc (length xs) = h in nth_front xs ys n (omega arith)
+nth_front (x ∷ xs) ys (suc n) h = let h' : suc n < suc (length xs) = h in
+    nth_front xs ys n (omega arith)
 
 nth_back : (xs ys : List Pair) (n : ℕ) → slice_get (xs ++ ys) (length xs + n) ≡ slice_get ys n
 nth_back [] ys n = let e : 0 + n ≡ n = omega arith in rw e refl
-nth_back (x ∷ xs) ys n = let e : suc (length xs) + n ≡ suc (length xs + n) = omega arith in rw e (nth_back xs ys n)
+nth_back (x ∷ xs) ys n = let e : suc (length xs) + n ≡ suc (length xs + n) = omega arith in
+    rw e (nth_back xs ys n)
 
 pub nth_in_child : NthInChild
 nth_in_child level t ts n = (
@@ -139,9 +175,11 @@ rising_is [] h = tt
 rising_is (p ∷ ps) h = from_rises p ps h.0 h.1
 
 some_pairs : (level : ℕ) (t : Tree level) → Full level t → 0 < length (pairs_below level t)
-some_pairs level t h = let r = full_pairs level t h in subst (λ ps. 0 < length ps) (sym r.1.1) (let s : 0 < length (r.0 ∷ r.1.0) = omega arith in s)
+some_pairs level t h = let r = full_pairs level t h in
+    subst (λ ps. 0 < length ps) (sym r.1.1) (let s : 0 < length (r.0 ∷ r.1.0) = omega arith in s)
 
-all_node : (level : ℕ) → ((t : Tree level) → Full level t → NodeFull level t) → (ts : List (Tree level)) → AllByRecursion (Full level) ts → NodeFull (suc level) ts
+all_node : (level : ℕ) → ((t : Tree level) → Full level t → NodeFull level t) →
+    (ts : List (Tree level)) → AllByRecursion (Full level) ts → NodeFull (suc level) ts
 all_node level f [] h = tt
 all_node level f (t ∷ ts) h = ((some_pairs level t h.0, f t h.0), all_node level f ts h.1)
 
@@ -154,13 +192,17 @@ in_bytes c [] h = h
 in_bytes c (d ∷ cs) (inl e) = inl (ap (λ x. x.bytes) e)
 in_bytes c (d ∷ cs) (inr h) = inr (in_bytes c cs h)
 
-pub root_full : (version : Version) (bits : ℕ) (m : List Pair) → NodeFull (tree_of (sha512_cut bits) version m).level (tree_of (sha512_cut bits) version m).tree
+pub root_full : (version : Version) (bits : ℕ) (m : List Pair) →
+    NodeFull (tree_of (sha512_cut bits) version m).level (tree_of (sha512_cut bits) version m).tree
 unfolding split grow
 root_full version bits [] = tt
-root_full version bits (p ∷ m) = node_full (tree_of (sha512_cut bits) version (p ∷ m)).level (tree_of (sha512_cut bits) version (p ∷ m)).tree (tree_full (sha512_cut bits) version p m)
+root_full version bits (p ∷ m) = node_full (tree_of (sha512_cut bits) version (p ∷ m)).level
+    (tree_of (sha512_cut bits) version (p ∷ m)).tree (tree_full (sha512_cut bits) version p m)
 
-pub root_is : (version : Version) (bits : ℕ) (m : List Pair) → AllByRecursion IsPair m → Rising (keys_in m) →
-    IsTreeOf version (chunk_bytes version bits m) (tree_of (sha512_cut bits) version m).level (tree_of (sha512_cut bits) version m).tree
+pub root_is : (version : Version) (bits : ℕ) (m : List Pair) → AllByRecursion IsPair m →
+    Rising (keys_in m) →
+    IsTreeOf version (chunk_bytes version bits m) (tree_of (sha512_cut bits) version m).level
+    (tree_of (sha512_cut bits) version m).tree
 root_is version bits m lawful rising =
     let t = tree_of (sha512_cut bits) version m in
     let e : pairs_below t.level t.tree ≡ m = pairs_are (sha512_cut bits) version m in
@@ -171,9 +213,11 @@ root_is version bits m lawful rising =
       full = root_full version bits m;
     }
 
-module _ (version : Version) (chunks : List (List ℕ)) (level : ℕ) (before after : List (Tree level)) (t : Tree level) (b : IsTreeOf version chunks (suc level) (before ++ t ∷ after)) where
+module _ (version : Version) (chunks : List (List ℕ)) (level : ℕ) (before after : List (Tree level))
+    (t : Tree level) (b : IsTreeOf version chunks (suc level) (before ++ t ∷ after)) where
   good : AllByRecursion (λ t. (0 < length (pairs_below level t)) × NodeFull level t) (t ∷ after)
-  good = all_back (λ t. (0 < length (pairs_below level t)) × NodeFull level t) before (t ∷ after) b.full
+  good = all_back (λ t. (0 < length (pairs_below level t)) × NodeFull level t) before (t ∷ after)
+      b.full
 
   pub child_some : 0 < length (pairs_below level t)
   child_some = good.0.0
@@ -183,11 +227,15 @@ module _ (version : Version) (chunks : List (List ℕ)) (level : ℕ) (before af
       let pre = flat_map (pairs_below level) before in
       let own = pairs_below level t in
       let rest = flat_map (pairs_below level) after in
-      let whole : flat_map (pairs_below level) (before ++ t ∷ after) ≡ pre ++ (own ++ rest) = flat_map-append (pairs_below level) before (t ∷ after) in
+      let whole : flat_map (pairs_below level) (before ++ t ∷ after) ≡ pre ++ (own ++ rest) =
+      flat_map-append (pairs_below level) before (t ∷ after) in
       record {
         has = (reference_leads version).1 chunks level before after t b.has;
-        lawful = all_front IsPair own rest (all_back IsPair pre (own ++ rest) (subst (AllByRecursion IsPair) whole b.lawful));
-        rising = rising_is own (rises_front own rest (rises_back pre (own ++ rest) (subst Rises whole (rises (flat_map (pairs_below level) (before ++ t ∷ after)) b.rising))));
+        lawful = all_front IsPair own rest (all_back IsPair pre (own ++ rest)
+            (subst (AllByRecursion IsPair) whole b.lawful));
+        rising = rising_is own (rises_front own rest
+            (rises_back pre (own ++ rest) (subst Rises whole
+            (rises (flat_map (pairs_below level) (before ++ t ∷ after)) b.rising))));
         full = good.0.1;
       }
 
@@ -196,12 +244,21 @@ module _ (version : Version) (chunks : List (List ℕ)) (level : ℕ) (before af
 pub stands_at_root : StandsAtRoot
 stands_at_root version bits m key lawful rising =
     let t = tree_of (sha512_cut bits) version m in
-    record { level = t.level; tree = t.tree; is = refl; below = root_is version bits m lawful rising; same = ap (λ ps. find ps key) (sym (pairs_are (sha512_cut bits) version m)) }
+    record {
+      level = t.level;
+      tree = t.tree;
+      is = refl;
+      below = root_is version bits m lawful rising;
+      same =
+          ap (λ ps. find ps key) (sym (pairs_are (sha512_cut bits) version m));
+    }
 
 pub first_entry : (version : Version) → FirstEntry version
 first_entry version level t ts child rest h lawful e =
-    child_spellings_apart version child.key (greatest_key level t) child.reference (reference_of (bytes_of version level t)) child.count (pair_count level t)
-    rest (flat_map (child_entry version level) ts) h.key (last_key_short (pairs_below level t) lawful)
+    child_spellings_apart version child.key (greatest_key level t) child.reference
+    (reference_of (bytes_of version level t)) child.count (pair_count level t)
+    rest (flat_map (child_entry version level) ts) h.key
+    (last_key_short (pairs_below level t) lawful)
     (h.reference ∙ sym (reference_length (bytes_of version level t))) e
 
 pub steps_down : (version : Version) → StepsDown version
@@ -212,5 +269,6 @@ steps_down version chunks m key chunk next level before after t apart b same pas
       tree = t;
       is = (reference_leads version).0 chunks level t next apart below.has is_in e;
       below = below;
-      same = same ∙ find_in_child level before after t key b.rising (child_some version chunks level before after t b) past here;
+      same = same ∙ find_in_child level before after t key b.rising
+          (child_some version chunks level before after t b) past here;
     }

@@ -1,5 +1,7 @@
 -- Bytes have one verdict.
-use Rattle.std.proofs.Common.{◌≡◌, ℕ, suc, ◌+◌, ◌≤◌, true, false, ◌||◌, nat_lt, List, [], ◌∷◌, ◌++◌, length, drop, Option, Some, None, Result, Ok, Err, refl, sym, ap, ◌∙◌, subst, arith, append_assoc}
+use Rattle.std.proofs.Common.{◌≡◌, ℕ, suc, ◌+◌, ◌≤◌, true, false, ◌||◌, nat_lt, List, [], ◌∷◌, ◌++◌}
+use Rattle.std.proofs.Common.{length, drop, Option, Some, None, Result, Ok, Err, refl, sym, ap, ◌∙◌}
+use Rattle.std.proofs.Common.{subst, arith, append_assoc}
 use Rattle.std.specs.Prelude.{slice_index}
 use Rattle.std.specs.Int.{w64, to_be_bytes, from_be_bytes}
 use Rattle.std.proofs.lemmas.Nat.{from_be_bytes-to_be_bytes_8}
@@ -15,7 +17,8 @@ use Rattle.prolly_check.specs.Content.{Content}
 use Rattle.prolly_check.specs.Header.{header_tests, header_fault, version_of}
 use Rattle.prolly_check.specs.Frames.{has_no_frame, ending_of, IsSmall}
 use Rattle.prolly_check.specs.Entries.{Holds, IsRead}
-use Rattle.prolly_check.specs.Verdict.{ReadVerdict, EndVerdict, FramesVerdict, HeaderVerdict, OneVerdict}
+use Rattle.prolly_check.specs.Verdict.{ReadVerdict, EndVerdict, FramesVerdict, HeaderVerdict}
+use Rattle.prolly_check.specs.Verdict.{OneVerdict}
 use Rattle.prolly_entry.specs.lemmas.Spellings.{eight_bytes}
 use Rattle.prolly_entry.specs.lemmas.Lists.{apart, cells, all_back}
 use Rattle.prolly_check.specs.Whole.{IsWhole, AreWhole}
@@ -29,33 +32,50 @@ tail_is x y xs ys e = cc
 
 -- ---- the frames
 
-long_enough : (long read size : ℕ) → read ≡ size → 8 + size ≤ long → (nat_lt long 8 || nat_lt long (8 + read)) ≡ false
-long_enough long read size e h = or_from (nat_lt long 8) (nat_lt long (8 + read)) (le-ltb long 8 (omega arith)) (le-ltb long (8 + read) (omega arith))
+long_enough : (long read size : ℕ) → read ≡ size → 8 + size ≤ long →
+    (nat_lt long 8 || nat_lt long (8 + read)) ≡ false
+long_enough long read size e h = or_from (nat_lt long 8) (nat_lt long (8 + read))
+    (le-ltb long 8 (omega arith)) (le-ltb long (8 + read) (omega arith))
 
-begins_frame : (d more : List ℕ) → IsSmall d → has_no_frame (0x43 ∷ (to_be_bytes w64 (length d) ++ (d ++ more))) ≡ false
-begins_frame d more small = long_enough (length (to_be_bytes w64 (length d) ++ (d ++ more))) (from_be_bytes w64 (to_be_bytes w64 (length d))) (length d)
+begins_frame : (d more : List ℕ) → IsSmall d →
+    has_no_frame (0x43 ∷ (to_be_bytes w64 (length d) ++ (d ++ more))) ≡ false
+begins_frame d more small = long_enough (length (to_be_bytes w64 (length d) ++ (d ++ more)))
+    (from_be_bytes w64 (to_be_bytes w64 (length d))) (length d)
     (from_be_bytes-to_be_bytes_8 (length d) small)
-    (let a : length (to_be_bytes w64 (length d) ++ (d ++ more)) ≡ 8 + length (d ++ more) = length-append (to_be_bytes w64 (length d)) (d ++ more) in
+    (let a : length (to_be_bytes w64 (length d) ++ (d ++ more)) ≡ 8 +
+    length (d ++ more) = length-append (to_be_bytes w64 (length d)) (d ++ more) in
     let b : length (d ++ more) ≡ length d + length more = length-append d more in omega arith)
 
-regroup : (d : List ℕ) (ds : List (List ℕ)) (y : List ℕ) → flat_map framed (d ∷ ds) ++ y ≡ 0x43 ∷ (to_be_bytes w64 (length d) ++ (d ++ (flat_map framed ds ++ y)))
-regroup d ds y = append_assoc (framed d) (flat_map framed ds) y ∙ append_assoc (0x43 ∷ to_be_bytes w64 (length d)) d (flat_map framed ds ++ y)
+regroup : (d : List ℕ) (ds : List (List ℕ)) (y : List ℕ) →
+    flat_map framed (d ∷ ds) ++ y ≡ 0x43 ∷ (to_be_bytes w64 (length d) ++
+    (d ++ (flat_map framed ds ++ y)))
+regroup d ds y = append_assoc (framed d) (flat_map framed ds) y ∙
+    append_assoc (0x43 ∷ to_be_bytes w64 (length d)) d (flat_map framed ds ++ y)
 
 pub record Same (cs ds : List (List ℕ)) (x y : List ℕ) : Type 0 where
   pub chunks : cs ≡ ds
   pub tail : x ≡ y
 
-pub framed_one : (cs ds : List (List ℕ)) (x y : List ℕ) → AllByRecursion IsSmall cs → AllByRecursion IsSmall ds → has_no_frame x ≡ true → has_no_frame y ≡ true →
+pub framed_one : (cs ds : List (List ℕ)) (x y : List ℕ) → AllByRecursion IsSmall cs →
+    AllByRecursion IsSmall ds → has_no_frame x ≡ true → has_no_frame y ≡ true →
     flat_map framed cs ++ x ≡ flat_map framed ds ++ y → Same cs ds x y
 framed_one [] [] x y h k a b e = record { chunks = refl; tail = e }
-framed_one [] (d ∷ ds) x y h k a b e = absurd (false≢true (sym (begins_frame d (flat_map framed ds ++ y) k.0) ∙ ap has_no_frame (sym (e ∙ regroup d ds y)) ∙ a))
-framed_one (c ∷ cs) [] x y h k a b e = absurd (false≢true (sym (begins_frame c (flat_map framed cs ++ x) h.0) ∙ ap has_no_frame (sym (regroup c cs x) ∙ e) ∙ b))
+framed_one [] (d ∷ ds) x y h k a b e = absurd
+    (false≢true (sym (begins_frame d (flat_map framed ds ++ y) k.0) ∙
+    ap has_no_frame (sym (e ∙ regroup d ds y)) ∙ a))
+framed_one (c ∷ cs) [] x y h k a b e = absurd
+    (false≢true (sym (begins_frame c (flat_map framed cs ++ x) h.0) ∙
+    ap has_no_frame (sym (regroup c cs x) ∙ e) ∙ b))
 framed_one (c ∷ cs) (d ∷ ds) x y h k a b e =
     let more = flat_map framed cs ++ x in
     let more' = flat_map framed ds ++ y in
-    let f : 0x43 ∷ (to_be_bytes w64 (length c) ++ (c ++ more)) ≡ 0x43 ∷ (to_be_bytes w64 (length d) ++ (d ++ more')) = sym (regroup c cs x) ∙ e ∙ regroup d ds y in
-    let n = apart (to_be_bytes w64 (length c)) (to_be_bytes w64 (length d)) (c ++ more) (d ++ more') refl
-    (cells 0x43 0x43 (to_be_bytes w64 (length c) ++ (c ++ more)) (to_be_bytes w64 (length d) ++ (d ++ more')) f) in
+    let f : 0x43 ∷ (to_be_bytes w64 (length c) ++ (c ++ more)) ≡
+    0x43 ∷ (to_be_bytes w64 (length d) ++ (d ++ more')) = sym (regroup c cs x) ∙ e ∙
+    regroup d ds y in
+    let n = apart (to_be_bytes w64 (length c)) (to_be_bytes w64 (length d)) (c ++ more) (d ++ more')
+    refl
+    (cells 0x43 0x43 (to_be_bytes w64 (length c) ++ (c ++ more))
+    (to_be_bytes w64 (length d) ++ (d ++ more')) f) in
     let p = apart c d more more' (eight_bytes (length c) (length d) h.0 k.0 n.front) n.rest in
     let r = framed_one cs ds x y h.1 k.1 a b p.rest in
     record { chunks = ap (λ z. z ∷ cs) p.front ∙ ap (λ zs. d ∷ zs) r.chunks; tail = r.tail }
@@ -64,50 +84,76 @@ framed_one (c ∷ cs) (d ∷ ds) x y h k a b e =
 
 module _ (version : Version) where
   -- a bad chunk is none of those that have lists
-  bad_apart : (chunk other : List ℕ) → ((pairs : List Pair) → Holds version chunk pairs → ⊥) → chunk ≡ other → IsWhole version other → ⊥
+  bad_apart : (chunk other : List ℕ) → ((pairs : List Pair) → Holds version chunk pairs → ⊥) →
+      chunk ≡ other → IsWhole version other → ⊥
   bad_apart chunk other bad e w = bad w.pairs (subst (λ c. Holds version c w.pairs) (sym e) w.holds)
 
-  not_bad : (cs before : List (List ℕ)) (c : List ℕ) (after : List (List ℕ)) → cs ≡ before ++ c ∷ after → AreWhole version cs → ((pairs : List Pair) → Holds version c pairs → ⊥) → ⊥
-  not_bad cs before c after e w bad = bad_apart c c bad refl (all_back (IsWhole version) before (c ∷ after) (subst (AreWhole version) e w)).0
+  not_bad : (cs before : List (List ℕ)) (c : List ℕ) (after : List (List ℕ)) →
+      cs ≡ before ++ c ∷ after → AreWhole version cs →
+      ((pairs : List Pair) → Holds version c pairs → ⊥) → ⊥
+  not_bad cs before c after e w bad = bad_apart c c bad refl
+      (all_back (IsWhole version) before (c ∷ after) (subst (AreWhole version) e w)).0
 
-  bad_same : (before other : List (List ℕ)) (c d : List ℕ) (after rest : List (List ℕ)) → before ++ c ∷ after ≡ other ++ d ∷ rest → AreWhole version before → AreWhole version other →
-      ((pairs : List Pair) → Holds version c pairs → ⊥) → ((pairs : List Pair) → Holds version d pairs → ⊥) → length before ≡ length other
+  bad_same : (before other : List (List ℕ)) (c d : List ℕ) (after rest : List (List ℕ)) →
+      before ++ c ∷ after ≡ other ++ d ∷ rest → AreWhole version before → AreWhole version other →
+      ((pairs : List Pair) → Holds version c pairs → ⊥) →
+      ((pairs : List Pair) → Holds version d pairs → ⊥) → length before ≡ length other
   bad_same [] [] c d after rest e h k bad worse = refl
-  bad_same [] (o ∷ other) c d after rest e h k bad worse = absurd (bad_apart c o bad (head_is c o after (other ++ d ∷ rest) e) k.0)
-  bad_same (b ∷ before) [] c d after rest e h k bad worse = absurd (bad_apart d b worse (sym (head_is b d (before ++ c ∷ after) rest e)) h.0)
+  bad_same [] (o ∷ other) c d after rest e h k bad worse =
+      absurd (bad_apart c o bad (head_is c o after (other ++ d ∷ rest) e) k.0)
+  bad_same (b ∷ before) [] c d after rest e h k bad worse =
+      absurd (bad_apart d b worse (sym (head_is b d (before ++ c ∷ after) rest e)) h.0)
   bad_same (b ∷ before) (o ∷ other) c d after rest e h k bad worse =
-      ap suc (bad_same before other c d after rest (tail_is b o (before ++ c ∷ after) (other ++ d ∷ rest) e) h.1 k.1 bad worse)
+      ap suc (bad_same before other c d after rest
+      (tail_is b o (before ++ c ∷ after) (other ++ d ∷ rest) e) h.1 k.1 bad worse)
 
-  read_one : (cs : List (List ℕ)) (r s : Result (List (List Pair)) CheckFault) → IsRead version cs r → IsRead version cs s → r ≡ s
-  read_one cs (Ok ls) (Ok ms) h k = ap Ok (lists_are version cs ls h ∙ sym (lists_are version cs ms k))
-  read_one cs (Ok ls) (Err f) h k = absurd (not_bad cs k.before k.chunk k.after k.whole (are_whole version cs ls h) k.bad)
-  read_one cs (Err f) (Ok ms) h k = absurd (not_bad cs h.before h.chunk h.after h.whole (are_whole version cs ms k) h.bad)
-  read_one cs (Err f) (Err g) h k = ap Err (h.is ∙ ap BadChunk (bad_same h.before k.before h.chunk k.chunk h.after k.after (sym h.whole ∙ k.whole)
-      (are_whole version h.before h.lists h.good) (are_whole version k.before k.lists k.good) h.bad k.bad) ∙ sym k.is)
+  read_one : (cs : List (List ℕ)) (r s : Result (List (List Pair)) CheckFault) →
+      IsRead version cs r → IsRead version cs s → r ≡ s
+  read_one cs (Ok ls) (Ok ms) h k = ap Ok (lists_are version cs ls h ∙
+      sym (lists_are version cs ms k))
+  read_one cs (Ok ls) (Err f) h k = absurd (not_bad cs k.before k.chunk k.after k.whole
+      (are_whole version cs ls h) k.bad)
+  read_one cs (Err f) (Ok ms) h k = absurd (not_bad cs h.before h.chunk h.after h.whole
+      (are_whole version cs ms k) h.bad)
+  read_one cs (Err f) (Err g) h k = ap Err (h.is ∙
+      ap BadChunk (bad_same h.before k.before h.chunk k.chunk h.after k.after (sym h.whole ∙
+      k.whole)
+      (are_whole version h.before h.lists h.good) (are_whole version k.before k.lists k.good) h.bad
+      k.bad) ∙ sym k.is)
 
 -- ---- the verdicts
 
-read_same : (version : Version) (bits : ℕ) (cs : List (List ℕ)) (ending : List ℕ) (read : Result (List (List Pair)) CheckFault) (v w : Result Content CheckFault) →
+read_same : (version : Version) (bits : ℕ) (cs : List (List ℕ)) (ending : List ℕ)
+    (read : Result (List (List Pair)) CheckFault) (v w : Result Content CheckFault) →
     ReadVerdict version bits cs ending read v → ReadVerdict version bits cs ending read w → v ≡ w
 read_same version bits cs ending (Ok ls) v w h k = h ∙ sym k
 read_same version bits cs ending (Err f) v w h k = h ∙ sym k
 
-end_same : (version : Version) (bits : ℕ) (cs : List (List ℕ)) (ending : Result (List ℕ) CheckFault) (v w : Result Content CheckFault) →
+end_same : (version : Version) (bits : ℕ) (cs : List (List ℕ)) (ending : Result (List ℕ) CheckFault)
+    (v w : Result Content CheckFault) →
     EndVerdict version bits cs ending v → EndVerdict version bits cs ending w → v ≡ w
 end_same version bits cs (Ok ending) v w h k =
-    read_same version bits cs ending k.read v w (subst (λ r. ReadVerdict version bits cs ending r v) (read_one version cs h.read k.read h.is k.is) h.so) k.so
+    read_same version bits cs ending k.read v w
+    (subst (λ r. ReadVerdict version bits cs ending r v)
+    (read_one version cs h.read k.read h.is k.is) h.so) k.so
 end_same version bits cs (Err f) v w h k = h ∙ sym k
 
-frames_same : (version : Version) (bits : ℕ) (bytes : List ℕ) (v w : Result Content CheckFault) → FramesVerdict version bits bytes v → FramesVerdict version bits bytes w → v ≡ w
+frames_same : (version : Version) (bits : ℕ) (bytes : List ℕ) (v w : Result Content CheckFault) →
+    FramesVerdict version bits bytes v → FramesVerdict version bits bytes w → v ≡ w
 frames_same version bits bytes v w h k =
-    let s = framed_one h.chunks k.chunks h.is.tail k.is.tail h.is.small k.is.small h.is.all k.is.all (sym h.is.spelled ∙ k.is.spelled) in
-    let e : h.ending ≡ k.ending = sym h.is.is ∙ ap (λ cs. ending_of (length cs) h.is.tail) s.chunks ∙ ap (ending_of (length k.chunks)) s.tail ∙ k.is.is in
+    let s = framed_one h.chunks k.chunks h.is.tail k.is.tail h.is.small k.is.small h.is.all k.is.all
+    (sym h.is.spelled ∙ k.is.spelled) in
+    let e : h.ending ≡ k.ending = sym h.is.is ∙ ap (λ cs. ending_of (length cs) h.is.tail)
+    s.chunks ∙ ap (ending_of (length k.chunks)) s.tail ∙ k.is.is in
     end_same version bits k.chunks k.ending v w
-    (subst (λ x. EndVerdict version bits k.chunks x v) e (subst (λ cs. EndVerdict version bits cs h.ending v) s.chunks h.so)) k.so
+    (subst (λ x. EndVerdict version bits k.chunks x v) e
+    (subst (λ cs. EndVerdict version bits cs h.ending v) s.chunks h.so)) k.so
 
 pub one_verdict : OneVerdict
 one_verdict bytes v w h k = go (header_fault header_tests bytes) h k
   where
-    go : (fault : Option CheckFault) → HeaderVerdict fault bytes v → HeaderVerdict fault bytes w → v ≡ w
+    go : (fault : Option CheckFault) → HeaderVerdict fault bytes v → HeaderVerdict fault bytes w →
+        v ≡ w
     go (Some f) h k = h ∙ sym k
-    go None h k = frames_same (version_of (slice_index bytes 4)) (slice_index bytes 5) (drop 6 bytes) v w h k
+    go None h k = frames_same (version_of (slice_index bytes 4)) (slice_index bytes 5)
+        (drop 6 bytes) v w h k

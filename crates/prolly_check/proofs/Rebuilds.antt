@@ -1,8 +1,12 @@
 -- Events that pass levels of nodes, and the chunks of a file.
-use Rattle.std.proofs.Common.{◌≡◌, ℕ, zero, suc, ◌+◌, ◌<◌, ◌≤◌, Bool, true, false, cond, ◌&&◌, nat_le, List, [], ◌∷◌, ◌++◌, length, map, take, drop, get_or, Option, Some, None, Result, Ok, Err, refl, sym, ap, ◌∙◌, subst, arith, append_assoc, append-nil, length-take}
+use Rattle.std.proofs.Common.{◌≡◌, ℕ, zero, suc, ◌+◌, ◌<◌, ◌≤◌, Bool, true, false, cond, ◌&&◌}
+use Rattle.std.proofs.Common.{nat_le, List, [], ◌∷◌, ◌++◌, length, map, take, drop, get_or, Option}
+use Rattle.std.proofs.Common.{Some, None, Result, Ok, Err, refl, sym, ap, ◌∙◌, subst, arith}
+use Rattle.std.proofs.Common.{append_assoc, append-nil, length-take}
 use Rattle.std.proofs.Math.Seq.{drop-cons}
 use Rattle.std.proofs.lemmas.Bool.{cond-true, cond-false, false_from_ne_true}
-use Rattle.std.proofs.lemmas.List.{length-append, length-map, append_cancel_left, take_more, drop_all}
+use Rattle.std.proofs.lemmas.List.{length-append, length-map, append_cancel_left, take_more}
+use Rattle.std.proofs.lemmas.List.{drop_all}
 use Rattle.std.proofs.lemmas.Result.{IfOk-weaker}
 use Rattle.std.proofs.lemmas.Slice.Eq.{bytes_eq-Decides}
 use Rattle.std.specs.Str.{bytes_eq}
@@ -15,7 +19,8 @@ use Rattle.prolly_entry.specs.Prefix.{IsPrefix}
 use Rattle.prolly_tree.specs.Split.{is_closed, closed_groups, open_groups, open_entries}
 use Rattle.prolly_tree.specs.Tree.{leaves, pair_is_boundary}
 use Rattle.prolly_tree.specs.Chunk.{Chunk, chunk_of}
-use Rattle.prolly_tree.specs.Events.{Closing, clean, faulty, leaf_events, inner_events, group_event, event_is_boundary, has_level}
+use Rattle.prolly_tree.specs.Events.{Closing, clean, faulty, leaf_events, inner_events, group_event}
+use Rattle.prolly_tree.specs.Events.{event_is_boundary, has_level}
 use Rattle.prolly_entry.specs.lemmas.Lists.{all_back}
 use Rattle.prolly_laws.specs.Stages.{fault_is_prefix, stage_step}
 use Rattle.prolly_chunk.specs.NodeLevel.{NodeState, NodeTakes, node_level}
@@ -23,7 +28,8 @@ use Rattle.prolly_chunk.specs.lemmas.{node_passes}
 use Rattle.prolly_check.specs.declared.fault.CheckFault.{CheckFault}
 use Rattle.prolly_check.specs.declared.fault.CheckFault.TheVariants as faults
 use Rattle.prolly_check.specs.Judged.{difference}
-use Rattle.prolly_check.specs.Rebuilt.{sent_through, AreBehind, AreBelow, AreFirst, DifferAs, AreCompared, IsExpected, Passes}
+use Rattle.prolly_check.specs.Rebuilt.{sent_through, AreBehind, AreBelow, AreFirst, DifferAs}
+use Rattle.prolly_check.specs.Rebuilt.{AreCompared, IsExpected, Passes}
 use Rattle.prolly_check.specs.Refusal.{UnlessMemory}
 use Rattle.prolly_check.proofs.HeldPairs.{bytes_in, bytes_append}
 use Rattle.std.proofs.Math.Logic.{⊎_map}
@@ -35,7 +41,8 @@ prefix_of xs ys zs p q = (p.0 ++ q.0, q.1 ∙ ap (λ a. a ++ q.0) p.1 ∙ append
 
 module _ (cut : Cut) (version : Version) where
   sent_more : (level count : ℕ) (events more : List Chunk) →
-      IsPrefix (sent_through cut version level count events) (sent_through cut version level count (events ++ more))
+      IsPrefix (sent_through cut version level count events)
+      (sent_through cut version level count (events ++ more))
   sent_more level zero events more = (more, refl)
   sent_more level (suc count) events more =
       let p = (fault_is_prefix cut version).1 faulty level events more in
@@ -43,126 +50,169 @@ module _ (cut : Cut) (version : Version) where
       (g.0, ap (sent_through cut version (suc level) count) p.1 ∙ g.1)
 
   pub sent_prefix : (level count : ℕ) (events all : List Chunk) → IsPrefix events all →
-      IsPrefix (sent_through cut version level count events) (sent_through cut version level count all)
+      IsPrefix (sent_through cut version level count events)
+      (sent_through cut version level count all)
   sent_prefix level count events all p =
-      let g = sent_more level count events p.0 in (g.0, ap (sent_through cut version level count) p.1 ∙ g.1)
+      let g = sent_more level count events p.0 in
+      (g.0, ap (sent_through cut version level count) p.1 ∙ g.1)
 
   -- a level sends an event on first, and then perhaps a node
   sends_first : (level : ℕ) (events : List Chunk) (event : Chunk) →
-      IsPrefix (inner_events level cut version faulty events ++ event ∷ []) (inner_events level cut version faulty (events ++ event ∷ []))
+      IsPrefix (inner_events level cut version faulty events ++ event ∷ [])
+      (inner_events level cut version faulty (events ++ event ∷ []))
   sends_first zero events event = ([], sym (append-nil (events ++ event ∷ [])))
   sends_first (suc below) events event = (
     _,
-    (stage_step below (group_event version (suc below)) (event_is_boundary cut version) events event).0
+    (stage_step below (group_event version (suc below)) (event_is_boundary cut version) events
+        event).0
         ∙ sym (append_assoc (inner_events (suc below) cut version faulty events) (event ∷ []) _),
   )
 
   -- so do all levels together
   sent_first : (level count : ℕ) (events : List Chunk) (event : Chunk) →
-      IsPrefix (sent_through cut version level count events ++ event ∷ []) (sent_through cut version level count (events ++ event ∷ []))
+      IsPrefix (sent_through cut version level count events ++ event ∷ [])
+      (sent_through cut version level count (events ++ event ∷ []))
   sent_first level zero events event = ([], sym (append-nil (events ++ event ∷ [])))
   sent_first level (suc count) events event =
       let sent = sent_through cut version (suc level) count in
       let inner = inner_events level cut version faulty in
-      prefix_of (sent (inner events) ++ event ∷ []) (sent (inner events ++ event ∷ [])) (sent (inner (events ++ event ∷ [])))
+      prefix_of (sent (inner events) ++ event ∷ []) (sent (inner events ++ event ∷ []))
+      (sent (inner (events ++ event ∷ [])))
       (sent_first (suc level) count (inner events) event)
-      (sent_prefix (suc level) count (inner events ++ event ∷ []) (inner (events ++ event ∷ [])) (sends_first level events event))
+      (sent_prefix (suc level) count (inner events ++ event ∷ []) (inner (events ++ event ∷ []))
+      (sends_first level events event))
 
 -- ---- differences
 
 -- where chunks begin alike, what follows is compared
 pub difference_along : (chunks rest : List (List ℕ)) (start number : ℕ) → number ≤ length chunks →
-    difference start (take number chunks ++ rest) chunks ≡ difference (start + number) rest (drop number chunks)
+    difference start (take number chunks ++ rest) chunks ≡ difference (start + number) rest
+    (drop number chunks)
 difference_along chunks rest start zero h =
     let e : start ≡ start + 0 = omega arith in ap (λ n. difference n rest chunks) e
 difference_along [] rest start (suc number) h = absurd (omega arith)
 difference_along (c ∷ chunks) rest start (suc number) h =
     let h' : suc number ≤ suc (length chunks) = h in
     let e : suc start + number ≡ start + suc number = omega arith in
-    cond-true (bytes_eq c c) (difference (suc start) (take number chunks ++ rest) chunks) (Some (faults.NotCanonical start)) ((bytes_eq-Decides c c).1 refl)
-    ∙ difference_along chunks rest (suc start) number (omega arith) ∙ ap (λ n. difference n rest (drop number chunks)) e
+    cond-true (bytes_eq c c) (difference (suc start) (take number chunks ++ rest) chunks)
+    (Some (faults.NotCanonical start)) ((bytes_eq-Decides c c).1 refl)
+    ∙ difference_along chunks rest (suc start) number (omega arith) ∙
+    ap (λ n. difference n rest (drop number chunks)) e
 
 -- a difference stays one
-pub still_differ : (chunks : List (List ℕ)) (sent all : List Chunk) (fault : CheckFault) → IsPrefix sent all →
+pub still_differ : (chunks : List (List ℕ)) (sent all : List Chunk) (fault : CheckFault) →
+    IsPrefix sent all →
     UnlessMemory (DifferAs chunks sent) fault → UnlessMemory (DifferAs chunks all) fault
 still_differ chunks sent all fault p = ⊎_map (λ memory. memory) (differ fault)
   where
     differ : (fault : CheckFault) → DifferAs chunks sent fault → DifferAs chunks all fault
     differ fault h more =
         ap (λ cs. difference 0 (cs ++ more) chunks) (ap bytes_in p.1 ∙ bytes_append sent p.0)
-        ∙ ap (λ cs. difference 0 cs chunks) (append_assoc (bytes_in sent) (bytes_in p.0) more) ∙ h (bytes_in p.0 ++ more)
+        ∙ ap (λ cs. difference 0 cs chunks) (append_assoc (bytes_in sent) (bytes_in p.0) more) ∙
+        h (bytes_in p.0 ++ more)
 
 -- one chunk more
-module _ (chunks : List (List ℕ)) (number : ℕ) (event : Chunk) (sent : List Chunk) (a : AreFirst chunks number sent) where
+module _ (chunks : List (List ℕ)) (number : ℕ) (event : Chunk) (sent : List Chunk)
+    (a : AreFirst chunks number sent) where
   within : number ≤ length chunks
-  within = let c = a.count in omega (arith, ap length a.are, length-map sent (λ c. c.bytes), length-take number chunks)
+  within = let c = a.count in omega (
+    arith,
+    ap length a.are,
+    length-map sent (λ c. c.bytes),
+    length-take number chunks,
+  )
 
   one_more : bytes_in (sent ++ event ∷ []) ≡ take number chunks ++ event.bytes ∷ []
   one_more = bytes_append sent (event ∷ []) ∙ ap (λ cs. cs ++ event.bytes ∷ []) a.are
 
-  then : (more : List (List ℕ)) → difference 0 (bytes_in (sent ++ event ∷ []) ++ more) chunks ≡ difference number (event.bytes ∷ more) (drop number chunks)
+  then : (more : List (List ℕ)) → difference 0 (bytes_in (sent ++ event ∷ []) ++ more) chunks ≡
+      difference number (event.bytes ∷ more) (drop number chunks)
   then more =
       let e : 0 + number ≡ number = omega arith in
       ap (λ cs. difference 0 (cs ++ more) chunks) one_more
-      ∙ ap (λ cs. difference 0 cs chunks) (append_assoc (take number chunks) (event.bytes ∷ []) more)
+      ∙ ap (λ cs. difference 0 cs chunks) (append_assoc (take number chunks) (event.bytes ∷ [])
+      more)
       ∙ difference_along chunks (event.bytes ∷ more) 0 number within
       ∙ ap (λ n. difference n (event.bytes ∷ more) (drop number chunks)) e
 
-  pub is_past : length chunks ≤ number → DifferAs chunks (sent ++ event ∷ []) (faults.NotCanonical number)
-  is_past h more = then more ∙ ap (difference number (event.bytes ∷ more)) (drop_all number chunks h)
+  pub is_past : length chunks ≤ number → DifferAs chunks (sent ++ event ∷ [])
+      (faults.NotCanonical number)
+  is_past h more = then more ∙ ap (difference number (event.bytes ∷ more))
+      (drop_all number chunks h)
 
-  pub is_other : number < length chunks → (get_or chunks number [] ≡ event.bytes → ⊥) → DifferAs chunks (sent ++ event ∷ []) (faults.NotCanonical number)
+  pub is_other : number < length chunks → (get_or chunks number [] ≡ event.bytes → ⊥) →
+      DifferAs chunks (sent ++ event ∷ []) (faults.NotCanonical number)
   is_other h other more =
       let there = get_or chunks number [] in
       then more ∙ ap (difference number (event.bytes ∷ more)) (drop-cons chunks number [] h)
-      ∙ cond-false (bytes_eq event.bytes there) (difference (suc number) more (drop (suc number) chunks)) (Some (faults.NotCanonical number))
-      (false_from_ne_true (bytes_eq event.bytes there) (λ t. other (sym ((bytes_eq-Decides event.bytes there).0 t))))
+      ∙ cond-false (bytes_eq event.bytes there)
+      (difference (suc number) more (drop (suc number) chunks))
+      (Some (faults.NotCanonical number))
+      (false_from_ne_true (bytes_eq event.bytes there)
+      (λ t. other (sym ((bytes_eq-Decides event.bytes there).0 t))))
 
-  pub is_same : number < length chunks → get_or chunks number [] ≡ event.bytes → AreFirst chunks (number + 1) (sent ++ event ∷ [])
+  pub is_same : number < length chunks → get_or chunks number [] ≡ event.bytes →
+      AreFirst chunks (number + 1) (sent ++ event ∷ [])
   is_same h same = record {
-    are = one_more ∙ ap (λ c. take number chunks ++ c ∷ []) (sym same) ∙ sym (take_more chunks number [] h);
+    are = one_more ∙ ap (λ c. take number chunks ++ c ∷ []) (sym same) ∙
+        sym (take_more chunks number [] h);
     count = let c = a.count in omega (arith, length-append sent (event ∷ []));
   }
 
 -- ---- what the levels do with an event
 
 -- a level that is not the next above an event sends it on, and stays as it is
-forwards : (bits : ℕ) (version : Version) (level : ℕ) (events : List Chunk) (event : Chunk) → suc event.level < level →
-    NodeTakes sha512_cut (node_level sha512_cut bits version level events) (node_level sha512_cut bits version level events) event None
+forwards : (bits : ℕ) (version : Version) (level : ℕ) (events : List Chunk) (event : Chunk) →
+    suc event.level < level →
+    NodeTakes sha512_cut (node_level sha512_cut bits version level events)
+    (node_level sha512_cut bits version level events) event None
 forwards bits version level events event h =
     let state = node_level sha512_cut bits version level events in
     node_passes sha512_cut state state.node event refl (omega arith) (λ e. omega arith)
 
 -- so do all levels above it
-pub behind_on : (bits : ℕ) (version : Version) (level : ℕ) (states : List (NodeState ℕ)) (events : List Chunk) (event : Chunk) → suc event.level < level →
-    AreBehind bits version level states events → AreBehind bits version level states (events ++ event ∷ [])
+pub behind_on : (bits : ℕ) (version : Version) (level : ℕ) (states : List (NodeState ℕ))
+    (events : List Chunk) (event : Chunk) → suc event.level < level →
+    AreBehind bits version level states events →
+    AreBehind bits version level states (events ++ event ∷ [])
 behind_on bits version level [] events event h b = tt
 behind_on bits version level (s ∷ states) events event h b =
     let t = forwards bits version level events event h in (
       b.0 ∙ t.state bits version level events refl,
-      subst (AreBehind bits version (suc level) states) (sym (t.events bits version level events refl))
-          (behind_on bits version (suc level) states (inner_events level (sha512_cut bits) version faulty events) event (omega arith) b.1),
+      subst (AreBehind bits version (suc level) states)
+          (sym (t.events bits version level events refl))
+          (behind_on bits version (suc level) states
+          (inner_events level (sha512_cut bits) version faulty events) event (omega arith) b.1),
     )
 
-sent_on : (bits : ℕ) (version : Version) (level count : ℕ) (events : List Chunk) (event : Chunk) → suc event.level < level →
-    sent_through (sha512_cut bits) version level count (events ++ event ∷ []) ≡ sent_through (sha512_cut bits) version level count events ++ event ∷ []
+sent_on : (bits : ℕ) (version : Version) (level count : ℕ) (events : List Chunk) (event : Chunk) →
+    suc event.level < level →
+    sent_through (sha512_cut bits) version level count (events ++ event ∷ []) ≡
+    sent_through (sha512_cut bits) version level count events ++ event ∷ []
 sent_on bits version level zero events event h = refl
 sent_on bits version level (suc count) events event h =
-    ap (sent_through (sha512_cut bits) version (suc level) count) ((forwards bits version level events event h).events bits version level events refl)
-    ∙ sent_on bits version (suc level) count (inner_events level (sha512_cut bits) version faulty events) event (omega arith)
+    ap (sent_through (sha512_cut bits) version (suc level) count)
+    ((forwards bits version level events event h).events bits version level events refl)
+    ∙ sent_on bits version (suc level) count (inner_events level (sha512_cut bits) version faulty
+    events) event (omega arith)
 
 -- ---- the level of what a level closes
 
-grouped_below : (version : Version) (level : ℕ) (b : Bool) (groups : List (List Chunk)) → AreBelow (suc level) (cond b (map (group_event version level) groups) [])
+grouped_below : (version : Version) (level : ℕ) (b : Bool) (groups : List (List Chunk)) →
+    AreBelow (suc level) (cond b (map (group_event version level) groups) [])
 grouped_below version level false groups = tt
 grouped_below version level true [] = tt
-grouped_below version level true (g ∷ groups) = (omega arith, grouped_below version level true groups)
+grouped_below version level true (g ∷ groups) =
+    (omega arith, grouped_below version level true groups)
 
-pub closed_below : (cut : Cut) (version : Version) (level : ℕ) (events : List Chunk) (event : Chunk) (closed : Option Chunk) →
-    inner_events level cut version faulty (events ++ event ∷ []) ≡ inner_events level cut version faulty events ++ event ∷ option_to_list closed →
+pub closed_below : (cut : Cut) (version : Version) (level : ℕ) (events : List Chunk) (event : Chunk)
+    (closed : Option Chunk) →
+    inner_events level cut version faulty (events ++ event ∷ []) ≡ inner_events level cut version
+    faulty events ++ event ∷ option_to_list closed →
     AreBelow (suc level) (option_to_list closed)
 closed_below cut version zero events event closed e =
-    let h : event ∷ [] ≡ event ∷ option_to_list closed = append_cancel_left events (event ∷ []) (event ∷ option_to_list closed) e in
+    let h : event ∷ [] ≡ event ∷ option_to_list closed =
+    append_cancel_left events (event ∷ []) (event ∷ option_to_list closed) e in
     let none : [] ≡ option_to_list closed = cc in
     subst (AreBelow 1) none tt
 closed_below cut version (suc below) events event closed e =
@@ -171,30 +221,39 @@ closed_below cut version (suc below) events event closed e =
     let group = open_entries test 2 (filter (has_level below) events) ++ event ∷ [] in
     let b = has_level below event && is_closed test 2 group in
     let h : event ∷ cond b (event_of group ∷ []) [] ≡ event ∷ option_to_list closed =
-    append_cancel_left (inner_events (suc below) cut version faulty events) (event ∷ cond b (event_of group ∷ []) []) (event ∷ option_to_list closed)
+    append_cancel_left (inner_events (suc below) cut version faulty events)
+    (event ∷ cond b (event_of group ∷ []) []) (event ∷ option_to_list closed)
     (sym (stage_step below event_of test events event).0 ∙ e) in
     let same : cond b (event_of group ∷ []) [] ≡ option_to_list closed = cc in
     subst (AreBelow (suc (suc below))) same (grouped_below version (suc below) b (group ∷ []))
 
-pub ended_below : (cut : Cut) (version : Version) (level : ℕ) (events : List Chunk) (last : Option Chunk) →
-    inner_events level cut version clean events ≡ inner_events level cut version faulty events ++ option_to_list last → AreBelow (suc level) (option_to_list last)
+pub ended_below : (cut : Cut) (version : Version) (level : ℕ) (events : List Chunk)
+    (last : Option Chunk) →
+    inner_events level cut version clean events ≡ inner_events level cut version faulty events ++
+    option_to_list last → AreBelow (suc level) (option_to_list last)
 ended_below cut version zero events last e =
-    subst (AreBelow 1) (append_cancel_left events [] (option_to_list last) (append-nil events ∙ e)) tt
+    subst (AreBelow 1) (append_cancel_left events [] (option_to_list last) (append-nil events ∙ e))
+    tt
 ended_below cut version (suc below) events last e =
     let test = event_is_boundary cut version in
     let event_of = group_event version (suc below) in
     let entries = filter (has_level below) events in
     let b = nat_le 2 (length entries) in
-    let same = append_cancel_left (inner_events (suc below) cut version faulty events) (cond b (map event_of (open_groups test 2 entries)) []) (option_to_list last)
+    let same = append_cancel_left (inner_events (suc below) cut version faulty events)
+    (cond b (map event_of (open_groups test 2 entries)) []) (option_to_list last)
     (sym (stage_step below event_of test events (group_event version 0 [])).1 ∙ e) in
-    subst (AreBelow (suc (suc below))) same (grouped_below version (suc below) b (open_groups test 2 entries))
+    subst (AreBelow (suc (suc below))) same (grouped_below version (suc below) b
+    (open_groups test 2 entries))
 
-leaves_below : (version : Version) (leaves : List (List Pair)) → AreBelow 1 (map (chunk_of version 0) leaves)
+leaves_below : (version : Version) (leaves : List (List Pair)) →
+    AreBelow 1 (map (chunk_of version 0) leaves)
 leaves_below version [] = tt
 leaves_below version (l ∷ leaves) = (omega arith, leaves_below version leaves)
 
-pub leaf_below : (cut : Cut) (version : Version) (closing : Closing) (pairs : List Pair) (sent : List Chunk) (last : Option Chunk) →
-    leaf_events cut version closing pairs ≡ sent ++ option_to_list last → AreBelow 1 (option_to_list last)
+pub leaf_below : (cut : Cut) (version : Version) (closing : Closing) (pairs : List Pair)
+    (sent : List Chunk) (last : Option Chunk) →
+    leaf_events cut version closing pairs ≡ sent ++ option_to_list last →
+    AreBelow 1 (option_to_list last)
 leaf_below cut version closing pairs sent last e =
     all_back (λ c. c.level < 1) sent (option_to_list last) (subst (AreBelow 1) e (all closing))
   where
@@ -206,34 +265,44 @@ leaf_below cut version closing pairs sent last e =
 
 module _ (chunks : List (List ℕ)) (number : ℕ) (event : Chunk) where
   -- the file has another chunk in its place
-  pub is_refused : (levels : List (NodeState ℕ)) (fault : CheckFault) → IsExpected chunks number event (Err fault) →
+  pub is_refused : (levels : List (NodeState ℕ)) (fault : CheckFault) →
+      IsExpected chunks number event (Err fault) →
       Passes chunks levels levels (Some event) number (Err fault)
   is_refused levels fault other bits version level events below behind first =
       let sent = sent_through (sha512_cut bits) version level (length levels) in record {
         behind = tt;
-        compared = still_differ chunks (sent events ++ event ∷ []) (sent (events ++ event ∷ [])) fault
-            (sent_first (sha512_cut bits) version level (length levels) events event) (other (sent events) first);
+        compared = still_differ chunks (sent events ++ event ∷ []) (sent (events ++ event ∷ []))
+            fault
+            (sent_first (sha512_cut bits) version level (length levels) events event)
+            (other (sent events) first);
       }
 
   -- the first level takes it, those above let it pass, and then they take what the first one closes
-  pub one_level : (next : ℕ) (state state' : NodeState ℕ) (above above' : List (NodeState ℕ)) (closed : Option Chunk) (result : Result ℕ CheckFault) →
-      IsExpected chunks number event (Ok next) → NodeTakes sha512_cut state state' event closed → Passes chunks above above' closed next result →
+  pub one_level : (next : ℕ) (state state' : NodeState ℕ) (above above' : List (NodeState ℕ))
+      (closed : Option Chunk) (result : Result ℕ CheckFault) →
+      IsExpected chunks number event (Ok next) → NodeTakes sha512_cut state state' event closed →
+      Passes chunks above above' closed next result →
       Passes chunks (state ∷ above) (state' ∷ above') (Some event) number result
-  one_level next state state' above above' closed result there takes passes bits version level events below behind first =
+  one_level next state state' above above' closed result there takes passes bits version level
+      events below behind first =
       let cut = sha512_cut bits in
       let inner = inner_events level cut version faulty in
       let low : event.level < level = below.0 in
       let sends = takes.events bits version level events behind.0 in
-      let sent : inner (events ++ event ∷ []) ≡ (inner events ++ event ∷ []) ++ option_to_list closed =
+      let sent : inner (events ++ event ∷ []) ≡ (inner events ++ event ∷ []) ++
+      option_to_list closed =
       sends ∙ sym (append_assoc (inner events) (event ∷ []) (option_to_list closed)) in
-      let p = passes bits version (suc level) (inner events ++ event ∷ []) (closed_below cut version level events event closed sends)
+      let p = passes bits version (suc level) (inner events ++ event ∷ [])
+      (closed_below cut version level events event closed sends)
       (behind_on bits version (suc level) above (inner events) event (omega arith) behind.1)
-      (subst (AreFirst chunks next) (sym (sent_on bits version (suc level) (length above) (inner events) event (omega arith)))
+      (subst (AreFirst chunks next) (sym (sent_on bits version (suc level) (length above)
+      (inner events) event (omega arith)))
       (there (sent_through cut version (suc level) (length above) (inner events)) first)) in
       record {
         behind = IfOk-weaker result _ _ (λ next b. (
           takes.state bits version level events behind.0,
           subst (AreBehind bits version (suc level) above') (sym sent) b,
         )) p.behind;
-        compared = subst (λ es. AreCompared chunks (sent_through cut version (suc level) (length above') es) result) (sym sent) p.compared;
+        compared = subst (λ es. AreCompared chunks
+            (sent_through cut version (suc level) (length above') es) result) (sym sent) p.compared;
       }

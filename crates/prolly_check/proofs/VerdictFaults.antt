@@ -1,5 +1,6 @@
 -- A verdict is never want of memory, a failed read, or that there are too many bytes.
-use Rattle.std.proofs.Common.{◌≡◌, ℕ, suc, ◌≤◌, Bool, not, ◌==◌, nat_lt, List, [], ◌∷◌, length, Option, Some, None, Result, Ok, Err, inl, inr, sym, subst}
+use Rattle.std.proofs.Common.{◌≡◌, ℕ, suc, ◌≤◌, Bool, not, ◌==◌, nat_lt, List, [], ◌∷◌, length}
+use Rattle.std.proofs.Common.{Option, Some, None, Result, Ok, Err, inl, inr, sym, subst}
 use Rattle.std.specs.Prelude.{slice_index, IfSome, IfErr}
 use Rattle.std.proofs.lemmas.Bool.{cond_both}
 use Rattle.std.specs.Str.{bytes_eq}
@@ -17,7 +18,8 @@ use Rattle.prolly_check.specs.Header.{header_tests, header_fault, version_of}
 use Rattle.prolly_check.specs.Frames.{ending_of}
 use Rattle.prolly_check.specs.Entries.{IsRead}
 use Rattle.prolly_check.specs.Order.{rises_behind, last_behind}
-use Rattle.prolly_check.specs.Judged.{order_fault, difference, end_fault, reuse, chunk_bytes, ending_for, canonical_fault, or_content}
+use Rattle.prolly_check.specs.Judged.{order_fault, difference, end_fault, reuse, chunk_bytes}
+use Rattle.prolly_check.specs.Judged.{ending_for, canonical_fault, or_content}
 use Rattle.prolly_check.specs.Refusal.{UnlessMemory}
 use Rattle.prolly_check.specs.Verdict.{ReadVerdict, EndVerdict, HeaderVerdict, IsVerdict}
 use Rattle.prolly_tree.specs.lemmas.Splits.{flat}
@@ -41,7 +43,8 @@ then (Some fault) b h k = h
 of_header : (tests : List (ℕ → Bool)) (bytes : List ℕ) → AnyOfBytes (header_fault tests bytes)
 of_header [] bytes = tt
 of_header (test ∷ tests) [] = tt
-of_header (test ∷ tests) (b ∷ bytes) = cond_both (test b) (header_fault tests bytes) (Some faults.BadHeader) AnyOfBytes (λ _. of_header tests bytes) (λ _. tt)
+of_header (test ∷ tests) (b ∷ bytes) = cond_both (test b) (header_fault tests bytes)
+    (Some faults.BadHeader) AnyOfBytes (λ _. of_header tests bytes) (λ _. tt)
 
 of_ending : (number : ℕ) (bytes : List ℕ) → ErrOfBytes (ending_of number bytes)
 of_ending number [] = tt
@@ -49,12 +52,15 @@ of_ending number (b ∷ rest) =
     cond_both (b == 0x43) (Err faults.Truncated) _ ErrOfBytes (λ _. tt)
     (λ _. cond_both (not (b == 0x45)) (Err (faults.BadFrame number)) _ ErrOfBytes (λ _. tt)
     (λ _. cond_both (nat_lt (length rest) 28) (Err faults.Truncated) _ ErrOfBytes (λ _. tt)
-    (λ _. cond_both (nat_lt 28 (length rest)) (Err faults.Trailing) (Ok rest) ErrOfBytes (λ _. tt) (λ _. tt))))
+    (λ _. cond_both (nat_lt 28 (length rest)) (Err faults.Trailing) (Ok rest) ErrOfBytes (λ _. tt)
+    (λ _. tt))))
 
-of_order : (last : Position) (number : ℕ) (lists : List (List Pair)) → AnyOfBytes (order_fault last number lists)
+of_order : (last : Position) (number : ℕ) (lists : List (List Pair)) →
+    AnyOfBytes (order_fault last number lists)
 of_order last number [] = tt
 of_order last number (ps ∷ lists) =
-    cond_both (rises_behind last ps) (order_fault (last_behind last ps) (suc number) lists) (Some (faults.KeysOutOfOrder number)) AnyOfBytes
+    cond_both (rises_behind last ps) (order_fault (last_behind last ps) (suc number) lists)
+    (Some (faults.KeysOutOfOrder number)) AnyOfBytes
     (λ _. of_order (last_behind last ps) (suc number) lists) (λ _. tt)
 
 of_difference : (number : ℕ) (cs ds : List (List ℕ)) → AnyOfBytes (difference number cs ds)
@@ -62,52 +68,71 @@ of_difference number [] [] = tt
 of_difference number [] (d ∷ ds) = tt
 of_difference number (c ∷ cs) [] = tt
 of_difference number (c ∷ cs) (d ∷ ds) =
-    cond_both (bytes_eq c d) (difference (suc number) cs ds) (Some (faults.NotCanonical number)) AnyOfBytes (λ _. of_difference (suc number) cs ds) (λ _. tt)
+    cond_both (bytes_eq c d) (difference (suc number) cs ds) (Some (faults.NotCanonical number))
+    AnyOfBytes (λ _. of_difference (suc number) cs ds) (λ _. tt)
 
-of_reuse : (before : List (List ℕ)) (number : ℕ) (cs : List (List ℕ)) → AnyOfBytes (reuse before number cs)
+of_reuse : (before : List (List ℕ)) (number : ℕ) (cs : List (List ℕ)) →
+    AnyOfBytes (reuse before number cs)
 of_reuse before number [] = tt
 of_reuse before number (c ∷ cs) =
-    cond_both (list_any (λ d. bytes_eq (reference_of d) (reference_of c)) before) (Some (faults.Collision number)) (reuse (c ∷ before) (suc number) cs) AnyOfBytes
+    cond_both (list_any (λ d. bytes_eq (reference_of d) (reference_of c)) before)
+    (Some (faults.Collision number)) (reuse (c ∷ before) (suc number) cs) AnyOfBytes
     (λ _. tt) (λ _. of_reuse (c ∷ before) (suc number) cs)
 
-of_content : (content : Content) (fault : Option CheckFault) → AnyOfBytes fault → ErrOfBytes (or_content content fault)
+of_content : (content : Content) (fault : Option CheckFault) → AnyOfBytes fault →
+    ErrOfBytes (or_content content fault)
 of_content content None h = tt
 of_content content (Some fault) h = h
 
-of_read : (version : Version) (bits : ℕ) (cs : List (List ℕ)) (ending : List ℕ) (read : Result (List (List Pair)) CheckFault) (verdict : Result Content CheckFault) →
+of_read : (version : Version) (bits : ℕ) (cs : List (List ℕ)) (ending : List ℕ)
+    (read : Result (List (List Pair)) CheckFault) (verdict : Result Content CheckFault) →
     IsRead version cs read → ReadVerdict version bits cs ending read verdict → ErrOfBytes verdict
 of_read version bits cs ending (Ok lists) verdict is so =
     let pairs = flat lists in
     let chunks_fault = difference 0 (chunk_bytes version bits pairs) cs in
     let last_fault = end_fault ending (ending_for version bits pairs) in
-    subst ErrOfBytes (sym so) (of_content (record { version = version; bits = bits; pairs = pairs }) (or_else (canonical_fault version bits cs ending lists) (reuse [] 0 cs))
+    subst ErrOfBytes (sym so) (of_content (record { version = version; bits = bits; pairs = pairs })
+    (or_else (canonical_fault version bits cs ending lists) (reuse [] 0 cs))
     (then (canonical_fault version bits cs ending lists) (reuse [] 0 cs)
     (then (order_fault None 0 lists) (or_else chunks_fault last_fault) (of_order None 0 lists)
-    (then chunks_fault last_fault (of_difference 0 (chunk_bytes version bits pairs) cs) (cond_both (bytes_eq ending (ending_for version bits pairs)) None (Some faults.BadEnd) AnyOfBytes (λ _. tt) (λ _. tt))))
+    (then chunks_fault last_fault (of_difference 0 (chunk_bytes version bits pairs) cs)
+    (cond_both (bytes_eq ending (ending_for version bits pairs)) None (Some faults.BadEnd)
+    AnyOfBytes (λ _. tt) (λ _. tt))))
     (of_reuse [] 0 cs)))
-of_read version bits cs ending (Err fault) verdict is so = subst ErrOfBytes (sym so) (subst OfBytes (sym is.is) tt)
+of_read version bits cs ending (Err fault) verdict is so =
+    subst ErrOfBytes (sym so) (subst OfBytes (sym is.is) tt)
 
-of_end : (version : Version) (bits : ℕ) (cs : List (List ℕ)) (ending : Result (List ℕ) CheckFault) (verdict : Result Content CheckFault) → ErrOfBytes ending →
+of_end : (version : Version) (bits : ℕ) (cs : List (List ℕ)) (ending : Result (List ℕ) CheckFault)
+    (verdict : Result Content CheckFault) → ErrOfBytes ending →
     EndVerdict version bits cs ending verdict → ErrOfBytes verdict
-of_end version bits cs (Ok ending) verdict h so = of_read version bits cs ending so.read verdict so.is so.so
+of_end version bits cs (Ok ending) verdict h so =
+    of_read version bits cs ending so.read verdict so.is so.so
 of_end version bits cs (Err fault) verdict h so = subst ErrOfBytes (sym so) h
 
-pub verdict_of_bytes : (bytes : List ℕ) (fault : CheckFault) → IsVerdict bytes (Err fault) → OfBytes fault
-verdict_of_bytes bytes fault v = go (header_fault header_tests bytes) (of_header header_tests bytes) v
+pub verdict_of_bytes : (bytes : List ℕ) (fault : CheckFault) → IsVerdict bytes (Err fault) →
+    OfBytes fault
+verdict_of_bytes bytes fault v = go (header_fault header_tests bytes) (of_header header_tests bytes)
+    v
   where
     go : (o : Option CheckFault) → AnyOfBytes o → HeaderVerdict o bytes (Err fault) → OfBytes fault
     go (Some f) h v = subst ErrOfBytes (sym v) h
-    go None h v = of_end (version_of (slice_index bytes 4)) (slice_index bytes 5) v.chunks v.ending (Err fault) (subst ErrOfBytes v.is.is (of_ending (length v.chunks) v.is.tail)) v.so
+    go None h v = of_end (version_of (slice_index bytes 4)) (slice_index bytes 5) v.chunks v.ending
+        (Err fault) (subst ErrOfBytes v.is.is (of_ending (length v.chunks) v.is.tail)) v.so
 
 -- ---- refusals of the bytes that were read
 
-pub no_failed_read : (bytes : List ℕ) → UnlessMemory (λ fault. IsVerdict bytes (Err fault)) faults.Read → ⊥
+pub no_failed_read : (bytes : List ℕ) → UnlessMemory (λ fault. IsVerdict bytes (Err fault))
+    faults.Read → ⊥
 no_failed_read bytes (inl e) = cc
 no_failed_read bytes (inr v) = verdict_of_bytes bytes faults.Read v
 
-pub refusal : (read bytes : List ℕ) (max_bytes : ℕ) (fault : CheckFault) → length read ≤ max_bytes → read ≡ bytes → UnlessMemory (λ fault. IsVerdict read (Err fault)) fault → IsRefusal bytes max_bytes fault
-refusal read bytes max_bytes fault within e (inl memory) = subst (IsRefusal bytes max_bytes) (sym memory) tt
-refusal read bytes max_bytes fault within e (inr h) = subst (λ b. IsRefusal b max_bytes fault) e (go fault h)
+pub refusal : (read bytes : List ℕ) (max_bytes : ℕ) (fault : CheckFault) → length read ≤ max_bytes →
+    read ≡ bytes → UnlessMemory (λ fault. IsVerdict read (Err fault)) fault →
+    IsRefusal bytes max_bytes fault
+refusal read bytes max_bytes fault within e (inl memory) =
+    subst (IsRefusal bytes max_bytes) (sym memory) tt
+refusal read bytes max_bytes fault within e (inr h) =
+    subst (λ b. IsRefusal b max_bytes fault) e (go fault h)
   where
     go : (fault : CheckFault) → IsVerdict read (Err fault) → IsRefusal read max_bytes fault
     go faults.Memory h = tt

@@ -1,11 +1,14 @@
 -- What is accepted is the file of a map.
-use Rattle.std.proofs.Common.{◌≡◌, ◌↔◌, ℕ, zero, suc, ◌≤◌, Bool, true, false, not, ◌||◌, ◌==◌, nat_le, nat_lt, cond, List, [], ◌∷◌, ◌++◌, length, map, drop, Option, Some, None, Result, Ok, Err, Ordering, refl, sym, ap, ◌∙◌, subst}
+use Rattle.std.proofs.Common.{◌≡◌, ◌↔◌, ℕ, zero, suc, ◌≤◌, Bool, true, false, not, ◌||◌, ◌==◌}
+use Rattle.std.proofs.Common.{nat_le, nat_lt, cond, List, [], ◌∷◌, ◌++◌, length, map, drop, Option}
+use Rattle.std.proofs.Common.{Some, None, Result, Ok, Err, Ordering, refl, sym, ap, ◌∙◌, subst}
 use Rattle.std.specs.declared.cmp.Ordering.TheVariants.{Less, Equal, Greater}
 use Rattle.std.specs.Ordering.{is_lt}
 use Rattle.std.specs.Prelude.{slice_index}
 use Rattle.std.specs.Str.{bytes_eq}
 use Rattle.std.proofs.lemmas.Slice.Eq.{bytes_eq-Decides}
-use Rattle.std.proofs.lemmas.Bool.{leb-true, false≢true, and_parts, and_from, or_parts, not-false, cond-true, cond-false, or_from, false_from_ne_true}
+use Rattle.std.proofs.lemmas.Bool.{leb-true, false≢true, and_parts, and_from, or_parts, not-false}
+use Rattle.std.proofs.lemmas.Bool.{cond-true, cond-false, or_from, false_from_ne_true}
 use Rattle.std.proofs.lemmas.Bool.Decides.{Decides-eqb}
 use Rattle.std.specs.List.{flat_map, list_any, AllByRecursion}
 use Rattle.prolly_entry.specs.Keys.{key_order, Rising, RisingFrom}
@@ -22,14 +25,19 @@ use Rattle.prolly_tree.specs.File.{header, frame}
 use Rattle.prolly_entry.specs.Overlay.{or_else}
 use Rattle.prolly_file.specs.Frame.{framed}
 use Rattle.prolly_check.specs.declared.fault.CheckFault.{CheckFault}
-use Rattle.prolly_check.specs.declared.fault.CheckFault.TheVariants.{BadHeader, Truncated, Trailing, BadEnd, BadFrame, KeysOutOfOrder, NotCanonical, Collision}
+use Rattle.prolly_check.specs.declared.fault.CheckFault.TheVariants.{BadHeader, Truncated, Trailing}
+use Rattle.prolly_check.specs.declared.fault.CheckFault.TheVariants.{BadEnd, BadFrame}
+use Rattle.prolly_check.specs.declared.fault.CheckFault.TheVariants.{KeysOutOfOrder, NotCanonical}
+use Rattle.prolly_check.specs.declared.fault.CheckFault.TheVariants.{Collision}
 use Rattle.prolly_check.specs.Content.{Content}
 use Rattle.prolly_check.specs.Header.{header_tests, header_fault, version_of}
 use Rattle.prolly_check.specs.Frames.{ending_of, IsFramed}
 use Rattle.prolly_check.specs.Entries.{Holds, AllHold, IsRead}
 use Rattle.prolly_check.specs.Order.{rises_behind, last_behind}
-use Rattle.prolly_check.specs.Judged.{order_fault, difference, end_fault, reuse, chunk_bytes, ending_for, canonical_fault, or_content, judged}
-use Rattle.prolly_check.specs.Verdict.{ReadVerdict, EndVerdict, HeaderVerdict, IsVerdict, AllApart, IsFileOf}
+use Rattle.prolly_check.specs.Judged.{order_fault, difference, end_fault, reuse, chunk_bytes}
+use Rattle.prolly_check.specs.Judged.{ending_for, canonical_fault, or_content, judged}
+use Rattle.prolly_check.specs.Verdict.{ReadVerdict, EndVerdict, HeaderVerdict, IsVerdict, AllApart}
+use Rattle.prolly_check.specs.Verdict.{IsFileOf}
 use Rattle.prolly_tree.specs.lemmas.Splits.{flat}
 use Rattle.prolly_entry.specs.lemmas.Lists.{all_append}
 
@@ -39,18 +47,22 @@ some_none e = cc
 pub ok_same : (a b : Content) → ◌≡◌ {A = Result Content CheckFault} (Ok a) (Ok b) → a ≡ b
 ok_same a b e = cc
 
-pub err_ok : {A : Type 0} {x : A} {f : CheckFault} → ◌≡◌ {A = Result A CheckFault} (Err f) (Ok x) → ⊥
+pub err_ok : {A : Type 0} {x : A} {f : CheckFault} → ◌≡◌ {A = Result A CheckFault} (Err f) (Ok x) →
+    ⊥
 err_ok e = cc
 
-pub if_ok : {A : Type 0} (t : Bool) (f : CheckFault) (r : Result A CheckFault) (x : A) → cond t (Err f) r ≡ Ok x → (t ≡ false) × (r ≡ Ok x)
+pub if_ok : {A : Type 0} (t : Bool) (f : CheckFault) (r : Result A CheckFault) (x : A) →
+    cond t (Err f) r ≡ Ok x → (t ≡ false) × (r ≡ Ok x)
 if_ok true f r x e = absurd (err_ok e)
 if_ok false f r x e = (refl, e)
 
-pub if_none : (t : Bool) (f : CheckFault) (o : Option CheckFault) → cond t o (Some f) ≡ None → (t ≡ true) × (o ≡ None)
+pub if_none : (t : Bool) (f : CheckFault) (o : Option CheckFault) → cond t o (Some f) ≡ None →
+    (t ≡ true) × (o ≡ None)
 if_none true f o e = (refl, e)
 if_none false f o e = absurd (some_none e)
 
-pub unless_none : (t : Bool) (f : CheckFault) (o : Option CheckFault) → cond t (Some f) o ≡ None → (t ≡ false) × (o ≡ None)
+pub unless_none : (t : Bool) (f : CheckFault) (o : Option CheckFault) → cond t (Some f) o ≡ None →
+    (t ≡ false) × (o ≡ None)
 unless_none true f o e = absurd (some_none e)
 unless_none false f o e = (refl, e)
 
@@ -64,10 +76,12 @@ record Passes (test : ℕ → Bool) (tests : List (ℕ → Bool)) (bytes : List 
   so : test byte ≡ true
   more : header_fault tests rest ≡ None
 
-passes : (test : ℕ → Bool) (tests : List (ℕ → Bool)) (bytes : List ℕ) → header_fault (test ∷ tests) bytes ≡ None → Passes test tests bytes
+passes : (test : ℕ → Bool) (tests : List (ℕ → Bool)) (bytes : List ℕ) →
+    header_fault (test ∷ tests) bytes ≡ None → Passes test tests bytes
 passes test tests [] h = absurd (some_none h)
 passes test tests (b ∷ bytes) h =
-    let s = if_none (test b) BadHeader (header_fault tests bytes) h in record { byte = b; rest = bytes; is = refl; so = s.0; more = s.1 }
+    let s = if_none (test b) BadHeader (header_fault tests bytes) h in
+    record { byte = b; rest = bytes; is = refl; so = s.0; more = s.1 }
 
 pub record HeaderIs (bytes : List ℕ) : Type 0 where
   pub bits : slice_index bytes 5 ≤ 24
@@ -80,9 +94,14 @@ version_ok v h = go (v == 1) refl h
     go true e k = (Decides-eqb v 1).0 e ∙ sym (ap (λ t. version_byte (cond t One Two)) e)
     go false e k = (Decides-eqb v 2).0 k ∙ sym (ap (λ t. version_byte (cond t One Two)) e)
 
-six_is : (bytes : List ℕ) (v q : ℕ) (rest : List ℕ) → bytes ≡ 0x50 ∷ 0x52 ∷ 0x4C ∷ 0x59 ∷ v ∷ q ∷ rest → v ≡ version_byte (version_of v) → q ≤ 24 → HeaderIs bytes
+six_is : (bytes : List ℕ) (v q : ℕ) (rest : List ℕ) →
+    bytes ≡ 0x50 ∷ 0x52 ∷ 0x4C ∷ 0x59 ∷ v ∷ q ∷ rest → v ≡ version_byte (version_of v) → q ≤ 24 →
+    HeaderIs bytes
 six_is bytes v q rest e is few =
-    subst HeaderIs (sym e) (record { bits = few; is = ap (λ w. 0x50 ∷ 0x52 ∷ 0x4C ∷ 0x59 ∷ w ∷ q ∷ rest) is })
+    subst HeaderIs (sym e) (record {
+      bits = few;
+      is = ap (λ w. 0x50 ∷ 0x52 ∷ 0x4C ∷ 0x59 ∷ w ∷ q ∷ rest) is;
+    })
 
 pub header_ok : (bytes : List ℕ) → header_fault header_tests bytes ≡ None → HeaderIs bytes
 header_ok bytes h =
@@ -93,35 +112,57 @@ header_ok bytes h =
     let v = passes (λ b. (b == 1) || (b == 2)) (drop 5 header_tests) y.rest y.more in
     let q = passes (λ b. nat_le b 24) [] v.rest v.more in
     let front : bytes ≡ 0x50 ∷ 0x52 ∷ 0x4C ∷ 0x59 ∷ v.byte ∷ q.byte ∷ q.rest =
-    cc (p.is, r.is, l.is, y.is, v.is, q.is, (Decides-eqb p.byte 0x50).0 p.so, (Decides-eqb r.byte 0x52).0 r.so, (Decides-eqb l.byte 0x4C).0 l.so, (Decides-eqb y.byte 0x59).0 y.so) in
+    cc (
+      p.is,
+      r.is,
+      l.is,
+      y.is,
+      v.is,
+      q.is,
+      (Decides-eqb p.byte 0x50).0 p.so,
+      (Decides-eqb r.byte 0x52).0 r.so,
+      (Decides-eqb l.byte 0x4C).0 l.so,
+      (Decides-eqb y.byte 0x59).0 y.so,
+    ) in
     six_is bytes v.byte q.byte q.rest front (version_ok v.byte v.so) (leb-true q.byte 24 q.so)
 
 -- ---- the end
 
-end_same : (b : ℕ) (rest ending : List ℕ) → b ≡ 0x45 → ◌≡◌ {A = Result (List ℕ) CheckFault} (Ok rest) (Ok ending) → ◌≡◌ {A = List ℕ} (b ∷ rest) (0x45 ∷ ending)
+end_same : (b : ℕ) (rest ending : List ℕ) → b ≡ 0x45 →
+    ◌≡◌ {A = Result (List ℕ) CheckFault} (Ok rest) (Ok ending) →
+    ◌≡◌ {A = List ℕ} (b ∷ rest) (0x45 ∷ ending)
 end_same b rest ending e f = cc
 
-pub ending_ok : (number : ℕ) (tail ending : List ℕ) → ending_of number tail ≡ Ok ending → tail ≡ 0x45 ∷ ending
+pub ending_ok : (number : ℕ) (tail ending : List ℕ) → ending_of number tail ≡ Ok ending →
+    tail ≡ 0x45 ∷ ending
 ending_ok number [] ending e = absurd (err_ok e)
 ending_ok number (b ∷ rest) ending e =
-    let s1 = if_ok (b == 0x43) Truncated (cond (not (b == 0x45)) (Err (BadFrame number)) (cond (nat_lt (length rest) 28) (Err Truncated) (cond (nat_lt 28 (length rest)) (Err Trailing) (Ok rest)))) ending e in
-    let s2 = if_ok (not (b == 0x45)) (BadFrame number) (cond (nat_lt (length rest) 28) (Err Truncated) (cond (nat_lt 28 (length rest)) (Err Trailing) (Ok rest))) ending s1.1 in
-    let s3 = if_ok (nat_lt (length rest) 28) Truncated (cond (nat_lt 28 (length rest)) (Err Trailing) (Ok rest)) ending s2.1 in
+    let s1 = if_ok (b == 0x43) Truncated (cond (not (b == 0x45)) (Err (BadFrame number))
+    (cond (nat_lt (length rest) 28) (Err Truncated)
+    (cond (nat_lt 28 (length rest)) (Err Trailing) (Ok rest)))) ending e in
+    let s2 = if_ok (not (b == 0x45)) (BadFrame number)
+    (cond (nat_lt (length rest) 28) (Err Truncated)
+    (cond (nat_lt 28 (length rest)) (Err Trailing) (Ok rest))) ending s1.1 in
+    let s3 = if_ok (nat_lt (length rest) 28) Truncated
+    (cond (nat_lt 28 (length rest)) (Err Trailing) (Ok rest)) ending s2.1 in
     let s4 = if_ok (nat_lt 28 (length rest)) Trailing (Ok rest) ending s3.1 in
     end_same b rest ending ((Decides-eqb b 0x45).0 (not-false (b == 0x45) s2.0)) s4.1
 
 -- ---- the pairs
 
-hold_one : (version : Version) (chunk : List ℕ) (pairs : List Pair) → Holds version chunk pairs → AllByRecursion IsPair pairs
+hold_one : (version : Version) (chunk : List ℕ) (pairs : List Pair) → Holds version chunk pairs →
+    AllByRecursion IsPair pairs
 hold_one version [] pairs h = absurd h
 hold_one version (zero ∷ entries) pairs h = h.lawful
 hold_one version (suc level ∷ entries) pairs h = subst (AllByRecursion IsPair) (sym h.none) tt
 
-hold_pairs : (version : Version) (cs : List (List ℕ)) (lists : List (List Pair)) → AllHold version cs lists → AllByRecursion IsPair (flat lists)
+hold_pairs : (version : Version) (cs : List (List ℕ)) (lists : List (List Pair)) →
+    AllHold version cs lists → AllByRecursion IsPair (flat lists)
 hold_pairs version [] [] h = tt
 hold_pairs version [] (ps ∷ lists) h = absurd h
 hold_pairs version (c ∷ cs) [] h = absurd h
-hold_pairs version (c ∷ cs) (ps ∷ lists) h = all_append IsPair ps (flat lists) (hold_one version c ps h.0) (hold_pairs version cs lists h.1)
+hold_pairs version (c ∷ cs) (ps ∷ lists) h = all_append IsPair ps (flat lists)
+    (hold_one version c ps h.0) (hold_pairs version cs lists h.1)
 
 -- ---- their order
 
@@ -130,12 +171,14 @@ is_less Less h = refl
 is_less Equal h = absurd (false≢true h)
 is_less Greater h = absurd (false≢true h)
 
-rises_is : (key : List ℕ) (ps : List Pair) → (rises_behind (Some key) ps ≡ true) ↔ RisingFrom key (map (λ p. p.key) ps)
+rises_is : (key : List ℕ) (ps : List Pair) → (rises_behind (Some key) ps ≡ true) ↔ RisingFrom key
+    (map (λ p. p.key) ps)
 rises_is key [] = (λ h. tt, λ h. refl)
 rises_is key (p ∷ ps) =
     let here = is_lt (key_order key p.key) in
     let more = rises_is p.key ps in (
-      λ h. let s = and_parts here (rises_behind (Some p.key) ps) h in (is_less (key_order key p.key) s.0, more.0 s.1),
+      λ h. let s = and_parts here (rises_behind (Some p.key) ps) h in
+          (is_less (key_order key p.key) s.0, more.0 s.1),
       λ h. and_from here (rises_behind (Some p.key) ps) (ap is_lt h.0) (more.1 h.1),
     )
 
@@ -143,7 +186,8 @@ pub rising_is : (ps : List Pair) → (rises_behind None ps ≡ true) ↔ Rising 
 rising_is [] = (λ h. tt, λ h. refl)
 rising_is (p ∷ ps) = rises_is p.key ps
 
-pub order_is : (last : Position) (number : ℕ) (lists : List (List Pair)) → (order_fault last number lists ≡ None) ↔ (rises_behind last (flat lists) ≡ true)
+pub order_is : (last : Position) (number : ℕ) (lists : List (List Pair)) →
+    (order_fault last number lists ≡ None) ↔ (rises_behind last (flat lists) ≡ true)
 order_is last number [] = (λ h. refl, λ h. refl)
 order_is last number (ps ∷ lists) =
     let here = rises_behind last ps in
@@ -151,8 +195,10 @@ order_is last number (ps ∷ lists) =
     let rest = order_fault (last_behind last ps) (suc number) lists in
     let more = order_is (last_behind last ps) (suc number) lists in
     let parts = rises_append last ps (flat lists) in (
-      λ h. let s = if_none here (KeysOutOfOrder number) rest h in parts ∙ and_from here there s.0 (more.0 s.1),
-      λ h. let s = and_parts here there (sym parts ∙ h) in cond-true here rest (Some (KeysOutOfOrder number)) s.0 ∙ more.1 s.1,
+      λ h. let s = if_none here (KeysOutOfOrder number) rest h in
+          parts ∙ and_from here there s.0 (more.0 s.1),
+      λ h. let s = and_parts here there (sym parts ∙ h) in
+          cond-true here rest (Some (KeysOutOfOrder number)) s.0 ∙ more.1 s.1,
     )
 
 -- ---- the one file
@@ -163,7 +209,8 @@ difference_ok number [] (d ∷ ds) h = absurd (some_none h)
 difference_ok number (c ∷ cs) [] h = absurd (some_none h)
 difference_ok number (c ∷ cs) (d ∷ ds) h =
     let s = if_none (bytes_eq c d) (NotCanonical number) (difference (suc number) cs ds) h in
-    ap (λ x. x ∷ cs) ((bytes_eq-Decides c d).0 s.0) ∙ ap (λ xs. d ∷ xs) (difference_ok (suc number) cs ds s.1)
+    ap (λ x. x ∷ cs) ((bytes_eq-Decides c d).0 s.0) ∙
+    ap (λ xs. d ∷ xs) (difference_ok (suc number) cs ds s.1)
 
 pub end_is : (found wanted : List ℕ) → (end_fault found wanted ≡ None) ↔ (found ≡ wanted)
 end_is found wanted = (
@@ -176,18 +223,24 @@ end_is found wanted = (
 abbrev pub Other : List ℕ → List ℕ → Type 0
 Other c d = reference_of d ≡ reference_of c → ⊥
 
-is_new : (c : List ℕ) (before : List (List ℕ)) → (list_any (λ d. bytes_eq (reference_of d) (reference_of c)) before ≡ false) ↔ AllByRecursion (Other c) before
+is_new : (c : List ℕ) (before : List (List ℕ)) →
+    (list_any (λ d. bytes_eq (reference_of d) (reference_of c)) before ≡ false) ↔ AllByRecursion
+    (Other c) before
 is_new c [] = (λ h. tt, λ h. refl)
 is_new c (d ∷ ds) =
     let same = bytes_eq (reference_of d) (reference_of c) in
     let others = list_any (λ d. bytes_eq (reference_of d) (reference_of c)) ds in
     let decides = bytes_eq-Decides (reference_of d) (reference_of c) in
     let more = is_new c ds in (
-      λ h. let s = or_parts same others h in ((λ e. false≢true (sym s.0 ∙ decides.1 e)), more.0 s.1),
+      λ h. let s = or_parts same others h in (
+        (λ e. false≢true (sym s.0 ∙ decides.1 e)),
+        more.0 s.1,
+      ),
       λ h. or_from same others (false_from_ne_true same (λ t. h.0 (decides.0 t))) (more.1 h.1),
     )
 
-all_both : (P Q : List ℕ → Type 0) (cs : List (List ℕ)) → AllByRecursion (λ c. P c × Q c) cs ↔ (AllByRecursion P cs × AllByRecursion Q cs)
+all_both : (P Q : List ℕ → Type 0) (cs : List (List ℕ)) →
+    AllByRecursion (λ c. P c × Q c) cs ↔ (AllByRecursion P cs × AllByRecursion Q cs)
 all_both P Q [] = (λ h. (tt, tt), λ h. tt)
 all_both P Q (c ∷ cs) =
     let more = all_both P Q cs in (
@@ -195,7 +248,9 @@ all_both P Q (c ∷ cs) =
       λ h. ((h.0.0, h.1.0), more.1 (h.0.1, h.1.1)),
     )
 
-pub reuse_is : (before : List (List ℕ)) (number : ℕ) (cs : List (List ℕ)) → (reuse before number cs ≡ None) ↔ (AllByRecursion (λ c. AllByRecursion (Other c) before) cs × AllApart cs)
+pub reuse_is : (before : List (List ℕ)) (number : ℕ) (cs : List (List ℕ)) →
+    (reuse before number cs ≡ None) ↔ (AllByRecursion (λ c. AllByRecursion (Other c) before) cs ×
+    AllApart cs)
 reuse_is before number [] = (λ h. (tt, tt), λ h. refl)
 reuse_is before number (c ∷ cs) =
     let known = list_any (λ d. bytes_eq (reference_of d) (reference_of c)) before in
@@ -207,12 +262,14 @@ reuse_is before number (c ∷ cs) =
           let s = unless_none known (Collision number) rest h in
           let r = more.0 s.1 in
           ((new.0 s.0, (both.0 r.0).1), ((both.0 r.0).0, r.1)),
-      λ h. cond-false known (Some (Collision number)) rest (new.1 h.0.0) ∙ more.1 (both.1 (h.1.0, h.0.1), h.1.1),
+      λ h. cond-false known (Some (Collision number)) rest (new.1 h.0.0) ∙
+          more.1 (both.1 (h.1.0, h.0.1), h.1.1),
     )
 
 -- ---- all of it
 
-content_ok : (is content : Content) (fault : Option CheckFault) → Ok content ≡ or_content is fault → (content ≡ is) × (fault ≡ None)
+content_ok : (is content : Content) (fault : Option CheckFault) → Ok content ≡ or_content is fault →
+    (content ≡ is) × (fault ≡ None)
 content_ok is content None e = (ok_same content is e, refl)
 content_ok is content (Some fault) e = absurd (err_ok (sym e))
 
@@ -225,32 +282,41 @@ frames_bytes [] = refl
 frames_bytes (c ∷ cs) = ap (λ x. frame c ++ x) (frames_bytes cs)
 
 -- nothing is wrong with the keys, the chunks and the end record
-pub record IsCanonical (version : Version) (bits : ℕ) (cs : List (List ℕ)) (ending : List ℕ) (lists : List (List Pair)) : Type 0 where
+pub record IsCanonical (version : Version) (bits : ℕ) (cs : List (List ℕ)) (ending : List ℕ)
+    (lists : List (List Pair)) : Type 0 where
   pub order : order_fault None 0 lists ≡ None
   pub same : chunk_bytes version bits (flat lists) ≡ cs
   pub last : ending ≡ ending_for version bits (flat lists)
 
-pub canonical_ok : (version : Version) (bits : ℕ) (cs : List (List ℕ)) (ending : List ℕ) (lists : List (List Pair)) → canonical_fault version bits cs ending lists ≡ None →
+pub canonical_ok : (version : Version) (bits : ℕ) (cs : List (List ℕ)) (ending : List ℕ)
+    (lists : List (List Pair)) → canonical_fault version bits cs ending lists ≡ None →
     IsCanonical version bits cs ending lists
 canonical_ok version bits cs ending lists e =
     let wanted = chunk_bytes version bits (flat lists) in
     let last = ending_for version bits (flat lists) in
-    let a = none_left (order_fault None 0 lists) (or_else (difference 0 wanted cs) (end_fault ending last)) e in
+    let a = none_left (order_fault None 0 lists)
+    (or_else (difference 0 wanted cs) (end_fault ending last)) e in
     let b = none_left (difference 0 wanted cs) (end_fault ending last) a.1 in
     record { order = a.0; same = difference_ok 0 wanted cs b.0; last = (end_is ending last).0 b.1 }
 
-judged_file : (bytes : List ℕ) (content : Content) → HeaderIs bytes → (cs : List (List ℕ)) (ending : List ℕ) (lists : List (List Pair)) →
-    drop 6 bytes ≡ flat_map framed cs ++ 0x45 ∷ ending → AllHold (version_of (slice_index bytes 4)) cs lists →
-    Ok content ≡ judged (version_of (slice_index bytes 4)) (slice_index bytes 5) cs ending lists → IsFileOf bytes content
+judged_file : (bytes : List ℕ) (content : Content) → HeaderIs bytes →
+    (cs : List (List ℕ)) (ending : List ℕ) (lists : List (List Pair)) →
+    drop 6 bytes ≡ flat_map framed cs ++ 0x45 ∷ ending →
+    AllHold (version_of (slice_index bytes 4)) cs lists →
+    Ok content ≡ judged (version_of (slice_index bytes 4)) (slice_index bytes 5) cs ending lists →
+    IsFileOf bytes content
 judged_file bytes content header cs ending lists spelled hold so =
     let version = version_of (slice_index bytes 4) in
     let bits = slice_index bytes 5 in
     let pairs = flat lists in
-    let s = content_ok (record { version = version; bits = bits; pairs = pairs }) content (or_else (canonical_fault version bits cs ending lists) (reuse [] 0 cs)) so in
+    let s = content_ok (record { version = version; bits = bits; pairs = pairs }) content
+    (or_else (canonical_fault version bits cs ending lists) (reuse [] 0 cs)) so in
     let a = none_left (canonical_fault version bits cs ending lists) (reuse [] 0 cs) s.1 in
     let c = canonical_ok version bits cs ending lists a.0 in
-    let rest : drop 6 bytes ≡ flat_map frame (chunks (sha512_cut bits) version pairs) ++ 0x45 ∷ ending_for version bits pairs =
-    spelled ∙ ap (λ cs. flat_map framed cs ++ 0x45 ∷ ending) (sym c.same) ∙ ap (λ x. x ++ 0x45 ∷ ending) (sym (frames_bytes (chunks (sha512_cut bits) version pairs)))
+    let rest : drop 6 bytes ≡ flat_map frame (chunks (sha512_cut bits) version pairs) ++
+    0x45 ∷ ending_for version bits pairs =
+    spelled ∙ ap (λ cs. flat_map framed cs ++ 0x45 ∷ ending) (sym c.same) ∙
+    ap (λ x. x ++ 0x45 ∷ ending) (sym (frames_bytes (chunks (sha512_cut bits) version pairs)))
     ∙ ap (λ e. flat_map frame (chunks (sha512_cut bits) version pairs) ++ 0x45 ∷ e) c.last in
     let it : IsFileOf bytes (record { version = version; bits = bits; pairs = pairs }) = record {
       bits = header.bits;
@@ -261,21 +327,32 @@ judged_file bytes content header cs ending lists spelled hold so =
     } in
     subst (IsFileOf bytes) (sym s.0) it
 
-read_file : (bytes : List ℕ) (content : Content) → HeaderIs bytes → (cs : List (List ℕ)) (ending : List ℕ) →
-    drop 6 bytes ≡ flat_map framed cs ++ 0x45 ∷ ending → (read : Result (List (List Pair)) CheckFault) → IsRead (version_of (slice_index bytes 4)) cs read →
-    ReadVerdict (version_of (slice_index bytes 4)) (slice_index bytes 5) cs ending read (Ok content) → IsFileOf bytes content
-read_file bytes content header cs ending spelled (Ok lists) is so = judged_file bytes content header cs ending lists spelled is so
+read_file : (bytes : List ℕ) (content : Content) → HeaderIs bytes →
+    (cs : List (List ℕ)) (ending : List ℕ) →
+    drop 6 bytes ≡ flat_map framed cs ++ 0x45 ∷ ending →
+    (read : Result (List (List Pair)) CheckFault) →
+    IsRead (version_of (slice_index bytes 4)) cs read →
+    ReadVerdict (version_of (slice_index bytes 4)) (slice_index bytes 5) cs ending read
+    (Ok content) → IsFileOf bytes content
+read_file bytes content header cs ending spelled (Ok lists) is so =
+    judged_file bytes content header cs ending lists spelled is so
 read_file bytes content header cs ending spelled (Err fault) is so = absurd (err_ok (sym so))
 
-end_file : (bytes : List ℕ) (content : Content) → HeaderIs bytes → (cs : List (List ℕ)) (ending : Result (List ℕ) CheckFault) → IsFramed (drop 6 bytes) cs ending →
-    EndVerdict (version_of (slice_index bytes 4)) (slice_index bytes 5) cs ending (Ok content) → IsFileOf bytes content
+end_file : (bytes : List ℕ) (content : Content) → HeaderIs bytes →
+    (cs : List (List ℕ)) (ending : Result (List ℕ) CheckFault) → IsFramed (drop 6 bytes) cs ending →
+    EndVerdict (version_of (slice_index bytes 4)) (slice_index bytes 5) cs ending (Ok content) →
+    IsFileOf bytes content
 end_file bytes content header cs (Ok ending) is so =
-    read_file bytes content header cs ending (is.spelled ∙ ap (λ x. flat_map framed cs ++ x) (ending_ok (length cs) is.tail ending is.is)) so.read so.is so.so
+    read_file bytes content header cs ending (is.spelled ∙
+    ap (λ x. flat_map framed cs ++ x) (ending_ok (length cs) is.tail ending is.is)) so.read
+    so.is so.so
 end_file bytes content header cs (Err fault) is so = absurd (err_ok (sym so))
 
-pub accepted_is_file : (bytes : List ℕ) (content : Content) → IsVerdict bytes (Ok content) → IsFileOf bytes content
+pub accepted_is_file : (bytes : List ℕ) (content : Content) → IsVerdict bytes (Ok content) →
+    IsFileOf bytes content
 accepted_is_file bytes content v = go (header_fault header_tests bytes) refl v
   where
-    go : (fault : Option CheckFault) → header_fault header_tests bytes ≡ fault → HeaderVerdict fault bytes (Ok content) → IsFileOf bytes content
+    go : (fault : Option CheckFault) → header_fault header_tests bytes ≡ fault →
+        HeaderVerdict fault bytes (Ok content) → IsFileOf bytes content
     go (Some fault) e v = absurd (err_ok (sym v))
     go None e v = end_file bytes content (header_ok bytes e) v.chunks v.ending v.is v.so

@@ -4,7 +4,8 @@ use Rattle.prolly_check.specs.declared.fault.CheckFault.{CheckFault}
 use Rattle.prolly_check.specs.declared.fault.CheckFault.TheVariants.{Memory, Read, TooLong}
 use Rattle.prolly_check.specs.Verdict.{IsVerdict}
 
--- There are more bytes than are allowed, or there are not and the fault is the verdict on them; want of memory and failed reads may come over any.
+-- There are more bytes than are allowed, or there are not and the fault is the verdict on them;
+-- want of memory and failed reads may come over any.
 abbrev pub IsRefusal : List ℕ → ℕ → CheckFault → Type 0
 IsRefusal bytes max_bytes Memory = Unit {0}
 IsRefusal bytes max_bytes Read = Unit {0}

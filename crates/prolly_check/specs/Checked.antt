@@ -32,7 +32,8 @@ abbrev pub chunks_of : Content → List (List ℕ)
 chunks_of content = chunk_bytes content.version content.bits content.pairs
 
 -- The version, the places of the chunks and the index are those of the file.
-pub record IsChecked (bytes : List ℕ) (version : Version) (spans : List Span) (index : BTreeMap Ref ℕ) : Type 0 where
+pub record IsChecked (bytes : List ℕ) (version : Version) (spans : List Span)
+    (index : BTreeMap Ref ℕ) : Type 0 where
   pub is : IsFileOf bytes (content_in bytes version spans)
   pub chunks_are : chunks_in bytes spans ≡ chunks_of (content_in bytes version spans)
   pub within : AllByRecursion (IsWithin bytes) spans

@@ -14,7 +14,8 @@ abbrev pub child_for : List ℕ → List ChildValue → Option ChildValue
 child_for key [] = None
 child_for key (c ∷ cs) = if is_lt (key_order c.key key) then child_for key cs else Some c
 
--- The first child that has the pair of this number below it, by the counts, and how many pairs below it come before that pair.
+-- The first child that has the pair of this number below it, by the counts, and how many pairs
+-- below it come before that pair.
 abbrev pub child_with : ℕ → List ChildValue → Option (ChildValue × ℕ)
 child_with n [] = None
 child_with n (c ∷ cs) = if nat_lt n c.count then Some (c, n) else child_with (n - c.count) cs

@@ -1,5 +1,6 @@
 -- The entries that chunks hold.
-use Rattle.std.specs.Prelude.{◌≡◌, ℕ, zero, suc, ◌+◌, ◌≤◌, List, [], ◌∷◌, ◌++◌, length, take, drop, Result, Ok, Err}
+use Rattle.std.specs.Prelude.{◌≡◌, ℕ, zero, suc, ◌+◌, ◌≤◌, List, [], ◌∷◌, ◌++◌, length, take, drop}
+use Rattle.std.specs.Prelude.{Result, Ok, Err}
 use Rattle.std.specs.List.{flat_map, AllByRecursion}
 use Rattle.std.specs.Int.{w64, from_be_bytes}
 use Rattle.prolly_entry.specs.declared.version.Version.{Version}
@@ -11,7 +12,8 @@ use Rattle.prolly_entry.specs.Spelling.{pair_spelling, child_spelling}
 use Rattle.prolly_check.specs.declared.fault.CheckFault.{CheckFault}
 use Rattle.prolly_check.specs.declared.fault.CheckFault.TheVariants.{BadChunk}
 
--- What a child entry says: the greatest key below the child, its reference, the number of pairs below it.
+-- What a child entry says: the greatest key below the child, its reference, the number of pairs
+-- below it.
 pub record Child : Type 0 where
   pub key : List ℕ
   pub reference : List ℕ
@@ -32,15 +34,18 @@ pub record IsLeaf (entries : List ℕ) (pairs : List Pair) : Type 0 where
   pub lawful : AllByRecursion IsPair pairs
 
 -- The spelling of a lawful entry begins the bytes, and the rest follows.
-pub record BeginsWith {A : Type 0} (spelling : A → List ℕ) (Lawful : A → Type 0) (bytes : List ℕ) (entry : A) (rest : List ℕ) : Type 0 where
+pub record BeginsWith {A : Type 0} (spelling : A → List ℕ) (Lawful : A → Type 0) (bytes : List ℕ)
+    (entry : A) (rest : List ℕ) : Type 0 where
   pub lawful : Lawful entry
   pub is : bytes ≡ spelling entry ++ rest
 
--- The entries that bytes hold, where a function tells the first one and another what is behind it: so many at most, and all.
+-- The entries that bytes hold, where a function tells the first one and another what is behind it:
+-- so many at most, and all.
 abbrev pub entries_up_to : {A : Type 0} → (List ℕ → A) → (List ℕ → List ℕ) → ℕ → List ℕ → List A
 entries_up_to first behind zero bytes = []
 entries_up_to first behind (suc n) [] = []
-entries_up_to first behind (suc n) (b ∷ bytes) = first (b ∷ bytes) ∷ entries_up_to first behind n (behind (b ∷ bytes))
+entries_up_to first behind (suc n) (b ∷ bytes) =
+    first (b ∷ bytes) ∷ entries_up_to first behind n (behind (b ∷ bytes))
 
 abbrev pub entries_in : {A : Type 0} → (List ℕ → A) → (List ℕ → List ℕ) → List ℕ → List A
 entries_in first behind bytes = entries_up_to first behind (length bytes) bytes
@@ -94,7 +99,8 @@ abbrev pub AllHold : Version → List (List ℕ) → List (List Pair) → Type 0
 AllHold version [] [] = Unit {0}
 AllHold version [] (pairs ∷ lists) = ⊥
 AllHold version (chunk ∷ chunks) [] = ⊥
-AllHold version (chunk ∷ chunks) (pairs ∷ lists) = Holds version chunk pairs × AllHold version chunks lists
+AllHold version (chunk ∷ chunks) (pairs ∷ lists) = Holds version chunk pairs ×
+    AllHold version chunks lists
 
 -- The fault names the first chunk that is not such.
 pub record IsBad (version : Version) (chunks : List (List ℕ)) (fault : CheckFault) : Type 0 where
@@ -119,6 +125,7 @@ NoLeaf = (done pairs : List Pair) (rest : List ℕ) → AllByRecursion IsPair do
     IsLeaf (flat_map pair_spelling done ++ rest) pairs → ⊥
 
 abbrev pub NoNode : Version → Type 0
-NoNode version = (done : List Child) (pairs : List Pair) (rest : List ℕ) → AllByRecursion IsChild done → (rest ≡ [] → ⊥) →
+NoNode version = (done : List Child) (pairs : List Pair) (rest : List ℕ) →
+    AllByRecursion IsChild done → (rest ≡ [] → ⊥) →
     ((c : Child) (x : List ℕ) → IsChild c → rest ≡ entry_of version c ++ x → ⊥) →
     IsNode version (flat_map (entry_of version) done ++ rest) pairs → ⊥

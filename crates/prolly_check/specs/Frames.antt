@@ -1,5 +1,6 @@
 -- The frames of a chunk file, and what follows them.
-use Rattle.std.specs.Prelude.{◌≡◌, ℕ, ◌+◌, ◌<◌, ◌^◌, Bool, true, not, ◌||◌, ◌==◌, nat_lt, List, [], ◌∷◌, ◌++◌, length, take, Result, Ok, Err, if◌then◌else◌}
+use Rattle.std.specs.Prelude.{◌≡◌, ℕ, ◌+◌, ◌<◌, ◌^◌, Bool, true, not, ◌||◌, ◌==◌, nat_lt, List, []}
+use Rattle.std.specs.Prelude.{◌∷◌, ◌++◌, length, take, Result, Ok, Err, if◌then◌else◌}
 use Rattle.std.specs.Int.{w64, from_be_bytes}
 use Rattle.std.specs.List.{flat_map, AllByRecursion}
 use Rattle.prolly_file.specs.Frame.{framed}
@@ -10,9 +11,11 @@ use Rattle.prolly_check.specs.declared.fault.CheckFault.TheVariants.{Truncated, 
 abbrev pub has_no_frame : List ℕ → Bool
 has_no_frame [] = true
 has_no_frame (b ∷ rest) =
-    not (b == 0x43) || (nat_lt (length rest) 8 || nat_lt (length rest) (8 + from_be_bytes w64 (take 8 rest)))
+    not (b == 0x43) || (nat_lt (length rest) 8 || nat_lt (length rest)
+    (8 + from_be_bytes w64 (take 8 rest)))
 
--- What follows the last whole frame, which has this number: the 28 bytes behind an end record's first, or a fault.
+-- What follows the last whole frame, which has this number: the 28 bytes behind an end record's
+-- first, or a fault.
 abbrev pub ending_of : ℕ → List ℕ → Result (List ℕ) CheckFault
 ending_of number [] = Err Truncated
 ending_of number (b ∷ rest) =
@@ -26,7 +29,8 @@ abbrev pub IsSmall : List ℕ → Type 0
 IsSmall chunk = length chunk < 2 ^ 64
 
 -- The bytes are the frames of the chunks, and then this ending.
-pub record IsFramed (bytes : List ℕ) (chunks : List (List ℕ)) (ending : Result (List ℕ) CheckFault) : Type 0 where
+pub record IsFramed (bytes : List ℕ) (chunks : List (List ℕ)) (ending : Result (List ℕ) CheckFault)
+    : Type 0 where
   pub tail : List ℕ
   pub spelled : bytes ≡ flat_map framed chunks ++ tail
   pub small : AllByRecursion IsSmall chunks

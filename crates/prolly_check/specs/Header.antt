@@ -1,5 +1,6 @@
 -- The header of a chunk file, its first six bytes.
-use Rattle.std.specs.Prelude.{ℕ, Bool, true, nat_le, ◌||◌, ◌==◌, get_or, List, [], ◌∷◌, Option, Some, None, if◌then◌else◌}
+use Rattle.std.specs.Prelude.{ℕ, Bool, true, nat_le, ◌||◌, ◌==◌, get_or, List, [], ◌∷◌, Option}
+use Rattle.std.specs.Prelude.{Some, None, if◌then◌else◌}
 use Rattle.prolly_entry.specs.declared.version.Version.{Version}
 use Rattle.prolly_entry.specs.declared.version.Version.TheVariants.{One, Two}
 use Rattle.prolly_check.specs.declared.fault.CheckFault.{CheckFault}
@@ -14,11 +15,13 @@ header_tests = (λ b. b == 0x50) ∷ (λ b. b == 0x52) ∷ (λ b. b == 0x4C) ∷
 abbrev pub test_at : ℕ → ℕ → Bool
 test_at place = get_or header_tests place (λ b. true)
 
--- What is wrong: a byte that may not stand at its place, or else that the bytes end before the last place.
+-- What is wrong: a byte that may not stand at its place, or else that the bytes end before the last
+-- place.
 abbrev pub header_fault : List (ℕ → Bool) → List ℕ → Option CheckFault
 header_fault [] bytes = None
 header_fault (test ∷ tests) [] = Some Truncated
-header_fault (test ∷ tests) (b ∷ bytes) = if test b then header_fault tests bytes else Some BadHeader
+header_fault (test ∷ tests) (b ∷ bytes) = if test b then header_fault tests bytes else Some
+    BadHeader
 
 -- The version that the byte of a lawful header stands for.
 abbrev pub version_of : ℕ → Version

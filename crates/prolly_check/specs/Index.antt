@@ -1,5 +1,6 @@
 -- Finding chunks by their references.
-use Rattle.std.specs.Prelude.{◌≡◌, ℕ, ◌<◌, true, is_some, get_or, List, [], length, map, Option, Some}
+use Rattle.std.specs.Prelude.{◌≡◌, ℕ, ◌<◌, true, is_some, get_or, List, [], length, map, Option}
+use Rattle.std.specs.Prelude.{Some}
 use Rattle.std.specs.Ordering.{nat_cmp}
 use Rattle.std.specs.Cmp.Lexicographic.{slice_cmp}
 use Rattle.std.specs.BTreeMap.{BTreeMap, get_by}
@@ -22,5 +23,7 @@ pub record HasAt (chunks : List (List ℕ)) (number : ℕ) (reference : List ℕ
 
 -- The index has the reference of each chunk, and numbers that have the references.
 pub record IsIndex (index : BTreeMap Ref ℕ) (chunks : List (List ℕ)) : Type 0 where
-  pub right : (reference : List ℕ) (number : ℕ) → number_of index reference ≡ Some number → HasAt chunks number reference
-  pub whole : (chunk : List ℕ) → IsIn chunk chunks → is_some (number_of index (reference_of chunk)) ≡ true
+  pub right : (reference : List ℕ) (number : ℕ) → number_of index reference ≡ Some number →
+      HasAt chunks number reference
+  pub whole : (chunk : List ℕ) → IsIn chunk chunks →
+      is_some (number_of index (reference_of chunk)) ≡ true

@@ -3,7 +3,8 @@ use Rattle.std.specs.Prelude.{◌≡◌, Bool, true, ◌&&◌, List, [], ◌∷�
 use Rattle.prolly_entry.specs.Pair.{Pair}
 use Rattle.prolly_entry.specs.Position.{Position, is_before}
 
--- Each key of the pairs is greater than the one before it, the first one greater than the last one before them.
+-- Each key of the pairs is greater than the one before it, the first one greater than the last one
+-- before them.
 abbrev pub rises_behind : Position → List Pair → Bool
 rises_behind last [] = true
 rises_behind last (p ∷ ps) = is_before last (Some p.key) && rises_behind (Some p.key) ps

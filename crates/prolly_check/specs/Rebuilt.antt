@@ -1,5 +1,6 @@
 -- Rebuilding the chunks of pairs one by one, by levels that stand one above another.
-use Rattle.std.specs.Prelude.{◌≡◌, ℕ, zero, suc, ◌<◌, List, [], ◌∷◌, ◌++◌, length, take, map, Option, Some, Result, Ok, Err, IfOk}
+use Rattle.std.specs.Prelude.{◌≡◌, ℕ, zero, suc, ◌<◌, List, [], ◌∷◌, ◌++◌, length, take, map}
+use Rattle.std.specs.Prelude.{Option, Some, Result, Ok, Err, IfOk}
 use Rattle.prolly_entry.specs.declared.version.Version.{Version}
 use Rattle.prolly_entry.specs.Cut.{Cut, sha512_cut}
 use Rattle.prolly_tree.specs.Chunk.{Chunk}
@@ -15,16 +16,20 @@ use Rattle.prolly_check.specs.Judged.{difference}
 use Rattle.prolly_check.specs.Refusal.{UnlessMemory}
 use Rattle.prolly_check.specs.declared.rebuild.Rebuild.{Rebuild}
 
--- What so many levels, from this one on, have sent of events, each taking what the one below it sent.
+-- What so many levels, from this one on, have sent of events, each taking what the one below it
+-- sent.
 abbrev pub sent_through : Cut → Version → ℕ → ℕ → List Chunk → List Chunk
 sent_through cut version level zero events = events
-sent_through cut version level (suc count) events = sent_through cut version (suc level) count (inner_events level cut version faulty events)
+sent_through cut version level (suc count) events =
+    sent_through cut version (suc level) count (inner_events level cut version faulty events)
 
 -- The levels, from this one on, are those that took the events.
 abbrev pub AreBehind : ℕ → Version → ℕ → List (NodeState ℕ) → List Chunk → Type 0
 AreBehind bits version level [] events = Unit {0}
 AreBehind bits version level (state ∷ states) events =
-    (state ≡ node_level sha512_cut bits version level events) × AreBehind bits version (suc level) states (inner_events level (sha512_cut bits) version faulty events)
+    (state ≡ node_level sha512_cut bits version level events) ×
+    AreBehind bits version (suc level) states
+    (inner_events level (sha512_cut bits) version faulty events)
 
 -- The chunks are of levels below this one.
 abbrev pub AreBelow : ℕ → List Chunk → Type 0
@@ -37,25 +42,34 @@ pub record AreFirst (chunks : List (List ℕ)) (number : ℕ) (sent : List Chunk
 
 -- However the chunks that were sent go on, this is their first difference from those of a file.
 abbrev pub DifferAs : List (List ℕ) → List Chunk → CheckFault → Type 0
-DifferAs chunks sent fault = (more : List (List ℕ)) → difference 0 (map (λ c. c.bytes) sent ++ more) chunks ≡ Some fault
+DifferAs chunks sent fault = (more : List (List ℕ)) →
+    difference 0 (map (λ c. c.bytes) sent ++ more) chunks ≡ Some fault
 
--- The chunks that were sent are compared with those of a file: they begin them, so many; or they differ, unless memory was refused.
+-- The chunks that were sent are compared with those of a file: they begin them, so many; or they
+-- differ, unless memory was refused.
 abbrev pub AreCompared : List (List ℕ) → List Chunk → Result ℕ CheckFault → Type 0
 AreCompared chunks sent (Ok number) = AreFirst chunks number sent
 AreCompared chunks sent (Err fault) = UnlessMemory (DifferAs chunks sent) fault
 
 -- Whatever was sent before, as many chunks as the number, it is compared with this event behind it.
 abbrev pub IsExpected : List (List ℕ) → ℕ → Chunk → Result ℕ CheckFault → Type 0
-IsExpected chunks number event result = (sent : List Chunk) → AreFirst chunks number sent → AreCompared chunks (sent ++ event ∷ []) result
+IsExpected chunks number event result = (sent : List Chunk) → AreFirst chunks number sent →
+    AreCompared chunks (sent ++ event ∷ []) result
 
--- The levels took an event, if there was one, behind others, and what leaves the last one is compared.
-pub record Passed (bits : ℕ) (version : Version) (chunks : List (List ℕ)) (level : ℕ) (new : List (NodeState ℕ)) (events : List Chunk) (result : Result ℕ CheckFault) : Type 0 where
+-- The levels took an event, if there was one, behind others, and what leaves the last one is
+-- compared.
+pub record Passed (bits : ℕ) (version : Version) (chunks : List (List ℕ)) (level : ℕ)
+    (new : List (NodeState ℕ)) (events : List Chunk) (result : Result ℕ CheckFault) : Type 0 where
   pub behind : IfOk result (λ next. AreBehind bits version level new events)
-  pub compared : AreCompared chunks (sent_through (sha512_cut bits) version level (length new) events) result
+  pub compared : AreCompared chunks (sent_through (sha512_cut bits) version level (length new)
+      events) result
 
--- So they do behind any events, where what has left the last one begins the chunks of the file, as many as the number.
-abbrev pub Passes : List (List ℕ) → List (NodeState ℕ) → List (NodeState ℕ) → Option Chunk → ℕ → Result ℕ CheckFault → Type 0
-Passes chunks old new event number result = (bits : ℕ) (version : Version) (level : ℕ) (events : List Chunk) →
+-- So they do behind any events, where what has left the last one begins the chunks of the file, as
+-- many as the number.
+abbrev pub Passes : List (List ℕ) → List (NodeState ℕ) → List (NodeState ℕ) → Option Chunk → ℕ →
+    Result ℕ CheckFault → Type 0
+Passes chunks old new event number result = (bits : ℕ) (version : Version) (level : ℕ)
+    (events : List Chunk) →
     AreBelow level (option_to_list event) → AreBehind bits version level old events →
     AreFirst chunks number (sent_through (sha512_cut bits) version level (length old) events) →
     Passed bits version chunks level new (events ++ option_to_list event) result
@@ -63,7 +77,8 @@ Passes chunks old new event number result = (bits : ℕ) (version : Version) (le
 -- The levels, from this one on, took nothing and have sent nothing.
 abbrev pub AreUnused : ℕ → Version → ℕ → List (NodeState ℕ) → Type 0
 AreUnused bits version level [] = Unit {0}
-AreUnused bits version level (state ∷ states) = NodeBegins sha512_cut bits version level state × AreUnused bits version (suc level) states
+AreUnused bits version level (state ∷ states) = NodeBegins sha512_cut bits version level state ×
+    AreUnused bits version (suc level) states
 
 -- The number of levels of nodes. A tree of fewer than 2^64 pairs has no more.
 unfoldable pub node_levels : ℕ
@@ -71,25 +86,34 @@ node_levels = 64
 
 -- The chunks that are sent of pairs as long as no end is known.
 abbrev pub sent_of : ℕ → Version → List Pair → List Chunk
-sent_of bits version pairs = sent_through (sha512_cut bits) version 1 node_levels (leaf_events (sha512_cut bits) version faulty pairs)
+sent_of bits version pairs = sent_through (sha512_cut bits) version 1 node_levels
+    (leaf_events (sha512_cut bits) version faulty pairs)
 
 -- The rebuild took the pairs, and what its levels have sent begins the chunks of a file.
-pub record HasTaken (bits : ℕ) (version : Version) (chunks : List (List ℕ)) (pairs : List Pair) (rebuild : Rebuild) : Type 0 where
+pub record HasTaken (bits : ℕ) (version : Version) (chunks : List (List ℕ)) (pairs : List Pair)
+    (rebuild : Rebuild) : Type 0 where
   pub leaf : rebuild.leaf ≡ leaf_level sha512_cut bits pairs
-  pub nodes : AreBehind bits version 1 rebuild.nodes.items (leaf_events (sha512_cut bits) version faulty pairs)
+  pub nodes : AreBehind bits version 1 rebuild.nodes.items
+      (leaf_events (sha512_cut bits) version faulty pairs)
   pub count : length rebuild.nodes.items ≡ node_levels
   pub first : AreFirst chunks rebuild.number (sent_of bits version pairs)
 
--- It did, or what is sent of the pairs differs from the chunks of the file, unless memory was refused.
-abbrev pub Took : ℕ → Version → List (List ℕ) → List Pair → Rebuild → Result (Unit {0}) CheckFault → Type 0
+-- It did, or what is sent of the pairs differs from the chunks of the file, unless memory was
+-- refused.
+abbrev pub Took : ℕ → Version → List (List ℕ) → List Pair → Rebuild → Result (Unit {0}) CheckFault →
+    Type 0
 Took bits version chunks pairs rebuild (Ok done) = HasTaken bits version chunks pairs rebuild
-Took bits version chunks pairs rebuild (Err fault) = UnlessMemory (DifferAs chunks (sent_of bits version pairs)) fault
+Took bits version chunks pairs rebuild (Err fault) =
+    UnlessMemory (DifferAs chunks (sent_of bits version pairs)) fault
 
 -- Whatever pairs it took before, it took these behind them.
-abbrev pub Takes : List (List ℕ) → Rebuild → Rebuild → List Pair → Result (Unit {0}) CheckFault → Type 0
-Takes chunks old new taken result = (bits : ℕ) (version : Version) (pairs : List Pair) → HasTaken bits version chunks pairs old → Took bits version chunks (pairs ++ taken) new result
+abbrev pub Takes : List (List ℕ) → Rebuild → Rebuild → List Pair → Result (Unit {0}) CheckFault →
+    Type 0
+Takes chunks old new taken result = (bits : ℕ) (version : Version) (pairs : List Pair) →
+    HasTaken bits version chunks pairs old → Took bits version chunks (pairs ++ taken) new result
 
 -- All that the last level sends of the pairs that it took is compared.
 abbrev pub Ends : List (List ℕ) → Rebuild → Result ℕ CheckFault → Type 0
-Ends chunks rebuild result = (bits : ℕ) (version : Version) (pairs : List Pair) → HasTaken bits version chunks pairs rebuild →
+Ends chunks rebuild result = (bits : ℕ) (version : Version) (pairs : List Pair) →
+    HasTaken bits version chunks pairs rebuild →
     AreCompared chunks (pipeline_events node_levels (sha512_cut bits) version clean pairs) result

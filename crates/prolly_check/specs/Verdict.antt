@@ -1,5 +1,6 @@
 -- Which bytes are the file of a map, and which fault others have.
-use Rattle.std.specs.Prelude.{◌≡◌, ℕ, ◌<◌, ◌≤◌, ◌^◌, slice_index, List, [], ◌∷◌, length, drop, map, Option, Some, None, Result, Ok, Err}
+use Rattle.std.specs.Prelude.{◌≡◌, ℕ, ◌<◌, ◌≤◌, ◌^◌, slice_index, List, [], ◌∷◌, length, drop, map}
+use Rattle.std.specs.Prelude.{Option, Some, None, Result, Ok, Err}
 use Rattle.std.specs.List.{AllByRecursion}
 use Rattle.prolly_entry.specs.declared.version.Version.{Version}
 use Rattle.prolly_entry.specs.Keys.{Rising}
@@ -17,23 +18,29 @@ use Rattle.prolly_check.specs.Judged.{judged, chunk_bytes}
 -- ---- The faults, step by step.
 
 -- Chunks that can't be read have that fault; else the file is judged.
-abbrev pub ReadVerdict : Version → ℕ → List (List ℕ) → List ℕ → Result (List (List Pair)) CheckFault → Result Content CheckFault → Type 0
-ReadVerdict version bits chunks ending (Ok lists) verdict = verdict ≡ judged version bits chunks ending lists
+abbrev pub ReadVerdict : Version → ℕ → List (List ℕ) → List ℕ →
+    Result (List (List Pair)) CheckFault → Result Content CheckFault → Type 0
+ReadVerdict version bits chunks ending (Ok lists) verdict =
+    verdict ≡ judged version bits chunks ending lists
 ReadVerdict version bits chunks ending (Err fault) verdict = verdict ≡ Err fault
 
 -- The verdict on the chunks of a file with an end record.
-pub record ChunksVerdict (version : Version) (bits : ℕ) (chunks : List (List ℕ)) (ending : List ℕ) (verdict : Result Content CheckFault) : Type 0 where
+pub record ChunksVerdict (version : Version) (bits : ℕ) (chunks : List (List ℕ)) (ending : List ℕ)
+    (verdict : Result Content CheckFault) : Type 0 where
   pub read : Result (List (List Pair)) CheckFault
   pub is : IsRead version chunks read
   pub so : ReadVerdict version bits chunks ending read verdict
 
 -- Where no end record follows the frames, that is the fault; else the chunks are read.
-abbrev pub EndVerdict : Version → ℕ → List (List ℕ) → Result (List ℕ) CheckFault → Result Content CheckFault → Type 0
-EndVerdict version bits chunks (Ok ending) verdict = ChunksVerdict version bits chunks ending verdict
+abbrev pub EndVerdict : Version → ℕ → List (List ℕ) → Result (List ℕ) CheckFault →
+    Result Content CheckFault → Type 0
+EndVerdict version bits chunks (Ok ending) verdict =
+    ChunksVerdict version bits chunks ending verdict
 EndVerdict version bits chunks (Err fault) verdict = verdict ≡ Err fault
 
 -- The verdict on the bytes behind a lawful header.
-pub record FramesVerdict (version : Version) (bits : ℕ) (bytes : List ℕ) (verdict : Result Content CheckFault) : Type 0 where
+pub record FramesVerdict (version : Version) (bits : ℕ) (bytes : List ℕ)
+    (verdict : Result Content CheckFault) : Type 0 where
   pub chunks : List (List ℕ)
   pub ending : Result (List ℕ) CheckFault
   pub is : IsFramed bytes chunks ending
@@ -44,8 +51,8 @@ HeaderVerdict (Some fault) bytes verdict = verdict ≡ Err fault
 HeaderVerdict None bytes verdict =
     FramesVerdict (version_of (slice_index bytes 4)) (slice_index bytes 5) (drop 6 bytes) verdict
 
--- The verdict on bytes: the first fault in the order header, frames and end record, chunks from the left, keys, chunks and end
--- record of the pairs' file, references; or else what the file says.
+-- The verdict on bytes: the first fault in the order header, frames and end record, chunks from the
+-- left, keys, chunks and end record of the pairs' file, references; or else what the file says.
 abbrev pub IsVerdict : List ℕ → Result Content CheckFault → Type 0
 IsVerdict bytes verdict = HeaderVerdict (header_fault header_tests bytes) bytes verdict
 
@@ -56,7 +63,8 @@ abbrev pub AllApart : List (List ℕ) → Type 0
 AllApart [] = Unit {0}
 AllApart (c ∷ cs) = AllByRecursion (λ d. reference_of c ≡ reference_of d → ⊥) cs × AllApart cs
 
--- The bytes are the file of a map, of a version and a number of bits, no two of whose chunks have one reference.
+-- The bytes are the file of a map, of a version and a number of bits, no two of whose chunks have
+-- one reference.
 pub record IsFileOf (bytes : List ℕ) (content : Content) : Type 0 where
   pub bits : content.bits ≤ 24
   pub lawful : AllByRecursion IsPair content.pairs
@@ -66,7 +74,8 @@ pub record IsFileOf (bytes : List ℕ) (content : Content) : Type 0 where
 
 -- Law: bytes have one verdict.
 abbrev pub OneVerdict : Type 0
-OneVerdict = (bytes : List ℕ) (verdict other : Result Content CheckFault) → IsVerdict bytes verdict → IsVerdict bytes other → verdict ≡ other
+OneVerdict = (bytes : List ℕ) (verdict other : Result Content CheckFault) →
+    IsVerdict bytes verdict → IsVerdict bytes other → verdict ≡ other
 
 -- Law: bytes are accepted exactly where they are the file of a map, and as the file of that map.
 abbrev pub AcceptsFiles : Type 0

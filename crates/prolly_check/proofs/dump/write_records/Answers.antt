@@ -1,6 +1,7 @@
 use Rattle.std.proofs.Common.{arith, ap, length, length-append}
 use Rattle.std.proofs.lemmas.Result.{err_from_is_err_and}
-use Rattle.prolly_check.proofs.Dumps.{none_dumped, one_dumped, dump_failed, dump_flushed, dump_unflushed}
+use Rattle.prolly_check.proofs.Dumps.{none_dumped, one_dumped, dump_failed, dump_flushed}
+use Rattle.prolly_check.proofs.Dumps.{dump_unflushed}
 use Rattle.prolly_check.proofs.dump.write_records.Goals as goal
 
 pub loop-leaf-init : goal.loop-leaf-init
@@ -12,18 +13,25 @@ loop-leaf-preserved g c =
     one_dumped _ _ c.in-Some.leaf _ c.in-Some.ensures.next _ _ _ c.loop-leaf.invariant _ own
 
 pub loop-leaf-smaller : goal.loop-leaf-smaller
-loop-leaf-smaller g c = omega (arith, c.in-Some.ensures.some, simp length-append at (ap length c.in-Some.ensures.next))
+loop-leaf-smaller g c = omega (
+  arith,
+  c.in-Some.ensures.some,
+  simp length-append at (ap length c.in-Some.ensures.next),
+)
 
 pub returns-in_err-write_all : goal.returns-in_err-write_all
 returns-in_err-write_all g c =
     let p = err_from_is_err_and c.from_residual.result c.from_residual.ensures.1 in
     let own = rw c.spellings.ensures at c.in_err-write_all.ensures.writes in
-    rw p.1 (dump_failed _ _ c.in-Some.leaf _ c.in-Some.ensures.next _ _ _ c.loop-leaf.invariant _ _ own)
+    rw p.1 (dump_failed _ _ c.in-Some.leaf _ c.in-Some.ensures.next _ _ _ c.loop-leaf.invariant _ _
+    own)
 
 pub returns-in-Ok : goal.returns-in-Ok
 returns-in-Ok g c =
-    dump_flushed _ _ c.in_default.ensures.next _ _ _ c.loop-leaf.invariant c.in-Ok.ensures.bytes c.in-Ok.ensures.keeping _ c.in-Ok.ensures.failures
+    dump_flushed _ _ c.in_default.ensures.next _ _ _ c.loop-leaf.invariant c.in-Ok.ensures.bytes
+    c.in-Ok.ensures.keeping _ c.in-Ok.ensures.failures
 
 pub returns-in-Err : goal.returns-in-Err
 returns-in-Err g c =
-    dump_unflushed _ _ c.in_default.ensures.next _ _ _ c.loop-leaf.invariant c.in-Err.ensures.bytes c.in-Err.ensures.keeping _ c.in-Err.ensures.failures
+    dump_unflushed _ _ c.in_default.ensures.next _ _ _ c.loop-leaf.invariant c.in-Err.ensures.bytes
+    c.in-Err.ensures.keeping _ c.in-Err.ensures.failures

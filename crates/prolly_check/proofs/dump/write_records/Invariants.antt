@@ -3,7 +3,8 @@ use Rattle.prolly_check.proofs.Dumps.{IsDumped}
 use Rattle.prolly_check.proofs.dump.write_records.Given as goal
 
 abbrev pub invariant-loop-leaf : goal.invariant-loop-leaf
-invariant-loop-leaf g l = IsDumped l.fn.leaves l.leaves (g.W.Sink.seen l.initial.sink) (g.W.Sink.seen l.sink)
+invariant-loop-leaf g l = IsDumped l.fn.leaves l.leaves (g.W.Sink.seen l.initial.sink)
+    (g.W.Sink.seen l.sink)
 
 abbrev pub decreases-loop-leaf : goal.decreases-loop-leaf
 decreases-loop-leaf g l = length l.leaves

@@ -5,6 +5,9 @@ use Rattle.prolly_check.proofs.frames.find_frames.Goals as goal
 
 pub loop-len-preserved : goal.loop-len-preserved
 loop-len-preserved c =
-    subst (λ items. FramesTo c.args.bytes.now items (c.loop-len.end + 9 + c.in-Some.len)) (sym c.in_ok-push.ensures.items)
-    (one_more c.args.bytes.now c.loop-len.spans.items c.loop-len.end c.in-Some.len c.loop-len.invariant
-    (subst (λ rest. BeginsFrame rest c.in-Some.len) c.split_at.ensures.back c.in-Some.ensures.found))
+    subst (λ items. FramesTo c.args.bytes.now items (c.loop-len.end + 9 + c.in-Some.len))
+    (sym c.in_ok-push.ensures.items)
+    (one_more c.args.bytes.now c.loop-len.spans.items c.loop-len.end c.in-Some.len
+    c.loop-len.invariant
+    (subst (λ rest. BeginsFrame rest c.in-Some.len) c.split_at.ensures.back
+    c.in-Some.ensures.found))

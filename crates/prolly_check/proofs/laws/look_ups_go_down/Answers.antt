@@ -1,4 +1,5 @@
-use Rattle.prolly_check.proofs.Lookups.{reference_leads, find_in_child, find_in_none, nth_in_child, stands_at_root, first_entry, steps_down}
+use Rattle.prolly_check.proofs.Lookups.{reference_leads, find_in_child, find_in_none, nth_in_child}
+use Rattle.prolly_check.proofs.Lookups.{stands_at_root, first_entry, steps_down}
 use Rattle.prolly_check.proofs.laws.look_ups_go_down.Goals as goal
 
 pub returns : goal.returns

@@ -5,10 +5,13 @@ use Rattle.prolly_check.proofs.leaf.is_leaf.Goals as goal
 
 pub loop-rest-preserved : goal.loop-rest-preserved
 loop-rest-preserved c = (
-  λ l. leaf_less c.loop-rest.entries.now c.in-Some.rest.now _ c.in-Some.ensures.some (c.loop-rest.invariant.0 l),
-  λ l. c.loop-rest.invariant.1 (leaf_more c.loop-rest.entries.now c.in-Some.rest.now _ c.in-Some.ensures.some l),
+  λ l. leaf_less c.loop-rest.entries.now c.in-Some.rest.now _ c.in-Some.ensures.some
+      (c.loop-rest.invariant.0 l),
+  λ l. c.loop-rest.invariant.1 (leaf_more c.loop-rest.entries.now c.in-Some.rest.now _
+      c.in-Some.ensures.some l),
 )
 
 pub returns-clause-other : goal.returns-clause-other
 returns-clause-other c = λ e pairs leaf. false≢true (sym e ∙ c.is_empty.ensures
-    ∙ ap (λ x. length x == 0) (leaf_left c.loop-rest.entries.now c.in_default.ensures.none (c.loop-rest.invariant.0 (record { pairs = pairs; is = leaf }))))
+    ∙ ap (λ x. length x == 0) (leaf_left c.loop-rest.entries.now c.in_default.ensures.none
+    (c.loop-rest.invariant.0 (record { pairs = pairs; is = leaf }))))

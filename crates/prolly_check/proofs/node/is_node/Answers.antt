@@ -5,11 +5,19 @@ use Rattle.prolly_check.proofs.node.is_node.Goals as goal
 
 pub loop-rest-preserved : goal.loop-rest-preserved
 loop-rest-preserved c = (
-  λ n. node_less c.args.version c.loop-rest.entries.now c.in-Some.rest.now _ c.in-Some.ensures.some (c.loop-rest.invariant.0 n),
-  λ n. c.loop-rest.invariant.1 (node_more c.args.version c.loop-rest.entries.now c.in-Some.rest.now _ c.in-Some.ensures.some n),
+  λ n. node_less c.args.version c.loop-rest.entries.now c.in-Some.rest.now _ c.in-Some.ensures.some
+      (c.loop-rest.invariant.0 n),
+  λ n. c.loop-rest.invariant.1 (node_more c.args.version c.loop-rest.entries.now c.in-Some.rest.now
+      _ c.in-Some.ensures.some n),
 )
 
 pub returns-clause-other : goal.returns-clause-other
 returns-clause-other c = λ e pairs n. false≢true (sym e ∙ c.is_empty.ensures
-    ∙ ap (λ x. length x == 0) (node_left c.args.version c.loop-rest.entries.now c.in_default.ensures.none
-    (c.loop-rest.invariant.0 (record { children = n.children; is = n.is; lawful = n.lawful; none = refl }))))
+    ∙ ap (λ x. length x == 0) (node_left c.args.version c.loop-rest.entries.now
+    c.in_default.ensures.none
+    (c.loop-rest.invariant.0 (record {
+      children = n.children;
+      is = n.is;
+      lawful = n.lawful;
+      none = refl;
+    }))))

@@ -6,7 +6,8 @@ use Rattle.prolly_check.proofs.FinishSteps.{IsEnding}
 use Rattle.prolly_check.proofs.rebuild.finish.Given as goal
 
 abbrev pub invariant-loop-nodes : goal.invariant-loop-nodes
-invariant-loop-nodes l = (bits : ℕ) (version : Version) (pairs : List Pair) → HasTaken bits version l.chunks pairs l.fn.rebuild →
+invariant-loop-nodes l = (bits : ℕ) (version : Version) (pairs : List Pair) →
+    HasTaken bits version l.chunks pairs l.fn.rebuild →
     IsEnding bits version pairs l.chunks l.nodes.items l.last l.number
 
 abbrev pub decreases-loop-nodes : goal.decreases-loop-nodes

@@ -1,26 +1,37 @@
 use Rattle.std.proofs.Common.{[], inr, arith}
 use Rattle.std.proofs.lemmas.Result.{err_from_is_err_and}
-use Rattle.prolly_check.proofs.FinishSteps.{differ_by_end, verdict_fault, verdict_short, verdict_none}
+use Rattle.prolly_check.proofs.FinishSteps.{differ_by_end, verdict_fault, verdict_short}
+use Rattle.prolly_check.proofs.FinishSteps.{verdict_none}
 use Rattle.prolly_check.proofs.rebuild.test_rebuilt.Goals as goal
 
 pub returns-in_err-add_chunks-clause-err : goal.returns-in_err-add_chunks-clause-err
 returns-in_err-add_chunks-clause-err c =
-    let p = err_from_is_err_and c.from_residual-in_err-add_chunks.result c.from_residual-in_err-add_chunks.ensures.1 in
-    rw (p.1, p.2) (verdict_fault c.args.cut c.args.version c.args.chunks.now _ c.requires _ (differ_by_end c.args.cut c.args.version _ c.args.chunks.now _
-    (c.in_err-add_chunks.ensures c.args.cut c.args.version [] (c.in_ok-rebuild.ensures c.args.chunks.now))))
+    let p = err_from_is_err_and c.from_residual-in_err-add_chunks.result
+    c.from_residual-in_err-add_chunks.ensures.1 in
+    rw (p.1, p.2) (verdict_fault c.args.cut c.args.version c.args.chunks.now _ c.requires _
+    (differ_by_end c.args.cut c.args.version _ c.args.chunks.now _
+    (c.in_err-add_chunks.ensures c.args.cut c.args.version []
+    (c.in_ok-rebuild.ensures c.args.chunks.now))))
 
 pub returns-in_err-count-clause-err : goal.returns-in_err-count-clause-err
 returns-in_err-count-clause-err c =
-    let p = err_from_is_err_and c.from_residual-in_err-count.result c.from_residual-in_err-count.ensures.1 in
-    rw (p.1, p.2) (verdict_fault c.args.cut c.args.version c.args.chunks.now _ c.requires _ (c.in_err-count.ensures c.args.cut c.args.version _
-    (c.in_ok-add_chunks.ensures c.args.cut c.args.version [] (c.in_ok-rebuild.ensures c.args.chunks.now))))
+    let p = err_from_is_err_and c.from_residual-in_err-count.result
+    c.from_residual-in_err-count.ensures.1 in
+    rw (p.1, p.2) (verdict_fault c.args.cut c.args.version c.args.chunks.now _ c.requires _
+    (c.in_err-count.ensures c.args.cut c.args.version _
+    (c.in_ok-add_chunks.ensures c.args.cut c.args.version []
+    (c.in_ok-rebuild.ensures c.args.chunks.now))))
 
 pub returns-then-count-len-clause-err : goal.returns-then-count-len-clause-err
 returns-then-count-len-clause-err c = inr
-    (verdict_short c.args.cut c.args.version c.args.chunks.now _ c.requires c.in_ok-count.count (c.in_ok-count.ensures c.args.cut c.args.version _
-    (c.in_ok-add_chunks.ensures c.args.cut c.args.version [] (c.in_ok-rebuild.ensures c.args.chunks.now))) (omega arith))
+    (verdict_short c.args.cut c.args.version c.args.chunks.now _ c.requires c.in_ok-count.count
+    (c.in_ok-count.ensures c.args.cut c.args.version _
+    (c.in_ok-add_chunks.ensures c.args.cut c.args.version []
+    (c.in_ok-rebuild.ensures c.args.chunks.now))) (omega arith))
 
 pub returns-clause-ok : goal.returns-clause-ok
 returns-clause-ok c =
-    verdict_none c.args.cut c.args.version c.args.chunks.now _ c.requires c.in_ok-count.count (c.in_ok-count.ensures c.args.cut c.args.version _
-    (c.in_ok-add_chunks.ensures c.args.cut c.args.version [] (c.in_ok-rebuild.ensures c.args.chunks.now))) (omega arith)
+    verdict_none c.args.cut c.args.version c.args.chunks.now _ c.requires c.in_ok-count.count
+    (c.in_ok-count.ensures c.args.cut c.args.version _
+    (c.in_ok-add_chunks.ensures c.args.cut c.args.version []
+    (c.in_ok-rebuild.ensures c.args.chunks.now))) (omega arith)

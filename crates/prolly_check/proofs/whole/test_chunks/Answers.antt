@@ -4,10 +4,12 @@ use Rattle.prolly_check.proofs.whole.test_chunks.Goals as goal
 
 pub returns-then-not-is_whole-clause-err : goal.returns-then-not-is_whole-clause-err
 returns-then-not-is_whole-clause-err c =
-    bad_next c.args.version c.args.bytes.now c.args.spans.now c.loop-number.number _ c.chunk_at.result.now (omega arith) c.chunk_at.ensures c.loop-number.invariant
+    bad_next c.args.version c.args.bytes.now c.args.spans.now c.loop-number.number _
+    c.chunk_at.result.now (omega arith) c.chunk_at.ensures c.loop-number.invariant
     (c.is_whole.ensures.other c.if-not-is_whole.true)
 
 pub loop-number-preserved : goal.loop-number-preserved
 loop-number-preserved c =
-    whole_next c.args.version c.args.bytes.now c.args.spans.now c.loop-number.number _ c.chunk_at.result.now (omega arith) c.chunk_at.ensures c.loop-number.invariant
+    whole_next c.args.version c.args.bytes.now c.args.spans.now c.loop-number.number _
+    c.chunk_at.result.now (omega arith) c.chunk_at.ensures c.loop-number.invariant
     (c.is_whole.ensures.whole c.if-not-is_whole.false)

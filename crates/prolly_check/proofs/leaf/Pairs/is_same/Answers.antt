@@ -7,7 +7,9 @@ use Rattle.prolly_check.proofs.leaf.Pairs.is_same.Goals as goal
 
 pub returns : goal.returns
 returns c =
-    let same = slice_eq-Decides Decides-eqb c.self.inside.entries.now c.other.inside.entries.now _ c.eq.ensures in (
+    let same = slice_eq-Decides Decides-eqb c.self.inside.entries.now c.other.inside.entries.now _
+    c.eq.ensures in (
       λ yes. sym c.self.view_is ∙ ap pairs_in (same.0 yes) ∙ c.other.view_is,
-      λ e. same.1 (entries_same _ _ c.self.invariant c.other.invariant (c.self.view_is ∙ e ∙ sym c.other.view_is)),
+      λ e. same.1 (entries_same _ _ c.self.invariant c.other.invariant (c.self.view_is ∙ e ∙
+          sym c.other.view_is)),
     )

@@ -6,7 +6,8 @@ use Rattle.prolly_check.proofs.leaves.Leaves.next.Given as goal
 
 -- no chunk that was passed over has a pair
 abbrev pub invariant-loop-self : goal.invariant-loop-self
-invariant-loop-self l = l.fn.self ≡ flat_map pairs_held (drop l.self-inside.number (chunks_of l.self-inside.file))
+invariant-loop-self l = l.fn.self ≡ flat_map pairs_held
+    (drop l.self-inside.number (chunks_of l.self-inside.file))
 
 abbrev pub decreases-loop-self : goal.decreases-loop-self
 decreases-loop-self l = length (chunks_of l.self-inside.file) - l.self-inside.number
