@@ -1,7 +1,8 @@
 -- The pairs of a leaf, read one after another.
-use Rattle.std.proofs.Common.{◌≡◌, ℕ, ◌+◌, List, [], ◌∷◌, ◌++◌, length, take, drop, Some, refl, sym}
-use Rattle.std.proofs.Common.{ap, ◌∙◌, arith, append_assoc, length-drop}
+use Rattle.std.proofs.Common.{◌≡◌, ℕ, ◌+◌, ◌==◌, List, [], ◌∷◌, ◌++◌, length, take, drop, Some}
+use Rattle.std.proofs.Common.{refl, sym, ap, ◌∙◌, arith, append_assoc, length-drop}
 use Rattle.std.specs.Int.{w32, to_be_bytes}
+use Rattle.std.proofs.lemmas.Bool.Decides.{nat_tests}
 use Rattle.std.proofs.lemmas.List.{length-append, take_at, drop-drop, map-id}
 use Rattle.prolly_entry.specs.Front.{NoPairAt}
 use Rattle.prolly_entry.specs.Pair.{Pair, IsPair}
@@ -120,3 +121,19 @@ no_next entries none l = ap (entries_in first_pair behind_pair) (leaf_left entri
 pub leaf_spelled : (entries : List ℕ) → IsSomeLeaf entries →
     entries ≡ record_file (pairs_in entries)
 leaf_spelled entries l = l.is.is ∙ ap record_file (sym (leaf_pairs entries l.pairs l.is))
+
+-- so entries that have the same pairs are the same
+pub entries_same : (entries other : List ℕ) → IsSomeLeaf entries → IsSomeLeaf other →
+    pairs_in entries ≡ pairs_in other → entries ≡ other
+entries_same entries other l m e = leaf_spelled entries l ∙ ap record_file e ∙
+    sym (leaf_spelled other m)
+
+-- and entries have bytes exactly where they have pairs
+pub some_spelled : (entries : List ℕ) → IsSomeLeaf entries →
+    (length entries == 0) ≡ (length (pairs_in entries) == 0)
+some_spelled entries l = ap (λ bytes. length bytes == 0) (leaf_spelled entries l) ∙
+    some (pairs_in entries)
+  where
+    some : (pairs : List Pair) → (length (record_file pairs) == 0) ≡ (length pairs == 0)
+    some [] = refl
+    some (p ∷ ps) = grind (arith, nat_tests)

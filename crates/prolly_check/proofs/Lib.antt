@@ -44,7 +44,7 @@ pub mod LeafSteps
 pub mod CountSteps
 -- Scanning pairs from a key on, in a leaf and over chunks.
 pub mod Scans
--- The pairs of chunks, written one chunk after another.
+-- Pairs that are written as a record file, part by part.
 pub mod Dumps
 -- Events that pass levels of nodes, and the chunks of a file.
 pub mod Rebuilds

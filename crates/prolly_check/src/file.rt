@@ -50,7 +50,8 @@ impl<'a> CheckedFile<'a> {
     ) -> CheckedFile<'a>
         requires checked { IsChecked bytes.now version spans.now index.now }
         requires short { length bytes.now < 2 ^ 64 }
-        ensures { (content : Content) → IsFileOf bytes.now content → result ≡ content }
+        ensures is { (content : Content) → IsFileOf bytes.now content → result ≡ content }
+        ensures file { HasFile result }
     {
         CheckedFile {
             bytes,

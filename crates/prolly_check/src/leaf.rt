@@ -1,5 +1,5 @@
 //! The entries of leaves.
-ghost use Rattle.std.specs.Prelude.{◌≡◌, ◌≤◌, [], ◌∷◌, true, false, List, length};
+ghost use Rattle.std.specs.Prelude.{◌≡◌, ◌↔◌, ◌==◌, ◌≤◌, [], ◌∷◌, true, false, List, length, IsTrue};
 ghost use Rattle.std.specs.Prelude.{IfSome, IfNone, MatchOption};
 ghost use Rattle.prolly_entry.specs.Front.{NoPairAt};
 ghost use Rattle.prolly_entry.specs.Pair.{Pair as PairValue, IsPair};
@@ -48,9 +48,10 @@ pub(crate) fn is_leaf(mut entries: &[u8]) -> bool
     entries.is_empty()
 }
 
-/// The pairs of a leaf that was tested, or those of them that are left, as they lie in its bytes.
+/// The pairs of one leaf of a checked file, or those of them that are left, in the order of their
+/// keys. They are borrowed from the file's bytes.
 #[derive(Drop)]
-pub(crate) struct Pairs<'a> {
+pub struct Pairs<'a> {
     entries: &'a [u8],
 }
 
@@ -76,20 +77,47 @@ impl<'a> Pairs<'a> {
         Pairs { entries }
     }
 
-    /// The key and the value of the next pair.
-    pub(crate) fn next(&mut self) -> Option<(&'a [u8], &'a [u8])>
+    /// The key and the value of the next pair. Takes no memory.
+    pub fn next(&mut self) -> Option<(&'a [u8], &'a [u8])>
         ensures next { MatchOption result (self.old ≡ [])
             (λ next. self.old ≡ record { key = next.0.now; value = next.1.now } ∷ self.new) }
         ensures lawful { IfSome result (λ next.
             (length next.0.now ≤ 1024) × (length next.1.now ≤ 65536)) }
+        ensures none { IfNone result (self.new ≡ []) }
     {
         let (key, value, rest) = split_pair(self.entries)?;
         self.entries = rest;
         Some((key, value))
     }
 
-    /// The spellings of the pairs, as they lie in the leaf's bytes.
-    pub(crate) fn spellings(&self) -> &'a [u8]
+    /// The key and the value of the first pair, which stays. Takes no memory.
+    pub fn first(&self) -> Option<(&'a [u8], &'a [u8])>
+        ensures { MatchOption result (self.now ≡ []) (λ first. (rest : List PairValue) ×
+            (self.now ≡ record { key = first.0.now; value = first.1.now } ∷ rest)) }
+    {
+        let mut pairs = Pairs {
+            entries: self.entries,
+        };
+        pairs.next()
+    }
+
+    /// Whether no pair is left.
+    pub fn is_empty(&self) -> bool
+        ensures { result ≡ (length self.now == 0) }
+    {
+        self.entries.is_empty()
+    }
+
+    /// Whether the pairs that are left are those that are left of the other leaf. Compares their
+    /// bytes, and reads no pair.
+    pub fn is_same(&self, other: &Pairs<'_>) -> bool
+        ensures { IsTrue result ↔ (self.now ≡ other.now) }
+    {
+        self.entries == other.entries
+    }
+
+    /// The bytes of the pairs that are left, as a record file has them.
+    pub fn spellings(&self) -> &'a [u8]
         ensures { result.now ≡ record_file self.now }
     {
         self.entries

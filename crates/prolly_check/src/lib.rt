@@ -16,6 +16,7 @@ mod index;
 mod inspect;
 pub mod laws;
 mod leaf;
+mod leaves;
 mod node;
 mod nth;
 mod order;
@@ -27,4 +28,6 @@ mod whole;
 
 pub use checker::check;
 pub use fault::CheckFault;
+pub use leaf::Pairs;
+pub use leaves::Leaves;
 pub use tree::{NoCounts, Tree};

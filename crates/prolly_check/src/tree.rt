@@ -1,8 +1,11 @@
 //! A chunk file that was checked.
 ghost use Rattle.std.specs.Prelude.{◌≡◌, ◌↔◌, ◌^◌, ◌<◌, length, IfOk, IfErr, IsErr, Err};
+ghost use Rattle.std.specs.List.{AllByRecursion};
 ghost use Rattle.std.specs.Option.{option_copied};
+ghost use Rattle.prolly_entry.specs.Pair.{IsPair};
 ghost use Rattle.prolly_tree.specs.Chunk.{chunks};
 ghost use Rattle.prolly_entry.specs.Cut.{sha512_cut};
+ghost use Rattle.prolly_tree.specs.Difference.{IsMap};
 ghost use Rattle.prolly_tree.specs.File.{root_reference};
 ghost use Rattle.prolly_tree.specs.LookUp.{find, nth, scan};
 ghost use Rattle.prolly_tree.specs.RecordFile.{record_file};
@@ -11,7 +14,7 @@ ghost use Rattle.prolly_check.specs.Content.{Content};
 ghost use Rattle.prolly_check.specs.Counted.{pair_of};
 ghost use Rattle.prolly_check.specs.Refusal.{UnlessMemory};
 ghost use Rattle.prolly_check.specs.Verdict.{IsVerdict, IsFileOf};
-ghost use Rattle.prolly_check.specs.Checked.{IsChecked, IsFile};
+ghost use Rattle.prolly_check.specs.Checked.{IsChecked, IsFile, HasFile};
 
 use crate::dump::write_records;
 use crate::fault::CheckFault;
@@ -20,6 +23,7 @@ use crate::find::find_value;
 use crate::frames::Span;
 use crate::index::Index;
 use crate::inspect::{Layout, inspect};
+use crate::leaves::Leaves;
 use crate::nth::find_nth;
 use crate::scan::scan_pairs;
 use prolly_entry::{Pair, Ref, Version};
@@ -138,6 +142,17 @@ impl Tree {
         }
     }
 
+    /// The leaves of the map, in the order of their keys.
+    ///
+    /// Takes no memory, and reads no chunk before `next` is called.
+    pub fn leaves(&self) -> Leaves<'_>
+        ensures are { (content : Content) → IsFileOf self.now content → result ≡ content.pairs }
+        ensures rising { IsMap result }
+        ensures lawful { AllByRecursion IsPair result }
+    {
+        Leaves::new(self.file())
+    }
+
     /// Writes the pairs of the map to a sink, as a record file, and flushes the sink.
     ///
     /// Takes no memory, and makes one call of the sink for each leaf, or more where the sink takes
@@ -147,7 +162,7 @@ impl Tree {
         ensures { (content : Content) → IsFileOf self.now content →
             Writes (record_file content.pairs) (W.seen sink.old) (W.seen sink.new) result }
     {
-        write_records(&self.file(), sink)
+        write_records(self.leaves(), sink)
     }
 
     /// The version of the file.
@@ -159,7 +174,8 @@ impl Tree {
 
     /// The same, as look-ups see it.
     fn file(&self) -> CheckedFile<'_>
-        ensures { (content : Content) → IsFileOf self.now content → result ≡ content }
+        ensures is { (content : Content) → IsFileOf self.now content → result ≡ content }
+        ensures file { HasFile result }
     {
         CheckedFile::new(&self.bytes, self.version, &self.spans, &self.index)
     }

@@ -12,6 +12,7 @@ mod accepted;
 mod chunks;
 mod damaged;
 mod dumps;
+mod leaves;
 mod look_ups;
 mod numbers;
 mod short;

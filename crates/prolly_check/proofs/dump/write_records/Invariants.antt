@@ -1,7 +1,10 @@
-use Rattle.prolly_check.specs.Checked.{chunks_of}
+use Rattle.std.proofs.Common.{length}
 use Rattle.prolly_check.proofs.Dumps.{IsDumped}
 use Rattle.prolly_check.proofs.dump.write_records.Given as goal
 
-abbrev pub invariant-loop-number : goal.invariant-loop-number
-invariant-loop-number g l = IsDumped (chunks_of l.file) (g.W.Sink.seen l.initial.sink)
-    (g.W.Sink.seen l.sink) l.number
+abbrev pub invariant-loop-leaf : goal.invariant-loop-leaf
+invariant-loop-leaf g l = IsDumped l.fn.leaves l.leaves (g.W.Sink.seen l.initial.sink)
+    (g.W.Sink.seen l.sink)
+
+abbrev pub decreases-loop-leaf : goal.decreases-loop-leaf
+decreases-loop-leaf g l = length l.leaves

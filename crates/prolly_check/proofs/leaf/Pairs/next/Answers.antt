@@ -13,3 +13,7 @@ returns-clause-next c = sym c.self.view_is ∙ next_pair c.self.inside.entries.n
 pub returns-in_err-key-clause-next : goal.returns-in_err-key-clause-next
 returns-in_err-key-clause-next c = rw c.from_residual.ensures (sym c.self.view_is ∙
     no_next c.self.inside.entries.now c.in_err-key.ensures.none c.self.invariant)
+
+pub returns-in_err-key-clause-none : goal.returns-in_err-key-clause-none
+returns-in_err-key-clause-none c = rw c.from_residual.ensures (sym c.self.view_is ∙
+    no_next c.self.inside.entries.now c.in_err-key.ensures.none c.self.invariant)

@@ -1,0 +1,6 @@
+use Rattle.prolly_check.proofs.HeldPairs.{map_holds}
+use Rattle.prolly_check.proofs.leaves.Leaves.new.Goals as goal
+
+pub returns : goal.returns
+returns c = (map_holds c.args.file.version c.args.file.bits c.args.file.pairs
+    c.requires.is.lawful).are
