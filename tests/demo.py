@@ -56,6 +56,8 @@ def printed():
         *(f"{word.decode()} {count.decode()}" for word, count in from_p),
         report(both, BITS, 2).decode().strip(),
         f"{both[0][0].decode()} {both[0][1].decode()}",
+        report(both, BITS).decode().strip(),
+        "the two chunk files are the same",
         *cut_short(words, cut),
     ]
 

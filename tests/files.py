@@ -28,15 +28,17 @@ WRITERS = {
     "build": (["build", "--bits", "0", "out", "a.rec", "b.rec"], None, TREE, TOLD),
     "scratch": (["scratch", "--bits", "0", "--out", "out"], records(ABC), TREE, root_text(ABC, 0)),
     "pack": (["pack", "out"], TEXT, A, b"2\n"),
+    "dump": (["dump", "abc.prl", "out"], None, records(ABC), b""),
 }
 """The commands that write OUT: their words, their standard input, and what they make and print."""
 
 FAULTS = {
-    "build": (["build", "--bits", "0", "out", "a.rec", "cut.rec"], None, b"prolly: file 1: record 0 is cut\n"),
-    "scratch": (["scratch", "--bits", "0", "--out", "out"], b"\0", b"prolly: file 0: record 0 is cut\n"),
-    "pack": (["pack", "out"], b"6\n", b"prolly: line 0: not a pair in hexadecimal\n"),
+    "build": (["build", "--bits", "0", "out", "a.rec", "cut.rec"], None, 3, b"prolly: file 1: record 0 is cut\n"),
+    "scratch": (["scratch", "--bits", "0", "--out", "out"], b"\0", 3, b"prolly: file 0: record 0 is cut\n"),
+    "pack": (["pack", "out"], b"6\n", 3, b"prolly: line 0: not a pair in hexadecimal\n"),
+    "dump": (["dump", "cut.prl", "out"], None, 4, b"prolly: chunk file: truncated\n"),
 }
-"""The same over inputs that are at fault: their words, their standard input, and the line of the fault."""
+"""The same over inputs that are at fault: their words, their standard input, and the status and line of the fault."""
 
 NO_WRITE = (5, b"", b"prolly: write failed\n")
 
@@ -47,9 +49,10 @@ def refusal(line):
 
 
 def laid(place):
-    """Lays the record files that the commands read."""
-    place.lay(a_rec=A, b_rec=B, cut_rec=b"\0")
-    return {"a_rec": A, "b_rec": B, "cut_rec": b"\0"}
+    """Lays the files that the commands read."""
+    files = {"a_rec": A, "b_rec": B, "cut_rec": b"\0", "abc_prl": TREE, "cut_prl": TREE[:-1]}
+    place.lay(**files)
+    return files
 
 
 # ---- an output that is an input
@@ -64,6 +67,24 @@ def is_an_input(place, words, name):
     place.holds(a_rec=A, b_rec=B, hard=A, soft=A)
 
 
+def is_the_dumped_file(place, words, name):
+    """`dump` over the file that it is to read, under its name or another."""
+    place.lay(in_prl=TREE)
+    os.link(place.path("in.prl"), place.path("hard"))
+    place.path("soft").symlink_to("in.prl")
+    place.answers(place.run("dump", *words), refusal(b"OUT is also an input: " + name))
+    place.holds(in_prl=TREE, hard=TREE, soft=TREE)
+
+
+def is_dumped_to_itself(place):
+    """`dump` to a standard output that is the file which it is to read."""
+    place.lay(in_prl=TREE)
+    with open(place.path("in.prl"), "ab") as stdout:
+        answer = place.run("dump", "in.prl", stdout=stdout)
+    place.answers(answer, refusal(b"OUT is also an input: in.prl"))
+    place.holds(in_prl=TREE)
+
+
 def is_standard_input(place, words):
     """OUT is the file behind standard input."""
     place.lay(in_rec=A)
@@ -76,11 +97,11 @@ def is_standard_input(place, words):
 
 def is_standard_output(place, words, mode):
     """OUT is the file behind standard output, which the shell has emptied, or to the end of which it writes."""
-    place.lay(log=BEFORE, a_rec=A)
+    place.lay(log=BEFORE, a_rec=A, abc_prl=TREE)
     with open(place.path("log"), mode) as stdout:
         answer = place.run(*words, stdin=A, stdout=stdout)
     place.answers(answer, refusal(b"OUT is also standard output"))
-    place.holds(log=BEFORE if mode == "ab" else b"", a_rec=A)
+    place.holds(log=BEFORE if mode == "ab" else b"", a_rec=A, abc_prl=TREE)
 
 
 def is_a_device(place):
@@ -116,12 +137,12 @@ def is_replaced(place, command, flags):
 
 def stays(place, command, flags, before):
     """After a fault OUT is as it was, and nothing stands beside it."""
-    words, given, line = FAULTS[command]
+    words, given, status, line = FAULTS[command]
     files = laid(place)
     if before is not None:
         place.lay(out=before)
         files["out"] = before
-    place.answers(place.run(*words, *flags, stdin=given or b""), (3, b"", line))
+    place.answers(place.run(*words, *flags, stdin=given or b""), (status, b"", line))
     place.holds(**files)
 
 
@@ -171,7 +192,7 @@ def is_not_replaced(place, name):
 
 def needs_its_folder(place):
     """A folder in which no file can be made, and a file that may not be written."""
-    laid(place)
+    files = laid(place)
     place.lay(out=BEFORE)
     place.path("out").chmod(0o444)
     words = WRITERS["build"][0]
@@ -181,7 +202,7 @@ def needs_its_folder(place):
     place.folder.chmod(0o555)
     place.answers(place.run(*words, "--atomic", is_nobody=True), refusal(b"cannot replace out"))
     place.folder.chmod(0o755)
-    place.holds(out=BEFORE, a_rec=A, b_rec=B, cut_rec=b"\0")
+    place.holds(out=BEFORE, **files)
 
 
 def one_of_two(place):
@@ -280,8 +301,8 @@ def is_on_the_disk(place, command, flags):
     place.answers(answer, (0, told, b""))
     kinds = [line.split()[0] for line in calls if line.split()[0] in ("write", "fsync", "rename")]
     order = [kind for at, kind in enumerate(kinds) if at == 0 or kinds[at - 1] != kind or kind == "fsync"]
-    wanted = ["write", "fsync", *(["rename"] if "--atomic" in flags else []), "fsync", "write"]
-    if order != wanted or calls[-1] != "write 1":
+    wanted = ["write", "fsync", *(["rename"] if "--atomic" in flags else []), "fsync", *(["write"] if told else [])]
+    if order != wanted or (told and calls[-1] != "write 1"):
         place.note(f"calls {calls}")
     place.holds(out=made, given=None, **files)
 
@@ -448,6 +469,14 @@ def is_read_in_part(place):
         place.note(f"standard output {done.stdout[:100]}")
 
 
+def is_dumped_in_part(place):
+    """The same, of a record file: `dump | head -c 1`."""
+    place.lay(big_prl=chunk_file(numbered(20_000), 4))
+    line = f"set -o pipefail; '{place.program}' dump big.prl | head -c 1"
+    done = subprocess.run(["bash", "-c", line], cwd=place.folder, capture_output=True, check=False)
+    place.answers((done.returncode, done.stdout, done.stderr), (5, b"\0", b"prolly: write failed\n"))
+
+
 def is_full(place):
     """A full device, for a tree of several megabytes."""
     place.lay(in_rec=records(numbered(100_000)))
@@ -466,9 +495,12 @@ def tests():
     for words, name in zip(same, names, strict=True):
         yield f"OUT is an input: {' '.join(words)}", partial(is_an_input, words=words, name=name)
         yield f"OUT is an input, atomic: {' '.join(words)}", partial(is_an_input, words=["--atomic", *words], name=name)
+    for words in (["in.prl", "in.prl"], ["in.prl", "./in.prl"], ["in.prl", "hard"], ["in.prl", "soft"], ["soft", "in.prl"], ["--atomic", "in.prl", "in.prl"]):
+        name = b"soft" if words[0] == "soft" else b"in.prl"
+        yield f"OUT is dumped: {' '.join(words)}", partial(is_the_dumped_file, words=words, name=name)
     for words in (["pack", "in.rec"], ["scratch", "--out", "in.rec"], ["scratch", "--atomic", "--out", "in.rec"], ["build", "in.rec", "/dev/stdin"]):
         yield f"OUT is standard input: {' '.join(words)}", partial(is_standard_input, words=words)
-    for words in (["build", "/dev/stdout", "a.rec"], ["build", "log", "a.rec"], ["scratch", "--out", "log"], ["pack", "log"], ["pack", "--atomic", "log"]):
+    for words in (["build", "/dev/stdout", "a.rec"], ["build", "log", "a.rec"], ["scratch", "--out", "log"], ["pack", "log"], ["pack", "--atomic", "log"], ["dump", "abc.prl", "log"]):
         for mode in ("wb", "ab"):
             yield f"OUT is standard output, {mode}: {' '.join(words)}", partial(is_standard_output, words=words, mode=mode)
     for command in WRITERS:
@@ -488,7 +520,7 @@ def tests():
                     yield f"{command} {' '.join(flags_of)}: sync {number} fails", partial(fails, command=command, flags=flags_of, call="fsync", number=number, wanted=NO_WRITE)
         for call in ("rename", "fchmod"):
             yield f"{command}: {call} fails", partial(fails, command=command, flags=["--atomic"], call=call, number=1, wanted=refusal(b"cannot replace out"))
-    for words, out in ((["check", "abc.prl"], None), (["get", "abc.prl", "61"], b"31\n"), (["scan", "abc.prl", "62", "1"], b"62 31\n"), (["nth", "abc.prl", "0"], b"61 31\n")):
+    for words, out in ((["check", "abc.prl"], None), (["get", "abc.prl", "61"], b"31\n"), (["scan", "abc.prl", "62", "1"], b"62 31\n"), (["nth", "abc.prl", "0"], b"61 31\n"), (["dump", "abc.prl"], records(ABC))):
         yield f"interrupted: {' '.join(words)}", partial(look_up_is_interrupted, words=words, out=out)
     for name in ("folder", "pipe", "/dev/null"):
         yield f"not replaced: {name}", partial(is_not_replaced, name=name)
@@ -497,9 +529,9 @@ def tests():
             yield f"ended by {name} {' '.join(flags)}", partial(is_ended, name=name, flags=flags)
     for is_told in (False, True):
         yield f"limited in size, the signal {'ignored' if is_told else 'as it is'}", partial(is_limited_in_size, is_told=is_told)
-    alone = [is_a_device, is_told_early, keeps_its_mode, follows_links, passes_names, needs_its_folder, one_of_two]
+    alone = [is_dumped_to_itself, is_a_device, is_told_early, keeps_its_mode, follows_links, passes_names, needs_its_folder, one_of_two]
     alone += [no_write_after_a_failed_one, is_not_on_the_disk, has_few_files, has_few_threads, has_little_room, is_a_pipe, is_a_link]
-    alone += [is_read_only, is_shown_escaped, is_process_substitution, grows, is_read_in_part, is_full]
+    alone += [is_read_only, is_shown_escaped, is_process_substitution, grows, is_read_in_part, is_dumped_in_part, is_full]
     for test in alone:
         yield test.__name__.replace("_", " "), test
 

@@ -64,6 +64,9 @@ def commands():
         Command("get of no pair", ["get", "abc.prl", "7a"], status=1, before=reads),
         Command("scan", ["scan", "abc.prl", "62", "5"], out=b"62 31\n63 31\n", before=reads),
         Command("nth", ["nth", "counted.prl", "2"], out=b"63 31\n", before=reads),
+        Command("dump", ["dump", "abc.prl"], out=records(ABC), before=reads),
+        Command("dump to a file", ["dump", "abc.prl", "out.rec"], before=reads, made="out.rec", whole=records(ABC)),
+        Command("atomic dump", ["dump", "--atomic", "--sync", "abc.prl", "out.rec"], before=reads, made="out.rec", whole=records(ABC)),
     ]
 
 

@@ -137,7 +137,7 @@ def damaged():
 
 def unread():
     """Files that can't be opened or read, for each command."""
-    words = [["check", "in"], ["get", "in", "61"], ["scan", "in", "", "1"], ["nth", "in", "0"]]
+    words = [["check", "in"], ["get", "in", "61"], ["scan", "in", "", "1"], ["nth", "in", "0"], ["dump", "in"]]
     cut = chunk_file(ABC, 0)[:-1]
     return (
         [Case(f"{w[0]}: a file that is not there", w, status=5, err=b"prolly: cannot open in\n") for w in words]

@@ -231,11 +231,13 @@ def asked(chance, pairs, bits, version):
     """A question, and what a lawful file of these pairs answers: the words, the status, the output and the fault."""
     lines = [found.hex().encode() + b" " + put.hex().encode() + b"\n" for found, put in pairs]
     wanted = chance.choice([key(chance), *(found for found, _ in pairs[:20])])
-    kind = chance.choice(["check", "get", "scan", "nth"])
+    kind = chance.choice(["check", "get", "scan", "nth", "dump"])
     if kind == "check":
         top = tree(pairs, bits, version)
         text = f"ok {reference_text(top.reference)} {bits} {len(list(top.trees()))}\n"
         return ["check", "in.prl"], 0, text.encode(), b""
+    if kind == "dump":
+        return ["dump", "in.prl"], 0, b"".join(record(*pair) for pair in pairs), b""
     if kind == "get":
         put = dict(pairs).get(wanted)
         return ["get", "in.prl", wanted.hex()], *((1, b"", b"") if put is None else (0, put.hex().encode() + b"\n", b""))

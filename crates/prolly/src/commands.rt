@@ -13,12 +13,13 @@ use prolly_fault::RunFault;
 use prolly_file::{Buffered, FromRead, Sink, ToWrite};
 use prolly_stage::OpenGate;
 use prolly_tool::{
-    Answer, Command, Config, Fault, NameFault, WriteMode, answer_build, answer_check, answer_get,
-    answer_nth, answer_pack, answer_scan, answer_scratch,
+    Answer, Command, Config, Fault, NameFault, WriteMode, answer_build, answer_check, answer_dump,
+    answer_get, answer_nth, answer_pack, answer_scan, answer_scratch,
 };
 use std::alloc::AllocError;
 use std::fs;
 use std::fs::File;
+use std::io::Write;
 use std::sync::Wait;
 use std::thread::Threads;
 
@@ -90,6 +91,10 @@ fn answer_or_refusal<T: Wait + Threads + Sync>(
             let mut source = opened(rt, &file)?;
             Ok(answer_nth(rt.alloc(), &mut source, n)?)
         }
+        Command::Dump { file, out, mode } => match out {
+            None => dump(rt, &file),
+            Some(out) => dump_to(rt, &file, &out, mode),
+        },
     }
 }
 
@@ -139,12 +144,49 @@ fn scratch_to(
     Ok(output.finish(rt, out, answer)?)
 }
 
+/// `dump FILE`
+fn dump(rt: &HostRuntime, file: &str) -> Result<Answer, Refusal> {
+    let source = opened_beside(rt, file, FileId::at(rt, STDOUT))?;
+    Ok(dump_into(rt, source, rt.stdout())?)
+}
+
+/// `dump FILE OUT [--atomic] [--sync]`
+fn dump_to(rt: &HostRuntime, file: &str, out: &str, mode: WriteMode) -> Result<Answer, Refusal> {
+    let target = FileId::at(rt, out);
+    let source = opened_beside(rt, file, target)?;
+    let output = output_of(rt, out, target, mode)?;
+    let answer = dump_into(rt, source, output.file());
+    Ok(output.finish(rt, out, answer)?)
+}
+
+/// Writes the record file of the source's pairs.
+fn dump_into<W: Write + Drop>(
+    rt: &HostRuntime,
+    mut source: FromRead<File>,
+    writer: W,
+) -> Result<Answer, AllocError> {
+    let mut sink = Buffered::with_capacity(rt.alloc(), OUTPUT_BYTES, ToWrite::new(writer))?;
+    answer_dump(rt.alloc(), &mut source, &mut sink)
+}
+
 /// The file of this name, to be read.
 fn opened(rt: &HostRuntime, name: &str) -> Result<FromRead<File>, Refusal> {
-    match fs::open(rt, name) {
-        Ok(file) => Ok(FromRead::new(file)),
-        Err(_) => Err(Refusal::of_name(rt, NameFault::CannotOpen, name)),
+    opened_beside(rt, name, None)
+}
+
+/// The file of this name, to be read, where it is not the one that is to be written.
+fn opened_beside(
+    rt: &HostRuntime,
+    name: &str,
+    target: Option<FileId>,
+) -> Result<FromRead<File>, Refusal> {
+    let Ok(file) = fs::open(rt, name) else {
+        return Err(Refusal::of_name(rt, NameFault::CannotOpen, name));
+    };
+    if target.is_some() && target == FileId::of(file.metadata()) {
+        return Err(Refusal::of_name(rt, NameFault::IsInput, name));
     }
+    Ok(FromRead::new(file))
 }
 
 /// The output of a command that reads standard input.
@@ -189,13 +231,7 @@ fn build_from<T: Wait + Threads + Sync>(
     let target = FileId::at(rt, out);
     let mut sources = Vec::with_capacity(rt.alloc(), files.len())?;
     for name in files {
-        let Ok(file) = fs::open(rt, name.as_str()) else {
-            return Err(Refusal::of_name(rt, NameFault::CannotOpen, name));
-        };
-        if target.is_some() && target == FileId::of(file.metadata()) {
-            return Err(Refusal::of_name(rt, NameFault::IsInput, name));
-        }
-        if sources.push(FromRead::new(file)).is_err() {
+        if sources.push(opened_beside(rt, name, target)?).is_err() {
             return Err(Refusal::Memory);
         }
     }
@@ -204,7 +240,7 @@ fn build_from<T: Wait + Threads + Sync>(
     Ok(output.finish(rt, out, answer)?)
 }
 
-/// How many bytes are written to a chunk file at once.
+/// How many bytes are written to an output at once.
 const OUTPUT_BYTES: usize = 65_536;
 
 /// Builds the tree of the sources into the file.

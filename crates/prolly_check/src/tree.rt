@@ -1,11 +1,8 @@
 //! A chunk file that was checked.
 ghost use Rattle.std.specs.Prelude.{◌≡◌, ◌↔◌, ◌^◌, ◌<◌, length, IfOk, IfErr, IsErr, Err};
-ghost use Rattle.std.specs.List.{AllByRecursion};
 ghost use Rattle.std.specs.Option.{option_copied};
-ghost use Rattle.prolly_entry.specs.Pair.{IsPair};
 ghost use Rattle.prolly_tree.specs.Chunk.{chunks};
 ghost use Rattle.prolly_entry.specs.Cut.{sha512_cut};
-ghost use Rattle.prolly_tree.specs.Difference.{IsMap};
 ghost use Rattle.prolly_tree.specs.File.{root_reference};
 ghost use Rattle.prolly_tree.specs.LookUp.{find, nth, scan};
 ghost use Rattle.prolly_tree.specs.RecordFile.{record_file};
@@ -59,6 +56,10 @@ impl Model for Tree {
 }
 
 impl Tree {
+    ghost use Rattle.std.specs.List.{AllByRecursion};
+    ghost use Rattle.prolly_entry.specs.Pair.{IsPair};
+    ghost use Rattle.prolly_tree.specs.Difference.{IsMap};
+
     /// The tree of the bytes of a file.
     pub(crate) fn of(alloc: Global, bytes: Vec<u8>) -> Result<Tree, CheckFault>
         ensures same { IfOk result (λ tree. tree ≡ bytes.items) }

@@ -86,6 +86,15 @@ fn commands_have_their_fields(rt: HostRuntime) -> Result<(), Fail> {
             "nth a.prl 4294967295",
             "Nth { file: \"a.prl\", n: 4294967295 }",
         ),
+        (
+            "dump a.prl",
+            "Dump { file: \"a.prl\", out: None, mode: WriteMode { atomic: false, sync: false } }",
+        ),
+        (
+            "dump --sync a.prl --atomic a.rec",
+            "Dump { file: \"a.prl\", out: Some(\"a.rec\"), \
+             mode: WriteMode { atomic: true, sync: true } }",
+        ),
     ];
     for (line, expected) in cases {
         let text = shown(alloc, line)?;
@@ -105,6 +114,8 @@ fn words_out_of_range_are_usage(rt: HostRuntime) -> Result<(), Fail> {
         "build --stages 0 out.prl",
         "scan a.prl 00 1000001",
         "nth a.prl 4294967296",
+        "dump",
+        "dump a.prl a.rec b.rec",
         "forget a.prl",
     ];
     for line in lines {

@@ -4,6 +4,7 @@ use prolly_tool::Answer;
 use std::process::Abort;
 
 mod build_answers;
+mod dump_answers;
 mod pack_answers;
 mod packing;
 mod scratch_answers;

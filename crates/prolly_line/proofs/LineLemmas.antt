@@ -10,7 +10,7 @@ use Rattle.prolly_line.specs.Accepted.{Answers, IsRefusedAt}
 use Rattle.prolly_line.specs.Given.{HasFields, IsGivenBy, IsRefusalOf, IsRefusedBy, IsWithinLimits}
 use Rattle.prolly_line.specs.Line.{line_faults, line_given, program_line}
 use Rattle.prolly_line.specs.declared.command.Command.{Command}
-use Rattle.prolly_line.specs.declared.command.Command.TheVariants.{Pack, Scratch, Build, Check, Get, Scan, Nth}
+use Rattle.prolly_line.specs.declared.command.Command.TheVariants.{Pack, Scratch, Build, Check, Get, Scan, Nth, Dump}
 use Rattle.prolly_line.specs.declared.command.ParseFault.{ParseFault}
 use Rattle.prolly_line.specs.declared.command.ParseFault.TheVariants.{Memory, Usage, Help, BadKey}
 
@@ -94,4 +94,5 @@ limits_kept given (Ok command) fields = go command fields
     go (Get file key) h = h.2.2.1
     go (Scan file from limit) h = (h.2.2.1, h.3.2)
     go (Nth file n) h = h.2.2
+    go (Dump file out mode) h = tt
 limits_kept given (Err fault) refused = tt

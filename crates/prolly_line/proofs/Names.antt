@@ -1,4 +1,4 @@
--- An accepted subcommand is one of the seven.
+-- An accepted subcommand is one of the eight.
 use Rattle.std.proofs.Common.{◌≡◌, ◌∙◌, List, false, true, refl, sym, subst, codes}
 use Rattle.std.specs.Str.{bytes_eq}
 use Rattle.std.proofs.lemmas.Slice.Eq.{bytes_eq-Decides}
@@ -20,6 +20,7 @@ pub record IsStrange (name : Text) : Type 0 where
   pub get : name ≡ codes "get" → ⊥
   pub scan : name ≡ codes "scan" → ⊥
   pub nth : name ≡ codes "nth" → ⊥
+  pub dump : name ≡ codes "dump" → ⊥
   pub help : name ≡ codes "help" → ⊥
 
 -- no subcommand of the line has such a name
@@ -33,7 +34,7 @@ none_strange = (
       (λ strange. strange.build refl),
       (
         (λ strange. strange.check refl),
-        ((λ strange. strange.get refl), ((λ strange. strange.scan refl), ((λ strange. strange.nth refl), ((λ strange. strange.help refl), tt)))),
+        ((λ strange. strange.get refl), ((λ strange. strange.scan refl), ((λ strange. strange.nth refl), ((λ strange. strange.dump refl), ((λ strange. strange.help refl), tt))))),
       ),
     ),
   ),
@@ -49,11 +50,12 @@ not_help given accepted is =
     let bad : true ≡ false = sym same ∙ past in
     cc
 
--- and so an accepted subcommand has the name of one of the seven
+-- and so an accepted subcommand has the name of one of the eight
 pub not_strange : (name : Text) (rows : List Row) → IsAccepted (name, rows)
     → (name ≡ codes "pack" → ⊥) → (name ≡ codes "scratch" → ⊥) → (name ≡ codes "build" → ⊥) → (name ≡ codes "check" → ⊥)
-    → (name ≡ codes "get" → ⊥) → (name ≡ codes "scan" → ⊥) → (name ≡ codes "nth" → ⊥) → ⊥
-not_strange name rows accepted pack scratch build check get scan nth =
+    → (name ≡ codes "get" → ⊥) → (name ≡ codes "scan" → ⊥) → (name ≡ codes "nth" → ⊥)
+    → (name ≡ codes "dump" → ⊥) → ⊥
+not_strange name rows accepted pack scratch build check get scan nth dump =
     let level = accepted_level accepted.0 (name, rows) accepted.1 accepted.2 in
     let is : level.0.name ≡ name = found_name name (built program_line).subs level.0 no_aliases level.1 in
     found_sound (λ s. answers_to name (label_of s)) (λ s. IsStrange s.name → ⊥) (built program_line).subs level.0 none_strange level.1
@@ -66,5 +68,6 @@ not_strange name rows accepted pack scratch build check get scan nth =
       get = get;
       scan = scan;
       nth = nth;
+      dump = dump;
       help = not_help (name, rows) accepted;
     }))

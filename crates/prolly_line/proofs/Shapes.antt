@@ -7,7 +7,7 @@ use Rattle.clap.proofs.OnLiterals.{clap_on_literals}
 use Rattle.prolly_line.proofs.Levels.{level_at, number_at, shape_at, word_at}
 use Rattle.prolly_line.proofs.Passes.{Each, IsSound}
 use Rattle.prolly_line.specs.Accepted.{HasNumber, HasWord, IsAccepted}
-use Rattle.prolly_line.specs.Line.{build_line, check_line, get_line, nth_line, pack_line, program_line, scan_line, scratch_line}
+use Rattle.prolly_line.specs.Line.{build_line, check_line, dump_line, get_line, nth_line, pack_line, program_line, scan_line, scratch_line}
 
 -- a subcommand as it is built under the program's line
 abbrev built_of : App → Shape
@@ -239,4 +239,28 @@ takes_nth rows accepted =
     record {
       file = word_at nth_shape rows (codes "file") nth_sound level refl refl;
       n = number_at nth_shape rows (codes "n") 0 4294967295 nth_sound level refl refl;
+    }
+
+-- ---- dump
+
+unfoldable dump_shape : Shape
+dump_shape = built_of dump_line
+
+dump_found : shape_at (codes "dump") ≡ Some dump_shape
+unfolding clap_on_literals dump_shape
+dump_found = refl
+
+dump_sound : IsSoundShape dump_shape
+unfolding clap_on_literals dump_shape
+dump_sound = ((refl, refl), ((refl, refl), ((refl, refl), ((refl, refl), ((refl, refl), tt)))))
+
+pub record TakesDump (rows : List Row) : Type 0 where
+  pub file : HasWord (codes "file") rows
+
+pub takes_dump : (rows : List Row) → IsAccepted (codes "dump", rows) → TakesDump rows
+unfolding clap_on_literals dump_shape
+takes_dump rows accepted =
+    let level = level_at (codes "dump") dump_shape rows dump_found accepted in
+    record {
+      file = word_at dump_shape rows (codes "file") dump_sound level refl refl;
     }

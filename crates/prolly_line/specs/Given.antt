@@ -8,7 +8,7 @@ use Rattle.clap.specs.declared.error.kind.ErrorKind.TheVariants.{DisplayHelp, Ou
 use Rattle.prolly_line.specs.Line.{line_faults, line_given}
 use Rattle.prolly_line.specs.declared.command.Command.{Command}
 use Rattle.prolly_line.specs.declared.command.WriteMode.{WriteMode}
-use Rattle.prolly_line.specs.declared.command.Command.TheVariants.{Pack, Scratch, Build, Check, Get, Scan, Nth}
+use Rattle.prolly_line.specs.declared.command.Command.TheVariants.{Pack, Scratch, Build, Check, Get, Scan, Nth, Dump}
 use Rattle.prolly_line.specs.declared.command.ParseFault.{ParseFault}
 use Rattle.prolly_line.specs.declared.command.ParseFault.TheVariants.{Memory, Usage, Help, BadKey}
 
@@ -100,6 +100,11 @@ HasFields (Nth file n) given =
     (given.0 ≡ codes "nth")
     × GivesWord given.1 (codes "file") (string_bytes file)
     × GivesNumber given.1 (codes "n") 0 4294967295 n
+HasFields (Dump file out mode) given =
+    (given.0 ≡ codes "dump")
+    × GivesWord given.1 (codes "file") (string_bytes file)
+    × GivesOption given.1 (codes "out") (option_map string_bytes out)
+    × GivesMode given.1 mode
 
 -- clap takes the words, and the command is what they give
 abbrev pub IsGivenBy : List Text → Command → Type 0
@@ -122,6 +127,7 @@ IsWithinLimits (Check file) = ⊤
 IsWithinLimits (Get file key) = length key.items ≤ 1024
 IsWithinLimits (Scan file from limit) = (length from.items ≤ 1024) × (limit ≤ 1000000)
 IsWithinLimits (Nth file n) = n ≤ 4294967295
+IsWithinLimits (Dump file out mode) = ⊤
 
 -- ---- refusals
 

@@ -31,6 +31,10 @@ word_rule name = record (new_rule name) { required = true; value_names = 1 }
 abbrev pub number_word : Text → ℕ → ℕ → Rule
 number_word name least most = record (word_rule name) { parser = Some (Signed (pos least) (pos most)) }
 
+-- a word that may be missing
+abbrev pub optional_word : Text → Rule
+optional_word name = record (new_rule name) { value_names = 1 }
+
 -- any number of words
 abbrev pub words_rule : Text → Rule
 words_rule name = record (new_rule name) {
@@ -67,6 +71,9 @@ sync_flag = flag (codes "sync")
 
 abbrev pub out_word : Rule
 out_word = word_rule (codes "out")
+
+abbrev pub optional_out_word : Rule
+optional_out_word = optional_word (codes "out")
 
 abbrev pub file_word : Rule
 file_word = word_rule (codes "file")
@@ -117,6 +124,11 @@ scan_line = with_rule (with_rule (with_rule (new_app (codes "scan")) file_word) 
 abbrev pub nth_line : App
 nth_line = with_rule (with_rule (new_app (codes "nth")) file_word) n_word
 
+-- `dump [--atomic] [--sync] FILE [OUT]`
+abbrev pub dump_line : App
+dump_line = with_rule (with_rule (with_rule (with_rule (new_app (codes "dump")) atomic_flag) sync_flag) file_word)
+    optional_out_word
+
 -- ---- the whole line
 
 -- what stands above the subcommands: one of them has to be named, by the first word
@@ -126,8 +138,8 @@ bare_line = on_top (λ s. record s { no_binary_name = true; subcommand_required 
 -- the words after the program's name, in the order in which one uses the subcommands
 abbrev pub program_line : App
 program_line = with_subcommand (with_subcommand (with_subcommand (with_subcommand (with_subcommand (with_subcommand
-    (with_subcommand bare_line pack_line.top) scratch_line.top) build_line.top) check_line.top) get_line.top)
-    scan_line.top) nth_line.top
+    (with_subcommand (with_subcommand bare_line pack_line.top) scratch_line.top) build_line.top) check_line.top) get_line.top)
+    scan_line.top) nth_line.top) dump_line.top
 
 -- the kinds of error that clap may give at the words; none where it takes them
 unfoldable pub line_faults : List Text → Kinds

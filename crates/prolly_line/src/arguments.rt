@@ -3,7 +3,8 @@ ghost use Rattle.prolly_line.specs.Line.{atomic_flag, batch_option, bits_option,
 ghost use Rattle.prolly_line.specs.Line.{file_word, files_words, flag, format_option, key_word};
 ghost use Rattle.prolly_line.specs.Line.{limit_word};
 ghost use Rattle.prolly_line.specs.Line.{max_records_option, n_word, number_option, number_word};
-ghost use Rattle.prolly_line.specs.Line.{out_option, out_word, stages_option, sync_flag, word_rule};
+ghost use Rattle.prolly_line.specs.Line.{optional_out_word, out_option, out_word, stages_option};
+ghost use Rattle.prolly_line.specs.Line.{sync_flag, word_rule};
 ghost use Rattle.prolly_line.specs.Local.{IsReadBy};
 
 use clap::builder::ValueParser;
@@ -143,6 +144,15 @@ pub(crate) fn out_word<'a>(alloc: Global, what: &'a str) -> Arg<'a>
     ensures { IsReadBy out_word result }
 {
     required_word(alloc, "out", "OUT").help(what)
+}
+
+/// `[OUT]`, the record file that a subcommand makes in place of what it prints.
+pub(crate) fn optional_out_word<'a>(alloc: Global) -> Arg<'a>
+    ensures { IsReadBy optional_out_word result }
+{
+    Arg::new(alloc, "out").value_name("OUT").help(
+        "The record file to make; without it, it is written to standard output",
+    )
 }
 
 /// `FILE`, the chunk file that a subcommand reads.

@@ -68,6 +68,13 @@ pub enum Command {
         file: String,
         n: u64,
     },
+    /// Write the pairs of a file as a record file: to standard output where there is no output,
+    /// and then the mode says nothing.
+    Dump {
+        file: String,
+        out: Option<String>,
+        mode: WriteMode,
+    },
 }
 
 /// Why the words give no command.
@@ -140,6 +147,7 @@ fn command_of(alloc: Global, name: &str, given: &ArgMatches<'_>) -> Result<Comma
         "get" => fields::get(alloc, given),
         "scan" => fields::scan(alloc, given),
         "nth" => fields::nth(alloc, given),
+        "dump" => fields::dump(alloc, given),
         _ => unreachable!(),
     }
 }

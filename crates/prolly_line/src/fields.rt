@@ -102,3 +102,14 @@ pub(crate) fn nth(alloc: Global, given: &ArgMatches<'_>) -> Result<Command, Pars
     let file = text_of(alloc, given, "file")?;
     Ok(Command::Nth { file, n })
 }
+
+/// `dump [--atomic] [--sync] FILE [OUT]`
+pub(crate) fn dump(alloc: Global, given: &ArgMatches<'_>) -> Result<Command, ParseFault>
+    requires { IsAccepted (codes "dump", rows_in given.now) }
+    ensures { Answers (codes "dump", rows_in given.now) result }
+{
+    let file = text_of(alloc, given, "file")?;
+    let out = option_of(alloc, given, "out")?;
+    let mode = mode_of(given);
+    Ok(Command::Dump { file, out, mode })
+}

@@ -2,8 +2,8 @@
 ghost use Rattle.std.specs.Prelude.{IfOk};
 ghost use Rattle.clap.specs.Words.{App, with_rule};
 ghost use Rattle.prolly_line.specs.Line.{atomic_flag, sync_flag};
-ghost use Rattle.prolly_line.specs.Line.{build_line, check_line, get_line, nth_line, pack_line};
-ghost use Rattle.prolly_line.specs.Line.{scan_line, scratch_line};
+ghost use Rattle.prolly_line.specs.Line.{build_line, check_line, dump_line, get_line, nth_line};
+ghost use Rattle.prolly_line.specs.Line.{pack_line, scan_line, scratch_line};
 ghost use Rattle.prolly_line.specs.Local.{HasLine};
 
 use crate::assembly::{described, with_argument};
@@ -87,4 +87,13 @@ pub(crate) fn nth_line<'a>(alloc: Global) -> Result<Command<'a>, AllocError>
 {
     let line = described(alloc, "nth", help::NTH).arg(arguments::file_word(alloc));
     with_argument(line, arguments::n_word(alloc))
+}
+
+/// `dump [--atomic] [--sync] FILE [OUT]`
+pub(crate) fn dump_line<'a>(alloc: Global) -> Result<Command<'a>, AllocError>
+    ensures { IfOk result (HasLine dump_line) }
+{
+    let line = with_mode(alloc, Ok(described(alloc, "dump", help::DUMP)));
+    let line = with_argument(line, arguments::file_word(alloc));
+    with_argument(line, arguments::optional_out_word(alloc))
 }

@@ -20,6 +20,10 @@ pub record Shows (answer : Answer) (status : ℕ) (out err : List ℕ) : Type 0 
 abbrev pub ShowsLine : Answer → List ℕ → Type 0
 ShowsLine answer text = Shows answer 0 (text ++ 0x0A ∷ []) []
 
+-- Done, with nothing to show.
+abbrev pub ShowsDone : Answer → Type 0
+ShowsDone answer = Shows answer 0 [] []
+
 -- Nothing was found: no line, and status 1.
 abbrev pub ShowsNothing : Answer → Type 0
 ShowsNothing answer = Shows answer 1 [] []

@@ -18,3 +18,5 @@ pub mod Answers
 pub mod Build
 -- What the commands that read a chunk file print.
 pub mod LookUps
+-- What the command `dump` answers.
+pub mod Dump

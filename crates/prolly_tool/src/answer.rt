@@ -1,7 +1,7 @@
 //! What the program prints.
 ghost use Rattle.std.specs.Prelude.{IfOk};
-ghost use Rattle.prolly_tool.specs.Answers.{ShowsNothing, ShowsLine, ShowsFault, ShowsName};
-ghost use Rattle.prolly_tool.specs.Answers.{ShowsRefusal};
+ghost use Rattle.prolly_tool.specs.Answers.{ShowsNothing, ShowsLine, ShowsDone, ShowsFault};
+ghost use Rattle.prolly_tool.specs.Answers.{ShowsName, ShowsRefusal};
 
 use crate::fault::Fault;
 use crate::line_parts::append_name;
@@ -34,6 +34,17 @@ impl Answer {
             out,
             err: Vec::new(alloc),
         })
+    }
+
+    /// The answer of a command that is done, and has nothing to show.
+    pub fn of_done(alloc: Global) -> Answer
+        ensures { ShowsDone result }
+    {
+        Answer {
+            status: 0,
+            out: Vec::new(alloc),
+            err: Vec::new(alloc),
+        }
     }
 
     /// The answer of a look-up that found nothing: no line, and a status of its own.

@@ -4,6 +4,7 @@
 mod answer;
 mod build_answer;
 mod check_answer;
+mod dump_answer;
 mod fault;
 mod get_answer;
 mod input;
@@ -19,6 +20,7 @@ mod scratch;
 pub use answer::Answer;
 pub use build_answer::answer_build;
 pub use check_answer::answer_check;
+pub use dump_answer::answer_dump;
 pub use fault::Fault;
 pub use get_answer::answer_get;
 pub use name_fault::NameFault;

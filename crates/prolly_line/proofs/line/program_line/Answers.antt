@@ -9,4 +9,5 @@ returns c =
     let with_check = c.with_subcommand-line-4.ensures _ _ with_build c.check_line.ensures in
     let with_get = c.with_subcommand-line-5.ensures _ _ with_check c.get_line.ensures in
     let with_scan = c.with_subcommand-line-6.ensures _ _ with_get c.scan_line.ensures in
-    c.with_subcommand.ensures _ _ with_scan c.nth_line.ensures
+    let with_nth = c.with_subcommand-line-7.ensures _ _ with_scan c.nth_line.ensures in
+    c.with_subcommand.ensures _ _ with_nth c.dump_line.ensures
