@@ -1,6 +1,6 @@
 //! The entries of leaves.
-ghost use Rattle.std.specs.Prelude.{◌≡◌, ◌↔◌, ◌==◌, ◌≤◌, [], ◌∷◌, true, false, List, length, IsTrue};
-ghost use Rattle.std.specs.Prelude.{IfSome, IfNone, MatchOption};
+ghost use Rattle.std.specs.Prelude.{◌≡◌, ◌↔◌, ◌==◌, ◌≤◌, [], ◌∷◌, true, false, List, length};
+ghost use Rattle.std.specs.Prelude.{IsTrue, IfSome, IfNone, MatchOption};
 ghost use Rattle.prolly_entry.specs.Front.{NoPairAt};
 ghost use Rattle.prolly_entry.specs.Pair.{Pair as PairValue, IsPair};
 ghost use Rattle.prolly_entry.specs.Spelling.{pair_spelling};

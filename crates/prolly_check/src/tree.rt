@@ -5,8 +5,6 @@ ghost use Rattle.prolly_tree.specs.Chunk.{chunks};
 ghost use Rattle.prolly_entry.specs.Cut.{sha512_cut};
 ghost use Rattle.prolly_tree.specs.File.{root_reference};
 ghost use Rattle.prolly_tree.specs.LookUp.{find, nth, scan};
-ghost use Rattle.prolly_tree.specs.RecordFile.{record_file};
-ghost use Rattle.prolly_file.specs.Writes.{Writes};
 ghost use Rattle.prolly_check.specs.Content.{Content};
 ghost use Rattle.prolly_check.specs.Counted.{pair_of};
 ghost use Rattle.prolly_check.specs.Refusal.{UnlessMemory};
@@ -59,6 +57,8 @@ impl Tree {
     ghost use Rattle.std.specs.List.{AllByRecursion};
     ghost use Rattle.prolly_entry.specs.Pair.{IsPair};
     ghost use Rattle.prolly_tree.specs.Difference.{IsMap};
+    ghost use Rattle.prolly_tree.specs.RecordFile.{record_file};
+    ghost use Rattle.prolly_file.specs.Writes.{Writes};
 
     /// The tree of the bytes of a file.
     pub(crate) fn of(alloc: Global, bytes: Vec<u8>) -> Result<Tree, CheckFault>

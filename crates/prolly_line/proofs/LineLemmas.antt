@@ -1,7 +1,9 @@
 -- What clap's clauses say of the program's command line.
 use Rattle.std.proofs.Common.{◌≡◌, ◌∙◌, Bool, List, [], Some, true, refl, sym, ap, subst, inl, inr}
 use Rattle.std.specs.Prelude.{IfErr, IfOk, Result, Ok, Err}
-use Rattle.clap.specs.Words.{App, HasKind, HasMatchesOf, IsAmong, Row, Text, app_of, fault_of, is_simple, is_simple_and_free, kind_of, subcommand_of, subcommand_rows_of}
+use Rattle.clap.specs.Words.{App, HasKind, HasMatchesOf, IsAmong, Row, Text, app_of, fault_of}
+use Rattle.clap.specs.Words.{is_simple, is_simple_and_free, kind_of, subcommand_of}
+use Rattle.clap.specs.Words.{subcommand_rows_of}
 use Rattle.clap.specs.declared.builder.command.Command.{Command as ClapCommand}
 use Rattle.clap.specs.declared.error.Error.{Error}
 use Rattle.clap.specs.declared.parser.matches.ArgMatches.{ArgMatches}
@@ -10,7 +12,8 @@ use Rattle.prolly_line.specs.Accepted.{Answers, IsRefusedAt}
 use Rattle.prolly_line.specs.Given.{HasFields, IsGivenBy, IsRefusalOf, IsRefusedBy, IsWithinLimits}
 use Rattle.prolly_line.specs.Line.{line_faults, line_given, program_line}
 use Rattle.prolly_line.specs.declared.command.Command.{Command}
-use Rattle.prolly_line.specs.declared.command.Command.TheVariants.{Pack, Scratch, Build, Check, Get, Scan, Nth, Dump}
+use Rattle.prolly_line.specs.declared.command.Command.TheVariants.{Pack, Scratch, Build, Check, Get}
+use Rattle.prolly_line.specs.declared.command.Command.TheVariants.{Scan, Nth, Dump}
 use Rattle.prolly_line.specs.declared.command.ParseFault.{ParseFault}
 use Rattle.prolly_line.specs.declared.command.ParseFault.TheVariants.{Memory, Usage, Help, BadKey}
 
@@ -26,53 +29,76 @@ unfolding clap_on_literals
 line_is_free = refl
 
 -- what holds of a command that passes a test holds of the line that it is
-at_line : (P : App → Type 0) (test : App → Bool) (a b : App) → a ≡ b → test b ≡ true → (test a ≡ true → P a) → P b
+at_line : (P : App → Type 0) (test : App → Bool) (a b : App) → a ≡ b → test b ≡ true →
+    (test a ≡ true → P a) → P b
 at_line P test a b e passes h = subst P e (h (ap test e ∙ passes))
 
 -- an error of the command's is one of the line's
 error_at : (c : ClapCommand) (words : List Text) (e : Error) → app_of c ≡ program_line
-    → (is_simple_and_free (app_of c) ≡ true → HasKind (fault_of (app_of c) words) e) → HasKind (line_faults words) e
+    → (is_simple_and_free (app_of c) ≡ true → HasKind (fault_of (app_of c) words) e) →
+    HasKind (line_faults words) e
 unfolding line_faults
 error_at c words e line kinds =
-    at_line (λ a. HasKind (fault_of a words) e) is_simple_and_free (app_of c) program_line line line_is_free kinds
+    at_line (λ a. HasKind (fault_of a words) e) is_simple_and_free (app_of c) program_line line
+    line_is_free kinds
 
 -- words that the command takes are taken by the line
 accepted_at : (c : ClapCommand) (words : List Text) → app_of c ≡ program_line
-    → (is_simple_and_free (app_of c) ≡ true → fault_of (app_of c) words ≡ []) → line_faults words ≡ []
+    → (is_simple_and_free (app_of c) ≡ true → fault_of (app_of c) words ≡ []) →
+    line_faults words ≡ []
 unfolding line_faults
 accepted_at c words line kinds =
-    at_line (λ a. fault_of a words ≡ []) is_simple_and_free (app_of c) program_line line line_is_free kinds
+    at_line (λ a. fault_of a words ≡ []) is_simple_and_free (app_of c) program_line line
+    line_is_free kinds
 
 -- and give what the command's matches have
 given_at : (c : ClapCommand) (words : List Text) (m : ArgMatches) → app_of c ≡ program_line
     → HasMatchesOf (app_of c) words m → line_given words ≡ subcommand_rows_of m
 unfolding line_given
 given_at c words m line matches =
-    sym (at_line (λ a. subcommand_rows_of m ≡ subcommand_of a words) is_simple (app_of c) program_line line line_is_simple (λ s. (matches s).1))
+    sym (at_line (λ a. subcommand_rows_of m ≡ subcommand_of a words) is_simple (app_of c)
+    program_line line line_is_simple (λ s. (matches s).1))
 
 -- the words are accepted, and give what the matches have
-pub entered_at : (c : ClapCommand) (words : List Text) (m : ArgMatches) (given : Text × List Row) → app_of c ≡ program_line
-    → (is_simple_and_free (app_of c) ≡ true → fault_of (app_of c) words ≡ []) → HasMatchesOf (app_of c) words m
+pub entered_at : (c : ClapCommand) (words : List Text) (m : ArgMatches) (given : Text × List Row) →
+    app_of c ≡ program_line
+    → (is_simple_and_free (app_of c) ≡ true → fault_of (app_of c) words ≡ []) →
+    HasMatchesOf (app_of c) words m
     → subcommand_rows_of m ≡ Some given → (line_faults words ≡ []) × (line_given words ≡ Some given)
-entered_at c words m given line kinds matches is = (accepted_at c words line kinds, given_at c words m line matches ∙ is)
+entered_at c words m given line kinds matches is =
+    (accepted_at c words line kinds, given_at c words m line matches ∙ is)
 
 -- ---- the answer
 
 -- an error of clap's at the words
-pub refused_by : (c : ClapCommand) (words : List Text) (e : Error) (fault : ParseFault) → app_of c ≡ program_line
-    → (is_simple_and_free (app_of c) ≡ true → HasKind (fault_of (app_of c) words) e) → IsRefusalOf (kind_of e) fault → IsRefusedBy words fault
+pub refused_by : (c : ClapCommand) (words : List Text) (e : Error) (fault : ParseFault) →
+    app_of c ≡ program_line
+    → (is_simple_and_free (app_of c) ≡ true → HasKind (fault_of (app_of c) words) e) →
+    IsRefusalOf (kind_of e) fault → IsRefusedBy words fault
 refused_by c words e fault line kinds refusal = go fault (error_at c words e line kinds) refusal
   where
-    go : (fault : ParseFault) → HasKind (line_faults words) e → IsRefusalOf (kind_of e) fault → IsRefusedBy words fault
+    go : (fault : ParseFault) → HasKind (line_faults words) e → IsRefusalOf (kind_of e) fault →
+        IsRefusedBy words fault
     go Memory k r = tt
-    go (Usage text) k r = elim k [ inl memory ↦ absurd (r.0 memory) | inr among ↦ (kind_of e, among, r.1) ]
-    go (Help text) k r = elim k [ inl memory ↦ cc | inr among ↦ subst (λ kind. IsAmong kind (line_faults words)) r among ]
+    go (Usage text) k r = elim k [
+      | inl memory ↦ absurd (r.0 memory)
+      | inr among ↦
+          (kind_of e, among, r.1)
+    ]
+    go (Help text) k r = elim k [
+      | inl memory ↦ cc
+      | inr among ↦
+          subst (λ kind. IsAmong kind (line_faults words)) r among
+    ]
     go BadKey k r = absurd r
 
 -- the answer to the subcommand is the answer to the words
-pub answers_words : (words : List Text) (given : Text × List Row) (answer : Result Command ParseFault)
-    → (line_faults words ≡ []) × (line_given words ≡ Some given) → Answers given answer → IfOk answer (IsGivenBy words) × IfErr answer (IsRefusedBy words)
-answers_words words given (Ok command) entered fields = ((entered.0, (given, entered.1, fields)), tt)
+pub answers_words : (words : List Text) (given : Text × List Row)
+    (answer : Result Command ParseFault)
+    → (line_faults words ≡ []) × (line_given words ≡ Some given) → Answers given answer →
+    IfOk answer (IsGivenBy words) × IfErr answer (IsRefusedBy words)
+answers_words words given (Ok command) entered fields =
+    ((entered.0, (given, entered.1, fields)), tt)
 answers_words words given (Err fault) entered refused = (tt, go fault refused)
   where
     go : (fault : ParseFault) → IsRefusedAt given fault → IsRefusedBy words fault
@@ -82,7 +108,8 @@ answers_words words given (Err fault) entered refused = (tt, go fault refused)
     go BadKey r = (entered.0, (given, entered.1, r))
 
 -- the fields that an accepted subcommand gives are within the limits
-pub limits_kept : (given : Text × List Row) (answer : Result Command ParseFault) → Answers given answer → IfOk answer IsWithinLimits
+pub limits_kept : (given : Text × List Row) (answer : Result Command ParseFault) →
+    Answers given answer → IfOk answer IsWithinLimits
 limits_kept given (Ok command) fields = go command fields
   where
     go : (command : Command) → HasFields command given → IsWithinLimits command

@@ -34,7 +34,19 @@ none_strange = (
       (λ strange. strange.build refl),
       (
         (λ strange. strange.check refl),
-        ((λ strange. strange.get refl), ((λ strange. strange.scan refl), ((λ strange. strange.nth refl), ((λ strange. strange.dump refl), ((λ strange. strange.help refl), tt))))),
+        (
+          (λ strange. strange.get refl),
+          (
+            (λ strange. strange.scan refl),
+            (
+              (λ strange. strange.nth refl),
+              (
+                (λ strange. strange.dump refl),
+                ((λ strange. strange.help refl), tt),
+              ),
+            ),
+          ),
+        ),
       ),
     ),
   ),
@@ -45,20 +57,25 @@ not_help : (given : Text × List Row) → IsAccepted given → given.0 ≡ codes
 unfolding line_faults clap_on_literals
 not_help given accepted is =
     let level = accepted_level accepted.0 given accepted.1 accepted.2 in
-    let past = level_past_help (built program_line).top (names_of (built program_line)) accepted.0 _ _ refl accepted.1 level.3.0 level.3.1 in
-    let same : bytes_eq level.3.0.0 (codes "help") ≡ true = (bytes_eq-Decides level.3.0.0 (codes "help")).1 (level.3.2 ∙ is) in
+    let past = level_past_help (built program_line).top (names_of (built program_line)) accepted.0 _
+    _ refl accepted.1 level.3.0 level.3.1 in
+    let same : bytes_eq level.3.0.0 (codes "help") ≡ true =
+    (bytes_eq-Decides level.3.0.0 (codes "help")).1 (level.3.2 ∙ is) in
     let bad : true ≡ false = sym same ∙ past in
     cc
 
 -- and so an accepted subcommand has the name of one of the eight
 pub not_strange : (name : Text) (rows : List Row) → IsAccepted (name, rows)
-    → (name ≡ codes "pack" → ⊥) → (name ≡ codes "scratch" → ⊥) → (name ≡ codes "build" → ⊥) → (name ≡ codes "check" → ⊥)
+    → (name ≡ codes "pack" → ⊥) → (name ≡ codes "scratch" → ⊥) → (name ≡ codes "build" → ⊥) →
+    (name ≡ codes "check" → ⊥)
     → (name ≡ codes "get" → ⊥) → (name ≡ codes "scan" → ⊥) → (name ≡ codes "nth" → ⊥)
     → (name ≡ codes "dump" → ⊥) → ⊥
 not_strange name rows accepted pack scratch build check get scan nth dump =
     let level = accepted_level accepted.0 (name, rows) accepted.1 accepted.2 in
-    let is : level.0.name ≡ name = found_name name (built program_line).subs level.0 no_aliases level.1 in
-    found_sound (λ s. answers_to name (label_of s)) (λ s. IsStrange s.name → ⊥) (built program_line).subs level.0 none_strange level.1
+    let is : level.0.name ≡ name = found_name name (built program_line).subs level.0 no_aliases
+    level.1 in
+    found_sound (λ s. answers_to name (label_of s)) (λ s. IsStrange s.name →
+    ⊥) (built program_line).subs level.0 none_strange level.1
     (subst IsStrange (sym is)
     (record {
       pack = pack;

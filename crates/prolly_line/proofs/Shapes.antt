@@ -7,7 +7,8 @@ use Rattle.clap.proofs.OnLiterals.{clap_on_literals}
 use Rattle.prolly_line.proofs.Levels.{level_at, number_at, shape_at, word_at}
 use Rattle.prolly_line.proofs.Passes.{Each, IsSound}
 use Rattle.prolly_line.specs.Accepted.{HasNumber, HasWord, IsAccepted}
-use Rattle.prolly_line.specs.Line.{build_line, check_line, dump_line, get_line, nth_line, pack_line, program_line, scan_line, scratch_line}
+use Rattle.prolly_line.specs.Line.{build_line, check_line, dump_line, get_line, nth_line, pack_line}
+use Rattle.prolly_line.specs.Line.{program_line, scan_line, scratch_line}
 
 -- a subcommand as it is built under the program's line
 abbrev built_of : App → Shape
@@ -56,7 +57,13 @@ scratch_found = refl
 
 scratch_sound : IsSoundShape scratch_shape
 unfolding clap_on_literals scratch_shape
-scratch_sound = ((refl, refl), ((refl, refl), ((refl, refl), ((refl, refl), ((refl, refl), ((refl, refl), tt))))))
+scratch_sound = (
+  (refl, refl),
+  (
+    (refl, refl),
+    ((refl, refl), ((refl, refl), ((refl, refl), ((refl, refl), tt)))),
+  ),
+)
 
 pub record TakesScratch (rows : List Row) : Type 0 where
   pub bits : HasNumber (codes "bits") 0 24 rows
@@ -131,7 +138,8 @@ takes_build rows accepted =
       bits = number_at build_shape rows (codes "bits") 0 24 build_sound level refl refl;
       stages = number_at build_shape rows (codes "stages") 1 12 build_sound level refl refl;
       capacity = number_at build_shape rows (codes "capacity") 1 4096 build_sound level refl refl;
-      max_records = number_at build_shape rows (codes "max-records") 1 16777216 build_sound level refl refl;
+      max_records = number_at build_shape rows (codes "max-records") 1 16777216 build_sound level
+          refl refl;
       batch = number_at build_shape rows (codes "batch") 1 1024 build_sound level refl refl;
       format = number_at build_shape rows (codes "format") 1 2 build_sound level refl refl;
       out = word_at build_shape rows (codes "out") build_sound level refl refl;

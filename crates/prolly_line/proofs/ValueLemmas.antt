@@ -1,5 +1,6 @@
 -- What the getters of clap's matches give, by the rows of the subcommand.
-use Rattle.std.proofs.Common.{◌<◌, ◌≤◌, ◌^◌, ◌≡◌, ◌∙◌, ℕ, List, Option, Some, None, refl, sym, ap, subst, arith, option_map}
+use Rattle.std.proofs.Common.{◌<◌, ◌≤◌, ◌^◌, ◌≡◌, ◌∙◌, ℕ, List, Option, Some, None, refl, sym, ap}
+use Rattle.std.proofs.Common.{subst, arith, option_map}
 use Rattle.std.specs.Prelude.{Result, Ok}
 use Rattle.std.specs.Borrow.{Bor}
 use Rattle.std.specs.Str.Parse.{ParsesUnsigned}
@@ -13,16 +14,21 @@ use Rattle.prolly_line.specs.Accepted.{HasNumber, HasWord, ReadsNumber}
 use Rattle.prolly_line.specs.Given.{decimal_of, number_given}
 
 -- a typed getter gives a number where a numeral in its range stands under the name
-pub number_there : (E : Type 0) (G : Text → Result ℕ E → Type 0) (k low high : ℕ) (f : Found) (id : Text) (r : Option ℕ)
-    → ((t : Text) (x : Result ℕ E) → G t x → ParsesUnsigned k 10 t x) → high < 2 ^ k → HasNumber id low high (rows_of f)
-    → ((t : Text) → one_text f id ≡ Some t → ReadsOne G t r) → (n : ℕ) × (r ≡ Some n) × (low ≤ n) × (n ≤ high)
+pub number_there : (E : Type 0) (G : Text → Result ℕ E → Type 0) (k low high : ℕ) (f : Found)
+    (id : Text) (r : Option ℕ)
+    → ((t : Text) (x : Result ℕ E) → G t x → ParsesUnsigned k 10 t x) → high < 2 ^ k →
+    HasNumber id low high (rows_of f)
+    → ((t : Text) → one_text f id ≡ Some t → ReadsOne G t r) → (n : ℕ) × (r ≡ Some n) × (low ≤ n) ×
+    (n ≤ high)
 number_there E G k low high f id r only fits has value =
-    signed_reads E G k low high has.0 r (value (without_minus has.0) (one_text-rows f id ∙ has.1)) only fits has.2
+    signed_reads E G k low high has.0 r (value (without_minus has.0) (one_text-rows f id ∙ has.1))
+    only fits has.2
 
 -- and it is the one that the rows give
 number_read : (E : Type 0) (G : Text → Result ℕ E → Type 0) (k : ℕ) (f : Found) (id : Text) (n : ℕ)
     → ((t : Text) (x : Result ℕ E) → G t x → ParsesUnsigned k 10 t x)
-    → (one_text f id ≡ None → Some n ≡ None) → ((t : Text) → one_text f id ≡ Some t → ReadsOne G t (Some n))
+    → (one_text f id ≡ None → Some n ≡ None) →
+    ((t : Text) → one_text f id ≡ Some t → ReadsOne G t (Some n))
     → number_given id (rows_of f) ≡ Some n
 number_read E G k f id n only none value = go (one_text f id) refl
   where
@@ -33,19 +39,22 @@ number_read E G k f id n only none value = go (one_text f id) refl
         ap (option_map decimal_of) (sym (one_text-rows f id) ∙ e) ∙ ap Some (sym parsed.1)
 
 -- a getter of text gives a word where one stands under the name
-pub word_there : (f : Found) (id : Text) (r : Option (Bor Text)) → option_map (λ s. s.now) r ≡ first_value f id → HasWord id (rows_of f)
+pub word_there : (f : Found) (id : Text) (r : Option (Bor Text)) →
+    option_map (λ s. s.now) r ≡ first_value f id → HasWord id (rows_of f)
     → (s : Bor Text) × (r ≡ Some s)
 word_there f id None e has = let bad : None ≡ Some has.0 = e ∙ (first_value-rows f id ∙ has.1) in cc
 word_there f id (Some s) e has = (s, refl)
 
 -- a numeral in a range lies in each wider one
-pub HasNumber-wider : (id : Text) (rows : List Row) (low high least most : ℕ) → least ≤ low → high ≤ most → HasNumber id low high rows
+pub HasNumber-wider : (id : Text) (rows : List Row) (low high least most : ℕ) → least ≤ low →
+    high ≤ most → HasNumber id low high rows
     → HasNumber id least most rows
 HasNumber-wider id rows low high least most below above has =
     (has.0, has.1, (has.2.0, has.2.1, omega (arith, ints), omega (arith, ints)))
 
 -- what a typed getter gave is the number in each range that its type covers
-pub reads_number : (E : Type 0) (G : Text → Result ℕ E → Type 0) (k bound : ℕ) (f : Found) (id : Text) (r : Option ℕ) (n : ℕ) → r ≡ Some n
+pub reads_number : (E : Type 0) (G : Text → Result ℕ E → Type 0) (k bound : ℕ) (f : Found)
+    (id : Text) (r : Option ℕ) (n : ℕ) → r ≡ Some n
     → bound < 2 ^ k → ((t : Text) (x : Result ℕ E) → G t x → ParsesUnsigned k 10 t x)
     → (one_text f id ≡ None → r ≡ None) → ((t : Text) → one_text f id ≡ Some t → ReadsOne G t r)
     → ReadsNumber bound id (rows_of f) n
@@ -53,12 +62,15 @@ reads_number E G k bound f id r n is fits only none value low high most has =
     let there = number_there E G k low high f id r only (omega arith) has value in
     let same : Some there.0 ≡ Some n = sym there.1 ∙ is in
     let which : there.0 ≡ n = cc in (
-      number_read E G k f id n only (λ e. sym is ∙ none e) (λ t e. subst (ReadsOne G t) is (value t e)),
+      number_read E G k f id n only (λ e. sym is ∙ none e)
+          (λ t e. subst (ReadsOne G t) is (value t e)),
       omega arith,
       omega arith,
     )
 
 -- the first word under a name, where the getter gave it
-pub word_read : (f : Found) (id : Text) (r : Option (Bor Text)) (s : Bor Text) → option_map (λ x. x.now) r ≡ first_value f id → r ≡ Some s
+pub word_read : (f : Found) (id : Text) (r : Option (Bor Text)) (s : Bor Text) →
+    option_map (λ x. x.now) r ≡ first_value f id → r ≡ Some s
     → first_of id (rows_of f) ≡ Some s.now
-word_read f id r s e is = sym (first_value-rows f id) ∙ (sym e ∙ ap (option_map (λ (x : Bor Text). x.now)) is)
+word_read f id r s e is = sym (first_value-rows f id) ∙
+    (sym e ∙ ap (option_map (λ (x : Bor Text). x.now)) is)

@@ -20,7 +20,8 @@ IsAccepted given = (words : List Text) × (line_faults words ≡ []) × (line_gi
 -- a numeral from least to most stands under this name
 abbrev pub HasNumber : Text → ℕ → ℕ → List Row → Type 0
 HasNumber name least most rows =
-    (text : Text) × (one_of name rows ≡ Some (without_minus text)) × IsSignedIn (pos least) (pos most) text
+    (text : Text) × (one_of name rows ≡ Some (without_minus text)) ×
+    IsSignedIn (pos least) (pos most) text
 
 -- the number under this name, in each range up to a bound in which the numeral lies
 abbrev pub ReadsNumber : ℕ → Text → List Row → ℕ → Type 0

@@ -1,5 +1,6 @@
 -- Which command the words give, and how they are refused.
-use Rattle.std.specs.Prelude.{◌≡◌, ◌≢◌, ◌≤◌, ◌↔◌, IsTrue, ⊤, ℕ, ◌⊎◌, Ok, Option, Some, List, [], length, map, option_map, string_bytes, codes, unwrap_or}
+use Rattle.std.specs.Prelude.{◌≡◌, ◌≢◌, ◌≤◌, ◌↔◌, IsTrue, ⊤, ℕ, ◌⊎◌, Ok, Option, Some, List, []}
+use Rattle.std.specs.Prelude.{length, map, option_map, string_bytes, codes, unwrap_or}
 use Rattle.hex.specs.Hex.{decode_of}
 use Rattle.std.specs.Str.Parse.{digits_value, without_leading_plus}
 use Rattle.clap.specs.Words.{IsAmong, Row, Text, all_of, first_of, one_of}
@@ -8,7 +9,8 @@ use Rattle.clap.specs.declared.error.kind.ErrorKind.TheVariants.{DisplayHelp, Ou
 use Rattle.prolly_line.specs.Line.{line_faults, line_given}
 use Rattle.prolly_line.specs.declared.command.Command.{Command}
 use Rattle.prolly_line.specs.declared.command.WriteMode.{WriteMode}
-use Rattle.prolly_line.specs.declared.command.Command.TheVariants.{Pack, Scratch, Build, Check, Get, Scan, Nth, Dump}
+use Rattle.prolly_line.specs.declared.command.Command.TheVariants.{Pack, Scratch, Build, Check, Get}
+use Rattle.prolly_line.specs.declared.command.Command.TheVariants.{Scan, Nth, Dump}
 use Rattle.prolly_line.specs.declared.command.ParseFault.{ParseFault}
 use Rattle.prolly_line.specs.declared.command.ParseFault.TheVariants.{Memory, Usage, Help, BadKey}
 
@@ -45,7 +47,8 @@ HasFlag rows name = first_of name rows ≡ Some (codes "true")
 -- an output is written in this mode: each half of it is on where the words have its flag
 abbrev pub GivesMode : List Row → WriteMode → Type 0
 GivesMode rows mode =
-    (IsTrue mode.atomic ↔ HasFlag rows (codes "atomic")) × (IsTrue mode.sync ↔ HasFlag rows (codes "sync"))
+    (IsTrue mode.atomic ↔ HasFlag rows (codes "atomic")) ×
+    (IsTrue mode.sync ↔ HasFlag rows (codes "sync"))
 
 -- the text is that of a key: hexadecimal, of at most 1,024 bytes
 abbrev pub IsKeyText : Text → List ℕ → Type 0
@@ -58,7 +61,8 @@ GivesKey rows key = (text : Text) × (first_of (codes "key") rows ≡ Some text)
 -- the word for the key is no text of a key
 abbrev pub GivesBadKey : List Row → Type 0
 GivesBadKey rows =
-    (text : Text) × (first_of (codes "key") rows ≡ Some text) × ((key : List ℕ) → IsKeyText text key → ⊥)
+    (text : Text) × (first_of (codes "key") rows ≡ Some text) ×
+    ((key : List ℕ) → IsKeyText text key → ⊥)
 
 -- ---- the command
 
@@ -138,7 +142,8 @@ HasBadKey given = ((given.0 ≡ codes "get") ⊎ (given.0 ≡ codes "scan")) × 
 -- the words are refused in this way; memory may run out at any words
 abbrev pub IsRefusedBy : List Text → ParseFault → Type 0
 IsRefusedBy words Memory = ⊤
-IsRefusedBy words (Usage text) = (kind : ErrorKind) × IsAmong kind (line_faults words) × (kind ≢ DisplayHelp)
+IsRefusedBy words (Usage text) = (kind : ErrorKind) × IsAmong kind (line_faults words) ×
+    (kind ≢ DisplayHelp)
 IsRefusedBy words (Help text) = IsAmong DisplayHelp (line_faults words)
 IsRefusedBy words BadKey =
     (line_faults words ≡ [])

@@ -1,6 +1,7 @@
 -- The command line, in the words of clap's model of commands.
 use Rattle.std.specs.Prelude.{ℕ, pos, true, Option, Some, List, [], ◌∷◌, codes}
-use Rattle.clap.specs.Words.{App, Kinds, Row, Rule, Text, fault_of, new_app, new_rule, subcommand_of, with_rule, with_subcommand}
+use Rattle.clap.specs.Words.{App, Kinds, Row, Rule, Text, fault_of, new_app, new_rule}
+use Rattle.clap.specs.Words.{subcommand_of, with_rule, with_subcommand}
 use Rattle.clap.specs.Lexer.{usize_max}
 use Rattle.clap.specs.Simple.{on_top}
 use Rattle.clap.specs.declared.builder.action.ArgAction.TheVariants.{SetTrue}
@@ -29,7 +30,8 @@ word_rule name = record (new_rule name) { required = true; value_names = 1 }
 
 -- such a word, for a number from least to most
 abbrev pub number_word : Text → ℕ → ℕ → Rule
-number_word name least most = record (word_rule name) { parser = Some (Signed (pos least) (pos most)) }
+number_word name least most = record (word_rule name)
+    { parser = Some (Signed (pos least) (pos most)) }
 
 -- a word that may be missing
 abbrev pub optional_word : Text → Rule
@@ -94,7 +96,8 @@ files_words = words_rule (codes "files")
 
 -- `pack [--atomic] [--sync] OUT`
 abbrev pub pack_line : App
-pack_line = with_rule (with_rule (with_rule (new_app (codes "pack")) atomic_flag) sync_flag) out_word
+pack_line = with_rule (with_rule (with_rule (new_app (codes "pack")) atomic_flag) sync_flag)
+    out_word
 
 -- `scratch [--bits Q] [--format V] [--out FILE] [--atomic] [--sync]`
 abbrev pub scratch_line : App
@@ -104,8 +107,10 @@ scratch_line = with_rule (with_rule (with_rule (with_rule (with_rule (new_app (c
 -- `build [--bits Q] [--stages S] [--capacity C] [--max-records M] [--batch B] [--format V]
 -- [--atomic] [--sync] OUT [FILES...]`
 abbrev pub build_line : App
-build_line = with_rule (with_rule (with_rule (with_rule (with_rule (with_rule (with_rule (with_rule (with_rule (with_rule
-    (new_app (codes "build")) bits_option) stages_option) capacity_option) max_records_option) batch_option)
+build_line = with_rule (with_rule (with_rule (with_rule
+    (with_rule (with_rule (with_rule (with_rule (with_rule (with_rule
+    (new_app (codes "build")) bits_option) stages_option) capacity_option) max_records_option)
+    batch_option)
     format_option) atomic_flag) sync_flag) out_word) files_words
 
 -- `check FILE`
@@ -126,19 +131,23 @@ nth_line = with_rule (with_rule (new_app (codes "nth")) file_word) n_word
 
 -- `dump [--atomic] [--sync] FILE [OUT]`
 abbrev pub dump_line : App
-dump_line = with_rule (with_rule (with_rule (with_rule (new_app (codes "dump")) atomic_flag) sync_flag) file_word)
+dump_line = with_rule (with_rule (with_rule (with_rule (new_app (codes "dump")) atomic_flag)
+    sync_flag) file_word)
     optional_out_word
 
 -- ---- the whole line
 
 -- what stands above the subcommands: one of them has to be named, by the first word
 abbrev pub bare_line : App
-bare_line = on_top (λ s. record s { no_binary_name = true; subcommand_required = true }) (new_app (codes "prolly"))
+bare_line = on_top (λ s. record s { no_binary_name = true; subcommand_required = true })
+    (new_app (codes "prolly"))
 
 -- the words after the program's name, in the order in which one uses the subcommands
 abbrev pub program_line : App
-program_line = with_subcommand (with_subcommand (with_subcommand (with_subcommand (with_subcommand (with_subcommand
-    (with_subcommand (with_subcommand bare_line pack_line.top) scratch_line.top) build_line.top) check_line.top) get_line.top)
+program_line = with_subcommand (with_subcommand
+    (with_subcommand (with_subcommand (with_subcommand (with_subcommand
+    (with_subcommand (with_subcommand bare_line pack_line.top) scratch_line.top) build_line.top)
+    check_line.top) get_line.top)
     scan_line.top) nth_line.top) dump_line.top
 
 -- the kinds of error that clap may give at the words; none where it takes them

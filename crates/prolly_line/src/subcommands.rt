@@ -64,6 +64,15 @@ pub(crate) fn check_line<'a>(alloc: Global) -> Result<Command<'a>, AllocError>
     described(alloc, "check", help::CHECK).arg(arguments::file_word(alloc))
 }
 
+/// `dump [--atomic] [--sync] FILE [OUT]`
+pub(crate) fn dump_line<'a>(alloc: Global) -> Result<Command<'a>, AllocError>
+    ensures { IfOk result (HasLine dump_line) }
+{
+    let line = with_mode(alloc, Ok(described(alloc, "dump", help::DUMP)));
+    let line = with_argument(line, arguments::file_word(alloc));
+    with_argument(line, arguments::optional_out_word(alloc))
+}
+
 /// `get FILE HEXKEY`
 pub(crate) fn get_line<'a>(alloc: Global) -> Result<Command<'a>, AllocError>
     ensures { IfOk result (HasLine get_line) }
@@ -87,13 +96,4 @@ pub(crate) fn nth_line<'a>(alloc: Global) -> Result<Command<'a>, AllocError>
 {
     let line = described(alloc, "nth", help::NTH).arg(arguments::file_word(alloc));
     with_argument(line, arguments::n_word(alloc))
-}
-
-/// `dump [--atomic] [--sync] FILE [OUT]`
-pub(crate) fn dump_line<'a>(alloc: Global) -> Result<Command<'a>, AllocError>
-    ensures { IfOk result (HasLine dump_line) }
-{
-    let line = with_mode(alloc, Ok(described(alloc, "dump", help::DUMP)));
-    let line = with_argument(line, arguments::file_word(alloc));
-    with_argument(line, arguments::optional_out_word(alloc))
 }

@@ -12,20 +12,26 @@ use Rattle.prolly_check.specs.Checked.{IsFile}
 use Rattle.prolly_check.specs.Content.{Content}
 use Rattle.prolly_check.specs.Verdict.{IsFileOf}
 
-pub short_answer : {E : Type 0} (makes : List ℕ → List ℕ → Type 0) (at_fault : Fault → Type 0) (took_all took_part : List ℕ → Type 0) (untouched : Type 0)
-    (result : Result Answer E) → IsCutShort makes took_part → IfOk result (λ answer. ShowsFault answer (Run Write)) →
+pub short_answer : {E : Type 0} (makes : List ℕ → List ℕ → Type 0) (at_fault : Fault → Type 0)
+    (took_all took_part : List ℕ → Type 0) (untouched : Type 0)
+    (result : Result Answer E) → IsCutShort makes took_part →
+    IfOk result (λ answer. ShowsFault answer (Run Write)) →
     IfOk result (IsAnswer makes at_fault took_all took_part untouched)
-short_answer makes at_fault took_all took_part untouched (Ok answer) short shows = inr (inl (short, shows))
+short_answer makes at_fault took_all took_part untouched (Ok answer) short shows =
+    inr (inl (short, shows))
 short_answer makes at_fault took_all took_part untouched (Err e) short shows = tt
 
-pub short_refused : {E : Type 0} (makes : List ℕ → List ℕ → Type 0) (took_part : List ℕ → Type 0) (untouched : Type 0)
-    (result : Result Answer E) → IsCutShort makes took_part → OnErr result (untouched ⊎ IsCutShort makes took_part)
+pub short_refused : {E : Type 0} (makes : List ℕ → List ℕ → Type 0) (took_part : List ℕ → Type 0)
+    (untouched : Type 0)
+    (result : Result Answer E) → IsCutShort makes took_part →
+    OnErr result (untouched ⊎ IsCutShort makes took_part)
 short_refused makes took_part untouched (Ok answer) short = tt
 short_refused makes took_part untouched (Err e) short = inr short
 
 -- The bytes that a check accepted were read whole, and of their content this is shown.
 pub looked_up : (bytes left : List ℕ) (failed : Type 0) (shows : Content → Type 0) →
-    bytes ≡ left → IsFile bytes → length bytes ≤ file_limit → ¬ failed → ((content : Content) → IsFileOf bytes content → shows content) →
+    bytes ≡ left → IsFile bytes → length bytes ≤ file_limit → ¬ failed →
+    ((content : Content) → IsFileOf bytes content → shows content) →
     IsLookedUp left failed shows
 looked_up bytes left failed shows same file within unfailed shown =
     subst (λ b. IsLookedUp b failed shows) same (record {

@@ -1,5 +1,6 @@
 -- Packing a text line by line.
-use Rattle.std.proofs.Common.{◌≡◌, ℕ, ◌+◌, ◌<◌, ◌≤◌, List, [], ◌∷◌, ◌++◌, length, refl, sym, ap, ◌∙◌, subst, arith, append_assoc, length-append}
+use Rattle.std.proofs.Common.{◌≡◌, ℕ, ◌+◌, ◌<◌, ◌≤◌, List, [], ◌∷◌, ◌++◌, length, refl, sym, ap}
+use Rattle.std.proofs.Common.{◌∙◌, subst, arith, append_assoc, length-append}
 use Rattle.std.proofs.lemmas.List.{append-nil}
 use Rattle.std.proofs.lemmas.List.Concat.{flat_map-append}
 use Rattle.std.specs.List.{flat_map, AllZip}
@@ -9,7 +10,8 @@ use Rattle.prolly_tool.specs.declared.line.LineFlaw.{LineFlaw}
 use Rattle.prolly_tool.specs.declared.line.LineFlaw.TheVariants as flaws
 use Rattle.prolly_tool.specs.declared.pack.PackFault.{PackFault}
 use Rattle.prolly_tool.specs.Lines.{lines_of}
-use Rattle.prolly_tool.specs.Pack.{StandsFor, IsWrongLine, IsFirstWrong, IsPackFault, IsLineFault, Packs, PacksLine, fault_at}
+use Rattle.prolly_tool.specs.Pack.{StandsFor, IsWrongLine, IsFirstWrong, IsPackFault, IsLineFault}
+use Rattle.prolly_tool.specs.Pack.{Packs, PacksLine, fault_at}
 
 -- Some lines are packed, and the rest follows.
 pub record IsUnderWay (text old out rest : List ℕ) (count : ℕ) : Type 0 where
@@ -22,18 +24,28 @@ pub record IsUnderWay (text old out rest : List ℕ) (count : ℕ) : Type 0 wher
   pub few : count + length rest ≤ length text
 
 pub none_packed : (text old : List ℕ) → IsUnderWay text old old text 0
-none_packed text old = record { before = []; records = []; whole = refl; stand = tt; appended = sym (append-nil old); count_is = refl; few = omega arith }
+none_packed text old = record {
+  before = [];
+  records = [];
+  whole = refl;
+  stand = tt;
+  appended = sym (append-nil old);
+  count_is = refl;
+  few = omega arith;
+}
 
 snoc_same : {A : Type 0} (xs ys : List A) (x : A) → (xs ++ x ∷ []) ++ ys ≡ xs ++ x ∷ ys
 snoc_same xs ys x = append_assoc xs (x ∷ []) ys
 
-zip_snoc : (ls : List (List ℕ)) (rs : List Record) (line : List ℕ) (r : Record) → AllZip StandsFor ls rs → StandsFor line r → AllZip StandsFor (ls ++ line ∷ []) (rs ++ r ∷ [])
+zip_snoc : (ls : List (List ℕ)) (rs : List Record) (line : List ℕ) (r : Record) →
+    AllZip StandsFor ls rs → StandsFor line r → AllZip StandsFor (ls ++ line ∷ []) (rs ++ r ∷ [])
 zip_snoc [] [] line r h k = (k, tt)
 zip_snoc [] (s ∷ rs) line r h k = absurd h
 zip_snoc (l ∷ ls) [] line r h k = absurd h
 zip_snoc (l ∷ ls) (s ∷ rs) line r h k = (h.0, zip_snoc ls rs line r h.1 k)
 
-pub one_packed : (text old out out' rest line next : List ℕ) (count : ℕ) → IsUnderWay text old out rest count → lines_of rest ≡ line ∷ lines_of next →
+pub one_packed : (text old out out' rest line next : List ℕ) (count : ℕ) →
+    IsUnderWay text old out rest count → lines_of rest ≡ line ∷ lines_of next →
     length next < length rest → PacksLine line out out' → IsUnderWay text old out' next (count + 1)
 one_packed text old out out' rest line next count h e less k = record {
   before = h.before ++ line ∷ [];
@@ -43,29 +55,35 @@ one_packed text old out out' rest line next count h e less k = record {
   appended = k.appended ∙ (ap (λ (t : List ℕ). t ++ record_spelling k.one) h.appended
       ∙ (append_assoc old (flat_map record_spelling h.records) (record_spelling k.one)
       ∙ ap (λ (t : List ℕ). old ++ t) (sym (flat_map-append record_spelling h.records (k.one ∷ [])
-      ∙ ap (λ (t : List ℕ). flat_map record_spelling h.records ++ t) (append-nil (record_spelling k.one))))));
+      ∙ ap (λ (t : List ℕ). flat_map record_spelling h.records ++ t)
+      (append-nil (record_spelling k.one))))));
   count_is = let c = h.count_is in omega (arith, length-append h.before (line ∷ []));
   few = let f = h.few in omega arith;
 }
 
-zip_length : (ls : List (List ℕ)) (rs : List Record) → AllZip StandsFor ls rs → length ls ≡ length rs
+zip_length : (ls : List (List ℕ)) (rs : List Record) → AllZip StandsFor ls rs →
+    length ls ≡ length rs
 zip_length [] [] h = refl
 zip_length [] (r ∷ rs) h = absurd h
 zip_length (l ∷ ls) [] h = absurd h
 zip_length (l ∷ ls) (r ∷ rs) h = let more = zip_length ls rs h.1 in omega arith
 
-pub all_packed : (text old out rest : List ℕ) (count : ℕ) → IsUnderWay text old out rest count → rest ≡ [] → Packs text old out count
+pub all_packed : (text old out rest : List ℕ) (count : ℕ) → IsUnderWay text old out rest count →
+    rest ≡ [] → Packs text old out count
 all_packed text old out rest count h e =
-    let all : lines_of text ≡ h.before = h.whole ∙ (ap (λ (t : List ℕ). h.before ++ lines_of t) e ∙ append-nil h.before) in record {
+    let all : lines_of text ≡ h.before = h.whole ∙
+    (ap (λ (t : List ℕ). h.before ++ lines_of t) e ∙ append-nil h.before) in record {
       records = h.records;
       stand = subst (λ ls. AllZip StandsFor ls h.records) (sym all) h.stand;
       appended = h.appended;
       count_is = h.count_is ∙ zip_length h.before h.records h.stand;
     }
 
-pub line_refused : (text old out rest line next : List ℕ) (count : ℕ) (fault : PackFault) → IsUnderWay text old out rest count → lines_of rest ≡ line ∷ lines_of next →
+pub line_refused : (text old out rest line next : List ℕ) (count : ℕ) (fault : PackFault) →
+    IsUnderWay text old out rest count → lines_of rest ≡ line ∷ lines_of next →
     IsLineFault line count fault → IsPackFault text fault
-line_refused text old out rest line next count fault h e k = subst (IsPackFault text) (sym k.is) (go k.flaw k.wrong)
+line_refused text old out rest line next count fault h e k =
+    subst (IsPackFault text) (sym k.is) (go k.flaw k.wrong)
   where
     first : (flaw : LineFlaw) → IsWrongLine line flaw → IsFirstWrong text count flaw
     first flaw wrong = record {

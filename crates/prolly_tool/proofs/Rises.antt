@@ -6,10 +6,13 @@ use Rattle.prolly_entry.specs.RecordList.{ArePairsOf}
 use Rattle.prolly_entry.specs.lemmas.Overlays.{overlay_rises}
 use Rattle.prolly_file.specs.Scratch.{keys_in, FallsAt}
 
-pub pairs_rise : (bytes : List ℕ) (limit : ℕ) (pairs : List Pair) → ArePairsOf bytes limit pairs → Rising (keys_in pairs)
-pairs_rise bytes limit pairs h = subst (λ ps. Rising (keys_in ps)) (sym h.are) (overlay_rises (h.good ∷ []))
+pub pairs_rise : (bytes : List ℕ) (limit : ℕ) (pairs : List Pair) → ArePairsOf bytes limit pairs →
+    Rising (keys_in pairs)
+pairs_rise bytes limit pairs h = subst (λ ps. Rising (keys_in ps)) (sym h.are)
+    (overlay_rises (h.good ∷ []))
 
-front_from : (x : List ℕ) (ps : List Pair) (n : ℕ) → RisingFrom x (keys_in ps) → RisingFrom x (keys_in (take n ps))
+front_from : (x : List ℕ) (ps : List Pair) (n : ℕ) → RisingFrom x (keys_in ps) →
+    RisingFrom x (keys_in (take n ps))
 front_from x [] zero h = tt
 front_from x [] (suc n) h = tt
 front_from x (p ∷ ps) zero h = tt

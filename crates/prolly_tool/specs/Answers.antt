@@ -1,7 +1,8 @@
 -- What the program prints.
 use Rattle.std.specs.Prelude.{◌≡◌, ℕ, List, [], ◌∷◌, ◌++◌, string_bytes}
 use Rattle.prolly_line.specs.declared.command.ParseFault.{ParseFault}
-use Rattle.prolly_line.specs.declared.command.ParseFault.TheVariants.{Memory, Usage, Help, BadKey as BadKeyWord}
+use Rattle.prolly_line.specs.declared.command.ParseFault.TheVariants.{Memory, Usage, Help}
+use Rattle.prolly_line.specs.declared.command.ParseFault.TheVariants.{BadKey as BadKeyWord}
 use Rattle.prolly_fault.specs.declared.fault.RunFault.TheVariants.{Memory as OutOfMemory}
 use Rattle.prolly_tool.specs.declared.answer.Answer.{Answer}
 use Rattle.prolly_tool.specs.declared.fault.Fault.{Fault}
@@ -35,7 +36,8 @@ ShowsFault answer fault = Shows answer (fault_status fault) [] (fault_line (faul
 -- Not done, since a file that the words name is at fault: a line that ends with its name, and the
 -- status of a device's fault.
 abbrev pub ShowsName : Answer → NameFault → List ℕ → Type 0
-ShowsName answer fault name = Shows answer 5 [] (fault_line (name_fault_text fault ++ shown_name name))
+ShowsName answer fault name = Shows answer 5 []
+    (fault_line (name_fault_text fault ++ shown_name name))
 
 -- The words give no command. What clap says of them is shown as it words it: help that was asked
 -- for on standard output, and what is wrong with the words on standard error.

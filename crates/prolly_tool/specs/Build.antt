@@ -11,7 +11,8 @@ use Rattle.prolly_tool.specs.declared.fault.Fault.TheVariants.{Run}
 -- The text of the root, and the numbers of chunks, pairs and levels, with a space before each.
 abbrev pub report_text : Report → List ℕ
 report_text report =
-    reference_text report.root.0 ++ 0x20 ∷ decimal report.chunks ++ 0x20 ∷ decimal report.pairs ++ 0x20 ∷ decimal report.levels
+    reference_text report.root.0 ++ 0x20 ∷ decimal report.chunks ++ 0x20 ∷ decimal report.pairs ++
+    0x20 ∷ decimal report.levels
 
 -- The report's line, or the fault's.
 abbrev pub ShowsBuild : Answer → Result Report RunFault → Type 0

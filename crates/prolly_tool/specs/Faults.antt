@@ -8,11 +8,14 @@ use Rattle.prolly_check.specs.declared.fault.CheckFault.TheVariants as checks
 use Rattle.prolly_tool.specs.declared.pack.PackFault.{PackFault}
 use Rattle.prolly_tool.specs.declared.pack.PackFault.TheVariants as packs
 use Rattle.prolly_tool.specs.declared.fault.Fault.{Fault}
-use Rattle.prolly_tool.specs.declared.fault.Fault.TheVariants.{Run, Pack, Check, NoCounts, InputTooLong, BadKey, NotUnicode, OutIsStdout}
+use Rattle.prolly_tool.specs.declared.fault.Fault.TheVariants.{Run, Pack, Check, NoCounts}
+use Rattle.prolly_tool.specs.declared.fault.Fault.TheVariants.{InputTooLong, BadKey, NotUnicode}
+use Rattle.prolly_tool.specs.declared.fault.Fault.TheVariants.{OutIsStdout}
 
 -- What is said of a record of a file.
 abbrev pub record_text : ℕ → ℕ → List ℕ → List ℕ
-record_text file place rest = codes "file " ++ decimal file ++ codes ": record " ++ decimal place ++ rest
+record_text file place rest = codes "file " ++ decimal file ++ codes ": record " ++ decimal place ++
+    rest
 
 abbrev pub run_text : RunFault → List ℕ
 run_text runs.Memory = codes "out of memory"
@@ -30,7 +33,8 @@ run_text runs.TooManyFiles = codes "too many files"
 
 abbrev pub pack_text : PackFault → List ℕ
 pack_text packs.Memory = codes "out of memory"
-pack_text (packs.BadLine line) = codes "line " ++ decimal line ++ codes ": not a pair in hexadecimal"
+pack_text (packs.BadLine line) = codes "line " ++ decimal line ++
+    codes ": not a pair in hexadecimal"
 pack_text (packs.KeyTooLong line) = codes "line " ++ decimal line ++ codes ": key too long"
 pack_text (packs.ValueTooLong line) = codes "line " ++ decimal line ++ codes ": value too long"
 
@@ -43,10 +47,13 @@ check_fault_text (checks.BadFrame chunk) = codes "chunk file: bad frame " ++ dec
 check_fault_text checks.Truncated = codes "chunk file: truncated"
 check_fault_text checks.Trailing = codes "chunk file: bytes after the end"
 check_fault_text (checks.BadChunk chunk) = codes "chunk file: bad chunk " ++ decimal chunk
-check_fault_text (checks.KeysOutOfOrder chunk) = codes "chunk file: keys out of order in chunk " ++ decimal chunk
-check_fault_text (checks.NotCanonical chunk) = codes "chunk file: chunk " ++ decimal chunk ++ codes " is not canonical"
+check_fault_text (checks.KeysOutOfOrder chunk) = codes "chunk file: keys out of order in chunk " ++
+    decimal chunk
+check_fault_text (checks.NotCanonical chunk) = codes "chunk file: chunk " ++ decimal chunk ++
+    codes " is not canonical"
 check_fault_text checks.BadEnd = codes "chunk file: bad end record"
-check_fault_text (checks.Collision chunk) = codes "chunk file: reference of chunk " ++ decimal chunk ++ codes " is used twice"
+check_fault_text (checks.Collision chunk) = codes "chunk file: reference of chunk " ++
+    decimal chunk ++ codes " is used twice"
 
 -- What is said of a fault.
 abbrev pub fault_text : Fault → List ℕ

@@ -1,5 +1,6 @@
 -- Lines of text, and the records that they stand for. (This project's format.)
-use Rattle.std.specs.Prelude.{◌≡◌, ◌≢◌, ℕ, ◌<◌, ◌≤◌, ◌==◌, List, [], ◌∷◌, ◌++◌, length, Option, Some, None, Ok, if◌then◌else◌}
+use Rattle.std.specs.Prelude.{◌≡◌, ◌≢◌, ℕ, ◌<◌, ◌≤◌, ◌==◌, List, [], ◌∷◌, ◌++◌, length, Option}
+use Rattle.std.specs.Prelude.{Some, None, Ok, if◌then◌else◌}
 use Rattle.std.specs.List.{AllByRecursion}
 use Rattle.hex.specs.Hex.{decode_of}
 use Rattle.prolly_tree.specs.Split.{in_front}

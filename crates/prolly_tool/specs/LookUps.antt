@@ -1,5 +1,6 @@
 -- What the commands that read a chunk file print.
-use Rattle.std.specs.Prelude.{◌≡◌, ◌↔◌, ◌⊎◌, ℕ, List, [], ◌∷◌, ◌++◌, length, Option, Some, None, codes}
+use Rattle.std.specs.Prelude.{◌≡◌, ◌↔◌, ◌⊎◌, ℕ, List, [], ◌∷◌, ◌++◌, length, Option, Some, None}
+use Rattle.std.specs.Prelude.{codes}
 use Rattle.std.specs.Fmt.{decimal}
 use Rattle.std.specs.List.{flat_map}
 use Rattle.hex.specs.Hex.{encode_lower}
@@ -28,8 +29,10 @@ file_limit = 1073741824
 -- The line of a file that is lawful: `ok`, the text of the root, the numbers of bits and of chunks.
 abbrev pub check_text : Content → List ℕ
 check_text content =
-    codes "ok " ++ reference_text (root_reference (sha512_cut content.bits) content.version content.pairs)
-    ++ 0x20 ∷ decimal content.bits ++ 0x20 ∷ decimal (length (chunks (sha512_cut content.bits) content.version content.pairs))
+    codes "ok " ++ reference_text (root_reference (sha512_cut content.bits) content.version
+    content.pairs)
+    ++ 0x20 ∷ decimal content.bits ++ 0x20 ∷ decimal
+    (length (chunks (sha512_cut content.bits) content.version content.pairs))
 
 -- A key and its value in hexadecimal.
 abbrev pub pair_text : Pair → List ℕ
@@ -81,7 +84,8 @@ pub record IsNoFile (bytes : List ℕ) (failed : Type 0) (answer : Answer) : Typ
 
 -- The answer of a command of which `shows` says what it shows of a content.
 abbrev pub IsLookUp : List ℕ → Type 0 → (Answer → Content → Type 0) → Answer → Type 0
-IsLookUp bytes failed shows answer = IsLookedUp bytes failed (shows answer) ⊎ IsNoFile bytes failed answer
+IsLookUp bytes failed shows answer = IsLookedUp bytes failed (shows answer) ⊎
+    IsNoFile bytes failed answer
 
 -- The line of a failed read.
 abbrev pub ShowsFailedRead : Answer → Type 0

@@ -3,7 +3,8 @@ use Rattle.std.specs.Prelude.{ℕ, List, [], ◌∷◌, ◌||◌, ◌==◌, nat_
 use Rattle.std.specs.List.{flat_map}
 use Rattle.hex.specs.Hex.{encode_lower}
 use Rattle.prolly_tool.specs.declared.name_fault.NameFault.{NameFault}
-use Rattle.prolly_tool.specs.declared.name_fault.NameFault.TheVariants.{CannotOpen, CannotReplace, IsInput}
+use Rattle.prolly_tool.specs.declared.name_fault.NameFault.TheVariants.{CannotOpen, CannotReplace}
+use Rattle.prolly_tool.specs.declared.name_fault.NameFault.TheVariants.{IsInput}
 
 -- A byte of a name as a line shows it: a control byte, which might end the line, as `\x` and two
 -- digits, a backslash as two, and every other byte as it stands.

@@ -35,7 +35,8 @@ OfSink happened (Some old) (Some new) = happened old new
 -- ---- answers
 
 -- Done: there is a file, which was written, and its line is shown.
-pub record IsDone (makes : List ℕ → List ℕ → Type 0) (written : List ℕ → Type 0) (answer : Answer) : Type 0 where
+pub record IsDone (makes : List ℕ → List ℕ → Type 0) (written : List ℕ → Type 0) (answer : Answer)
+    : Type 0 where
   pub file : List ℕ
   pub line : List ℕ
   pub made : makes file line
@@ -58,7 +59,8 @@ pub record IsRefused (at_fault : Fault → Type 0) (answer : Answer) : Type 0 wh
 -- The answer of a command of which `makes` says which file and line it makes, and `at_fault` for
 -- which fault it makes none. Of the sink, `took_all` says that it took all of a file, `took_part`
 -- that it failed after a part of one, `untouched` that it is as it was.
-abbrev pub IsAnswer : (List ℕ → List ℕ → Type 0) → (Fault → Type 0) → (List ℕ → Type 0) → (List ℕ → Type 0) → Type 0 → Answer → Type 0
+abbrev pub IsAnswer : (List ℕ → List ℕ → Type 0) → (Fault → Type 0) → (List ℕ → Type 0) →
+    (List ℕ → Type 0) → Type 0 → Answer → Type 0
 IsAnswer makes at_fault took_all took_part untouched answer =
     IsDone makes took_all answer
     ⊎ (IsCutShort makes took_part × ShowsFault answer (Run Write))

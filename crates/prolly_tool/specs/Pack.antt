@@ -8,7 +8,8 @@ use Rattle.prolly_entry.specs.declared.pair.EntryFault.TheVariants as entries
 use Rattle.prolly_entry.specs.Record.{Record, IsRecord}
 use Rattle.prolly_entry.specs.Spelling.{record_spelling}
 use Rattle.prolly_tool.specs.declared.pack.PackFault.{PackFault}
-use Rattle.prolly_tool.specs.declared.pack.PackFault.TheVariants.{Memory, BadLine, KeyTooLong, ValueTooLong}
+use Rattle.prolly_tool.specs.declared.pack.PackFault.TheVariants.{Memory, BadLine, KeyTooLong}
+use Rattle.prolly_tool.specs.declared.pack.PackFault.TheVariants.{ValueTooLong}
 use Rattle.prolly_tool.specs.declared.line.LineFlaw.{LineFlaw}
 use Rattle.prolly_tool.specs.declared.line.LineFlaw.TheVariants as flaws
 use Rattle.prolly_tool.specs.declared.fault.Fault.{Fault}

@@ -11,27 +11,32 @@ byte_of-bits-requires c =
 
 pub byte_of-stages-requires : goal.byte_of-stages-requires
 byte_of-stages-requires c =
-    HasNumber-wider (codes "stages") (rows_in c.args.given.now) 1 12 0 255 (omega arith) (omega arith)
+    HasNumber-wider (codes "stages") (rows_in c.args.given.now) 1 12 0 255 (omega arith)
+    (omega arith)
     (takes_build (rows_in c.args.given.now) c.requires).stages
 
 pub number_of-capacity-requires : goal.number_of-capacity-requires
 number_of-capacity-requires c =
-    HasNumber-wider (codes "capacity") (rows_in c.args.given.now) 1 4096 0 4294967295 (omega arith) (omega arith)
+    HasNumber-wider (codes "capacity") (rows_in c.args.given.now) 1 4096 0 4294967295 (omega arith)
+    (omega arith)
     (takes_build (rows_in c.args.given.now) c.requires).capacity
 
 pub number_of-max_records-requires : goal.number_of-max_records-requires
 number_of-max_records-requires c =
-    HasNumber-wider (codes "max-records") (rows_in c.args.given.now) 1 16777216 0 4294967295 (omega arith) (omega arith)
+    HasNumber-wider (codes "max-records") (rows_in c.args.given.now) 1 16777216 0 4294967295
+    (omega arith) (omega arith)
     (takes_build (rows_in c.args.given.now) c.requires).max_records
 
 pub number_of-batch-requires : goal.number_of-batch-requires
 number_of-batch-requires c =
-    HasNumber-wider (codes "batch") (rows_in c.args.given.now) 1 1024 0 4294967295 (omega arith) (omega arith)
+    HasNumber-wider (codes "batch") (rows_in c.args.given.now) 1 1024 0 4294967295 (omega arith)
+    (omega arith)
     (takes_build (rows_in c.args.given.now) c.requires).batch
 
 pub byte_of-version-requires : goal.byte_of-version-requires
 byte_of-version-requires c =
-    HasNumber-wider (codes "format") (rows_in c.args.given.now) 1 2 0 255 (omega arith) (omega arith)
+    HasNumber-wider (codes "format") (rows_in c.args.given.now) 1 2 0 255 (omega arith)
+    (omega arith)
     (takes_build (rows_in c.args.given.now) c.requires).format
 
 pub text_of-requires : goal.text_of-requires

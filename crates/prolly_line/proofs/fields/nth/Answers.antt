@@ -7,7 +7,8 @@ use Rattle.prolly_line.proofs.fields.nth.Goals as goal
 
 pub number_of-requires : goal.number_of-requires
 number_of-requires c =
-    HasNumber-wider (codes "n") (rows_in c.args.given.now) 0 4294967295 0 4294967295 (omega arith) (omega arith)
+    HasNumber-wider (codes "n") (rows_in c.args.given.now) 0 4294967295 0 4294967295 (omega arith)
+    (omega arith)
     (takes_nth (rows_in c.args.given.now) c.requires).n
 
 pub text_of-requires : goal.text_of-requires
@@ -15,5 +16,10 @@ text_of-requires c = (takes_nth (rows_in c.args.given.now) c.requires).file
 
 pub returns : goal.returns
 returns c =
-    let takes = takes_nth (rows_in c.args.given.now) c.requires in
-    (refl, c.in_ok-file.ensures, subst (GivesNumber (rows_in c.args.given.now) (codes "n") 0 4294967295) (sym c.from-n.ensures) (c.number_of.ensures 0 4294967295 (omega arith) takes.n))
+    let takes = takes_nth (rows_in c.args.given.now) c.requires in (
+      refl,
+      c.in_ok-file.ensures,
+      subst (GivesNumber (rows_in c.args.given.now) (codes "n") 0
+          4294967295) (sym c.from-n.ensures) (c.number_of.ensures 0 4294967295 (omega arith)
+          takes.n),
+    )

@@ -9,7 +9,8 @@ key_of-requires c = (takes_scan (rows_in c.args.given.now) c.requires).key
 
 pub number_of-limit-requires : goal.number_of-limit-requires
 number_of-limit-requires c =
-    HasNumber-wider (codes "limit") (rows_in c.args.given.now) 0 1000000 0 4294967295 (omega arith) (omega arith)
+    HasNumber-wider (codes "limit") (rows_in c.args.given.now) 0 1000000 0 4294967295 (omega arith)
+    (omega arith)
     (takes_scan (rows_in c.args.given.now) c.requires).limit
 
 pub text_of-requires : goal.text_of-requires

@@ -11,7 +11,8 @@ byte_of-bits-requires c =
 
 pub byte_of-version-requires : goal.byte_of-version-requires
 byte_of-version-requires c =
-    HasNumber-wider (codes "format") (rows_in c.args.given.now) 1 2 0 255 (omega arith) (omega arith)
+    HasNumber-wider (codes "format") (rows_in c.args.given.now) 1 2 0 255 (omega arith)
+    (omega arith)
     (takes_scratch (rows_in c.args.given.now) c.requires).format
 
 pub returns : goal.returns

@@ -3,7 +3,8 @@ use Rattle.prolly_line.proofs.line.program_line.Goals as goal
 
 pub returns : goal.returns
 returns c =
-    let with_pack = c.with_subcommand-line.ensures _ _ c.bare_line-line.ensures c.pack_line.ensures in
+    let with_pack = c.with_subcommand-line.ensures _ _ c.bare_line-line.ensures c.pack_line.ensures
+    in
     let with_scratch = c.with_subcommand-line-2.ensures _ _ with_pack c.scratch_line.ensures in
     let with_build = c.with_subcommand-line-3.ensures _ _ with_scratch c.build_line.ensures in
     let with_check = c.with_subcommand-line-4.ensures _ _ with_build c.check_line.ensures in

@@ -5,10 +5,13 @@ use Rattle.prolly_line.proofs.subcommands.build_line.Goals as goal
 
 pub returns : goal.returns
 returns c =
-    let with_bits = IfOk-weaker c.arg-line.result _ _ (λ x adds. added c.described.result x c.bits_option.result _ _ c.described.ensures c.bits_option.ensures adds) c.arg-line.ensures in
+    let with_bits = IfOk-weaker c.arg-line.result _ _
+    (λ x adds. added c.described.result x c.bits_option.result _ _ c.described.ensures
+    c.bits_option.ensures adds) c.arg-line.ensures in
     let with_stages = c.with_argument-line.ensures _ _ with_bits c.stages_option.ensures in
     let with_capacity = c.with_argument-line-2.ensures _ _ with_stages c.capacity_option.ensures in
-    let with_max_records = c.with_argument-line-3.ensures _ _ with_capacity c.max_records_option.ensures in
+    let with_max_records = c.with_argument-line-3.ensures _ _ with_capacity
+    c.max_records_option.ensures in
     let with_batch = c.with_argument-line-4.ensures _ _ with_max_records c.batch_option.ensures in
     let with_format = c.with_argument-line-5.ensures _ _ with_batch c.format_option.ensures in
     let with_mode = c.with_mode-line.ensures _ with_format in

@@ -6,8 +6,10 @@ use Rattle.prolly_line.proofs.values.word_of.Goals as goal
 
 pub unwrap-requires : goal.unwrap-requires
 unwrap-requires c =
-    let there = word_there (found_of c.args.given.now) c.args.name.now c.get_str.result c.get_str.ensures c.requires in
+    let there = word_there (found_of c.args.given.now) c.args.name.now c.get_str.result
+    c.get_str.ensures c.requires in
     subst IsSome (sym there.1) refl
 
 pub returns : goal.returns
-returns c = word_read (found_of c.args.given.now) c.args.name.now c.get_str.result c.unwrap.result c.get_str.ensures c.unwrap.ensures
+returns c = word_read (found_of c.args.given.now) c.args.name.now c.get_str.result c.unwrap.result
+    c.get_str.ensures c.unwrap.ensures

@@ -4,10 +4,13 @@ use Rattle.prolly_tool.proofs.line.split_at_space.Goals as goal
 
 pub returns-then-is_empty-clause-none : goal.returns-then-is_empty-clause-none
 returns-then-is_empty-clause-none c =
-    no_space c.args.line.now c.first_place-space.result c.first_place-space.ensures.none (search (rules, length-drop))
+    no_space c.args.line.now c.first_place-space.result c.first_place-space.ensures.none
+    (search (rules, length-drop))
 
 pub returns-clause-some : goal.returns-clause-some
 returns-clause-some c =
-    cuts_there c.args.line.now c.split_at.result.0.now _ c.first_place-space.result c.first_place-space.ensures.none
+    cuts_there c.args.line.now c.split_at.result.0.now _ c.first_place-space.result
+    c.first_place-space.ensures.none
     (c.first_place-space.ensures.there (search (rules, length-drop))) c.split_at.ensures.front
-    (behind c.args.line.now c.split_at.result.1.now c.first_place-space.result c.split_at.ensures.back)
+    (behind c.args.line.now c.split_at.result.1.now c.first_place-space.result
+    c.split_at.ensures.back)

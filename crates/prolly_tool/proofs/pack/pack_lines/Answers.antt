@@ -9,12 +9,15 @@ loop-rest-init c = none_packed c.args.text.now c.args.out.now.items
 
 pub loop-rest-preserved : goal.loop-rest-preserved
 loop-rest-preserved c =
-    one_packed c.args.text.now c.args.out.now.items c.loop-rest.out.items c.pack_line.new.out.items c.loop-rest.rest.now c.split_line.result.0.now
-    c.split_line.result.1.now c.loop-rest.count c.loop-rest.invariant c.split_line.ensures.lines c.split_line.ensures.shorter (search rules)
+    one_packed c.args.text.now c.args.out.now.items c.loop-rest.out.items c.pack_line.new.out.items
+    c.loop-rest.rest.now c.split_line.result.0.now
+    c.split_line.result.1.now c.loop-rest.count c.loop-rest.invariant c.split_line.ensures.lines
+    c.split_line.ensures.shorter (search rules)
 
 pub returns-clause-ok : goal.returns-clause-ok
 returns-clause-ok c =
-    all_packed c.args.text.now c.args.out.now.items c.loop-rest.out.items c.loop-rest.rest.now c.loop-rest.count c.loop-rest.invariant
+    all_packed c.args.text.now c.args.out.now.items c.loop-rest.out.items c.loop-rest.rest.now
+    c.loop-rest.count c.loop-rest.invariant
     (nil_from_length c.loop-rest.rest.now (search rules))
 
 pub returns-in-Err-clause-unchanged : goal.returns-in-Err-clause-unchanged

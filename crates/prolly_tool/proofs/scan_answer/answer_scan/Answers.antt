@@ -6,10 +6,12 @@ use Rattle.prolly_tool.proofs.scan_answer.answer_scan.Goals as goal
 
 pub returns-clause-shown : goal.returns-clause-shown
 returns-clause-shown g c = λ honest. inl (
-    looked_up _ _ _ _ (c.in-Ok.ensures.same honest) c.in-Ok.ensures.accepted c.in-Ok.ensures.within (λ failed. failed c.in-Ok.ensures.unfailed)
+    looked_up _ _ _ _ (c.in-Ok.ensures.same honest) c.in-Ok.ensures.accepted c.in-Ok.ensures.within
+    (λ failed. failed c.in-Ok.ensures.unfailed)
     (λ content is. record {
       status_is = refl;
-      out_is = c.in_ok-out.ensures ∙ ap (flat_map (λ p. pair_text p ++ 0x0A ∷ [])) (c.deref.ensures.value ∙ c.in_ok-pairs.ensures content is);
+      out_is = c.in_ok-out.ensures ∙ ap (flat_map (λ p. pair_text p ++ 0x0A ∷ []))
+          (c.deref.ensures.value ∙ c.in_ok-pairs.ensures content is);
       err_is = c.new.ensures.items;
     })
     )

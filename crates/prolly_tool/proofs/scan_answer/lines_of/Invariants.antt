@@ -4,4 +4,5 @@ use Rattle.prolly_tool.specs.LookUps.{pair_text}
 use Rattle.prolly_tool.proofs.scan_answer.lines_of.Given as goal
 
 abbrev pub invariant-loop-pair : goal.invariant-loop-pair
-invariant-loop-pair l = l.lines.items ≡ flat_map (λ p. pair_text p ++ 0x0A ∷ []) (take l.pair-index l.fn.pairs)
+invariant-loop-pair l = l.lines.items ≡ flat_map (λ p. pair_text p ++ 0x0A ∷ [])
+    (take l.pair-index l.fn.pairs)
