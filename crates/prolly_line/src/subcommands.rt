@@ -69,8 +69,10 @@ pub(crate) fn dump_line<'a>(alloc: Global) -> Result<Command<'a>, AllocError>
     ensures { IfOk result (HasLine dump_line) }
 {
     let line = with_mode(alloc, Ok(described(alloc, "dump", help::DUMP)));
-    let line = with_argument(line, arguments::file_word(alloc));
-    with_argument(line, arguments::optional_out_word(alloc))
+    with_argument(
+        with_argument(line, arguments::file_word(alloc)),
+        arguments::optional_out_word(alloc),
+    )
 }
 
 /// `get FILE HEXKEY`

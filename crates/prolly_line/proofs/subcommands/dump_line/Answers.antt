@@ -4,5 +4,5 @@ use Rattle.prolly_line.proofs.subcommands.dump_line.Goals as goal
 pub returns : goal.returns
 returns c =
     let with_mode = c.with_mode-line.ensures _ c.described.ensures in
-    let with_file = c.with_argument-line.ensures _ _ with_mode c.file_word.ensures in
-    c.with_argument.ensures _ _ with_file c.optional_out_word.ensures
+    let with_file = c.with_argument.ensures _ _ with_mode c.file_word.ensures in
+    c.with_argument-2.ensures _ _ with_file c.optional_out_word.ensures
