@@ -126,8 +126,8 @@ nth_line = with_rule (with_rule (new_app (codes "nth")) file_word) n_word
 
 -- `dump [--atomic] [--sync] FILE [OUT]`
 abbrev pub dump_line : App
-dump_line = with_rule (with_rule (with_rule (with_rule (new_app (codes "dump")) atomic_flag) sync_flag) file_word)
-    optional_out_word
+dump_line = with_rule (with_rule (with_rule (with_rule (new_app (codes "dump"))
+    atomic_flag) sync_flag) file_word) optional_out_word
 
 -- ---- the whole line
 

@@ -1,6 +1,7 @@
 //! What the program prints.
 ghost use Rattle.std.specs.Prelude.{IfOk};
-ghost use Rattle.prolly_tool.specs.Answers.{ShowsNothing, ShowsLine, ShowsDone, ShowsFault, ShowsName, ShowsRefusal};
+ghost use Rattle.prolly_tool.specs.Answers.{ShowsDone, ShowsFault, ShowsLine, ShowsName};
+ghost use Rattle.prolly_tool.specs.Answers.{ShowsNothing, ShowsRefusal};
 
 use crate::fault::Fault;
 use crate::line_parts::append_name;
