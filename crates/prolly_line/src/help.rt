@@ -152,15 +152,16 @@ the exit status is 1.",
 
 pub(crate) const DUMP: Help<'static> = Help {
     about: "Write the pairs of a chunk file as a record file",
-    details: "Writes all pairs of a chunk file as a record file: the one whose tree it is. So
-`scratch` and `build` make the same chunk file of it again, at equal --bits and
---format.
+    details: "Writes all pairs of a chunk file as a record file. `scratch` and `build` make
+the same chunk file of it again, at equal --bits and --format; they take at most
+16,777,216 records from one file. The chunk file is checked first, as by
+`check`.
 
 The record file goes to OUT, or to standard output where OUT is not given; then
 --atomic and --sync say nothing. Nothing else is printed.
 
 OUT is made once FILE is open, before it is read. After a fault it is left
-empty, and where writing it failed, with the first part of the record file. With
+empty; where writing it failed, with the first part of the record file. With
 --atomic it is as it was.",
     example: "Example: the pairs of a tree, with the changes of a day, to the next tree
   prolly dump monday.prl monday.rec
