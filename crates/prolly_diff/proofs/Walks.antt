@@ -1,7 +1,8 @@
 -- The walk: what was passed over, and the change behind it.
 use Rattle.std.proofs.Common.{◌≡◌, ◌≢◌, ℕ, Bool, true, false, cond, List, [], ◌∷◌, ◌++◌, Option}
-use Rattle.std.proofs.Common.{Some, None, refl, sym, ap, ◌∙◌, subst, append_assoc, not, nat_eq}
+use Rattle.std.proofs.Common.{Some, None, refl, sym, ap, ◌∙◌, subst, append_assoc, not, nat_eq, arith, length}
 use Rattle.std.specs.Cmp.Lexicographic.{pointwise}
+use Rattle.std.proofs.lemmas.List.{length-append}
 use Rattle.std.specs.Ordering.{is_eq}
 use Rattle.std.proofs.lemmas.Bool.Decides.{Decides-eqb}
 use Rattle.std.proofs.lemmas.Slice.Eq.{slice_eq-Decides}
@@ -84,6 +85,8 @@ change_behind maps mid rest key before after m s none c = record {
   after_is = ap (λ xs. find xs key) s.after_is ∙ find_behind s.shared mid.after key none ∙
       c.after_is;
   left = c.left;
+  less = omega (arith, c.less, ap length s.before_is, ap length s.after_is,
+      length-append s.shared mid.before, length-append s.shared mid.after);
 }
 
 -- ---- the three kinds of changes
@@ -101,6 +104,7 @@ removed maps mid rest o m s h = change_behind maps mid rest o.key (Some o.value)
       before_is = rw h.0 (found_first o rest.before);
       after_is = rw h.1 (find_above rest.after o.key h.2);
       left = (map_behind (o ∷ []) rest.before os, subst IsMap h.1 mids.1);
+      less = omega (arith, ap length h.0, ap length h.1);
     })
   where
     mids : AreMaps mid
@@ -119,6 +123,7 @@ added maps mid rest n m s h = change_behind maps mid rest n.key None (Some n.val
       before_is = rw h.0 (find_above rest.before n.key h.2);
       after_is = rw h.1 (found_first n rest.after);
       left = (subst IsMap h.0 mids.0, map_behind (n ∷ []) rest.after ns);
+      less = omega (arith, ap length h.0, ap length h.1);
     })
   where
     mids : AreMaps mid
@@ -139,6 +144,7 @@ changed maps mid rest o n m s h differ = rw h.2 (change_behind maps mid rest n.k
       before_is = rw (h.0, sym h.2) (found_first o rest.before);
       after_is = rw h.1 (found_first n rest.after);
       left = (map_behind (o ∷ []) rest.before os, map_behind (n ∷ []) rest.after ns);
+      less = omega (arith, ap length h.0, ap length h.1);
     }))
   where
     mids : AreMaps mid

@@ -1,5 +1,5 @@
 -- A walk over two maps side by side.
-use Rattle.std.specs.Prelude.{◌≡◌, ℕ, List, [], ◌∷◌, ◌++◌, Option, Some, None}
+use Rattle.std.specs.Prelude.{◌≡◌, ℕ, ◌+◌, ◌<◌, List, [], ◌∷◌, ◌++◌, length, Option, Some, None}
 use Rattle.std.specs.declared.cmp.Ordering.{Ordering}
 use Rattle.std.specs.declared.cmp.Ordering.TheVariants.{Less, Greater}
 use Rattle.prolly_entry.specs.Keys.{key_order}
@@ -52,7 +52,8 @@ TakesLeast maps (Some before) (Some after) rest = (maps.before ≡ before ∷ re
     (maps.after ≡ after ∷ rest.after) × (before.key ≡ after.key)
 
 -- The key is the first in which the maps differ: the one has `before` at it, and the other `after`.
--- The record that says so, before the difference of the maps that are left, makes theirs.
+-- The record that says so, before the difference of the maps that are left, makes theirs; and these
+-- are shorter.
 pub record IsFirstChange (maps : Maps) (key : List ℕ) (before after : Option (List ℕ))
     (rest : Maps) : Type 0 where
   pub begins : (d : List Record) → IsDifference rest.before rest.after d →
@@ -60,3 +61,4 @@ pub record IsFirstChange (maps : Maps) (key : List ℕ) (before after : Option (
   pub before_is : find maps.before key ≡ before
   pub after_is : find maps.after key ≡ after
   pub left : AreMaps rest
+  pub less : length rest.before + length rest.after < length maps.before + length maps.after
