@@ -25,6 +25,11 @@ SHORT_VALUE = 16
 
 MORE_RECORDS = 16_000_000
 
+CHANGES = 10
+"""In how many keys two trees differ."""
+
+CHANGED_VALUE = SHORT_VALUE + 1
+
 LONG_RECORDS = 200_000
 LONG_VALUE = 1_024
 
@@ -49,6 +54,7 @@ def main():
     with tempfile.TemporaryDirectory() as folder:
         os.chdir(folder)
         show_commands(program, parts, turns)
+        show_diff(program, parts, turns)
         show_builds(program, parts, turns)
         show_long_builds(program, parts, turns)
         show_growth(program, parts, turns)
@@ -192,7 +198,7 @@ def late_builds(program, kinds):
 
 
 def show_commands(program, parts, turns):
-    """`scratch`, `build`, `check` and `get`."""
+    """`scratch`, `build`, `check`, `get` and `dump`."""
     write_records("records", range(RECORDS))
     key = (RECORDS // 2).to_bytes(16, "big").hex()
     commands = {
@@ -200,14 +206,32 @@ def show_commands(program, parts, turns):
         "build": building(program, ["records"]),
         "check": Command([program, "check", "tree"]),
         "get": Command([program, "get", "tree", key]),
+        "dump": Command([program, "dump", "tree", "again"], makes="again"),
     }
     figures = in_turn(parts, commands, turns, RECORDS)
     figures.show_hashes(f"{RECORDS} records of 38 bytes")
     figures.show("scratch")
     for name in ("build", "check", "get"):
         figures.show(name, "scratch")
+    figures.show("dump", "check")
     print(f"  the records have {os.path.getsize('records') / 1e6:.0f} MB, the tree {os.path.getsize('tree') / 1e6:.0f} MB")
-    remove(["records", "tree"])
+    remove(["records", "tree", "again"])
+
+
+def show_diff(program, parts, turns):
+    """The walk over two trees that differ in a few keys, beside the check of both."""
+    write_records("records", range(RECORDS))
+    write_records("changes", range(0, RECORDS, RECORDS // CHANGES), CHANGED_VALUE)
+    Command(build(program, ["records"], "old")).run()
+    Command(build(program, ["records", "changes"], "new")).run()
+    lines = [output(parts, "diff", str(CHANGES), "old", "new") for _ in range(turns)]
+    checking, walking = ([int(re.search(rf"{what} (\d+) us", line)[1]) / 1e6 for line in lines] for what in ("check", "walk"))
+    print(
+        f"{CHANGES} changes of {RECORDS} pairs: walk {median(walking) * 1000:.1f} ms"
+        f" ({min(walking) * 1000:.1f} to {max(walking) * 1000:.1f}), check of both files {spread(checking)},"
+        f" {median(one / other for one, other in zip(walking, checking, strict=True)):.4f} of it"
+    )
+    remove(["records", "changes", "old", "new"])
 
 
 def show_builds(program, parts, turns):

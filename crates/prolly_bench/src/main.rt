@@ -5,12 +5,14 @@
 mod hashes;
 mod links;
 mod samples;
+mod trees;
 mod watched;
 mod workers;
 
 use crate::hashes::time_hashes;
 use crate::links::{time_batches, time_link, wait_a_second};
 use crate::samples::{VALUE_BYTES, numbered_pairs};
+use crate::trees::time_diff;
 use crate::workers::{time_leaves, time_load, time_merge};
 use anyhow::{Context, Result, bail};
 use prolly_entry::Sha512Cut;
@@ -22,7 +24,7 @@ use std::time::{Clock, Instant};
 
 const USAGE: &str = "prolly_bench hash PAIRS [VALUE_BYTES] | scratch PAIRS | load RECORDS FILE | \
      merge-of-2 RECORDS | merge-of-16 RECORDS | leaves PARTS | link ITEMS | \
-     batches-of-16 ITEMS | batches-of-64 ITEMS | wait 1";
+     batches-of-16 ITEMS | batches-of-64 ITEMS | diff CHANGES OLD NEW | wait 1";
 
 /// The bits of the cut: about one entry in 4,096 ends a chunk.
 const BITS: u8 = 12;
@@ -57,6 +59,10 @@ fn main(rt: HostRuntime) -> Result<()> {
         "link" => time_link(rt, rt.alloc(), count),
         "batches-of-16" => time_batches(rt, rt.alloc(), count, 16),
         "batches-of-64" => time_batches(rt, rt.alloc(), count, 64),
+        "diff" => match (words.next(), words.next()) {
+            (Some(old), Some(new)) => time_diff(&rt, rt.alloc(), (&old, &new), count),
+            _ => bail!("{USAGE}"),
+        },
         "wait" => wait_a_second(rt, rt.alloc()),
         _ => bail!("{USAGE}"),
     }
