@@ -17,6 +17,7 @@ import build
 import command_line
 import damaged
 import demo
+import diffs
 import dumps
 import examples
 import files
@@ -60,10 +61,10 @@ def all_runs(program, folder):
     if sys.argv[2:3] == ["--links"]:
         yield from links.by_hand(program, int(sys.argv[3]))
         return
-    for part in (command_line, pack, scratch, build, look_ups, dumps, damaged, random_runs):
+    for part in (command_line, pack, scratch, build, look_ups, dumps, diffs, damaged, random_runs):
         for case in part.cases(folder):
             yield case.name, run(program, case)
-    for part in (dumps, files, links, growths, examples, demo, misuse):
+    for part in (dumps, diffs, files, links, growths, examples, demo, misuse):
         yield from part.all_runs(program, folder)
 
 

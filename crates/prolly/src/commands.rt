@@ -13,8 +13,8 @@ use prolly_fault::RunFault;
 use prolly_file::{Buffered, FromRead, Sink, ToWrite};
 use prolly_stage::OpenGate;
 use prolly_tool::{
-    Answer, Command, Config, Fault, NameFault, WriteMode, answer_build, answer_check, answer_dump,
-    answer_get, answer_nth, answer_pack, answer_scan, answer_scratch,
+    Answer, Command, Config, DiffForm, Fault, NameFault, WriteMode, answer_build, answer_check,
+    answer_diff, answer_dump, answer_get, answer_nth, answer_pack, answer_scan, answer_scratch,
 };
 use std::alloc::AllocError;
 use std::fs;
@@ -95,6 +95,15 @@ fn answer_or_refusal<T: Wait + Threads + Sync>(
             None => dump(rt, &file),
             Some(out) => dump_to(rt, &file, &out, mode),
         },
+        Command::Diff {
+            old,
+            new,
+            out,
+            mode,
+        } => match out {
+            None => diff(rt, &old, &new),
+            Some(out) => diff_to(rt, &old, &new, &out, mode),
+        },
     }
 }
 
@@ -167,6 +176,46 @@ fn dump_into<W: Write + Drop>(
 ) -> Result<Answer, AllocError> {
     let mut sink = Buffered::with_capacity(rt.alloc(), OUTPUT_BYTES, ToWrite::new(writer))?;
     answer_dump(rt.alloc(), &mut source, &mut sink)
+}
+
+/// `diff OLD NEW`
+fn diff(rt: &HostRuntime, old: &str, new: &str) -> Result<Answer, Refusal> {
+    let target = FileId::at(rt, STDOUT);
+    let (old, new) = (
+        opened_beside(rt, old, target)?,
+        opened_beside(rt, new, target)?,
+    );
+    Ok(diff_into(rt, old, new, DiffForm::Lines, rt.stdout())?)
+}
+
+/// `diff OLD NEW --out FILE [--atomic] [--sync]`
+fn diff_to(
+    rt: &HostRuntime,
+    old: &str,
+    new: &str,
+    out: &str,
+    mode: WriteMode,
+) -> Result<Answer, Refusal> {
+    let target = FileId::at(rt, out);
+    let (old, new) = (
+        opened_beside(rt, old, target)?,
+        opened_beside(rt, new, target)?,
+    );
+    let output = output_of(rt, out, target, mode)?;
+    let answer = diff_into(rt, old, new, DiffForm::Records, output.file());
+    Ok(output.finish(rt, out, answer)?)
+}
+
+/// Writes what turns the map of the one source into that of the other.
+fn diff_into<W: Write + Drop>(
+    rt: &HostRuntime,
+    mut old: FromRead<File>,
+    mut new: FromRead<File>,
+    form: DiffForm,
+    writer: W,
+) -> Result<Answer, AllocError> {
+    let mut sink = Buffered::with_capacity(rt.alloc(), OUTPUT_BYTES, ToWrite::new(writer))?;
+    answer_diff(rt.alloc(), &mut old, &mut new, form, &mut sink)
 }
 
 /// The file of this name, to be read.

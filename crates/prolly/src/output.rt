@@ -11,6 +11,9 @@ use std::{fs, io};
 /// goes on, or that was killed.
 const MOST_NAMES: u32 = 1000;
 
+/// The greatest status of a command that is done: by it `diff` says that the maps differ.
+const DONE: u8 = 1;
+
 /// The file that a command writes: the one that the words name, or one beside it that is to replace
 /// it.
 #[derive(Drop)]
@@ -76,7 +79,7 @@ impl Output {
         answer: Result<Answer, AllocError>,
     ) -> Result<Answer, AllocError> {
         match answer {
-            Ok(done) if done.status == 0 => match self.keep(rt, name) {
+            Ok(done) if done.status <= DONE => match self.keep(rt, name) {
                 Ok(()) => Ok(done),
                 Err(Lost::Memory) => Err(AllocError),
                 Err(Lost::Place) => Answer::of_name(rt.alloc(), NameFault::CannotReplace, name),

@@ -1,0 +1,145 @@
+"""`diff`: what turns one chunk file's map into another's, and what becomes of it."""
+
+import random
+
+from dumps import BEFORE, chained
+from harness import FOLDER, Case
+from look_ups import LONG, NUMBERS, hexed
+from scratch import ABC
+from trees import REMOVED, chunk_file, overlay, records, report
+
+ALIKE, DIFFERENT = 0, 1
+"""The status where the maps are equal, and where they are not."""
+
+
+def difference(old, new):
+    """What turns one map into the other, as records in the order of keys."""
+    before, after = dict(old), dict(new)
+    keys = sorted(before.keys() | after.keys())
+    return [(key, after.get(key, REMOVED)) for key in keys if before.get(key, REMOVED) != after.get(key, REMOVED)]
+
+
+def lines(changes):
+    """Records as lines that `pack` reads."""
+    return b"".join(hexed(key) + b" " + (b"-" if value is REMOVED else hexed(value)) + b"\n" for key, value in changes)
+
+
+# ---- pairs of maps
+
+
+def changed(pairs, count, chance):
+    """A map that differs in so many keys: a third of them new, a third removed, a third with another value."""
+    found = dict(pairs)
+    for place, key in enumerate(chance.sample(sorted(found), min(count, len(found)))):
+        kind = place % 3
+        if kind == 0:
+            found[key] += b"!"
+        elif kind == 1:
+            del found[key]
+        else:
+            found[key + b"\0"] = b"new"
+    return sorted(found.items())
+
+
+def some_map(chance, count):
+    """A map of random pairs."""
+    return sorted({chance.randbytes(chance.randint(0, 6)): chance.randbytes(chance.randint(0, 9)) for _ in range(count)}.items())
+
+
+def pairs_of_maps():
+    """Maps beside maps, with a name."""
+    chance = random.Random(27)
+    yield "equal maps", ABC, ABC
+    yield "the empty map beside itself", [], []
+    yield "from nothing", [], ABC
+    yield "to nothing", ABC, []
+    yield "one value changed", ABC, [(b"a", b"1"), (b"b", b"2"), (b"c", b"1")]
+    yield "a value of the same beginning", [(b"a", b"1")], [(b"a", b"12")]
+    yield "the first key removed", ABC, ABC[1:]
+    yield "the last key removed", ABC, ABC[:-1]
+    yield "the empty key is new", ABC, [(b"", b""), *ABC]
+    yield "no key is the same", [(b"a", b"1"), (b"c", b"1")], [(b"b", b"1"), (b"d", b"1")]
+    yield "the greatest pair", LONG, ABC
+    for count in (0, 1, 10, len(NUMBERS)):
+        yield f"3,000 pairs, {count} changed", NUMBERS, changed(NUMBERS, count, chance)
+    for number in range(12):
+        old = some_map(chance, chance.choice([1, 10, 200, 1_000]))
+        new = chance.choice([changed(old, chance.choice([0, 1, 10]), chance), some_map(chance, 50)])
+        yield f"random maps, number {number}", old, new
+
+
+def kinds():
+    """The bits and the formats of two files."""
+    return [((2, 1), (2, 1)), ((0, 2), (0, 2)), ((12, 1), (3, 2))]
+
+
+def cases(_):
+    """All cases of one run."""
+    found = []
+    for name, old, new in pairs_of_maps():
+        for (old_bits, old_version), (new_bits, new_version) in kinds():
+            before = {"old.prl": chunk_file(old, old_bits, old_version), "new.prl": chunk_file(new, new_bits, new_version)}
+            found += told(f"{name}, --bits {old_bits} and {new_bits}", before, difference(old, new))
+    return found + refused()
+
+
+def told(name, before, changes):
+    """A difference that is printed, and written."""
+    status = DIFFERENT if changes else ALIKE
+    words = ["diff", "old.prl", "new.prl"]
+    return [
+        Case(f"diff: {name}", words, status=status, out=lines(changes), before=before),
+        Case(f"diff: {name}, to a file", [*words, "--out", "d.rec"], status=status, before=before, after={"d.rec": records(changes)}),
+    ]
+
+
+def refused():
+    """Runs that have a fault."""
+    good, cut = chunk_file(ABC, 0), chunk_file(ABC, 0)[:-1]
+    both = {"old.prl": good, "new.prl": chunk_file([], 0)}
+    words = ["diff", "old.prl", "new.prl"]
+    out = [*words, "--out", "d.rec"]
+    no_write = b"prolly: write failed\n"
+    return [
+        Case("diff: OLD is cut", words, status=4, err=b"prolly: old chunk file: truncated\n", before=both | {"old.prl": cut}),
+        Case("diff: NEW is cut", words, status=4, err=b"prolly: new chunk file: truncated\n", before=both | {"new.prl": cut}),
+        Case("diff: both are cut", words, status=4, err=b"prolly: old chunk file: truncated\n", before={"old.prl": cut, "new.prl": cut}),
+        Case("diff: a record file", words, status=4, err=b"prolly: new chunk file: bad header\n", before=both | {"new.prl": records(ABC)}),
+        Case("diff: no OLD", words, status=5, err=b"prolly: cannot open old.prl\n", before={"new.prl": good}),
+        Case("diff: no NEW", words, status=5, err=b"prolly: cannot open new.prl\n", before={"old.prl": good}),
+        Case("diff: OUT is a folder", [*words, "--out", "out"], status=5, err=b"prolly: cannot open out\n", before=both | {"out": FOLDER}),
+        Case("diff: OUT is OLD", [*words, "--out", "old.prl"], status=2, err=b"prolly: OUT is also an input: old.prl\n", before=both),
+        Case("diff: OUT is NEW", [*words, "--out", "new.prl"], status=2, err=b"prolly: OUT is also an input: new.prl\n", before=both),
+        Case("diff: OUT is a full device", [*words, "--out", "/dev/full"], status=5, err=no_write, before=both),
+        Case("diff: nobody reads", words, status=5, err=no_write, before=both, stdout="unread"),
+        Case("diff: OUT is emptied by a fault", out, status=4, err=b"prolly: old chunk file: truncated\n", before=both | {"old.prl": cut, "d.rec": BEFORE}, after={"d.rec": b""}),
+        Case("diff: OUT is as it was", [*out, "--atomic"], status=4, err=b"prolly: old chunk file: truncated\n", before=both | {"old.prl": cut, "d.rec": BEFORE}),
+        Case("diff: OUT is replaced", [*out, "--atomic", "--sync"], status=1, before=both | {"d.rec": BEFORE}, after={"d.rec": records(difference(ABC, []))}),
+        Case("diff: a file beside itself", ["diff", "old.prl", "old.prl"], before=both),
+    ]
+
+
+# ---- a difference is an input
+
+
+def makes_the_new_tree(place, old, new):
+    """OLD's pairs and the difference make NEW's tree; its lines, packed, are the difference."""
+    changes = difference(old, new)
+    whole = chunk_file(new, 3)
+    status = DIFFERENT if changes else ALIKE
+    place.lay(old_prl=chunk_file(old, 3), new_prl=whole)
+    place.answers(place.run("diff", "old.prl", "new.prl", "--out", "d.rec"), (status, b"", b""))
+    place.answers(place.run("dump", "old.prl", "old.rec"), (0, b"", b""))
+    place.answers(place.run("build", "--bits", "3", "again.prl", "old.rec", "d.rec"), (0, report(new, 3), b""))
+    told_lines = place.run("diff", "old.prl", "new.prl")[1]
+    place.answers(place.run("pack", "packed.rec", stdin=told_lines), (0, None, b""))
+    place.holds(
+        old_prl=None, new_prl=whole, again_prl=whole, old_rec=records(old), d_rec=records(changes), packed_rec=records(changes)
+    )
+
+
+def all_runs(program, _):
+    """Runs the chains, each in a folder of its own, and gives for each its name and its differences."""
+    assert overlay([ABC, difference(ABC, LONG)]) == LONG
+    for name, old, new in pairs_of_maps():
+        yield f"diff, and build: {name}", chained(program, lambda place, old=old, new=new: makes_the_new_tree(place, old, new))
