@@ -6,7 +6,7 @@ from harness import Case
 
 TEXTS = Path(__file__).parent / "texts"
 
-COMMANDS = ["pack", "scratch", "build", "check", "get", "scan", "nth", "dump"]
+COMMANDS = ["pack", "scratch", "build", "check", "get", "scan", "nth", "dump", "diff"]
 
 
 def helped(words, text):
@@ -62,7 +62,7 @@ def usage_cases():
     """Words that are missing, unknown or too many."""
     none = (
         "error: 'prolly' requires a subcommand but one was not provided\n"
-        "  [subcommands: pack, scratch, build, check, get, scan, nth, dump, help]\n\n"
+        "  [subcommands: pack, scratch, build, check, get, scan, nth, dump, diff, help]\n\n"
         "Usage: prolly <COMMAND>\n\nFor more information, try '--help'.\n"
     )
     return [
@@ -83,6 +83,10 @@ def usage_cases():
         missing(["nth", "f"], ["N"], "nth <FILE> <N>"),
         missing(["dump"], ["FILE"], "dump <FILE> [OUT]"),
         wrong(["dump", "f", "o", "x"], "unexpected argument 'x' found", "dump [OPTIONS] <FILE> [OUT]"),
+        missing(["diff"], ["OLD", "NEW"], "diff <OLD> <NEW>"),
+        missing(["diff", "f"], ["NEW"], "diff <OLD> <NEW>"),
+        wrong(["diff", "f", "g", "x"], "unexpected argument 'x' found", "diff [OPTIONS] <OLD> <NEW>"),
+        wrong(["diff", "f", "g", "--out"], "a value is required for '--out <FILE>' but none was supplied"),
         Case("usage: a word that is no text", [b"check", b"\xff"], status=2, err=b"prolly: a word is not UTF-8\n"),
     ]
 

@@ -95,6 +95,16 @@ fn commands_have_their_fields(rt: HostRuntime) -> Result<(), Fail> {
             "Dump { file: \"a.prl\", out: Some(\"a.rec\"), \
              mode: WriteMode { atomic: true, sync: true } }",
         ),
+        (
+            "diff a.prl b.prl",
+            "Diff { old: \"a.prl\", new: \"b.prl\", out: None, \
+             mode: WriteMode { atomic: false, sync: false } }",
+        ),
+        (
+            "diff a.prl --atomic --out a.rec b.prl",
+            "Diff { old: \"a.prl\", new: \"b.prl\", out: Some(\"a.rec\"), \
+             mode: WriteMode { atomic: true, sync: false } }",
+        ),
     ];
     for (line, expected) in cases {
         let text = shown(alloc, line)?;
@@ -116,6 +126,8 @@ fn words_out_of_range_are_usage(rt: HostRuntime) -> Result<(), Fail> {
         "nth a.prl 4294967296",
         "dump",
         "dump a.prl a.rec b.rec",
+        "diff a.prl",
+        "diff a.prl b.prl a.rec",
         "forget a.prl",
     ];
     for line in lines {

@@ -13,7 +13,7 @@ use Rattle.prolly_line.specs.Given.{HasFields, IsGivenBy, IsRefusalOf, IsRefused
 use Rattle.prolly_line.specs.Line.{line_faults, line_given, program_line}
 use Rattle.prolly_line.specs.declared.command.Command.{Command}
 use Rattle.prolly_line.specs.declared.command.Command.TheVariants.{Pack, Scratch, Build, Check, Get}
-use Rattle.prolly_line.specs.declared.command.Command.TheVariants.{Scan, Nth, Dump}
+use Rattle.prolly_line.specs.declared.command.Command.TheVariants.{Scan, Nth, Dump, Diff}
 use Rattle.prolly_line.specs.declared.command.ParseFault.{ParseFault}
 use Rattle.prolly_line.specs.declared.command.ParseFault.TheVariants.{Memory, Usage, Help, BadKey}
 
@@ -122,4 +122,5 @@ limits_kept given (Ok command) fields = go command fields
     go (Scan file from limit) h = (h.2.2.1, h.3.2)
     go (Nth file n) h = h.2.2
     go (Dump file out mode) h = tt
+    go (Diff old new out mode) h = tt
 limits_kept given (Err fault) refused = tt

@@ -1,4 +1,4 @@
--- An accepted subcommand is one of the eight.
+-- An accepted subcommand is one of the nine.
 use Rattle.std.proofs.Common.{◌≡◌, ◌∙◌, List, false, true, refl, sym, subst, codes}
 use Rattle.std.specs.Str.{bytes_eq}
 use Rattle.std.proofs.lemmas.Slice.Eq.{bytes_eq-Decides}
@@ -21,6 +21,7 @@ pub record IsStrange (name : Text) : Type 0 where
   pub scan : name ≡ codes "scan" → ⊥
   pub nth : name ≡ codes "nth" → ⊥
   pub dump : name ≡ codes "dump" → ⊥
+  pub diff : name ≡ codes "diff" → ⊥
   pub help : name ≡ codes "help" → ⊥
 
 -- no subcommand of the line has such a name
@@ -42,7 +43,10 @@ none_strange = (
               (λ strange. strange.nth refl),
               (
                 (λ strange. strange.dump refl),
-                ((λ strange. strange.help refl), tt),
+                (
+                  (λ strange. strange.diff refl),
+                  ((λ strange. strange.help refl), tt),
+                ),
               ),
             ),
           ),
@@ -64,13 +68,13 @@ not_help given accepted is =
     let bad : true ≡ false = sym same ∙ past in
     cc
 
--- and so an accepted subcommand has the name of one of the eight
+-- and so an accepted subcommand has the name of one of the nine
 pub not_strange : (name : Text) (rows : List Row) → IsAccepted (name, rows)
     → (name ≡ codes "pack" → ⊥) → (name ≡ codes "scratch" → ⊥) → (name ≡ codes "build" → ⊥) →
     (name ≡ codes "check" → ⊥)
     → (name ≡ codes "get" → ⊥) → (name ≡ codes "scan" → ⊥) → (name ≡ codes "nth" → ⊥)
-    → (name ≡ codes "dump" → ⊥) → ⊥
-not_strange name rows accepted pack scratch build check get scan nth dump =
+    → (name ≡ codes "dump" → ⊥) → (name ≡ codes "diff" → ⊥) → ⊥
+not_strange name rows accepted pack scratch build check get scan nth dump diff =
     let level = accepted_level accepted.0 (name, rows) accepted.1 accepted.2 in
     let is : level.0.name ≡ name = found_name name (built program_line).subs level.0 no_aliases
     level.1 in
@@ -86,5 +90,6 @@ not_strange name rows accepted pack scratch build check get scan nth dump =
       scan = scan;
       nth = nth;
       dump = dump;
+      diff = diff;
       help = not_help (name, rows) accepted;
     }))

@@ -7,8 +7,8 @@ use Rattle.clap.proofs.OnLiterals.{clap_on_literals}
 use Rattle.prolly_line.proofs.Levels.{level_at, number_at, shape_at, word_at}
 use Rattle.prolly_line.proofs.Passes.{Each, IsSound}
 use Rattle.prolly_line.specs.Accepted.{HasNumber, HasWord, IsAccepted}
-use Rattle.prolly_line.specs.Line.{build_line, check_line, dump_line, get_line, nth_line, pack_line}
-use Rattle.prolly_line.specs.Line.{program_line, scan_line, scratch_line}
+use Rattle.prolly_line.specs.Line.{build_line, check_line, diff_line, dump_line, get_line}
+use Rattle.prolly_line.specs.Line.{nth_line, pack_line, program_line, scan_line, scratch_line}
 
 -- a subcommand as it is built under the program's line
 abbrev built_of : App → Shape
@@ -271,4 +271,36 @@ takes_dump rows accepted =
     let level = level_at (codes "dump") dump_shape rows dump_found accepted in
     record {
       file = word_at dump_shape rows (codes "file") dump_sound level refl refl;
+    }
+
+-- ---- diff
+
+unfoldable diff_shape : Shape
+diff_shape = built_of diff_line
+
+diff_found : shape_at (codes "diff") ≡ Some diff_shape
+unfolding clap_on_literals diff_shape
+diff_found = refl
+
+diff_sound : IsSoundShape diff_shape
+unfolding clap_on_literals diff_shape
+diff_sound = (
+  (refl, refl),
+  (
+    (refl, refl),
+    ((refl, refl), ((refl, refl), ((refl, refl), ((refl, refl), tt)))),
+  ),
+)
+
+pub record TakesDiff (rows : List Row) : Type 0 where
+  pub old : HasWord (codes "old") rows
+  pub new : HasWord (codes "new") rows
+
+pub takes_diff : (rows : List Row) → IsAccepted (codes "diff", rows) → TakesDiff rows
+unfolding clap_on_literals diff_shape
+takes_diff rows accepted =
+    let level = level_at (codes "diff") diff_shape rows diff_found accepted in
+    record {
+      old = word_at diff_shape rows (codes "old") diff_sound level refl refl;
+      new = word_at diff_shape rows (codes "new") diff_sound level refl refl;
     }

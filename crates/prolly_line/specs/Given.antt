@@ -10,7 +10,7 @@ use Rattle.prolly_line.specs.Line.{line_faults, line_given}
 use Rattle.prolly_line.specs.declared.command.Command.{Command}
 use Rattle.prolly_line.specs.declared.command.WriteMode.{WriteMode}
 use Rattle.prolly_line.specs.declared.command.Command.TheVariants.{Pack, Scratch, Build, Check, Get}
-use Rattle.prolly_line.specs.declared.command.Command.TheVariants.{Scan, Nth, Dump}
+use Rattle.prolly_line.specs.declared.command.Command.TheVariants.{Scan, Nth, Dump, Diff}
 use Rattle.prolly_line.specs.declared.command.ParseFault.{ParseFault}
 use Rattle.prolly_line.specs.declared.command.ParseFault.TheVariants.{Memory, Usage, Help, BadKey}
 
@@ -109,6 +109,12 @@ HasFields (Dump file out mode) given =
     × GivesWord given.1 (codes "file") (string_bytes file)
     × GivesOption given.1 (codes "out") (option_map string_bytes out)
     × GivesMode given.1 mode
+HasFields (Diff old new out mode) given =
+    (given.0 ≡ codes "diff")
+    × GivesWord given.1 (codes "old") (string_bytes old)
+    × GivesWord given.1 (codes "new") (string_bytes new)
+    × GivesOption given.1 (codes "out") (option_map string_bytes out)
+    × GivesMode given.1 mode
 
 -- clap takes the words, and the command is what they give
 abbrev pub IsGivenBy : List Text → Command → Type 0
@@ -132,6 +138,7 @@ IsWithinLimits (Get file key) = length key.items ≤ 1024
 IsWithinLimits (Scan file from limit) = (length from.items ≤ 1024) × (limit ≤ 1000000)
 IsWithinLimits (Nth file n) = n ≤ 4294967295
 IsWithinLimits (Dump file out mode) = ⊤
+IsWithinLimits (Diff old new out mode) = ⊤
 
 -- ---- refusals
 

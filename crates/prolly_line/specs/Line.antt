@@ -80,6 +80,12 @@ optional_out_word = optional_word (codes "out")
 abbrev pub file_word : Rule
 file_word = word_rule (codes "file")
 
+abbrev pub old_word : Rule
+old_word = word_rule (codes "old")
+
+abbrev pub new_word : Rule
+new_word = word_rule (codes "new")
+
 abbrev pub key_word : Rule
 key_word = word_rule (codes "key")
 
@@ -135,6 +141,11 @@ dump_line = with_rule (with_rule (with_rule (with_rule (new_app (codes "dump")) 
     sync_flag) file_word)
     optional_out_word
 
+-- `diff [--out FILE] [--atomic] [--sync] OLD NEW`
+abbrev pub diff_line : App
+diff_line = with_rule (with_rule (with_rule (with_rule (with_rule (new_app (codes "diff"))
+    out_option) atomic_flag) sync_flag) old_word) new_word
+
 -- ---- the whole line
 
 -- what stands above the subcommands: one of them has to be named, by the first word
@@ -144,11 +155,11 @@ bare_line = on_top (λ s. record s { no_binary_name = true; subcommand_required 
 
 -- the words after the program's name, in the order in which one uses the subcommands
 abbrev pub program_line : App
-program_line = with_subcommand (with_subcommand
+program_line = with_subcommand (with_subcommand (with_subcommand
     (with_subcommand (with_subcommand (with_subcommand (with_subcommand
     (with_subcommand (with_subcommand bare_line pack_line.top) scratch_line.top) build_line.top)
     check_line.top) get_line.top)
-    scan_line.top) nth_line.top) dump_line.top
+    scan_line.top) nth_line.top) dump_line.top) diff_line.top
 
 -- the kinds of error that clap may give at the words; none where it takes them
 unfoldable pub line_faults : List Text → Kinds

@@ -113,14 +113,14 @@ pub(crate) fn format_option<'a>(alloc: Global) -> Arg<'a>
     )
 }
 
-/// `--out FILE`
-pub(crate) fn out_option<'a>(alloc: Global) -> Arg<'a>
+/// `--out FILE`, the file that a subcommand makes; `what` says for its help what that is.
+pub(crate) fn out_option<'a>(alloc: Global, what: &'a str) -> Arg<'a>
     ensures { IsReadBy out_option result }
 {
     Arg::new(alloc, "out")
         .long("out")
         .value_name("FILE")
-        .help("Write the tree to FILE, a chunk file")
+        .help(what)
 }
 
 /// `--atomic`
@@ -155,11 +155,23 @@ pub(crate) fn optional_out_word<'a>(alloc: Global) -> Arg<'a>
     )
 }
 
-/// `FILE`, the chunk file that a subcommand reads.
+/// A chunk file that a subcommand reads; `what` says for its help which one it is.
+pub(crate) fn tree_word<'a>(
+    alloc: Global,
+    name: &'a str,
+    value_name: &'a str,
+    what: &'a str,
+) -> Arg<'a>
+    ensures { IsReadBy (word_rule name.now) result }
+{
+    required_word(alloc, name, value_name).help(what)
+}
+
+/// `FILE`, the chunk file of a subcommand that reads one.
 pub(crate) fn file_word<'a>(alloc: Global) -> Arg<'a>
     ensures { IsReadBy file_word result }
 {
-    required_word(alloc, "file", "FILE").help("The chunk file")
+    tree_word(alloc, "file", "FILE", "The chunk file")
 }
 
 /// `HEXKEY`

@@ -75,6 +75,14 @@ pub enum Command {
         out: Option<String>,
         mode: WriteMode,
     },
+    /// Say what turns the map of the file `old` into that of the file `new`: in lines on standard
+    /// output where there is no output, and then the mode says nothing, and else in a record file.
+    Diff {
+        old: String,
+        new: String,
+        out: Option<String>,
+        mode: WriteMode,
+    },
 }
 
 /// Why the words give no command.
@@ -148,6 +156,7 @@ fn command_of(alloc: Global, name: &str, given: &ArgMatches<'_>) -> Result<Comma
         "scan" => fields::scan(alloc, given),
         "nth" => fields::nth(alloc, given),
         "dump" => fields::dump(alloc, given),
+        "diff" => fields::diff(alloc, given),
         _ => unreachable!(),
     }
 }

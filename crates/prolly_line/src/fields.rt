@@ -113,3 +113,20 @@ pub(crate) fn dump(alloc: Global, given: &ArgMatches<'_>) -> Result<Command, Par
     let mode = mode_of(given);
     Ok(Command::Dump { file, out, mode })
 }
+
+/// `diff [--out FILE] [--atomic] [--sync] OLD NEW`
+pub(crate) fn diff(alloc: Global, given: &ArgMatches<'_>) -> Result<Command, ParseFault>
+    requires { IsAccepted (codes "diff", rows_in given.now) }
+    ensures { Answers (codes "diff", rows_in given.now) result }
+{
+    let mode = mode_of(given);
+    let old = text_of(alloc, given, "old")?;
+    let new = text_of(alloc, given, "new")?;
+    let out = option_of(alloc, given, "out")?;
+    Ok(Command::Diff {
+        old,
+        new,
+        out,
+        mode,
+    })
+}

@@ -167,3 +167,23 @@ empty; where writing it failed, with the first part of the record file. With
   prolly dump monday.prl monday.rec
   prolly build tuesday.prl monday.rec tuesday.rec",
 };
+
+pub(crate) const DIFF: Help<'static> = Help {
+    about: "Say what turns the map of a chunk file into that of another",
+    details: "Says what turns the map of OLD into that of NEW: for each key that they do not
+have alike, in the order of keys, what NEW has. Both chunk files are checked
+first, as by `check`.
+
+Without --out these are lines that `pack` reads, `HEXKEY HEXVALUE` or, for a key
+that NEW lacks, `HEXKEY -`; then --atomic and --sync say nothing. With --out,
+FILE is a record file of them, and nothing is printed. So `build` of OLD's pairs
+and of that file makes NEW's tree again, at equal --bits and --format.
+
+The exit status is 0 where the maps are equal, and 1 where they are not.
+
+FILE is made before the chunk files are read. After a fault it is left empty;
+where writing it failed, with the first part of the record file. With --atomic
+it is as it was.",
+    example: "Example: the changes of a day, as a record file
+  prolly diff monday.prl tuesday.prl --out changes.rec",
+};

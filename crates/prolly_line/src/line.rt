@@ -30,5 +30,6 @@ pub(crate) fn program_line<'a>(alloc: Global) -> Result<Command<'a>, AllocError>
     let line = with_subcommand(line, subcommands::get_line(alloc));
     let line = with_subcommand(line, subcommands::scan_line(alloc));
     let line = with_subcommand(line, subcommands::nth_line(alloc));
-    with_subcommand(line, subcommands::dump_line(alloc))
+    let line = with_subcommand(line, subcommands::dump_line(alloc));
+    with_subcommand(line, subcommands::diff_line(alloc))
 }

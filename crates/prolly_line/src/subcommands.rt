@@ -2,8 +2,8 @@
 ghost use Rattle.std.specs.Prelude.{IfOk};
 ghost use Rattle.clap.specs.Words.{App, with_rule};
 ghost use Rattle.prolly_line.specs.Line.{atomic_flag, sync_flag};
-ghost use Rattle.prolly_line.specs.Line.{build_line, check_line, dump_line, get_line, nth_line};
-ghost use Rattle.prolly_line.specs.Line.{pack_line, scan_line, scratch_line};
+ghost use Rattle.prolly_line.specs.Line.{build_line, check_line, diff_line, dump_line, get_line};
+ghost use Rattle.prolly_line.specs.Line.{nth_line, pack_line, scan_line, scratch_line};
 ghost use Rattle.prolly_line.specs.Local.{HasLine};
 
 use crate::assembly::{described, with_argument};
@@ -37,7 +37,8 @@ pub(crate) fn scratch_line<'a>(alloc: Global) -> Result<Command<'a>, AllocError>
 {
     let line = described(alloc, "scratch", help::SCRATCH).arg(arguments::bits_option(alloc));
     let line = with_argument(line, arguments::format_option(alloc));
-    let line = with_argument(line, arguments::out_option(alloc));
+    let out = arguments::out_option(alloc, "Write the tree to FILE, a chunk file");
+    let line = with_argument(line, out);
     with_mode(alloc, line)
 }
 
@@ -73,6 +74,22 @@ pub(crate) fn dump_line<'a>(alloc: Global) -> Result<Command<'a>, AllocError>
         with_argument(line, arguments::file_word(alloc)),
         arguments::optional_out_word(alloc),
     )
+}
+
+/// `diff [--out FILE] [--atomic] [--sync] OLD NEW`
+pub(crate) fn diff_line<'a>(alloc: Global) -> Result<Command<'a>, AllocError>
+    ensures { IfOk result (HasLine diff_line) }
+{
+    let out = arguments::out_option(alloc, "Write the changes to FILE, a record file");
+    let old = arguments::tree_word(alloc, "old", "OLD", "The chunk file of the map as it was");
+    let new = arguments::tree_word(
+        alloc,
+        "new",
+        "NEW",
+        "The chunk file of the map as it is now",
+    );
+    let line = with_mode(alloc, described(alloc, "diff", help::DIFF).arg(out));
+    with_argument(with_argument(line, old), new)
 }
 
 /// `get FILE HEXKEY`

@@ -9,3 +9,4 @@ unreachable-requires c =
     c.in_default.not-build c.in_default.not-check c.in_default.not-get c.in_default.not-scan
     c.in_default.not-nth
     c.in_default.not-dump
+    c.in_default.not-diff

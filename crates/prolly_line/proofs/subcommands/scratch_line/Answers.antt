@@ -9,5 +9,5 @@ returns c =
     (λ x adds. added c.described.result x c.bits_option.result _ _ c.described.ensures
     c.bits_option.ensures adds) c.arg-line.ensures in
     let with_format = c.with_argument-line.ensures _ _ with_bits c.format_option.ensures in
-    let with_out = c.with_argument-line-2.ensures _ _ with_format c.out_option.ensures in
+    let with_out = c.with_argument-line-2.ensures _ _ with_format c.out_option-out.ensures in
     c.with_mode.ensures _ with_out

@@ -1,0 +1,13 @@
+-- One argument more at each step.
+use Rattle.std.proofs.lemmas.Result.{IfOk-weaker}
+use Rattle.prolly_line.proofs.LineSteps.{added}
+use Rattle.prolly_line.proofs.subcommands.diff_line.Goals as goal
+
+pub returns : goal.returns
+returns c =
+    let with_out = IfOk-weaker c.arg.result _ _
+    (λ x adds. added c.described.result x c.out_option-out.result _ _ c.described.ensures
+    c.out_option-out.ensures adds) c.arg.ensures in
+    let with_mode = c.with_mode-line.ensures _ with_out in
+    let with_old = c.with_argument.ensures _ _ with_mode c.tree_word-old.ensures in
+    c.with_argument-2.ensures _ _ with_old c.tree_word-new.ensures
