@@ -6,3 +6,5 @@ pub mod PackSteps
 pub mod Rises
 -- What a command answers where writing its file fails.
 pub mod Answering
+-- Writing a difference record by record.
+pub mod DiffSteps

@@ -10,7 +10,7 @@ use Rattle.prolly_tool.specs.declared.pack.PackFault.TheVariants as packs
 use Rattle.prolly_tool.specs.declared.fault.Fault.{Fault}
 use Rattle.prolly_tool.specs.declared.fault.Fault.TheVariants.{Run, Pack, Check, NoCounts}
 use Rattle.prolly_tool.specs.declared.fault.Fault.TheVariants.{InputTooLong, BadKey, NotUnicode}
-use Rattle.prolly_tool.specs.declared.fault.Fault.TheVariants.{OutIsStdout}
+use Rattle.prolly_tool.specs.declared.fault.Fault.TheVariants.{OutIsStdout, CheckOld, CheckNew}
 
 -- What is said of a record of a file.
 abbrev pub record_text : ℕ → ℕ → List ℕ → List ℕ
@@ -55,11 +55,18 @@ check_fault_text checks.BadEnd = codes "chunk file: bad end record"
 check_fault_text (checks.Collision chunk) = codes "chunk file: reference of chunk " ++
     decimal chunk ++ codes " is used twice"
 
+-- The same of one of two files, which is told first; want of memory is no file's fault.
+abbrev pub side_fault_text : List ℕ → CheckFault → List ℕ
+side_fault_text side checks.Memory = check_fault_text checks.Memory
+side_fault_text side fault = side ++ check_fault_text fault
+
 -- What is said of a fault.
 abbrev pub fault_text : Fault → List ℕ
 fault_text (Run fault) = run_text fault
 fault_text (Pack fault) = pack_text fault
 fault_text (Check fault) = check_fault_text fault
+fault_text (CheckOld fault) = side_fault_text (codes "old ") fault
+fault_text (CheckNew fault) = side_fault_text (codes "new ") fault
 fault_text NoCounts = codes "chunk file: no counts"
 fault_text InputTooLong = codes "input too long"
 fault_text BadKey = codes "not a key in hexadecimal"
@@ -82,24 +89,29 @@ run_status runs.NoThread = 6
 run_status runs.Lost = 6
 run_status runs.TooManyFiles = 3
 
+abbrev pub check_status : CheckFault → ℕ
+check_status checks.Memory = 6
+check_status checks.Read = 5
+check_status checks.TooLong = 4
+check_status checks.BadHeader = 4
+check_status (checks.BadFrame chunk) = 4
+check_status checks.Truncated = 4
+check_status checks.Trailing = 4
+check_status (checks.BadChunk chunk) = 4
+check_status (checks.KeysOutOfOrder chunk) = 4
+check_status (checks.NotCanonical chunk) = 4
+check_status checks.BadEnd = 4
+check_status (checks.Collision chunk) = 4
+
 abbrev pub fault_status : Fault → ℕ
 fault_status (Run fault) = run_status fault
 fault_status (Pack packs.Memory) = 6
 fault_status (Pack (packs.BadLine line)) = 3
 fault_status (Pack (packs.KeyTooLong line)) = 3
 fault_status (Pack (packs.ValueTooLong line)) = 3
-fault_status (Check checks.Memory) = 6
-fault_status (Check checks.Read) = 5
-fault_status (Check checks.TooLong) = 4
-fault_status (Check checks.BadHeader) = 4
-fault_status (Check (checks.BadFrame chunk)) = 4
-fault_status (Check checks.Truncated) = 4
-fault_status (Check checks.Trailing) = 4
-fault_status (Check (checks.BadChunk chunk)) = 4
-fault_status (Check (checks.KeysOutOfOrder chunk)) = 4
-fault_status (Check (checks.NotCanonical chunk)) = 4
-fault_status (Check checks.BadEnd) = 4
-fault_status (Check (checks.Collision chunk)) = 4
+fault_status (Check fault) = check_status fault
+fault_status (CheckOld fault) = check_status fault
+fault_status (CheckNew fault) = check_status fault
 fault_status NoCounts = 4
 fault_status InputTooLong = 5
 fault_status BadKey = 2

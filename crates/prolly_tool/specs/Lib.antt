@@ -20,3 +20,5 @@ pub mod Build
 pub mod LookUps
 -- What the command `dump` answers.
 pub mod Dump
+-- What the command `diff` answers.
+pub mod Diff

@@ -20,6 +20,7 @@ use Rattle.prolly_entry.specs.Reference.{reference_text}
 use Rattle.prolly_tool.specs.Answers.{Shows, ShowsLine, ShowsNothing, ShowsFault}
 use Rattle.prolly_tool.specs.Input.{IsReadWhole}
 use Rattle.prolly_tool.specs.declared.answer.Answer.{Answer}
+use Rattle.prolly_tool.specs.declared.fault.Fault.{Fault}
 use Rattle.prolly_tool.specs.declared.fault.Fault.TheVariants.{Check, NoCounts}
 
 -- How many bytes a chunk file has at most that a command reads.
@@ -76,11 +77,17 @@ pub record IsLookedUp (bytes : List ℕ) (failed : Type 0) (shows : Content → 
   pub shown : shows content
 
 -- The bytes were refused, or could not be read; a failed read is told as one, and nothing else is.
-pub record IsNoFile (bytes : List ℕ) (failed : Type 0) (answer : Answer) : Type 0 where
+-- The fault is shown as that of one of the files that a command reads.
+pub record IsNoFileAs (told : CheckFault → Fault) (bytes : List ℕ) (failed : Type 0)
+    (answer : Answer) : Type 0 where
   pub fault : CheckFault
   pub is : IsRefusal bytes file_limit fault
   pub read : (fault ≡ Read) ↔ failed
-  pub shows : ShowsFault answer (Check fault)
+  pub shows : ShowsFault answer (told fault)
+
+-- The same of the only file that a command reads.
+abbrev pub IsNoFile : List ℕ → Type 0 → Answer → Type 0
+IsNoFile bytes failed answer = IsNoFileAs (λ fault. Check fault) bytes failed answer
 
 -- The answer of a command of which `shows` says what it shows of a content.
 abbrev pub IsLookUp : List ℕ → Type 0 → (Answer → Content → Type 0) → Answer → Type 0

@@ -1,7 +1,8 @@
 -- What a command that makes a file does to the sink that it is lent, and what it answers.
 use Rattle.std.specs.Prelude.{◌≡◌, ◌≢◌, ℕ, ◌⊎◌, true, List, ◌++◌, Option, Some, None}
 use Rattle.prolly_file.specs.Sink.{SinkView, TakesPrefix}
-use Rattle.prolly_fault.specs.declared.fault.RunFault.TheVariants.{Write}
+use Rattle.prolly_fault.specs.declared.fault.RunFault.{RunFault}
+use Rattle.prolly_fault.specs.declared.fault.RunFault.TheVariants.{Memory, Write}
 use Rattle.prolly_tool.specs.declared.answer.Answer.{Answer}
 use Rattle.prolly_tool.specs.declared.fault.Fault.{Fault}
 use Rattle.prolly_tool.specs.declared.fault.Fault.TheVariants.{Run}
@@ -18,6 +19,18 @@ pub record TookAll {W : Type 0} (seen : W → SinkView) (bytes : List ℕ) (old 
 pub record TookPart {W : Type 0} (seen : W → SinkView) (bytes : List ℕ) (old new : W) : Type 0 where
   pub failed : (seen new).failures ≢ (seen old).failures
   pub took : (seen old).is_keeping ≡ true → TakesPrefix (seen old).taken (seen new).taken bytes
+
+-- No call of the sink failed, and it took a prefix of these bytes.
+pub record TookPrefix {W : Type 0} (seen : W → SinkView) (bytes : List ℕ) (old new : W)
+    : Type 0 where
+  pub unfailed : (seen new).failures ≡ (seen old).failures
+  pub took : (seen old).is_keeping ≡ true → TakesPrefix (seen old).taken (seen new).taken bytes
+
+-- The sink took a part of these bytes, until a call of it failed, or memory was refused.
+abbrev pub TookUntil : {W : Type 0} → (W → SinkView) → RunFault → List ℕ → W → W → Type 0
+TookUntil seen Write bytes old new = TookPart seen bytes old new
+TookUntil seen Memory bytes old new = TookPrefix seen bytes old new
+TookUntil seen _ bytes old new = ⊥
 
 -- This happened to the sink, if there is one.
 abbrev pub IfSink : {W : Type 0} → (W → W → Type 0) → Option W → Option W → Type 0

@@ -1,6 +1,7 @@
 //! The faults of commands, each with its line and its status.
 ghost use Rattle.std.specs.Prelude.{◌≡◌, Some};
-ghost use Rattle.prolly_tool.specs.Faults.{fault_text, run_status, fault_status};
+ghost use Rattle.prolly_tool.specs.Faults.{fault_text, check_status, run_status};
+ghost use Rattle.prolly_tool.specs.Faults.{fault_status};
 
 use crate::pack::PackFault;
 use prolly_check::CheckFault;
@@ -18,6 +19,10 @@ pub enum Fault {
     Pack(PackFault),
     /// A file is no lawful chunk file.
     Check(CheckFault),
+    /// The old file of two is no lawful chunk file.
+    CheckOld(CheckFault),
+    /// The new file of two is no lawful chunk file.
+    CheckNew(CheckFault),
     /// A chunk file of version One has no counts, by which a pair is found by its number.
     NoCounts,
     /// Standard input is longer than the program reads.
@@ -39,12 +44,23 @@ impl Fault {
             Fault::Run(fault) => run_status(fault),
             Fault::Pack(PackFault::Memory) => 6,
             Fault::Pack(_) => 3,
-            Fault::Check(CheckFault::Memory) => 6,
-            Fault::Check(CheckFault::Read) => 5,
-            Fault::Check(_) | Fault::NoCounts => 4,
+            Fault::Check(fault) | Fault::CheckOld(fault) | Fault::CheckNew(fault) => {
+                check_status(fault)
+            }
+            Fault::NoCounts => 4,
             Fault::InputTooLong | Fault::OutIsStdout => 5,
             Fault::BadKey | Fault::NotUnicode => 2,
         }
+    }
+}
+
+fn check_status(fault: CheckFault) -> u8
+    ensures { result ≡ check_status fault }
+{
+    match fault {
+        CheckFault::Memory => 6,
+        CheckFault::Read => 5,
+        _ => 4,
     }
 }
 
@@ -72,6 +88,8 @@ impl Display for Fault {
             Fault::Run(fault) => RunText(*fault).fmt(f),
             Fault::Pack(fault) => fault.fmt(f),
             Fault::Check(fault) => CheckText(*fault).fmt(f),
+            Fault::CheckOld(fault) => SideText("old ", *fault).fmt(f),
+            Fault::CheckNew(fault) => SideText("new ", *fault).fmt(f),
             Fault::NoCounts => f.write_str("chunk file: no counts"),
             Fault::InputTooLong => f.write_str("input too long"),
             Fault::BadKey => f.write_str("not a key in hexadecimal"),
@@ -159,5 +177,23 @@ impl Display for CheckText {
                 write!(f, "chunk file: reference of chunk {chunk} is used twice")
             }
         }
+    }
+}
+
+/// Why one of two files is no lawful chunk file, to be shown: which of them, and then the fault.
+#[derive(Clone, Copy)]
+struct SideText<'a>(&'a str, CheckFault);
+
+impl Display for SideText<'_> {
+    ghost use Rattle.prolly_tool.specs.Faults.{side_fault_text};
+
+    ghost output = { λ shown. Some (side_fault_text shown.0.now shown.1) };
+
+    fn fmt<W: fmt::Write>(&self, f: &mut Formatter<W>) -> fmt::Result {
+        let SideText(side, fault) = *self;
+        if fault != CheckFault::Memory {
+            f.write_str(side)?;
+        }
+        CheckText(fault).fmt(f)
     }
 }

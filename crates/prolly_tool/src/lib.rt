@@ -4,6 +4,8 @@
 mod answer;
 mod build_answer;
 mod check_answer;
+mod diff_answer;
+mod diff_form;
 mod dump_answer;
 mod fault;
 mod get_answer;
@@ -20,6 +22,8 @@ mod scratch;
 pub use answer::Answer;
 pub use build_answer::answer_build;
 pub use check_answer::answer_check;
+pub use diff_answer::answer_diff;
+pub use diff_form::DiffForm;
 pub use dump_answer::answer_dump;
 pub use fault::Fault;
 pub use get_answer::answer_get;

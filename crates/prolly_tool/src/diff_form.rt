@@ -1,0 +1,68 @@
+//! How changes are written.
+ghost use Rattle.std.specs.Prelude.{◌≡◌, ◌++◌, OnOk, IfOk};
+ghost use Rattle.std.specs.Option.{option_copied};
+ghost use Rattle.prolly_entry.specs.Record.{IsRecord};
+ghost use Rattle.prolly_entry.specs.Spelling.{record_spelling};
+ghost use Rattle.prolly_tool.specs.Diff.{record_line, spelled};
+
+use crate::line_parts::append_hex;
+use prolly_entry::{Pair, Record, append_record};
+use std::alloc::{AllocError, Global};
+
+/// How `diff` writes a change: the value that is put at a key, or that the key is removed.
+#[derive(Clone, Copy, Debug, PartialEq, Eq)]
+pub enum DiffForm {
+    /// A line of text, as `pack` reads it: the key in hexadecimal, a space, and the value in
+    /// hexadecimal or a dash.
+    Lines,
+    /// A record, as in a record file.
+    Records,
+}
+
+/// Appends a change in this form.
+pub(crate) fn append_change(
+    alloc: Global,
+    out: &mut Vec<u8>,
+    form: DiffForm,
+    key: &[u8],
+    value: Option<&[u8]>,
+) -> Result<(), AllocError>
+    requires { IsRecord (record { key = key.now; value = option_copied value }) }
+    ensures { OnOk result (out.new.items ≡ out.old.items ++ spelled form
+        (record { key = key.now; value = option_copied value.entry })) }
+{
+    match form {
+        DiffForm::Lines => append_line(alloc, out, key, value),
+        DiffForm::Records => append_record(out, &record_of(alloc, key, value)?),
+    }
+}
+
+/// Appends the line of a change.
+fn append_line(
+    alloc: Global,
+    out: &mut Vec<u8>,
+    key: &[u8],
+    value: Option<&[u8]>,
+) -> Result<(), AllocError>
+    ensures { OnOk result (out.new.items ≡ out.old.items ++ record_line
+        (record { key = key.now; value = option_copied value.entry })) }
+{
+    append_hex(alloc, out, key)?;
+    out.extend_from_slice(b" ")?;
+    match value {
+        Some(value) => append_hex(alloc, out, value)?,
+        None => out.extend_from_slice(b"-")?,
+    }
+    out.extend_from_slice(b"\n")
+}
+
+/// The record of a change.
+fn record_of(alloc: Global, key: &[u8], value: Option<&[u8]>) -> Result<Record, AllocError>
+    requires { IsRecord (record { key = key.now; value = option_copied value }) }
+    ensures { IfOk result (λ r. r ≡ record { key = key.now; value = option_copied value.entry }) }
+{
+    match value {
+        Some(value) => Ok(Record::put(Pair::copy_of(alloc, key, value)?)),
+        None => Record::removal_of(alloc, key),
+    }
+}
