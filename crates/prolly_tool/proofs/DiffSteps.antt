@@ -1,14 +1,15 @@
 -- Writing a difference record by record.
 use Rattle.std.proofs.Common.{◌≡◌, ◌≢◌, ℕ, ◌≤◌, Bool, true, false, cond, List, [], ◌∷◌, ◌++◌}
-use Rattle.std.proofs.Common.{length, Option, Some, None, Result, Ok, Err, refl, sym, ap, ◌∙◌, subst, arith}
+use Rattle.std.proofs.Common.{length, Option, Some, None, Result, Ok}
+use Rattle.std.proofs.Common.{Err, refl, sym, ap, ◌∙◌, subst, arith}
 use Rattle.std.proofs.Common.{append_assoc, append-nil}
 use Rattle.std.proofs.lemmas.List.Concat.{flat_map-append}
 use Rattle.std.specs.List.{AllByRecursion}
 use Rattle.std.specs.Ordering.{is_eq}
-use Rattle.prolly_entry.specs.Keys.{key_order, Rising}
+use Rattle.prolly_entry.specs.Keys.{key_order}
 use Rattle.prolly_entry.specs.Overlay.{change_of}
 use Rattle.prolly_entry.specs.Pair.{Pair, IsPair}
-use Rattle.prolly_entry.specs.Record.{Record, IsRecord, IsChange, keys_of}
+use Rattle.prolly_entry.specs.Record.{Record, IsRecord, IsChange}
 use Rattle.prolly_entry.specs.lemmas.Orders.{order_self, order_same, eq_true, not_eq_below}
 use Rattle.prolly_entry.specs.lemmas.RisingRecords.{AllAbove, IsRising, is_rising}
 use Rattle.prolly_tree.specs.Difference.{IsChangeTo, IsDifference}
@@ -30,7 +31,7 @@ use Rattle.prolly_tool.specs.declared.answer.Answer.{Answer}
 use Rattle.prolly_tool.specs.declared.fault.Fault.TheVariants.{Run}
 use Rattle.prolly_tool.specs.Answers.{ShowsFault}
 use Rattle.prolly_tool.specs.LookUps.{file_limit}
-use Rattle.prolly_tool.specs.Diff.{AreCompared, IsCutOff, IsDiff, IsStopped, ShowsDiff}
+use Rattle.prolly_tool.specs.Diff.{AreCompared, IsDiff, IsStopped, ShowsDiff}
 use Rattle.prolly_tool.specs.Outputs.{TookAll, TookPart, TookPrefix}
 use Rattle.prolly_tool.proofs.Answering.{looked_up}
 
@@ -308,8 +309,8 @@ pub cut_off : {E : Type 0} (form : DiffForm) (old : List ℕ) (old_failed : Type
     (λ records. took_until fault (diff_file form records)) →
     IfOk result (λ answer. ShowsFault answer (Run fault)) →
     IfOk result (IsDiff form old old_failed new new_failed took_all took_until untouched)
-cut_off form old old_failed new new_failed took_all took_until untouched (Ok answer) fault is shows =
-    inr (inl (record { fault = fault; is = is; shows = shows }))
+cut_off form old old_failed new new_failed took_all took_until untouched (Ok answer) fault is so =
+    inr (inl (record { fault = fault; is = is; shows = so }))
 cut_off form old old_failed new new_failed took_all took_until untouched (Err e) fault is shows = tt
 
 pub stopped : {E : Type 0} (compares : (List Record → Type 0) → Type 0)
