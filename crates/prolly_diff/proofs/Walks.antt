@@ -1,6 +1,7 @@
 -- The walk: what was passed over, and the change behind it.
 use Rattle.std.proofs.Common.{◌≡◌, ◌≢◌, ℕ, Bool, true, false, cond, List, [], ◌∷◌, ◌++◌, Option}
-use Rattle.std.proofs.Common.{Some, None, refl, sym, ap, ◌∙◌, subst, append_assoc, not, nat_eq, arith, length}
+use Rattle.std.proofs.Common.{Some, None, refl, sym, ap, ◌∙◌, subst, append_assoc, not, nat_eq}
+use Rattle.std.proofs.Common.{arith, length}
 use Rattle.std.specs.Cmp.Lexicographic.{pointwise}
 use Rattle.std.proofs.lemmas.List.{length-append}
 use Rattle.std.specs.Ordering.{is_eq}
@@ -85,8 +86,14 @@ change_behind maps mid rest key before after m s none c = record {
   after_is = ap (λ xs. find xs key) s.after_is ∙ find_behind s.shared mid.after key none ∙
       c.after_is;
   left = c.left;
-  less = omega (arith, c.less, ap length s.before_is, ap length s.after_is,
-      length-append s.shared mid.before, length-append s.shared mid.after);
+  less = omega (
+    arith,
+    c.less,
+    ap length s.before_is,
+    ap length s.after_is,
+    length-append s.shared mid.before,
+    length-append s.shared mid.after,
+  );
 }
 
 -- ---- the three kinds of changes
