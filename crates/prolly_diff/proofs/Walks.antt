@@ -85,8 +85,14 @@ change_behind maps mid rest key before after m s none c = record {
   after_is = ap (λ xs. find xs key) s.after_is ∙ find_behind s.shared mid.after key none ∙
       c.after_is;
   left = c.left;
-  less = omega (arith, c.less, ap length s.before_is, ap length s.after_is,
-      length-append s.shared mid.before, length-append s.shared mid.after);
+  less = omega (
+    arith,
+    c.less,
+    ap length s.before_is,
+    ap length s.after_is,
+    length-append s.shared mid.before,
+    length-append s.shared mid.after,
+  );
 }
 
 -- ---- the three kinds of changes
