@@ -1,4 +1,4 @@
--- A file has no more pairs than bytes.
+-- A file has no more pairs than bytes, and its chunks have no more bytes.
 use Rattle.std.proofs.Common.{ℕ, zero, suc, ◌≤◌, List, [], ◌∷◌, ◌++◌, length, drop, ap, ◌∙◌, arith}
 use Rattle.std.proofs.Common.{length-drop}
 use Rattle.std.specs.Int.{w64, to_be_bytes}
@@ -12,10 +12,11 @@ use Rattle.prolly_tree.specs.Chunk.{chunks}
 use Rattle.prolly_tree.specs.File.{header, frame, end_record, root_reference}
 use Rattle.prolly_file.specs.Frame.{framed}
 use Rattle.prolly_check.specs.declared.frames.Span.{Span}
+use Rattle.prolly_check.specs.Checked.{chunks_of}
 use Rattle.prolly_check.specs.Content.{Content}
 use Rattle.prolly_check.specs.Held.{pairs_held}
 use Rattle.prolly_check.specs.Whole.{IsWhole, AreWhole}
-use Rattle.prolly_check.specs.Judged.{chunk_bytes}
+use Rattle.prolly_check.specs.Missing.{size_of}
 use Rattle.prolly_check.proofs.LeafPairs.{leaf_pairs}
 use Rattle.prolly_check.proofs.HeldPairs.{map_holds}
 use Rattle.prolly_check.proofs.Verdicts.{frames_bytes}
@@ -59,14 +60,10 @@ few_held version bytes spans place frames whole =
     let behind = length-drop 6 bytes in
     omega arith
 
-pub few_pairs : (bytes : List ℕ) (content : Content) → IsFileOf bytes content →
-    length content.pairs ≤ length bytes
-few_pairs bytes content f =
+frames_in : (bytes : List ℕ) (content : Content) → IsFileOf bytes content →
+    length (flat_map framed (chunks_of content)) ≤ length bytes
+frames_in bytes content f =
     let cut = sha512_cut content.bits in
-    let holding = map_holds content.version content.bits content.pairs f.lawful in
-    let few = few_in_frames content.version (chunk_bytes content.version content.bits content.pairs)
-    holding.whole in
-    let all = ap length holding.are in
     let frames = flat_map frame (chunks cut content.version content.pairs) in
     let framed = ap length (frames_bytes (chunks cut content.version content.pairs)) in
     let ending = end_record (root_reference cut content.version content.pairs)
@@ -74,4 +71,31 @@ few_pairs bytes content f =
     let size = ap length f.is ∙ length-append (header content.version content.bits)
     (frames ++ ending) in
     let rest = length-append frames ending in
+    omega arith
+
+pub few_pairs : (bytes : List ℕ) (content : Content) → IsFileOf bytes content →
+    length content.pairs ≤ length bytes
+few_pairs bytes content f =
+    let holding = map_holds content.version content.bits content.pairs f.lawful in
+    let few = few_in_frames content.version (chunks_of content) holding.whole in
+    let all = ap length holding.are in
+    let frames = frames_in bytes content f in
+    omega arith
+
+-- nor have its chunks
+
+few_framed : (cs : List (List ℕ)) → size_of cs ≤ length (flat_map framed cs)
+few_framed [] = omega arith
+few_framed (c ∷ cs) =
+    let more = few_framed cs in
+    let bytes = length-append c (flat_map (λ c. c) cs) in
+    let frames = length-append (framed c) (flat_map framed cs) in
+    let frame = length-append (0x43 ∷ to_be_bytes w64 (length c)) c in
+    omega arith
+
+pub few_bytes : (bytes : List ℕ) (content : Content) → IsFileOf bytes content →
+    size_of (chunks_of content) ≤ length bytes
+few_bytes bytes content f =
+    let few = few_framed (chunks_of content) in
+    let frames = frames_in bytes content f in
     omega arith

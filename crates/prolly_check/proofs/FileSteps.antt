@@ -1,6 +1,6 @@
 -- The chunks of a file that was checked, found by their numbers and their references.
-use Rattle.std.proofs.Common.{◌≡◌, ℕ, ◌-◌, ◌<◌, List, [], length, get_or, Some, None, sym, ap, ◌∙◌}
-use Rattle.std.proofs.Common.{subst}
+use Rattle.std.proofs.Common.{◌≡◌, ℕ, ◌-◌, ◌<◌, ◌^◌, List, [], length, get_or, Some, None, sym, ap}
+use Rattle.std.proofs.Common.{◌∙◌, subst}
 use Rattle.std.specs.Prelude.{is_some}
 use Rattle.std.specs.BTreeMap.{BTreeMap}
 use Rattle.std.proofs.lemmas.Bool.{false≢true}
@@ -9,15 +9,31 @@ use Rattle.prolly_entry.specs.declared.reference.Ref.{Ref}
 use Rattle.prolly_entry.specs.declared.version.Version.{Version}
 use Rattle.prolly_check.specs.Checked.{IsChecked, HasReference, content_in, chunks_of}
 use Rattle.prolly_check.specs.Content.{Content}
-use Rattle.prolly_check.specs.Index.{HasAt, number_of}
+use Rattle.prolly_check.specs.Index.{HasAt, IsIndex, number_of}
 use Rattle.prolly_check.specs.Root.{root_bytes}
 use Rattle.prolly_check.specs.Spans.{chunk_in, chunks_in}
 use Rattle.prolly_check.specs.Verdict.{IsFileOf}
-use Rattle.prolly_check.specs.Whole.{IsWhole}
+use Rattle.prolly_check.specs.Whole.{AreWhole, IsWhole}
 use Rattle.prolly_check.specs.declared.frames.Span.{Span}
 use Rattle.std.proofs.lemmas.List.{length-map}
-use Rattle.prolly_check.proofs.CheckedTree.{chunks_last}
+use Rattle.prolly_check.proofs.CheckedTree.{chunks_last, one_content}
 use Rattle.prolly_check.proofs.HeldPairs.{each_whole, map_holds}
+
+-- they are whole
+pub all_whole : (bytes : List ℕ) (version : Version) (spans : List Span) (index : BTreeMap Ref ℕ) →
+    IsChecked bytes version spans index → AreWhole version (chunks_in bytes spans)
+all_whole bytes version spans index checked =
+    let content = content_in bytes version spans in
+    subst (AreWhole version) (sym checked.chunks_are)
+    (map_holds version content.bits content.pairs checked.is.lawful).whole
+
+-- the index is one of the file's chunks
+pub index_is : (bytes : List ℕ) (version : Version) (spans : List Span) (index : BTreeMap Ref ℕ) →
+    IsChecked bytes version spans index → (content : Content) → length bytes < 2 ^ 64 →
+    IsFileOf bytes content → IsIndex index (chunks_of content)
+index_is bytes version spans index checked content short is =
+    subst (IsIndex index) (checked.chunks_are ∙ ap chunks_of (one_content bytes
+    (content_in bytes version spans) content short checked.is is)) checked.indexed
 
 module _ (bytes : List ℕ) (version : Version) (spans : List Span) (index : BTreeMap Ref ℕ)
     (checked : IsChecked bytes version spans index) (content : Content)

@@ -24,6 +24,8 @@ pub mod CanonicalSteps
 pub mod OrderSteps
 -- The references of the chunks of a file, and an index of them, made chunk by chunk.
 pub mod IndexSteps
+-- Counting the chunks that others lack, one after another.
+pub mod MissingSteps
 -- What the steps of the checker find, in the words of the verdict.
 pub mod CheckedFile
 -- What is known of a file that was accepted.
@@ -32,7 +34,7 @@ pub mod CheckedTree
 pub mod VerdictFaults
 -- How a look-up goes down a tree.
 pub mod Lookups
--- A file has no more pairs than bytes.
+-- A file has no more pairs than bytes, and its chunks have no more bytes.
 pub mod FewPairs
 -- The chunks of a file that was checked, found by their numbers and their references.
 pub mod FileSteps
@@ -52,3 +54,9 @@ pub mod Rebuilds
 pub mod RebuildSteps
 -- The end of the rebuilt chunks.
 pub mod FinishSteps
+-- The way of a look-up that knows the root alone.
+pub mod Ways
+-- Reading the keys of one chunk, one after another.
+pub mod StepLemmas
+-- Going down the way of a look-up in a file that was checked.
+pub mod WaySteps

@@ -111,7 +111,7 @@ find_first [] ys key h = h
 find_first (p ∷ xs) ys key h = ap (cond (is_eq (key_order p.key key)) (Some p.value))
     (find_first xs ys key h)
 
-above_last : (ps ys : List Pair) → 0 < length ps → Rises (ps ++ ys) → Above (last_key ps) ys
+pub above_last : (ps ys : List Pair) → 0 < length ps → Rises (ps ++ ys) → Above (last_key ps) ys
 above_last [] ys some h = absurd (omega arith)
 above_last (p ∷ []) ys some h = h.0
 above_last (p ∷ q ∷ ps) ys some h = above_last (q ∷ ps) ys (omega arith) h.1

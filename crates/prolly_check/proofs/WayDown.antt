@@ -102,7 +102,7 @@ all_below level (t ∷ ts) h = (
   all_below level ts (all_back IsPair (pairs_below level t) (flat_map (pairs_below level) ts) h),
 )
 
-children_are : (version : Version) (level : ℕ) (ts : List (Tree level)) →
+pub children_are : (version : Version) (level : ℕ) (ts : List (Tree level)) →
     AllByRecursion IsPair (flat_map (pairs_below level) ts) →
     children_in version (flat_map (child_entry version level) ts) ≡ map (child_of version level) ts
 unfolding children_in
@@ -222,7 +222,8 @@ pub record GoesOn (content : Content) (Q : (level : ℕ) → Tree level → Type
     (reference : List ℕ) : Type 0 where
   pub there : HasReference (chunks_of content) reference
   pub at : (next : ℕ) → HasAt (chunks_of content) next reference → Stands content Q next ×
-      (height content next < height content number)
+      (height content next < height content number) ×
+      (height content number ≡ suc (height content next))
 
 pub goes_on : (content : Content) (P Q : (level : ℕ) → Tree level → Type 0) (number : ℕ)
     (children : List Child) (n : AtNode content P number children)
@@ -253,5 +254,6 @@ goes_on content P Q number children n before after t is reference named f so =
               so = so;
             },
             omega arith,
+            high ∙ ap suc (sym low),
           );
     }

@@ -28,6 +28,8 @@ pub mod Canonical
 pub mod Verdict
 -- Finding chunks by their references.
 pub mod Index
+-- The chunks that one list of chunks lacks of another.
+pub mod Missing
 -- What is kept of a file that was accepted.
 pub mod Checked
 -- What a refusal says of the bytes that were to be checked.
@@ -42,3 +44,7 @@ pub mod Counted
 pub mod Leaves
 -- Rebuilding the chunks of pairs one by one, by levels that stand one above another.
 pub mod Rebuilt
+-- The way of a look-up down a tree, by the references of its chunks.
+pub mod Way
+-- What a look-up comes to at a chunk.
+pub mod Steps

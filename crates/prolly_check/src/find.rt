@@ -12,7 +12,7 @@ use crate::node::{Child, Children};
 use prolly_entry::key_order;
 
 /// The value of the key among the pairs of a leaf.
-fn value_in<'a>(mut pairs: Pairs<'a>, key: &[u8]) -> Option<&'a [u8]>
+pub(crate) fn value_in<'a>(mut pairs: Pairs<'a>, key: &[u8]) -> Option<&'a [u8]>
     ensures { option_copied result ≡ find pairs.entry key.now }
 {
     while let Some((found, value)) = pairs.next() {
@@ -24,7 +24,7 @@ fn value_in<'a>(mut pairs: Pairs<'a>, key: &[u8]) -> Option<&'a [u8]>
 }
 
 /// The first child whose greatest key is not below the key.
-fn child_for<'a>(mut children: Children<'a>, key: &[u8]) -> Option<Child<'a>>
+pub(crate) fn child_for<'a>(mut children: Children<'a>, key: &[u8]) -> Option<Child<'a>>
     ensures { option_map value_of result ≡ child_for key.now children.entry }
 {
     while let Some(child) = children.next() {

@@ -1,7 +1,9 @@
 //! The steps of the checker, in the order in which their faults are named.
 ghost use Rattle.std.specs.Prelude.{◌<◌, ◌^◌, length, Err, IfOk, IfErr};
 ghost use Rattle.prolly_check.specs.Checked.{IsChecked};
+ghost use Rattle.prolly_check.specs.Index.{AreReferences};
 ghost use Rattle.prolly_check.specs.Refusal.{UnlessMemory};
+ghost use Rattle.prolly_check.specs.Spans.{chunks_in};
 ghost use Rattle.prolly_check.specs.Verdict.{IsVerdict};
 
 use crate::canonical::test_canonical;
@@ -12,14 +14,15 @@ use crate::frames::{Span, find_frames};
 use crate::header::read_header;
 use crate::index::{Index, index_chunks};
 use crate::whole::test_chunks;
-use prolly_entry::{Sha512Cut, Version};
+use prolly_entry::{Ref, Sha512Cut, Version};
 use std::alloc::Global;
 
-/// Where the chunks of a file lie, and how they are found.
+/// Where the chunks of a file lie, the reference of each, and how they are found by these.
 #[derive(Drop)]
 pub(crate) struct Layout {
     pub(crate) version: Version,
     pub(crate) spans: Vec<Span>,
+    pub(crate) references: Vec<Ref>,
     pub(crate) index: Index,
 }
 
@@ -28,6 +31,8 @@ pub(crate) fn inspect(alloc: Global, bytes: &[u8]) -> Result<Layout, CheckFault>
     requires { length bytes.now < 2 ^ 64 }
     ensures ok { IfOk result (λ layout.
         IsChecked bytes.now layout.version layout.spans.items layout.index) }
+    ensures references { IfOk result (λ layout.
+        AreReferences (chunks_in bytes.now layout.spans.items) layout.references.items) }
     ensures err { IfErr result (UnlessMemory (λ fault. IsVerdict bytes.now (Err fault))) }
 {
     let header = read_header(bytes)?;
@@ -45,6 +50,7 @@ pub(crate) fn inspect(alloc: Global, bytes: &[u8]) -> Result<Layout, CheckFault>
     Ok(Layout {
         version: header.version,
         spans: frames.spans,
+        references,
         index,
     })
 }

@@ -5,6 +5,7 @@ ghost use Rattle.prolly_check.specs.Descent.{ReferenceLeads, FindInChild, FindIn
 ghost use Rattle.prolly_check.specs.Descent.{StandsAtRoot, FirstEntry, StepsDown};
 ghost use Rattle.prolly_check.specs.Entries.{NoLeaf, NoNode};
 ghost use Rattle.prolly_check.specs.Verdict.{OneVerdict, AcceptsFiles};
+ghost use Rattle.prolly_check.specs.Way.{WaysAreRight};
 
 /// Bytes have one verdict, and are accepted exactly where they are the file of a map.
 pub fn files_are_accepted()
@@ -27,4 +28,10 @@ pub fn look_ups_go_down()
     ensures root { StandsAtRoot }
     ensures first { (version : Version) → FirstEntry version }
     ensures down { (version : Version) → StepsDown version }
+{}
+
+/// Whoever knows the root of a map knows by the way of a look-up what the map has at the key, or
+/// has two different chunks with one reference.
+pub fn ways_are_right()
+    ensures { WaysAreRight }
 {}

@@ -1,5 +1,5 @@
 //! A chunk file that was checked.
-ghost use Rattle.std.specs.Prelude.{◌≡◌, ◌↔◌, ◌^◌, ◌<◌, length, IfOk, IfErr, IsErr, Err};
+ghost use Rattle.std.specs.Prelude.{◌≡◌, ◌↔◌, ◌^◌, ◌<◌, length, map, IfOk, IfErr, IsErr, Err};
 ghost use Rattle.std.specs.Option.{option_copied};
 ghost use Rattle.prolly_tree.specs.Chunk.{chunks};
 ghost use Rattle.prolly_entry.specs.Cut.{sha512_cut};
@@ -9,18 +9,23 @@ ghost use Rattle.prolly_check.specs.Content.{Content};
 ghost use Rattle.prolly_check.specs.Counted.{pair_of};
 ghost use Rattle.prolly_check.specs.Refusal.{UnlessMemory};
 ghost use Rattle.prolly_check.specs.Verdict.{IsVerdict, IsFileOf};
-ghost use Rattle.prolly_check.specs.Checked.{IsChecked, IsFile, HasFile};
+ghost use Rattle.prolly_check.specs.Way.{IsWay};
+ghost use Rattle.prolly_check.specs.Checked.{IsChecked, IsFile, HasFile, chunks_of};
+ghost use Rattle.prolly_check.specs.Missing.{AreSo, lacking, size_of};
 
 use crate::dump::write_records;
 use crate::fault::CheckFault;
 use crate::file::CheckedFile;
+use crate::file_chunks::FileChunks;
 use crate::find::find_value;
 use crate::frames::Span;
 use crate::index::Index;
 use crate::inspect::{Layout, inspect};
 use crate::leaves::Leaves;
+use crate::missing::{Missing, missing_in};
 use crate::nth::find_nth;
 use crate::scan::scan_pairs;
+use crate::way::way_to;
 use prolly_entry::{Pair, Ref, Version};
 use prolly_file::{Sink, WriteFault};
 use std::alloc::{AllocError, Global};
@@ -36,6 +41,7 @@ pub struct Tree {
     bytes: Vec<u8>,
     version: Version,
     spans: Vec<Span>,
+    references: Vec<Ref>,
     index: Index,
 }
 
@@ -46,11 +52,14 @@ impl Model for Tree {
     ghost Value = { List ℕ };
 
     ghost use Rattle.prolly_check.specs.Checked.{IsChecked};
+    ghost use Rattle.prolly_check.specs.Index.{AreReferences};
+    ghost use Rattle.prolly_check.specs.Spans.{chunks_in};
 
     ghost view = { λ tree. tree.bytes.items };
 
     ghost invariant = { λ tree.
-        IsChecked tree.bytes.items tree.version tree.spans.items tree.index };
+        IsChecked tree.bytes.items tree.version tree.spans.items tree.index
+        × AreReferences (chunks_in tree.bytes.items tree.spans.items) tree.references.items };
 }
 
 impl Tree {
@@ -69,12 +78,14 @@ impl Tree {
         let Layout {
             version,
             spans,
+            references,
             index,
         } = inspect(alloc, &bytes)?;
         Ok(Tree {
             bytes,
             version,
             spans,
+            references,
             index,
         })
     }
@@ -110,6 +121,20 @@ impl Tree {
             option_copied result ≡ find content.pairs key.now }
     {
         find_value(&self.file(), key)
+    }
+
+    /// The chunks from the root down to the one at which a look-up of the key ends. Whoever knows
+    /// the root's reference can tell from them what the map has at the key: see
+    /// [`laws::ways_are_right`](crate::laws::ways_are_right).
+    ///
+    /// Takes memory for one reference to each, and reads one chunk a level.
+    pub fn way_to(&self, alloc: Global, key: &[u8]) -> Result<Vec<&[u8]>, AllocError>
+        ensures { IfOk result (λ chunks. (content : Content) → IsFileOf self.now content →
+            IsWay content.version (root_reference (sha512_cut content.bits) content.version
+            content.pairs) key.now (map (λ chunk. chunk.now) chunks.items)
+            (find content.pairs key.now)) }
+    {
+        way_to(alloc, &self.file(), key)
     }
 
     /// The first pairs in the order of the keys whose key is not less than `from`, at most `limit`
@@ -166,11 +191,33 @@ impl Tree {
         write_records(self.leaves(), sink)
     }
 
+    /// The chunks of this tree whose references the other tree lacks. Trees of different bits and
+    /// versions will do.
+    ///
+    /// Takes no memory and no hash, and looks the reference of each chunk up, in time O(n log m)
+    /// for n chunks of this tree and m of the other.
+    pub fn missing_from(&self, other: &Tree) -> Missing
+        ensures { (content others : Content) → IsFileOf self.now content →
+            IsFileOf other.now others →
+            AreSo (lacking (chunks_of others) (chunks_of content)) result }
+    {
+        missing_in(&other.index, &self.file_chunks())
+    }
+
     /// The version of the file.
     pub fn version(&self) -> Version
         ensures { (content : Content) → IsFileOf self.now content → result ≡ content.version }
     {
         self.file().version()
+    }
+
+    /// The chunks of the file, with their references.
+    fn file_chunks(&self) -> FileChunks<'_>
+        ensures chunks { (content : Content) → IsFileOf self.now content →
+            result ≡ chunks_of content }
+        ensures small { size_of result < 2 ^ 64 }
+    {
+        FileChunks::new(self.version, &self.bytes, &self.spans, &self.references)
     }
 
     /// The same, as look-ups see it.

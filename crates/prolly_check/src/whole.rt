@@ -28,7 +28,7 @@ pub(crate) fn test_chunks(version: Version, bytes: &[u8], spans: &[Span]) -> Res
 }
 
 /// Whether a chunk is a level and whole lawful entries of that level's kind.
-fn is_whole(version: Version, chunk: &[u8]) -> bool
+pub(crate) fn is_whole(version: Version, chunk: &[u8]) -> bool
     ensures whole { result ≡ true → IsWhole version chunk.now }
     ensures other { result ≡ false → (pairs : List PairValue) → Holds version chunk.now pairs → ⊥ }
 {
