@@ -1,12 +1,9 @@
 -- Bytes have one verdict.
-use Rattle.std.proofs.Common.{◌≡◌, ℕ, suc, ◌+◌, ◌≤◌, true, false, ◌||◌, nat_lt, List, [], ◌∷◌, ◌++◌}
+use Rattle.std.proofs.Common.{◌≡◌, ℕ, suc, true, List, [], ◌∷◌, ◌++◌}
 use Rattle.std.proofs.Common.{length, drop, Option, Some, None, Result, Ok, Err, refl, sym, ap, ◌∙◌}
-use Rattle.std.proofs.Common.{subst, arith, append_assoc}
+use Rattle.std.proofs.Common.{subst, append_assoc}
 use Rattle.std.specs.Prelude.{slice_index}
-use Rattle.std.specs.Int.{w64, to_be_bytes, from_be_bytes}
-use Rattle.std.proofs.lemmas.Nat.{from_be_bytes-to_be_bytes_8}
-use Rattle.std.proofs.lemmas.List.{length-append}
-use Rattle.std.proofs.lemmas.Bool.{false≢true, or_from, le-ltb}
+use Rattle.std.proofs.lemmas.Bool.{false≢true}
 use Rattle.std.specs.List.{flat_map, AllByRecursion}
 use Rattle.prolly_entry.specs.Pair.{Pair}
 use Rattle.prolly_entry.specs.declared.version.Version.{Version}
@@ -19,9 +16,9 @@ use Rattle.prolly_check.specs.Frames.{has_no_frame, ending_of, IsSmall}
 use Rattle.prolly_check.specs.Entries.{Holds, IsRead}
 use Rattle.prolly_check.specs.Verdict.{ReadVerdict, EndVerdict, FramesVerdict, HeaderVerdict}
 use Rattle.prolly_check.specs.Verdict.{OneVerdict}
-use Rattle.prolly_entry.specs.lemmas.Spellings.{eight_bytes}
-use Rattle.prolly_entry.specs.lemmas.Lists.{apart, cells, all_back}
+use Rattle.prolly_entry.specs.lemmas.Lists.{all_back}
 use Rattle.prolly_check.specs.Whole.{IsWhole, AreWhole}
+use Rattle.prolly_check.specs.lemmas.Frames.{begins_frame, one_front}
 use Rattle.prolly_check.proofs.HeldPairs.{lists_are, are_whole}
 
 head_is : {A : Type 0} (x y : A) (xs ys : List A) → x ∷ xs ≡ y ∷ ys → x ≡ y
@@ -32,25 +29,9 @@ tail_is x y xs ys e = cc
 
 -- ---- the frames
 
-long_enough : (long read size : ℕ) → read ≡ size → 8 + size ≤ long →
-    (nat_lt long 8 || nat_lt long (8 + read)) ≡ false
-long_enough long read size e h = or_from (nat_lt long 8) (nat_lt long (8 + read))
-    (le-ltb long 8 (omega arith)) (le-ltb long (8 + read) (omega arith))
-
-begins_frame : (d more : List ℕ) → IsSmall d →
-    has_no_frame (0x43 ∷ (to_be_bytes w64 (length d) ++ (d ++ more))) ≡ false
-begins_frame d more small = long_enough (length (to_be_bytes w64 (length d) ++ (d ++ more)))
-    (from_be_bytes w64 (to_be_bytes w64 (length d))) (length d)
-    (from_be_bytes-to_be_bytes_8 (length d) small)
-    (let a : length (to_be_bytes w64 (length d) ++ (d ++ more)) ≡ 8 +
-    length (d ++ more) = length-append (to_be_bytes w64 (length d)) (d ++ more) in
-    let b : length (d ++ more) ≡ length d + length more = length-append d more in omega arith)
-
 regroup : (d : List ℕ) (ds : List (List ℕ)) (y : List ℕ) →
-    flat_map framed (d ∷ ds) ++ y ≡ 0x43 ∷ (to_be_bytes w64 (length d) ++
-    (d ++ (flat_map framed ds ++ y)))
-regroup d ds y = append_assoc (framed d) (flat_map framed ds) y ∙
-    append_assoc (0x43 ∷ to_be_bytes w64 (length d)) d (flat_map framed ds ++ y)
+    flat_map framed (d ∷ ds) ++ y ≡ framed d ++ (flat_map framed ds ++ y)
+regroup d ds y = append_assoc (framed d) (flat_map framed ds) y
 
 pub record Same (cs ds : List (List ℕ)) (x y : List ℕ) : Type 0 where
   pub chunks : cs ≡ ds
@@ -67,16 +48,8 @@ framed_one (c ∷ cs) [] x y h k a b e = absurd
     (false≢true (sym (begins_frame c (flat_map framed cs ++ x) h.0) ∙
     ap has_no_frame (sym (regroup c cs x) ∙ e) ∙ b))
 framed_one (c ∷ cs) (d ∷ ds) x y h k a b e =
-    let more = flat_map framed cs ++ x in
-    let more' = flat_map framed ds ++ y in
-    let f : 0x43 ∷ (to_be_bytes w64 (length c) ++ (c ++ more)) ≡
-    0x43 ∷ (to_be_bytes w64 (length d) ++ (d ++ more')) = sym (regroup c cs x) ∙ e ∙
-    regroup d ds y in
-    let n = apart (to_be_bytes w64 (length c)) (to_be_bytes w64 (length d)) (c ++ more) (d ++ more')
-    refl
-    (cells 0x43 0x43 (to_be_bytes w64 (length c) ++ (c ++ more))
-    (to_be_bytes w64 (length d) ++ (d ++ more')) f) in
-    let p = apart c d more more' (eight_bytes (length c) (length d) h.0 k.0 n.front) n.rest in
+    let p = one_front c d (flat_map framed cs ++ x) (flat_map framed ds ++ y) h.0 k.0
+    (sym (regroup c cs x) ∙ e ∙ regroup d ds y) in
     let r = framed_one cs ds x y h.1 k.1 a b p.rest in
     record { chunks = ap (λ z. z ∷ cs) p.front ∙ ap (λ zs. d ∷ zs) r.chunks; tail = r.tail }
 

@@ -22,6 +22,7 @@ use Rattle.prolly_check.specs.Kinds.{kind_of}
 use Rattle.prolly_check.specs.Root.{root_bytes}
 use Rattle.prolly_check.specs.Way.{EndsWith, IsNamed, IsWay, Lead, LeadsOn, LevelsFall, keys_of}
 use Rattle.prolly_check.specs.Way.{level_of}
+use Rattle.prolly_check.specs.lemmas.Ways.{lead_more}
 use Rattle.prolly_check.specs.declared.entries.Entries.{Entries}
 use Rattle.prolly_check.specs.declared.entries.Entries.TheVariants.{Leaf, Node}
 use Rattle.prolly_check.proofs.HeldPairs.{each_whole, map_holds}
@@ -78,19 +79,6 @@ module _ (content : Content) where
       (tops_rise content.version level ts b.of.full b.of.rising)
 
 -- ---- chunks one below another
-
--- one more chunk leads on
-lead_more : (version : Version) (key from : List ℕ) (chunks : List (List ℕ))
-    (to chunk next : List ℕ) → Lead version key from chunks to → IsNamed version to chunk →
-    LeadsOn key (kind_of version chunk) next → Lead version key from (chunks ++ chunk ∷ []) next
-lead_more version key from [] to chunk next lead named on =
-    (subst (λ r. IsNamed version r chunk) (sym lead) named, next, on, refl)
-lead_more version key from (c ∷ chunks) to chunk next lead named on = (
-  lead.0,
-  lead.1,
-  lead.2,
-  lead_more version key lead.1 chunks to chunk next lead.3 named on,
-)
 
 -- one more level down
 falls_more : (chunks : List (List ℕ)) (chunk below : List ℕ) → LevelsFall (chunks ++ chunk ∷ []) →

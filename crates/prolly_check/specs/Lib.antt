@@ -48,3 +48,5 @@ pub mod Rebuilt
 pub mod Way
 -- What a look-up comes to at a chunk.
 pub mod Steps
+-- Lemmas for the crates above, by subject.
+pub mod lemmas

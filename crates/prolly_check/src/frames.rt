@@ -1,7 +1,9 @@
 //! The frames of a chunk file.
-ghost use Rattle.std.specs.Prelude.{◌≡◌, ◌+◌, ◌≤◌, true, None, length, take, drop, IfSome, IfOk};
+ghost use Rattle.std.specs.Prelude.{◌≡◌, ◌+◌, ◌≤◌, ◌++◌, true, None, length, take, drop};
+ghost use Rattle.std.specs.Prelude.{IfSome, IfOk};
 ghost use Rattle.std.specs.Int.{w64, from_be_bytes};
-ghost use Rattle.prolly_check.specs.Frames.{has_no_frame};
+ghost use Rattle.prolly_file.specs.Frame.{framed};
+ghost use Rattle.prolly_check.specs.Frames.{has_no_frame, IsSmall};
 ghost use Rattle.prolly_check.specs.Spans.{BeginsFrame, FramesTo, IsWithin, chunk_in};
 
 use crate::header::HEADER_SIZE;
@@ -63,6 +65,21 @@ fn frame_at(bytes: &[u8]) -> Option<usize>
         return None;
     }
     Some(len as usize)
+}
+
+/// The chunk whose whole frame begins the bytes, and what stands behind the frame; none where no
+/// whole frame begins them. Takes no memory, and constant time.
+///
+/// A frame is the letter C, the length of the chunk in eight bytes, the most significant first, and
+/// the chunk.
+pub fn front_frame(bytes: &[u8]) -> Option<(&[u8], &[u8])>
+    ensures found { IfSome result (λ r. IsSmall r.0.now × (bytes.now ≡ framed r.0.now ++
+        r.1.now)) }
+    ensures none { result ≡ None → has_no_frame bytes.now ≡ true }
+{
+    let len = frame_at(bytes)?;
+    let (_, rest) = bytes.split_at(FRAME_START);
+    Some(rest.split_at(len))
 }
 
 /// The number behind the first byte.

@@ -31,6 +31,7 @@ mod whole;
 
 pub use checker::check;
 pub use fault::CheckFault;
+pub use frames::front_frame;
 pub use leaf::Pairs;
 pub use leaves::Leaves;
 pub use missing::Missing;
