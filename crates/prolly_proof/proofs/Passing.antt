@@ -1,0 +1,200 @@
+-- Reading the chunks of a proof one after another.
+use Rattle.std.proofs.Common.{◌≡◌, ℕ, suc, ◌+◌, ◌≤◌, inl, inr, List, [], ◌∷◌, ◌++◌, length}
+use Rattle.std.proofs.Common.{Option, Some, None, refl, sym, ap, ◌∙◌, subst, arith, append_assoc}
+use Rattle.std.proofs.Common.{append-nil, Bool, true, false, ◌==◌}
+use Rattle.std.proofs.lemmas.Bool.{false≢true}
+use Rattle.std.proofs.Math.Dec.{eqb-suc-zero}
+use Rattle.std.proofs.lemmas.List.{length-append}
+use Rattle.std.proofs.lemmas.List.Concat.{flat_map-append}
+use Rattle.std.specs.Int.{w64, to_be_bytes}
+use Rattle.std.specs.List.{AllByRecursion, flat_map}
+use Rattle.prolly_check.specs.Frames.{IsSmall}
+use Rattle.prolly_check.specs.Kinds.{kind_of}
+use Rattle.prolly_check.specs.Way.{EndsWith, IsNamed, Lead, LeadsOn, LevelsFall, level_of}
+use Rattle.prolly_check.specs.lemmas.Ways.{lead_more}
+use Rattle.prolly_entry.specs.declared.version.Version.{Version}
+use Rattle.prolly_entry.specs.lemmas.Lists.{all_append}
+use Rattle.prolly_file.specs.Frame.{framed}
+use Rattle.prolly_proof.specs.Faults.{FallsTo, HasPassed, IsChunkFault, IsFault, IsFrameFault}
+use Rattle.prolly_proof.specs.Faults.{HasMore, last_level}
+use Rattle.prolly_proof.specs.ProofFile.{IsProof, proof_file, proof_start}
+use Rattle.prolly_proof.specs.declared.fault.ProofFault.{ProofFault}
+use Rattle.prolly_proof.specs.declared.fault.ProofFault.TheVariants.{Trailing}
+use Rattle.prolly_proof.specs.declared.verifier.Awaited.{Awaited}
+
+-- ---- the levels
+
+last_more : (passed : List (List ℕ)) (chunk : List ℕ) →
+    last_level (passed ++ chunk ∷ []) ≡ Some (level_of chunk)
+last_more [] chunk = refl
+last_more (c ∷ []) chunk = refl
+last_more (c ∷ d ∷ passed) chunk = last_more (d ∷ passed) chunk
+
+falls_more : (passed : List (List ℕ)) (chunk : List ℕ) → LevelsFall passed →
+    FallsTo (last_level passed) chunk → LevelsFall (passed ++ chunk ∷ [])
+falls_more [] chunk down falls = tt
+falls_more (c ∷ []) chunk down falls = (falls, tt)
+falls_more (c ∷ d ∷ passed) chunk down falls =
+    (down.0, falls_more (d ∷ passed) chunk down.1 falls)
+
+-- ---- what is left
+
+pub none_left : (xs : List ℕ) (r : Bool) → r ≡ (length xs == 0) → r ≡ true → xs ≡ []
+none_left [] r e h = refl
+none_left (x ∷ xs) r e h = absurd (false≢true (sym (eqb-suc-zero (length xs)) ∙ sym e ∙ h))
+
+pub some_left : (xs : List ℕ) (r : Bool) → r ≡ (length xs == 0) → r ≡ false → xs ≡ [] → ⊥
+some_left xs r e h none = false≢true (sym h ∙ e ∙ ap (λ ys. length ys == 0) none)
+
+-- ---- where the reading stands
+
+-- some chunks were read and lead to the awaited one, whose frame is due at the rest
+pub record Stands (version : Version) (root key chunks : List ℕ) (awaited : Awaited)
+    (rest : List ℕ) : Type 0 where
+  pub passed : List (List ℕ)
+  pub small : AllByRecursion IsSmall passed
+  pub is : chunks ≡ flat_map framed passed ++ rest
+  pub lead : Lead version key root passed awaited.reference.0
+  pub down : LevelsFall passed
+  pub above : awaited.above ≡ last_level passed
+  pub number : awaited.number ≡ length passed
+  pub few : awaited.number + length rest ≤ length chunks
+
+pub begins : (version : Version) (root key chunks : List ℕ) (awaited : Awaited) →
+    root ≡ awaited.reference.0 → awaited.above ≡ None → awaited.number ≡ 0 →
+    Stands version root key chunks awaited chunks
+begins version root key chunks awaited reference above number = record {
+  passed = [];
+  small = tt;
+  is = refl;
+  lead = reference;
+  down = tt;
+  above = above;
+  number = number;
+  few = omega arith;
+}
+
+module _ (version : Version) (root key chunks : List ℕ) (awaited : Awaited) (rest : List ℕ)
+    (s : Stands version root key chunks awaited rest) where
+  abbrev bytes : List ℕ
+  bytes = proof_start version ++ chunks
+
+  has_passed : (left : List ℕ) → rest ≡ left →
+      HasPassed version root key bytes s.passed awaited.reference.0 left
+  has_passed left e = record {
+    small = s.small;
+    is = ap (λ x. proof_start version ++ x) (s.is ∙ ap (λ x. flat_map framed s.passed ++ x) e) ∙
+        sym (append_assoc (proof_start version) (flat_map framed s.passed) left);
+    lead = s.lead;
+    down = s.down;
+  }
+
+  pub no_frame : (fault : ProofFault) → IsFrameFault awaited.number rest fault →
+      IsFault version root key bytes fault
+  no_frame fault h = inr (inl (record {
+    passed = s.passed;
+    due = awaited.reference.0;
+    rest = rest;
+    has = has_passed rest refl;
+    is = subst (λ n. IsFrameFault n rest fault) s.number h;
+  }))
+
+  module _ (chunk behind : List ℕ) (small : IsSmall chunk) (is : rest ≡ framed chunk ++ behind)
+    where
+      pub wrong_chunk : (fault : ProofFault) →
+          IsChunkFault version awaited.reference.0 awaited.above chunk awaited.number fault →
+          IsFault version root key bytes fault
+      wrong_chunk fault h = inr (inr (inl (record {
+        passed = s.passed;
+        due = awaited.reference.0;
+        chunk = chunk;
+        rest = behind;
+        has = has_passed (framed chunk ++ behind) is;
+        small = small;
+        is = subst (λ n. IsChunkFault version awaited.reference.0 (last_level s.passed) chunk n
+            fault) s.number (subst (λ l. IsChunkFault version awaited.reference.0 l chunk
+            awaited.number fault) s.above h);
+      })))
+
+      spelled : chunks ≡ flat_map framed (s.passed ++ chunk ∷ []) ++ behind
+      spelled = s.is ∙ ap (λ x. flat_map framed s.passed ++ x) is ∙
+          sym (append_assoc (flat_map framed s.passed) (framed chunk) behind) ∙
+          ap (λ x. x ++ behind) (sym (flat_map-append framed s.passed (chunk ∷ []) ∙
+          ap (λ x. flat_map framed s.passed ++ x) (append-nil (framed chunk))))
+
+      all_small : AllByRecursion IsSmall (s.passed ++ chunk ∷ [])
+      all_small = all_append IsSmall s.passed (chunk ∷ []) s.small (small, tt)
+
+      pub shorter : suc (length behind) ≤ length rest
+      shorter =
+          let front = to_be_bytes w64 (length chunk) ++ chunk in
+          let long : length (front ++ behind) ≡ length front + length behind =
+          length-append front behind in
+          let all : length rest ≡ suc (length (front ++ behind)) = ap length is in
+          omega arith
+
+      module _ (named : IsNamed version awaited.reference.0 chunk)
+          (falls : FallsTo awaited.above chunk) where
+        down : LevelsFall (s.passed ++ chunk ∷ [])
+        down = falls_more s.passed chunk s.down (subst (λ l. FallsTo l chunk) s.above falls)
+
+        proves : (value : Option (List ℕ)) → EndsWith key (kind_of version chunk) value →
+            IsProof version root key (proof_file version (s.passed ++ chunk ∷ [])) value
+        proves value ends = record {
+          chunks = s.passed ++ chunk ∷ [];
+          small = all_small;
+          is = refl;
+          way = record {
+            before = s.passed;
+            last = chunk;
+            reference = awaited.reference.0;
+            are = refl;
+            lead = s.lead;
+            named = named;
+            down = down;
+            ends = ends;
+          };
+        }
+
+        pub ends_here : (value : Option (List ℕ)) → EndsWith key (kind_of version chunk) value →
+            behind ≡ [] → IsProof version root key bytes value
+        ends_here value ends none = subst (λ x. IsProof version root key x value)
+            (ap (λ x. proof_start version ++ x) (sym (spelled ∙
+            ap (λ x. flat_map framed (s.passed ++ chunk ∷ []) ++ x) none ∙
+            append-nil (flat_map framed (s.passed ++ chunk ∷ [])))))
+            (proves value ends)
+
+        more_from : (value : Option (List ℕ)) → EndsWith key (kind_of version chunk) value →
+            (left : List ℕ) → behind ≡ left → (left ≡ [] → ⊥) → HasMore version root key bytes
+        more_from value ends [] e some = absurd (some refl)
+        more_from value ends (b ∷ left) e some = record {
+          proof = proof_file version (s.passed ++ chunk ∷ []);
+          value = value;
+          byte = b;
+          more = left;
+          is = ap (λ x. proof_start version ++ x) (spelled ∙
+              ap (λ x. flat_map framed (s.passed ++ chunk ∷ []) ++ x) e) ∙
+              sym (append_assoc (proof_start version)
+              (flat_map framed (s.passed ++ chunk ∷ [])) (b ∷ left));
+          proves = proves value ends;
+        }
+
+        pub has_more : (value : Option (List ℕ)) → EndsWith key (kind_of version chunk) value →
+            (behind ≡ [] → ⊥) → IsFault version root key bytes Trailing
+        has_more value ends some =
+            inr (inr (inr (refl, more_from value ends behind refl some)))
+
+        pub goes_on : (next : Awaited) → LeadsOn key (kind_of version chunk) next.reference.0 →
+            next.above ≡ Some (level_of chunk) → next.number ≡ awaited.number + 1 →
+            Stands version root key chunks next behind
+        goes_on next on above number = record {
+          passed = s.passed ++ chunk ∷ [];
+          small = all_small;
+          is = spelled;
+          lead = lead_more version key root s.passed awaited.reference.0 chunk next.reference.0
+              s.lead named on;
+          down = down;
+          above = above ∙ sym (last_more s.passed chunk);
+          number = number ∙ ap (λ n. n + 1) s.number ∙ sym (length-append s.passed (chunk ∷ []));
+          few = omega (arith, s.few, shorter);
+        }

@@ -1,0 +1,41 @@
+//! The proof of what a map has at a key.
+ghost use Rattle.std.specs.Prelude.{◌≡◌, ◌++◌, OnOk, IfOk};
+ghost use Rattle.prolly_check.specs.Content.{Content};
+ghost use Rattle.prolly_check.specs.Frames.{IsSmall};
+ghost use Rattle.prolly_check.specs.Verdict.{IsFileOf};
+ghost use Rattle.prolly_entry.specs.Cut.{sha512_cut};
+ghost use Rattle.prolly_file.specs.Frame.{framed};
+ghost use Rattle.prolly_proof.specs.ProofFile.{IsProof};
+ghost use Rattle.prolly_tree.specs.File.{root_reference};
+ghost use Rattle.prolly_tree.specs.LookUp.{find};
+
+use crate::start::proof_start;
+use prolly_check::Tree;
+use std::alloc::{AllocError, Global};
+
+/// The proof of what a checked tree has at the key: of its value, or that it has none.
+///
+/// Its length is that of one chunk a level, nine bytes for each of them, and five. Takes memory
+/// for it, and time linear in it.
+pub fn prove(alloc: Global, tree: &Tree, key: &[u8]) -> Result<Vec<u8>, AllocError>
+    ensures { IfOk result (λ proof. (content : Content) → IsFileOf tree.now content →
+        IsProof content.version (root_reference (sha512_cut content.bits) content.version
+        content.pairs) key.now proof.items (find content.pairs key.now)) }
+{
+    let mut proof = Vec::new(alloc);
+    proof.extend_from_slice(&proof_start(tree.version()))?;
+    for chunk in &tree.way_to(alloc, key)? {
+        append_frame(&mut proof, chunk)?;
+    }
+    Ok(proof)
+}
+
+/// Appends the frame of a chunk.
+fn append_frame(out: &mut Vec<u8>, chunk: &[u8]) -> Result<(), AllocError>
+    ensures framed { OnOk result (out.new.items ≡ out.old.items ++ framed chunk.now) }
+    ensures small { IsSmall chunk.now }
+{
+    out.extend_from_slice(b"C")?;
+    out.extend_from_slice(&(chunk.len() as u64).to_be_bytes())?;
+    out.extend_from_slice(chunk)
+}
