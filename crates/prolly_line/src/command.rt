@@ -86,6 +86,21 @@ pub enum Command {
         stat: bool,
         mode: WriteMode,
     },
+    /// Write a proof of what a file has at a key.
+    Prove {
+        file: String,
+        key: Vec<u8>,
+        out: String,
+        mode: WriteMode,
+    },
+    /// Say what a proof shows of a key to whoever knows the root, which is told by its text, and
+    /// the version of the chunks. Without a file the proof comes from standard input.
+    Verify {
+        root: [u8; 32],
+        key: Vec<u8>,
+        version: u8,
+        proof: Option<String>,
+    },
 }
 
 /// Why the words give no command.
@@ -97,7 +112,10 @@ pub enum ParseFault {
     Usage(String),
     /// The words ask for help, which is the text.
     Help(String),
-    /// The word for the key is not hexadecimal, or writes more than 1,024 bytes.
+    /// The word for the root is not the text of a reference: 32 figures and letters from a to v.
+    BadRoot,
+    /// The word for the key is not hexadecimal, or writes more than 1,024 bytes. It is told only
+    /// where the word for the root, if there is one, is good.
     BadKey,
 }
 
@@ -160,6 +178,8 @@ fn command_of(alloc: Global, name: &str, given: &ArgMatches<'_>) -> Result<Comma
         "nth" => fields::nth(alloc, given),
         "dump" => fields::dump(alloc, given),
         "diff" => fields::diff(alloc, given),
+        "prove" => fields::prove(alloc, given),
+        "verify" => fields::verify(alloc, given),
         _ => unreachable!(),
     }
 }
