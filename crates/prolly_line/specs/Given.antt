@@ -1,8 +1,8 @@
 -- Which command the words give, and how they are refused.
 use Rattle.std.specs.Prelude.{◌≡◌, ◌≢◌, ◌≤◌, ◌↔◌, ◌&&◌, ◌||◌, Bool, true, IsTrue, ⊤, ℕ, ◌⊎◌}
 use Rattle.std.specs.Prelude.{Ok, Option, Some, List, [], nat_le}
-use Rattle.std.specs.List.{list_all}
 use Rattle.std.specs.Prelude.{length, map, option_map, string_bytes, codes, unwrap_or}
+use Rattle.std.specs.List.{list_all}
 use Rattle.hex.specs.Hex.{decode_of}
 use Rattle.std.specs.Str.Parse.{digits_value, without_leading_plus}
 use Rattle.clap.specs.Words.{IsAmong, Row, Text, all_of, first_of, one_of}
