@@ -13,9 +13,11 @@ use Rattle.prolly_line.specs.Given.{HasFields, IsGivenBy, IsRefusalOf, IsRefused
 use Rattle.prolly_line.specs.Line.{line_faults, line_given, program_line}
 use Rattle.prolly_line.specs.declared.command.Command.{Command}
 use Rattle.prolly_line.specs.declared.command.Command.TheVariants.{Pack, Scratch, Build, Check, Get}
-use Rattle.prolly_line.specs.declared.command.Command.TheVariants.{Scan, Nth, Dump, Diff}
+use Rattle.prolly_line.specs.declared.command.Command.TheVariants.{Scan, Nth, Dump, Diff, Prove}
+use Rattle.prolly_line.specs.declared.command.Command.TheVariants.{Verify}
 use Rattle.prolly_line.specs.declared.command.ParseFault.{ParseFault}
-use Rattle.prolly_line.specs.declared.command.ParseFault.TheVariants.{Memory, Usage, Help, BadKey}
+use Rattle.prolly_line.specs.declared.command.ParseFault.TheVariants.{Memory, Usage, Help}
+use Rattle.prolly_line.specs.declared.command.ParseFault.TheVariants.{BadRoot, BadKey}
 
 -- ---- clap's model holds of the line
 
@@ -90,6 +92,7 @@ refused_by c words e fault line kinds refusal = go fault (error_at c words e lin
       | inr among ↦
           subst (λ kind. IsAmong kind (line_faults words)) r among
     ]
+    go BadRoot k r = absurd r
     go BadKey k r = absurd r
 
 -- the answer to the subcommand is the answer to the words
@@ -105,6 +108,7 @@ answers_words words given (Err fault) entered refused = (tt, go fault refused)
     go Memory r = tt
     go (Usage text) r = absurd r
     go (Help text) r = absurd r
+    go BadRoot r = (entered.0, (given, entered.1, r))
     go BadKey r = (entered.0, (given, entered.1, r))
 
 -- the fields that an accepted subcommand gives are within the limits
@@ -121,6 +125,8 @@ limits_kept given (Ok command) fields = go command fields
     go (Get file key) h = h.2.2.1
     go (Scan file from limit) h = (h.2.2.1, h.3.2)
     go (Nth file n) h = h.2.2
-    go (Dump file out mode) h = tt
-    go (Diff old new out mode) h = tt
+    go (Dump file out text mode) h = tt
+    go (Diff old new out stat mode) h = tt
+    go (Prove file key out mode) h = h.2.2.1
+    go (Verify root key version proof) h = (h.1.1, h.2.2.1, h.3.1, h.3.2)
 limits_kept given (Err fault) refused = tt

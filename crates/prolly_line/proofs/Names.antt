@@ -1,4 +1,4 @@
--- An accepted subcommand is one of the nine.
+-- An accepted subcommand is one of the eleven.
 use Rattle.std.proofs.Common.{◌≡◌, ◌∙◌, List, false, true, refl, sym, subst, codes}
 use Rattle.std.specs.Str.{bytes_eq}
 use Rattle.std.proofs.lemmas.Slice.Eq.{bytes_eq-Decides}
@@ -22,6 +22,8 @@ pub record IsStrange (name : Text) : Type 0 where
   pub nth : name ≡ codes "nth" → ⊥
   pub dump : name ≡ codes "dump" → ⊥
   pub diff : name ≡ codes "diff" → ⊥
+  pub prove : name ≡ codes "prove" → ⊥
+  pub verify : name ≡ codes "verify" → ⊥
   pub help : name ≡ codes "help" → ⊥
 
 -- no subcommand of the line has such a name
@@ -45,7 +47,13 @@ none_strange = (
                 (λ strange. strange.dump refl),
                 (
                   (λ strange. strange.diff refl),
-                  ((λ strange. strange.help refl), tt),
+                  (
+                    (λ strange. strange.prove refl),
+                    (
+                      (λ strange. strange.verify refl),
+                      ((λ strange. strange.help refl), tt),
+                    ),
+                  ),
                 ),
               ),
             ),
@@ -68,13 +76,14 @@ not_help given accepted is =
     let bad : true ≡ false = sym same ∙ past in
     cc
 
--- and so an accepted subcommand has the name of one of the nine
+-- and so an accepted subcommand has the name of one of the eleven
 pub not_strange : (name : Text) (rows : List Row) → IsAccepted (name, rows)
     → (name ≡ codes "pack" → ⊥) → (name ≡ codes "scratch" → ⊥) → (name ≡ codes "build" → ⊥) →
     (name ≡ codes "check" → ⊥)
     → (name ≡ codes "get" → ⊥) → (name ≡ codes "scan" → ⊥) → (name ≡ codes "nth" → ⊥)
-    → (name ≡ codes "dump" → ⊥) → (name ≡ codes "diff" → ⊥) → ⊥
-not_strange name rows accepted pack scratch build check get scan nth dump diff =
+    → (name ≡ codes "dump" → ⊥) → (name ≡ codes "diff" → ⊥) → (name ≡ codes "prove" → ⊥) →
+    (name ≡ codes "verify" → ⊥) → ⊥
+not_strange name rows accepted pack scratch build check get scan nth dump diff prove verify =
     let level = accepted_level accepted.0 (name, rows) accepted.1 accepted.2 in
     let is : level.0.name ≡ name = found_name name (built program_line).subs level.0 no_aliases
     level.1 in
@@ -91,5 +100,7 @@ not_strange name rows accepted pack scratch build check get scan nth dump diff =
       nth = nth;
       dump = dump;
       diff = diff;
+      prove = prove;
+      verify = verify;
       help = not_help (name, rows) accepted;
     }))

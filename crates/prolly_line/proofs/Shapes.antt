@@ -8,7 +8,8 @@ use Rattle.prolly_line.proofs.Levels.{level_at, number_at, shape_at, word_at}
 use Rattle.prolly_line.proofs.Passes.{Each, IsSound}
 use Rattle.prolly_line.specs.Accepted.{HasNumber, HasWord, IsAccepted}
 use Rattle.prolly_line.specs.Line.{build_line, check_line, diff_line, dump_line, get_line}
-use Rattle.prolly_line.specs.Line.{nth_line, pack_line, program_line, scan_line, scratch_line}
+use Rattle.prolly_line.specs.Line.{nth_line, pack_line, program_line, prove_line, scan_line}
+use Rattle.prolly_line.specs.Line.{scratch_line, verify_line}
 
 -- a subcommand as it is built under the program's line
 abbrev built_of : App → Shape
@@ -260,7 +261,13 @@ dump_found = refl
 
 dump_sound : IsSoundShape dump_shape
 unfolding clap_on_literals dump_shape
-dump_sound = ((refl, refl), ((refl, refl), ((refl, refl), ((refl, refl), ((refl, refl), tt)))))
+dump_sound = (
+  (refl, refl),
+  (
+    (refl, refl),
+    ((refl, refl), ((refl, refl), ((refl, refl), ((refl, refl), tt)))),
+  ),
+)
 
 pub record TakesDump (rows : List Row) : Type 0 where
   pub file : HasWord (codes "file") rows
@@ -288,7 +295,10 @@ diff_sound = (
   (refl, refl),
   (
     (refl, refl),
-    ((refl, refl), ((refl, refl), ((refl, refl), ((refl, refl), tt)))),
+    (
+      (refl, refl),
+      ((refl, refl), ((refl, refl), ((refl, refl), ((refl, refl), tt)))),
+    ),
   ),
 )
 
@@ -303,4 +313,66 @@ takes_diff rows accepted =
     record {
       old = word_at diff_shape rows (codes "old") diff_sound level refl refl;
       new = word_at diff_shape rows (codes "new") diff_sound level refl refl;
+    }
+
+-- ---- prove
+
+unfoldable prove_shape : Shape
+prove_shape = built_of prove_line
+
+prove_found : shape_at (codes "prove") ≡ Some prove_shape
+unfolding clap_on_literals prove_shape
+prove_found = refl
+
+prove_sound : IsSoundShape prove_shape
+unfolding clap_on_literals prove_shape
+prove_sound = (
+  (refl, refl),
+  (
+    (refl, refl),
+    ((refl, refl), ((refl, refl), ((refl, refl), ((refl, refl), tt)))),
+  ),
+)
+
+pub record TakesProve (rows : List Row) : Type 0 where
+  pub file : HasWord (codes "file") rows
+  pub key : HasWord (codes "key") rows
+  pub out : HasWord (codes "out") rows
+
+pub takes_prove : (rows : List Row) → IsAccepted (codes "prove", rows) → TakesProve rows
+unfolding clap_on_literals prove_shape
+takes_prove rows accepted =
+    let level = level_at (codes "prove") prove_shape rows prove_found accepted in
+    record {
+      file = word_at prove_shape rows (codes "file") prove_sound level refl refl;
+      key = word_at prove_shape rows (codes "key") prove_sound level refl refl;
+      out = word_at prove_shape rows (codes "out") prove_sound level refl refl;
+    }
+
+-- ---- verify
+
+unfoldable verify_shape : Shape
+verify_shape = built_of verify_line
+
+verify_found : shape_at (codes "verify") ≡ Some verify_shape
+unfolding clap_on_literals verify_shape
+verify_found = refl
+
+verify_sound : IsSoundShape verify_shape
+unfolding clap_on_literals verify_shape
+verify_sound = ((refl, refl), ((refl, refl), ((refl, refl), ((refl, refl), ((refl, refl), tt)))))
+
+pub record TakesVerify (rows : List Row) : Type 0 where
+  pub root : HasWord (codes "root") rows
+  pub key : HasWord (codes "key") rows
+  pub format : HasNumber (codes "format") 1 2 rows
+
+pub takes_verify : (rows : List Row) → IsAccepted (codes "verify", rows) → TakesVerify rows
+unfolding clap_on_literals verify_shape
+takes_verify rows accepted =
+    let level = level_at (codes "verify") verify_shape rows verify_found accepted in
+    record {
+      root = word_at verify_shape rows (codes "root") verify_sound level refl refl;
+      key = word_at verify_shape rows (codes "key") verify_sound level refl refl;
+      format = number_at verify_shape rows (codes "format") 1 2 verify_sound level refl refl;
     }

@@ -4,10 +4,10 @@ use Rattle.clap.specs.Values.{IsSignedIn}
 use Rattle.clap.specs.Words.{Row, Text, first_of, found_of, one_of, rows_of, without_minus}
 use Rattle.clap.specs.declared.parser.matches.ArgMatches.{ArgMatches}
 use Rattle.prolly_line.specs.Line.{line_faults, line_given}
-use Rattle.prolly_line.specs.Given.{GivesBadKey, GivesNumber, HasBadKey, HasFields}
+use Rattle.prolly_line.specs.Given.{GivesBadKey, GivesNumber, HasBadKey, HasBadRoot, HasFields}
 use Rattle.prolly_line.specs.declared.command.Command.{Command}
 use Rattle.prolly_line.specs.declared.command.ParseFault.{ParseFault}
-use Rattle.prolly_line.specs.declared.command.ParseFault.TheVariants.{Memory, BadKey}
+use Rattle.prolly_line.specs.declared.command.ParseFault.TheVariants.{Memory, BadRoot, BadKey}
 
 -- the rows that the matches of a subcommand hold
 abbrev pub rows_in : ArgMatches → List Row
@@ -36,6 +36,7 @@ HasWord name rows = (text : Text) × (first_of name rows ≡ Some text)
 -- an accepted subcommand is refused in this way
 abbrev pub IsRefusedAt : Text × List Row → ParseFault → Type 0
 IsRefusedAt given Memory = ⊤
+IsRefusedAt given BadRoot = HasBadRoot given
 IsRefusedAt given BadKey = HasBadKey given
 IsRefusedAt given _ = ⊥
 

@@ -1,6 +1,8 @@
 -- Which command the words give, and how they are refused.
-use Rattle.std.specs.Prelude.{◌≡◌, ◌≢◌, ◌≤◌, ◌↔◌, IsTrue, ⊤, ℕ, ◌⊎◌, Ok, Option, Some, List, []}
+use Rattle.std.specs.Prelude.{◌≡◌, ◌≢◌, ◌≤◌, ◌↔◌, ◌&&◌, ◌||◌, Bool, true, IsTrue, ⊤, ℕ, ◌⊎◌}
+use Rattle.std.specs.Prelude.{Ok, Option, Some, List, [], nat_le}
 use Rattle.std.specs.Prelude.{length, map, option_map, string_bytes, codes, unwrap_or}
+use Rattle.std.specs.List.{list_all}
 use Rattle.hex.specs.Hex.{decode_of}
 use Rattle.std.specs.Str.Parse.{digits_value, without_leading_plus}
 use Rattle.clap.specs.Words.{IsAmong, Row, Text, all_of, first_of, one_of}
@@ -10,9 +12,11 @@ use Rattle.prolly_line.specs.Line.{line_faults, line_given}
 use Rattle.prolly_line.specs.declared.command.Command.{Command}
 use Rattle.prolly_line.specs.declared.command.WriteMode.{WriteMode}
 use Rattle.prolly_line.specs.declared.command.Command.TheVariants.{Pack, Scratch, Build, Check, Get}
-use Rattle.prolly_line.specs.declared.command.Command.TheVariants.{Scan, Nth, Dump, Diff}
+use Rattle.prolly_line.specs.declared.command.Command.TheVariants.{Scan, Nth, Dump, Diff, Prove}
+use Rattle.prolly_line.specs.declared.command.Command.TheVariants.{Verify}
 use Rattle.prolly_line.specs.declared.command.ParseFault.{ParseFault}
-use Rattle.prolly_line.specs.declared.command.ParseFault.TheVariants.{Memory, Usage, Help, BadKey}
+use Rattle.prolly_line.specs.declared.command.ParseFault.TheVariants.{Memory, Usage, Help}
+use Rattle.prolly_line.specs.declared.command.ParseFault.TheVariants.{BadRoot, BadKey}
 
 -- ---- what the rows of a subcommand give
 
@@ -44,11 +48,14 @@ GivesWords rows name words = unwrap_or (all_of name rows) [] ≡ words
 abbrev pub HasFlag : List Row → Text → Type 0
 HasFlag rows name = first_of name rows ≡ Some (codes "true")
 
+-- a choice is on where the words have the flag of this name
+abbrev pub GivesFlag : List Row → Text → Bool → Type 0
+GivesFlag rows name on = IsTrue on ↔ HasFlag rows name
+
 -- an output is written in this mode: each half of it is on where the words have its flag
 abbrev pub GivesMode : List Row → WriteMode → Type 0
 GivesMode rows mode =
-    (IsTrue mode.atomic ↔ HasFlag rows (codes "atomic")) ×
-    (IsTrue mode.sync ↔ HasFlag rows (codes "sync"))
+    GivesFlag rows (codes "atomic") mode.atomic × GivesFlag rows (codes "sync") mode.sync
 
 -- the text is that of a key: hexadecimal, of at most 1,024 bytes
 abbrev pub IsKeyText : Text → List ℕ → Type 0
@@ -63,6 +70,23 @@ abbrev pub GivesBadKey : List Row → Type 0
 GivesBadKey rows =
     (text : Text) × (first_of (codes "key") rows ≡ Some text) ×
     ((key : List ℕ) → IsKeyText text key → ⊥)
+
+-- the byte is a character of the text of a reference: a figure, or a letter up to v
+abbrev pub is_root_character : ℕ → Bool
+is_root_character byte = (nat_le 48 byte && nat_le byte 57) || (nat_le 97 byte && nat_le byte 118)
+
+-- the text is that of a reference, as a root is printed: 32 such characters
+abbrev pub IsRootText : Text → Type 0
+IsRootText text = (length text ≡ 32) × (list_all is_root_character text ≡ true)
+
+-- the word for the root, which is the text of a reference
+abbrev pub GivesRoot : List Row → Text → Type 0
+GivesRoot rows root = GivesWord rows (codes "root") root × IsRootText root
+
+-- the word for the root is no text of a reference
+abbrev pub GivesBadRoot : List Row → Type 0
+GivesBadRoot rows =
+    (text : Text) × (first_of (codes "root") rows ≡ Some text) × (IsRootText text → ⊥)
 
 -- ---- the command
 
@@ -104,17 +128,31 @@ HasFields (Nth file n) given =
     (given.0 ≡ codes "nth")
     × GivesWord given.1 (codes "file") (string_bytes file)
     × GivesNumber given.1 (codes "n") 0 4294967295 n
-HasFields (Dump file out mode) given =
+HasFields (Dump file out text mode) given =
     (given.0 ≡ codes "dump")
     × GivesWord given.1 (codes "file") (string_bytes file)
     × GivesOption given.1 (codes "out") (option_map string_bytes out)
+    × GivesFlag given.1 (codes "text") text
     × GivesMode given.1 mode
-HasFields (Diff old new out mode) given =
+HasFields (Diff old new out stat mode) given =
     (given.0 ≡ codes "diff")
     × GivesWord given.1 (codes "old") (string_bytes old)
     × GivesWord given.1 (codes "new") (string_bytes new)
     × GivesOption given.1 (codes "out") (option_map string_bytes out)
+    × GivesFlag given.1 (codes "stat") stat
     × GivesMode given.1 mode
+HasFields (Prove file key out mode) given =
+    (given.0 ≡ codes "prove")
+    × GivesWord given.1 (codes "file") (string_bytes file)
+    × GivesKey given.1 key.items
+    × GivesWord given.1 (codes "out") (string_bytes out)
+    × GivesMode given.1 mode
+HasFields (Verify root key version proof) given =
+    (given.0 ≡ codes "verify")
+    × GivesRoot given.1 root
+    × GivesKey given.1 key.items
+    × GivesNumber given.1 (codes "format") 1 2 version
+    × GivesOption given.1 (codes "proof") (option_map string_bytes proof)
 
 -- clap takes the words, and the command is what they give
 abbrev pub IsGivenBy : List Text → Command → Type 0
@@ -122,7 +160,8 @@ IsGivenBy words command =
     (line_faults words ≡ [])
     × ((given : Text × List Row) × (line_given words ≡ Some given) × HasFields command given)
 
--- the numbers of the command, and the length of its key, are within their limits
+-- the numbers of the command, and the length of its key, are within their limits, and its root is
+-- the text of a reference
 abbrev pub IsWithinLimits : Command → Type 0
 IsWithinLimits (Pack out mode) = ⊤
 IsWithinLimits (Scratch bits version out mode) = (bits ≤ 24) × (1 ≤ version) × (version ≤ 2)
@@ -137,14 +176,27 @@ IsWithinLimits (Check file) = ⊤
 IsWithinLimits (Get file key) = length key.items ≤ 1024
 IsWithinLimits (Scan file from limit) = (length from.items ≤ 1024) × (limit ≤ 1000000)
 IsWithinLimits (Nth file n) = n ≤ 4294967295
-IsWithinLimits (Dump file out mode) = ⊤
-IsWithinLimits (Diff old new out mode) = ⊤
+IsWithinLimits (Dump file out text mode) = ⊤
+IsWithinLimits (Diff old new out stat mode) = ⊤
+IsWithinLimits (Prove file key out mode) = length key.items ≤ 1024
+IsWithinLimits (Verify root key version proof) =
+    IsRootText root × (length key.items ≤ 1024) × (1 ≤ version) × (version ≤ 2)
 
 -- ---- refusals
 
--- the subcommand takes a key, and its word for the key is no text of one
+-- the subcommand takes a root, and its word for the root is no text of a reference
+abbrev pub HasBadRoot : Text × List Row → Type 0
+HasBadRoot given = (given.0 ≡ codes "verify") × GivesBadRoot given.1
+
+-- the subcommand takes a key, and a root before it only if that is the text of a reference
+abbrev pub ReadsKey : Text × List Row → Type 0
+ReadsKey given =
+    (given.0 ≡ codes "get") ⊎ (given.0 ≡ codes "scan") ⊎ (given.0 ≡ codes "prove")
+    ⊎ ((given.0 ≡ codes "verify") × ((root : Text) × GivesRoot given.1 root))
+
+-- the subcommand takes a key, its word for the key is no text of one, and no word before is bad
 abbrev pub HasBadKey : Text × List Row → Type 0
-HasBadKey given = ((given.0 ≡ codes "get") ⊎ (given.0 ≡ codes "scan")) × GivesBadKey given.1
+HasBadKey given = ReadsKey given × GivesBadKey given.1
 
 -- the words are refused in this way; memory may run out at any words
 abbrev pub IsRefusedBy : List Text → ParseFault → Type 0
@@ -152,6 +204,9 @@ IsRefusedBy words Memory = ⊤
 IsRefusedBy words (Usage text) = (kind : ErrorKind) × IsAmong kind (line_faults words) ×
     (kind ≢ DisplayHelp)
 IsRefusedBy words (Help text) = IsAmong DisplayHelp (line_faults words)
+IsRefusedBy words BadRoot =
+    (line_faults words ≡ [])
+    × ((given : Text × List Row) × (line_given words ≡ Some given) × HasBadRoot given)
 IsRefusedBy words BadKey =
     (line_faults words ≡ [])
     × ((given : Text × List Row) × (line_given words ≡ Some given) × HasBadKey given)
@@ -161,4 +216,5 @@ abbrev pub IsRefusalOf : ErrorKind → ParseFault → Type 0
 IsRefusalOf kind Memory = ⊤
 IsRefusalOf kind (Usage text) = (kind ≢ OutOfMemory) × (kind ≢ DisplayHelp)
 IsRefusalOf kind (Help text) = kind ≡ DisplayHelp
+IsRefusalOf kind BadRoot = ⊥
 IsRefusalOf kind BadKey = ⊥

@@ -71,6 +71,12 @@ atomic_flag = flag (codes "atomic")
 abbrev pub sync_flag : Rule
 sync_flag = flag (codes "sync")
 
+abbrev pub text_flag : Rule
+text_flag = flag (codes "text")
+
+abbrev pub stat_flag : Rule
+stat_flag = flag (codes "stat")
+
 abbrev pub out_word : Rule
 out_word = word_rule (codes "out")
 
@@ -79,6 +85,12 @@ optional_out_word = optional_word (codes "out")
 
 abbrev pub file_word : Rule
 file_word = word_rule (codes "file")
+
+abbrev pub proof_word : Rule
+proof_word = optional_word (codes "proof")
+
+abbrev pub root_word : Rule
+root_word = word_rule (codes "root")
 
 abbrev pub old_word : Rule
 old_word = word_rule (codes "old")
@@ -135,16 +147,25 @@ scan_line = with_rule (with_rule (with_rule (new_app (codes "scan")) file_word) 
 abbrev pub nth_line : App
 nth_line = with_rule (with_rule (new_app (codes "nth")) file_word) n_word
 
--- `dump [--atomic] [--sync] FILE [OUT]`
+-- `dump [--text] [--atomic] [--sync] FILE [OUT]`
 abbrev pub dump_line : App
-dump_line = with_rule (with_rule (with_rule (with_rule (new_app (codes "dump")) atomic_flag)
-    sync_flag) file_word)
-    optional_out_word
+dump_line = with_rule (with_rule (with_rule (with_rule (with_rule (new_app (codes "dump"))
+    text_flag) atomic_flag) sync_flag) file_word) optional_out_word
 
--- `diff [--out FILE] [--atomic] [--sync] OLD NEW`
+-- `diff [--stat] [--out FILE] [--atomic] [--sync] OLD NEW`
 abbrev pub diff_line : App
-diff_line = with_rule (with_rule (with_rule (with_rule (with_rule (new_app (codes "diff"))
-    out_option) atomic_flag) sync_flag) old_word) new_word
+diff_line = with_rule (with_rule (with_rule (with_rule (with_rule (with_rule
+    (new_app (codes "diff")) stat_flag) out_option) atomic_flag) sync_flag) old_word) new_word
+
+-- `prove [--atomic] [--sync] FILE HEXKEY OUT`
+abbrev pub prove_line : App
+prove_line = with_rule (with_rule (with_rule (with_rule (with_rule (new_app (codes "prove"))
+    atomic_flag) sync_flag) file_word) key_word) out_word
+
+-- `verify [--format V] ROOT HEXKEY [PROOF]`
+abbrev pub verify_line : App
+verify_line = with_rule (with_rule (with_rule (with_rule (new_app (codes "verify"))
+    format_option) root_word) key_word) proof_word
 
 -- ---- the whole line
 
@@ -157,9 +178,10 @@ bare_line = on_top (λ s. record s { no_binary_name = true; subcommand_required 
 abbrev pub program_line : App
 program_line = with_subcommand (with_subcommand (with_subcommand
     (with_subcommand (with_subcommand (with_subcommand (with_subcommand
-    (with_subcommand (with_subcommand bare_line pack_line.top) scratch_line.top) build_line.top)
-    check_line.top) get_line.top)
-    scan_line.top) nth_line.top) dump_line.top) diff_line.top
+    (with_subcommand (with_subcommand (with_subcommand (with_subcommand
+    bare_line pack_line.top) scratch_line.top) build_line.top) check_line.top)
+    get_line.top) scan_line.top) nth_line.top) dump_line.top)
+    diff_line.top) prove_line.top) verify_line.top
 
 -- the kinds of error that clap may give at the words; none where it takes them
 unfoldable pub line_faults : List Text → Kinds

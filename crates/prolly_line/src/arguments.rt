@@ -3,8 +3,9 @@ ghost use Rattle.prolly_line.specs.Line.{atomic_flag, batch_option, bits_option,
 ghost use Rattle.prolly_line.specs.Line.{file_word, files_words, flag, format_option, key_word};
 ghost use Rattle.prolly_line.specs.Line.{limit_word};
 ghost use Rattle.prolly_line.specs.Line.{max_records_option, n_word, number_option, number_word};
-ghost use Rattle.prolly_line.specs.Line.{optional_out_word, out_option, out_word, stages_option};
-ghost use Rattle.prolly_line.specs.Line.{sync_flag, word_rule};
+ghost use Rattle.prolly_line.specs.Line.{optional_out_word, out_option, out_word, proof_word};
+ghost use Rattle.prolly_line.specs.Line.{root_word, stages_option, stat_flag, sync_flag};
+ghost use Rattle.prolly_line.specs.Line.{text_flag, word_rule};
 ghost use Rattle.prolly_line.specs.Local.{IsReadBy};
 
 use clap::builder::ValueParser;
@@ -104,13 +105,11 @@ pub(crate) fn batch_option<'a>(alloc: Global) -> Arg<'a>
     )
 }
 
-/// `--format V`
-pub(crate) fn format_option<'a>(alloc: Global) -> Arg<'a>
+/// `--format V`; `what` says for its help what has this version.
+pub(crate) fn format_option<'a>(alloc: Global, what: &'a str) -> Arg<'a>
     ensures { IsReadBy format_option result }
 {
-    number_option(alloc, "format", "V", 1, 2, "1").help(
-        "Write version V of the chunk file (1 or 2)",
-    )
+    number_option(alloc, "format", "V", 1, 2, "1").help(what)
 }
 
 /// `--out FILE`, the file that a subcommand makes; `what` says for its help what that is.
@@ -139,6 +138,20 @@ pub(crate) fn sync_flag<'a>(alloc: Global) -> Arg<'a>
     flag(alloc, "sync").help("Print the answer only once the output is on the disk")
 }
 
+/// `--text`
+pub(crate) fn text_flag<'a>(alloc: Global) -> Arg<'a>
+    ensures { IsReadBy text_flag result }
+{
+    flag(alloc, "text").help("Write lines, HEXKEY HEXVALUE, in place of a record file")
+}
+
+/// `--stat`
+pub(crate) fn stat_flag<'a>(alloc: Global) -> Arg<'a>
+    ensures { IsReadBy stat_flag result }
+{
+    flag(alloc, "stat").help("Print how much has changed in place of the changes")
+}
+
 /// `OUT`, the file that a subcommand makes; `what` says for its help what that is.
 pub(crate) fn out_word<'a>(alloc: Global, what: &'a str) -> Arg<'a>
     ensures { IsReadBy out_word result }
@@ -146,12 +159,12 @@ pub(crate) fn out_word<'a>(alloc: Global, what: &'a str) -> Arg<'a>
     required_word(alloc, "out", "OUT").help(what)
 }
 
-/// `[OUT]`, the record file that a subcommand makes in place of what it prints.
+/// `[OUT]`, the file that a subcommand makes in place of what it prints.
 pub(crate) fn optional_out_word<'a>(alloc: Global) -> Arg<'a>
     ensures { IsReadBy optional_out_word result }
 {
     Arg::new(alloc, "out").value_name("OUT").help(
-        "The record file to make; without it, it is written to standard output",
+        "The file to make; without it, it is written to standard output",
     )
 }
 
@@ -172,6 +185,24 @@ pub(crate) fn file_word<'a>(alloc: Global) -> Arg<'a>
     ensures { IsReadBy file_word result }
 {
     tree_word(alloc, "file", "FILE", "The chunk file")
+}
+
+/// `[PROOF]`, the proof that a subcommand reads.
+pub(crate) fn proof_word<'a>(alloc: Global) -> Arg<'a>
+    ensures { IsReadBy proof_word result }
+{
+    Arg::new(alloc, "proof")
+        .value_name("PROOF")
+        .help("The proof; without it, it is read from standard input")
+}
+
+/// `ROOT`
+pub(crate) fn root_word<'a>(alloc: Global) -> Arg<'a>
+    ensures { IsReadBy root_word result }
+{
+    required_word(alloc, "root", "ROOT").help(
+        "The text of the tree's root: 32 figures and letters from a to v",
+    )
 }
 
 /// `HEXKEY`

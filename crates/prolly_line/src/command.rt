@@ -68,20 +68,38 @@ pub enum Command {
         file: String,
         n: u64,
     },
-    /// Write the pairs of a file as a record file: to standard output where there is no output,
-    /// and then the mode says nothing.
+    /// Write the pairs of a file, in lines where `text` is set, and else as a record file: to
+    /// standard output where there is no output, and then the mode says nothing.
     Dump {
         file: String,
         out: Option<String>,
+        text: bool,
         mode: WriteMode,
     },
-    /// Say what turns the map of the file `old` into that of the file `new`: in lines on standard
-    /// output where there is no output, and then the mode says nothing, and else in a record file.
+    /// Say what turns the map of the file `old` into that of the file `new`: in a record file
+    /// where there is an output, and else the mode says nothing. What is printed is how much has
+    /// changed where `stat` is set, and else the changes, in lines, where there is no output.
     Diff {
         old: String,
         new: String,
         out: Option<String>,
+        stat: bool,
         mode: WriteMode,
+    },
+    /// Write a proof of what a file has at a key.
+    Prove {
+        file: String,
+        key: Vec<u8>,
+        out: String,
+        mode: WriteMode,
+    },
+    /// Say what a proof shows of a key to whoever knows the root, which is told by its text, and
+    /// the version of the chunks. Without a file the proof comes from standard input.
+    Verify {
+        root: [u8; 32],
+        key: Vec<u8>,
+        version: u8,
+        proof: Option<String>,
     },
 }
 
@@ -94,7 +112,10 @@ pub enum ParseFault {
     Usage(String),
     /// The words ask for help, which is the text.
     Help(String),
-    /// The word for the key is not hexadecimal, or writes more than 1,024 bytes.
+    /// The word for the root is not the text of a reference: 32 figures and letters from a to v.
+    BadRoot,
+    /// The word for the key is not hexadecimal, or writes more than 1,024 bytes. It is told only
+    /// where the word for the root, if there is one, is good.
     BadKey,
 }
 
@@ -157,6 +178,8 @@ fn command_of(alloc: Global, name: &str, given: &ArgMatches<'_>) -> Result<Comma
         "nth" => fields::nth(alloc, given),
         "dump" => fields::dump(alloc, given),
         "diff" => fields::diff(alloc, given),
+        "prove" => fields::prove(alloc, given),
+        "verify" => fields::verify(alloc, given),
         _ => unreachable!(),
     }
 }

@@ -151,17 +151,20 @@ the exit status is 1.",
 };
 
 pub(crate) const DUMP: Help<'static> = Help {
-    about: "Write the pairs of a chunk file as a record file",
+    about: "Write the pairs of a chunk file as a record file, or as lines",
     details: "Writes all pairs of a chunk file as a record file. `scratch` and `build` make
 the same chunk file of it again, at equal --bits and --format; they take at most
 16,777,216 records from one file. The chunk file is checked first, as by
 `check`.
 
-The record file goes to OUT, or to standard output where OUT is not given; then
+With --text these are lines, HEXKEY HEXVALUE, one for each pair in the order of
+keys. `pack` makes the record file of them.
+
+What is written goes to OUT, or to standard output where OUT is not given; then
 --atomic and --sync say nothing. Nothing else is printed.
 
 OUT is made once FILE is open, before it is read. After a fault it is left
-empty; where writing it failed, with the first part of the record file. With
+empty; where writing it failed, with the first part of what it was to hold. With
 --atomic it is as it was.",
     example: "Example: the pairs of a tree, with the changes of a day, to the next tree
   prolly dump monday.prl monday.rec
@@ -179,6 +182,13 @@ that NEW lacks, `HEXKEY -`; then --atomic and --sync say nothing. With --out,
 FILE is a record file of them, and nothing is printed. So `build` of OLD's pairs
 and of that file makes NEW's tree again, at equal --bits and --format.
 
+With --stat, one line is printed in place of the changes, with --out too:
+  added A changed C removed R chunks N bytes B
+A is the number of keys that NEW has and OLD lacks, C that of keys whose value
+is another one, R that of keys that NEW lacks. N is the number of chunks of NEW
+that OLD does not have, and B that of their bytes: what a holder of OLD lacks of
+NEW.
+
 The exit status is 0 where the maps are equal, and 1 where they are not.
 
 FILE is made before the chunk files are read. After a fault it is left empty;
@@ -186,4 +196,41 @@ where writing it failed, with the first part of the record file. With --atomic
 it is as it was.",
     example: "Example: the changes of a day, as a record file
   prolly diff monday.prl tuesday.prl --out changes.rec",
+};
+
+pub(crate) const PROVE: Help<'static> = Help {
+    about: "Write a proof of what a chunk file has at a key",
+    details: "Writes a proof of what FILE has at the key: its value, or that it has none. The
+proof is the chunks of FILE from the root down to the one at which the look-up
+of the key ends. Whoever knows the root of FILE can check it by `verify`,
+without FILE. The chunk file is checked first, as by `check`.
+
+Nothing is printed. The exit status is 0 also where FILE does not have the key.
+
+OUT is made once FILE is open, before it is read. After a fault it is left
+empty; where writing it failed, with the first part of the proof. With --atomic
+it is as it was.",
+    example: "Example: a proof of what ab.prl has at the key of one byte, 61
+  prolly prove ab.prl 61 61.proof",
+};
+
+pub(crate) const VERIFY: Help<'static> = Help {
+    about: "Say what a proof shows of a key, by the root alone",
+    details: "Says what a proof shows of a key to whoever knows ROOT, the root of a tree, as
+`scratch`, `build` and `check` print it. The proof is one that `prove` has made.
+It may come from anywhere: where it is taken, the tree of that root has what is
+printed at the key, or two different chunks have one SHA-512 prefix, which
+nobody has seen yet.
+
+The proof is read from PROOF, or from standard input where PROOF is not given.
+
+The exit status is
+  0  where the key has a value, which is printed in hexadecimal
+  1  where the key has none; nothing is printed
+  2  where a word is not understood, as where ROOT is not the text of a root
+  4  where the proof is refused; a line names the first fault of it
+  5  where the proof cannot be read, or the answer cannot be printed",
+    example: "Example: what the tree of a root has at the key of one byte, 61
+  prolly verify \
+    nu05v9k058pmjdu7s5312ho13geggue6 61 61.proof",
 };

@@ -31,5 +31,7 @@ pub(crate) fn program_line<'a>(alloc: Global) -> Result<Command<'a>, AllocError>
     let line = with_subcommand(line, subcommands::scan_line(alloc));
     let line = with_subcommand(line, subcommands::nth_line(alloc));
     let line = with_subcommand(line, subcommands::dump_line(alloc));
-    with_subcommand(line, subcommands::diff_line(alloc))
+    let line = with_subcommand(line, subcommands::diff_line(alloc));
+    let line = with_subcommand(line, subcommands::prove_line(alloc));
+    with_subcommand(line, subcommands::verify_line(alloc))
 }

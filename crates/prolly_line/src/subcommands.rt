@@ -3,13 +3,17 @@ ghost use Rattle.std.specs.Prelude.{IfOk};
 ghost use Rattle.clap.specs.Words.{App, with_rule};
 ghost use Rattle.prolly_line.specs.Line.{atomic_flag, sync_flag};
 ghost use Rattle.prolly_line.specs.Line.{build_line, check_line, diff_line, dump_line, get_line};
-ghost use Rattle.prolly_line.specs.Line.{nth_line, pack_line, scan_line, scratch_line};
+ghost use Rattle.prolly_line.specs.Line.{nth_line, pack_line, prove_line, scan_line, scratch_line};
+ghost use Rattle.prolly_line.specs.Line.{verify_line};
 ghost use Rattle.prolly_line.specs.Local.{HasLine};
 
 use crate::assembly::{described, with_argument};
 use crate::{arguments, help};
 use clap::Command;
 use std::alloc::{AllocError, Global};
+
+// What `--format` says where a chunk file is made.
+const WRITTEN_FORMAT: &str = "Write version V of the chunk file (1 or 2)";
 
 // Adds the flags that say how the output is written.
 fn with_mode<'a>(
@@ -36,7 +40,7 @@ pub(crate) fn scratch_line<'a>(alloc: Global) -> Result<Command<'a>, AllocError>
     ensures { IfOk result (HasLine scratch_line) }
 {
     let line = described(alloc, "scratch", help::SCRATCH).arg(arguments::bits_option(alloc));
-    let line = with_argument(line, arguments::format_option(alloc));
+    let line = with_argument(line, arguments::format_option(alloc, WRITTEN_FORMAT));
     let out = arguments::out_option(alloc, "Write the tree to FILE, a chunk file");
     let line = with_argument(line, out);
     with_mode(alloc, line)
@@ -52,7 +56,7 @@ pub(crate) fn build_line<'a>(alloc: Global) -> Result<Command<'a>, AllocError>
     let line = with_argument(line, arguments::capacity_option(alloc));
     let line = with_argument(line, arguments::max_records_option(alloc));
     let line = with_argument(line, arguments::batch_option(alloc));
-    let line = with_argument(line, arguments::format_option(alloc));
+    let line = with_argument(line, arguments::format_option(alloc, WRITTEN_FORMAT));
     let line = with_mode(alloc, line);
     let line = with_argument(line, arguments::out_word(alloc, "The chunk file to make"));
     with_argument(line, arguments::files_words(alloc))
@@ -65,18 +69,19 @@ pub(crate) fn check_line<'a>(alloc: Global) -> Result<Command<'a>, AllocError>
     described(alloc, "check", help::CHECK).arg(arguments::file_word(alloc))
 }
 
-/// `dump [--atomic] [--sync] FILE [OUT]`
+/// `dump [--text] [--atomic] [--sync] FILE [OUT]`
 pub(crate) fn dump_line<'a>(alloc: Global) -> Result<Command<'a>, AllocError>
     ensures { IfOk result (HasLine dump_line) }
 {
-    let line = with_mode(alloc, Ok(described(alloc, "dump", help::DUMP)));
+    let line = described(alloc, "dump", help::DUMP).arg(arguments::text_flag(alloc));
+    let line = with_mode(alloc, line);
     with_argument(
         with_argument(line, arguments::file_word(alloc)),
         arguments::optional_out_word(alloc),
     )
 }
 
-/// `diff [--out FILE] [--atomic] [--sync] OLD NEW`
+/// `diff [--stat] [--out FILE] [--atomic] [--sync] OLD NEW`
 pub(crate) fn diff_line<'a>(alloc: Global) -> Result<Command<'a>, AllocError>
     ensures { IfOk result (HasLine diff_line) }
 {
@@ -88,7 +93,8 @@ pub(crate) fn diff_line<'a>(alloc: Global) -> Result<Command<'a>, AllocError>
         "NEW",
         "The chunk file of the map as it is now",
     );
-    let line = with_mode(alloc, described(alloc, "diff", help::DIFF).arg(out));
+    let line = described(alloc, "diff", help::DIFF).arg(arguments::stat_flag(alloc));
+    let line = with_mode(alloc, with_argument(line, out));
     with_argument(with_argument(line, old), new)
 }
 
@@ -115,4 +121,28 @@ pub(crate) fn nth_line<'a>(alloc: Global) -> Result<Command<'a>, AllocError>
 {
     let line = described(alloc, "nth", help::NTH).arg(arguments::file_word(alloc));
     with_argument(line, arguments::n_word(alloc))
+}
+
+/// `prove [--atomic] [--sync] FILE HEXKEY OUT`
+pub(crate) fn prove_line<'a>(alloc: Global) -> Result<Command<'a>, AllocError>
+    ensures { IfOk result (HasLine prove_line) }
+{
+    let line = with_mode(alloc, Ok(described(alloc, "prove", help::PROVE)));
+    let line = with_argument(line, arguments::file_word(alloc));
+    let line = with_argument(line, arguments::key_word(alloc));
+    with_argument(line, arguments::out_word(alloc, "The proof to make"))
+}
+
+/// `verify [--format V] ROOT HEXKEY [PROOF]`
+pub(crate) fn verify_line<'a>(alloc: Global) -> Result<Command<'a>, AllocError>
+    ensures { IfOk result (HasLine verify_line) }
+{
+    let format = arguments::format_option(
+        alloc,
+        "The version of the tree's chunks (1 or 2). It is not read off the proof, which could lie",
+    );
+    let line = described(alloc, "verify", help::VERIFY).arg(format);
+    let line = with_argument(line, arguments::root_word(alloc));
+    let line = with_argument(line, arguments::key_word(alloc));
+    with_argument(line, arguments::proof_word(alloc))
 }

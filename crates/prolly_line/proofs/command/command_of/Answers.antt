@@ -10,3 +10,5 @@ unreachable-requires c =
     c.in_default.not-nth
     c.in_default.not-dump
     c.in_default.not-diff
+    c.in_default.not-prove
+    c.in_default.not-verify

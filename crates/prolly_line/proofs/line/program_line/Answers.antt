@@ -12,4 +12,6 @@ returns c =
     let with_scan = c.with_subcommand-line-6.ensures _ _ with_get c.scan_line.ensures in
     let with_nth = c.with_subcommand-line-7.ensures _ _ with_scan c.nth_line.ensures in
     let with_dump = c.with_subcommand-line-8.ensures _ _ with_nth c.dump_line.ensures in
-    c.with_subcommand.ensures _ _ with_dump c.diff_line.ensures
+    let with_diff = c.with_subcommand-line-9.ensures _ _ with_dump c.diff_line.ensures in
+    let with_prove = c.with_subcommand-line-10.ensures _ _ with_diff c.prove_line.ensures in
+    c.with_subcommand.ensures _ _ with_prove c.verify_line.ensures

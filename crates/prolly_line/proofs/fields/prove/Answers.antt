@@ -1,0 +1,12 @@
+use Rattle.prolly_line.proofs.Shapes.{takes_prove}
+use Rattle.prolly_line.specs.Accepted.{rows_in}
+use Rattle.prolly_line.proofs.fields.prove.Goals as goal
+
+pub key_of-requires : goal.key_of-requires
+key_of-requires c = (takes_prove (rows_in c.args.given.now) c.requires).key
+
+pub text_of-requires : goal.text_of-requires
+text_of-requires c = (takes_prove (rows_in c.args.given.now) c.requires).file
+
+pub text_of-requires-2 : goal.text_of-requires-2
+text_of-requires-2 c = (takes_prove (rows_in c.args.given.now) c.requires).out

@@ -1,0 +1,13 @@
+-- One argument more at each step.
+use Rattle.std.proofs.lemmas.Result.{IfOk-weaker}
+use Rattle.prolly_line.proofs.LineSteps.{added}
+use Rattle.prolly_line.proofs.subcommands.verify_line.Goals as goal
+
+pub returns : goal.returns
+returns c =
+    let with_format = IfOk-weaker c.arg-line.result _ _
+    (λ x adds. added c.described.result x c.format_option-format.result _ _ c.described.ensures
+    c.format_option-format.ensures adds) c.arg-line.ensures in
+    let with_root = c.with_argument-line.ensures _ _ with_format c.root_word.ensures in
+    let with_key = c.with_argument-line-2.ensures _ _ with_root c.key_word.ensures in
+    c.with_argument.ensures _ _ with_key c.proof_word.ensures
