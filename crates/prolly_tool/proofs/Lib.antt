@@ -14,3 +14,5 @@ pub mod Writing
 pub mod DumpSteps
 -- Writing a difference record by record.
 pub mod DiffSteps
+-- What is answered to bytes that are no proof.
+pub mod Verifying

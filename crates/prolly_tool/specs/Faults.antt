@@ -5,12 +5,14 @@ use Rattle.prolly_fault.specs.declared.fault.RunFault.{RunFault}
 use Rattle.prolly_fault.specs.declared.fault.RunFault.TheVariants as runs
 use Rattle.prolly_check.specs.declared.fault.CheckFault.{CheckFault}
 use Rattle.prolly_check.specs.declared.fault.CheckFault.TheVariants as checks
+use Rattle.prolly_proof.specs.declared.fault.ProofFault.{ProofFault}
+use Rattle.prolly_proof.specs.declared.fault.ProofFault.TheVariants as proofs
 use Rattle.prolly_tool.specs.declared.pack.PackFault.{PackFault}
 use Rattle.prolly_tool.specs.declared.pack.PackFault.TheVariants as packs
 use Rattle.prolly_tool.specs.declared.fault.Fault.{Fault}
 use Rattle.prolly_tool.specs.declared.fault.Fault.TheVariants.{Run, Pack, Check, NoCounts}
-use Rattle.prolly_tool.specs.declared.fault.Fault.TheVariants.{InputTooLong, BadKey, NotUnicode}
-use Rattle.prolly_tool.specs.declared.fault.Fault.TheVariants.{OutIsStdout, CheckOld, CheckNew}
+use Rattle.prolly_tool.specs.declared.fault.Fault.TheVariants.{InputTooLong, BadKey, NotUnicode, Proof}
+use Rattle.prolly_tool.specs.declared.fault.Fault.TheVariants.{OutIsStdout, CheckOld, CheckNew, BadRoot}
 
 -- What is said of a record of a file.
 abbrev pub record_text : ℕ → ℕ → List ℕ → List ℕ
@@ -60,6 +62,20 @@ abbrev pub side_fault_text : List ℕ → CheckFault → List ℕ
 side_fault_text side checks.Memory = check_fault_text checks.Memory
 side_fault_text side fault = side ++ check_fault_text fault
 
+-- Of bytes that are no proof.
+abbrev pub proof_fault_text : ProofFault → List ℕ
+proof_fault_text proofs.Header = codes "proof: bad header"
+proof_fault_text proofs.Version = codes "proof: wrong version"
+proof_fault_text proofs.Truncated = codes "proof: truncated"
+proof_fault_text (proofs.Frame chunk) = codes "proof: bad frame " ++ decimal chunk
+proof_fault_text (proofs.Reference chunk) = codes "proof: chunk " ++ decimal chunk ++
+    codes " is not the one referred to"
+proof_fault_text (proofs.Chunk chunk) = codes "proof: bad chunk " ++ decimal chunk
+proof_fault_text (proofs.KeysOutOfOrder chunk) = codes "proof: keys out of order in chunk " ++
+    decimal chunk
+proof_fault_text (proofs.Level chunk) = codes "proof: wrong level in chunk " ++ decimal chunk
+proof_fault_text proofs.Trailing = codes "proof: bytes after the end"
+
 -- What is said of a fault.
 abbrev pub fault_text : Fault → List ℕ
 fault_text (Run fault) = run_text fault
@@ -67,13 +83,15 @@ fault_text (Pack fault) = pack_text fault
 fault_text (Check fault) = check_fault_text fault
 fault_text (CheckOld fault) = side_fault_text (codes "old ") fault
 fault_text (CheckNew fault) = side_fault_text (codes "new ") fault
+fault_text (Proof fault) = proof_fault_text fault
 fault_text NoCounts = codes "chunk file: no counts"
 fault_text InputTooLong = codes "input too long"
 fault_text BadKey = codes "not a key in hexadecimal"
+fault_text BadRoot = codes "not the text of a root"
 fault_text NotUnicode = codes "a word is not UTF-8"
 fault_text OutIsStdout = codes "OUT is also standard output"
 
--- 2: usage. 3: the input is at fault. 4: a chunk file is. 5: a device is. 6: memory or a thread. 7:
+-- 2: usage. 3: the input is at fault. 4: a chunk file or a proof is. 5: a device is. 6: memory or a thread. 7:
 -- the tree is too tall.
 abbrev pub run_status : RunFault → ℕ
 run_status runs.Memory = 6
@@ -112,9 +130,11 @@ fault_status (Pack (packs.ValueTooLong line)) = 3
 fault_status (Check fault) = check_status fault
 fault_status (CheckOld fault) = check_status fault
 fault_status (CheckNew fault) = check_status fault
+fault_status (Proof fault) = 4
 fault_status NoCounts = 4
 fault_status InputTooLong = 5
 fault_status BadKey = 2
+fault_status BadRoot = 2
 fault_status NotUnicode = 2
 fault_status OutIsStdout = 5
 

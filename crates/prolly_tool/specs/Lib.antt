@@ -24,3 +24,5 @@ pub mod RecordForms
 pub mod Dump
 -- What the command `diff` answers.
 pub mod Diff
+-- What the commands `prove` and `verify` answer.
+pub mod Proofs

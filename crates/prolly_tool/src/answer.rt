@@ -1,7 +1,9 @@
 //! What the program prints.
 ghost use Rattle.std.specs.Prelude.{IfOk};
+ghost use Rattle.std.specs.Option.{option_copied};
 ghost use Rattle.prolly_tool.specs.Answers.{ShowsNothing, ShowsLine, ShowsDone, ShowsFault};
 ghost use Rattle.prolly_tool.specs.Answers.{ShowsName, ShowsRefusal};
+ghost use Rattle.prolly_tool.specs.LookUps.{ShowsValue};
 
 use crate::fault::Fault;
 use crate::line_parts::append_name;
@@ -59,6 +61,16 @@ impl Answer {
         }
     }
 
+    /// The answer of a look-up of a key: its value in hexadecimal, or that there is none.
+    pub fn of_value(alloc: Global, value: Option<&[u8]>) -> Result<Answer, AllocError>
+        ensures { IfOk result (λ answer. ShowsValue answer (option_copied value.entry)) }
+    {
+        match value {
+            Some(value) => Answer::of_line(alloc, hex::encode(alloc, value)?.as_bytes()),
+            None => Ok(Answer::of_nothing(alloc)),
+        }
+    }
+
     /// The answer of a command that is not done: the fault's line on standard error.
     pub fn of_fault(alloc: Global, fault: Fault) -> Result<Answer, AllocError>
         ensures { IfOk result (λ answer. ShowsFault answer fault) }
@@ -97,6 +109,7 @@ impl Answer {
         match refusal {
             ParseFault::Memory => Answer::of_fault(alloc, Fault::Run(RunFault::Memory)),
             ParseFault::BadKey => Answer::of_fault(alloc, Fault::BadKey),
+            ParseFault::BadRoot => Answer::of_fault(alloc, Fault::BadRoot),
             ParseFault::Usage(text) => Ok(Answer {
                 status: 2,
                 out: Vec::new(alloc),

@@ -6,6 +6,7 @@ ghost use Rattle.prolly_tool.specs.Faults.{fault_status};
 use crate::pack::PackFault;
 use prolly_check::CheckFault;
 use prolly_fault::RunFault;
+use prolly_proof::ProofFault;
 use std::fmt;
 use std::fmt::{Display, Formatter};
 use thiserror::Error;
@@ -23,12 +24,16 @@ pub enum Fault {
     CheckOld(CheckFault),
     /// The new file of two is no lawful chunk file.
     CheckNew(CheckFault),
+    /// Bytes are no proof of what a map with the root has at the key.
+    Proof(ProofFault),
     /// A chunk file of version One has no counts, by which a pair is found by its number.
     NoCounts,
     /// Standard input is longer than the program reads.
     InputTooLong,
     /// The word for a key is no key in hexadecimal.
     BadKey,
+    /// The word for a root is not the text of a reference.
+    BadRoot,
     /// A word of the command line is not UTF-8.
     NotUnicode,
     /// The output is the file to which standard output goes.
@@ -47,9 +52,9 @@ impl Fault {
             Fault::Check(fault) | Fault::CheckOld(fault) | Fault::CheckNew(fault) => {
                 check_status(fault)
             }
-            Fault::NoCounts => 4,
+            Fault::Proof(_) | Fault::NoCounts => 4,
             Fault::InputTooLong | Fault::OutIsStdout => 5,
-            Fault::BadKey | Fault::NotUnicode => 2,
+            Fault::BadKey | Fault::BadRoot | Fault::NotUnicode => 2,
         }
     }
 }
@@ -90,9 +95,11 @@ impl Display for Fault {
             Fault::Check(fault) => CheckText(*fault).fmt(f),
             Fault::CheckOld(fault) => SideText("old ", *fault).fmt(f),
             Fault::CheckNew(fault) => SideText("new ", *fault).fmt(f),
+            Fault::Proof(fault) => ProofText(*fault).fmt(f),
             Fault::NoCounts => f.write_str("chunk file: no counts"),
             Fault::InputTooLong => f.write_str("input too long"),
             Fault::BadKey => f.write_str("not a key in hexadecimal"),
+            Fault::BadRoot => f.write_str("not the text of a root"),
             Fault::NotUnicode => f.write_str("a word is not UTF-8"),
             Fault::OutIsStdout => f.write_str("OUT is also standard output"),
         }
@@ -195,5 +202,33 @@ impl Display for SideText<'_> {
             f.write_str(side)?;
         }
         CheckText(fault).fmt(f)
+    }
+}
+
+/// Why bytes are no proof, to be shown.
+#[derive(Clone, Copy)]
+struct ProofText(ProofFault);
+
+impl Display for ProofText {
+    ghost use Rattle.prolly_tool.specs.Faults.{proof_fault_text};
+
+    ghost output = { λ shown. Some (proof_fault_text shown.0) };
+
+    fn fmt<W: fmt::Write>(&self, f: &mut Formatter<W>) -> fmt::Result {
+        match self.0 {
+            ProofFault::Header => f.write_str("proof: bad header"),
+            ProofFault::Version => f.write_str("proof: wrong version"),
+            ProofFault::Truncated => f.write_str("proof: truncated"),
+            ProofFault::Frame { chunk } => write!(f, "proof: bad frame {chunk}"),
+            ProofFault::Reference { chunk } => {
+                write!(f, "proof: chunk {chunk} is not the one referred to")
+            }
+            ProofFault::Chunk { chunk } => write!(f, "proof: bad chunk {chunk}"),
+            ProofFault::KeysOutOfOrder { chunk } => {
+                write!(f, "proof: keys out of order in chunk {chunk}")
+            }
+            ProofFault::Level { chunk } => write!(f, "proof: wrong level in chunk {chunk}"),
+            ProofFault::Trailing => f.write_str("proof: bytes after the end"),
+        }
     }
 }

@@ -29,8 +29,5 @@ pub fn answer_get<S: Source>(
         Ok(tree) => tree,
         Err(fault) => return Answer::of_fault(alloc, Fault::Check(fault)),
     };
-    match tree.get(key) {
-        Some(value) => Answer::of_line(alloc, hex::encode(alloc, value)?.as_bytes()),
-        None => Ok(Answer::of_nothing(alloc)),
-    }
+    Answer::of_value(alloc, tree.get(key))
 }

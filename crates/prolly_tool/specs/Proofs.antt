@@ -1,0 +1,64 @@
+-- What the commands `prove` and `verify` answer.
+use Rattle.std.specs.Prelude.{◌⊎◌, ℕ, List, Option}
+use Rattle.prolly_check.specs.Content.{Content}
+use Rattle.prolly_entry.specs.Cut.{sha512_cut}
+use Rattle.prolly_entry.specs.declared.version.Version.{Version}
+use Rattle.prolly_fault.specs.declared.fault.RunFault.TheVariants.{Write}
+use Rattle.prolly_proof.specs.Faults.{IsFault}
+use Rattle.prolly_proof.specs.ProofFile.{IsProof}
+use Rattle.prolly_tree.specs.File.{root_reference}
+use Rattle.prolly_tree.specs.LookUp.{find}
+use Rattle.prolly_tool.specs.Answers.{ShowsDone, ShowsFault}
+use Rattle.prolly_tool.specs.Input.{IsInputFault, IsReadWhole}
+use Rattle.prolly_tool.specs.LookUps.{IsLookedUp, IsNoFile, ShowsValue}
+use Rattle.prolly_tool.specs.Outputs.{IsRefused}
+use Rattle.prolly_tool.specs.declared.answer.Answer.{Answer}
+use Rattle.prolly_tool.specs.declared.fault.Fault.{Fault}
+use Rattle.prolly_tool.specs.declared.fault.Fault.TheVariants.{Proof, Run}
+
+-- ---- proofs that are made
+
+-- There is a proof of what the content's map has at the key, for who knows its root, of which this
+-- holds.
+pub record HasProof (key : List ℕ) (holds : List ℕ → Type 0) (content : Content) : Type 0 where
+  pub proof : List ℕ
+  pub proves : IsProof content.version (root_reference (sha512_cut content.bits) content.version
+      content.pairs) key proof (find content.pairs key)
+  pub so : holds proof
+
+-- The bytes were read whole and are the file of a map, of a proof of which this holds.
+abbrev pub IsProvedOf : List ℕ → List ℕ → Type 0 → (List ℕ → Type 0) → Type 0
+IsProvedOf key bytes failed holds = IsLookedUp bytes failed (HasProof key holds)
+
+-- The answer of `prove`: the proof was written; writing it failed; or the bytes are refused. Of the
+-- sink, `took_all` says that it took all of a proof, `took_part` that it failed after a part of
+-- one, `untouched` that it is as it was.
+abbrev pub IsProve : List ℕ → List ℕ → Type 0 → (List ℕ → Type 0) → (List ℕ → Type 0) → Type 0 →
+    Answer → Type 0
+IsProve key bytes failed took_all took_part untouched answer =
+    (IsProvedOf key bytes failed took_all × ShowsDone answer)
+    ⊎ (IsProvedOf key bytes failed took_part × ShowsFault answer (Run Write))
+    ⊎ (IsNoFile bytes failed answer × untouched)
+
+-- ---- proofs that are verified
+
+-- The bytes were read whole and prove this value or none of the key, which is shown.
+pub record IsProved (version : Version) (root key bytes : List ℕ) (failed : Type 0)
+    (answer : Answer) : Type 0 where
+  pub whole : IsReadWhole bytes failed
+  pub value : Option (List ℕ)
+  pub proves : IsProof version root key bytes value
+  pub shows : ShowsValue answer value
+
+-- The bytes were read whole and prove nothing of the key, for this first fault; or they can't be
+-- read.
+abbrev pub IsProofFault : Version → List ℕ → List ℕ → List ℕ → Type 0 → Fault → Type 0
+IsProofFault version root key bytes failed (Proof fault) = IsReadWhole bytes failed ×
+    IsFault version root key bytes fault ×
+    ((value : Option (List ℕ)) → IsProof version root key bytes value → ⊥)
+IsProofFault version root key bytes failed fault = IsInputFault bytes failed fault
+
+-- The answer of `verify`: what the bytes prove is shown, or why they prove nothing.
+abbrev pub IsVerify : Version → List ℕ → List ℕ → List ℕ → Type 0 → Answer → Type 0
+IsVerify version root key bytes failed answer = IsProved version root key bytes failed answer ⊎
+    IsRefused (IsProofFault version root key bytes failed) answer
