@@ -22,6 +22,8 @@ pub mod LookUps
 pub mod RecordForms
 -- What the command `dump` answers.
 pub mod Dump
+-- How many changes the difference of two maps has, and the line that tells it.
+pub mod Counts
 -- What the command `diff` answers.
 pub mod Diff
 -- What the commands `prove` and `verify` answer.
