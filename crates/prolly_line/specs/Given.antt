@@ -1,13 +1,13 @@
 -- Which command the words give, and how they are refused.
-use Rattle.std.specs.Prelude.{◌≡◌, ◌≢◌, ◌≤◌, ◌↔◌, ◌&&◌, ◌||◌, Bool, true, IsTrue, ⊤, ℕ, ◌⊎◌}
-use Rattle.std.specs.Prelude.{Ok, Option, Some, List, [], nat_le}
+use Rattle.std.specs.Prelude.{◌≡◌, ◌≢◌, ◌≤◌, ◌↔◌, Bool, IsTrue, ⊤, ℕ, ◌⊎◌}
+use Rattle.std.specs.Prelude.{Ok, Option, Some, List, []}
 use Rattle.std.specs.Prelude.{length, map, option_map, string_bytes, codes, unwrap_or}
-use Rattle.std.specs.List.{list_all}
 use Rattle.hex.specs.Hex.{decode_of}
 use Rattle.std.specs.Str.Parse.{digits_value, without_leading_plus}
 use Rattle.clap.specs.Words.{IsAmong, Row, Text, all_of, first_of, one_of}
 use Rattle.clap.specs.declared.error.kind.ErrorKind.{ErrorKind}
 use Rattle.clap.specs.declared.error.kind.ErrorKind.TheVariants.{DisplayHelp, OutOfMemory}
+use Rattle.prolly_entry.specs.Reference.{IsReference, reference_text}
 use Rattle.prolly_line.specs.Line.{line_faults, line_given}
 use Rattle.prolly_line.specs.declared.command.Command.{Command}
 use Rattle.prolly_line.specs.declared.command.WriteMode.{WriteMode}
@@ -71,22 +71,15 @@ GivesBadKey rows =
     (text : Text) × (first_of (codes "key") rows ≡ Some text) ×
     ((key : List ℕ) → IsKeyText text key → ⊥)
 
--- the byte is a character of the text of a reference: a figure, or a letter up to v
-abbrev pub is_root_character : ℕ → Bool
-is_root_character byte = (nat_le 48 byte && nat_le byte 57) || (nat_le 97 byte && nat_le byte 118)
+-- the reference of which the word for the root is the text
+abbrev pub GivesRoot : List Row → List ℕ → Type 0
+GivesRoot rows root = GivesWord rows (codes "root") (reference_text root) × IsReference root
 
--- the text is that of a reference, as a root is printed: 32 such characters
-abbrev pub IsRootText : Text → Type 0
-IsRootText text = (length text ≡ 32) × (list_all is_root_character text ≡ true)
-
--- the word for the root, which is the text of a reference
-abbrev pub GivesRoot : List Row → Text → Type 0
-GivesRoot rows root = GivesWord rows (codes "root") root × IsRootText root
-
--- the word for the root is no text of a reference
+-- the word for the root is the text of no reference
 abbrev pub GivesBadRoot : List Row → Type 0
 GivesBadRoot rows =
-    (text : Text) × (first_of (codes "root") rows ≡ Some text) × (IsRootText text → ⊥)
+    (text : Text) × (first_of (codes "root") rows ≡ Some text) ×
+    ((root : List ℕ) → IsReference root → reference_text root ≢ text)
 
 -- ---- the command
 
@@ -149,7 +142,7 @@ HasFields (Prove file key out mode) given =
     × GivesMode given.1 mode
 HasFields (Verify root key version proof) given =
     (given.0 ≡ codes "verify")
-    × GivesRoot given.1 root
+    × GivesRoot given.1 root.0
     × GivesKey given.1 key.items
     × GivesNumber given.1 (codes "format") 1 2 version
     × GivesOption given.1 (codes "proof") (option_map string_bytes proof)
@@ -161,7 +154,7 @@ IsGivenBy words command =
     × ((given : Text × List Row) × (line_given words ≡ Some given) × HasFields command given)
 
 -- the numbers of the command, and the length of its key, are within their limits, and its root is
--- the text of a reference
+-- a reference
 abbrev pub IsWithinLimits : Command → Type 0
 IsWithinLimits (Pack out mode) = ⊤
 IsWithinLimits (Scratch bits version out mode) = (bits ≤ 24) × (1 ≤ version) × (version ≤ 2)
@@ -180,19 +173,19 @@ IsWithinLimits (Dump file out text mode) = ⊤
 IsWithinLimits (Diff old new out stat mode) = ⊤
 IsWithinLimits (Prove file key out mode) = length key.items ≤ 1024
 IsWithinLimits (Verify root key version proof) =
-    IsRootText root × (length key.items ≤ 1024) × (1 ≤ version) × (version ≤ 2)
+    IsReference root.0 × (length key.items ≤ 1024) × (1 ≤ version) × (version ≤ 2)
 
 -- ---- refusals
 
--- the subcommand takes a root, and its word for the root is no text of a reference
+-- the subcommand takes a root, and its word for the root is the text of no reference
 abbrev pub HasBadRoot : Text × List Row → Type 0
 HasBadRoot given = (given.0 ≡ codes "verify") × GivesBadRoot given.1
 
--- the subcommand takes a key, and a root before it only if that is the text of a reference
+-- the subcommand takes a key, and a root before it only if its word is the text of a reference
 abbrev pub ReadsKey : Text × List Row → Type 0
 ReadsKey given =
     (given.0 ≡ codes "get") ⊎ (given.0 ≡ codes "scan") ⊎ (given.0 ≡ codes "prove")
-    ⊎ ((given.0 ≡ codes "verify") × ((root : Text) × GivesRoot given.1 root))
+    ⊎ ((given.0 ≡ codes "verify") × ((root : List ℕ) × GivesRoot given.1 root))
 
 -- the subcommand takes a key, its word for the key is no text of one, and no word before is bad
 abbrev pub HasBadKey : Text × List Row → Type 0

@@ -9,6 +9,7 @@ use crate::fields;
 use crate::line::program_line;
 use clap::ArgMatches;
 use clap::error::ErrorKind;
+use prolly_entry::Ref;
 use std::alloc::{AllocError, Global};
 
 /// How an output is written.
@@ -93,10 +94,10 @@ pub enum Command {
         out: String,
         mode: WriteMode,
     },
-    /// Say what a proof shows of a key to whoever knows the root, which is told by its text, and
-    /// the version of the chunks. Without a file the proof comes from standard input.
+    /// Say what a proof shows of a key to whoever knows the root and the version of the chunks.
+    /// Without a file the proof comes from standard input.
     Verify {
-        root: [u8; 32],
+        root: Ref,
         key: Vec<u8>,
         version: u8,
         proof: Option<String>,

@@ -1,11 +1,9 @@
 //! The values of one option or word, from what clap found.
 ghost use Rattle.std.specs.Prelude.{◌≡◌, ◌⊎◌, Some, IfOk, IfErr, ℕ, List, map, string_bytes};
-ghost use Rattle.std.specs.Prelude.{option_map, codes, IsTrue, ◌↔◌};
-ghost use Rattle.std.specs.List.{list_all};
+ghost use Rattle.std.specs.Prelude.{option_map, codes};
 ghost use Rattle.clap.specs.Words.{first_of};
 ghost use Rattle.prolly_line.specs.Given.{GivesFlag, GivesKey, GivesMode, GivesOption, GivesWord};
 ghost use Rattle.prolly_line.specs.Given.{GivesBadRoot, GivesRoot, GivesWords, IsKeyText};
-ghost use Rattle.prolly_line.specs.Given.{IsRootText, is_root_character};
 ghost use Rattle.prolly_line.specs.Accepted.{HasNumber, HasWord, IsRefusedKey, ReadsNumber};
 ghost use Rattle.prolly_line.specs.Accepted.{rows_in};
 ghost use Rattle.prolly_line.specs.declared.command.ParseFault.TheVariants.{BadKey, BadRoot};
@@ -14,13 +12,11 @@ ghost use Rattle.prolly_line.specs.declared.command.ParseFault.TheVariants.{Memo
 use crate::command::{ParseFault, WriteMode};
 use clap::ArgMatches;
 use hex::FromHexError;
+use prolly_entry::Ref;
 use std::alloc::{AllocError, Global};
 
 /// The greatest number of bytes in a key.
 const KEY_LIMIT: usize = 1024;
-
-/// The number of characters in the text of a root.
-const ROOT_LENGTH: usize = 32;
 
 /// A number of 8 bits.
 pub(crate) fn byte_of(given: &ArgMatches<'_>, name: &str) -> u8
@@ -143,39 +139,13 @@ fn decoded(alloc: Global, text: &str) -> Result<Vec<u8>, ParseFault>
     }
 }
 
-/// The root of a subcommand that takes one, by its text.
-pub(crate) fn root_of(given: &ArgMatches<'_>) -> Result<[u8; 32], ParseFault>
+/// The root of a subcommand that takes one.
+pub(crate) fn root_of(given: &ArgMatches<'_>) -> Result<Ref, ParseFault>
     requires { HasWord (codes "root") (rows_in given.now) }
-    ensures root { IfOk result (GivesRoot (rows_in given.now)) }
+    ensures root { IfOk result (λ root. GivesRoot (rows_in given.now) root.0) }
     ensures refused { IfErr result (λ fault.
         (fault ≡ BadRoot) × GivesBadRoot (rows_in given.now)) }
 {
     let text = word_of(given, "root").as_bytes();
-    if !is_root_text(text) {
-        return Err(ParseFault::BadRoot);
-    }
-    let mut root = [0; ROOT_LENGTH];
-    root.copy_from_slice(text);
-    Ok(root)
-}
-
-// Whether a text is that of a reference.
-fn is_root_text(text: &[u8]) -> bool
-    ensures { IsTrue result ↔ IsRootText text.now }
-{
-    text.len() == ROOT_LENGTH && are_root_characters(text)
-}
-
-// Whether all bytes are characters of such a text.
-fn are_root_characters(bytes: &[u8]) -> bool
-    ensures { result ≡ list_all is_root_character bytes.now }
-{
-    bytes.iter().all(|byte| is_root_character(*byte))
-}
-
-// Whether a byte is one.
-fn is_root_character(byte: u8) -> bool
-    ensures { result ≡ is_root_character byte }
-{
-    matches!(byte, b'0'..=b'9' | b'a'..=b'v')
+    Ref::from_text(text).ok_or(ParseFault::BadRoot)
 }
