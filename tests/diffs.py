@@ -5,7 +5,7 @@ import random
 from dumps import BEFORE, chained
 from harness import FOLDER, Case
 from look_ups import LONG, NUMBERS, hexed
-from scratch import ABC
+from scratch import ABC, numbered
 from trees import REMOVED, chunk_file, overlay, records, report
 
 ALIKE, DIFFERENT = 0, 1
@@ -80,7 +80,7 @@ def cases(_):
         for (old_bits, old_version), (new_bits, new_version) in kinds():
             before = {"old.prl": chunk_file(old, old_bits, old_version), "new.prl": chunk_file(new, new_bits, new_version)}
             found += told(f"{name}, --bits {old_bits} and {new_bits}", before, difference(old, new))
-    return found + refused()
+    return found + refused() + unread()
 
 
 def told(name, before, changes):
@@ -107,15 +107,40 @@ def refused():
         Case("diff: a record file", words, status=4, err=b"prolly: new chunk file: bad header\n", before=both | {"new.prl": records(ABC)}),
         Case("diff: no OLD", words, status=5, err=b"prolly: cannot open old.prl\n", before={"new.prl": good}),
         Case("diff: no NEW", words, status=5, err=b"prolly: cannot open new.prl\n", before={"old.prl": good}),
+        Case("diff: neither file", words, status=5, err=b"prolly: cannot open old.prl\n"),
+        Case("diff: no NEW, and OUT is as it was", out, status=5, err=b"prolly: cannot open new.prl\n", before={"old.prl": good, "d.rec": BEFORE}),
         Case("diff: OUT is a folder", [*words, "--out", "out"], status=5, err=b"prolly: cannot open out\n", before=both | {"out": FOLDER}),
+        Case("diff: OUT in a folder that is not there", [*words, "--out", "none/out"], status=5, err=b"prolly: cannot open none/out\n", before=both),
         Case("diff: OUT is OLD", [*words, "--out", "old.prl"], status=5, err=b"prolly: OUT is also an input: old.prl\n", before=both),
         Case("diff: OUT is NEW", [*words, "--out", "new.prl"], status=5, err=b"prolly: OUT is also an input: new.prl\n", before=both),
         Case("diff: OUT is a full device", [*words, "--out", "/dev/full"], status=5, err=no_write, before=both),
         Case("diff: nobody reads", words, status=5, err=no_write, before=both, stdout="unread"),
+        Case("diff: standard output is full", words, status=5, err=no_write, before=both, stdout="full"),
+        Case("diff: standard output is closed", words, status=5, err=no_write, before=both, stdout="closed"),
+        Case("diff: nothing is printed to a file", out, status=1, before=both, after={"d.rec": records(difference(ABC, []))}, stdout="full"),
+        Case("diff: nothing changed, for a full device", ["diff", "old.prl", "old.prl"], before=both, stdout="full"),
+        Case("diff: flags without OUT", ["diff", "--atomic", "--sync", "old.prl", "new.prl"], status=1, out=lines(difference(ABC, [])), before=both),
         Case("diff: OUT is emptied by a fault", out, status=4, err=b"prolly: old chunk file: truncated\n", before=both | {"old.prl": cut, "d.rec": BEFORE}, after={"d.rec": b""}),
         Case("diff: OUT is as it was", [*out, "--atomic"], status=4, err=b"prolly: old chunk file: truncated\n", before=both | {"old.prl": cut, "d.rec": BEFORE}),
         Case("diff: OUT is replaced", [*out, "--atomic", "--sync"], status=1, before=both | {"d.rec": BEFORE}, after={"d.rec": records(difference(ABC, []))}),
         Case("diff: a file beside itself", ["diff", "old.prl", "old.prl"], before=both),
+    ]
+
+
+def unread():
+    """Files that can't be read, and too little memory for either."""
+    good, large = chunk_file(ABC, 0), chunk_file(numbered(100_000), 12)
+    words = ["diff", "old.prl", "new.prl"]
+    failed = b"chunk file: read failed\n"
+    scarce = {"status": 6, "err": b"prolly: out of memory\n", "memory": 6_000_000}
+    return [
+        Case("diff: OLD is a folder", words, status=5, err=b"prolly: old " + failed, before={"old.prl": FOLDER, "new.prl": good}),
+        Case("diff: NEW is a folder", words, status=5, err=b"prolly: new " + failed, before={"old.prl": good, "new.prl": FOLDER}),
+        Case("diff: both are folders", words, status=5, err=b"prolly: old " + failed, before={"old.prl": FOLDER, "new.prl": FOLDER}),
+        Case("diff: a fault of OLD before that of NEW", words, status=4, err=b"prolly: old chunk file: truncated\n", before={"old.prl": good[:-1], "new.prl": FOLDER}),
+        Case("diff: too little memory for OLD", words, before={"old.prl": large, "new.prl": good}, **scarce),
+        Case("diff: too little memory for NEW", words, before={"old.prl": good, "new.prl": large}, **scarce),
+        Case("diff: too little memory, to a file", [*words, "--out", "d.rec"], before={"old.prl": good, "new.prl": large}, after={"d.rec": b""}, **scarce),
     ]
 
 

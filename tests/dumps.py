@@ -55,6 +55,8 @@ def refused():
         Case("dump: no FILE, and OUT is as it was", words, status=5, err=b"prolly: cannot open in.prl\n", before={"out.rec": BEFORE}),
         Case("dump: OUT is a folder", ["dump", "in.prl", "out"], status=5, err=b"prolly: cannot open out\n", before=good | {"out": FOLDER}),
         Case("dump: OUT in a folder that is not there", ["dump", "in.prl", "none/out"], status=5, err=b"prolly: cannot open none/out\n", before=good),
+        Case("dump: a folder, and OUT is emptied", words, status=5, err=b"prolly: chunk file: read failed\n", before={"in.prl": FOLDER, "out.rec": BEFORE}, after={"out.rec": b""}),
+        Case("dump: a folder, and OUT is as it was", [*words, "--atomic"], status=5, err=b"prolly: chunk file: read failed\n", before={"in.prl": FOLDER, "out.rec": BEFORE}),
         Case("dump: OUT is a full device", ["dump", "in.prl", "/dev/full"], status=5, err=no_write, before=good),
         Case("dump: nobody reads", ["dump", "in.prl"], status=5, err=no_write, before=good, stdout="unread"),
         Case("dump: standard output is closed", ["dump", "in.prl"], status=5, err=no_write, before=good, stdout="closed"),
