@@ -260,7 +260,13 @@ dump_found = refl
 
 dump_sound : IsSoundShape dump_shape
 unfolding clap_on_literals dump_shape
-dump_sound = ((refl, refl), ((refl, refl), ((refl, refl), ((refl, refl), ((refl, refl), tt)))))
+dump_sound = (
+  (refl, refl),
+  (
+    (refl, refl),
+    ((refl, refl), ((refl, refl), ((refl, refl), ((refl, refl), tt)))),
+  ),
+)
 
 pub record TakesDump (rows : List Row) : Type 0 where
   pub file : HasWord (codes "file") rows
@@ -288,7 +294,10 @@ diff_sound = (
   (refl, refl),
   (
     (refl, refl),
-    ((refl, refl), ((refl, refl), ((refl, refl), ((refl, refl), tt)))),
+    (
+      (refl, refl),
+      ((refl, refl), ((refl, refl), ((refl, refl), ((refl, refl), tt)))),
+    ),
   ),
 )
 

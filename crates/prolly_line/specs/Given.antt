@@ -1,5 +1,6 @@
 -- Which command the words give, and how they are refused.
-use Rattle.std.specs.Prelude.{◌≡◌, ◌≢◌, ◌≤◌, ◌↔◌, IsTrue, ⊤, ℕ, ◌⊎◌, Ok, Option, Some, List, []}
+use Rattle.std.specs.Prelude.{◌≡◌, ◌≢◌, ◌≤◌, ◌↔◌, Bool, IsTrue, ⊤, ℕ, ◌⊎◌, Ok, Option, Some}
+use Rattle.std.specs.Prelude.{List, []}
 use Rattle.std.specs.Prelude.{length, map, option_map, string_bytes, codes, unwrap_or}
 use Rattle.hex.specs.Hex.{decode_of}
 use Rattle.std.specs.Str.Parse.{digits_value, without_leading_plus}
@@ -44,11 +45,14 @@ GivesWords rows name words = unwrap_or (all_of name rows) [] ≡ words
 abbrev pub HasFlag : List Row → Text → Type 0
 HasFlag rows name = first_of name rows ≡ Some (codes "true")
 
+-- a choice is on where the words have the flag of this name
+abbrev pub GivesFlag : List Row → Text → Bool → Type 0
+GivesFlag rows name on = IsTrue on ↔ HasFlag rows name
+
 -- an output is written in this mode: each half of it is on where the words have its flag
 abbrev pub GivesMode : List Row → WriteMode → Type 0
 GivesMode rows mode =
-    (IsTrue mode.atomic ↔ HasFlag rows (codes "atomic")) ×
-    (IsTrue mode.sync ↔ HasFlag rows (codes "sync"))
+    GivesFlag rows (codes "atomic") mode.atomic × GivesFlag rows (codes "sync") mode.sync
 
 -- the text is that of a key: hexadecimal, of at most 1,024 bytes
 abbrev pub IsKeyText : Text → List ℕ → Type 0
@@ -104,16 +108,18 @@ HasFields (Nth file n) given =
     (given.0 ≡ codes "nth")
     × GivesWord given.1 (codes "file") (string_bytes file)
     × GivesNumber given.1 (codes "n") 0 4294967295 n
-HasFields (Dump file out mode) given =
+HasFields (Dump file out text mode) given =
     (given.0 ≡ codes "dump")
     × GivesWord given.1 (codes "file") (string_bytes file)
     × GivesOption given.1 (codes "out") (option_map string_bytes out)
+    × GivesFlag given.1 (codes "text") text
     × GivesMode given.1 mode
-HasFields (Diff old new out mode) given =
+HasFields (Diff old new out stat mode) given =
     (given.0 ≡ codes "diff")
     × GivesWord given.1 (codes "old") (string_bytes old)
     × GivesWord given.1 (codes "new") (string_bytes new)
     × GivesOption given.1 (codes "out") (option_map string_bytes out)
+    × GivesFlag given.1 (codes "stat") stat
     × GivesMode given.1 mode
 
 -- clap takes the words, and the command is what they give
@@ -137,8 +143,8 @@ IsWithinLimits (Check file) = ⊤
 IsWithinLimits (Get file key) = length key.items ≤ 1024
 IsWithinLimits (Scan file from limit) = (length from.items ≤ 1024) × (limit ≤ 1000000)
 IsWithinLimits (Nth file n) = n ≤ 4294967295
-IsWithinLimits (Dump file out mode) = ⊤
-IsWithinLimits (Diff old new out mode) = ⊤
+IsWithinLimits (Dump file out text mode) = ⊤
+IsWithinLimits (Diff old new out stat mode) = ⊤
 
 -- ---- refusals
 

@@ -71,6 +71,12 @@ atomic_flag = flag (codes "atomic")
 abbrev pub sync_flag : Rule
 sync_flag = flag (codes "sync")
 
+abbrev pub text_flag : Rule
+text_flag = flag (codes "text")
+
+abbrev pub stat_flag : Rule
+stat_flag = flag (codes "stat")
+
 abbrev pub out_word : Rule
 out_word = word_rule (codes "out")
 
@@ -135,16 +141,15 @@ scan_line = with_rule (with_rule (with_rule (new_app (codes "scan")) file_word) 
 abbrev pub nth_line : App
 nth_line = with_rule (with_rule (new_app (codes "nth")) file_word) n_word
 
--- `dump [--atomic] [--sync] FILE [OUT]`
+-- `dump [--text] [--atomic] [--sync] FILE [OUT]`
 abbrev pub dump_line : App
-dump_line = with_rule (with_rule (with_rule (with_rule (new_app (codes "dump")) atomic_flag)
-    sync_flag) file_word)
-    optional_out_word
+dump_line = with_rule (with_rule (with_rule (with_rule (with_rule (new_app (codes "dump"))
+    text_flag) atomic_flag) sync_flag) file_word) optional_out_word
 
--- `diff [--out FILE] [--atomic] [--sync] OLD NEW`
+-- `diff [--stat] [--out FILE] [--atomic] [--sync] OLD NEW`
 abbrev pub diff_line : App
-diff_line = with_rule (with_rule (with_rule (with_rule (with_rule (new_app (codes "diff"))
-    out_option) atomic_flag) sync_flag) old_word) new_word
+diff_line = with_rule (with_rule (with_rule (with_rule (with_rule (with_rule
+    (new_app (codes "diff")) stat_flag) out_option) atomic_flag) sync_flag) old_word) new_word
 
 -- ---- the whole line
 

@@ -4,7 +4,7 @@ ghost use Rattle.prolly_line.specs.Line.{file_word, files_words, flag, format_op
 ghost use Rattle.prolly_line.specs.Line.{limit_word};
 ghost use Rattle.prolly_line.specs.Line.{max_records_option, n_word, number_option, number_word};
 ghost use Rattle.prolly_line.specs.Line.{optional_out_word, out_option, out_word, stages_option};
-ghost use Rattle.prolly_line.specs.Line.{sync_flag, word_rule};
+ghost use Rattle.prolly_line.specs.Line.{stat_flag, sync_flag, text_flag, word_rule};
 ghost use Rattle.prolly_line.specs.Local.{IsReadBy};
 
 use clap::builder::ValueParser;
@@ -139,6 +139,20 @@ pub(crate) fn sync_flag<'a>(alloc: Global) -> Arg<'a>
     flag(alloc, "sync").help("Print the answer only once the output is on the disk")
 }
 
+/// `--text`
+pub(crate) fn text_flag<'a>(alloc: Global) -> Arg<'a>
+    ensures { IsReadBy text_flag result }
+{
+    flag(alloc, "text").help("Write lines, HEXKEY HEXVALUE, in place of a record file")
+}
+
+/// `--stat`
+pub(crate) fn stat_flag<'a>(alloc: Global) -> Arg<'a>
+    ensures { IsReadBy stat_flag result }
+{
+    flag(alloc, "stat").help("Print how much has changed in place of the changes")
+}
+
 /// `OUT`, the file that a subcommand makes; `what` says for its help what that is.
 pub(crate) fn out_word<'a>(alloc: Global, what: &'a str) -> Arg<'a>
     ensures { IsReadBy out_word result }
@@ -146,12 +160,12 @@ pub(crate) fn out_word<'a>(alloc: Global, what: &'a str) -> Arg<'a>
     required_word(alloc, "out", "OUT").help(what)
 }
 
-/// `[OUT]`, the record file that a subcommand makes in place of what it prints.
+/// `[OUT]`, the file that a subcommand makes in place of what it prints.
 pub(crate) fn optional_out_word<'a>(alloc: Global) -> Arg<'a>
     ensures { IsReadBy optional_out_word result }
 {
     Arg::new(alloc, "out").value_name("OUT").help(
-        "The record file to make; without it, it is written to standard output",
+        "The file to make; without it, it is written to standard output",
     )
 }
 

@@ -68,19 +68,22 @@ pub enum Command {
         file: String,
         n: u64,
     },
-    /// Write the pairs of a file as a record file: to standard output where there is no output,
-    /// and then the mode says nothing.
+    /// Write the pairs of a file, in lines where `text` is set, and else as a record file: to
+    /// standard output where there is no output, and then the mode says nothing.
     Dump {
         file: String,
         out: Option<String>,
+        text: bool,
         mode: WriteMode,
     },
-    /// Say what turns the map of the file `old` into that of the file `new`: in lines on standard
-    /// output where there is no output, and then the mode says nothing, and else in a record file.
+    /// Say what turns the map of the file `old` into that of the file `new`: in a record file
+    /// where there is an output, and else the mode says nothing. What is printed is how much has
+    /// changed where `stat` is set, and else the changes, in lines, where there is no output.
     Diff {
         old: String,
         new: String,
         out: Option<String>,
+        stat: bool,
         mode: WriteMode,
     },
 }

@@ -4,7 +4,7 @@ ghost use Rattle.std.specs.Prelude.{codes};
 ghost use Rattle.prolly_line.specs.Accepted.{Answers, IsAccepted, rows_in};
 
 use crate::command::{Command, ParseFault};
-use crate::values::{byte_of, key_of, mode_of, number_of, option_of, text_of, texts_of};
+use crate::values::{byte_of, flag_of, key_of, mode_of, number_of, option_of, text_of, texts_of};
 use clap::ArgMatches;
 use std::alloc::Global;
 
@@ -103,22 +103,29 @@ pub(crate) fn nth(alloc: Global, given: &ArgMatches<'_>) -> Result<Command, Pars
     Ok(Command::Nth { file, n })
 }
 
-/// `dump [--atomic] [--sync] FILE [OUT]`
+/// `dump [--text] [--atomic] [--sync] FILE [OUT]`
 pub(crate) fn dump(alloc: Global, given: &ArgMatches<'_>) -> Result<Command, ParseFault>
     requires { IsAccepted (codes "dump", rows_in given.now) }
     ensures { Answers (codes "dump", rows_in given.now) result }
 {
     let file = text_of(alloc, given, "file")?;
     let out = option_of(alloc, given, "out")?;
+    let text = flag_of(given, "text");
     let mode = mode_of(given);
-    Ok(Command::Dump { file, out, mode })
+    Ok(Command::Dump {
+        file,
+        out,
+        text,
+        mode,
+    })
 }
 
-/// `diff [--out FILE] [--atomic] [--sync] OLD NEW`
+/// `diff [--stat] [--out FILE] [--atomic] [--sync] OLD NEW`
 pub(crate) fn diff(alloc: Global, given: &ArgMatches<'_>) -> Result<Command, ParseFault>
     requires { IsAccepted (codes "diff", rows_in given.now) }
     ensures { Answers (codes "diff", rows_in given.now) result }
 {
+    let stat = flag_of(given, "stat");
     let mode = mode_of(given);
     let old = text_of(alloc, given, "old")?;
     let new = text_of(alloc, given, "new")?;
@@ -127,6 +134,7 @@ pub(crate) fn diff(alloc: Global, given: &ArgMatches<'_>) -> Result<Command, Par
         old,
         new,
         out,
+        stat,
         mode,
     })
 }

@@ -151,17 +151,20 @@ the exit status is 1.",
 };
 
 pub(crate) const DUMP: Help<'static> = Help {
-    about: "Write the pairs of a chunk file as a record file",
+    about: "Write the pairs of a chunk file as a record file, or as lines",
     details: "Writes all pairs of a chunk file as a record file. `scratch` and `build` make
 the same chunk file of it again, at equal --bits and --format; they take at most
 16,777,216 records from one file. The chunk file is checked first, as by
 `check`.
 
-The record file goes to OUT, or to standard output where OUT is not given; then
+With --text these are lines, HEXKEY HEXVALUE, one for each pair in the order of
+keys. `pack` makes the record file of them.
+
+What is written goes to OUT, or to standard output where OUT is not given; then
 --atomic and --sync say nothing. Nothing else is printed.
 
 OUT is made once FILE is open, before it is read. After a fault it is left
-empty; where writing it failed, with the first part of the record file. With
+empty; where writing it failed, with the first part of what it was to hold. With
 --atomic it is as it was.",
     example: "Example: the pairs of a tree, with the changes of a day, to the next tree
   prolly dump monday.prl monday.rec
@@ -178,6 +181,13 @@ Without --out these are lines that `pack` reads, `HEXKEY HEXVALUE` or, for a key
 that NEW lacks, `HEXKEY -`; then --atomic and --sync say nothing. With --out,
 FILE is a record file of them, and nothing is printed. So `build` of OLD's pairs
 and of that file makes NEW's tree again, at equal --bits and --format.
+
+With --stat, one line is printed in place of the changes, with --out too:
+  added A changed C removed R chunks N bytes B
+A is the number of keys that NEW has and OLD lacks, C that of keys whose value
+is another one, R that of keys that NEW lacks. N is the number of chunks of NEW
+that OLD does not have, and B that of their bytes: what a holder of OLD lacks of
+NEW.
 
 The exit status is 0 where the maps are equal, and 1 where they are not.
 

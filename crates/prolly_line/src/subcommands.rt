@@ -65,18 +65,19 @@ pub(crate) fn check_line<'a>(alloc: Global) -> Result<Command<'a>, AllocError>
     described(alloc, "check", help::CHECK).arg(arguments::file_word(alloc))
 }
 
-/// `dump [--atomic] [--sync] FILE [OUT]`
+/// `dump [--text] [--atomic] [--sync] FILE [OUT]`
 pub(crate) fn dump_line<'a>(alloc: Global) -> Result<Command<'a>, AllocError>
     ensures { IfOk result (HasLine dump_line) }
 {
-    let line = with_mode(alloc, Ok(described(alloc, "dump", help::DUMP)));
+    let line = described(alloc, "dump", help::DUMP).arg(arguments::text_flag(alloc));
+    let line = with_mode(alloc, line);
     with_argument(
         with_argument(line, arguments::file_word(alloc)),
         arguments::optional_out_word(alloc),
     )
 }
 
-/// `diff [--out FILE] [--atomic] [--sync] OLD NEW`
+/// `diff [--stat] [--out FILE] [--atomic] [--sync] OLD NEW`
 pub(crate) fn diff_line<'a>(alloc: Global) -> Result<Command<'a>, AllocError>
     ensures { IfOk result (HasLine diff_line) }
 {
@@ -88,7 +89,8 @@ pub(crate) fn diff_line<'a>(alloc: Global) -> Result<Command<'a>, AllocError>
         "NEW",
         "The chunk file of the map as it is now",
     );
-    let line = with_mode(alloc, described(alloc, "diff", help::DIFF).arg(out));
+    let line = described(alloc, "diff", help::DIFF).arg(arguments::stat_flag(alloc));
+    let line = with_mode(alloc, with_argument(line, out));
     with_argument(with_argument(line, old), new)
 }
 

@@ -1,9 +1,9 @@
 //! The values of one option or word, from what clap found.
 ghost use Rattle.std.specs.Prelude.{◌≡◌, ◌⊎◌, Some, IfOk, IfErr, ℕ, List, map, string_bytes};
-ghost use Rattle.std.specs.Prelude.{option_map, codes, IsTrue, ◌↔◌};
+ghost use Rattle.std.specs.Prelude.{option_map, codes};
 ghost use Rattle.clap.specs.Words.{first_of};
-ghost use Rattle.prolly_line.specs.Given.{GivesKey, GivesMode, GivesOption, GivesWord, GivesWords};
-ghost use Rattle.prolly_line.specs.Given.{HasFlag, IsKeyText};
+ghost use Rattle.prolly_line.specs.Given.{GivesFlag, GivesKey, GivesMode, GivesOption, GivesWord};
+ghost use Rattle.prolly_line.specs.Given.{GivesWords, IsKeyText};
 ghost use Rattle.prolly_line.specs.Accepted.{HasNumber, HasWord, IsRefusedKey, ReadsNumber};
 ghost use Rattle.prolly_line.specs.Accepted.{rows_in};
 ghost use Rattle.prolly_line.specs.declared.command.ParseFault.TheVariants.{BadKey, Memory};
@@ -67,9 +67,9 @@ pub(crate) fn option_of(
     }
 }
 
-// Whether the words have a flag: clap writes `true` under its name then, and `false` else.
-fn flag_of(given: &ArgMatches<'_>, name: &str) -> bool
-    ensures { IsTrue result ↔ HasFlag (rows_in given.now) name.now }
+/// Whether the words have a flag: clap writes `true` under its name then, and `false` else.
+pub(crate) fn flag_of(given: &ArgMatches<'_>, name: &str) -> bool
+    ensures { GivesFlag (rows_in given.now) name.now result }
 {
     match given.get_str(name) {
         Some(value) => value == "true",

@@ -5,9 +5,10 @@ use Rattle.prolly_line.proofs.subcommands.diff_line.Goals as goal
 
 pub returns : goal.returns
 returns c =
-    let with_out = IfOk-weaker c.arg.result _ _
-    (λ x adds. added c.described.result x c.out_option-out.result _ _ c.described.ensures
-    c.out_option-out.ensures adds) c.arg.ensures in
+    let with_stat = IfOk-weaker c.arg-line.result _ _
+    (λ x adds. added c.described.result x c.stat_flag.result _ _ c.described.ensures
+    c.stat_flag.ensures adds) c.arg-line.ensures in
+    let with_out = c.with_argument.ensures _ _ with_stat c.out_option-out.ensures in
     let with_mode = c.with_mode-line.ensures _ with_out in
-    let with_old = c.with_argument.ensures _ _ with_mode c.tree_word-old.ensures in
-    c.with_argument-2.ensures _ _ with_old c.tree_word-new.ensures
+    let with_old = c.with_argument-2.ensures _ _ with_mode c.tree_word-old.ensures in
+    c.with_argument-3.ensures _ _ with_old c.tree_word-new.ensures

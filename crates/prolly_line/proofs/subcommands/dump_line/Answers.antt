@@ -1,8 +1,13 @@
 -- One argument more at each step.
+use Rattle.std.proofs.lemmas.Result.{IfOk-weaker}
+use Rattle.prolly_line.proofs.LineSteps.{added}
 use Rattle.prolly_line.proofs.subcommands.dump_line.Goals as goal
 
 pub returns : goal.returns
 returns c =
-    let with_mode = c.with_mode-line.ensures _ c.described.ensures in
+    let with_text = IfOk-weaker c.arg-line.result _ _
+    (λ x adds. added c.described.result x c.text_flag.result _ _ c.described.ensures
+    c.text_flag.ensures adds) c.arg-line.ensures in
+    let with_mode = c.with_mode-line.ensures _ with_text in
     let with_file = c.with_argument.ensures _ _ with_mode c.file_word.ensures in
     c.with_argument-2.ensures _ _ with_file c.optional_out_word.ensures
