@@ -1,12 +1,14 @@
 -- What a command answers where writing its file fails, and of a file that was checked.
 use Rattle.std.proofs.Common.{◌≡◌, ◌≤◌, List, ℕ, length, ◌⊎◌, inl, inr, subst, Result, Ok, Err}
 use Rattle.std.specs.Prelude.{IfOk, OnErr}
+use Rattle.prolly_entry.specs.Record.{Record}
+use Rattle.prolly_fault.specs.declared.fault.RunFault.{RunFault}
 use Rattle.prolly_fault.specs.declared.fault.RunFault.TheVariants.{Write}
 use Rattle.prolly_tool.specs.declared.answer.Answer.{Answer}
 use Rattle.prolly_tool.specs.declared.fault.Fault.{Fault}
 use Rattle.prolly_tool.specs.declared.fault.Fault.TheVariants.{Run}
 use Rattle.prolly_tool.specs.Answers.{ShowsFault}
-use Rattle.prolly_tool.specs.Outputs.{IsAnswer, IsCutShort}
+use Rattle.prolly_tool.specs.Outputs.{IsAnswer, IsCutOff, IsCutShort, IsStopped}
 use Rattle.prolly_tool.specs.LookUps.{IsLookedUp, file_limit}
 use Rattle.prolly_check.specs.Checked.{IsFile}
 use Rattle.prolly_check.specs.Content.{Content}
@@ -40,3 +42,21 @@ looked_up bytes left failed shows same file within unfailed shown =
       is = file.is;
       shown = shown file.content file.is;
     })
+
+-- ---- records that are written
+
+pub cut_off : {E : Type 0} (are : (List Record → Type 0) → Type 0)
+    (took_until : RunFault → List Record → Type 0) (is_done refused : Answer → Type 0)
+    (result : Result Answer E) (fault : RunFault) → are (took_until fault) →
+    IfOk result (λ answer. ShowsFault answer (Run fault)) →
+    IfOk result (λ answer. is_done answer ⊎ IsCutOff are took_until answer ⊎ refused answer)
+cut_off are took_until is_done refused (Ok answer) fault is shows =
+    inr (inl (record { fault = fault; is = is; shows = shows }))
+cut_off are took_until is_done refused (Err e) fault is shows = tt
+
+pub stopped : {E : Type 0} (are : (List Record → Type 0) → Type 0)
+    (took_until : RunFault → List Record → Type 0) (untouched : Type 0) (result : Result Answer E)
+    (fault : RunFault) → are (took_until fault) →
+    OnErr result (untouched ⊎ IsStopped are took_until)
+stopped are took_until untouched (Ok answer) fault is = tt
+stopped are took_until untouched (Err e) fault is = inr (record { fault = fault; is = is })

@@ -73,16 +73,24 @@ one_place byte (x ∷ a) b (y ∷ c) d h k e =
     let more = one_place byte a b c d h.1 k.1 rest in
     (cc (first, more.0), more.1)
 
-digits_lack : (xs : List ℕ) → AllByRecursion (λ b. is_hex_digit b ≡ true) xs → Lacks 0x20 xs
-digits_lack [] h = tt
-digits_lack (x ∷ xs) h = (λ e. apart (sym (ap is_hex_digit e) ∙ h.0), digits_lack xs h.1)
+digits_lack : (byte : ℕ) → is_hex_digit byte ≡ false → (xs : List ℕ) →
+    AllByRecursion (λ b. is_hex_digit b ≡ true) xs → Lacks byte xs
+digits_lack byte h [] k = tt
+digits_lack byte h (x ∷ xs) k = (
+  λ e. apart (sym h ∙ (ap is_hex_digit (sym e) ∙ k.0)),
+  digits_lack byte h xs k.1,
+)
   where
-    apart : is_hex_digit 0x20 ≡ true → ⊥
+    apart : false ≡ true → ⊥
     apart e = cc
 
-pub hex_lacks_space : (text bytes : List ℕ) → decode_of text ≡ Ok bytes → Lacks 0x20 text
-hex_lacks_space text bytes h = digits_lack text
-    (recursion_from_All (λ b. is_hex_digit b ≡ true) text (decode_of-ok text bytes h).1)
+pub hex_lacks : (byte : ℕ) → is_hex_digit byte ≡ false → (text bytes : List ℕ) →
+    decode_of text ≡ Ok bytes → Lacks byte text
+hex_lacks byte h text bytes e = digits_lack byte h text
+    (recursion_from_All (λ b. is_hex_digit b ≡ true) text (decode_of-ok text bytes e).1)
+
+hex_lacks_space : (text bytes : List ℕ) → decode_of text ≡ Ok bytes → Lacks 0x20 text
+hex_lacks_space text bytes h = hex_lacks 0x20 refl text bytes h
 
 pub cuts_there : (line key change : List ℕ) (space : ℕ) → All (λ b. b ≢ 0x20) (take space line) →
     slice_get line space ≡ Some 0x20 →

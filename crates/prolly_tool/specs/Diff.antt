@@ -1,38 +1,16 @@
 -- What the command `diff` answers.
-use Rattle.std.specs.Prelude.{◌⊎◌, ℕ, List, [], ◌∷◌, ◌++◌, Option, Some, None, Bool, true, false}
-use Rattle.std.specs.List.{flat_map}
-use Rattle.hex.specs.Hex.{encode_lower}
+use Rattle.std.specs.Prelude.{◌⊎◌, ℕ, List, [], ◌∷◌, Bool, true, false}
 use Rattle.prolly_entry.specs.Pair.{Pair}
 use Rattle.prolly_entry.specs.Record.{Record}
-use Rattle.prolly_entry.specs.Spelling.{record_spelling}
 use Rattle.prolly_fault.specs.declared.fault.RunFault.{RunFault}
 use Rattle.prolly_tree.specs.Difference.{IsDifference}
-use Rattle.prolly_tool.specs.Answers.{Shows, ShowsFault}
+use Rattle.prolly_tool.specs.Answers.{Shows}
 use Rattle.prolly_tool.specs.LookUps.{IsLookedUp, IsNoFileAs}
+use Rattle.prolly_tool.specs.Outputs.{IsCutOff}
+use Rattle.prolly_tool.specs.RecordForms.{written_records}
 use Rattle.prolly_tool.specs.declared.answer.Answer.{Answer}
-use Rattle.prolly_tool.specs.declared.diff_form.DiffForm.{DiffForm}
-use Rattle.prolly_tool.specs.declared.diff_form.DiffForm.TheVariants.{Lines, Records}
-use Rattle.prolly_tool.specs.declared.fault.Fault.TheVariants.{Run, CheckOld, CheckNew}
-
--- ---- what is written
-
--- What a line says of its key: a value in hexadecimal, or a dash for a removal.
-abbrev pub change_text : Option (List ℕ) → List ℕ
-change_text (Some value) = encode_lower value
-change_text None = 0x2D ∷ []
-
--- The line of a record: its key in hexadecimal, a space, what it says of it, a newline.
-abbrev pub record_line : Record → List ℕ
-record_line r = encode_lower r.key ++ 0x20 ∷ change_text r.value ++ 0x0A ∷ []
-
--- A record as a line of text, or as a record file spells it.
-abbrev pub spelled : DiffForm → Record → List ℕ
-spelled Lines r = record_line r
-spelled Records r = record_spelling r
-
--- Records, one after another.
-abbrev pub diff_file : DiffForm → List Record → List ℕ
-diff_file form records = flat_map (spelled form) records
+use Rattle.prolly_tool.specs.declared.record_form.RecordForm.{RecordForm}
+use Rattle.prolly_tool.specs.declared.fault.Fault.TheVariants.{CheckOld, CheckNew}
 
 -- ---- of which difference
 
@@ -63,19 +41,6 @@ status_of true = 1
 abbrev pub ShowsDiff : Answer → Bool → Type 0
 ShowsDiff answer changed = Shows answer (status_of changed) [] []
 
--- The files were compared, and the changes not all written, for some fault.
-pub record IsStopped (compared : (List Record → Type 0) → Type 0)
-    (took_until : RunFault → List Record → Type 0) : Type 0 where
-  pub fault : RunFault
-  pub is : compared (took_until fault)
-
--- This is the fault that is shown.
-pub record IsCutOff (compared : (List Record → Type 0) → Type 0)
-    (took_until : RunFault → List Record → Type 0) (answer : Answer) : Type 0 where
-  pub fault : RunFault
-  pub is : compared (took_until fault)
-  pub shows : ShowsFault answer (Run fault)
-
 -- The old file is refused; or it is lawful, and the new one is refused.
 abbrev pub IsOneRefused : List ℕ → Type 0 → List ℕ → Type 0 → Answer → Type 0
 IsOneRefused old old_failed new new_failed answer = IsNoFileAs CheckOld old old_failed answer
@@ -85,11 +50,11 @@ IsOneRefused old old_failed new new_failed answer = IsNoFileAs CheckOld old old_
 -- writing it was cut off by a fault; or one of the files is refused. Of the sink, `took_all` says
 -- that it took all of these bytes, `took_until` that it took a part of them until a fault,
 -- `untouched` that it is as it was.
-abbrev pub IsDiff : DiffForm → List ℕ → Type 0 → List ℕ → Type 0 → (List ℕ → Type 0) →
+abbrev pub IsDiff : RecordForm → List ℕ → Type 0 → List ℕ → Type 0 → (List ℕ → Type 0) →
     (RunFault → List ℕ → Type 0) → Type 0 → Answer → Type 0
 IsDiff form old old_failed new new_failed took_all took_until untouched answer =
     AreCompared old old_failed new new_failed
-    (λ records. took_all (diff_file form records) × ShowsDiff answer (are_some records))
+    (λ records. took_all (written_records form records) × ShowsDiff answer (are_some records))
     ⊎ IsCutOff (AreCompared old old_failed new new_failed)
-    (λ fault records. took_until fault (diff_file form records)) answer
+    (λ fault records. took_until fault (written_records form records)) answer
     ⊎ (IsOneRefused old old_failed new new_failed answer × untouched)

@@ -18,6 +18,8 @@ pub mod Answers
 pub mod Build
 -- What the commands that read a chunk file print.
 pub mod LookUps
+-- How records are written: as lines of text, as `pack` reads them, or as a record file.
+pub mod RecordForms
 -- What the command `dump` answers.
 pub mod Dump
 -- What the command `diff` answers.

@@ -1,5 +1,6 @@
 -- What a command that makes a file does to the sink that it is lent, and what it answers.
 use Rattle.std.specs.Prelude.{◌≡◌, ◌≢◌, ℕ, ◌⊎◌, true, List, ◌++◌, Option, Some, None}
+use Rattle.prolly_entry.specs.Record.{Record}
 use Rattle.prolly_file.specs.Sink.{SinkView, TakesPrefix}
 use Rattle.prolly_fault.specs.declared.fault.RunFault.{RunFault}
 use Rattle.prolly_fault.specs.declared.fault.RunFault.TheVariants.{Memory, Write}
@@ -44,6 +45,21 @@ abbrev pub OfSink : {W : Type 0} → (W → W → Type 0) → Option W → Optio
 OfSink happened None new = ⊥
 OfSink happened (Some old) None = ⊥
 OfSink happened (Some old) (Some new) = happened old new
+
+-- ---- records that are written
+
+-- The records are there, and they were not all written, for some fault.
+pub record IsStopped (are : (List Record → Type 0) → Type 0)
+    (took_until : RunFault → List Record → Type 0) : Type 0 where
+  pub fault : RunFault
+  pub is : are (took_until fault)
+
+-- This is the fault that is shown.
+pub record IsCutOff (are : (List Record → Type 0) → Type 0)
+    (took_until : RunFault → List Record → Type 0) (answer : Answer) : Type 0 where
+  pub fault : RunFault
+  pub is : are (took_until fault)
+  pub shows : ShowsFault answer (Run fault)
 
 -- ---- answers
 

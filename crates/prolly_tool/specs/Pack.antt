@@ -1,8 +1,8 @@
 -- What packing a text comes to.
-use Rattle.std.specs.Prelude.{◌≡◌, ℕ, Ok, List, [], ◌∷◌, ◌++◌, length}
+use Rattle.std.specs.Prelude.{◌≡◌, ◌↔◌, ℕ, Ok, List, [], ◌∷◌, ◌++◌, length, IfSome}
 use Rattle.std.specs.Fmt.{decimal}
-use Rattle.std.specs.List.{flat_map, AllZip}
-use Rattle.hex.specs.Hex.{decode_of}
+use Rattle.std.specs.List.{flat_map, AllByRecursion, AllZip}
+use Rattle.hex.specs.Hex.{decode_of, IsBytes}
 use Rattle.prolly_entry.specs.declared.pair.EntryFault.{EntryFault}
 use Rattle.prolly_entry.specs.declared.pair.EntryFault.TheVariants as entries
 use Rattle.prolly_entry.specs.Record.{Record, IsRecord}
@@ -15,7 +15,9 @@ use Rattle.prolly_tool.specs.declared.line.LineFlaw.TheVariants as flaws
 use Rattle.prolly_tool.specs.declared.fault.Fault.{Fault}
 use Rattle.prolly_tool.specs.declared.fault.Fault.TheVariants.{Pack}
 use Rattle.prolly_tool.specs.Input.{IsReadWhole, IsInputFault}
+use Rattle.prolly_tool.specs.declared.record_form.RecordForm.TheVariants.{Lines, Records}
 use Rattle.prolly_tool.specs.Lines.{lines_of, IsLineOf, IsBadLine, HasLongKey, HasLongValue}
+use Rattle.prolly_tool.specs.RecordForms.{written_records}
 
 -- The line stands for the lawful record.
 abbrev pub StandsFor : List ℕ → Record → Type 0
@@ -86,6 +88,20 @@ pub record IsLineFault (line : List ℕ) (number : ℕ) (fault : PackFault) : Ty
   pub flaw : LineFlaw
   pub wrong : IsWrongLine line flaw
   pub is : fault ≡ fault_at flaw number
+
+-- ---- lines that are written
+
+-- The key of the record is bytes, and so is a value that it puts.
+pub record IsOfBytes (r : Record) : Type 0 where
+  pub key : IsBytes r.key
+  pub value : IfSome r.value IsBytes
+
+-- Law: packing the lines of lawful records gives their record file, and nothing else.
+abbrev pub LinesArePacked : Type 0
+LinesArePacked = (records : List Record) (old new : List ℕ) (count : ℕ) →
+    AllByRecursion IsRecord records → AllByRecursion IsOfBytes records →
+    Packs (written_records Lines records) old new count ↔
+    ((new ≡ old ++ written_records Records records) × (count ≡ length records))
 
 -- ---- the command
 

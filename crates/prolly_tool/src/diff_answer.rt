@@ -3,14 +3,16 @@ ghost use Rattle.std.specs.Prelude.{◌≡◌, ◌≢◌, ◌⊎◌, ◌+◌, tr
 ghost use Rattle.std.specs.List.{AllByRecursion};
 ghost use Rattle.prolly_entry.specs.Pair.{IsPair};
 ghost use Rattle.prolly_diff.specs.Walk.{AreMaps};
-ghost use Rattle.prolly_tool.specs.Diff.{AreCompared, HasDifference, IsDiff, IsStopped};
-ghost use Rattle.prolly_tool.specs.Diff.{ShowsDiff, are_some, diff_file};
-ghost use Rattle.prolly_tool.specs.Outputs.{TookAll, TookUntil};
+ghost use Rattle.prolly_check.specs.declared.fault.CheckFault.TheVariants.{Read};
+ghost use Rattle.prolly_tool.specs.Answers.{ShowsFault};
+ghost use Rattle.prolly_tool.specs.Diff.{AreCompared, HasDifference, IsDiff, ShowsDiff, are_some};
+ghost use Rattle.prolly_tool.specs.Outputs.{IsStopped, TookAll, TookUntil};
+ghost use Rattle.prolly_tool.specs.RecordForms.{written_records};
 
 use crate::answer::Answer;
-use crate::diff_form::{DiffForm, append_change};
 use crate::fault::Fault;
 use crate::input::INPUT_LIMIT;
+use crate::record_form::{RecordForm, append_change};
 use prolly_check::check;
 use prolly_diff::Differences;
 use prolly_fault::RunFault;
@@ -29,7 +31,7 @@ pub fn answer_diff<S: Source, T: Source, W: Sink>(
     alloc: Global,
     old_source: &mut S,
     new_source: &mut T,
-    form: DiffForm,
+    form: RecordForm,
     sink: &mut W,
 ) -> Result<Answer, AllocError>
     ensures ok { (S.seen old_source.old).is_honest ≡ true →
@@ -47,7 +49,13 @@ pub fn answer_diff<S: Source, T: Source, W: Sink>(
         ((S.seen old_source.new).failures ≢ (S.seen old_source.old).failures)
         (T.seen new_source.old).left
         ((T.seen new_source.new).failures ≢ (T.seen new_source.old).failures))
-        (λ fault records. TookUntil W.seen fault (diff_file form records) sink.old sink.new)) }
+        (λ fault records. TookUntil W.seen fault (written_records form records) sink.old sink.new)) }
+    ensures read_old { (S.seen old_source.new).failures ≢ (S.seen old_source.old).failures →
+        (sink.new ≡ sink.old) ×
+        IfOk result (λ answer. ShowsFault answer (Fault.CheckOld Read)) }
+    ensures read_new { (T.seen new_source.new).failures ≢ (T.seen new_source.old).failures →
+        (sink.new ≡ sink.old) ×
+        IfOk result (λ answer. ShowsFault answer (Fault.CheckNew Read)) }
 {
     let old_tree = match check(alloc, old_source, INPUT_LIMIT) {
         Ok(tree) => tree,
@@ -78,17 +86,17 @@ fn answer_of(alloc: Global, changed: bool) -> Answer
 fn write_changes<W: Sink>(
     alloc: Global,
     mut changes: Differences,
-    form: DiffForm,
+    form: RecordForm,
     sink: &mut W,
 ) -> Result<bool, RunFault>
     requires maps { AreMaps changes }
     requires before { AllByRecursion IsPair changes.before }
     requires after { AllByRecursion IsPair changes.after }
     ensures ok { IfOk result (λ changed. HasDifference changes.entry.before changes.entry.after
-        (λ records. TookAll W.seen (diff_file form records) sink.old sink.new ×
+        (λ records. TookAll W.seen (written_records form records) sink.old sink.new ×
         (changed ≡ are_some records))) }
     ensures err { IfErr result (λ fault. HasDifference changes.entry.before changes.entry.after
-        (λ records. TookUntil W.seen fault (diff_file form records) sink.old sink.new)) }
+        (λ records. TookUntil W.seen fault (written_records form records) sink.old sink.new)) }
 {
     let mut spelling = Vec::new(alloc);
     let mut changed = false;

@@ -1,39 +1,48 @@
-//! The command `dump`: the record file of a chunk file's pairs.
-ghost use Rattle.std.specs.Prelude.{◌≡◌, ◌≢◌, ◌⊎◌, true, IfOk, OnErr};
-ghost use Rattle.prolly_tool.specs.Dump.{IsDump, IsDumped};
+//! The command `dump`: the pairs of a chunk file, as lines or as a record file.
+ghost use Rattle.std.specs.Prelude.{◌≡◌, ◌≢◌, ◌⊎◌, true, IfOk, OnOk, IfErr, OnErr};
+ghost use Rattle.prolly_check.specs.Content.{Content};
+ghost use Rattle.prolly_check.specs.Verdict.{IsFileOf};
+ghost use Rattle.prolly_tree.specs.Difference.{puts};
+ghost use Rattle.prolly_tool.specs.Dump.{IsDump, IsDumped, IsStoppedDump};
 ghost use Rattle.prolly_tool.specs.LookUps.{ShowsFailedRead};
-ghost use Rattle.prolly_tool.specs.Outputs.{TookAll, TookPart};
+ghost use Rattle.prolly_tool.specs.Outputs.{IsStopped, TookAll, TookUntil};
+ghost use Rattle.prolly_tool.specs.RecordForms.{written_records};
 
 use crate::answer::Answer;
+use crate::dump_lines::write_lines;
 use crate::fault::Fault;
 use crate::input::INPUT_LIMIT;
-use prolly_check::check;
+use crate::record_form::RecordForm;
+use prolly_check::{Tree, check};
 use prolly_fault::RunFault;
 use prolly_file::{Sink, Source, WriteFault};
 use std::alloc::{AllocError, Global};
 
-/// What `dump` answers: it reads a chunk file from the source, writes the record file of its pairs
-/// to the sink, and shows nothing; or it shows the line of the fault of a file that `check`
-/// refuses, and writes nothing.
+/// What `dump` answers: it reads a chunk file from the source, writes its pairs to the sink, as
+/// records that put them, and shows nothing; or it shows the line of the fault of a file that
+/// `check` refuses, and writes nothing.
 ///
-/// The file is checked first, as by `check`. Beside what that takes no memory is taken: the pairs
-/// are written from where they lie, in a call of the sink for each leaf. An `Err` is want of memory
-/// for the line of a fault; the sink is then as it was, or it failed.
+/// The file is checked first, as by `check`. Beside what that takes, a record file takes no memory:
+/// the pairs are written from where they lie. The lines of a leaf are put together in memory, and
+/// want of it is shown as a fault. Either way the sink is called once for each leaf, or more often
+/// where it takes only a part. An `Err` is want of memory for the line of a fault; the sink is then
+/// as it was, or has a part of the pairs.
 pub fn answer_dump<S: Source, W: Sink>(
     alloc: Global,
     source: &mut S,
+    form: RecordForm,
     sink: &mut W,
 ) -> Result<Answer, AllocError>
     ensures ok { (S.seen source.old).is_honest ≡ true →
-        IfOk result (IsDump (S.seen source.old).left
+        IfOk result (IsDump form (S.seen source.old).left
         ((S.seen source.new).failures ≢ (S.seen source.old).failures)
-        (λ file. TookAll W.seen file sink.old sink.new)
-        (λ file. TookPart W.seen file sink.old sink.new)
+        (λ bytes. TookAll W.seen bytes sink.old sink.new)
+        (λ fault bytes. TookUntil W.seen fault bytes sink.old sink.new)
         (sink.new ≡ sink.old)) }
     ensures err { (S.seen source.old).is_honest ≡ true →
-        OnErr result ((sink.new ≡ sink.old) ⊎ IsDumped (S.seen source.old).left
-        ((S.seen source.new).failures ≢ (S.seen source.old).failures)
-        (λ file. TookPart W.seen file sink.old sink.new)) }
+        OnErr result ((sink.new ≡ sink.old) ⊎ IsStopped (IsDumped (S.seen source.old).left
+        ((S.seen source.new).failures ≢ (S.seen source.old).failures))
+        (IsStoppedDump form (λ fault bytes. TookUntil W.seen fault bytes sink.old sink.new))) }
     ensures read { (S.seen source.new).failures ≢ (S.seen source.old).failures →
         (sink.new ≡ sink.old) × IfOk result ShowsFailedRead }
 {
@@ -41,8 +50,30 @@ pub fn answer_dump<S: Source, W: Sink>(
         Ok(tree) => tree,
         Err(fault) => return Answer::of_fault(alloc, Fault::Check(fault)),
     };
-    match tree.write_records(sink) {
+    match write_pairs(alloc, &tree, form, sink) {
         Ok(()) => Ok(Answer::of_done(alloc)),
-        Err(WriteFault) => Answer::of_fault(alloc, Fault::Run(RunFault::Write)),
+        Err(fault) => Answer::of_fault(alloc, Fault::Run(fault)),
+    }
+}
+
+/// Writes the pairs of a tree to a sink, and flushes it.
+fn write_pairs<W: Sink>(
+    alloc: Global,
+    tree: &Tree,
+    form: RecordForm,
+    sink: &mut W,
+) -> Result<(), RunFault>
+    ensures ok { (content : Content) → IsFileOf tree.now content → OnOk result
+        (TookAll W.seen (written_records form (puts content.pairs)) sink.old sink.new) }
+    ensures err { (content : Content) → IsFileOf tree.now content → IfErr result (λ fault.
+        IsStoppedDump form (λ fault bytes. TookUntil W.seen fault bytes sink.old sink.new) fault
+        (puts content.pairs)) }
+{
+    match form {
+        RecordForm::Lines => write_lines(alloc, tree.leaves(), sink),
+        RecordForm::Records => match tree.write_records(sink) {
+            Ok(()) => Ok(()),
+            Err(WriteFault) => Err(RunFault::Write),
+        },
     }
 }

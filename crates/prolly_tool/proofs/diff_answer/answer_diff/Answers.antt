@@ -1,6 +1,6 @@
-use Rattle.std.proofs.Common.{◌≡◌, inl}
-use Rattle.prolly_tool.specs.Outputs.{TookAll, TookUntil}
-use Rattle.prolly_tool.proofs.DiffSteps.{compared, cut_off, shown_changes, stopped}
+use Rattle.std.proofs.Common.{inl}
+use Rattle.prolly_tool.proofs.Answering.{cut_off, stopped}
+use Rattle.prolly_tool.proofs.DiffSteps.{compared, shown_changes}
 use Rattle.prolly_tool.proofs.diff_answer.answer_diff.Goals as goal
 
 pub returns-in-Ok-write_changes-clause-ok : goal.returns-in-Ok-write_changes-clause-ok
@@ -15,10 +15,7 @@ returns-in-Ok-write_changes-clause-ok g c = λ honest honest'. inl (
 
 pub returns-clause-ok : goal.returns-clause-ok
 returns-clause-ok g c = λ honest honest'.
-    cut_off c.args.form _ _ _ _
-    (λ bytes. TookAll g.W.Sink.seen bytes c.args.sink.now c.write_changes.new.sink)
-    (λ fault bytes. TookUntil g.W.Sink.seen fault bytes c.args.sink.now c.write_changes.new.sink)
-    (c.write_changes.new.sink ≡ c.args.sink.now) c.of_fault-in-Err-write_changes.result
+    cut_off _ _ _ _ c.of_fault-in-Err-write_changes.result
     c.in-Err-write_changes.fault
     (compared _ _ _ _ _ _ c.new.result _ (c.in-Ok.ensures.same honest)
     (c.in-Ok-check.ensures.same honest') c.in-Ok.ensures.accepted c.in-Ok-check.ensures.accepted

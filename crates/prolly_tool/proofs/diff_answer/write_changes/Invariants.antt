@@ -3,8 +3,8 @@ use Rattle.prolly_tool.proofs.DiffSteps.{IsWritten}
 use Rattle.prolly_tool.proofs.diff_answer.write_changes.Given as goal
 
 abbrev pub invariant-loop-change : goal.invariant-loop-change
-invariant-loop-change g l = IsWritten l.fn.form l.fn.changes l.changes l.changed
-    (g.W.Sink.seen l.initial.sink) (g.W.Sink.seen l.sink)
+invariant-loop-change g l = IsWritten g.W.Sink.seen l.fn.form l.fn.changes l.changes l.changed
+    l.initial.sink l.sink
 
 abbrev pub decreases-loop-change : goal.decreases-loop-change
 decreases-loop-change g l = length l.changes.before + length l.changes.after

@@ -1,17 +1,17 @@
-//! How changes are written.
+//! How records are written.
 ghost use Rattle.std.specs.Prelude.{◌≡◌, ◌++◌, OnOk, IfOk};
 ghost use Rattle.std.specs.Option.{option_copied};
 ghost use Rattle.prolly_entry.specs.Record.{IsRecord};
 ghost use Rattle.prolly_entry.specs.Spelling.{record_spelling};
-ghost use Rattle.prolly_tool.specs.Diff.{record_line, spelled};
+ghost use Rattle.prolly_tool.specs.RecordForms.{record_line, spelled};
 
 use crate::line_parts::append_hex;
 use prolly_entry::{Pair, Record, append_record};
 use std::alloc::{AllocError, Global};
 
-/// How `diff` writes a change: the value that is put at a key, or that the key is removed.
+/// How records are written: the value that is put at a key, or that the key is removed.
 #[derive(Clone, Copy, Debug, PartialEq, Eq)]
-pub enum DiffForm {
+pub enum RecordForm {
     /// A line of text, as `pack` reads it: the key in hexadecimal, a space, and the value in
     /// hexadecimal or a dash.
     Lines,
@@ -23,7 +23,7 @@ pub enum DiffForm {
 pub(crate) fn append_change(
     alloc: Global,
     out: &mut Vec<u8>,
-    form: DiffForm,
+    form: RecordForm,
     key: &[u8],
     value: Option<&[u8]>,
 ) -> Result<(), AllocError>
@@ -32,13 +32,13 @@ pub(crate) fn append_change(
         (record { key = key.now; value = option_copied value.entry })) }
 {
     match form {
-        DiffForm::Lines => append_line(alloc, out, key, value),
-        DiffForm::Records => append_record(out, &record_of(alloc, key, value)?),
+        RecordForm::Lines => append_line(alloc, out, key, value),
+        RecordForm::Records => append_record(out, &record_of(alloc, key, value)?),
     }
 }
 
 /// Appends the line of a change.
-fn append_line(
+pub(crate) fn append_line(
     alloc: Global,
     out: &mut Vec<u8>,
     key: &[u8],

@@ -1,0 +1,119 @@
+-- Writing the pairs of leaves as lines, leaf by leaf.
+use Rattle.std.proofs.Common.{◌≡◌, ℕ, true, List, [], ◌∷◌, ◌++◌, Some, Ok, Err, refl, sym, ap}
+use Rattle.std.proofs.Common.{◌∙◌, subst, append_assoc, append-nil}
+use Rattle.std.proofs.lemmas.List.Folds.{flat_map-map}
+use Rattle.prolly_entry.specs.Pair.{Pair}
+use Rattle.prolly_entry.specs.Record.{Record}
+use Rattle.prolly_file.specs.Failures.{after_failure}
+use Rattle.prolly_file.specs.Sink.{SinkView}
+use Rattle.prolly_file.specs.Writes.{Writes}
+use Rattle.prolly_fault.specs.declared.fault.RunFault.TheVariants.{Write}
+use Rattle.prolly_tree.specs.Difference.{puts}
+use Rattle.prolly_tree.specs.RecordFile.{record_file}
+use Rattle.prolly_tool.specs.declared.record_form.RecordForm.{RecordForm}
+use Rattle.prolly_tool.specs.declared.record_form.RecordForm.TheVariants.{Lines, Records}
+use Rattle.prolly_tool.specs.Dump.{IsStoppedDump, MayStop, RecordFilesAreDumped}
+use Rattle.prolly_tool.specs.Outputs.{TookAll, TookPart, TookPrefix, TookUntil}
+use Rattle.prolly_tool.specs.RecordForms.{record_line, spelled, written_records}
+use Rattle.prolly_tool.proofs.Writing.{TookSoFar, took_none, took_more, took_front, took_until}
+use Rattle.prolly_tool.proofs.Writing.{flushed, unflushed, wrote_all, wrote_part}
+
+-- The record that puts a pair.
+abbrev pub put_of : Pair → Record
+put_of p = record { key = p.key; value = Some p.value }
+
+pub record_files_are_dumped : RecordFilesAreDumped
+record_files_are_dumped m = flat_map-map (spelled Records) put_of m
+
+-- ---- a record file
+
+module _ {W : Type 0} (seen : W → SinkView) (form : RecordForm) (is : form ≡ Records)
+    (m : List Pair) (old new : W) where
+  same_bytes : record_file m ≡ written_records form (puts m)
+  same_bytes = subst (λ f. record_file m ≡ written_records f (puts m)) (sym is)
+      (sym (record_files_are_dumped m))
+
+  pub file_dumped : {T E : Type 0} (x : T) →
+      Writes {T = T} {E = E} (record_file m) (seen old) (seen new) (Ok x) →
+      TookAll seen (written_records form (puts m)) old new
+  file_dumped x w = subst (λ bytes. TookAll seen bytes old new) same_bytes
+      (wrote_all seen x (record_file m) old new w)
+
+  pub file_stopped : {T E : Type 0} (x : E) →
+      Writes {T = T} {E = E} (record_file m) (seen old) (seen new) (Err x) →
+      IsStoppedDump form (λ fault bytes. TookUntil seen fault bytes old new) Write (puts m)
+  file_stopped x w = (
+    subst (λ f. MayStop f Write) (sym is) refl,
+    subst (λ bytes. TookPart seen bytes old new) same_bytes
+        (wrote_part seen x (record_file m) old new w),
+  )
+
+-- ---- lines
+
+-- A line for each pair.
+abbrev pub lines_file : List Pair → List ℕ
+lines_file ps = written_records Lines (puts ps)
+
+lines_append : (ps qs : List Pair) → lines_file (ps ++ qs) ≡ lines_file ps ++ lines_file qs
+lines_append [] qs = refl
+lines_append (p ∷ ps) qs =
+    ap (λ bytes. record_line (put_of p) ++ bytes) (lines_append ps qs) ∙
+    sym (append_assoc (record_line (put_of p)) (lines_file ps) (lines_file qs))
+
+-- ---- leaf by leaf
+
+-- Of all pairs these are left, and a line was written for each of those before them.
+pub record AreListed {W : Type 0} (seen : W → SinkView) (pairs left : List Pair) (old new : W)
+    : Type 0 where
+  pub done : List Pair
+  pub all : pairs ≡ done ++ left
+  pub took : TookSoFar seen (lines_file done) old new
+
+module _ {W : Type 0} (seen : W → SinkView) where
+  pub none_listed : (pairs : List Pair) (old : W) → AreListed seen pairs pairs old old
+  none_listed pairs old = record { done = []; all = refl; took = took_none seen old }
+
+  module _ (pairs left : List Pair) (old mid : W) (l : AreListed seen pairs left old mid) where
+    all_lines : lines_file pairs ≡ lines_file l.done ++ lines_file left
+    all_lines = ap lines_file l.all ∙ lines_append l.done left
+
+    pub leaf_stopped : TookPrefix seen (lines_file pairs) old mid
+    leaf_stopped = took_front seen (lines_file l.done) old mid l.took (lines_file pairs)
+        (lines_file left) all_lines
+
+    -- One leaf more.
+    module _ (leaf rest : List Pair) (split : left ≡ leaf ++ rest) (new : W) where
+      pub one_listed : {T E : Type 0} (x : T) →
+          Writes {T = T} {E = E} (lines_file leaf) (seen mid) (seen new) (Ok x) →
+          AreListed seen pairs rest old new
+      one_listed x w = record {
+        done = l.done ++ leaf;
+        all = l.all ∙ ap (λ ps. l.done ++ ps) split ∙ sym (append_assoc l.done leaf rest);
+        took = subst (λ bytes. TookSoFar seen bytes old new) (sym (lines_append l.done leaf))
+            (took_more seen (lines_file l.done) old mid l.took x (lines_file leaf) new w);
+      }
+
+      pub leaf_failed : {T E : Type 0} (x : E) →
+          Writes {T = T} {E = E} (lines_file leaf) (seen mid) (seen new) (Err x) →
+          TookPart seen (lines_file pairs) old new
+      leaf_failed x w = took_until seen (lines_file l.done) old mid l.took x (lines_file pairs)
+          (lines_file leaf) (lines_file rest) new
+          (all_lines ∙ ap (λ bytes. lines_file l.done ++ bytes)
+          (ap lines_file split ∙ lines_append leaf rest)) w
+
+    -- The end.
+    module _ (none : left ≡ []) (new : W) (same : (seen mid).is_keeping ≡ true →
+        (seen new).taken ≡ (seen mid).taken) where
+      done_all : lines_file l.done ≡ lines_file pairs
+      done_all = ap lines_file (sym (append-nil l.done) ∙ ap (λ ps. l.done ++ ps) (sym none) ∙
+          sym l.all)
+
+      pub all_listed : (seen new).failures ≡ (seen mid).failures →
+          TookAll seen (lines_file pairs) old new
+      all_listed counted = subst (λ bytes. TookAll seen bytes old new) done_all
+          (flushed seen (lines_file l.done) old mid l.took new same counted)
+
+      pub list_unflushed : (seen new).failures ≡ after_failure (seen mid).failures →
+          TookPart seen (lines_file pairs) old new
+      list_unflushed counted = subst (λ bytes. TookPart seen bytes old new) done_all
+          (unflushed seen (lines_file l.done) old mid l.took new same counted)

@@ -1,0 +1,11 @@
+use Rattle.prolly_tool.proofs.DumpSteps.{file_dumped, file_stopped}
+use Rattle.prolly_tool.proofs.dump_answer.write_pairs.Goals as goal
+
+pub returns-in-Ok-clause-ok : goal.returns-in-Ok-clause-ok
+returns-in-Ok-clause-ok g c = λ content is. file_dumped g.W.Sink.seen c.args.form c.in-Records.is
+    content.pairs c.args.sink.now c.write_records.new.sink _ (c.in-Ok.ensures content is)
+
+pub returns-in-Err-clause-err : goal.returns-in-Err-clause-err
+returns-in-Err-clause-err g c = λ content is. file_stopped g.W.Sink.seen c.args.form
+    c.in-Records.is content.pairs c.args.sink.now c.write_records.new.sink _
+    (c.in-Err.ensures content is)

@@ -1,0 +1,52 @@
+//! Writing the pairs of a chunk file as lines of text.
+ghost use Rattle.std.specs.Prelude.{◌≡◌, ◌++◌, OnOk, IfErr};
+ghost use Rattle.prolly_tree.specs.Difference.{puts};
+ghost use Rattle.prolly_tool.specs.Outputs.{TookAll, TookUntil};
+ghost use Rattle.prolly_tool.specs.RecordForms.{written_records};
+ghost use Rattle.prolly_tool.specs.declared.record_form.RecordForm.TheVariants.{Lines};
+
+use crate::record_form::append_line;
+use prolly_check::{Leaves, Pairs};
+use prolly_fault::RunFault;
+use prolly_file::{Sink, write_all};
+use std::alloc::{AllocError, Global};
+
+/// Writes a line for each pair of the leaves to a sink, and flushes it.
+///
+/// The lines of a leaf are put together in memory, and written in a call of the sink.
+pub(crate) fn write_lines<W: Sink>(
+    alloc: Global,
+    mut leaves: Leaves,
+    sink: &mut W,
+) -> Result<(), RunFault>
+    ensures ok { OnOk result (TookAll W.seen (written_records Lines (puts leaves.entry))
+        sink.old sink.new) }
+    ensures err { IfErr result (λ fault. TookUntil W.seen fault
+        (written_records Lines (puts leaves.entry)) sink.old sink.new) }
+{
+    let mut lines = Vec::new(alloc);
+    while let Some(leaf) = leaves.next() {
+        lines.clear();
+        let Ok(()) = append_lines(alloc, &mut lines, leaf) else {
+            return Err(RunFault::Memory);
+        };
+        let Ok(()) = write_all(sink, &lines) else {
+            return Err(RunFault::Write);
+        };
+    }
+    match sink.flush() {
+        Ok(()) => Ok(()),
+        Err(_) => Err(RunFault::Write),
+    }
+}
+
+/// Appends a line for each of the pairs.
+fn append_lines(alloc: Global, lines: &mut Vec<u8>, mut pairs: Pairs) -> Result<(), AllocError>
+    ensures { OnOk result (lines.new.items ≡ lines.old.items ++
+        written_records Lines (puts pairs.entry)) }
+{
+    while let Some((key, value)) = pairs.next() {
+        append_line(alloc, lines, key, Some(value))?;
+    }
+    Ok(())
+}
