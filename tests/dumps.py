@@ -31,12 +31,7 @@ def kinds():
 
 def cases(_):
     """All cases of one run."""
-    return [case for kind in kinds() for case in written(*kind)] + refused()
-
-
-def text_cases():
-    """All cases of one run with `--text`."""
-    return [case for kind in kinds() for case in told(*kind)] + refused_texts()
+    return [case for kind in kinds() for case in written(*kind) + told(*kind)] + refused() + refused_texts()
 
 
 def written(name, pairs, bits, version):
@@ -150,13 +145,8 @@ def all_runs(program, _):
     """Runs the chains, each in a folder of its own, and gives for each its name and its differences."""
     for name, *kind in kinds():
         yield f"dump, and again: {name}", chained(program, lambda place, kind=kind: makes_the_file(place, *kind))
-    yield "dump, and changes", chained(program, takes_changes)
-
-
-def text_runs(program):
-    """The same with `--text`."""
-    for name, *kind in kinds():
         yield f"dump --text, and pack: {name}", chained(program, lambda place, kind=kind: packs_to_the_record_file(place, *kind))
+    yield "dump, and changes", chained(program, takes_changes)
     yield "dump --text, 1,000,001 pairs", chained(program, has_no_limit)
 
 

@@ -13,7 +13,8 @@ import time
 from functools import partial
 from pathlib import Path
 
-from diffs import difference, lines
+from diffs import difference
+from dumps import lines
 from place import DONE, Place, compiled
 from scratch import ABC, numbered
 from trees import END_SIZE, chunk_file, records, report, root_text
@@ -33,6 +34,7 @@ WRITERS = {
     "scratch": (["scratch", "--bits", "0", "--out", "out"], records(ABC), TREE, (0, root_text(ABC, 0), b"")),
     "pack": (["pack", "out"], TEXT, A, (0, b"2\n", b"")),
     "dump": (["dump", "abc.prl", "out"], None, records(ABC), (0, b"", b"")),
+    "dump --text": (["dump", "--text", "abc.prl", "out"], None, lines(ABC), (0, b"", b"")),
     "diff": (["diff", "old.prl", "abc.prl", "--out", "out"], None, records(CHANGES), (1, b"", b"")),
 }
 """The commands that write OUT: their words, their standard input, what they make, and their answer."""
@@ -42,6 +44,7 @@ FAULTS = {
     "scratch": (["scratch", "--bits", "0", "--out", "out"], b"\0", 3, b"prolly: file 0: record 0 is cut\n"),
     "pack": (["pack", "out"], b"6\n", 3, b"prolly: line 0: not a pair in hexadecimal\n"),
     "dump": (["dump", "cut.prl", "out"], None, 4, b"prolly: chunk file: truncated\n"),
+    "dump --text": (["dump", "--text", "cut.prl", "out"], None, 4, b"prolly: chunk file: truncated\n"),
     "diff": (["diff", "old.prl", "cut.prl", "--out", "out"], None, 4, b"prolly: new chunk file: truncated\n"),
 }
 """The same over inputs that are at fault: their words, their standard input, and the status and line of the fault."""
@@ -530,7 +533,7 @@ def inputs_written():
         pairs_of_files = [[file, "old.prl"], ["old.prl", file]]
         for words in (["dump", *flags, file, out], *(["diff", *flags, *two, "--out", out] for two in pairs_of_files)):
             yield f"OUT is a chunk file: {' '.join(words)}", partial(is_a_chunk_file, words=words, name=file.encode())
-    for words in (["dump", "in.prl"], ["diff", "in.prl", "old.prl"], ["diff", "old.prl", "in.prl"]):
+    for words in (["dump", "in.prl"], ["diff", "in.prl", "old.prl"], ["diff", "old.prl", "in.prl"], ["dump", "--text", "in.prl"]):
         yield f"standard output is a chunk file: {' '.join(words)}", partial(is_printed_to_itself, words=words)
     for words in (["pack", "in.rec"], ["scratch", "--out", "in.rec"], ["scratch", "--atomic", "--out", "in.rec"], ["build", "in.rec", "/dev/stdin"]):
         yield f"OUT is standard input: {' '.join(words)}", partial(is_standard_input, words=words)
@@ -574,6 +577,7 @@ def interrupted():
         (["scan", "abc.prl", "62", "1"], b"62 31\n", 0),
         (["nth", "abc.prl", "0"], b"61 31\n", 0),
         (["dump", "abc.prl"], records(ABC), 0),
+        (["dump", "--text", "abc.prl"], lines(ABC), 0),
         (["diff", "old.prl", "abc.prl"], lines(CHANGES), 1),
     ]
     for words, out, status in read:
@@ -594,12 +598,13 @@ def in_part():
     pairs = numbered(MANY)
     tree, rec = chunk_file(pairs, 2), records(pairs)
     yield "no write of a build after a failed one", partial(no_write_after_a_failed_one, words=["build", "--bits", "2", "out", "a.rec"], begun=tree[:-END_SIZE], whole=tree)
-    for words in (["dump", "a.prl", "out"], ["diff", "none.prl", "a.prl", "--out", "out"]):
-        yield f"no write of a {words[0]} after a failed one", partial(no_write_after_a_failed_one, words=words, begun=rec, whole=rec)
+    text = lines(pairs)
+    for words, whole in ((["dump", "a.prl", "out"], rec), (["dump", "--text", "a.prl", "out"], text), (["diff", "none.prl", "a.prl", "--out", "out"], rec)):
+        yield f"no write after a failed one: {' '.join(words)}", partial(no_write_after_a_failed_one, words=words, begun=whole, whole=whole)
     first = lines(pairs[:1])
-    for words, reader, taken in (("scan big.prl '' 1000000", "head -1", first), ("diff none.prl big.prl", "head -1", first), ("dump big.prl", "head -c 1", rec[:1])):
+    for words, reader, taken in (("scan big.prl '' 1000000", "head -1", first), ("diff none.prl big.prl", "head -1", first), ("dump --text big.prl", "head -1", first), ("dump big.prl", "head -c 1", rec[:1])):
         yield f"nobody reads on: {words} | {reader}", partial(is_read_in_part, words=words, reader=reader, taken=taken)
-    for words in (["build", "/dev/full", "in.rec"], ["scratch", "--out", "/dev/full"], ["dump", "in.prl", "/dev/full"], ["diff", "none.prl", "in.prl", "--out", "/dev/full"]):
+    for words in (["build", "/dev/full", "in.rec"], ["scratch", "--out", "/dev/full"], ["dump", "in.prl", "/dev/full"], ["dump", "--text", "in.prl", "/dev/full"], ["diff", "none.prl", "in.prl", "--out", "/dev/full"]):
         yield f"a full device: {' '.join(words)}", partial(is_full, words=words)
 
 

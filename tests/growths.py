@@ -7,7 +7,8 @@ import tempfile
 from dataclasses import dataclass, field
 from pathlib import Path
 
-from diffs import difference, lines
+from diffs import difference
+from dumps import lines
 from harness import NO_THREAD, SCARCE, file_differences, lay_out, shown
 from scratch import ABC
 from trees import END_SIZE, begun_file, chunk_file, overlay, record, records, report, root_text
@@ -72,6 +73,8 @@ def commands():
         Command("scan", ["scan", "abc.prl", "62", "5"], out=b"62 31\n63 31\n", before=reads),
         Command("nth", ["nth", "counted.prl", "2"], out=b"63 31\n", before=reads),
         Command("dump", ["dump", "abc.prl"], out=records(ABC), before=reads),
+        Command("dump --text", ["dump", "--text", "abc.prl"], out=lines(ABC), before=reads),
+        Command("dump --text to a file", ["dump", "--text", "abc.prl", "out.txt"], before=reads, made="out.txt", whole=lines(ABC)),
         Command("dump to a file", ["dump", "abc.prl", "out.rec"], before=reads, made="out.rec", whole=records(ABC)),
         Command("diff", ["diff", "old.prl", "abc.prl"], status=1, out=lines(CHANGES), before=both),
         Command("diff of equal maps", ["diff", "counted.prl", "abc.prl"], before=reads),

@@ -4,7 +4,8 @@ import random
 import sys
 
 from damaged import lawful_or_fault
-from diffs import difference, lines
+from diffs import difference
+from dumps import lines
 from harness import Case
 from readings import merged, packed, read, stop_of
 from trees import REMOVED, begun_file, chunk_file, overlay, record, records, reference_text, report, root_text, tall_file, tree
@@ -237,14 +238,15 @@ def a_chunk_file(chance, pairs):
 
 
 def dump(chance):
-    """A chunk file, which may be damaged, to a record file."""
+    """A chunk file, which may be damaged, to a record file or to lines."""
     pairs = some_pairs(chance)
     content, fault = a_chunk_file(chance, pairs)
     status = 0 if fault is None else 4
-    before, after, flags = written(chance, "out.rec", b"" if fault else records(pairs), status)
+    words, form = chance.choice([([], records), (["--text"], lines)])
+    before, after, flags = written(chance, "out", b"" if fault else form(pairs), status)
     return Case(
         "",
-        ["dump", *flags, "in.prl", "out.rec"],
+        ["dump", *words, *flags, "in.prl", "out"],
         status=status,
         err=b"prolly: chunk file: " + fault + b"\n" if fault else b"",
         before={"in.prl": content} | before,
@@ -263,11 +265,12 @@ def diff(chance):
         if fault is not None:
             status, error, found = 4, b"prolly: " + which + b" chunk file: " + fault + b"\n", []
     is_written = chance.random() < 0.5
+    words = ["--out", "out.rec"] if is_written else []
     # `written` takes each status for a fault but 0.
     before, after, flags = written(chance, "out.rec", records(found) if is_written else None, status if error else 0)
     return Case(
         "",
-        ["diff", *flags, "old.prl", "new.prl", *(["--out", "out.rec"] if is_written else [])],
+        ["diff", *words, *flags, "old.prl", "new.prl"],
         status=status,
         out=b"" if is_written else lines(found),
         err=error,
