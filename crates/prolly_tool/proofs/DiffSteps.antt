@@ -1,7 +1,8 @@
 -- Writing a difference record by record.
-use Rattle.std.proofs.Common.{◌≡◌, ℕ, ◌≤◌, Bool, true, false, cond, List, [], ◌∷◌, ◌++◌, length}
-use Rattle.std.proofs.Common.{Option, Some, None, Ok, Err, refl, sym, ap, ◌∙◌, subst}
-use Rattle.std.proofs.Common.{append_assoc, append-nil}
+use Rattle.std.proofs.Common.{◌≡◌, ◌≢◌, ◌⊎◌, inl, inr, ℕ, ◌+◌, ◌<◌, ◌≤◌, ◌^◌, Bool, true, false}
+use Rattle.std.proofs.Common.{cond, List, [], ◌∷◌, ◌++◌, length, Option, Some, None, Result, Ok}
+use Rattle.std.proofs.Common.{Err, refl, sym, ap, ◌∙◌, subst, arith, append_assoc, append-nil}
+use Rattle.std.proofs.Common.{length-append}
 use Rattle.std.proofs.lemmas.List.Concat.{flat_map-append}
 use Rattle.std.specs.List.{AllByRecursion}
 use Rattle.std.specs.Ordering.{is_eq}
@@ -18,18 +19,25 @@ use Rattle.prolly_file.specs.Failures.{after_failure}
 use Rattle.prolly_file.specs.Sink.{SinkView}
 use Rattle.prolly_file.specs.Writes.{Writes}
 use Rattle.prolly_diff.specs.Walk.{Maps, AreMaps, IsFirstChange}
+use Rattle.std.specs.Prelude.{IfOk, OnErr}
 use Rattle.prolly_check.specs.Checked.{IsFile}
 use Rattle.prolly_check.specs.Content.{Content}
 use Rattle.prolly_check.specs.Verdict.{IsFileOf}
+use Rattle.prolly_check.proofs.FewPairs.{few_pairs}
+use Rattle.prolly_fault.specs.declared.fault.RunFault.TheVariants.{Memory, Write}
 use Rattle.prolly_tool.specs.declared.answer.Answer.{Answer}
+use Rattle.prolly_tool.specs.declared.change_counts.ChangeCounts.{ChangeCounts}
 use Rattle.prolly_tool.specs.declared.record_form.RecordForm.{RecordForm}
-use Rattle.prolly_tool.specs.Diff.{AreCompared, HasDifference, ShowsDiff, are_some}
+use Rattle.prolly_tool.specs.Counts.{AreCounts}
+use Rattle.prolly_tool.specs.Diff.{AreCompared, AreStopped, AreWritten, HasDifference}
+use Rattle.prolly_tool.specs.Diff.{HaveChanges, ShowsDiff}
 use Rattle.prolly_tool.specs.LookUps.{file_limit}
-use Rattle.prolly_tool.specs.Outputs.{TookAll, TookPart, TookPrefix}
-use Rattle.prolly_tool.specs.RecordForms.{spelled, written_records}
+use Rattle.prolly_tool.specs.Outputs.{IsStopped, TookAll, TookPrefix, TookUntil}
+use Rattle.prolly_tool.specs.RecordForms.{spelled, spelled_in, written_records}
 use Rattle.prolly_tool.proofs.Answering.{looked_up}
 use Rattle.prolly_tool.proofs.Writing.{TookSoFar, took_none, took_more, took_front, took_until}
-use Rattle.prolly_tool.proofs.Writing.{flushed, unflushed}
+use Rattle.prolly_tool.proofs.Writing.{flushed, other_failures, unflushed}
+use Rattle.prolly_tool.proofs.Counting.{all_counted}
 
 -- ---- the records of a difference are lawful
 
@@ -92,149 +100,287 @@ record_short old new done r rest h k is =
 
 -- ---- under way
 
+-- The records were written, and no call of the sink failed; or there is no form, and nothing was.
+abbrev pub TookIn : {W : Type 0} → (W → SinkView) → Option RecordForm → List Record → W → W →
+    Type 0
+TookIn seen None records old new = new ≡ old
+TookIn seen (Some form) records old new = TookSoFar seen (written_records form records) old new
+
 -- Some records were written, and those of the maps that are left follow.
-pub record IsWritten {W : Type 0} (seen : W → SinkView) (form : RecordForm) (all left : Maps)
-    (changed : Bool) (old new : W) : Type 0 where
+pub record IsWritten {W : Type 0} (seen : W → SinkView) (form : Option RecordForm)
+    (all left : Maps) (counts : ChangeCounts) (old new : W) : Type 0 where
   pub done : List Record
   pub goes_on : (d : List Record) → IsDifference left.before left.after d →
       IsDifference all.before all.after (done ++ d)
   pub maps : AreMaps left
-  pub took : TookSoFar seen (written_records form done) old new
-  pub changed_is : changed ≡ are_some done
+  pub took : TookIn seen form done old new
+  pub counted : AreCounts all.before done counts
+  pub few : length done + (length left.before + length left.after) ≤
+      length all.before + length all.after
 
-some_last : (done : List Record) (r : Record) → true ≡ are_some (done ++ r ∷ [])
-some_last [] r = refl
-some_last (s ∷ done) r = refl
+took_nothing : {W : Type 0} (seen : W → SinkView) (form : Option RecordForm) (old : W) →
+    TookIn seen form [] old old
+took_nothing seen None old = refl
+took_nothing seen (Some form) old = took_none seen old
 
-module _ {W : Type 0} (seen : W → SinkView) (form : RecordForm) (all : Maps) where
-  pub none_written : (old : W) → AreMaps all → IsWritten seen form all all false old old
-  none_written old maps = record {
+module _ {W : Type 0} (seen : W → SinkView) (form : Option RecordForm) (all : Maps) where
+  pub none_written : (old : W) (counts : ChangeCounts) → AreMaps all →
+      ((pairs : List Pair) → AreCounts pairs [] counts) →
+      IsWritten seen form all all counts old old
+  none_written old counts maps none = record {
     done = [];
     goes_on = λ d is. is;
     maps = maps;
-    took = took_none seen old;
-    changed_is = refl;
+    took = took_nothing seen form old;
+    counted = none all.before;
+    few = omega arith;
   }
 
-  -- ---- one change more
+-- ---- one change more
 
-  module _ (left rest : Maps) (changed : Bool) (key : List ℕ) (before after : Option (List ℕ))
-      (first : IsFirstChange left key before after rest) (old mid : W)
-      (w : IsWritten seen form all left changed old mid) where
-    abbrev own : Record
-    own = record { key = key; value = after }
+one_more : (form : RecordForm) (done : List Record) (own : Record) →
+    written_records form (done ++ own ∷ []) ≡ written_records form done ++ spelled form own
+one_more form done own = flat_map-append (spelled form) done (own ∷ []) ∙
+    ap (λ bytes. written_records form done ++ bytes) (append-nil (spelled form own))
 
-    abbrev later : List Record
-    later = (some_difference rest.before rest.after first.left.0 first.left.1).0
+all_parts : (form : RecordForm) (done : List Record) (own : Record) (later : List Record) →
+    written_records form (done ++ own ∷ later) ≡
+    written_records form done ++ (spelled form own ++ written_records form later)
+all_parts form done own later = flat_map-append (spelled form) done (own ∷ later)
 
-    whole : IsDifference all.before all.after (w.done ++ own ∷ later)
-    whole = w.goes_on (own ∷ later) (first.begins later
-        (some_difference rest.before rest.after first.left.0 first.left.1).1)
+module _ {W : Type 0} (seen : W → SinkView) (done : List Record) (own : Record)
+    (old mid new : W) where
+  took_one : {T E : Type 0} (form : Option RecordForm) (x : T) → TookIn seen form done old mid →
+      Writes {T = T} {E = E} (spelled_in form own) (seen mid) (seen new) (Ok x) →
+      (spelled_in form own ≡ [] → new ≡ mid) → TookIn seen form (done ++ own ∷ []) old new
+  took_one None x took writes nothing = nothing refl ∙ took
+  took_one (Some form) x took writes nothing =
+      subst (λ bytes. TookSoFar seen bytes old new) (sym (one_more form done own))
+      (took_more seen (written_records form done) old mid took x (spelled form own) new writes)
 
-    pub change_lawful : AllByRecursion IsPair all.before → AllByRecursion IsPair all.after →
-        IsRecord own
-    change_lawful h k = record_short all.before all.after w.done own later h k whole
+  -- Want of memory stops only what is to be written.
+  stopped_before : (form : Option RecordForm) (later : List Record) → form ≢ None →
+      TookIn seen form done old mid →
+      AreStopped form (λ fault bytes. TookUntil seen fault bytes old mid) Memory
+      (done ++ own ∷ later)
+  stopped_before None later some took = absurd (some refl)
+  stopped_before (Some form) later some took = took_front seen (written_records form done) old mid
+      took (written_records form (done ++ own ∷ later)) (written_records form (own ∷ later))
+      (all_parts form done own later)
 
-    one_more : written_records form (w.done ++ own ∷ []) ≡
-        written_records form w.done ++ spelled form own
-    one_more = flat_map-append (spelled form) w.done (own ∷ []) ∙
-        ap (λ bytes. written_records form w.done ++ bytes) (append-nil (spelled form own))
+  -- And so does a failed write.
+  stopped_within : {T E : Type 0} (form : Option RecordForm) (later : List Record) (x : E) →
+      TookIn seen form done old mid →
+      Writes {T = T} {E = E} (spelled_in form own) (seen mid) (seen new) (Err x) →
+      (spelled_in form own ≡ [] → new ≡ mid) →
+      AreStopped form (λ fault bytes. TookUntil seen fault bytes old new) Write
+      (done ++ own ∷ later)
+  stopped_within None later x took writes nothing = absurd (other_failures (seen mid).failures
+      (sym writes.failures ∙ ap (λ w. (seen w).failures) (nothing refl)))
+  stopped_within (Some form) later x took writes nothing =
+      took_until seen (written_records form done) old mid took x
+      (written_records form (done ++ own ∷ later)) (spelled form own)
+      (written_records form later) new (all_parts form done own later) writes
 
-    pub one_written : {T E : Type 0} (x : T) (new : W) →
-        Writes {T = T} {E = E} (spelled form own) (seen mid) (seen new) (Ok x) →
-        IsWritten seen form all rest true old new
-    one_written x new s = record {
-      done = w.done ++ own ∷ [];
-      goes_on = λ d is. subst (λ rs. IsDifference all.before all.after rs)
-          (sym (append_assoc w.done (own ∷ []) d)) (w.goes_on (own ∷ d) (first.begins d is));
-      maps = first.left;
-      took = subst (λ bytes. TookSoFar seen bytes old new) (sym one_more)
-          (took_more seen (written_records form w.done) old mid w.took x (spelled form own) new s);
-      changed_is = some_last w.done own;
-    }
+module _ {W : Type 0} (seen : W → SinkView) (form : Option RecordForm) (all left rest : Maps)
+    (counts : ChangeCounts) (key : List ℕ) (before after : Option (List ℕ))
+    (first : IsFirstChange left key before after rest) (old mid : W)
+    (w : IsWritten seen form all left counts old mid) where
+  abbrev own : Record
+  own = record { key = key; value = after }
 
-    -- ---- the faults
+  abbrev later : List Record
+  later = (some_difference rest.before rest.after first.left.0 first.left.1).0
 
-    all_parts : written_records form (w.done ++ own ∷ later) ≡
-        written_records form w.done ++ (spelled form own ++ written_records form later)
-    all_parts = flat_map-append (spelled form) w.done (own ∷ later)
+  whole : IsDifference all.before all.after (w.done ++ own ∷ later)
+  whole = w.goes_on (own ∷ later) (first.begins later
+      (some_difference rest.before rest.after first.left.0 first.left.1).1)
 
-    pub stopped_short : HasDifference all.before all.after
-        (λ records. TookPrefix seen (written_records form records) old mid)
-    stopped_short = record {
-      records = w.done ++ own ∷ later;
-      is = whole;
-      so = took_front seen (written_records form w.done) old mid w.took
-          (written_records form (w.done ++ own ∷ later)) (written_records form (own ∷ later))
-          all_parts;
-    }
+  pub change_lawful : AllByRecursion IsPair all.before → AllByRecursion IsPair all.after →
+      IsRecord own
+  change_lawful h k = record_short all.before all.after w.done own later h k whole
 
-    pub write_failed : {T E : Type 0} (x : E) (new : W) →
-        Writes {T = T} {E = E} (spelled form own) (seen mid) (seen new) (Err x) →
-        HasDifference all.before all.after
-        (λ records. TookPart seen (written_records form records) old new)
-    write_failed x new s = record {
-      records = w.done ++ own ∷ later;
-      is = whole;
-      so = took_until seen (written_records form w.done) old mid w.took x
-          (written_records form (w.done ++ own ∷ later)) (spelled form own)
-          (written_records form later) new all_parts s;
-    }
+  pub room_for_one : length all.before + length all.after + 1 < 2 ^ 64 →
+      counts.added + counts.changed + counts.removed + 1 < 2 ^ 64
+  room_for_one few = let n = all_counted all.before w.done counts w.counted in
+      let m = w.few in let l = first.less in omega arith
 
-  -- ---- the end
+  pub one_written : {T E : Type 0} (x : T) (new : W) (more : ChangeCounts) →
+      ((records : List Record) → AreCounts all.before records counts →
+      AreCounts all.before (records ++ own ∷ []) more) →
+      Writes {T = T} {E = E} (spelled_in form own) (seen mid) (seen new) (Ok x) →
+      (spelled_in form own ≡ [] → new ≡ mid) → IsWritten seen form all rest more old new
+  one_written x new more counted writes nothing = record {
+    done = w.done ++ own ∷ [];
+    goes_on = λ d is. subst (λ rs. IsDifference all.before all.after rs)
+        (sym (append_assoc w.done (own ∷ []) d)) (w.goes_on (own ∷ d) (first.begins d is));
+    maps = first.left;
+    took = took_one seen w.done own old mid new form x w.took writes nothing;
+    counted = counted w.done w.counted;
+    few = let m = w.few in let l = first.less in
+        omega (arith, length-append w.done (own ∷ []));
+  }
 
-  module _ (left : Maps) (changed : Bool) (old mid : W)
-      (w : IsWritten seen form all left changed old mid)
-      (none : IsDifference left.before left.after []) (new : W)
-      (same : (seen mid).is_keeping ≡ true → (seen new).taken ≡ (seen mid).taken) where
-    all_done : IsDifference all.before all.after w.done
-    all_done = subst (λ rs. IsDifference all.before all.after rs) (append-nil w.done)
-        (w.goes_on [] none)
+  pub stopped_short : form ≢ None → HasDifference all.before all.after
+      (AreStopped form (λ fault bytes. TookUntil seen fault bytes old mid) Memory)
+  stopped_short some = record {
+    records = w.done ++ own ∷ later;
+    is = whole;
+    so = stopped_before seen w.done own old mid mid form later some w.took;
+  }
 
+  pub write_failed : {T E : Type 0} (x : E) (new : W) →
+      Writes {T = T} {E = E} (spelled_in form own) (seen mid) (seen new) (Err x) →
+      (spelled_in form own ≡ [] → new ≡ mid) → HasDifference all.before all.after
+      (AreStopped form (λ fault bytes. TookUntil seen fault bytes old new) Write)
+  write_failed x new writes nothing = record {
+    records = w.done ++ own ∷ later;
+    is = whole;
+    so = stopped_within seen w.done own old mid new form later x w.took writes nothing;
+  }
+
+-- ---- the end
+
+module _ {W : Type 0} (seen : W → SinkView) (form : Option RecordForm) (all left : Maps)
+    (counts : ChangeCounts) (old mid : W) (w : IsWritten seen form all left counts old mid)
+    (none : IsDifference left.before left.after []) where
+  all_done : IsDifference all.before all.after w.done
+  all_done = subst (λ rs. IsDifference all.before all.after rs) (append-nil w.done)
+      (w.goes_on [] none)
+
+  no_form : (f : RecordForm) → None ≡ Some f → ⊥
+  no_form f e = cc
+
+  abbrev AreAll : W → List Record → Type 0
+  AreAll new records =
+      AreWritten form (λ bytes. TookAll seen bytes old new) (new ≡ old) records ×
+      AreCounts all.before records counts
+
+  pub only_counted : form ≡ None → HasDifference all.before all.after (AreAll mid)
+  only_counted e = record {
+    records = w.done;
+    is = all_done;
+    so = (go form e w.took, w.counted);
+  }
+    where
+      go : (f : Option RecordForm) → f ≡ None → TookIn seen f w.done old mid →
+          AreWritten f (λ bytes. TookAll seen bytes old mid) (mid ≡ old) w.done
+      go None e took = took
+      go (Some f) e took = absurd (no_form f (sym e))
+
+  module _ (new : W) (same : (seen mid).is_keeping ≡ true → (seen new).taken ≡ (seen mid).taken)
+      (own_form : RecordForm) (some : form ≡ Some own_form) where
     pub all_written : (seen new).failures ≡ (seen mid).failures →
-        HasDifference all.before all.after (λ records.
-        TookAll seen (written_records form records) old new × (changed ≡ are_some records))
+        HasDifference all.before all.after (AreAll new)
     all_written counted = record {
       records = w.done;
       is = all_done;
-      so = (
-        flushed seen (written_records form w.done) old mid w.took new same counted,
-        w.changed_is,
-      );
+      so = (go form some w.took, w.counted);
     }
+      where
+        go : (f : Option RecordForm) → f ≡ Some own_form → TookIn seen f w.done old mid →
+            AreWritten f (λ bytes. TookAll seen bytes old new) (new ≡ old) w.done
+        go None e took = absurd (no_form own_form e)
+        go (Some f) e took = flushed seen (written_records f w.done) old mid took new same counted
 
     pub flush_failed : (seen new).failures ≡ after_failure (seen mid).failures →
         HasDifference all.before all.after
-        (λ records. TookPart seen (written_records form records) old new)
+        (AreStopped form (λ fault bytes. TookUntil seen fault bytes old new) Write)
     flush_failed counted = record {
       records = w.done;
       is = all_done;
-      so = unflushed seen (written_records form w.done) old mid w.took new same counted;
+      so = go form some w.took;
     }
+      where
+        go : (f : Option RecordForm) → f ≡ Some own_form → TookIn seen f w.done old mid →
+            AreStopped f (λ fault bytes. TookUntil seen fault bytes old new) Write w.done
+        go None e took = absurd (no_form own_form e)
+        go (Some f) e took =
+            unflushed seen (written_records f w.done) old mid took new same counted
 
 -- ---- the answer
 
-pub shown_changes : (old new : List Pair) (took : List Record → Type 0) (changed : Bool)
-    (answer : Answer) → ShowsDiff answer changed →
-    HasDifference old new (λ records. took records × (changed ≡ are_some records)) →
-    HasDifference old new (λ records. took records × ShowsDiff answer (are_some records))
-shown_changes old new took changed answer shows h = record {
-  records = h.records;
-  is = h.is;
-  so = (h.so.0, subst (ShowsDiff answer) h.so.1 shows);
+took_before : {W : Type 0} (seen : W → SinkView) (bytes : List ℕ) (old new : W) →
+    TookAll seen bytes old new → TookPrefix seen bytes old new
+took_before seen bytes old new all = record {
+  unfailed = all.unfailed;
+  took = λ k. record {
+    part = bytes;
+    grown = all.took k;
+    is_prefix = ([], sym (append-nil bytes));
+  };
 }
 
--- Two files that a check accepted were compared.
-pub compared : (old new old_left new_left : List ℕ) (old_failed new_failed : Type 0) (maps : Maps)
-    (holds : List Record → Type 0) → old ≡ old_left → new ≡ new_left → IsFile old → IsFile new →
-    length old ≤ file_limit → length new ≤ file_limit → ¬ old_failed → ¬ new_failed →
-    ((content : Content) → IsFileOf old content → maps.before ≡ content.pairs) →
-    ((content : Content) → IsFileOf new content → maps.after ≡ content.pairs) →
-    HasDifference maps.before maps.after holds →
-    AreCompared old_left old_failed new_left new_failed holds
-compared old new old_left new_left old_failed new_failed maps holds olds news file other within
-    within' unfailed unfailed' befores afters h =
-    looked_up old old_left old_failed _ olds file within unfailed
-    (λ before is. looked_up new new_left new_failed _ news other within' unfailed'
-    (λ after is'. subst (λ m. HasDifference m after.pairs holds) (befores before is)
-    (subst (λ m. HasDifference maps.before m holds) (afters after is') h)))
+-- Two files that a check accepted, and the maps that are walked over.
+module _ (old new old_left new_left : List ℕ) (old_failed new_failed : Type 0) (maps : Maps)
+    (olds : old ≡ old_left) (news : new ≡ new_left) (file : IsFile old) (other : IsFile new)
+    (within : length old ≤ file_limit) (within' : length new ≤ file_limit)
+    (unfailed : ¬ old_failed) (unfailed' : ¬ new_failed)
+    (befores : (content : Content) → IsFileOf old content → maps.before ≡ content.pairs)
+    (afters : (content : Content) → IsFileOf new content → maps.after ≡ content.pairs) where
+  -- What holds of the difference of the maps is said of the files.
+  pub compared : (holds : Content → Content → List Record → Type 0) (so : List Record → Type 0) →
+      ((before after : Content) (records : List Record) → IsFileOf old before →
+      IsFileOf new after → so records → holds before after records) →
+      HasDifference maps.before maps.after so →
+      AreCompared old_left old_failed new_left new_failed holds
+  compared holds so says h =
+      looked_up old old_left old_failed _ olds file within unfailed
+      (λ before is. looked_up new new_left new_failed _ news other within' unfailed'
+      (λ after is'. record {
+        records = h.records;
+        is = subst (λ m. IsDifference m after.pairs h.records) (befores before is)
+            (subst (λ m. IsDifference maps.before m h.records) (afters after is') h.is);
+        so = says before after h.records is is' h.so;
+      }))
+
+  pub changes_so : (so : List Record → Type 0) → HasDifference maps.before maps.after so →
+      HaveChanges old_left old_failed new_left new_failed so
+  changes_so so h = compared (λ before after. so) so (λ before after records is is' h. h) h
+
+  pub all_shown : {E : Type 0} (result : Result Answer E) (written : List Record → Type 0)
+      (counts : ChangeCounts) (stat : Bool) (others : Answer → Type 0) →
+      IfOk result (λ answer. (before after : Content) (records : List Record) →
+      IsFileOf old before → IsFileOf new after → AreCounts before.pairs records counts →
+      ShowsDiff answer stat before after records) →
+      HasDifference maps.before maps.after
+      (λ records. written records × AreCounts maps.before records counts) →
+      IfOk result (λ answer. AreCompared old_left old_failed new_left new_failed
+      (λ before after records. written records × ShowsDiff answer stat before after records)
+      ⊎ others answer)
+  all_shown (Ok answer) written counts stat others shows h = inl (compared
+      (λ before after records. written records × ShowsDiff answer stat before after records)
+      (λ records. written records × AreCounts maps.before records counts)
+      (λ before after records is is' so. (
+        so.0,
+        shows before after records is is'
+            (subst (λ m. AreCounts m records counts) (befores before is) so.1),
+      )) h)
+  all_shown (Err e) written counts stat others shows h = tt
+
+  -- There is no memory for the line, once all is written.
+  pub unshown : {E W : Type 0} (result : Result Answer E) (seen : W → SinkView)
+      (form : Option RecordForm) (counted : List Record → Type 0) (sink sink' : W) →
+      HasDifference maps.before maps.after
+      (λ records. AreWritten form (λ bytes. TookAll seen bytes sink sink') (sink' ≡ sink) records ×
+      counted records) →
+      OnErr result ((sink' ≡ sink) ⊎ IsStopped (HaveChanges old_left old_failed new_left new_failed)
+      (AreStopped form (λ fault bytes. TookUntil seen fault bytes sink sink')))
+  unshown (Ok answer) seen form counted sink sink' h = tt
+  unshown (Err e) seen None counted sink sink' h = inl h.so.0
+  unshown (Err e) seen (Some form) counted sink sink' h = inr (record {
+    fault = Memory;
+    is = changes_so (λ records. TookPrefix seen (written_records form records) sink sink')
+        (record {
+          records = h.records;
+          is = h.is;
+          so = took_before seen (written_records form h.records) sink sink' h.so.0;
+        });
+  })
+
+  pub few_changes : length maps.before + length maps.after + 1 < 2 ^ 64
+  few_changes =
+      let few = few_pairs old file.content file.is in
+      let few' = few_pairs new other.content other.is in
+      let n = ap length (befores file.content file.is) in
+      let m = ap length (afters other.content other.is) in omega arith

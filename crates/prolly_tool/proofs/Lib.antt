@@ -12,5 +12,7 @@ pub mod Answering
 pub mod Writing
 -- Writing the pairs of leaves as lines, leaf by leaf.
 pub mod DumpSteps
+-- Counting the changes of a difference, record by record.
+pub mod Counting
 -- Writing a difference record by record.
 pub mod DiffSteps

@@ -19,7 +19,13 @@ pub own_writes : {T E : Type 0} (bytes items cleared own : List ℕ) (old new : 
 own_writes bytes items cleared own old new result e f g w =
     subst (λ b. Writes b old new result) (e ∙ (f ∙ ap (λ c. c ++ own) g)) w
 
-other_failures : (n : ℕ) → after_failure n ≢ n
+-- So nothing is written where nothing was appended.
+pub own_nothing : (bytes items cleared own : List ℕ) → bytes ≡ items → items ≡ cleared ++ own →
+    cleared ≡ [] → own ≡ [] → bytes ≡ []
+own_nothing bytes items cleared own e f g none =
+    e ∙ (f ∙ (ap (λ c. c ++ own) g ∙ none))
+
+pub other_failures : (n : ℕ) → after_failure n ≢ n
 other_failures n e = omega (arith, e)
 
 module _ {W : Type 0} (seen : W → SinkView) where

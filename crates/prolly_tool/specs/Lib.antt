@@ -22,5 +22,7 @@ pub mod LookUps
 pub mod RecordForms
 -- What the command `dump` answers.
 pub mod Dump
+-- How many changes the difference of two maps has, and the line that tells it.
+pub mod Counts
 -- What the command `diff` answers.
 pub mod Diff

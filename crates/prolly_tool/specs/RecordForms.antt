@@ -21,6 +21,11 @@ abbrev pub spelled : RecordForm → Record → List ℕ
 spelled Lines r = record_line r
 spelled Records r = record_spelling r
 
+-- The same, where a form is given, and nothing where none is.
+abbrev pub spelled_in : Option RecordForm → Record → List ℕ
+spelled_in None r = []
+spelled_in (Some form) r = spelled form r
+
 -- Records in this form, one after another.
 abbrev pub written_records : RecordForm → List Record → List ℕ
 written_records form records = flat_map (spelled form) records

@@ -1,42 +1,56 @@
 //! The command `diff`: what turns the map of one chunk file into that of another.
-ghost use Rattle.std.specs.Prelude.{◌≡◌, ◌≢◌, ◌⊎◌, ◌+◌, true, length, IfOk, IfErr, OnErr};
+ghost use Rattle.std.specs.Prelude.{◌≡◌, ◌≢◌, ◌⊎◌, ◌+◌, ◌<◌, ◌^◌, true, List, length, IfOk, IfErr};
+ghost use Rattle.std.specs.Prelude.{◌∷◌, ◌++◌, OnOk, OnErr};
+ghost use Rattle.std.specs.Fmt.{decimal};
 ghost use Rattle.std.specs.List.{AllByRecursion};
-ghost use Rattle.prolly_entry.specs.Pair.{IsPair};
-ghost use Rattle.prolly_diff.specs.Walk.{AreMaps};
+ghost use Rattle.prolly_check.specs.Checked.{IsFile};
+ghost use Rattle.prolly_check.specs.Content.{Content};
+ghost use Rattle.prolly_check.specs.Verdict.{IsFileOf};
 ghost use Rattle.prolly_check.specs.declared.fault.CheckFault.TheVariants.{Read};
+ghost use Rattle.prolly_diff.specs.Walk.{AreMaps};
+ghost use Rattle.prolly_entry.specs.Pair.{IsPair};
+ghost use Rattle.prolly_entry.specs.Record.{Record as RecordValue};
 ghost use Rattle.prolly_tool.specs.Answers.{ShowsFault};
-ghost use Rattle.prolly_tool.specs.Diff.{AreCompared, HasDifference, IsDiff, ShowsDiff, are_some};
+ghost use Rattle.prolly_tool.specs.Counts.{AreCounts, stat_text};
+ghost use Rattle.prolly_tool.specs.Diff.{AreStopped, AreWritten, HasDifference, HaveChanges};
+ghost use Rattle.prolly_tool.specs.Diff.{IsDiff, ShowsDiff, stat_shown, status_of};
 ghost use Rattle.prolly_tool.specs.Outputs.{IsStopped, TookAll, TookUntil};
-ghost use Rattle.prolly_tool.specs.RecordForms.{written_records};
 
 use crate::answer::Answer;
+use crate::change_counts::ChangeCounts;
 use crate::fault::Fault;
 use crate::input::INPUT_LIMIT;
+use crate::line_parts::append_number;
 use crate::record_form::{RecordForm, append_change};
-use prolly_check::check;
+use prolly_check::{Missing, Tree, check};
 use prolly_diff::Differences;
 use prolly_fault::RunFault;
 use prolly_file::{Sink, Source, write_all};
 use std::alloc::{AllocError, Global};
 
-/// What `diff` answers: it reads two chunk files, writes what turns the map of the old one into
-/// that of the new one to the sink, and shows nothing; its status tells whether there is a change.
-/// Or it shows the line of the fault of a file that `check` refuses, and writes nothing.
+/// What `diff` answers: it reads two chunk files, and writes what turns the map of the old one into
+/// that of the new one to the sink, where it is given a form; its status tells whether there is a
+/// change. Where `stat` is asked for it shows one line with the numbers of keys that were added,
+/// changed and removed, and of the chunks of the new file that the old one lacks and their bytes,
+/// without frames. Or it shows the line of the fault of a file that `check` refuses, and writes
+/// nothing.
 ///
 /// The old file is checked first, and then the new one, as by `check`. Leaves that both files have
 /// at the same place are passed over. A change is put together in memory, and written in a call of
-/// the sink. An `Err` is want of memory for the line of a fault; the sink is then as it was, or has
-/// a part of the changes.
+/// the sink; without a form the sink is not called. Each change is looked up in the old file, in a
+/// chunk a level, to be counted. An `Err` is want of memory for the line that is to be shown; the
+/// sink is then as it was, or has a part of the changes, or all of them.
 pub fn answer_diff<S: Source, T: Source, W: Sink>(
     alloc: Global,
     old_source: &mut S,
     new_source: &mut T,
-    form: RecordForm,
+    form: Option<RecordForm>,
+    stat: bool,
     sink: &mut W,
 ) -> Result<Answer, AllocError>
     ensures ok { (S.seen old_source.old).is_honest ≡ true →
         (T.seen new_source.old).is_honest ≡ true →
-        IfOk result (IsDiff form (S.seen old_source.old).left
+        IfOk result (IsDiff form stat (S.seen old_source.old).left
         ((S.seen old_source.new).failures ≢ (S.seen old_source.old).failures)
         (T.seen new_source.old).left
         ((T.seen new_source.new).failures ≢ (T.seen new_source.old).failures)
@@ -45,11 +59,11 @@ pub fn answer_diff<S: Source, T: Source, W: Sink>(
         (sink.new ≡ sink.old)) }
     ensures err { (S.seen old_source.old).is_honest ≡ true →
         (T.seen new_source.old).is_honest ≡ true →
-        OnErr result ((sink.new ≡ sink.old) ⊎ IsStopped (AreCompared (S.seen old_source.old).left
+        OnErr result ((sink.new ≡ sink.old) ⊎ IsStopped (HaveChanges (S.seen old_source.old).left
         ((S.seen old_source.new).failures ≢ (S.seen old_source.old).failures)
         (T.seen new_source.old).left
         ((T.seen new_source.new).failures ≢ (T.seen new_source.old).failures))
-        (λ fault records. TookUntil W.seen fault (written_records form records) sink.old sink.new)) }
+        (AreStopped form (λ fault bytes. TookUntil W.seen fault bytes sink.old sink.new))) }
     ensures read_old { (S.seen old_source.new).failures ≢ (S.seen old_source.old).failures →
         (sink.new ≡ sink.old) ×
         IfOk result (λ answer. ShowsFault answer (Fault.CheckOld Read)) }
@@ -65,42 +79,110 @@ pub fn answer_diff<S: Source, T: Source, W: Sink>(
         Ok(tree) => tree,
         Err(fault) => return Answer::of_fault(alloc, Fault::CheckNew(fault)),
     };
-    match write_changes(alloc, Differences::new(&old_tree, &new_tree), form, sink) {
-        Ok(changed) => Ok(answer_of(alloc, changed)),
+    let changes = Differences::new(&old_tree, &new_tree);
+    match write_changes(alloc, changes, &old_tree, form, sink) {
+        Ok(counts) => answer_of(alloc, &old_tree, &new_tree, &counts, stat),
         Err(fault) => Answer::of_fault(alloc, Fault::Run(fault)),
     }
 }
 
-/// The answer where all changes were written, or there are none.
-fn answer_of(alloc: Global, changed: bool) -> Answer
-    ensures { ShowsDiff result changed }
+/// The answer where all changes were written that were to be.
+fn answer_of(
+    alloc: Global,
+    old_tree: &Tree,
+    new_tree: &Tree,
+    counts: &ChangeCounts,
+    stat: bool,
+) -> Result<Answer, AllocError>
+    ensures { IfOk result (λ answer. (old new : Content) (records : List RecordValue) →
+        IsFileOf old_tree.now old → IsFileOf new_tree.now new →
+        AreCounts old.pairs records counts.now → ShowsDiff answer stat old new records) }
 {
-    Answer {
-        status: if changed { 1 } else { 0 },
-        out: Vec::new(alloc),
+    Ok(Answer {
+        status: status_of(counts.are_some()),
+        out: shown_of(alloc, old_tree, new_tree, counts, stat)?,
         err: Vec::new(alloc),
-    }
+    })
 }
 
-/// Writes the changes to a sink, flushes it, and answers whether there are some.
+fn status_of(changed: bool) -> u8
+    ensures { result ≡ status_of changed }
+{
+    if changed { 1 } else { 0 }
+}
+
+/// What is shown where all changes were written that were to be.
+fn shown_of(
+    alloc: Global,
+    old_tree: &Tree,
+    new_tree: &Tree,
+    counts: &ChangeCounts,
+    stat: bool,
+) -> Result<Vec<u8>, AllocError>
+    ensures { IfOk result (λ out. (old new : Content) (records : List RecordValue) →
+        IsFileOf old_tree.now old → IsFileOf new_tree.now new →
+        AreCounts old.pairs records counts.now → out.items ≡ stat_shown stat old new records) }
+{
+    if !stat {
+        return Ok(Vec::new(alloc));
+    }
+    stat_line(alloc, counts, &new_tree.missing_from(old_tree))
+}
+
+/// The line that tells how many changes there are, and what is missing.
+fn stat_line(alloc: Global, counts: &ChangeCounts, missing: &Missing) -> Result<Vec<u8>, AllocError>
+    ensures { IfOk result (λ line. line.items ≡ stat_text counts.now.added counts.now.changed
+        counts.now.removed missing.now.chunks missing.now.bytes) }
+{
+    let mut line = Vec::new(alloc);
+    append_count(alloc, &mut line, b"added", counts.added)?;
+    append_count(alloc, &mut line, b" changed", counts.changed)?;
+    append_count(alloc, &mut line, b" removed", counts.removed)?;
+    append_count(alloc, &mut line, b" chunks", missing.chunks)?;
+    append_count(alloc, &mut line, b" bytes", missing.bytes)?;
+    line.push(b'\n')?;
+    Ok(line)
+}
+
+/// Appends a word, a space, and the number in decimal.
+fn append_count(
+    alloc: Global,
+    line: &mut Vec<u8>,
+    word: &[u8],
+    count: u64,
+) -> Result<(), AllocError>
+    ensures { OnOk result (line.new.items ≡ line.old.items ++ word.now ++ 0x20 ∷ decimal count) }
+{
+    line.extend_from_slice(word)?;
+    append_number(alloc, line, count)
+}
+
+/// Writes the changes to a sink and flushes it, where a form is given, and counts them.
 fn write_changes<W: Sink>(
     alloc: Global,
     mut changes: Differences,
-    form: RecordForm,
+    old_tree: &Tree,
+    form: Option<RecordForm>,
     sink: &mut W,
-) -> Result<bool, RunFault>
+) -> Result<ChangeCounts, RunFault>
     requires maps { AreMaps changes }
     requires before { AllByRecursion IsPair changes.before }
     requires after { AllByRecursion IsPair changes.after }
-    ensures ok { IfOk result (λ changed. HasDifference changes.entry.before changes.entry.after
-        (λ records. TookAll W.seen (written_records form records) sink.old sink.new ×
-        (changed ≡ are_some records))) }
+    requires few { length changes.before + length changes.after + 1 < 2 ^ 64 }
+    requires file { IsFile old_tree.now }
+    requires old { (content : Content) → IsFileOf old_tree.now content →
+        changes.before ≡ content.pairs }
+    ensures ok { IfOk result (λ counts. HasDifference changes.entry.before changes.entry.after
+        (λ records. AreWritten form (λ bytes. TookAll W.seen bytes sink.old sink.new)
+        (sink.new ≡ sink.old) records × AreCounts changes.entry.before records counts)) }
     ensures err { IfErr result (λ fault. HasDifference changes.entry.before changes.entry.after
-        (λ records. TookUntil W.seen fault (written_records form records) sink.old sink.new)) }
+        (AreStopped form (λ fault bytes. TookUntil W.seen fault bytes sink.old sink.new) fault)) }
 {
     let mut spelling = Vec::new(alloc);
-    let mut changed = false;
+    let mut counts = ChangeCounts::none();
     while let Some(change) = changes.next() {
+        counts.count(old_tree.get(change.key), change.after);
+        // Without a form the spelling stays empty, and the sink is not called.
         spelling.clear();
         let Ok(()) = append_change(alloc, &mut spelling, form, change.key, change.after) else {
             return Err(RunFault::Memory);
@@ -108,10 +190,12 @@ fn write_changes<W: Sink>(
         let Ok(()) = write_all(sink, &spelling) else {
             return Err(RunFault::Write);
         };
-        changed = true;
     }
+    let Some(_) = form else {
+        return Ok(counts);
+    };
     match sink.flush() {
-        Ok(()) => Ok(changed),
+        Ok(()) => Ok(counts),
         Err(_) => Err(RunFault::Write),
     }
 }

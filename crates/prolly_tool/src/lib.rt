@@ -3,6 +3,7 @@
 
 mod answer;
 mod build_answer;
+mod change_counts;
 mod check_answer;
 mod diff_answer;
 mod dump_answer;

@@ -1,9 +1,9 @@
 //! How records are written.
-ghost use Rattle.std.specs.Prelude.{◌≡◌, ◌++◌, OnOk, IfOk};
+ghost use Rattle.std.specs.Prelude.{◌≡◌, ◌≢◌, ◌++◌, None, OnOk, IfOk, OnErr};
 ghost use Rattle.std.specs.Option.{option_copied};
 ghost use Rattle.prolly_entry.specs.Record.{IsRecord};
 ghost use Rattle.prolly_entry.specs.Spelling.{record_spelling};
-ghost use Rattle.prolly_tool.specs.RecordForms.{record_line, spelled};
+ghost use Rattle.prolly_tool.specs.RecordForms.{record_line, spelled_in};
 
 use crate::line_parts::append_hex;
 use prolly_entry::{Pair, Record, append_record};
@@ -19,21 +19,23 @@ pub enum RecordForm {
     Records,
 }
 
-/// Appends a change in this form.
+/// Appends a change in this form, or nothing where there is none.
 pub(crate) fn append_change(
     alloc: Global,
     out: &mut Vec<u8>,
-    form: RecordForm,
+    form: Option<RecordForm>,
     key: &[u8],
     value: Option<&[u8]>,
 ) -> Result<(), AllocError>
     requires { IsRecord (record { key = key.now; value = option_copied value }) }
-    ensures { OnOk result (out.new.items ≡ out.old.items ++ spelled form
+    ensures ok { OnOk result (out.new.items ≡ out.old.items ++ spelled_in form
         (record { key = key.now; value = option_copied value.entry })) }
+    ensures err { OnErr result (form ≢ None) }
 {
     match form {
-        RecordForm::Lines => append_line(alloc, out, key, value),
-        RecordForm::Records => append_record(out, &record_of(alloc, key, value)?),
+        None => Ok(()),
+        Some(RecordForm::Lines) => append_line(alloc, out, key, value),
+        Some(RecordForm::Records) => append_record(out, &record_of(alloc, key, value)?),
     }
 }
 

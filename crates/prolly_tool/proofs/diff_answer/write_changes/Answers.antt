@@ -1,7 +1,14 @@
-use Rattle.prolly_tool.proofs.DiffSteps.{change_lawful, one_written, stopped_short, write_failed}
-use Rattle.prolly_tool.proofs.DiffSteps.{all_written, flush_failed}
-use Rattle.prolly_tool.proofs.Writing.{own_writes}
+use Rattle.std.proofs.Common.{refl, sym, ap, ◌∙◌}
+use Rattle.prolly_tree.specs.LookUp.{find}
+use Rattle.prolly_tool.proofs.DiffSteps.{none_written}
+use Rattle.prolly_tool.proofs.DiffSteps.{change_lawful, room_for_one, one_written, stopped_short}
+use Rattle.prolly_tool.proofs.DiffSteps.{write_failed, only_counted, all_written, flush_failed}
+use Rattle.prolly_tool.proofs.Writing.{own_writes, own_nothing}
 use Rattle.prolly_tool.proofs.diff_answer.write_changes.Goals as goal
+
+pub count-requires : goal.count-requires
+count-requires g c = room_for_one g.W.Sink.seen _ _ _ _ _ _ _ _ c.in-Some.ensures
+    c.args.sink.now c.loop-change.sink c.loop-change.invariant c.requires.few
 
 pub append_change-requires : goal.append_change-requires
 append_change-requires g c = change_lawful g.W.Sink.seen _ _ _ _ _ _ _ _ c.in-Some.ensures
@@ -10,26 +17,47 @@ append_change-requires g c = change_lawful g.W.Sink.seen _ _ _ _ _ _ _ _ c.in-So
 pub returns-in_default-append_change-clause-err : goal.returns-in_default-append_change-clause-err
 returns-in_default-append_change-clause-err g c = stopped_short g.W.Sink.seen _ _ _ _ _ _ _ _
     c.in-Some.ensures c.args.sink.now c.loop-change.sink c.loop-change.invariant
+    c.in_default-append_change.ensures.err
 
 pub returns-in_default-write_all-clause-err : goal.returns-in_default-write_all-clause-err
 returns-in_default-write_all-clause-err g c = write_failed g.W.Sink.seen _ _ _ _ _ _ _ _
     c.in-Some.ensures c.args.sink.now c.loop-change.sink c.loop-change.invariant _
     c.write_all.new.sink
-    (own_writes _ _ _ _ _ _ _ c.deref.ensures.value c.in-Ok.ensures c.clear.ensures.items
+    (own_writes _ _ _ _ _ _ _ c.deref.ensures.value c.in-Ok.ensures.ok c.clear.ensures.items
     c.in_default-write_all.ensures.writes)
+    (λ none. c.write_all.ensures.nothing (own_nothing _ _ _ _ c.deref.ensures.value
+    c.in-Ok.ensures.ok c.clear.ensures.items none))
 
 pub loop-change-preserved : goal.loop-change-preserved
 loop-change-preserved g c = one_written g.W.Sink.seen _ _ _ _ _ _ _ _ c.in-Some.ensures
     c.args.sink.now c.loop-change.sink c.loop-change.invariant _ c.write_all.new.sink
-    (own_writes _ _ _ _ _ _ _ c.deref.ensures.value c.in-Ok.ensures c.clear.ensures.items
+    c.count.new.self
+    (λ records so_far. c.count.ensures _ records _ so_far
+    (ap (λ m. find m c.in-Some.change.key.now)
+    (c.requires.old c.requires.file.content c.requires.file.is) ∙
+    sym (c.get.ensures c.requires.file.content c.requires.file.is)) refl)
+    (own_writes _ _ _ _ _ _ _ c.deref.ensures.value c.in-Ok.ensures.ok c.clear.ensures.items
     c.in-Ok-write_all.ensures.writes)
+    (λ none. c.write_all.ensures.nothing (own_nothing _ _ _ _ c.deref.ensures.value
+    c.in-Ok.ensures.ok c.clear.ensures.items none))
+
+pub loop-change-init : goal.loop-change-init
+loop-change-init g c = none_written g.W.Sink.seen c.args.form c.args.changes c.args.sink.now
+    c.none-counts.result c.requires.maps c.none-counts.ensures
 
 pub returns-in-Ok-flush-clause-ok : goal.returns-in-Ok-flush-clause-ok
-returns-in-Ok-flush-clause-ok g c = all_written g.W.Sink.seen _ _ _ _
-    c.args.sink.now c.loop-change.sink c.loop-change.invariant c.in_default.ensures
-    c.flush.new.self c.in-Ok-flush.ensures.bytes c.in-Ok-flush.ensures.failures
+returns-in-Ok-flush-clause-ok g c = all_written g.W.Sink.seen c.args.form c.args.changes _
+    c.loop-change.counts c.args.sink.now c.loop-change.sink c.loop-change.invariant
+    c.in_default.ensures c.flush.new.self c.in-Ok-flush.ensures.bytes
+    _ c.in-Some-form.is c.in-Ok-flush.ensures.failures
 
 pub returns-clause-err : goal.returns-clause-err
-returns-clause-err g c = flush_failed g.W.Sink.seen _ _ _ _
-    c.args.sink.now c.loop-change.sink c.loop-change.invariant c.in_default.ensures
-    c.flush.new.self c.in-Err.ensures.bytes c.in-Err.ensures.failures
+returns-clause-err g c = flush_failed g.W.Sink.seen c.args.form c.args.changes _
+    c.loop-change.counts c.args.sink.now c.loop-change.sink c.loop-change.invariant
+    c.in_default.ensures c.flush.new.self c.in-Err.ensures.bytes
+    _ c.in-Some-form.is c.in-Err.ensures.failures
+
+pub returns-in_default-form-clause-ok : goal.returns-in_default-form-clause-ok
+returns-in_default-form-clause-ok g c = only_counted g.W.Sink.seen c.args.form c.args.changes _
+    c.loop-change.counts c.args.sink.now c.loop-change.sink c.loop-change.invariant
+    c.in_default.ensures c.in_default-form.is

@@ -3,7 +3,7 @@ use Rattle.prolly_tool.proofs.DiffSteps.{IsWritten}
 use Rattle.prolly_tool.proofs.diff_answer.write_changes.Given as goal
 
 abbrev pub invariant-loop-change : goal.invariant-loop-change
-invariant-loop-change g l = IsWritten g.W.Sink.seen l.fn.form l.fn.changes l.changes l.changed
+invariant-loop-change g l = IsWritten g.W.Sink.seen l.fn.form l.fn.changes l.changes l.counts
     l.initial.sink l.sink
 
 abbrev pub decreases-loop-change : goal.decreases-loop-change
