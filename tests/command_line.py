@@ -31,6 +31,11 @@ def bad_number(words, word, option, why):
     return wrong(words, f"invalid value '{word}' for '{option}': {why}")
 
 
+def unknown(words, word, usage):
+    """The same, for an option that a command with further words does not have."""
+    return wrong(words, f"unexpected argument '{word}' found\n\n  tip: to pass '{word}' as a value, use '-- {word}'", usage)
+
+
 def missing(words, names, usage):
     """The same, for words that are missing."""
     lines = "".join(f"\n  <{name}>" for name in names)
@@ -86,6 +91,9 @@ def usage_cases():
         missing(["diff"], ["OLD", "NEW"], "diff <OLD> <NEW>"),
         missing(["diff", "f"], ["NEW"], "diff <OLD> <NEW>"),
         wrong(["diff", "f", "g", "x"], "unexpected argument 'x' found", "diff [OPTIONS] <OLD> <NEW>"),
+        unknown(["diff", "f", "g", "--text"], "--text", "diff <OLD> <NEW>"),
+        unknown(["dump", "f", "--stat"], "--stat", "dump <FILE> [OUT]"),
+        wrong(["dump", "f", "--text", "--text"], "the argument '--text' cannot be used multiple times", "dump [OPTIONS] <FILE> [OUT]"),
         wrong(["diff", "f", "g", "--out"], "a value is required for '--out <FILE>' but none was supplied"),
         Case("usage: a word that is no text", [b"check", b"\xff"], status=2, err=b"prolly: a word is not UTF-8\n"),
     ]

@@ -90,24 +90,28 @@ def read_frames(content):
 
 def read_chunk(chunk, number, version):
     """The pairs of a leaf; none of a node."""
+    entries = read_entries(chunk, number, version)
+    return [(number, key, value) for key, value in entries] if chunk[0] == 0 else []
+
+
+def read_entries(chunk, number, version):
+    """The keys of a chunk's entries, each with the value of its pair, or with what its child entry has behind the key."""
     if not chunk:
         raise Fault(f"bad chunk {number}")
-    pairs, place = [], 1
+    entries, place = [], 1
     while place < len(chunk):
         length = int.from_bytes(chunk[place : place + 2], "big")
         key = chunk[place + 2 : place + 2 + length]
         behind = place + 2 + length
+        size = 20 if version == 1 else 28
         if chunk[0] == 0:
             size = int.from_bytes(chunk[behind : behind + 4], "big")
-            pairs.append((number, key, chunk[behind + 4 : behind + 4 + size]))
-            is_lawful = size <= VALUE_LIMIT
-            place = behind + 4 + size
-        else:
-            is_lawful = True
-            place = behind + (20 if version == 1 else 28)
-        if length > KEY_LIMIT or not is_lawful or place > len(chunk):
+            behind += 4
+        place = behind + size
+        if length > KEY_LIMIT or size > VALUE_LIMIT or place > len(chunk):
             raise Fault(f"bad chunk {number}")
-    return pairs
+        entries.append((key, chunk[behind:place]))
+    return entries
 
 
 def pairs_in_order(leaves):

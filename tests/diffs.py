@@ -2,11 +2,11 @@
 
 import random
 
-from dumps import BEFORE, chained
+from dumps import BEFORE, chained, lines
 from harness import FOLDER, Case
-from look_ups import LONG, NUMBERS, hexed
-from scratch import ABC
-from trees import REMOVED, chunk_file, overlay, records, report
+from look_ups import LONG, NUMBERS
+from scratch import ABC, numbered
+from trees import REMOVED, chunk_file, overlay, records, report, tree
 
 ALIKE, DIFFERENT = 0, 1
 """The status where the maps are equal, and where they are not."""
@@ -19,9 +19,16 @@ def difference(old, new):
     return [(key, after.get(key, REMOVED)) for key in keys if before.get(key, REMOVED) != after.get(key, REMOVED)]
 
 
-def lines(changes):
-    """Records as lines that `pack` reads."""
-    return b"".join(hexed(key) + b" " + (b"-" if value is REMOVED else hexed(value)) + b"\n" for key, value in changes)
+def stat_line(old, new, old_kind, new_kind):
+    """The line of `--stat`: keys that only NEW has, that both have with another value, and that only OLD has; and the chunks
+    of NEW's tree whose reference OLD's lacks, and their bytes. The kinds are the trees' bits and versions."""
+    before, after = dict(old), dict(new)
+    added, removed = len(after.keys() - before.keys()), len(before.keys() - after.keys())
+    changed_keys = sum(before[key] != after[key] for key in before.keys() & after.keys())
+    has = {part.reference for part in tree(old, *old_kind).trees()}
+    lacking = [part.chunk for part in tree(new, *new_kind).trees() if part.reference not in has]
+    size = sum(map(len, lacking))
+    return f"added {added} changed {changed_keys} removed {removed} chunks {len(lacking)} bytes {size}\n".encode()
 
 
 # ---- pairs of maps
@@ -73,14 +80,29 @@ def kinds():
     return [((2, 1), (2, 1)), ((0, 2), (0, 2)), ((12, 1), (3, 2))]
 
 
+def kinds_of_stats():
+    """The same, and leaves that both formats cut alike."""
+    return [*kinds(), ((2, 1), (2, 2))]
+
+
 def cases(_):
     """All cases of one run."""
+    return differences() + refused() + unread()
+
+
+def stat_cases():
+    """All cases of one run with `--stat`."""
+    return stats() + stats_refused()
+
+
+def differences():
+    """Differences of pairs of maps."""
     found = []
     for name, old, new in pairs_of_maps():
         for (old_bits, old_version), (new_bits, new_version) in kinds():
             before = {"old.prl": chunk_file(old, old_bits, old_version), "new.prl": chunk_file(new, new_bits, new_version)}
             found += told(f"{name}, --bits {old_bits} and {new_bits}", before, difference(old, new))
-    return found + refused()
+    return found
 
 
 def told(name, before, changes):
@@ -107,15 +129,84 @@ def refused():
         Case("diff: a record file", words, status=4, err=b"prolly: new chunk file: bad header\n", before=both | {"new.prl": records(ABC)}),
         Case("diff: no OLD", words, status=5, err=b"prolly: cannot open old.prl\n", before={"new.prl": good}),
         Case("diff: no NEW", words, status=5, err=b"prolly: cannot open new.prl\n", before={"old.prl": good}),
+        Case("diff: neither file", words, status=5, err=b"prolly: cannot open old.prl\n"),
+        Case("diff: no NEW, and OUT is as it was", out, status=5, err=b"prolly: cannot open new.prl\n", before={"old.prl": good, "d.rec": BEFORE}),
         Case("diff: OUT is a folder", [*words, "--out", "out"], status=5, err=b"prolly: cannot open out\n", before=both | {"out": FOLDER}),
+        Case("diff: OUT in a folder that is not there", [*words, "--out", "none/out"], status=5, err=b"prolly: cannot open none/out\n", before=both),
         Case("diff: OUT is OLD", [*words, "--out", "old.prl"], status=5, err=b"prolly: OUT is also an input: old.prl\n", before=both),
         Case("diff: OUT is NEW", [*words, "--out", "new.prl"], status=5, err=b"prolly: OUT is also an input: new.prl\n", before=both),
         Case("diff: OUT is a full device", [*words, "--out", "/dev/full"], status=5, err=no_write, before=both),
         Case("diff: nobody reads", words, status=5, err=no_write, before=both, stdout="unread"),
+        Case("diff: standard output is full", words, status=5, err=no_write, before=both, stdout="full"),
+        Case("diff: standard output is closed", words, status=5, err=no_write, before=both, stdout="closed"),
+        Case("diff: nothing is printed to a file", out, status=1, before=both, after={"d.rec": records(difference(ABC, []))}, stdout="full"),
+        Case("diff: nothing changed, for a full device", ["diff", "old.prl", "old.prl"], before=both, stdout="full"),
+        Case("diff: flags without OUT", ["diff", "--atomic", "--sync", "old.prl", "new.prl"], status=1, out=lines(difference(ABC, [])), before=both),
         Case("diff: OUT is emptied by a fault", out, status=4, err=b"prolly: old chunk file: truncated\n", before=both | {"old.prl": cut, "d.rec": BEFORE}, after={"d.rec": b""}),
         Case("diff: OUT is as it was", [*out, "--atomic"], status=4, err=b"prolly: old chunk file: truncated\n", before=both | {"old.prl": cut, "d.rec": BEFORE}),
         Case("diff: OUT is replaced", [*out, "--atomic", "--sync"], status=1, before=both | {"d.rec": BEFORE}, after={"d.rec": records(difference(ABC, []))}),
         Case("diff: a file beside itself", ["diff", "old.prl", "old.prl"], before=both),
+    ]
+
+
+def unread():
+    """Files that can't be read, and too little memory for either."""
+    good, large = chunk_file(ABC, 0), chunk_file(numbered(100_000), 12)
+    words = ["diff", "old.prl", "new.prl"]
+    failed = b"chunk file: read failed\n"
+    scarce = {"status": 6, "err": b"prolly: out of memory\n", "memory": 6_000_000}
+    return [
+        Case("diff: OLD is a folder", words, status=5, err=b"prolly: old " + failed, before={"old.prl": FOLDER, "new.prl": good}),
+        Case("diff: NEW is a folder", words, status=5, err=b"prolly: new " + failed, before={"old.prl": good, "new.prl": FOLDER}),
+        Case("diff: both are folders", words, status=5, err=b"prolly: old " + failed, before={"old.prl": FOLDER, "new.prl": FOLDER}),
+        Case("diff: a fault of OLD before that of NEW", words, status=4, err=b"prolly: old chunk file: truncated\n", before={"old.prl": good[:-1], "new.prl": FOLDER}),
+        Case("diff: too little memory for OLD", words, before={"old.prl": large, "new.prl": good}, **scarce),
+        Case("diff: too little memory for NEW", words, before={"old.prl": good, "new.prl": large}, **scarce),
+        Case("diff: too little memory, to a file", [*words, "--out", "d.rec"], before={"old.prl": good, "new.prl": large}, after={"d.rec": b""}, **scarce),
+    ]
+
+
+def stats():
+    """What `--stat` tells of pairs of maps."""
+    found = []
+    for name, old, new in pairs_of_maps():
+        for old_kind, new_kind in kinds_of_stats():
+            before = {"old.prl": chunk_file(old, *old_kind), "new.prl": chunk_file(new, *new_kind)}
+            kind = f"{name}, --bits and --format {old_kind} and {new_kind}"
+            found += counted(kind, before, difference(old, new), stat_line(old, new, old_kind, new_kind))
+    return found
+
+
+def counted(name, before, changes, line):
+    """A difference that is counted, and counted and written."""
+    status = DIFFERENT if changes else ALIKE
+    words = ["diff", "--stat", "old.prl", "new.prl"]
+    return [
+        Case(f"diff --stat: {name}", words, status=status, out=line, before=before),
+        Case(f"diff --stat: {name}, to a file", [*words, "--out", "d.rec"], status=status, out=line, before=before, after={"d.rec": records(changes)}),
+    ]
+
+
+def stats_refused():
+    """Runs with `--stat` that have a fault."""
+    good = chunk_file(ABC, 0)
+    both = {"old.prl": good, "new.prl": chunk_file([], 0)}
+    words = ["diff", "--stat", "old.prl", "new.prl"]
+    out = [*words, "--out", "d.rec"]
+    changes = records(difference(ABC, []))
+    truncated, no_write = b"chunk file: truncated\n", b"prolly: write failed\n"
+    return [
+        Case("diff --stat: OLD is cut", words, status=4, err=b"prolly: old " + truncated, before=both | {"old.prl": good[:-1]}),
+        Case("diff --stat: NEW is cut", words, status=4, err=b"prolly: new " + truncated, before=both | {"new.prl": good[:-1]}),
+        Case("diff --stat: OUT is emptied by a fault", out, status=4, err=b"prolly: old " + truncated, before=both | {"old.prl": good[:-1], "d.rec": BEFORE}, after={"d.rec": b""}),
+        Case("diff --stat: OUT is as it was", [*out, "--atomic"], status=4, err=b"prolly: old " + truncated, before=both | {"old.prl": good[:-1], "d.rec": BEFORE}),
+        Case("diff --stat: nobody reads", words, status=5, err=no_write, before=both, stdout="unread"),
+        Case("diff --stat: standard output is full", words, status=5, err=no_write, before=both, stdout="full"),
+        Case("diff --stat: nothing changed, for a full device", ["diff", "--stat", "old.prl", "old.prl"], status=5, err=no_write, before=both, stdout="full"),
+        Case("diff --stat: standard output is full, and OUT is whole", out, status=5, err=no_write, before=both, after={"d.rec": changes}, stdout="full"),
+        Case("diff --stat: OUT is a full device", [*words, "--out", "/dev/full"], status=5, err=no_write, before=both),
+        Case("diff --stat: OUT is OLD", [*words, "--out", "old.prl"], status=5, err=b"prolly: OUT is also an input: old.prl\n", before=both),
+        Case("diff --stat: flags without OUT", [*words, "--atomic", "--sync"], status=1, out=stat_line(ABC, [], (0, 1), (0, 1)), before=both),
     ]
 
 

@@ -1,13 +1,13 @@
-"""`dump`: the pairs of a chunk file as a record file, and back."""
+"""`dump`: the pairs of a chunk file as a record file or as lines, and back."""
 
 import tempfile
 from pathlib import Path
 
 from harness import FOLDER, Case
-from look_ups import LONG, NUMBERS
+from look_ups import LONG, NUMBERS, hexed
 from place import Place
 from scratch import ABC
-from trees import chunk_file, overlay, record, records, report, root_text
+from trees import REMOVED, chunk_file, overlay, record, records, report, root_text
 
 BEFORE = b"what was there before"
 
@@ -31,7 +31,7 @@ def kinds():
 
 def cases(_):
     """All cases of one run."""
-    return [case for kind in kinds() for case in written(*kind)] + refused()
+    return [case for kind in kinds() for case in written(*kind) + told(*kind)] + refused() + refused_texts()
 
 
 def written(name, pairs, bits, version):
@@ -41,6 +41,20 @@ def written(name, pairs, bits, version):
         Case(f"dump: {name}", ["dump", "in.prl"], out=records(pairs), before=before),
         Case(f"dump: {name}, to a file", ["dump", "in.prl", "out.rec"], before=before, after={"out.rec": records(pairs)}),
     ]
+
+
+def told(name, pairs, bits, version):
+    """A file whose pairs are printed as lines, and written."""
+    before = {"in.prl": chunk_file(pairs, bits, version)}
+    return [
+        Case(f"dump --text: {name}", ["dump", "--text", "in.prl"], out=lines(pairs), before=before),
+        Case(f"dump --text: {name}, to a file", ["dump", "in.prl", "out.txt", "--text"], before=before, after={"out.txt": lines(pairs)}),
+    ]
+
+
+def lines(changes):
+    """Records as lines that `pack` reads."""
+    return b"".join(hexed(key) + b" " + (b"-" if value is REMOVED else hexed(value)) + b"\n" for key, value in changes)
 
 
 def refused():
@@ -55,11 +69,31 @@ def refused():
         Case("dump: no FILE, and OUT is as it was", words, status=5, err=b"prolly: cannot open in.prl\n", before={"out.rec": BEFORE}),
         Case("dump: OUT is a folder", ["dump", "in.prl", "out"], status=5, err=b"prolly: cannot open out\n", before=good | {"out": FOLDER}),
         Case("dump: OUT in a folder that is not there", ["dump", "in.prl", "none/out"], status=5, err=b"prolly: cannot open none/out\n", before=good),
+        Case("dump: a folder, and OUT is emptied", words, status=5, err=b"prolly: chunk file: read failed\n", before={"in.prl": FOLDER, "out.rec": BEFORE}, after={"out.rec": b""}),
+        Case("dump: a folder, and OUT is as it was", [*words, "--atomic"], status=5, err=b"prolly: chunk file: read failed\n", before={"in.prl": FOLDER, "out.rec": BEFORE}),
         Case("dump: OUT is a full device", ["dump", "in.prl", "/dev/full"], status=5, err=no_write, before=good),
         Case("dump: nobody reads", ["dump", "in.prl"], status=5, err=no_write, before=good, stdout="unread"),
         Case("dump: standard output is closed", ["dump", "in.prl"], status=5, err=no_write, before=good, stdout="closed"),
         Case("dump: nothing is printed", words, before=good, after={"out.rec": records(ABC)}, stdout="full"),
         Case("dump: flags without OUT", ["dump", "--atomic", "--sync", "in.prl"], out=records(ABC), before=good),
+    ]
+
+
+def refused_texts():
+    """Runs with `--text` that have a fault, or whose flags say nothing."""
+    good, cut = {"in.prl": chunk_file(ABC, 0)}, {"in.prl": chunk_file(ABC, 0)[:-1]}
+    words = ["dump", "--text", "in.prl"]
+    truncated = b"prolly: chunk file: truncated\n"
+    no_write = b"prolly: write failed\n"
+    return [
+        Case("dump --text: a file that is cut", words, status=4, err=truncated, before=cut),
+        Case("dump --text: OUT is emptied by a fault", [*words, "out.txt"], status=4, err=truncated, before=cut | {"out.txt": BEFORE}, after={"out.txt": b""}),
+        Case("dump --text: OUT is as it was", [*words, "--atomic", "out.txt"], status=4, err=truncated, before=cut | {"out.txt": BEFORE}),
+        Case("dump --text: OUT is a full device", [*words, "/dev/full"], status=5, err=no_write, before=good),
+        Case("dump --text: nobody reads", words, status=5, err=no_write, before=good, stdout="unread"),
+        Case("dump --text: standard output is full", words, status=5, err=no_write, before=good, stdout="full"),
+        Case("dump --text: standard output is closed", words, status=5, err=no_write, before=good, stdout="closed"),
+        Case("dump --text: flags without OUT", [*words, "--atomic", "--sync"], out=lines(ABC), before=good),
     ]
 
 
@@ -90,11 +124,30 @@ def takes_changes(place):
     place.holds(old_prl=None, old_rec=records(ABC), today_rec=changes, new_prl=chunk_file(pairs, 0))
 
 
+def packs_to_the_record_file(place, pairs, bits, version):
+    """The lines are those of `scan`, and packed they are the record file."""
+    place.lay(in_prl=chunk_file(pairs, bits, version))
+    text = place.run("dump", "--text", "in.prl")[1]
+    place.answers(place.run("scan", "in.prl", "", "1000000"), (0, text, b""))
+    place.answers(place.run("pack", "packed.rec", stdin=text), (0, b"%d\n" % len(pairs), b""))
+    place.holds(in_prl=None, packed_rec=records(pairs))
+
+
+def has_no_limit(place):
+    """More lines than `scan` prints."""
+    pairs = [(number.to_bytes(3, "big"), b"") for number in range(1_000_001)]
+    place.lay(in_rec=records(pairs))
+    place.answers(place.run("build", "in.prl", "in.rec"), (0, None, b""))
+    place.answers(place.run("dump", "--text", "in.prl"), (0, lines(pairs), b""))
+
+
 def all_runs(program, _):
     """Runs the chains, each in a folder of its own, and gives for each its name and its differences."""
     for name, *kind in kinds():
         yield f"dump, and again: {name}", chained(program, lambda place, kind=kind: makes_the_file(place, *kind))
+        yield f"dump --text, and pack: {name}", chained(program, lambda place, kind=kind: packs_to_the_record_file(place, *kind))
     yield "dump, and changes", chained(program, takes_changes)
+    yield "dump --text, 1,000,001 pairs", chained(program, has_no_limit)
 
 
 def chained(program, test):

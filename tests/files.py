@@ -13,6 +13,8 @@ import time
 from functools import partial
 from pathlib import Path
 
+from diffs import difference
+from dumps import lines
 from place import DONE, Place, compiled
 from scratch import ABC, numbered
 from trees import END_SIZE, chunk_file, records, report, root_text
@@ -21,26 +23,36 @@ A = records(ABC[:2])
 B = records(ABC[2:])
 TREE = chunk_file(ABC, 0)
 TOLD = report(ABC, 0)
+OLD = [(b"a", b"0"), (b"b", b"1"), (b"d", b"1")]
+OLD_TREE = chunk_file(OLD, 0)
+CHANGES = difference(OLD, ABC)
 BEFORE = b"what was there before"
 TEXT = b"61 31\n62 31\n"
 
 WRITERS = {
-    "build": (["build", "--bits", "0", "out", "a.rec", "b.rec"], None, TREE, TOLD),
-    "scratch": (["scratch", "--bits", "0", "--out", "out"], records(ABC), TREE, root_text(ABC, 0)),
-    "pack": (["pack", "out"], TEXT, A, b"2\n"),
-    "dump": (["dump", "abc.prl", "out"], None, records(ABC), b""),
+    "build": (["build", "--bits", "0", "out", "a.rec", "b.rec"], None, TREE, (0, TOLD, b"")),
+    "scratch": (["scratch", "--bits", "0", "--out", "out"], records(ABC), TREE, (0, root_text(ABC, 0), b"")),
+    "pack": (["pack", "out"], TEXT, A, (0, b"2\n", b"")),
+    "dump": (["dump", "abc.prl", "out"], None, records(ABC), (0, b"", b"")),
+    "dump --text": (["dump", "--text", "abc.prl", "out"], None, lines(ABC), (0, b"", b"")),
+    "diff": (["diff", "old.prl", "abc.prl", "--out", "out"], None, records(CHANGES), (1, b"", b"")),
 }
-"""The commands that write OUT: their words, their standard input, and what they make and print."""
+"""The commands that write OUT: their words, their standard input, what they make, and their answer."""
 
 FAULTS = {
     "build": (["build", "--bits", "0", "out", "a.rec", "cut.rec"], None, 3, b"prolly: file 1: record 0 is cut\n"),
     "scratch": (["scratch", "--bits", "0", "--out", "out"], b"\0", 3, b"prolly: file 0: record 0 is cut\n"),
     "pack": (["pack", "out"], b"6\n", 3, b"prolly: line 0: not a pair in hexadecimal\n"),
     "dump": (["dump", "cut.prl", "out"], None, 4, b"prolly: chunk file: truncated\n"),
+    "dump --text": (["dump", "--text", "cut.prl", "out"], None, 4, b"prolly: chunk file: truncated\n"),
+    "diff": (["diff", "old.prl", "cut.prl", "--out", "out"], None, 4, b"prolly: new chunk file: truncated\n"),
 }
 """The same over inputs that are at fault: their words, their standard input, and the status and line of the fault."""
 
 NO_WRITE = (5, b"", b"prolly: write failed\n")
+
+MANY = 4_000
+"""Pairs whose files take several writes."""
 
 
 def refusal(line):
@@ -50,7 +62,7 @@ def refusal(line):
 
 def laid(place):
     """Lays the files that the commands read."""
-    files = {"a_rec": A, "b_rec": B, "cut_rec": b"\0", "abc_prl": TREE, "cut_prl": TREE[:-1]}
+    files = {"a_rec": A, "b_rec": B, "cut_rec": b"\0", "abc_prl": TREE, "old_prl": OLD_TREE, "cut_prl": TREE[:-1]}
     place.lay(**files)
     return files
 
@@ -67,22 +79,22 @@ def is_an_input(place, words, name):
     place.holds(a_rec=A, b_rec=B, hard=A, soft=A)
 
 
-def is_the_dumped_file(place, words, name):
-    """`dump` over the file that it is to read, under its name or another."""
-    place.lay(in_prl=TREE)
+def is_a_chunk_file(place, words, name):
+    """OUT is a chunk file that is to be read, under its name or another."""
+    place.lay(in_prl=TREE, old_prl=OLD_TREE)
     os.link(place.path("in.prl"), place.path("hard"))
     place.path("soft").symlink_to("in.prl")
-    place.answers(place.run("dump", *words), refusal(b"OUT is also an input: " + name))
-    place.holds(in_prl=TREE, hard=TREE, soft=TREE)
+    place.answers(place.run(*words), refusal(b"OUT is also an input: " + name))
+    place.holds(in_prl=TREE, hard=TREE, soft=TREE, old_prl=OLD_TREE)
 
 
-def is_dumped_to_itself(place):
-    """`dump` to a standard output that is the file which it is to read."""
-    place.lay(in_prl=TREE)
+def is_printed_to_itself(place, words):
+    """A standard output that is the chunk file which is to be read."""
+    place.lay(in_prl=TREE, old_prl=OLD_TREE)
     with open(place.path("in.prl"), "ab") as stdout:
-        answer = place.run("dump", "in.prl", stdout=stdout)
+        answer = place.run(*words, stdout=stdout)
     place.answers(answer, refusal(b"OUT is also an input: in.prl"))
-    place.holds(in_prl=TREE)
+    place.holds(in_prl=TREE, old_prl=OLD_TREE)
 
 
 def is_standard_input(place, words):
@@ -97,11 +109,12 @@ def is_standard_input(place, words):
 
 def is_standard_output(place, words, mode):
     """OUT is the file behind standard output, which the shell has emptied, or to the end of which it writes."""
-    place.lay(log=BEFORE, a_rec=A, abc_prl=TREE)
+    files = laid(place)
+    place.lay(log=BEFORE)
     with open(place.path("log"), mode) as stdout:
         answer = place.run(*words, stdin=A, stdout=stdout)
     place.answers(answer, refusal(b"OUT is also standard output"))
-    place.holds(log=BEFORE if mode == "ab" else b"", a_rec=A, abc_prl=TREE)
+    place.holds(log=BEFORE if mode == "ab" else b"", **files)
 
 
 def is_a_device(place):
@@ -126,12 +139,12 @@ def is_told_early(place):
 
 def is_replaced(place, command, flags):
     """OUT is replaced by a whole file, or made."""
-    words, given, made, told = WRITERS[command]
+    words, given, made, answer = WRITERS[command]
     files = laid(place)
     for before in (None, BEFORE):
         if before is not None:
             place.lay(out=before)
-        place.answers(place.run(*words, *flags, stdin=given or b""), (0, told, b""))
+        place.answers(place.run(*words, *flags, stdin=given or b""), answer)
         place.holds(out=made, **files)
 
 
@@ -146,37 +159,40 @@ def stays(place, command, flags, before):
     place.holds(**files)
 
 
-def keeps_its_mode(place):
+def keeps_its_mode(place, command):
     """The file that replaces OUT has its permissions."""
+    words, given, made, answer = WRITERS[command]
     files = laid(place)
     place.lay(out=BEFORE)
     place.path("out").chmod(0o640)
-    place.answers(place.run(*WRITERS["build"][0], "--atomic"), DONE)
+    place.answers(place.run(*words, "--atomic", stdin=given or b""), answer)
     mode = stat.S_IMODE(place.path("out").stat().st_mode)
     if mode != 0o640:
         place.note(f"mode {mode:o}")
-    place.holds(out=TREE, **files)
+    place.holds(out=made, **files)
 
 
-def follows_links(place):
+def follows_links(place, command):
     """A symbolic link stays, and the file behind it is replaced; another name of that keeps what it held."""
+    words, given, made, answer = WRITERS[command]
     files = laid(place)
     place.lay(real=BEFORE)
     os.link(place.path("real"), place.path("other"))
     place.path("out").symlink_to("real")
-    place.answers(place.run(*WRITERS["build"][0], "--atomic"), DONE)
+    place.answers(place.run(*words, "--atomic", stdin=given or b""), answer)
     if not place.path("out").is_symlink():
         place.note("the link is gone")
-    place.holds(out=TREE, real=TREE, other=BEFORE, **files)
+    place.holds(out=made, real=made, other=BEFORE, **files)
 
 
-def passes_names(place):
+def passes_names(place, command):
     """Names beside OUT that are taken stay as they are."""
+    words, given, made, answer = WRITERS[command]
     files = laid(place)
     place.path("out.0.tmp").write_bytes(b"0")
     place.path("out.1.tmp").write_bytes(b"1")
-    place.answers(place.run(*WRITERS["build"][0], "--atomic"), DONE)
-    place.holds(out=TREE, out_0_tmp=b"0", out_1_tmp=b"1", **files)
+    place.answers(place.run(*words, "--atomic", stdin=given or b""), answer)
+    place.holds(out=made, out_0_tmp=b"0", out_1_tmp=b"1", **files)
 
 
 def is_not_replaced(place, name):
@@ -184,8 +200,9 @@ def is_not_replaced(place, name):
     laid(place)
     place.path("folder").mkdir()
     os.mkfifo(place.path("pipe"))
-    place.answers(place.run("build", "--atomic", name, "a.rec"), refusal(b"cannot replace " + name.encode()))
-    place.answers(place.run("pack", "--atomic", name, stdin=TEXT), refusal(b"cannot replace " + name.encode()))
+    for words, given, _, _ in WRITERS.values():
+        there = in_place_of_out(words, name)
+        place.answers(place.run(*there, "--atomic", stdin=given or b""), refusal(b"cannot replace " + name.encode()))
     if not Path(place.folder, name).exists() or Path(place.folder, name).is_file():
         place.note(f"{name} was replaced")
 
@@ -249,43 +266,45 @@ def fails(place, command, flags, call, number, wanted):
     place.holds(out=None, **files)
 
 
-def no_write_after_a_failed_one(place):
-    """Each write of a build fails in turn, and none follows it but that of the line."""
-    pairs = numbered(4_000)
-    place.lay(a_rec=records(pairs))
-    whole = chunk_file(pairs, 2)
+def no_write_after_a_failed_one(place, words, begun, whole):
+    """Each write of a command fails in turn, and none follows it but that of the line: OUT is a first part of what may be
+    begun, or whole where only what was to be printed failed."""
+    pairs = numbered(MANY)
+    files = {"a_rec": records(pairs), "a_prl": chunk_file(pairs, 2), "none_prl": chunk_file([], 2)}
+    place.lay(**files)
     for number in range(1, 100):
         meddle = {"fail": f"write {number} {errno.ENOSPC}"}
-        answer, calls = place.meddled("build", "--bits", "2", "out", "a.rec", meddle=meddle)
+        answer, calls = place.meddled(*words, meddle=meddle)
         writes = [line for line in calls if line.startswith("write ")]
-        left = place.path("out").read_bytes()
-        if writes[number - 1].startswith("write 1"):
-            place.answers(answer, NO_WRITE)
-            place.holds(out=whole, a_rec=records(pairs))
+        if len(writes) < number:
+            place.answers(answer, (None, None, b""))
+            place.holds(out=whole, **files)
             break
         place.answers(answer, NO_WRITE)
-        if len(writes) != number + 1 or not whole[:-END_SIZE].startswith(left):
+        left = place.path("out").read_bytes()
+        is_right = left == whole if writes[number - 1] == "write 1" else begun.startswith(left)
+        if len(writes) != number + 1 or not is_right:
             place.note(f"write {number}: {len(writes)} writes, {len(left)} bytes left")
-    if number < 3:
+    if number < 4:
         place.note("too few writes to tell")
 
 
 def is_interrupted(place, command, number):
     """Calls that are interrupted are made again."""
-    words, given, made, told = WRITERS[command]
+    words, given, made, wanted = WRITERS[command]
     files = laid(place)
     place.lay(given=given or b"")
     with open(place.path("given"), "rb") as stdin:
         answer, _ = place.meddled(*words, stdin=stdin, meddle={"interrupt": str(number)})
-    place.answers(answer, (0, told, b""))
+    place.answers(answer, wanted)
     place.holds(out=made, given=None, **files)
 
 
-def look_up_is_interrupted(place, words, out):
-    """The same, for commands that read a chunk file."""
-    place.lay(abc_prl=chunk_file(ABC, 0, 2))
+def look_up_is_interrupted(place, words, wanted):
+    """The same, for commands that read chunk files and write no file."""
+    place.lay(abc_prl=chunk_file(ABC, 0, 2), old_prl=OLD_TREE)
     answer, _ = place.meddled(*words, meddle={"interrupt": "3"})
-    place.answers(answer, (0, out, b""))
+    place.answers(answer, wanted)
 
 
 # ---- --sync
@@ -293,12 +312,13 @@ def look_up_is_interrupted(place, words, out):
 
 def is_on_the_disk(place, command, flags):
     """What is printed is printed after the file, and then its folder, were brought to the disk."""
-    words, given, made, told = WRITERS[command]
+    words, given, made, wanted_answer = WRITERS[command]
     files = laid(place)
     place.lay(given=given or b"")
     with open(place.path("given"), "rb") as stdin:
         answer, calls = place.meddled(*words, *flags, "--sync", stdin=stdin)
-    place.answers(answer, (0, told, b""))
+    place.answers(answer, wanted_answer)
+    told = wanted_answer[1]
     kinds = [line.split()[0] for line in calls if line.split()[0] in ("write", "fsync", "rename")]
     order = [kind for at, kind in enumerate(kinds) if at == 0 or kinds[at - 1] != kind or kind == "fsync"]
     wanted = ["write", "fsync", *(["rename"] if "--atomic" in flags else []), "fsync", *(["write"] if told else [])]
@@ -309,8 +329,10 @@ def is_on_the_disk(place, command, flags):
 
 def is_not_on_the_disk(place):
     """What is no file can't be brought to the disk."""
-    place.lay(a_rec=A)
-    place.answers(place.run("build", "--sync", "/dev/null", "a.rec"), NO_WRITE)
+    laid(place)
+    for words, given, _, _ in WRITERS.values():
+        there = in_place_of_out(words, "/dev/null")
+        place.answers(place.run(*there, "--sync", stdin=given or b""), NO_WRITE)
 
 
 # ---- runs that are ended, and limits
@@ -423,7 +445,8 @@ def is_read_only(place):
     place.path("out").chmod(0o444)
     place.answers(place.run("build", "out", "a.rec", is_nobody=True), refusal(b"cannot open out"))
     place.path("a.rec").chmod(0)
-    place.answers(place.run("build", "new", "a.rec", is_nobody=True), refusal(b"cannot open a.rec"))
+    for words in (["build", "new", "a.rec"], ["dump", "a.rec", "new"], ["diff", "out", "a.rec", "--out", "new"]):
+        place.answers(place.run(*words, is_nobody=True), refusal(b"cannot open a.rec"))
     place.path("a.rec").chmod(0o644)
     place.holds(out=BEFORE, a_rec=A)
 
@@ -442,6 +465,10 @@ def is_process_substitution(place):
     line = f"'{place.program}' build --bits 0 /dev/stdout <(cat a.rec) <(cat b.rec) | head -c {len(TREE)} > out"
     subprocess.run(["bash", "-c", line], cwd=place.folder, check=True)
     place.holds(a_rec=A, b_rec=B, out=TREE)
+    place.lay(old_prl=OLD_TREE)
+    line = f"'{place.program}' diff <(cat old.prl) <(cat out) --out changes.rec; '{place.program}' dump <(cat out) abc.rec"
+    subprocess.run(["bash", "-c", line], cwd=place.folder, check=True)
+    place.holds(a_rec=A, b_rec=B, out=TREE, old_prl=OLD_TREE, changes_rec=records(CHANGES), abc_rec=records(ABC))
 
 
 def grows(place):
@@ -458,30 +485,20 @@ def grows(place):
         place.note(f"status {process.returncode}, {out} {err}")
 
 
-def is_read_in_part(place):
-    """Nobody reads on: `scan | head -1`."""
-    pairs = numbered(20_000)
-    place.lay(big_prl=chunk_file(pairs, 4))
-    line = f"set -o pipefail; '{place.program}' scan big.prl '' 1000000 | head -1"
+def is_read_in_part(place, words, reader, taken):
+    """Nobody reads on behind the first line, or the first byte."""
+    place.lay(big_prl=chunk_file(numbered(20_000), 4), none_prl=chunk_file([], 4))
+    line = f"set -o pipefail; '{place.program}' {words} | {reader}"
     done = subprocess.run(["bash", "-c", line], cwd=place.folder, capture_output=True, check=False)
-    place.answers((done.returncode, done.stdout, done.stderr), (5, None, b"prolly: write failed\n"))
-    if done.stdout.count(b"\n") != 1:
-        place.note(f"standard output {done.stdout[:100]}")
+    place.answers((done.returncode, done.stdout, done.stderr), (5, taken, b"prolly: write failed\n"))
 
 
-def is_dumped_in_part(place):
-    """The same, of a record file: `dump | head -c 1`."""
-    place.lay(big_prl=chunk_file(numbered(20_000), 4))
-    line = f"set -o pipefail; '{place.program}' dump big.prl | head -c 1"
-    done = subprocess.run(["bash", "-c", line], cwd=place.folder, capture_output=True, check=False)
-    place.answers((done.returncode, done.stdout, done.stderr), (5, b"\0", b"prolly: write failed\n"))
-
-
-def is_full(place):
-    """A full device, for a tree of several megabytes."""
-    place.lay(in_rec=records(numbered(100_000)))
-    place.answers(place.run("build", "/dev/full", "in.rec"), NO_WRITE)
-    place.answers(place.run("scratch", "--out", "/dev/full", stdin=records(numbered(100_000))), NO_WRITE)
+def is_full(place, words):
+    """A full device, for a file of several megabytes."""
+    pairs = numbered(100_000)
+    place.lay(in_rec=records(pairs), in_prl=chunk_file(pairs, 12), none_prl=chunk_file([], 12))
+    with open(place.path("in.rec"), "rb") as given:
+        place.answers(place.run(*words, stdin=given), NO_WRITE)
 
 
 # ---- all
@@ -489,51 +506,106 @@ def is_full(place):
 
 def tests():
     """All tests: for each a name and what it does."""
+    yield from inputs_written()
+    for command in WRITERS:
+        yield from written(command)
+    yield from interrupted()
+    yield from ended()
+    yield from in_part()
+    alone = [is_a_device, is_told_early, needs_its_folder, one_of_two, is_not_on_the_disk, has_few_files, has_few_threads]
+    alone += [has_little_room, is_a_pipe, is_a_link, is_read_only, is_shown_escaped, is_process_substitution, grows]
+    for test in alone:
+        yield test.__name__.replace("_", " "), test
+    for name in ("folder", "pipe", "/dev/null"):
+        yield f"not replaced: {name}", partial(is_not_replaced, name=name)
+
+
+def inputs_written():
+    """Outputs that are inputs, or standard output."""
     rec = ["a.rec", "b.rec"]
     same = [["a.rec", *rec], ["b.rec", *rec], ["./a.rec", *rec], ["hard", *rec], ["soft", *rec], ["a.rec", "b.rec", "soft"]]
     names = [b"a.rec", b"b.rec", b"a.rec", b"a.rec", b"a.rec", b"soft"]
     for words, name in zip(same, names, strict=True):
         yield f"OUT is an input: {' '.join(words)}", partial(is_an_input, words=words, name=name)
         yield f"OUT is an input, atomic: {' '.join(words)}", partial(is_an_input, words=["--atomic", *words], name=name)
-    for words in (["in.prl", "in.prl"], ["in.prl", "./in.prl"], ["in.prl", "hard"], ["in.prl", "soft"], ["soft", "in.prl"], ["--atomic", "in.prl", "in.prl"]):
-        name = b"soft" if words[0] == "soft" else b"in.prl"
-        yield f"OUT is dumped: {' '.join(words)}", partial(is_the_dumped_file, words=words, name=name)
+    files = [("in.prl", out, []) for out in ("in.prl", "./in.prl", "hard", "soft")]
+    for file, out, flags in [*files, ("soft", "in.prl", []), ("in.prl", "in.prl", ["--atomic"])]:
+        pairs_of_files = [[file, "old.prl"], ["old.prl", file]]
+        for words in (["dump", *flags, file, out], *(["diff", *flags, *two, "--out", out] for two in pairs_of_files)):
+            yield f"OUT is a chunk file: {' '.join(words)}", partial(is_a_chunk_file, words=words, name=file.encode())
+    for words in (["dump", "in.prl"], ["diff", "in.prl", "old.prl"], ["diff", "old.prl", "in.prl"], ["dump", "--text", "in.prl"]):
+        yield f"standard output is a chunk file: {' '.join(words)}", partial(is_printed_to_itself, words=words)
     for words in (["pack", "in.rec"], ["scratch", "--out", "in.rec"], ["scratch", "--atomic", "--out", "in.rec"], ["build", "in.rec", "/dev/stdin"]):
         yield f"OUT is standard input: {' '.join(words)}", partial(is_standard_input, words=words)
-    for words in (["build", "/dev/stdout", "a.rec"], ["build", "log", "a.rec"], ["scratch", "--out", "log"], ["pack", "log"], ["pack", "--atomic", "log"], ["dump", "abc.prl", "log"]):
+    for words in (["build", "/dev/stdout", "a.rec"], ["pack", "--atomic", "log"], *(in_place_of_out(words, "log") for words, *_ in WRITERS.values())):
         for mode in ("wb", "ab"):
             yield f"OUT is standard output, {mode}: {' '.join(words)}", partial(is_standard_output, words=words, mode=mode)
-    for command in WRITERS:
-        for flags in (["--atomic"], ["--sync"], ["--atomic", "--sync"]):
-            yield f"{command} {' '.join(flags)}: replaced", partial(is_replaced, command=command, flags=flags)
-        for flags in (["--atomic"], ["--atomic", "--sync"]):
-            for before in (None, BEFORE):
-                yield f"{command} {' '.join(flags)}: stays after a fault", partial(stays, command=command, flags=flags, before=before)
-        for number in (2, 3, 7):
-            yield f"{command}: interrupted, but each {number}th", partial(is_interrupted, command=command, number=number)
-        for flags in ([], ["--atomic"]):
-            yield f"{command} {' '.join(flags)} --sync: the order", partial(is_on_the_disk, command=command, flags=flags)
-            yield f"{command} {' '.join(flags)}: a write fails", partial(fails, command=command, flags=flags, call="write", number=1, wanted=NO_WRITE)
-            for number in (1, 2):
-                flags_of = [*flags, "--sync"]
-                if number == 1 or not flags:
-                    yield f"{command} {' '.join(flags_of)}: sync {number} fails", partial(fails, command=command, flags=flags_of, call="fsync", number=number, wanted=NO_WRITE)
-        for call in ("rename", "fchmod"):
-            yield f"{command}: {call} fails", partial(fails, command=command, flags=["--atomic"], call=call, number=1, wanted=refusal(b"cannot replace out"))
-    for words, out in ((["check", "abc.prl"], None), (["get", "abc.prl", "61"], b"31\n"), (["scan", "abc.prl", "62", "1"], b"62 31\n"), (["nth", "abc.prl", "0"], b"61 31\n"), (["dump", "abc.prl"], records(ABC))):
-        yield f"interrupted: {' '.join(words)}", partial(look_up_is_interrupted, words=words, out=out)
-    for name in ("folder", "pipe", "/dev/null"):
-        yield f"not replaced: {name}", partial(is_not_replaced, name=name)
+
+
+def in_place_of_out(words, name):
+    """The words of a command that is to write this file."""
+    return [name if word == "out" else word for word in words]
+
+
+def written(command):
+    """What becomes of the file that a command writes."""
+    for flags in (["--atomic"], ["--sync"], ["--atomic", "--sync"]):
+        yield f"{command} {' '.join(flags)}: replaced", partial(is_replaced, command=command, flags=flags)
+    for flags in (["--atomic"], ["--atomic", "--sync"]):
+        for before in (None, BEFORE):
+            yield f"{command} {' '.join(flags)}: stays after a fault", partial(stays, command=command, flags=flags, before=before)
+    for test in (keeps_its_mode, follows_links, passes_names):
+        yield f"{command} --atomic {test.__name__.replace('_', ' ')}", partial(test, command=command)
+    for number in (2, 3, 7):
+        yield f"{command}: interrupted, but each {number}th", partial(is_interrupted, command=command, number=number)
+    for flags in ([], ["--atomic"]):
+        yield f"{command} {' '.join(flags)} --sync: the order", partial(is_on_the_disk, command=command, flags=flags)
+        yield f"{command} {' '.join(flags)}: a write fails", partial(fails, command=command, flags=flags, call="write", number=1, wanted=NO_WRITE)
+        for number in (1, 2):
+            flags_of = [*flags, "--sync"]
+            if number == 1 or not flags:
+                yield f"{command} {' '.join(flags_of)}: sync {number} fails", partial(fails, command=command, flags=flags_of, call="fsync", number=number, wanted=NO_WRITE)
+    for call in ("rename", "fchmod"):
+        yield f"{command}: {call} fails", partial(fails, command=command, flags=["--atomic"], call=call, number=1, wanted=refusal(b"cannot replace out"))
+
+
+def interrupted():
+    """Commands that write no file, whose calls are interrupted."""
+    read = [
+        (["check", "abc.prl"], None, 0),
+        (["get", "abc.prl", "61"], b"31\n", 0),
+        (["scan", "abc.prl", "62", "1"], b"62 31\n", 0),
+        (["nth", "abc.prl", "0"], b"61 31\n", 0),
+        (["dump", "abc.prl"], records(ABC), 0),
+        (["dump", "--text", "abc.prl"], lines(ABC), 0),
+        (["diff", "old.prl", "abc.prl"], lines(CHANGES), 1),
+    ]
+    for words, out, status in read:
+        yield f"interrupted: {' '.join(words)}", partial(look_up_is_interrupted, words=words, wanted=(status, out, b""))
+
+
+def ended():
+    """Runs that are ended, by a signal or by a limit."""
     for name in ("SIGTERM", "SIGINT", "SIGKILL"):
         for flags in ([], ["--atomic"]):
             yield f"ended by {name} {' '.join(flags)}", partial(is_ended, name=name, flags=flags)
     for is_told in (False, True):
         yield f"limited in size, the signal {'ignored' if is_told else 'as it is'}", partial(is_limited_in_size, is_told=is_told)
-    alone = [is_dumped_to_itself, is_a_device, is_told_early, keeps_its_mode, follows_links, passes_names, needs_its_folder, one_of_two]
-    alone += [no_write_after_a_failed_one, is_not_on_the_disk, has_few_files, has_few_threads, has_little_room, is_a_pipe, is_a_link]
-    alone += [is_read_only, is_shown_escaped, is_process_substitution, grows, is_read_in_part, is_dumped_in_part, is_full]
-    for test in alone:
-        yield test.__name__.replace("_", " "), test
+
+
+def in_part():
+    """Outputs that take only a part."""
+    pairs = numbered(MANY)
+    tree, rec = chunk_file(pairs, 2), records(pairs)
+    yield "no write of a build after a failed one", partial(no_write_after_a_failed_one, words=["build", "--bits", "2", "out", "a.rec"], begun=tree[:-END_SIZE], whole=tree)
+    text = lines(pairs)
+    for words, whole in ((["dump", "a.prl", "out"], rec), (["dump", "--text", "a.prl", "out"], text), (["diff", "none.prl", "a.prl", "--out", "out"], rec)):
+        yield f"no write after a failed one: {' '.join(words)}", partial(no_write_after_a_failed_one, words=words, begun=whole, whole=whole)
+    first = lines(pairs[:1])
+    for words, reader, taken in (("scan big.prl '' 1000000", "head -1", first), ("diff none.prl big.prl", "head -1", first), ("dump --text big.prl", "head -1", first), ("dump big.prl", "head -c 1", rec[:1])):
+        yield f"nobody reads on: {words} | {reader}", partial(is_read_in_part, words=words, reader=reader, taken=taken)
+    for words in (["build", "/dev/full", "in.rec"], ["scratch", "--out", "/dev/full"], ["dump", "in.prl", "/dev/full"], ["dump", "--text", "in.prl", "/dev/full"], ["diff", "none.prl", "in.prl", "--out", "/dev/full"]):
+        yield f"a full device: {' '.join(words)}", partial(is_full, words=words)
 
 
 def all_runs(program, folder):

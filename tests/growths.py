@@ -7,6 +7,8 @@ import tempfile
 from dataclasses import dataclass, field
 from pathlib import Path
 
+from diffs import difference
+from dumps import lines
 from harness import NO_THREAD, SCARCE, file_differences, lay_out, shown
 from scratch import ABC
 from trees import END_SIZE, begun_file, chunk_file, overlay, record, records, report, root_text
@@ -14,6 +16,11 @@ from trees import END_SIZE, begun_file, chunk_file, overlay, record, records, re
 FIVE_IN_THREE = [[(b"a", b"1"), (b"d", b"1")], [(b"b", b"1")], [(b"c", b"1"), (b"e", b"1")]]
 
 OUT_OF_ORDER = [(b"5", b"1"), (b"3", b"1")]
+
+OLD = [(b"a", b"0"), (b"b", b"1"), (b"d", b"1")]
+"""Pairs of which one has another value, and one is taken away."""
+
+CHANGES = difference(OLD, ABC)
 
 MOST_GROWTHS = 2_000
 """More than any of the commands asks for."""
@@ -44,6 +51,7 @@ def commands():
     """The commands, each over little data, so that each growth can be refused."""
     chunks, counted = chunk_file(ABC, 0), chunk_file(ABC, 0, 2)
     reads = {"abc.prl": chunks, "counted.prl": counted}
+    both = {"old.prl": chunk_file(OLD, 0), "abc.prl": chunks}
     return [
         Command("pack", ["pack", "out.rec"], b"61 31\n62 -\n", out=b"2\n", made="out.rec", whole=record(b"a", b"1") + record(b"b", None)),
         Command(
@@ -65,7 +73,13 @@ def commands():
         Command("scan", ["scan", "abc.prl", "62", "5"], out=b"62 31\n63 31\n", before=reads),
         Command("nth", ["nth", "counted.prl", "2"], out=b"63 31\n", before=reads),
         Command("dump", ["dump", "abc.prl"], out=records(ABC), before=reads),
+        Command("dump --text", ["dump", "--text", "abc.prl"], out=lines(ABC), before=reads),
+        Command("dump --text to a file", ["dump", "--text", "abc.prl", "out.txt"], before=reads, made="out.txt", whole=lines(ABC)),
         Command("dump to a file", ["dump", "abc.prl", "out.rec"], before=reads, made="out.rec", whole=records(ABC)),
+        Command("diff", ["diff", "old.prl", "abc.prl"], status=1, out=lines(CHANGES), before=both),
+        Command("diff of equal maps", ["diff", "counted.prl", "abc.prl"], before=reads),
+        Command("diff to a file", ["diff", "old.prl", "abc.prl", "--out", "out.rec"], status=1, before=both, made="out.rec", whole=records(CHANGES)),
+        Command("atomic diff", ["diff", "--atomic", "--sync", "old.prl", "abc.prl", "--out", "out.rec"], status=1, before=both, made="out.rec", whole=records(CHANGES)),
         Command("atomic dump", ["dump", "--atomic", "--sync", "abc.prl", "out.rec"], before=reads, made="out.rec", whole=records(ABC)),
     ]
 

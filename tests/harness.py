@@ -73,7 +73,7 @@ def start(program, case, folder):
             stdout=stdout,
             stderr=subprocess.PIPE,
             input=case.input if stdin is None and case.input is not None else None,
-            preexec_fn=lambda: limit(case),
+            preexec_fn=(lambda: limit(case)) if is_limited(case) else None,
             check=False,
         )
     finally:
@@ -98,6 +98,12 @@ def open_output(kind):
         os.close(reader)
         return writer, lambda: os.close(writer)
     return subprocess.PIPE, lambda: None
+
+
+def is_limited(case):
+    """Whether anything is to be closed, or taken, before the program starts. Where nothing is, it starts sooner: the
+    system need not copy this process, which may be large."""
+    return case.input is None or "closed" in (case.stdout, case.stderr) or case.memory is not None
 
 
 def limit(case):

@@ -4,11 +4,13 @@ import random
 import sys
 
 from damaged import lawful_or_fault
+from diffs import difference
+from dumps import lines
 from harness import Case
 from readings import merged, packed, read, stop_of
-from trees import REMOVED, begun_file, chunk_file, record, reference_text, report, root_text, tall_file, tree
+from trees import REMOVED, begun_file, chunk_file, overlay, record, records, reference_text, report, root_text, tall_file, tree
 
-SEED, COUNT = 20_240_601, 500
+SEED, COUNT = 20_240_601, 650
 """What the gate runs."""
 
 FILES_LIMIT = 16
@@ -23,7 +25,7 @@ def cases(_):
 
 def runs(seed, count):
     """So many runs; a difference is named with the seed that brings it back."""
-    kinds = [build, build, build, scratch, pack, look_up, look_up]
+    kinds = [build, build, build, scratch, pack, look_up, look_up, dump, diff]
     for number in range(count):
         chance = random.Random(f"{seed} {number}")
         case = chance.choice(kinds)(chance)
@@ -202,18 +204,10 @@ def text_line(chance):
 
 def look_up(chance):
     """A command over a chunk file, which may be damaged."""
-    bits, version = chance.choice([0, 1, 2, 12, 24]), chance.choice([1, 2])
-    pairs = [change for change in changes(chance) if change[1] is not REMOVED]
-    content = chunk_file(pairs, bits, version)
-    kind = chance.random()
-    if kind < 0.15:
-        content = turned(chance, content)
-    if 0.15 < kind < 0.2:
-        content = content[: chance.randrange(len(content))]
-    fault = lawful_or_fault(content)
-    if fault is None:
-        # A bit that is turned in the header may leave a lawful file, of other bits.
-        version, bits = content[4:6]
+    pairs = some_pairs(chance)
+    content, fault = a_chunk_file(chance, pairs)
+    # A bit that is turned in the header may leave a lawful file, of other bits.
+    version, bits = content[4:6] if fault is None else (1, 0)
     words, status, out, error = asked(chance, pairs, bits, version)
     if fault is not None:
         status, out, error = 4, b"", b"chunk file: " + fault
@@ -224,6 +218,64 @@ def look_up(chance):
         out=out,
         err=b"prolly: " + error + b"\n" if error else b"",
         before={"in.prl": content},
+    )
+
+
+def some_pairs(chance):
+    """Pairs in the order of their keys."""
+    return [change for change in changes(chance) if change[1] is not REMOVED]
+
+
+def a_chunk_file(chance, pairs):
+    """A chunk file of the pairs, which may be damaged, and its fault, if it has one."""
+    content = chunk_file(pairs, chance.choice([0, 1, 2, 12, 24]), chance.choice([1, 2]))
+    kind = chance.random()
+    if kind < 0.15:
+        content = turned(chance, content)
+    if 0.15 < kind < 0.2:
+        content = content[: chance.randrange(len(content))]
+    return content, lawful_or_fault(content)
+
+
+def dump(chance):
+    """A chunk file, which may be damaged, to a record file or to lines."""
+    pairs = some_pairs(chance)
+    content, fault = a_chunk_file(chance, pairs)
+    status = 0 if fault is None else 4
+    words, form = chance.choice([([], records), (["--text"], lines)])
+    before, after, flags = written(chance, "out", b"" if fault else form(pairs), status)
+    return Case(
+        "",
+        ["dump", *words, *flags, "in.prl", "out"],
+        status=status,
+        err=b"prolly: chunk file: " + fault + b"\n" if fault else b"",
+        before={"in.prl": content} | before,
+        after=after,
+    )
+
+
+def diff(chance):
+    """Two chunk files that share pairs, of which each may be damaged, and the difference printed or written."""
+    old = some_pairs(chance)
+    new = overlay([old, changes(chance, 6)]) if chance.random() < 0.7 else some_pairs(chance)
+    (old_content, old_fault), (new_content, new_fault) = a_chunk_file(chance, old), a_chunk_file(chance, new)
+    found = difference(old, new)
+    status, error = (1 if found else 0), b""
+    for which, fault in ((b"new", new_fault), (b"old", old_fault)):
+        if fault is not None:
+            status, error, found = 4, b"prolly: " + which + b" chunk file: " + fault + b"\n", []
+    is_written = chance.random() < 0.5
+    words = ["--out", "out.rec"] if is_written else []
+    # `written` takes each status for a fault but 0.
+    before, after, flags = written(chance, "out.rec", records(found) if is_written else None, status if error else 0)
+    return Case(
+        "",
+        ["diff", *words, *flags, "old.prl", "new.prl"],
+        status=status,
+        out=b"" if is_written else lines(found),
+        err=error,
+        before={"old.prl": old_content, "new.prl": new_content} | before,
+        after=after,
     )
 
 

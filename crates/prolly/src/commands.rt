@@ -13,7 +13,7 @@ use prolly_fault::RunFault;
 use prolly_file::{Buffered, FromRead, Sink, ToWrite};
 use prolly_stage::OpenGate;
 use prolly_tool::{
-    Answer, Command, Config, DiffForm, Fault, NameFault, WriteMode, answer_build, answer_check,
+    Answer, Command, Config, Fault, NameFault, RecordForm, WriteMode, answer_build, answer_check,
     answer_diff, answer_dump, answer_get, answer_nth, answer_pack, answer_scan, answer_scratch,
 };
 use std::alloc::AllocError;
@@ -91,14 +91,20 @@ fn answer_or_refusal<T: Wait + Threads + Sync>(
             let mut source = opened(rt, &file)?;
             Ok(answer_nth(rt.alloc(), &mut source, n)?)
         }
-        Command::Dump { file, out, mode } => match out {
-            None => dump(rt, &file),
-            Some(out) => dump_to(rt, &file, &out, mode),
+        Command::Dump {
+            file,
+            out,
+            text,
+            mode,
+        } => match out {
+            None => dump(rt, &file, dump_form(text)),
+            Some(out) => dump_to(rt, &file, dump_form(text), &out, mode),
         },
         Command::Diff {
             old,
             new,
             out,
+            stat: _,
             mode,
         } => match out {
             None => diff(rt, &old, &new),
@@ -153,29 +159,45 @@ fn scratch_to(
     Ok(output.finish(rt, out, answer)?)
 }
 
-/// `dump FILE`
-fn dump(rt: &HostRuntime, file: &str) -> Result<Answer, Refusal> {
-    let source = opened_beside(rt, file, FileId::at(rt, STDOUT))?;
-    Ok(dump_into(rt, source, rt.stdout())?)
+/// How `dump` writes pairs, with `--text` or without it.
+fn dump_form(text: bool) -> RecordForm {
+    if text {
+        RecordForm::Lines
+    } else {
+        RecordForm::Records
+    }
 }
 
-/// `dump FILE OUT [--atomic] [--sync]`
-fn dump_to(rt: &HostRuntime, file: &str, out: &str, mode: WriteMode) -> Result<Answer, Refusal> {
+/// `dump [--text] FILE`
+fn dump(rt: &HostRuntime, file: &str, form: RecordForm) -> Result<Answer, Refusal> {
+    let source = opened_beside(rt, file, FileId::at(rt, STDOUT))?;
+    Ok(dump_into(rt, source, form, rt.stdout())?)
+}
+
+/// `dump [--text] FILE OUT [--atomic] [--sync]`
+fn dump_to(
+    rt: &HostRuntime,
+    file: &str,
+    form: RecordForm,
+    out: &str,
+    mode: WriteMode,
+) -> Result<Answer, Refusal> {
     let target = FileId::at(rt, out);
     let source = opened_beside(rt, file, target)?;
     let output = output_of(rt, out, target, mode)?;
-    let answer = dump_into(rt, source, output.file());
+    let answer = dump_into(rt, source, form, output.file());
     Ok(output.finish(rt, out, answer)?)
 }
 
-/// Writes the record file of the source's pairs.
+/// Writes the source's pairs in this form.
 fn dump_into<W: Write + Drop>(
     rt: &HostRuntime,
     mut source: FromRead<File>,
+    form: RecordForm,
     writer: W,
 ) -> Result<Answer, AllocError> {
     let mut sink = Buffered::with_capacity(rt.alloc(), OUTPUT_BYTES, ToWrite::new(writer))?;
-    answer_dump(rt.alloc(), &mut source, &mut sink)
+    answer_dump(rt.alloc(), &mut source, form, &mut sink)
 }
 
 /// `diff OLD NEW`
@@ -185,7 +207,7 @@ fn diff(rt: &HostRuntime, old: &str, new: &str) -> Result<Answer, Refusal> {
         opened_beside(rt, old, target)?,
         opened_beside(rt, new, target)?,
     );
-    Ok(diff_into(rt, old, new, DiffForm::Lines, rt.stdout())?)
+    Ok(diff_into(rt, old, new, RecordForm::Lines, rt.stdout())?)
 }
 
 /// `diff OLD NEW --out FILE [--atomic] [--sync]`
@@ -202,7 +224,7 @@ fn diff_to(
         opened_beside(rt, new, target)?,
     );
     let output = output_of(rt, out, target, mode)?;
-    let answer = diff_into(rt, old, new, DiffForm::Records, output.file());
+    let answer = diff_into(rt, old, new, RecordForm::Records, output.file());
     Ok(output.finish(rt, out, answer)?)
 }
 
@@ -211,7 +233,7 @@ fn diff_into<W: Write + Drop>(
     rt: &HostRuntime,
     mut old: FromRead<File>,
     mut new: FromRead<File>,
-    form: DiffForm,
+    form: RecordForm,
     writer: W,
 ) -> Result<Answer, AllocError> {
     let mut sink = Buffered::with_capacity(rt.alloc(), OUTPUT_BYTES, ToWrite::new(writer))?;
