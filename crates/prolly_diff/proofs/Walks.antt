@@ -9,7 +9,7 @@ use Rattle.std.proofs.lemmas.Bool.Decides.{Decides-eqb}
 use Rattle.std.proofs.lemmas.Slice.Eq.{slice_eq-Decides}
 use Rattle.prolly_entry.specs.Keys.{key_order, KeyBelow}
 use Rattle.prolly_entry.specs.Pair.{Pair}
-use Rattle.prolly_entry.specs.lemmas.Orders.{order_self}
+use Rattle.prolly_entry.specs.lemmas.Orders.{order_self, order_trans}
 use Rattle.prolly_entry.specs.lemmas.Spellings.{same_pair}
 use Rattle.prolly_tree.specs.Difference.{IsDifference, IsMap}
 use Rattle.prolly_tree.specs.LookUp.{find}
@@ -73,11 +73,26 @@ not_before [] ys p m = refl
 not_before (x ∷ xs) ys p m = rw (ap is_eq (above_at x.key xs ys p (rises (x ∷ xs ++ p ∷ ys) m).0))
     (not_before xs ys p (map_behind (x ∷ []) (xs ++ p ∷ ys) m))
 
+-- Nor is a greater one.
+greater_behind : (xs ys : List Pair) (p : Pair) → IsMap (xs ++ p ∷ ys) → (other : List ℕ) →
+    KeyBelow p.key other → find xs other ≡ None
+greater_behind [] ys p m other h = refl
+greater_behind (x ∷ xs) ys p m other h =
+    rw (ap is_eq (order_trans x.key p.key other
+    (above_at x.key xs ys p (rises (x ∷ xs ++ p ∷ ys) m).0) h))
+    (greater_behind xs ys p (map_behind (x ∷ []) (xs ++ p ∷ ys) m) other h)
+
+-- A key is not found at a pair whose key is below it.
+find_next : (p : Pair) (ps : List Pair) (other : List ℕ) → KeyBelow p.key other →
+    find (p ∷ ps) other ≡ find ps other
+find_next p ps other h = ap (λ b. cond b (Some p.value) (find ps other)) (ap is_eq h)
+
 -- A change behind what both maps begin with is the first of both.
 change_behind : (maps mid rest : Maps) (key : List ℕ) (before after : Option (List ℕ)) →
     AreMaps maps → (s : AreAlike maps mid) → find s.shared key ≡ None →
+    ((other : List ℕ) → KeyBelow key other → find s.shared other ≡ None) →
     IsFirstChange mid key before after rest → IsFirstChange maps key before after rest
-change_behind maps mid rest key before after m s none c = record {
+change_behind maps mid rest key before after m s none greater c = record {
   begins = λ d is. rw (s.before_is, s.after_is) (shared_first s.shared mid.before mid.after
       (record { key = key; value = after } ∷ d) (subst IsMap s.before_is m.0)
       (subst IsMap s.after_is m.1) (c.begins d is));
@@ -85,6 +100,8 @@ change_behind maps mid rest key before after m s none c = record {
       c.before_is;
   after_is = ap (λ xs. find xs key) s.after_is ∙ find_behind s.shared mid.after key none ∙
       c.after_is;
+  greater = λ other h. ap (λ xs. find xs other) s.before_is ∙
+      find_behind s.shared mid.before other (greater other h) ∙ c.greater other h;
   left = c.left;
   less = omega (
     arith,
@@ -105,11 +122,11 @@ pub removed : (maps mid rest : Maps) (o : Pair) → AreMaps maps → AreAlike ma
     TakesLeast mid (Some o) None rest →
     IsFirstChange maps o.key (Some o.value) None rest
 removed maps mid rest o m s h = change_behind maps mid rest o.key (Some o.value) None m s
-    (not_before s.shared rest.before o (subst IsMap (s.before_is ∙ ap (λ xs. s.shared ++ xs) h.0)
-    m.0)) (record {
+    (not_before s.shared rest.before o all) (greater_behind s.shared rest.before o all) (record {
       begins = λ d is. rw (h.0, h.1) (removed_first o rest.before rest.after d os h.2 is);
       before_is = rw h.0 (found_first o rest.before);
       after_is = rw h.1 (find_above rest.after o.key h.2);
+      greater = λ other below. rw h.0 (find_next o rest.before other below);
       left = (map_behind (o ∷ []) rest.before os, subst IsMap h.1 mids.1);
       less = omega (arith, ap length h.0, ap length h.1);
     })
@@ -120,15 +137,18 @@ removed maps mid rest o m s h = change_behind maps mid rest o.key (Some o.value)
     os : IsMap (o ∷ rest.before)
     os = subst IsMap h.0 mids.0
 
+    all : IsMap (s.shared ++ o ∷ rest.before)
+    all = subst IsMap (s.before_is ∙ ap (λ xs. s.shared ++ xs) h.0) m.0
+
 pub added : (maps mid rest : Maps) (n : Pair) → AreMaps maps → AreAlike maps mid →
     TakesLeast mid None (Some n) rest →
     IsFirstChange maps n.key None (Some n.value) rest
 added maps mid rest n m s h = change_behind maps mid rest n.key None (Some n.value) m s
-    (not_before s.shared rest.after n (subst IsMap (s.after_is ∙ ap (λ xs. s.shared ++ xs) h.1)
-    m.1)) (record {
+    (not_before s.shared rest.after n all) (greater_behind s.shared rest.after n all) (record {
       begins = λ d is. rw (h.0, h.1) (added_first n rest.before rest.after d h.2 ns is);
       before_is = rw h.0 (find_above rest.before n.key h.2);
       after_is = rw h.1 (found_first n rest.after);
+      greater = λ other below. ap (λ xs. find xs other) h.0;
       left = (subst IsMap h.0 mids.0, map_behind (n ∷ []) rest.after ns);
       less = omega (arith, ap length h.0, ap length h.1);
     })
@@ -139,17 +159,21 @@ added maps mid rest n m s h = change_behind maps mid rest n.key None (Some n.val
     ns : IsMap (n ∷ rest.after)
     ns = subst IsMap h.1 mids.1
 
+    all : IsMap (s.shared ++ n ∷ rest.after)
+    all = subst IsMap (s.after_is ∙ ap (λ xs. s.shared ++ xs) h.1) m.1
+
 pub changed : (maps mid rest : Maps) (o n : Pair) → AreMaps maps → AreAlike maps mid →
     TakesLeast mid (Some o) (Some n) rest → o.value ≢ n.value →
     IsFirstChange maps o.key (Some o.value) (Some n.value) rest
 changed maps mid rest o n m s h differ = rw h.2 (change_behind maps mid rest n.key (Some o.value)
     (Some n.value) m s
-    (not_before s.shared rest.after n (subst IsMap (s.after_is ∙ ap (λ xs. s.shared ++ xs) h.1)
-    m.1)) (record {
+    (not_before s.shared rest.after n all) (greater_behind s.shared rest.after n all) (record {
       begins = λ d is. rw (h.0, h.1) (changed_first o n rest.before rest.after d os ns h.2 differ
           is);
       before_is = rw (h.0, sym h.2) (found_first o rest.before);
       after_is = rw h.1 (found_first n rest.after);
+      greater = λ other below. rw h.0 (find_next o rest.before other
+          (subst (λ key. KeyBelow key other) (sym h.2) below));
       left = (map_behind (o ∷ []) rest.before os, map_behind (n ∷ []) rest.after ns);
       less = omega (arith, ap length h.0, ap length h.1);
     }))
@@ -162,6 +186,9 @@ changed maps mid rest o n m s h differ = rw h.2 (change_behind maps mid rest n.k
 
     ns : IsMap (n ∷ rest.after)
     ns = subst IsMap h.1 mids.1
+
+    all : IsMap (s.shared ++ n ∷ rest.after)
+    all = subst IsMap (s.after_is ∙ ap (λ xs. s.shared ++ xs) h.1) m.1
 
 -- Where nothing is left behind what both begin with, the maps are the same.
 pub no_change : (maps mid rest : Maps) → AreMaps maps → AreAlike maps mid →

@@ -2,7 +2,7 @@
 use Rattle.std.specs.Prelude.{◌≡◌, ℕ, ◌+◌, ◌<◌, List, [], ◌∷◌, ◌++◌, length, Option, Some, None}
 use Rattle.std.specs.declared.cmp.Ordering.{Ordering}
 use Rattle.std.specs.declared.cmp.Ordering.TheVariants.{Less, Greater}
-use Rattle.prolly_entry.specs.Keys.{key_order}
+use Rattle.prolly_entry.specs.Keys.{KeyBelow, key_order}
 use Rattle.prolly_entry.specs.Pair.{Pair}
 use Rattle.prolly_entry.specs.Record.{Record}
 use Rattle.prolly_tree.specs.Difference.{IsDifference, IsMap}
@@ -52,13 +52,15 @@ TakesLeast maps (Some before) (Some after) rest = (maps.before ≡ before ∷ re
     (maps.after ≡ after ∷ rest.after) × (before.key ≡ after.key)
 
 -- The key is the first in which the maps differ: the one has `before` at it, and the other `after`.
--- The record that says so, before the difference of the maps that are left, makes theirs; and these
--- are shorter.
+-- The record that says so, before the difference of the maps that are left, makes theirs; what the
+-- one map has of greater keys is left of it; and what is left is shorter.
 pub record IsFirstChange (maps : Maps) (key : List ℕ) (before after : Option (List ℕ))
     (rest : Maps) : Type 0 where
   pub begins : (d : List Record) → IsDifference rest.before rest.after d →
       IsDifference maps.before maps.after (record { key = key; value = after } ∷ d)
   pub before_is : find maps.before key ≡ before
   pub after_is : find maps.after key ≡ after
+  pub greater : (other : List ℕ) → KeyBelow key other →
+      find maps.before other ≡ find rest.before other
   pub left : AreMaps rest
   pub less : length rest.before + length rest.after < length maps.before + length maps.after
