@@ -6,10 +6,11 @@ use Rattle.std.proofs.Common.{length-append}
 use Rattle.std.proofs.lemmas.List.Concat.{flat_map-append}
 use Rattle.std.specs.List.{AllByRecursion}
 use Rattle.std.specs.Ordering.{is_eq}
-use Rattle.prolly_entry.specs.Keys.{key_order}
+use Rattle.prolly_entry.specs.Keys.{KeyBelow, key_order}
 use Rattle.prolly_entry.specs.Overlay.{change_of}
 use Rattle.prolly_entry.specs.Pair.{Pair, IsPair}
 use Rattle.prolly_entry.specs.Record.{Record, IsRecord, IsChange}
+use Rattle.prolly_entry.specs.lemmas.Lists.{all_back, all_front}
 use Rattle.prolly_entry.specs.lemmas.Orders.{order_self, order_same, eq_true, not_eq_below}
 use Rattle.prolly_entry.specs.lemmas.RisingRecords.{AllAbove, IsRising, is_rising}
 use Rattle.prolly_tree.specs.Difference.{IsChangeTo, IsDifference}
@@ -106,13 +107,30 @@ abbrev pub TookIn : {W : Type 0} → (W → SinkView) → Option RecordForm → 
 TookIn seen None records old new = new ≡ old
 TookIn seen (Some form) records old new = TookSoFar seen (written_records form records) old new
 
--- Some records were written, and those of the maps that are left follow.
+-- The keys of these records are below the key.
+abbrev AreBelow : List Record → List ℕ → Type 0
+AreBelow records key = AllByRecursion (λ r. KeyBelow r.key key) records
+
+-- A record whose keys rise comes behind those that are before it.
+below_next : (done : List Record) (r : Record) (rest : List Record) →
+    IsRising (done ++ r ∷ rest) → AreBelow done r.key
+below_next [] r rest h = tt
+below_next (s ∷ done) r rest h = (below_at s.key done r rest h.0, below_next done r rest h.1)
+  where
+    below_at : (x : List ℕ) (done : List Record) (r : Record) (rest : List Record) →
+        AllAbove x (done ++ r ∷ rest) → KeyBelow x r.key
+    below_at x [] r rest h = h.0
+    below_at x (s ∷ done) r rest h = below_at x done r rest h.1
+
+-- Some records were written, and those of the maps that are left follow; what the one map has of
+-- greater keys is left of it.
 pub record IsWritten {W : Type 0} (seen : W → SinkView) (form : Option RecordForm)
     (all left : Maps) (counts : ChangeCounts) (old new : W) : Type 0 where
   pub done : List Record
   pub goes_on : (d : List Record) → IsDifference left.before left.after d →
       IsDifference all.before all.after (done ++ d)
   pub maps : AreMaps left
+  pub greater : (key : List ℕ) → AreBelow done key → find all.before key ≡ find left.before key
   pub took : TookIn seen form done old new
   pub counted : AreCounts all.before done counts
   pub few : length done + (length left.before + length left.after) ≤
@@ -131,6 +149,7 @@ module _ {W : Type 0} (seen : W → SinkView) (form : Option RecordForm) (all : 
     done = [];
     goes_on = λ d is. is;
     maps = maps;
+    greater = λ key below. refl;
     took = took_nothing seen form old;
     counted = none all.before;
     few = omega arith;
@@ -205,9 +224,14 @@ module _ {W : Type 0} (seen : W → SinkView) (form : Option RecordForm) (all le
   room_for_one few = let n = all_counted all.before w.done counts w.counted in
       let m = w.few in let l = first.less in omega arith
 
+  -- the whole old map has at the key what is left of it has
+  old_has : find all.before key ≡ before
+  old_has = w.greater key (below_next w.done own later
+      (is_rising (w.done ++ own ∷ later) whole.rising)) ∙ first.before_is
+
   pub one_written : {T E : Type 0} (x : T) (new : W) (more : ChangeCounts) →
       ((records : List Record) → AreCounts all.before records counts →
-      AreCounts all.before (records ++ own ∷ []) more) →
+      find all.before key ≡ before → AreCounts all.before (records ++ own ∷ []) more) →
       Writes {T = T} {E = E} (spelled_in form own) (seen mid) (seen new) (Ok x) →
       (spelled_in form own ≡ [] → new ≡ mid) → IsWritten seen form all rest more old new
   one_written x new more counted writes nothing = record {
@@ -215,8 +239,11 @@ module _ {W : Type 0} (seen : W → SinkView) (form : Option RecordForm) (all le
     goes_on = λ d is. subst (λ rs. IsDifference all.before all.after rs)
         (sym (append_assoc w.done (own ∷ []) d)) (w.goes_on (own ∷ d) (first.begins d is));
     maps = first.left;
+    greater = λ other below. w.greater other
+        (all_front (λ r. KeyBelow r.key other) w.done (own ∷ []) below) ∙
+        first.greater other (all_back (λ r. KeyBelow r.key other) w.done (own ∷ []) below).0;
     took = took_one seen w.done own old mid new form x w.took writes nothing;
-    counted = counted w.done w.counted;
+    counted = counted w.done w.counted old_has;
     few = let m = w.few in let l = first.less in
         omega (arith, length-append w.done (own ∷ []));
   }

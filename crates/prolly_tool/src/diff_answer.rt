@@ -3,7 +3,6 @@ ghost use Rattle.std.specs.Prelude.{◌≡◌, ◌≢◌, ◌⊎◌, ◌+◌, �
 ghost use Rattle.std.specs.Prelude.{◌∷◌, ◌++◌, OnOk, OnErr};
 ghost use Rattle.std.specs.Fmt.{decimal};
 ghost use Rattle.std.specs.List.{AllByRecursion};
-ghost use Rattle.prolly_check.specs.Checked.{IsFile};
 ghost use Rattle.prolly_check.specs.Content.{Content};
 ghost use Rattle.prolly_check.specs.Verdict.{IsFileOf};
 ghost use Rattle.prolly_check.specs.declared.fault.CheckFault.TheVariants.{Read};
@@ -37,9 +36,8 @@ use std::alloc::{AllocError, Global};
 ///
 /// The old file is checked first, and then the new one, as by `check`. Leaves that both files have
 /// at the same place are passed over. A change is put together in memory, and written in a call of
-/// the sink; without a form the sink is not called. Each change is looked up in the old file, in a
-/// chunk a level, to be counted. An `Err` is want of memory for the line that is to be shown; the
-/// sink is then as it was, or has a part of the changes, or all of them.
+/// the sink; without a form the sink is not called. An `Err` is want of memory for the line that is
+/// to be shown; the sink is then as it was, or has a part of the changes, or all of them.
 pub fn answer_diff<S: Source, T: Source, W: Sink>(
     alloc: Global,
     old_source: &mut S,
@@ -80,7 +78,7 @@ pub fn answer_diff<S: Source, T: Source, W: Sink>(
         Err(fault) => return Answer::of_fault(alloc, Fault::CheckNew(fault)),
     };
     let changes = Differences::new(&old_tree, &new_tree);
-    match write_changes(alloc, changes, &old_tree, form, sink) {
+    match write_changes(alloc, changes, form, sink) {
         Ok(counts) => answer_of(alloc, &old_tree, &new_tree, &counts, stat),
         Err(fault) => Answer::of_fault(alloc, Fault::Run(fault)),
     }
@@ -161,7 +159,6 @@ fn append_count(
 fn write_changes<W: Sink>(
     alloc: Global,
     mut changes: Differences,
-    old_tree: &Tree,
     form: Option<RecordForm>,
     sink: &mut W,
 ) -> Result<ChangeCounts, RunFault>
@@ -169,9 +166,6 @@ fn write_changes<W: Sink>(
     requires before { AllByRecursion IsPair changes.before }
     requires after { AllByRecursion IsPair changes.after }
     requires few { length changes.before + length changes.after + 1 < 2 ^ 64 }
-    requires file { IsFile old_tree.now }
-    requires old { (content : Content) → IsFileOf old_tree.now content →
-        changes.before ≡ content.pairs }
     ensures ok { IfOk result (λ counts. HasDifference changes.entry.before changes.entry.after
         (λ records. AreWritten form (λ bytes. TookAll W.seen bytes sink.old sink.new)
         (sink.new ≡ sink.old) records × AreCounts changes.entry.before records counts)) }
@@ -181,7 +175,7 @@ fn write_changes<W: Sink>(
     let mut spelling = Vec::new(alloc);
     let mut counts = ChangeCounts::none();
     while let Some(change) = changes.next() {
-        counts.count(old_tree.get(change.key), change.after);
+        counts.count(change.before, change.after);
         // Without a form the spelling stays empty, and the sink is not called.
         spelling.clear();
         let Ok(()) = append_change(alloc, &mut spelling, form, change.key, change.after) else {

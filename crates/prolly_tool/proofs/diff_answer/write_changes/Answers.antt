@@ -1,5 +1,4 @@
-use Rattle.std.proofs.Common.{refl, sym, ap, ◌∙◌}
-use Rattle.prolly_tree.specs.LookUp.{find}
+use Rattle.std.proofs.Common.{refl}
 use Rattle.prolly_tool.proofs.DiffSteps.{none_written}
 use Rattle.prolly_tool.proofs.DiffSteps.{change_lawful, room_for_one, one_written, stopped_short}
 use Rattle.prolly_tool.proofs.DiffSteps.{write_failed, only_counted, all_written, flush_failed}
@@ -32,10 +31,7 @@ pub loop-change-preserved : goal.loop-change-preserved
 loop-change-preserved g c = one_written g.W.Sink.seen _ _ _ _ _ _ _ _ c.in-Some.ensures
     c.args.sink.now c.loop-change.sink c.loop-change.invariant _ c.write_all.new.sink
     c.count.new.self
-    (λ records so_far. c.count.ensures _ records _ so_far
-    (ap (λ m. find m c.in-Some.change.key.now)
-    (c.requires.old c.requires.file.content c.requires.file.is) ∙
-    sym (c.get.ensures c.requires.file.content c.requires.file.is)) refl)
+    (λ records so_far had. c.count.ensures _ records _ so_far had refl)
     (own_writes _ _ _ _ _ _ _ c.deref.ensures.value c.in-Ok.ensures.ok c.clear.ensures.items
     c.in-Ok-write_all.ensures.writes)
     (λ none. c.write_all.ensures.nothing (own_nothing _ _ _ _ c.deref.ensures.value
