@@ -11,8 +11,9 @@ use Rattle.prolly_tool.specs.declared.pack.PackFault.{PackFault}
 use Rattle.prolly_tool.specs.declared.pack.PackFault.TheVariants as packs
 use Rattle.prolly_tool.specs.declared.fault.Fault.{Fault}
 use Rattle.prolly_tool.specs.declared.fault.Fault.TheVariants.{Run, Pack, Check, NoCounts}
-use Rattle.prolly_tool.specs.declared.fault.Fault.TheVariants.{InputTooLong, BadKey, NotUnicode, Proof}
-use Rattle.prolly_tool.specs.declared.fault.Fault.TheVariants.{OutIsStdout, CheckOld, CheckNew, BadRoot}
+use Rattle.prolly_tool.specs.declared.fault.Fault.TheVariants.{InputTooLong, BadKey, NotUnicode}
+use Rattle.prolly_tool.specs.declared.fault.Fault.TheVariants.{OutIsStdout, CheckOld, CheckNew}
+use Rattle.prolly_tool.specs.declared.fault.Fault.TheVariants.{Proof, BadRoot}
 
 -- What is said of a record of a file.
 abbrev pub record_text : ℕ → ℕ → List ℕ → List ℕ
@@ -91,8 +92,8 @@ fault_text BadRoot = codes "not the text of a root"
 fault_text NotUnicode = codes "a word is not UTF-8"
 fault_text OutIsStdout = codes "OUT is also standard output"
 
--- 2: usage. 3: the input is at fault. 4: a chunk file or a proof is. 5: a device is. 6: memory or a thread. 7:
--- the tree is too tall.
+-- 2: usage. 3: the input is at fault. 4: a chunk file or a proof is. 5: a device is. 6: memory or a
+-- thread. 7: the tree is too tall.
 abbrev pub run_status : RunFault → ℕ
 run_status runs.Memory = 6
 run_status (runs.Read file) = 5
