@@ -88,22 +88,38 @@ fn commands_have_their_fields(rt: HostRuntime) -> Result<(), Fail> {
         ),
         (
             "dump a.prl",
-            "Dump { file: \"a.prl\", out: None, mode: WriteMode { atomic: false, sync: false } }",
+            "Dump { file: \"a.prl\", out: None, text: false, \
+             mode: WriteMode { atomic: false, sync: false } }",
         ),
         (
-            "dump --sync a.prl --atomic a.rec",
-            "Dump { file: \"a.prl\", out: Some(\"a.rec\"), \
+            "dump --sync a.prl --text --atomic a.txt",
+            "Dump { file: \"a.prl\", out: Some(\"a.txt\"), text: true, \
              mode: WriteMode { atomic: true, sync: true } }",
         ),
         (
             "diff a.prl b.prl",
-            "Diff { old: \"a.prl\", new: \"b.prl\", out: None, \
+            "Diff { old: \"a.prl\", new: \"b.prl\", out: None, stat: false, \
              mode: WriteMode { atomic: false, sync: false } }",
         ),
         (
-            "diff a.prl --atomic --out a.rec b.prl",
-            "Diff { old: \"a.prl\", new: \"b.prl\", out: Some(\"a.rec\"), \
+            "diff a.prl --atomic --stat --out a.rec b.prl",
+            "Diff { old: \"a.prl\", new: \"b.prl\", out: Some(\"a.rec\"), stat: true, \
              mode: WriteMode { atomic: true, sync: false } }",
+        ),
+        (
+            "prove a.prl 6B --sync a.prf",
+            "Prove { file: \"a.prl\", key: [107], out: \"a.prf\", \
+             mode: WriteMode { atomic: false, sync: true } }",
+        ),
+        (
+            "verify 00000000000000000000000000000000 00",
+            "Verify { root: Ref([0, 0, 0, 0, 0, 0, 0, 0, 0, 0, 0, 0, 0, 0, 0, 0, 0, 0, 0, 0]), \
+             key: [0], version: 1, proof: None }",
+        ),
+        (
+            "verify vvvvvvvvvvvvvvvvvvvvvvvvvvvvvvvv 00 a.prf --format 2",
+            "Verify { root: Ref([255, 255, 255, 255, 255, 255, 255, 255, 255, 255, 255, 255, 255, \
+             255, 255, 255, 255, 255, 255, 255]), key: [0], version: 2, proof: Some(\"a.prf\") }",
         ),
     ];
     for (line, expected) in cases {
@@ -128,6 +144,9 @@ fn words_out_of_range_are_usage(rt: HostRuntime) -> Result<(), Fail> {
         "dump a.prl a.rec b.rec",
         "diff a.prl",
         "diff a.prl b.prl a.rec",
+        "prove a.prl 00",
+        "verify 00",
+        "verify --format 3 00000000000000000000000000000000 00",
         "forget a.prl",
     ];
     for line in lines {

@@ -7,6 +7,7 @@ mod build_answers;
 mod dump_answers;
 mod pack_answers;
 mod packing;
+mod proof_answers;
 mod scratch_answers;
 
 /// Fails unless an answer has this status, and shows this on standard output and on standard error.

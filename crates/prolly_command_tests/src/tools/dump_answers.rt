@@ -3,7 +3,7 @@ use super::expect_answer;
 use crate::expect::expect_bytes;
 use prolly_file::{FromRead, ScriptSink, ScriptSource};
 use prolly_test_parts::chunk_file;
-use prolly_tool::answer_dump;
+use prolly_tool::{RecordForm, answer_dump};
 use std::test::Fail;
 
 /// A leaf of a=1 and b=2.
@@ -24,11 +24,24 @@ fn writes_the_record_file_or_tells_that_it_failed(rt: HostRuntime) -> Result<(),
             (Some(7), 5, b"prolly: write failed\n", 16),
         ] {
             let mut sink = ScriptSink::new(alloc, 3, fail_at);
-            let answer = answer_dump(alloc, &mut FromRead::new(file.as_slice()), &mut sink)?;
+            let mut source = FromRead::new(file.as_slice());
+            let answer = answer_dump(alloc, &mut source, RecordForm::Records, &mut sink)?;
             expect_answer(&rt, &answer, status, b"", err);
             expect_bytes(&rt, sink.taken(), &RECORDS[..count]);
         }
     }
+    Ok(())
+}
+
+#[test]
+fn writes_a_line_for_each_pair(rt: HostRuntime) -> Result<(), Fail> {
+    let alloc = rt.alloc();
+    let file = chunk_file(alloc, [1, 24], &[LEAF])?;
+    let mut source = FromRead::new(file.as_slice());
+    let mut sink = ScriptSink::new(alloc, 5, None);
+    let answer = answer_dump(alloc, &mut source, RecordForm::Lines, &mut sink)?;
+    expect_answer(&rt, &answer, 0, b"", b"");
+    expect_bytes(&rt, sink.taken(), b"61 31\n62 32\n");
     Ok(())
 }
 
@@ -48,7 +61,7 @@ fn tells_the_fault_and_writes_nothing(rt: HostRuntime) -> Result<(), Fail> {
             b"prolly: chunk file: read failed\n",
         ),
     ] {
-        let answer = answer_dump(alloc, &mut source, &mut sink)?;
+        let answer = answer_dump(alloc, &mut source, RecordForm::Lines, &mut sink)?;
         expect_answer(&rt, &answer, status, b"", line);
     }
     expect_bytes(&rt, sink.taken(), b"");
