@@ -20,6 +20,7 @@ fn outcome(alloc: Global, line: &str) -> Result<&'static str, AllocError> {
         Err(ParseFault::Memory) => "memory",
         Err(ParseFault::Usage(_)) => "usage",
         Err(ParseFault::Help(_)) => "help",
+        Err(ParseFault::BadRoot) => "bad root",
         Err(ParseFault::BadKey) => "bad key",
     })
 }
@@ -195,6 +196,10 @@ fn keys_are_hexadecimal_of_1024_bytes_at_most(rt: HostRuntime) -> Result<(), Fai
     for (line, expected) in [
         ("get a.prl 6", "bad key"),
         ("scan a.prl 6x 1", "bad key"),
+        ("prove a.prl 6 a.prf", "bad key"),
+        ("verify 0 6", "bad root"),
+        ("verify w0000000000000000000000000000000 00", "bad root"),
+        ("verify 00000000000000000000000000000000 6", "bad key"),
         // What clap refuses is no bad key.
         ("scan a.prl 6x", "usage"),
         (too_long.as_str(), "bad key"),
