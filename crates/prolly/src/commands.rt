@@ -223,11 +223,7 @@ fn diff(rt: &HostRuntime, old: &str, new: &str, stat: bool) -> Result<Answer, Re
         opened_beside(rt, old, target)?,
         opened_beside(rt, new, target)?,
     );
-    let form = if stat {
-        None
-    } else {
-        Some(RecordForm::Lines)
-    };
+    let form = if stat { None } else { Some(RecordForm::Lines) };
     Ok(diff_into(rt, old, new, form, stat, rt.stdout())?)
 }
 
