@@ -6,7 +6,7 @@ from harness import Case
 
 TEXTS = Path(__file__).parent / "texts"
 
-COMMANDS = ["pack", "scratch", "build", "check", "get", "scan", "nth", "dump", "diff"]
+COMMANDS = ["pack", "scratch", "build", "check", "get", "scan", "nth", "dump", "diff", "prove", "verify"]
 
 
 def helped(words, text):
@@ -67,7 +67,7 @@ def usage_cases():
     """Words that are missing, unknown or too many."""
     none = (
         "error: 'prolly' requires a subcommand but one was not provided\n"
-        "  [subcommands: pack, scratch, build, check, get, scan, nth, dump, diff, help]\n\n"
+        "  [subcommands: pack, scratch, build, check, get, scan, nth, dump, diff, prove, verify, help]\n\n"
         "Usage: prolly <COMMAND>\n\nFor more information, try '--help'.\n"
     )
     return [
@@ -94,6 +94,13 @@ def usage_cases():
         unknown(["diff", "f", "g", "--text"], "--text", "diff <OLD> <NEW>"),
         unknown(["dump", "f", "--stat"], "--stat", "dump <FILE> [OUT]"),
         wrong(["dump", "f", "--text", "--text"], "the argument '--text' cannot be used multiple times", "dump [OPTIONS] <FILE> [OUT]"),
+        missing(["prove"], ["FILE", "HEXKEY", "OUT"], "prove <FILE> <HEXKEY> <OUT>"),
+        missing(["prove", "f", "61"], ["OUT"], "prove <FILE> <HEXKEY> <OUT>"),
+        wrong(["prove", "f", "61", "o", "x"], "unexpected argument 'x' found", "prove [OPTIONS] <FILE> <HEXKEY> <OUT>"),
+        missing(["verify"], ["ROOT", "HEXKEY"], "verify <ROOT> <HEXKEY> [PROOF]"),
+        missing(["verify", "r"], ["HEXKEY"], "verify <ROOT> <HEXKEY> [PROOF]"),
+        wrong(["verify", "r", "61", "p", "x"], "unexpected argument 'x' found", "verify [OPTIONS] <ROOT> <HEXKEY> [PROOF]"),
+        unknown(["verify", "r", "61", "--atomic"], "--atomic", "verify <ROOT> <HEXKEY> [PROOF]"),
         wrong(["diff", "f", "g", "--out"], "a value is required for '--out <FILE>' but none was supplied"),
         Case("usage: a word that is no text", [b"check", b"\xff"], status=2, err=b"prolly: a word is not UTF-8\n"),
     ]
@@ -110,6 +117,8 @@ def number_cases():
         bad_number(["scratch", "--bits", ""], "", "--bits <Q>", "cannot parse integer from empty string"),
         bad_number(["scratch", "--format", "0"], "0", "--format <V>", "0 is not in 1..=2"),
         bad_number(["scratch", "--format", "3"], "3", "--format <V>", "3 is not in 1..=2"),
+        bad_number(["verify", "--format", "0", "r", "61"], "0", "--format <V>", "0 is not in 1..=2"),
+        bad_number(["verify", "--format", "3", "r", "61"], "3", "--format <V>", "3 is not in 1..=2"),
         bad_number(["build", "--stages", "0", "o"], "0", "--stages <S>", "0 is not in 1..=12"),
         bad_number(["build", "--stages", "13", "o"], "13", "--stages <S>", "13 is not in 1..=12"),
         bad_number(["build", "--capacity", "0", "o"], "0", "--capacity <C>", "0 is not in 1..=4096"),
@@ -128,6 +137,8 @@ def key_cases():
         bad_key("get", "f", "6g"),
         bad_key("get", "f", "61" * 1025),
         bad_key("scan", "f", "6", "1"),
+        bad_key("prove", "f", "6", "o"),
+        bad_key("prove", "f", "61" * 1025, "o"),
         # What else is wrong with the words is told first.
         bad_number(["scan", "f", "6", "x"], "x", "<LIMIT>", "invalid digit found in string"),
     ]

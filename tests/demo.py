@@ -3,7 +3,9 @@
 import subprocess
 from pathlib import Path
 
+from diffs import stat_line
 from harness import shown
+from proofs import another, proof_of
 from trees import begun_file, chunk_file, records, report, root_text, tree
 
 FOLDER = Path(__file__).parent.parent / "demo"
@@ -58,6 +60,10 @@ def printed():
         f"{both[0][0].decode()} {both[0][1].decode()}",
         report(both, BITS).decode().strip(),
         "the two chunk files are the same",
+        stat_line(words, both, (BITS, 1), (BITS, 1)).decode().strip(),
+        f"{len(proof_of(tree(both, BITS, 1), b'week', 1))} week.prf",
+        "571",
+        f"prolly: proof: {another(0)}",
         *cut_short(words, cut),
     ]
 

@@ -1,4 +1,4 @@
-"""`diff`: what turns one chunk file's map into another's, and what becomes of it."""
+"""`diff`: what turns one chunk file's map into another's, how much that is, and what becomes of it."""
 
 import random
 
@@ -87,12 +87,7 @@ def kinds_of_stats():
 
 def cases(_):
     """All cases of one run."""
-    return differences() + refused() + unread()
-
-
-def stat_cases():
-    """All cases of one run with `--stat`."""
-    return stats() + stats_refused()
+    return differences() + refused() + unread() + stats() + stats_refused()
 
 
 def differences():

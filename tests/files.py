@@ -13,11 +13,12 @@ import time
 from functools import partial
 from pathlib import Path
 
-from diffs import difference
+from diffs import difference, stat_line
 from dumps import lines
 from place import DONE, Place, compiled
+from proofs import proof_of
 from scratch import ABC, numbered
-from trees import END_SIZE, chunk_file, records, report, root_text
+from trees import END_SIZE, chunk_file, records, report, root_text, tree
 
 A = records(ABC[:2])
 B = records(ABC[2:])
@@ -26,6 +27,9 @@ TOLD = report(ABC, 0)
 OLD = [(b"a", b"0"), (b"b", b"1"), (b"d", b"1")]
 OLD_TREE = chunk_file(OLD, 0)
 CHANGES = difference(OLD, ABC)
+COUNTED = stat_line(OLD, ABC, (0, 1), (0, 1))
+PROOF = proof_of(tree(ABC, 0, 1), b"b", 1)
+COUNTED_ACROSS = stat_line(OLD, ABC, (0, 1), (0, 2))
 BEFORE = b"what was there before"
 TEXT = b"61 31\n62 31\n"
 
@@ -36,6 +40,8 @@ WRITERS = {
     "dump": (["dump", "abc.prl", "out"], None, records(ABC), (0, b"", b"")),
     "dump --text": (["dump", "--text", "abc.prl", "out"], None, lines(ABC), (0, b"", b"")),
     "diff": (["diff", "old.prl", "abc.prl", "--out", "out"], None, records(CHANGES), (1, b"", b"")),
+    "diff --stat": (["diff", "--stat", "old.prl", "abc.prl", "--out", "out"], None, records(CHANGES), (1, COUNTED, b"")),
+    "prove": (["prove", "abc.prl", "62", "out"], None, PROOF, (0, b"", b"")),
 }
 """The commands that write OUT: their words, their standard input, what they make, and their answer."""
 
@@ -46,6 +52,8 @@ FAULTS = {
     "dump": (["dump", "cut.prl", "out"], None, 4, b"prolly: chunk file: truncated\n"),
     "dump --text": (["dump", "--text", "cut.prl", "out"], None, 4, b"prolly: chunk file: truncated\n"),
     "diff": (["diff", "old.prl", "cut.prl", "--out", "out"], None, 4, b"prolly: new chunk file: truncated\n"),
+    "diff --stat": (["diff", "--stat", "old.prl", "cut.prl", "--out", "out"], None, 4, b"prolly: new chunk file: truncated\n"),
+    "prove": (["prove", "cut.prl", "62", "out"], None, 4, b"prolly: chunk file: truncated\n"),
 }
 """The same over inputs that are at fault: their words, their standard input, and the status and line of the fault."""
 
@@ -302,7 +310,7 @@ def is_interrupted(place, command, number):
 
 def look_up_is_interrupted(place, words, wanted):
     """The same, for commands that read chunk files and write no file."""
-    place.lay(abc_prl=chunk_file(ABC, 0, 2), old_prl=OLD_TREE)
+    place.lay(abc_prl=chunk_file(ABC, 0, 2), old_prl=OLD_TREE, b_prf=PROOF)
     answer, _ = place.meddled(*words, meddle={"interrupt": "3"})
     place.answers(answer, wanted)
 
@@ -531,9 +539,9 @@ def inputs_written():
     files = [("in.prl", out, []) for out in ("in.prl", "./in.prl", "hard", "soft")]
     for file, out, flags in [*files, ("soft", "in.prl", []), ("in.prl", "in.prl", ["--atomic"])]:
         pairs_of_files = [[file, "old.prl"], ["old.prl", file]]
-        for words in (["dump", *flags, file, out], *(["diff", *flags, *two, "--out", out] for two in pairs_of_files)):
+        for words in (["dump", *flags, file, out], ["prove", *flags, file, "61", out], *(["diff", *flags, *two, "--out", out] for two in pairs_of_files)):
             yield f"OUT is a chunk file: {' '.join(words)}", partial(is_a_chunk_file, words=words, name=file.encode())
-    for words in (["dump", "in.prl"], ["diff", "in.prl", "old.prl"], ["diff", "old.prl", "in.prl"], ["dump", "--text", "in.prl"]):
+    for words in (["dump", "in.prl"], ["diff", "in.prl", "old.prl"], ["diff", "old.prl", "in.prl"], ["dump", "--text", "in.prl"], ["diff", "--stat", "in.prl", "old.prl"]):
         yield f"standard output is a chunk file: {' '.join(words)}", partial(is_printed_to_itself, words=words)
     for words in (["pack", "in.rec"], ["scratch", "--out", "in.rec"], ["scratch", "--atomic", "--out", "in.rec"], ["build", "in.rec", "/dev/stdin"]):
         yield f"OUT is standard input: {' '.join(words)}", partial(is_standard_input, words=words)
@@ -579,6 +587,8 @@ def interrupted():
         (["dump", "abc.prl"], records(ABC), 0),
         (["dump", "--text", "abc.prl"], lines(ABC), 0),
         (["diff", "old.prl", "abc.prl"], lines(CHANGES), 1),
+        (["diff", "--stat", "old.prl", "abc.prl"], COUNTED_ACROSS, 1),
+        (["verify", root_text(ABC, 0).decode().strip(), "62", "b.prf"], b"31\n", 0),
     ]
     for words, out, status in read:
         yield f"interrupted: {' '.join(words)}", partial(look_up_is_interrupted, words=words, wanted=(status, out, b""))
@@ -596,8 +606,8 @@ def ended():
 def in_part():
     """Outputs that take only a part."""
     pairs = numbered(MANY)
-    tree, rec = chunk_file(pairs, 2), records(pairs)
-    yield "no write of a build after a failed one", partial(no_write_after_a_failed_one, words=["build", "--bits", "2", "out", "a.rec"], begun=tree[:-END_SIZE], whole=tree)
+    made, rec = chunk_file(pairs, 2), records(pairs)
+    yield "no write of a build after a failed one", partial(no_write_after_a_failed_one, words=["build", "--bits", "2", "out", "a.rec"], begun=made[:-END_SIZE], whole=made)
     text = lines(pairs)
     for words, whole in ((["dump", "a.prl", "out"], rec), (["dump", "--text", "a.prl", "out"], text), (["diff", "none.prl", "a.prl", "--out", "out"], rec)):
         yield f"no write after a failed one: {' '.join(words)}", partial(no_write_after_a_failed_one, words=words, begun=whole, whole=whole)

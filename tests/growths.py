@@ -7,11 +7,12 @@ import tempfile
 from dataclasses import dataclass, field
 from pathlib import Path
 
-from diffs import difference
+from diffs import difference, stat_line
 from dumps import lines
 from harness import NO_THREAD, SCARCE, file_differences, lay_out, shown
+from proofs import proof_of, verdict
 from scratch import ABC
-from trees import END_SIZE, begun_file, chunk_file, overlay, record, records, report, root_text
+from trees import END_SIZE, begun_file, chunk_file, overlay, record, records, reference_text, report, root_text, tree
 
 FIVE_IN_THREE = [[(b"a", b"1"), (b"d", b"1")], [(b"b", b"1")], [(b"c", b"1"), (b"e", b"1")]]
 
@@ -21,6 +22,14 @@ OLD = [(b"a", b"0"), (b"b", b"1"), (b"d", b"1")]
 """Pairs of which one has another value, and one is taken away."""
 
 CHANGES = difference(OLD, ABC)
+
+COUNTED = stat_line(OLD, ABC, (0, 1), (0, 1))
+
+COUNTED_TREE = tree(ABC, 0, 2)
+
+ROOT = reference_text(COUNTED_TREE.reference)
+
+PROOF = proof_of(COUNTED_TREE, b"b", 2)
 
 MOST_GROWTHS = 2_000
 """More than any of the commands asks for."""
@@ -75,8 +84,25 @@ def commands():
         Command("dump", ["dump", "abc.prl"], out=records(ABC), before=reads),
         Command("dump --text", ["dump", "--text", "abc.prl"], out=lines(ABC), before=reads),
         Command("dump --text to a file", ["dump", "--text", "abc.prl", "out.txt"], before=reads, made="out.txt", whole=lines(ABC)),
+        Command("prove", ["prove", "counted.prl", "62", "p"], before=reads, made="p", whole=PROOF),
+        Command("atomic prove", ["prove", "--atomic", "--sync", "counted.prl", "62", "p"], before=reads, made="p", whole=PROOF),
+        Command("verify", ["verify", "--format", "2", ROOT, "62", "p"], out=b"31\n", before={"p": PROOF}),
+        Command("verify of standard input", ["verify", "--format", "2", ROOT, "62"], PROOF, out=b"31\n"),
+        Command("verify of no value", ["verify", "--format", "2", ROOT, "6262", "p"], status=1, before={"p": proof_of(COUNTED_TREE, b"bb", 2)}),
+        Command("verify of another key", ["verify", "--format", "2", ROOT, "6262", "p"], status=4, err=verdict(PROOF, COUNTED_TREE.reference, b"bb", 2)[2], before={"p": PROOF}),
         Command("dump to a file", ["dump", "abc.prl", "out.rec"], before=reads, made="out.rec", whole=records(ABC)),
         Command("diff", ["diff", "old.prl", "abc.prl"], status=1, out=lines(CHANGES), before=both),
+        Command("diff --stat", ["diff", "--stat", "old.prl", "abc.prl"], status=1, out=COUNTED, before=both),
+        Command(
+            "diff --stat to a file",
+            ["diff", "--stat", "old.prl", "abc.prl", "--out", "out.rec"],
+            status=1,
+            out=COUNTED,
+            before=both,
+            made="out.rec",
+            whole=records(CHANGES),
+            is_made_first=True,
+        ),
         Command("diff of equal maps", ["diff", "counted.prl", "abc.prl"], before=reads),
         Command("diff to a file", ["diff", "old.prl", "abc.prl", "--out", "out.rec"], status=1, before=both, made="out.rec", whole=records(CHANGES)),
         Command("atomic diff", ["diff", "--atomic", "--sync", "old.prl", "abc.prl", "--out", "out.rec"], status=1, before=both, made="out.rec", whole=records(CHANGES)),

@@ -4,13 +4,14 @@ import random
 import sys
 
 from damaged import lawful_or_fault
-from diffs import difference
+from diffs import difference, stat_line
 from dumps import lines
 from harness import Case
+from proofs import proof_of, verdict
 from readings import merged, packed, read, stop_of
 from trees import REMOVED, begun_file, chunk_file, overlay, record, records, reference_text, report, root_text, tall_file, tree
 
-SEED, COUNT = 20_240_601, 650
+SEED, COUNT = 20_240_601, 800
 """What the gate runs."""
 
 FILES_LIMIT = 16
@@ -25,7 +26,7 @@ def cases(_):
 
 def runs(seed, count):
     """So many runs; a difference is named with the seed that brings it back."""
-    kinds = [build, build, build, scratch, pack, look_up, look_up, dump, diff]
+    kinds = [build, build, build, scratch, pack, look_up, look_up, dump, diff, prove, verify]
     for number in range(count):
         chance = random.Random(f"{seed} {number}")
         case = chance.choice(kinds)(chance)
@@ -255,7 +256,7 @@ def dump(chance):
 
 
 def diff(chance):
-    """Two chunk files that share pairs, of which each may be damaged, and the difference printed or written."""
+    """Two chunk files that share pairs, of which each may be damaged, and the difference printed, written or counted."""
     old = some_pairs(chance)
     new = overlay([old, changes(chance, 6)]) if chance.random() < 0.7 else some_pairs(chance)
     (old_content, old_fault), (new_content, new_fault) = a_chunk_file(chance, old), a_chunk_file(chance, new)
@@ -264,25 +265,84 @@ def diff(chance):
     for which, fault in ((b"new", new_fault), (b"old", old_fault)):
         if fault is not None:
             status, error, found = 4, b"prolly: " + which + b" chunk file: " + fault + b"\n", []
-    is_written = chance.random() < 0.5
-    words = ["--out", "out.rec"] if is_written else []
+    is_written, is_counted = chance.random() < 0.5, chance.random() < 0.3
+    printed = b"" if is_written else lines(found)
+    if is_counted:
+        printed = b"" if error else stat_line(old, new, kind_of(old_content), kind_of(new_content))
+    words = [*(["--stat"] if is_counted else []), *(["--out", "out.rec"] if is_written else [])]
     # `written` takes each status for a fault but 0.
     before, after, flags = written(chance, "out.rec", records(found) if is_written else None, status if error else 0)
     return Case(
         "",
         ["diff", *words, *flags, "old.prl", "new.prl"],
         status=status,
-        out=b"" if is_written else lines(found),
+        out=printed,
         err=error,
         before={"old.prl": old_content, "new.prl": new_content} | before,
         after=after,
     )
 
 
+def kind_of(content):
+    """The bits and the version of a lawful chunk file."""
+    return content[5], content[4]
+
+
+def prove(chance):
+    """A chunk file, which may be damaged, and a proof of a key that it has or has not."""
+    pairs = some_pairs(chance)
+    content, fault = a_chunk_file(chance, pairs)
+    wanted = some_key(chance, pairs)
+    proof = b"" if fault else proof_of(tree(pairs, *kind_of(content)), wanted, content[4])
+    status = 4 if fault else 0
+    before, after, flags = written(chance, "out", proof, status)
+    return Case(
+        "",
+        ["prove", *flags, "in.prl", wanted.hex(), "out"],
+        status=status,
+        err=b"prolly: chunk file: " + fault + b"\n" if fault else b"",
+        before={"in.prl": content} | before,
+        after=after,
+    )
+
+
+def verify(chance):
+    """A proof, which may be changed, or of another key or tree than is asked for, on standard input or in a file."""
+    pairs, bits, version = some_pairs(chance), chance.choice([0, 0, 1, 2, 12]), chance.choice([1, 2])
+    top, wanted = tree(pairs, bits, version), some_key(chance, pairs)
+    proof = proof_of(top, wanted if chance.random() < 0.8 else some_key(chance, pairs), version)
+    kind = chance.random()
+    if kind < 0.2:
+        proof = turned(chance, proof)
+    if 0.2 < kind < 0.3:
+        proof = proof[: chance.randrange(len(proof))]
+    if 0.3 < kind < 0.35:
+        proof += chance.randbytes(chance.randrange(1, 20))
+    root = top.reference if chance.random() < 0.9 else tree(some_pairs(chance), bits, version).reference
+    believed = version if chance.random() < 0.9 else 3 - version
+    status, out, err = verdict(proof, root, wanted, believed)
+    words = ["--format", str(believed)] if believed == 2 or chance.random() < 0.5 else []
+    is_file = chance.random() < 0.5
+    return Case(
+        "",
+        ["verify", *words, reference_text(root), wanted.hex(), *(["p"] if is_file else [])],
+        b"" if is_file else proof,
+        status=status,
+        out=out,
+        err=err,
+        before={"p": proof} if is_file else {},
+    )
+
+
+def some_key(chance, pairs):
+    """A key of the pairs, or another one."""
+    return chance.choice([key(chance), *(found for found, _ in pairs[:20])])
+
+
 def asked(chance, pairs, bits, version):
     """A question, and what a lawful file of these pairs answers: the words, the status, the output and the fault."""
     lines = [found.hex().encode() + b" " + put.hex().encode() + b"\n" for found, put in pairs]
-    wanted = chance.choice([key(chance), *(found for found, _ in pairs[:20])])
+    wanted = some_key(chance, pairs)
     kind = chance.choice(["check", "get", "scan", "nth", "dump"])
     if kind == "check":
         top = tree(pairs, bits, version)

@@ -8,13 +8,14 @@ use crate::file_id::{FileId, STDIN, STDOUT};
 use crate::output::{MakeFault, Output};
 use crate::refusal::Refusal;
 use prolly_build::{FILES_LIMIT, build};
-use prolly_entry::Version;
+use prolly_entry::{Ref, Version};
 use prolly_fault::RunFault;
 use prolly_file::{Buffered, FromRead, Sink, ToWrite};
 use prolly_stage::OpenGate;
 use prolly_tool::{
     Answer, Command, Config, Fault, NameFault, RecordForm, WriteMode, answer_build, answer_check,
-    answer_diff, answer_dump, answer_get, answer_nth, answer_pack, answer_scan, answer_scratch,
+    answer_diff, answer_dump, answer_get, answer_nth, answer_pack, answer_prove, answer_scan,
+    answer_scratch, answer_verify,
 };
 use std::alloc::AllocError;
 use std::fs;
@@ -104,12 +105,27 @@ fn answer_or_refusal<T: Wait + Threads + Sync>(
             old,
             new,
             out,
-            stat: _,
+            stat,
             mode,
         } => match out {
-            None => diff(rt, &old, &new),
-            Some(out) => diff_to(rt, &old, &new, &out, mode),
+            None => diff(rt, &old, &new, stat),
+            Some(out) => diff_to(rt, &old, &new, stat, &out, mode),
         },
+        Command::Prove {
+            file,
+            key,
+            out,
+            mode,
+        } => prove(rt, &file, &key, &out, mode),
+        Command::Verify {
+            root,
+            key,
+            version,
+            proof,
+        } => {
+            let version = Version::of(version).unwrap();
+            verify(rt, version, &root, &key, proof)
+        }
     }
 }
 
@@ -200,21 +216,23 @@ fn dump_into<W: Write + Drop>(
     answer_dump(rt.alloc(), &mut source, form, &mut sink)
 }
 
-/// `diff OLD NEW`
-fn diff(rt: &HostRuntime, old: &str, new: &str) -> Result<Answer, Refusal> {
+/// `diff [--stat] OLD NEW`
+fn diff(rt: &HostRuntime, old: &str, new: &str, stat: bool) -> Result<Answer, Refusal> {
     let target = FileId::at(rt, STDOUT);
     let (old, new) = (
         opened_beside(rt, old, target)?,
         opened_beside(rt, new, target)?,
     );
-    Ok(diff_into(rt, old, new, RecordForm::Lines, rt.stdout())?)
+    let form = if stat { None } else { Some(RecordForm::Lines) };
+    Ok(diff_into(rt, old, new, form, stat, rt.stdout())?)
 }
 
-/// `diff OLD NEW --out FILE [--atomic] [--sync]`
+/// `diff [--stat] OLD NEW --out FILE [--atomic] [--sync]`
 fn diff_to(
     rt: &HostRuntime,
     old: &str,
     new: &str,
+    stat: bool,
     out: &str,
     mode: WriteMode,
 ) -> Result<Answer, Refusal> {
@@ -224,20 +242,67 @@ fn diff_to(
         opened_beside(rt, new, target)?,
     );
     let output = output_of(rt, out, target, mode)?;
-    let answer = diff_into(rt, old, new, RecordForm::Records, output.file());
+    let form = Some(RecordForm::Records);
+    let answer = diff_into(rt, old, new, form, stat, output.file());
     Ok(output.finish(rt, out, answer)?)
 }
 
-/// Writes what turns the map of the one source into that of the other.
+/// Writes what turns the map of the one source into that of the other, where there is a form, and
+/// answers how much that is where `stat` asks for it.
 fn diff_into<W: Write + Drop>(
     rt: &HostRuntime,
     mut old: FromRead<File>,
     mut new: FromRead<File>,
-    form: RecordForm,
+    form: Option<RecordForm>,
+    stat: bool,
     writer: W,
 ) -> Result<Answer, AllocError> {
     let mut sink = Buffered::with_capacity(rt.alloc(), OUTPUT_BYTES, ToWrite::new(writer))?;
-    answer_diff(rt.alloc(), &mut old, &mut new, form, &mut sink)
+    answer_diff(rt.alloc(), &mut old, &mut new, form, stat, &mut sink)
+}
+
+/// `prove FILE HEXKEY OUT [--atomic] [--sync]`
+fn prove(
+    rt: &HostRuntime,
+    file: &str,
+    key: &[u8],
+    out: &str,
+    mode: WriteMode,
+) -> Result<Answer, Refusal> {
+    let target = FileId::at(rt, out);
+    let mut source = opened_beside(rt, file, target)?;
+    let output = output_of(rt, out, target, mode)?;
+    let answer = answer_prove(
+        rt.alloc(),
+        &mut source,
+        key,
+        &mut ToWrite::new(output.file()),
+    );
+    Ok(output.finish(rt, out, answer)?)
+}
+
+/// `verify [--format V] ROOT HEXKEY [PROOF]`
+fn verify(
+    rt: &HostRuntime,
+    version: Version,
+    root: &Ref,
+    key: &[u8],
+    proof: Option<String>,
+) -> Result<Answer, Refusal> {
+    let answer = match proof {
+        None => answer_verify(
+            rt.alloc(),
+            &mut FromRead::new(rt.stdin()),
+            version,
+            root,
+            key,
+        ),
+        Some(proof) => {
+            let mut source = opened(rt, &proof)?;
+            answer_verify(rt.alloc(), &mut source, version, root, key)
+        }
+    };
+    Ok(answer?)
 }
 
 /// The file of this name, to be read.
