@@ -30,6 +30,12 @@ CHANGES = 10
 
 CHANGED_VALUE = SHORT_VALUE + 1
 
+PROOF_BITS = (12, 6)
+"""By which cuts the trees are made of which keys are proved."""
+
+PROVED_KEYS = 25
+"""Of how many keys proofs are made."""
+
 LONG_RECORDS = 200_000
 LONG_VALUE = 1_024
 
@@ -55,6 +61,7 @@ def main():
         os.chdir(folder)
         show_commands(program, parts, turns)
         show_diff(program, parts, turns)
+        show_proofs(program)
         show_builds(program, parts, turns)
         show_long_builds(program, parts, turns)
         show_growth(program, parts, turns)
@@ -232,6 +239,26 @@ def show_diff(program, parts, turns):
         f" {median(one / other for one, other in zip(walking, checking, strict=True)):.4f} of it"
     )
     remove(["records", "changes", "old", "new"])
+
+
+def show_proofs(program):
+    """How long proofs of some keys are, and how long it takes to make and to verify them."""
+    write_records("records", range(RECORDS))
+    keys = [number.to_bytes(16, "big").hex() for number in range(0, RECORDS, RECORDS // PROVED_KEYS)]
+    for bits in PROOF_BITS:
+        root = Command([*build(program, ["records"]), "--bits", str(bits)]).run().out.decode().split()[0]
+        making, verifying, sizes = [], [], []
+        for key in keys:
+            making.append(Command([program, "prove", "tree", key, "proof"]).run())
+            verifying.append(Command([program, "verify", root, key, "proof"]).run())
+            sizes.append(os.path.getsize("proof"))
+        print(
+            f"proofs of {PROVED_KEYS} keys of {RECORDS}, --bits {bits}: {median(sizes) / 1e3:.1f} kB"
+            f" ({min(sizes) / 1e3:.1f} to {max(sizes) / 1e3:.1f}); prove {spread([done.seconds for done in making])};"
+            f" verify {median(done.seconds for done in verifying) * 1000:.1f} ms,"
+            f" peak {max(done.peak for done in verifying) / 1e6:.1f} MB"
+        )
+    remove(["records", "tree", "proof"])
 
 
 def show_builds(program, parts, turns):
