@@ -38,7 +38,7 @@ fn tells_why_bytes_prove_nothing(rt: HostRuntime) -> Result<(), Fail> {
     let longer = joined(alloc, &[START, LEAF, b"C"])?;
     for (bytes, version, line) in [
         (
-            &whole[..20],
+            START,
             Version::Two,
             b"prolly: proof: truncated\n".as_slice(),
         ),
