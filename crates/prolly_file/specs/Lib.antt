@@ -8,6 +8,8 @@ pub mod Known
 pub mod BytesLaws
 -- What a contract sees of a source, and what a read does to the bytes that it has left.
 pub mod Source
+-- What a contract sees of a device that reads anywhere, and what a read gives.
+pub mod Device
 -- What a clause reads of a `FromRead`.
 pub mod FromRead
 -- What a contract sees of a sink, and what a write does to the bytes that it took.

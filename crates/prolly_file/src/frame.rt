@@ -13,8 +13,8 @@ pub(crate) fn header(version: Version, bits: u8) -> [u8; 6]
     [b'P', b'R', b'L', b'Y', version.to_byte(), bits]
 }
 
-/// What stands before the bytes of a chunk.
-pub(crate) fn frame_start(len: u64) -> [u8; 9]
+/// What stands before the bytes of a chunk of this length: a letter, and the length in eight bytes.
+pub fn frame_start(len: u64) -> [u8; 9]
     ensures { result ≡ frame_start len }
 {
     let mut start = [b'C'; 9];

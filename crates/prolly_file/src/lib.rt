@@ -3,10 +3,13 @@
 
 mod buffered;
 mod countdown;
+mod device;
 mod frame;
 mod from_read;
+mod from_seek;
 mod levels;
 mod plain;
+mod script_device;
 mod script_sink;
 mod script_source;
 mod sink;
@@ -18,9 +21,12 @@ mod whole_file;
 mod writer;
 
 pub use buffered::Buffered;
-pub use frame::end_record;
+pub use device::Device;
+pub use frame::{end_record, frame_start};
 pub use from_read::FromRead;
+pub use from_seek::FromSeek;
 pub use plain::{ScratchFault, scratch, scratch_as};
+pub use script_device::ScriptDevice;
 pub use script_sink::ScriptSink;
 pub use script_source::ScriptSource;
 pub use sink::{Sink, SinkFault};

@@ -96,7 +96,7 @@ impl Source for ScriptSource {
 }
 
 /// Copies `step` bytes, or as many as there are or have room, and answers how many.
-fn copy_some(from: &[u8], step: usize, to: &mut [u8]) -> usize
+pub(crate) fn copy_some(from: &[u8], step: usize, to: &mut [u8]) -> usize
     ensures count { result ≡ min step (min (length to.old) (length from.now)) }
     ensures copied { to.new ≡ take result from.now ++ drop result to.old }
 {

@@ -1,0 +1,15 @@
+-- What a contract sees of a device that reads anywhere, and what a read gives.
+use Rattle.std.specs.Prelude.{◌≡◌, ℕ, Bool, List, length, take, drop, Result, IfOk}
+
+-- What a contract sees of such a device: whether it is honest, so that each read gives the bytes
+-- that stand in its place; the bytes, where it is honest; and how many calls failed, modulo 2 ^ 64.
+pub record DeviceView : Type 0 where
+  pub is_honest : Bool
+  pub bytes : List ℕ
+  pub failures : ℕ
+
+-- A read into a buffer that gave `Ok(n)` gave the first n bytes from this place on, and fewer than
+-- the buffer has room for only where no more are there.
+abbrev pub GivesFrom : {E : Type 0} → List ℕ → ℕ → Result ℕ E → List ℕ → Type 0
+GivesFrom bytes place result buf =
+    IfOk result (λ n. take n buf ≡ take (length buf) (drop place bytes))
