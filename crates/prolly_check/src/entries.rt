@@ -8,10 +8,12 @@ use crate::leaf::{LEAF, Pairs};
 use crate::node::Children;
 use prolly_entry::Version;
 
-/// The entries of a chunk.
+/// The entries of a chunk that was tested, or those of them that are left.
 #[derive(Drop)]
-pub(crate) enum Entries<'a> {
+pub enum Entries<'a> {
+    /// The pairs of a leaf.
     Leaf(Pairs<'a>),
+    /// The children of a node.
     Node(Children<'a>),
 }
 

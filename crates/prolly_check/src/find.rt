@@ -11,8 +11,8 @@ use crate::leaf::Pairs;
 use crate::node::{Child, Children};
 use prolly_entry::key_order;
 
-/// The value of the key among the pairs of a leaf.
-pub(crate) fn value_in<'a>(mut pairs: Pairs<'a>, key: &[u8]) -> Option<&'a [u8]>
+/// The value of the key among the pairs of a leaf. Takes no memory, and time linear in the leaf.
+pub fn value_in<'a>(mut pairs: Pairs<'a>, key: &[u8]) -> Option<&'a [u8]>
     ensures { option_copied result ≡ find pairs.entry key.now }
 {
     while let Some((found, value)) = pairs.next() {

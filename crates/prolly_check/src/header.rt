@@ -5,8 +5,8 @@ ghost use Rattle.prolly_check.specs.Header.{header_tests, header_fault, test_at,
 use crate::fault::CheckFault;
 use prolly_entry::{BITS_LIMIT, Version};
 
-/// The size of a header.
-pub(crate) const HEADER_SIZE: usize = 6;
+/// The size of a header, in bytes.
+pub const HEADER_SIZE: usize = 6;
 
 /// Where the byte of the version stands.
 const VERSION_PLACE: usize = 4;
@@ -16,13 +16,17 @@ pub(crate) const BITS_PLACE: usize = 5;
 
 /// What a header says.
 #[derive(Clone, Copy, Debug)]
-pub(crate) struct Header {
-    pub(crate) version: Version,
-    pub(crate) bits: u8,
+pub struct Header {
+    /// The version of the file.
+    pub version: Version,
+    /// The number of bits by which its entries were cut, from 0 to 24.
+    pub bits: u8,
 }
 
-/// The header that begins the bytes.
-pub(crate) fn read_header(bytes: &[u8]) -> Result<Header, CheckFault>
+/// The header that begins the bytes of a chunk file. Takes no memory, and constant time.
+///
+/// Bytes that do not begin as a file does are told before bytes that end too early.
+pub fn read_header(bytes: &[u8]) -> Result<Header, CheckFault>
     ensures found { IfOk result (λ r. header_fault header_tests bytes.now ≡ None) }
     ensures version { IfOk result (λ r. r.version ≡ version_of (slice_index bytes.now 4)) }
     ensures bits { IfOk result (λ r. r.bits ≡ slice_index bytes.now 5) }

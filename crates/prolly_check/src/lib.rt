@@ -30,10 +30,14 @@ mod way;
 mod whole;
 
 pub use checker::check;
+pub use entries::Entries;
 pub use fault::CheckFault;
+pub use find::value_in;
 pub use frames::front_frame;
+pub use header::{HEADER_SIZE, Header, read_header};
 pub use leaf::Pairs;
 pub use leaves::Leaves;
 pub use missing::Missing;
-pub use step::{ChunkFlaw, Step, step_in};
+pub use node::{Child, Children};
+pub use step::{ChunkFlaw, Step, entries_in, step_in};
 pub use tree::{NoCounts, Tree};

@@ -22,10 +22,13 @@ const COUNT_SIZE: usize = 8;
 /// A child of a node: its greatest key, its reference, and the number of pairs below it, which is 0
 /// in version One, where no entry says it.
 #[derive(Clone, Copy)]
-pub(crate) struct Child<'a> {
-    pub(crate) key: &'a [u8],
-    pub(crate) reference: Ref,
-    pub(crate) count: u64,
+pub struct Child<'a> {
+    /// The greatest key below it.
+    pub key: &'a [u8],
+    /// The reference of its chunk.
+    pub reference: Ref,
+    /// The number of pairs below it.
+    pub count: u64,
 }
 
 /// The child whose entry begins the entries, and the entries behind it.
@@ -86,7 +89,7 @@ pub(crate) fn is_node(version: Version, mut entries: &[u8]) -> bool
 /// The children of a node that was tested, or those of them that are left, as their entries lie in
 /// its bytes.
 #[derive(Drop)]
-pub(crate) struct Children<'a> {
+pub struct Children<'a> {
     version: Version,
     entries: &'a [u8],
 }
@@ -111,8 +114,8 @@ impl<'a> Children<'a> {
         Children { version, entries }
     }
 
-    /// The next child.
-    pub(crate) fn next(&mut self) -> Option<Child<'a>>
+    /// The next child. Takes no memory.
+    pub fn next(&mut self) -> Option<Child<'a>>
         ensures { MatchOption result (self.old ≡ [])
             (λ child. self.old ≡ value_of child ∷ self.new) }
     {

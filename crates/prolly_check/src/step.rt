@@ -36,13 +36,25 @@ pub fn step_in<'a>(version: Version, chunk: &'a [u8], key: &[u8]) -> Result<Step
         IsStep key.now (kind_of version chunk.now) step) }
     ensures err { IfErr result (IsFlawed version chunk.now) }
 {
+    let entries = entries_in(version, chunk)?;
+    Ok(step_of(entries, key))
+}
+
+/// The entries of a chunk that may have come from anywhere.
+///
+/// Takes no memory. Reads the chunk twice, so in time linear in its length.
+pub fn entries_in(version: Version, chunk: &[u8]) -> Result<Entries<'_>, ChunkFlaw>
+    ensures ok { IfOk result (λ entries. IsOrdered version chunk.now ×
+        (entries ≡ kind_of version chunk.now)) }
+    ensures err { IfErr result (IsFlawed version chunk.now) }
+{
     if !is_whole(version, chunk) {
         return Err(ChunkFlaw::Entries);
     }
     if !keys_rise(entries_of(version, chunk)) {
         return Err(ChunkFlaw::Order);
     }
-    Ok(step_of(entries_of(version, chunk), key))
+    Ok(entries_of(version, chunk))
 }
 
 /// The step of a look-up of the key at these entries.
