@@ -8,3 +8,5 @@ pub mod Exclusion
 pub mod Rightness
 -- Appending the frames of chunks one after another.
 pub mod Appending
+-- Going down from the root, from each chunk to the one that it refers to.
+pub mod Descending

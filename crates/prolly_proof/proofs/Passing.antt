@@ -17,25 +17,11 @@ use Rattle.prolly_entry.specs.lemmas.Lists.{all_append}
 use Rattle.prolly_file.specs.Frame.{framed}
 use Rattle.prolly_proof.specs.Faults.{FallsTo, HasPassed, IsChunkFault, IsFault, IsFrameFault}
 use Rattle.prolly_proof.specs.Faults.{HasMore, last_level}
+use Rattle.prolly_proof.proofs.Descending.{falls_more, last_more}
 use Rattle.prolly_proof.specs.ProofFile.{IsProof, proof_file, proof_start}
 use Rattle.prolly_proof.specs.declared.fault.ProofFault.{ProofFault}
 use Rattle.prolly_proof.specs.declared.fault.ProofFault.TheVariants.{Trailing}
 use Rattle.prolly_proof.specs.declared.verifier.Awaited.{Awaited}
-
--- ---- the levels
-
-last_more : (passed : List (List ℕ)) (chunk : List ℕ) →
-    last_level (passed ++ chunk ∷ []) ≡ Some (level_of chunk)
-last_more [] chunk = refl
-last_more (c ∷ []) chunk = refl
-last_more (c ∷ d ∷ passed) chunk = last_more (d ∷ passed) chunk
-
-falls_more : (passed : List (List ℕ)) (chunk : List ℕ) → LevelsFall passed →
-    FallsTo (last_level passed) chunk → LevelsFall (passed ++ chunk ∷ [])
-falls_more [] chunk down falls = tt
-falls_more (c ∷ []) chunk down falls = (falls, tt)
-falls_more (c ∷ d ∷ passed) chunk down falls =
-    (down.0, falls_more (d ∷ passed) chunk down.1 falls)
 
 -- ---- what is left
 

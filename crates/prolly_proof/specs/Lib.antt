@@ -1,4 +1,6 @@
 -- The file of a proof, and what it proves.
 pub mod ProofFile
+-- What a look-up by a root has found.
+pub mod ByRoot
 -- What is wrong with bytes that are no proof.
 pub mod Faults

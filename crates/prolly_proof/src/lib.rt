@@ -4,12 +4,17 @@
 //! named by the reference in the chunk above it, and the first by the root.
 #![tactic(auto)]
 
+mod by_root;
 mod fault;
 pub mod laws;
 mod prover;
+mod root_fault;
 mod start;
 mod verifier;
+mod walk;
 
+pub use by_root::{Found, get_by_root};
 pub use fault::ProofFault;
 pub use prover::prove;
+pub use root_fault::RootFault;
 pub use verifier::verify;

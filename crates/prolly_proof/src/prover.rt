@@ -11,6 +11,7 @@ ghost use Rattle.prolly_tree.specs.LookUp.{find};
 
 use crate::start::proof_start;
 use prolly_check::Tree;
+use prolly_file::frame_start;
 use std::alloc::{AllocError, Global};
 
 /// The proof of what a checked tree has at the key: of its value, or that it has none.
@@ -35,7 +36,6 @@ fn append_frame(out: &mut Vec<u8>, chunk: &[u8]) -> Result<(), AllocError>
     ensures framed { OnOk result (out.new.items ≡ out.old.items ++ framed chunk.now) }
     ensures small { IsSmall chunk.now }
 {
-    out.extend_from_slice(b"C")?;
-    out.extend_from_slice(&(chunk.len() as u64).to_be_bytes())?;
+    out.extend_from_slice(&frame_start(chunk.len() as u64))?;
     out.extend_from_slice(chunk)
 }

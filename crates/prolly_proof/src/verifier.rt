@@ -141,7 +141,7 @@ fn step_at<'a>(
 }
 
 /// Whether the chunk, which has a level, may stand below one of the level `above`.
-fn falls_to(above: Option<u8>, chunk: &[u8]) -> bool
+pub(crate) fn falls_to(above: Option<u8>, chunk: &[u8]) -> bool
     requires { 0 < length chunk.now }
     ensures { IsTrue result ↔ FallsTo above chunk.now }
 {
