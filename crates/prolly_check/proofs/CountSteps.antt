@@ -20,8 +20,9 @@ use Rattle.prolly_check.specs.Kinds.{kind_of}
 use Rattle.prolly_check.specs.declared.entries.Entries.TheVariants.{Leaf, Node}
 use Rattle.prolly_check.proofs.Lookups.{nth_in_child}
 use Rattle.prolly_check.proofs.Verdicts.{some_none}
-use Rattle.prolly_check.proofs.WayDown.{root_of, root_pairs, child_of, Stands, AtNode, GoesOn}
+use Rattle.prolly_check.proofs.WayDown.{root_of, root_pairs, Stands, AtNode, GoesOn}
 use Rattle.prolly_check.proofs.WayDown.{at_leaf, at_node, goes_on}
+use Rattle.prolly_check.specs.Descent.{child_of}
 
 -- of these trees, one has the pair of this number below it, behind so many others, and this is how
 -- it is read

@@ -29,9 +29,10 @@ use Rattle.prolly_check.proofs.HeldPairs.{bytes_in, bytes_append, tree_holds, tr
 use Rattle.prolly_check.proofs.Lookups.{apart_from, find_in_child, find_in_none, child_some}
 use Rattle.prolly_check.proofs.Verdicts.{some_none, is_less}
 use Rattle.prolly_check.proofs.Scans.{pairs_from-append, none_below_all, some_from}
-use Rattle.prolly_check.proofs.WayDown.{root_of, root_pairs, IsBelow, in_parts, parted, child_of}
+use Rattle.prolly_check.proofs.WayDown.{root_of, root_pairs, IsBelow, in_parts, parted}
 use Rattle.prolly_check.proofs.WayDown.{own_pairs, Stands, AtNode, GoesOn, at_leaf, at_node}
 use Rattle.prolly_check.proofs.WayDown.{is_there, goes_on}
+use Rattle.prolly_check.specs.Descent.{child_of}
 
 -- ---- the child to which a key leads
 

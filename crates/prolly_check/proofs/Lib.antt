@@ -60,3 +60,5 @@ pub mod Ways
 pub mod StepLemmas
 -- Going down the way of a look-up in a file that was checked.
 pub mod WaySteps
+-- The chunks of the tops of trees can be read.
+pub mod TreeTops

@@ -8,7 +8,7 @@ use Rattle.prolly_tree.specs.Chunk.{IsIn, chunk_of}
 use Rattle.prolly_entry.specs.Cut.{sha512_cut}
 use Rattle.prolly_entry.specs.Pair.{Pair, IsPair}
 use Rattle.prolly_entry.specs.Reference.{reference_of}
-use Rattle.prolly_entry.specs.Spelling.{pair_spelling, count_spelling}
+use Rattle.prolly_entry.specs.Spelling.{pair_spelling}
 use Rattle.prolly_tree.specs.Tree.{Tree, LeveledTree, pairs_below, greatest_key, pair_count}
 use Rattle.prolly_tree.specs.Tree.{bytes_of, tree_of, child_entry}
 use Rattle.prolly_entry.specs.declared.version.Version.{Version}
@@ -18,8 +18,8 @@ use Rattle.prolly_tree.specs.lemmas.Maps.{last_key_short}
 use Rattle.prolly_entry.specs.lemmas.Spellings.{reference_length}
 use Rattle.prolly_check.specs.Checked.{HasFile, HasReference, chunks_of}
 use Rattle.prolly_check.specs.Content.{Content}
-use Rattle.prolly_check.specs.Descent.{IsTreeOf}
-use Rattle.prolly_check.specs.Entries.{Child, first_count, first_child, behind_child, pairs_in}
+use Rattle.prolly_check.specs.Descent.{IsTreeOf, child_of}
+use Rattle.prolly_check.specs.Entries.{Child, first_child, behind_child, pairs_in}
 use Rattle.prolly_check.specs.Entries.{children_in}
 use Rattle.prolly_check.specs.Index.{HasAt}
 use Rattle.prolly_check.specs.Kinds.{kind_of}
@@ -85,13 +85,6 @@ module _ (content : Content) (level : ℕ) (trees before after : List (Tree leve
         }
 
 -- ---- what is read of them
-
-abbrev pub child_of : Version → (level : ℕ) → Tree level → Child
-child_of version level t = record {
-  key = greatest_key level t;
-  reference = reference_of (bytes_of version level t);
-  count = first_count version (count_spelling version (pair_count level t));
-}
 
 all_below : (level : ℕ) (ts : List (Tree level)) →
     AllByRecursion IsPair (flat_map (pairs_below level) ts) →

@@ -16,7 +16,7 @@ use Rattle.prolly_tree.specs.lemmas.Maps.{rises_back}
 use Rattle.prolly_check.specs.Checked.{HasFile, chunks_of}
 use Rattle.prolly_check.specs.Children.{child_for}
 use Rattle.prolly_check.specs.Content.{Content}
-use Rattle.prolly_check.specs.Descent.{NodeFull}
+use Rattle.prolly_check.specs.Descent.{NodeFull, child_of}
 use Rattle.prolly_check.specs.Index.{HasAt}
 use Rattle.prolly_check.specs.Kinds.{kind_of}
 use Rattle.prolly_check.specs.Root.{root_bytes}
@@ -29,7 +29,7 @@ use Rattle.prolly_check.proofs.HeldPairs.{each_whole, map_holds}
 use Rattle.prolly_check.proofs.LeafSteps.{leads_nowhere, leads_to}
 use Rattle.prolly_check.proofs.Lookups.{above_last, child_some, find_in_child, find_in_none}
 use Rattle.prolly_check.proofs.WayDown.{GoesOn, IsBelow, Stands, at_leaf, at_node, at_root}
-use Rattle.prolly_check.proofs.WayDown.{child_of, children_are, goes_on, own_pairs, parted}
+use Rattle.prolly_check.proofs.WayDown.{children_are, goes_on, own_pairs, parted}
 use Rattle.prolly_check.proofs.WayDown.{root_pairs}
 use Rattle.prolly_check.proofs.Ways.{picked}
 
@@ -60,7 +60,7 @@ module _ (version : Version) (level : ℕ) where
             (rises_back own rest r),
       )
 
-  tops_rise : (ts : List (Tree level)) → AreFull ts →
+  pub tops_rise : (ts : List (Tree level)) → AreFull ts →
       Rising (map (λ p. p.key) (flat_map (pairs_below level) ts)) → Rising (tops ts)
   tops_rise [] full h = tt
   tops_rise (t ∷ ts) full h =

@@ -15,14 +15,14 @@ use Rattle.prolly_tree.specs.Chunk.{IsIn, chunk_of}
 use Rattle.prolly_tree.specs.LookUp.{find}
 use Rattle.prolly_tree.specs.Tree.{Tree, bytes_of, pairs_below, tree_of}
 use Rattle.prolly_check.specs.Children.{child_for}
-use Rattle.prolly_check.specs.Descent.{IsTreeOf}
+use Rattle.prolly_check.specs.Descent.{IsTreeOf, child_of}
 use Rattle.prolly_check.specs.Entries.{Child}
 use Rattle.prolly_check.specs.Judged.{chunk_bytes}
 use Rattle.prolly_check.specs.Kinds.{kind_of}
 use Rattle.prolly_check.specs.Way.{Clash, EndsWith, IsNamed, Lead, LeadsOn, WaysAreRight}
 use Rattle.prolly_check.proofs.LeafSteps.{LeadsTo, leads_nowhere, leads_to}
 use Rattle.prolly_check.proofs.Lookups.{child_is, child_some, find_in_child, find_in_none, root_is}
-use Rattle.prolly_check.proofs.WayDown.{child_of, children_are, own_pairs}
+use Rattle.prolly_check.proofs.WayDown.{children_are, own_pairs}
 
 -- the child that a key leads to, where it leads to a reference
 pub record Picked (picked : Option Child) (reference : List ℕ) : Type 0 where

@@ -1,5 +1,6 @@
 -- How a look-up goes down a tree.
-use Rattle.std.specs.Prelude.{◌≡◌, ℕ, zero, suc, ◌+◌, ◌<◌, false, List, ◌∷◌, ◌++◌, length, None}
+use Rattle.std.specs.Prelude.{◌≡◌, ℕ, zero, suc, ◌+◌, ◌<◌, false, List, ◌∷◌, ◌++◌, length, map}
+use Rattle.std.specs.Prelude.{None}
 use Rattle.std.specs.List.{flat_map, AllByRecursion}
 use Rattle.std.specs.Ordering.{is_lt}
 use Rattle.prolly_entry.specs.Keys.{key_order, KeyBelow, Rising}
@@ -13,9 +14,13 @@ use Rattle.prolly_tree.specs.Tree.{child_entry}
 use Rattle.prolly_tree.specs.Chunk.{Chunk, chunks, post_order, IsIn}
 use Rattle.prolly_tree.specs.LookUp.{find, nth}
 use Rattle.prolly_file.specs.Scratch.{keys_in}
-use Rattle.prolly_check.specs.Entries.{Child, IsChild, entry_of}
+use Rattle.prolly_check.specs.Entries.{Child, IsChild, entry_of, first_count}
 use Rattle.prolly_check.specs.Judged.{chunk_bytes}
+use Rattle.prolly_check.specs.Kinds.{kind_of}
 use Rattle.prolly_check.specs.Verdict.{AllApart}
+use Rattle.prolly_check.specs.Way.{IsOrdered}
+use Rattle.prolly_check.specs.declared.entries.Entries.{Entries}
+use Rattle.prolly_check.specs.declared.entries.Entries.TheVariants.{Leaf, Node}
 
 -- The chunks of the tree are there.
 abbrev pub HasTree : Version → List (List ℕ) → (level : ℕ) → Tree level → Type 0
@@ -110,3 +115,34 @@ StepsDown version = (chunks : List (List ℕ)) (m : List Pair) (key chunk next :
     is_lt (key_order (greatest_key level t) key) ≡ false →
     IsIn next chunks → reference_of next ≡ reference_of (bytes_of version level t) →
     StandsAt version chunks m key next
+
+-- What a node says of its child, the top of a tree.
+abbrev pub child_of : Version → (level : ℕ) → Tree level → Child
+child_of version level t = record {
+  key = greatest_key level t;
+  reference = reference_of (bytes_of version level t);
+  count = first_count version (count_spelling version (pair_count level t));
+}
+
+-- The entries of the top of a tree.
+abbrev pub entries_below : Version → (level : ℕ) → Tree level → Entries
+entries_below version zero leaf = Leaf leaf
+entries_below version (suc level) ts = Node (map (child_of version level) ts)
+
+-- The whole tree of a map is one of its chunks.
+abbrev pub RootIsTree : Type 0
+RootIsTree = (version : Version) (bits : ℕ) (m : List Pair) → AllByRecursion IsPair m →
+    Rising (keys_in m) → IsTreeOf version (chunk_bytes version bits m)
+    (tree_of (sha512_cut bits) version m).level (tree_of (sha512_cut bits) version m).tree
+
+-- So is what is below a child of a node.
+abbrev pub ChildIsTree : Version → Type 0
+ChildIsTree version = (chunks : List (List ℕ)) (level : ℕ) (before after : List (Tree level))
+    (t : Tree level) → IsTreeOf version chunks (suc level) (before ++ t ∷ after) →
+    IsTreeOf version chunks level t
+
+-- The chunk of such a tree's top can be read, and what is read are its entries.
+abbrev pub TopIsRead : Version → Type 0
+TopIsRead version = (chunks : List (List ℕ)) (level : ℕ) (t : Tree level) →
+    IsTreeOf version chunks level t → IsOrdered version (bytes_of version level t) ×
+    (kind_of version (bytes_of version level t) ≡ entries_below version level t)

@@ -3,6 +3,7 @@
 ghost use Rattle.prolly_entry.specs.declared.version.Version.{Version};
 ghost use Rattle.prolly_check.specs.Descent.{ReferenceLeads, FindInChild, FindInNone, NthInChild};
 ghost use Rattle.prolly_check.specs.Descent.{StandsAtRoot, FirstEntry, StepsDown};
+ghost use Rattle.prolly_check.specs.Descent.{RootIsTree, ChildIsTree, TopIsRead};
 ghost use Rattle.prolly_check.specs.Entries.{NoLeaf, NoNode};
 ghost use Rattle.prolly_check.specs.Verdict.{OneVerdict, AcceptsFiles};
 ghost use Rattle.prolly_check.specs.Way.{WaysAreRight};
@@ -28,6 +29,13 @@ pub fn look_ups_go_down()
     ensures root { StandsAtRoot }
     ensures first { (version : Version) → FirstEntry version }
     ensures down { (version : Version) → StepsDown version }
+{}
+
+/// The chunks of a map are the tops of trees, and each of them can be read.
+pub fn tops_are_read()
+    ensures root { RootIsTree }
+    ensures child { (version : Version) → ChildIsTree version }
+    ensures read { (version : Version) → TopIsRead version }
 {}
 
 /// Whoever knows the root of a map knows by the way of a look-up what the map has at the key, or
