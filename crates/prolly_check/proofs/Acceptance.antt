@@ -26,10 +26,11 @@ use Rattle.prolly_check.specs.Frames.{ending_of, IsSmall, IsFramed}
 use Rattle.prolly_check.specs.Judged.{difference, chunk_bytes, ending_for, judged}
 use Rattle.prolly_check.specs.Verdict.{FramesVerdict, HeaderVerdict, IsVerdict, AllApart, IsFileOf}
 use Rattle.prolly_check.specs.Verdict.{AcceptsFiles}
+use Rattle.prolly_check.specs.lemmas.Frames.{frames_bytes}
 use Rattle.prolly_tree.specs.lemmas.Splits.{flat}
 use Rattle.prolly_entry.specs.lemmas.Spellings.{reference_length}
 use Rattle.prolly_check.proofs.HeldPairs.{flat_held, all_hold, map_holds}
-use Rattle.prolly_check.proofs.Verdicts.{frames_bytes, Other, rising_is, order_is, end_is, reuse_is}
+use Rattle.prolly_check.proofs.Verdicts.{Other, rising_is, order_is, end_is, reuse_is}
 use Rattle.prolly_check.proofs.Verdicts.{accepted_is_file}
 
 -- ---- the one file and the references

@@ -19,9 +19,9 @@ use Rattle.prolly_check.specs.Whole.{IsWhole, AreWhole}
 use Rattle.prolly_check.specs.Missing.{size_of}
 use Rattle.prolly_check.proofs.LeafPairs.{leaf_pairs}
 use Rattle.prolly_check.proofs.HeldPairs.{map_holds}
-use Rattle.prolly_check.proofs.Verdicts.{frames_bytes}
 use Rattle.prolly_check.specs.Spans.{chunks_in, FramesTo}
 use Rattle.prolly_check.specs.Verdict.{IsFileOf}
+use Rattle.prolly_check.specs.lemmas.Frames.{frames_bytes}
 
 each_has_bytes : (pairs : List Pair) → length pairs ≤ length (flat_map pair_spelling pairs)
 each_has_bytes [] = omega arith

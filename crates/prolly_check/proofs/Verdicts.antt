@@ -20,7 +20,7 @@ use Rattle.prolly_entry.specs.declared.version.Version.{Version}
 use Rattle.prolly_entry.specs.Cut.{sha512_cut}
 use Rattle.prolly_entry.specs.Reference.{reference_of}
 use Rattle.prolly_entry.specs.Version.{version_byte}
-use Rattle.prolly_tree.specs.Chunk.{Chunk, chunks}
+use Rattle.prolly_tree.specs.Chunk.{chunks}
 use Rattle.prolly_tree.specs.File.{header, frame}
 use Rattle.prolly_entry.specs.Overlay.{or_else}
 use Rattle.prolly_file.specs.Frame.{framed}
@@ -38,6 +38,7 @@ use Rattle.prolly_check.specs.Judged.{order_fault, difference, end_fault, reuse,
 use Rattle.prolly_check.specs.Judged.{ending_for, canonical_fault, or_content, judged}
 use Rattle.prolly_check.specs.Verdict.{ReadVerdict, EndVerdict, HeaderVerdict, IsVerdict, AllApart}
 use Rattle.prolly_check.specs.Verdict.{IsFileOf}
+use Rattle.prolly_check.specs.lemmas.Frames.{frames_bytes}
 use Rattle.prolly_tree.specs.lemmas.Splits.{flat}
 use Rattle.prolly_entry.specs.lemmas.Lists.{all_append}
 
@@ -276,10 +277,6 @@ content_ok is content (Some fault) e = absurd (err_ok (sym e))
 pub none_left : (a b : Option CheckFault) → or_else a b ≡ None → (a ≡ None) × (b ≡ None)
 none_left None b e = (refl, e)
 none_left (Some x) b e = absurd (some_none e)
-
-pub frames_bytes : (cs : List Chunk) → flat_map frame cs ≡ flat_map framed (map (λ c. c.bytes) cs)
-frames_bytes [] = refl
-frames_bytes (c ∷ cs) = ap (λ x. frame c ++ x) (frames_bytes cs)
 
 -- nothing is wrong with the keys, the chunks and the end record
 pub record IsCanonical (version : Version) (bits : ℕ) (cs : List (List ℕ)) (ending : List ℕ)

@@ -1,5 +1,7 @@
 -- A frame, and what stands behind it.
-use Rattle.std.proofs.Common.{◌≡◌, ℕ, ◌+◌, ◌≤◌, false, ◌||◌, nat_lt, List, ◌∷◌, ◌++◌, length}
+use Rattle.std.proofs.Common.{◌≡◌, ℕ, ◌+◌, ◌≤◌, false, ◌||◌, nat_lt, List, [], ◌∷◌, ◌++◌, length}
+use Rattle.std.proofs.Common.{map}
+use Rattle.std.specs.List.{flat_map}
 use Rattle.std.proofs.Common.{refl, sym, ap, ◌∙◌, arith, append_assoc}
 use Rattle.std.specs.Int.{w64, to_be_bytes, from_be_bytes}
 use Rattle.std.proofs.lemmas.Nat.{from_be_bytes-to_be_bytes_8}
@@ -8,6 +10,8 @@ use Rattle.std.proofs.lemmas.Bool.{or_from, le-ltb}
 use Rattle.prolly_entry.specs.lemmas.Lists.{Apart, apart, cells}
 use Rattle.prolly_entry.specs.lemmas.Spellings.{eight_bytes}
 use Rattle.prolly_file.specs.Frame.{framed}
+use Rattle.prolly_tree.specs.Chunk.{Chunk}
+use Rattle.prolly_tree.specs.File.{frame}
 use Rattle.prolly_check.specs.Frames.{has_no_frame, IsSmall}
 
 long_enough : (long read size : ℕ) → read ≡ size → 8 + size ≤ long →
@@ -44,3 +48,8 @@ one_front c d more other h k e =
     (cells 0x43 0x43 (to_be_bytes w64 (length c) ++ (c ++ more))
     (to_be_bytes w64 (length d) ++ (d ++ other)) f) in
     apart c d more other (eight_bytes (length c) (length d) h k n.front) n.rest
+
+-- The frames of chunks are those of their bytes.
+pub frames_bytes : (cs : List Chunk) → flat_map frame cs ≡ flat_map framed (map (λ c. c.bytes) cs)
+frames_bytes [] = refl
+frames_bytes (c ∷ cs) = ap (λ x. frame c ++ x) (frames_bytes cs)
