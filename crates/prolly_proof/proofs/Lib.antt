@@ -10,3 +10,5 @@ pub mod Rightness
 pub mod Appending
 -- Going down from the root, from each chunk to the one that it refers to.
 pub mod Descending
+-- Going over the frames of a file.
+pub mod Walking

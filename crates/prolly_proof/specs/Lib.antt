@@ -4,3 +4,5 @@ pub mod ProofFile
 pub mod ByRoot
 -- What is wrong with bytes that are no proof.
 pub mod Faults
+-- Going over the frames of a chunk file on a device.
+pub mod Walks

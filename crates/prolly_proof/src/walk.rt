@@ -1,5 +1,7 @@
 //! The frames of a chunk file on a device, one after another.
-ghost use Rattle.std.specs.Prelude.{◌≡◌, ◌<◌, ◌≤◌, OnOk, IfOk, IfSome};
+ghost use Rattle.std.specs.Prelude.{◌≡◌, ◌+◌, ◌^◌, ◌<◌, ◌≤◌, ℕ, [], ◌∷◌, ◌++◌, List, length, Ok};
+ghost use Rattle.std.specs.Prelude.{None, OnOk, IfOk, IfErr, IsOk, IfSome};
+ghost use Rattle.std.specs.Int.{w64, to_be_bytes};
 
 use crate::root_fault::RootFault;
 use byteorder::{BigEndian, ByteOrder};
@@ -39,9 +41,33 @@ pub(crate) struct Walk {
     size: u64,
 }
 
+/// What is read where a frame, or the end record, begins.
+#[derive(Clone, Copy, Debug)]
+enum Start {
+    /// The end record.
+    End,
+    /// A chunk of this length and level.
+    Chunk(u64, u8),
+}
+
 impl Walk {
+    ghost use Rattle.prolly_check.specs.Checked.{chunks_of};
+    ghost use Rattle.prolly_check.specs.Content.{Content};
+    ghost use Rattle.prolly_proof.specs.Walks.{HoldsFile, StaysSame, TellsReads, StandsBehind};
+    ghost use Rattle.prolly_proof.specs.Walks.{IsStartOf, GoesOver, GoesOverTree, IsFrameOf};
+    ghost use Rattle.prolly_proof.specs.Walks.{OnlyRead, chunks_of_tree};
+    ghost use Rattle.prolly_tree.specs.Tree.{Tree};
+
     /// The place before the first frame of a chunk file of this version.
-    pub(crate) fn begin<D: Device>(device: &mut D, version: Version) -> Result<Walk, RootFault> {
+    pub(crate) fn begin<D: Device>(device: &mut D, version: Version) -> Result<Walk, RootFault>
+        ensures same { StaysSame (D.seen device.old) (D.seen device.new) }
+        ensures reads { TellsReads (D.seen device.old).failures (D.seen device.new).failures result }
+        ensures begins { (content : Content) → HoldsFile (D.seen device.old) content →
+            version ≡ content.version →
+            IfOk result (StandsBehind (length (D.seen device.old).bytes) []) }
+        ensures only { (content : Content) → HoldsFile (D.seen device.old) content →
+            version ≡ content.version → IfErr result OnlyRead }
+    {
         let mut start = [0; HEADER_SIZE];
         let count = device.read_at(0, &mut start)?;
         match read_header(&start[..count]) {
@@ -58,24 +84,21 @@ impl Walk {
 
     /// Goes over the next frame; none where the end record is next. One read, of ten bytes.
     pub(crate) fn next<D: Device>(&mut self, device: &mut D) -> Result<Option<Frame>, RootFault>
+        ensures same { StaysSame (D.seen device.old) (D.seen device.new) }
+        ensures reads { TellsReads (D.seen device.old).failures (D.seen device.new).failures result }
         ensures size { self.new.size ≡ self.old.size }
         ensures within { IfOk result (λ next. IfSome next (λ frame. self.new.place ≤
             self.new.size)) }
         ensures forward { IfOk result (λ next. IfSome next (λ frame. self.old.place <
             self.new.place)) }
+        ensures goes { (content : Content) (before left : List (List ℕ)) →
+            HoldsFile (D.seen device.old) content → chunks_of content ≡ before ++ left →
+            StandsBehind (length (D.seen device.old).bytes) before self.old →
+            GoesOver (length (D.seen device.old).bytes) before left self.new result }
     {
-        let mut start = [0; READ_BYTES];
-        match device.read_at(self.place, &mut start)? {
-            0 => Err(RootFault::Truncated),
-            count => match start[0] {
-                b'E' => self.end(),
-                b'C' if count == READ_BYTES => {
-                    let len = BigEndian::read_u64(&start[1..9]);
-                    Ok(Some(self.pass(len, start[9])?))
-                }
-                b'C' => Err(RootFault::Truncated),
-                _ => Err(RootFault::Frame { chunk: self.number }),
-            },
+        match self.start(device)? {
+            Start::End => self.end(),
+            Start::Chunk(len, level) => Ok(Some(self.pass(len, level)?)),
         }
     }
 
@@ -84,7 +107,16 @@ impl Walk {
         &mut self,
         device: &mut D,
         level: u8,
-    ) -> Result<Frame, RootFault> {
+    ) -> Result<Frame, RootFault>
+        ensures same { StaysSame (D.seen device.old) (D.seen device.new) }
+        ensures reads { TellsReads (D.seen device.old).failures (D.seen device.new).failures result }
+        ensures goes { (content : Content) (t : Tree level) (before left : List (List ℕ)) →
+            HoldsFile (D.seen device.old) content →
+            chunks_of content ≡ before ++ (chunks_of_tree content.version level t ++ left) →
+            StandsBehind (length (D.seen device.old).bytes) before self.old →
+            GoesOverTree (length (D.seen device.old).bytes) content.version level t before self.new
+            result }
+    {
         loop {
             match self.next(device)? {
                 Some(frame) if frame.level == level => return Ok(frame),
@@ -94,8 +126,17 @@ impl Walk {
         }
     }
 
-    /// The last frame of the file.
-    pub(crate) fn last<D: Device>(mut self, device: &mut D) -> Result<Frame, RootFault> {
+    /// The last frame of the file, where this place is before the first one.
+    pub(crate) fn last<D: Device>(mut self, device: &mut D) -> Result<Frame, RootFault>
+        ensures same { StaysSame (D.seen device.old) (D.seen device.new) }
+        ensures reads { TellsReads (D.seen device.old).failures (D.seen device.new).failures result }
+        ensures last { (content : Content) (before : List (List ℕ)) (chunk : List ℕ) →
+            HoldsFile (D.seen device.old) content → chunks_of content ≡ before ++ chunk ∷ [] →
+            StandsBehind (length (D.seen device.old).bytes) [] self →
+            IfOk result (IsFrameOf before chunk) }
+        ensures only { (content : Content) → HoldsFile (D.seen device.old) content →
+            StandsBehind (length (D.seen device.old).bytes) [] self → IfErr result OnlyRead }
+    {
         let mut last = None;
         while let Some(frame) = self.next(device)? {
             last = Some(frame);
@@ -106,9 +147,25 @@ impl Walk {
         }
     }
 
+    /// What begins here.
+    fn start<D: Device>(&self, device: &mut D) -> Result<Start, RootFault>
+        ensures same { StaysSame (D.seen device.old) (D.seen device.new) }
+        ensures reads { TellsReads (D.seen device.old).failures (D.seen device.new).failures result }
+        ensures is { (content : Content) (before left : List (List ℕ)) →
+            HoldsFile (D.seen device.old) content → chunks_of content ≡ before ++ left →
+            StandsBehind (length (D.seen device.old).bytes) before self.now →
+            IsStartOf left result }
+    {
+        let mut start = [0; READ_BYTES];
+        let count = device.read_at(self.place, &mut start)?;
+        start_in(&start[..count], self.number)
+    }
+
     /// None, where the end record, which begins here, ends where the file does.
     fn end(&self) -> Result<Option<Frame>, RootFault>
-        ensures { IfOk result (λ next. next ≡ None) }
+        ensures none { IfOk result (λ next. next ≡ None) }
+        ensures end { self.now.place + END_BYTES ≡ self.now.size → result ≡ Ok None }
+        ensures read { IfErr result (λ fault. fault ≡ RootFault.Read → ⊥) }
     {
         let left = self.size.saturating_sub(self.place);
         if left < END_BYTES {
@@ -125,23 +182,48 @@ impl Walk {
         ensures size { self.new.size ≡ self.old.size }
         ensures within { OnOk result (self.new.place ≤ self.new.size) }
         ensures forward { OnOk result (self.old.place < self.new.place) }
+        ensures place { OnOk result (self.new.place ≡ self.old.place + 9 + len) }
+        ensures frame { IfOk result (λ frame. (frame.start ≡ self.old.place + 9) ×
+            (frame.len ≡ len) × (frame.level ≡ level)) }
+        ensures fits { 0 < len → self.old.place + 9 + len ≤ self.old.size → IsOk result }
+        ensures read { IfErr result (λ fault. fault ≡ RootFault.Read → ⊥) }
     {
         if len == 0 {
             return Err(RootFault::Chunk { chunk: self.number });
         }
+        let room = self
+            .size
+            .saturating_sub(self.place)
+            .saturating_sub(FRAME_START);
+        if len > room {
+            return Err(RootFault::Truncated);
+        }
         let frame = Frame {
             number: self.number,
-            start: self.place.saturating_add(FRAME_START),
+            start: self.place + FRAME_START,
             len,
             level,
         };
-        match frame.start.checked_add(len) {
-            Some(end) if end <= self.size => {
-                self.place = end;
-                self.number = self.number.saturating_add(1);
-                Ok(frame)
-            }
-            _ => Err(RootFault::Truncated),
+        self.place = frame.start + len;
+        self.number = self.number.saturating_add(1);
+        Ok(frame)
+    }
+}
+
+/// What these bytes begin, of which there are ten where the file has them, in the place of the
+/// chunk of this number.
+fn start_in(bytes: &[u8], number: u64) -> Result<Start, RootFault>
+    ensures end { (more : List ℕ) → bytes.now ≡ 0x45 ∷ more → result ≡ Ok Start.End }
+    ensures chunk { (len level : ℕ) → len < 2 ^ 64 →
+        bytes.now ≡ 0x43 ∷ (to_be_bytes w64 len ++ level ∷ []) → result ≡ Ok (Start.Chunk len level) }
+    ensures read { IfErr result (λ fault. fault ≡ RootFault.Read → ⊥) }
+{
+    match bytes {
+        [b'E', ..] => Ok(Start::End),
+        [b'C', len @ .., level] if len.len() == 8 => {
+            Ok(Start::Chunk(BigEndian::read_u64(len), *level))
         }
+        [] | [b'C', ..] => Err(RootFault::Truncated),
+        _ => Err(RootFault::Frame { chunk: number }),
     }
 }
