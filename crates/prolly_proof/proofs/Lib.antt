@@ -12,3 +12,5 @@ pub mod Appending
 pub mod Descending
 -- Going over the frames of a file.
 pub mod Walking
+-- Going down from the root of a lawful file on a device.
+pub mod GoingDown

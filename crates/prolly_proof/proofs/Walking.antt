@@ -21,7 +21,8 @@ use Rattle.prolly_file.specs.Frame.{framed}
 use Rattle.prolly_tree.specs.Chunk.{Chunk, chunk_of, chunks, post_order}
 use Rattle.prolly_tree.specs.File.{end_record, header, root_reference}
 use Rattle.prolly_tree.specs.Tree.{Tree, bytes_of, tree_of}
-use Rattle.prolly_proof.specs.Walks.{GoesOver, HoldsFile, IsFrameOf, IsFrameOfTop, IsStartOf}
+use Rattle.prolly_proof.specs.Walks.{GoesOver, GoesOverTree, HoldsFile}
+use Rattle.prolly_proof.specs.Walks.{ IsFrameOf, IsFrameOfTop, IsStartOf}
 use Rattle.prolly_proof.specs.Walks.{StandsBehind, StaysSame, chunks_below, chunks_of_tree}
 use Rattle.prolly_proof.specs.Walks.{place_behind}
 use Rattle.prolly_proof.specs.declared.root_fault.RootFault.{RootFault}
@@ -115,14 +116,14 @@ module _ (bytes : List ℕ) (content : Content) (f : IsFileOf bytes content)
   ending = end_record (root_reference (sha512_cut content.bits) content.version content.pairs)
       (length (chunks (sha512_cut content.bits) content.version content.pairs))
 
-  apart : bytes ≡ (start ++ flat_map framed before) ++ (flat_map framed left ++ ending)
+  pub apart : bytes ≡ (start ++ flat_map framed before) ++ (flat_map framed left ++ ending)
   apart = f.is ∙ ap (λ x. start ++ (x ++ ending))
       (frames_bytes (chunks (sha512_cut content.bits) content.version content.pairs) ∙
       ap (flat_map framed) are ∙ flat_map-append framed before left) ∙
       ap (λ x. start ++ x) (append_assoc (flat_map framed before) (flat_map framed left) ending) ∙
       sym (append_assoc start (flat_map framed before) (flat_map framed left ++ ending))
 
-  front_length : length (start ++ flat_map framed before) ≡ place_behind before
+  pub front_length : length (start ++ flat_map framed before) ≡ place_behind before
   front_length = length-append start (flat_map framed before)
 
   -- what stands behind the frames before
@@ -177,9 +178,14 @@ module _ (bytes : List ℕ) (content : Content) (f : IsFileOf bytes content)
         ap (λ cs. take 10 (flat_map framed cs ++ ending)) e))) (refl, refl)
       where
         few : suc (length c) < 2 ^ 64
-        few = omega (arith, short, how_long, ap (λ cs. length (flat_map framed cs)) e,
-            length-append (framed (b ∷ c)) (flat_map framed rest),
-            length-append (to_be_bytes w64 (suc (length c))) (b ∷ c))
+        few = omega (
+          arith,
+          short,
+          how_long,
+          ap (λ cs. length (flat_map framed cs)) e,
+          length-append (framed (b ∷ c)) (flat_map framed rest),
+          length-append (to_be_bytes w64 (suc (length c))) (b ∷ c),
+        )
 
     pub is_start : IsStartOf left result
     is_start = by_what_is_left left refl all_some
@@ -283,6 +289,24 @@ pub over_ok : (old mid : DeviceView) (content : Content) (walk new : Walk)
 over_ok old mid content walk new given next e same holds goes before left are stands =
     subst (λ o. GoesOver (length old.bytes) before left new (Ok o)) e
     (over_from old mid content walk new (Ok given) same holds goes before left are stands)
+
+-- and of the frame of a tree's top
+pub tree_from : (old mid : DeviceView) (content : Content) (level : ℕ) (t : Tree level)
+    (walk new : Walk) (result : Result Frame RootFault) → StaysSame old mid →
+    HoldsFile old content → ((content : Content) (t : Tree level) (before left : List (List ℕ)) →
+    HoldsFile mid content →
+    chunks_of content ≡ before ++ (chunks_of_tree content.version level t ++ left) →
+    StandsBehind (length mid.bytes) before walk →
+    GoesOverTree (length mid.bytes) content.version level t before new result) →
+    (before left : List (List ℕ)) →
+    chunks_of content ≡ before ++ (chunks_of_tree content.version level t ++ left) →
+    StandsBehind (length old.bytes) before walk →
+    GoesOverTree (length old.bytes) content.version level t before new result
+tree_from old mid content level t walk new result same holds goes before left are stands =
+    let size = same_size old mid content same holds in
+    subst (λ n. GoesOverTree n content.version level t before new result) (sym size)
+    (goes content t before left (holds_still old mid content same holds) are
+    (subst (λ n. StandsBehind n before walk) size stands))
 
 -- ---- to the last frame
 
@@ -409,42 +433,42 @@ module _ (content : Content) (level : ℕ) (t : Tree level) (size : ℕ)
 
     module _ (new : Walk) (frame : Frame)
         (over : GoesOver size (before ++ amid.passed) (ahead amid.rest) new (Ok (Some frame)))
-        where
-      -- of the level of the top is the top alone
-      pub over_top : frame.level ≡ level → IsFrameOfTop version level t before frame ×
-          StandsBehind size (before ++ chunks_of_tree version level t) new
-      over_top same = by_what_is_left amid.rest amid.below over
-        where
-          by_what_is_left : (rest : List (List ℕ)) →
-              chunks_below version level t ≡ amid.passed ++ rest →
-              GoesOver size (before ++ amid.passed) (ahead rest) new (Ok (Some frame)) →
-              IsFrameOfTop version level t before frame ×
-              StandsBehind size (before ++ chunks_of_tree version level t) new
-          by_what_is_left [] below over =
-              let all = sym (below ∙ append-nil amid.passed) in (
-                subst (λ cs. IsFrameOf (before ++ cs) top frame) all over.0,
-                subst (λ cs. StandsBehind size cs new) (append_assoc before amid.passed (top ∷ []) ∙
-                    ap (λ cs. before ++ (cs ++ top ∷ [])) all ∙
-                    ap (λ cs. before ++ cs) (sym (top_last version level t))) over.1,
-              )
-          by_what_is_left (r ∷ rest) below over =
-              let low = (all_back (IsLower version level) amid.passed (r ∷ rest)
-              (subst (AllByRecursion (IsLower version level)) below (all_lower version level t))).0
-              in absurd (omega (arith, low, over.0.level, same))
+      where
+        -- of the level of the top is the top alone
+        pub over_top : frame.level ≡ level → IsFrameOfTop version level t before frame ×
+            StandsBehind size (before ++ chunks_of_tree version level t) new
+        over_top same = by_what_is_left amid.rest amid.below over
+          where
+            by_what_is_left : (rest : List (List ℕ)) →
+                chunks_below version level t ≡ amid.passed ++ rest →
+                GoesOver size (before ++ amid.passed) (ahead rest) new (Ok (Some frame)) →
+                IsFrameOfTop version level t before frame ×
+                StandsBehind size (before ++ chunks_of_tree version level t) new
+            by_what_is_left [] below over =
+                let all = sym (below ∙ append-nil amid.passed) in (
+                  subst (λ cs. IsFrameOf (before ++ cs) top frame) all over.0,
+                  subst (λ cs. StandsBehind size cs new) (append_assoc before amid.passed (top ∷ []) ∙
+                      ap (λ cs. before ++ (cs ++ top ∷ [])) all ∙
+                      ap (λ cs. before ++ cs) (sym (top_last version level t))) over.1,
+                )
+            by_what_is_left (r ∷ rest) below over =
+                let low = (all_back (IsLower version level) amid.passed (r ∷ rest)
+                (subst (AllByRecursion (IsLower version level)) below (all_lower version level t))).0
+                in absurd (omega (arith, low, over.0.level, same))
 
-      -- of another one is a chunk below it
-      pub over_lower : (frame.level ≡ level → ⊥) → IsAmid version level t size before new
-      over_lower other = by_what_is_left amid.rest amid.below over
-        where
-          by_what_is_left : (rest : List (List ℕ)) →
-              chunks_below version level t ≡ amid.passed ++ rest →
-              GoesOver size (before ++ amid.passed) (ahead rest) new (Ok (Some frame)) →
-              IsAmid version level t size before new
-          by_what_is_left [] below over = absurd (other (over.0.level ∙ level_is version level t))
-          by_what_is_left (r ∷ rest) below over = record {
-            passed = amid.passed ++ r ∷ [];
-            rest = rest;
-            below = below ∙ sym (append_assoc amid.passed (r ∷ []) rest);
-            stands = subst (λ cs. StandsBehind size cs new)
-                (append_assoc before amid.passed (r ∷ [])) over.1;
-          }
+        -- of another one is a chunk below it
+        pub over_lower : (frame.level ≡ level → ⊥) → IsAmid version level t size before new
+        over_lower other = by_what_is_left amid.rest amid.below over
+          where
+            by_what_is_left : (rest : List (List ℕ)) →
+                chunks_below version level t ≡ amid.passed ++ rest →
+                GoesOver size (before ++ amid.passed) (ahead rest) new (Ok (Some frame)) →
+                IsAmid version level t size before new
+            by_what_is_left [] below over = absurd (other (over.0.level ∙ level_is version level t))
+            by_what_is_left (r ∷ rest) below over = record {
+              passed = amid.passed ++ r ∷ [];
+              rest = rest;
+              below = below ∙ sym (append_assoc amid.passed (r ∷ []) rest);
+              stands = subst (λ cs. StandsBehind size cs new)
+                  (append_assoc before amid.passed (r ∷ [])) over.1;
+            }

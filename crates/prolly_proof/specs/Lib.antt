@@ -6,3 +6,5 @@ pub mod ByRoot
 pub mod Faults
 -- Going over the frames of a chunk file on a device.
 pub mod Walks
+-- Going down from the root in a file on a device.
+pub mod Descents

@@ -1,15 +1,24 @@
 //! Looking a key up by the root, in a file of which no more is read than that wants.
-ghost use Rattle.std.specs.Prelude.{◌≡◌, ◌<◌, [], ◌∷◌, ◌++◌, option_map, IfOk, OnOk};
+ghost use Rattle.std.specs.Prelude.{◌≡◌, ◌+◌, ◌<◌, ℕ, List, [], ◌∷◌, ◌++◌, length, option_map};
+ghost use Rattle.std.specs.Prelude.{IfOk, IfErr, IsOk, OnOk};
 ghost use Rattle.std.specs.Option.{option_copied};
+ghost use Rattle.prolly_check.specs.Checked.{chunks_of};
+ghost use Rattle.prolly_check.specs.Content.{Content};
 ghost use Rattle.prolly_check.specs.Kinds.{kind_of};
 ghost use Rattle.prolly_check.specs.Way.{IsNamed};
 ghost use Rattle.prolly_check.specs.declared.entries.Entries.TheVariants.{Node};
 ghost use Rattle.prolly_proof.specs.ByRoot.{IsFound, IsOnward, LooksOn};
+ghost use Rattle.prolly_entry.specs.Cut.{sha512_cut};
+ghost use Rattle.prolly_proof.specs.Descents.{GoesAmong, MayFail, StandsAtTree, StepsDown};
 ghost use Rattle.prolly_proof.specs.Faults.{FallsTo};
+ghost use Rattle.prolly_proof.specs.Walks.{HoldsFile, IsFrameOf, StaysSame, TellsReads};
+ghost use Rattle.prolly_tree.specs.File.{root_reference};
+ghost use Rattle.prolly_tree.specs.Tree.{bytes_of};
 
 use crate::root_fault::RootFault;
 use crate::verifier::falls_to;
 use crate::walk::{Frame, Walk};
+use prolly_check::laws::tops_are_read;
 use prolly_check::{Children, ChunkFlaw, Entries, entries_in, value_in};
 use prolly_entry::{Ref, Version, key_order};
 use prolly_file::Device;
@@ -43,8 +52,15 @@ pub fn get_by_root<D: Device>(
     root: &Ref,
     key: &[u8],
 ) -> Result<Found, RootFault>
-    ensures { IfOk result (IsFound version root.now.0 key.now) }
+    ensures found { IfOk result (IsFound version root.now.0 key.now) }
+
+    // A lawful file with this root is never refused.
+    ensures lawful { (content : Content) → HoldsFile (D.seen device.old) content →
+        version ≡ content.version → root.now.0 ≡ root_reference (sha512_cut content.bits)
+        content.version content.pairs → IfErr result MayFail }
+    ensures reads { TellsReads (D.seen device.old).failures (D.seen device.new).failures result }
 {
+    tops_are_read();
     let start = Walk::begin(device, version)?;
     let mut place = Place {
         frame: start.last(device)?,
@@ -103,11 +119,16 @@ enum Onward {
 }
 
 /// The bytes of a chunk.
-fn read_chunk<D: Device>(
-    alloc: Global,
-    device: &mut D,
-    frame: &Frame,
-) -> Result<Vec<u8>, RootFault> {
+fn read_chunk<D: Device>(alloc: Global, device: &mut D, frame: &Frame) -> Result<Vec<u8>, RootFault>
+    ensures same { StaysSame (D.seen device.old) (D.seen device.new) }
+    ensures reads { TellsReads (D.seen device.old).failures (D.seen device.new).failures result }
+    ensures is { (content : Content) (before left : List (List ℕ)) (chunk : List ℕ) →
+        HoldsFile (D.seen device.old) content → chunks_of content ≡ before ++ chunk ∷ left →
+        IsFrameOf before chunk frame.now → IfOk result (λ bytes. bytes.items ≡ chunk) }
+    ensures only { (content : Content) (before left : List (List ℕ)) (chunk : List ℕ) →
+        HoldsFile (D.seen device.old) content → chunks_of content ≡ before ++ chunk ∷ left →
+        IsFrameOf before chunk frame.now → IfErr result MayFail }
+{
     let mut chunk = vec![in alloc; 0; frame.len as usize]?;
     let count = device.read_at(frame.start, &mut chunk)?;
     if count < chunk.len() {
@@ -129,10 +150,18 @@ fn step_from<D: Device>(
     ensures named { IfOk result (λ step. IsNamed version due.now.reference.0 chunk.now) }
     ensures falls { IfOk result (λ step. FallsTo due.now.above chunk.now) }
     ensures is { IfOk result (IsOnward version key.now chunk.now) }
+    ensures same { StaysSame (D.seen device.old) (D.seen device.new) }
+    ensures reads { TellsReads (D.seen device.old).failures (D.seen device.new).failures result }
+    ensures down { (content : Content) →
+        HoldsFile (D.seen device.old) content → version ≡ content.version →
+        (at : StandsAtTree content (length (D.seen device.old).bytes) due.now place.now) →
+        chunk.now ≡ bytes_of content.version at.level at.t →
+        StepsDown content (length (D.seen device.old).bytes) result }
 {
+    tops_are_read();
     match entries_at(version, chunk, place.frame.number, due)? {
         Entries::Leaf(pairs) => Ok(Onward::End(copied(alloc, value_in(pairs, key))?)),
-        Entries::Node(children) => below(device, children, key, place.below, chunk[0]),
+        Entries::Node(children) => below(device, children, key, place.below, chunk[0] - 1),
     }
 }
 
@@ -146,6 +175,9 @@ fn entries_at<'a>(
     ensures named { IfOk result (λ entries. IsNamed version due.now.reference.0 chunk.now) }
     ensures falls { IfOk result (λ entries. FallsTo due.now.above chunk.now) }
     ensures are { IfOk result (λ entries. entries ≡ kind_of version chunk.now) }
+    ensures fits { IsNamed version due.now.reference.0 chunk.now →
+        FallsTo due.now.above chunk.now → IsOk result }
+    ensures read { IfErr result (λ fault. fault ≡ RootFault.Read → ⊥) }
 {
     if Ref::of(chunk) != due.reference {
         return Err(RootFault::Reference { chunk: number });
@@ -158,8 +190,8 @@ fn entries_at<'a>(
     }
 }
 
-/// Goes on from the children of a node of this level, which stand in the file from `walk` on, to
-/// the one that the key leads to.
+/// Goes on from the children of a node, which are of this level and stand in the file from `walk`
+/// on, to the one that the key leads to.
 fn below<D: Device>(
     device: &mut D,
     mut children: Children<'_>,
@@ -167,16 +199,19 @@ fn below<D: Device>(
     mut walk: Walk,
     level: u8,
 ) -> Result<Onward, RootFault>
-    requires { 0 < level }
-    ensures { IfOk result (LooksOn key.now level (Node children.entry)) }
+    requires { level < 255 }
+    ensures is { IfOk result (LooksOn key.now (level + 1) (Node children.entry)) }
+    ensures same { StaysSame (D.seen device.old) (D.seen device.new) }
+    ensures reads { TellsReads (D.seen device.old).failures (D.seen device.new).failures result }
+    ensures goes { GoesAmong (D.seen device.old) children.entry walk result level }
 {
     while let Some(child) = children.next() {
         let below = walk;
-        let frame = walk.next_of_level(device, level - 1)?;
+        let frame = walk.next_of_level(device, level)?;
         if !key_order(child.key, key).is_lt() {
             let due = Due {
                 reference: child.reference,
-                above: Some(level),
+                above: Some(level + 1),
             };
             return Ok(Onward::Below(due, Place { frame, below }));
         }

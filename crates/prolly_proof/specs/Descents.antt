@@ -1,0 +1,82 @@
+-- Going down from the root in a file on a device.
+use Rattle.std.specs.Prelude.{◌≡◌, ℕ, suc, ◌⊎◌, List, ◌∷◌, ◌++◌, length, map, Some, Result, Ok, Err}
+use Rattle.std.specs.List.{flat_map}
+use Rattle.prolly_check.specs.Checked.{chunks_of}
+use Rattle.prolly_check.specs.Content.{Content}
+use Rattle.prolly_check.specs.Descent.{IsTreeOf, child_of}
+use Rattle.prolly_check.specs.Entries.{Child}
+use Rattle.prolly_entry.specs.Reference.{reference_of}
+use Rattle.prolly_file.specs.Device.{DeviceView}
+use Rattle.prolly_proof.specs.Faults.{FallsTo}
+use Rattle.prolly_proof.specs.Walks.{HoldsFile, IsFrameOfTop, OnlyRead, StandsBehind}
+use Rattle.prolly_proof.specs.Walks.{chunks_of_tree}
+use Rattle.prolly_proof.specs.declared.by_root.Due.{Due}
+use Rattle.prolly_proof.specs.declared.by_root.Onward.{Onward}
+use Rattle.prolly_proof.specs.declared.by_root.Onward.TheVariants.{End, Below}
+use Rattle.prolly_proof.specs.declared.by_root.Place.{Place}
+use Rattle.prolly_proof.specs.declared.root_fault.RootFault.{RootFault}
+use Rattle.prolly_proof.specs.declared.root_fault.RootFault.TheVariants.{Memory, Read}
+use Rattle.prolly_proof.specs.declared.walk.Walk.{Walk}
+use Rattle.prolly_tree.specs.Chunk.{post_order}
+use Rattle.prolly_tree.specs.Tree.{Tree, bytes_of}
+
+-- There is no fault but want of memory, or that a read failed.
+abbrev pub MayFail : RootFault → Type 0
+MayFail fault = (fault ≡ Memory) ⊎ (fault ≡ Read)
+
+-- The place is that of the top of this tree of the file, and where the frames of the tree begin.
+pub record IsPlaceOf (content : Content) (level : ℕ) (t : Tree level) (size : ℕ) (place : Place)
+    : Type 0 where
+  pub before : List (List ℕ)
+  pub left : List (List ℕ)
+  pub are : chunks_of content ≡ before ++ (chunks_of_tree content.version level t ++ left)
+  pub below : StandsBehind size before place.below
+  pub frame : IsFrameOfTop content.version level t before place.frame
+
+-- The chunk that is due is the top of one of these trees, and this is its place.
+pub record LeadsToOne (content : Content) (level : ℕ) (ts : List (Tree level)) (size : ℕ) (due : Due)
+    (place : Place) : Type 0 where
+  pub before : List (Tree level)
+  pub t : Tree level
+  pub after : List (Tree level)
+  pub are : ts ≡ before ++ t ∷ after
+  pub named : due.reference.0 ≡ reference_of (bytes_of content.version level t)
+  pub above : due.above ≡ Some (suc level)
+  pub stands : IsPlaceOf content level t size place
+
+abbrev pub LeadsAmong : (content : Content) (level : ℕ) → List (Tree level) → ℕ →
+    Result Onward RootFault → Type 0
+LeadsAmong content level ts size (Ok (End value)) = Unit {0}
+LeadsAmong content level ts size (Ok (Below due place)) =
+    LeadsToOne content level ts size due place
+LeadsAmong content level ts size (Err fault) = OnlyRead fault
+
+-- The chunks of trees in the order of the file.
+abbrev pub chunks_of_trees : Content → (level : ℕ) → List (Tree level) → List (List ℕ)
+chunks_of_trees content level ts =
+    map (λ c. c.bytes) (flat_map (post_order content.version level) ts)
+
+-- From the children of a node of a file, whose frames begin where the walk stands, it goes on to
+-- one of them.
+abbrev pub GoesAmong : DeviceView → List Child → Walk → Result Onward RootFault → ℕ → Type 0
+GoesAmong device children walk result level =
+    (content : Content) (ts : List (Tree level)) (before left : List (List ℕ)) →
+    HoldsFile device content → children ≡ map (child_of content.version level) ts →
+    chunks_of content ≡ before ++ (chunks_of_trees content level ts ++ left) →
+    StandsBehind (length device.bytes) before walk →
+    LeadsAmong content level ts (length device.bytes) result
+
+-- The chunk that is due is the top of a tree of the file, and this is its place.
+pub record StandsAtTree (content : Content) (size : ℕ) (due : Due) (place : Place) : Type 0 where
+  pub level : ℕ
+  pub t : Tree level
+  pub below : IsTreeOf content.version (chunks_of content) level t
+  pub named : due.reference.0 ≡ reference_of (bytes_of content.version level t)
+  pub falls : FallsTo due.above (bytes_of content.version level t)
+  pub stands : IsPlaceOf content level t size place
+
+-- A step comes to such a chunk again, or to an end.
+abbrev pub StepsDown : Content → ℕ → Result Onward RootFault → Type 0
+StepsDown content size (Ok (End value)) = Unit {0}
+StepsDown content size (Ok (Below due place)) = StandsAtTree content size due place
+StepsDown content size (Err fault) = MayFail fault
