@@ -1,31 +1,37 @@
 -- Going down from the root of a lawful file on a device.
-use Rattle.std.proofs.Common.{◌≡◌, ℕ, zero, suc, ◌+◌, ◌-◌, ◌^◌, ◌<◌, ◌≤◌, inl, inr, List, [], ◌∷◌}
-use Rattle.std.proofs.Common.{◌++◌, length, take, drop, map, Result, Ok, Err, Option, Some, None}
-use Rattle.std.proofs.Common.{slice_index, refl, sym, ap, ◌∙◌, subst, arith, append_assoc, append-nil}
+use Rattle.std.proofs.Common.{◌≡◌, ℕ, zero, suc, ◌+◌, ◌-◌, ◌<◌, ◌≤◌, inr, List, [], ◌∷◌}
+use Rattle.std.proofs.Common.{◌++◌, length, take, drop, map, Result, Ok, Err, Some, None}
+use Rattle.std.proofs.Common.{slice_index, refl, sym, ap, ◌∙◌, subst, arith, append_assoc}
+use Rattle.std.proofs.Common.{append-nil}
 use Rattle.std.specs.List.{AllByRecursion, flat_map}
 use Rattle.std.proofs.Math.Seq.{drop-append-add, take-append_seam}
-use Rattle.std.proofs.lemmas.List.{length-append, length-take-le, map-append, take_all}
+use Rattle.std.proofs.lemmas.List.{length-take-le, map-append, take_all}
 use Rattle.std.proofs.lemmas.List.Concat.{flat_map-append}
 use Rattle.prolly_check.specs.Checked.{chunks_of}
 use Rattle.prolly_check.specs.Content.{Content}
-use Rattle.prolly_check.specs.Descent.{ChildIsTree, IsTreeOf, TopIsRead, child_of, entries_below}
+use Rattle.prolly_check.specs.Descent.{ChildIsTree, IsTreeOf, RootIsTree, TopIsRead, child_of}
+use Rattle.prolly_check.specs.Descent.{entries_below}
 use Rattle.prolly_check.specs.Entries.{Child}
 use Rattle.prolly_check.specs.Kinds.{kind_of}
 use Rattle.prolly_check.specs.Verdict.{IsFileOf}
-use Rattle.prolly_check.specs.Way.{level_of}
+use Rattle.prolly_check.specs.Way.{IsNamed, IsOrdered}
 use Rattle.prolly_check.specs.declared.entries.Entries.{Entries}
-use Rattle.prolly_check.specs.declared.entries.Entries.TheVariants.{Leaf, Node}
+use Rattle.prolly_check.specs.declared.entries.Entries.TheVariants.{Node}
+use Rattle.prolly_entry.specs.Cut.{sha512_cut}
+use Rattle.prolly_entry.specs.Keys.{Rising}
+use Rattle.prolly_entry.specs.Pair.{IsPair}
 use Rattle.prolly_entry.specs.Reference.{reference_of}
 use Rattle.prolly_entry.specs.declared.version.Version.{Version}
 use Rattle.prolly_file.specs.Device.{DeviceView}
 use Rattle.prolly_file.specs.Frame.{framed}
 use Rattle.prolly_tree.specs.Chunk.{post_order}
-use Rattle.prolly_tree.specs.Tree.{Tree, bytes_of}
-use Rattle.prolly_proof.specs.Descents.{GoesAmong, IsPlaceOf, LeadsAmong, LeadsToOne, MayFail}
+use Rattle.prolly_tree.specs.File.{root_reference}
+use Rattle.prolly_tree.specs.Tree.{Tree, bytes_of, tree_of}
+use Rattle.prolly_proof.specs.Descents.{GoesAmong, IsPlaceOf, LeadsAmong, LeadsToOne}
 use Rattle.prolly_proof.specs.Descents.{StandsAtTree, StepsDown, chunks_of_trees}
 use Rattle.prolly_proof.specs.Faults.{FallsTo}
-use Rattle.prolly_proof.specs.Walks.{GoesOverTree, HoldsFile, StandsBehind, chunks_of_tree}
-use Rattle.prolly_proof.specs.Walks.{place_behind}
+use Rattle.prolly_proof.specs.Walks.{GoesOverTree, HoldsFile, IsFrameOf, StandsBehind, StaysSame}
+use Rattle.prolly_proof.specs.Walks.{chunks_below, chunks_of_tree, place_behind}
 use Rattle.prolly_proof.specs.declared.by_root.Due.{Due}
 use Rattle.prolly_proof.specs.declared.by_root.Onward.{Onward}
 use Rattle.prolly_proof.specs.declared.by_root.Onward.TheVariants.{End, Below}
@@ -33,7 +39,8 @@ use Rattle.prolly_proof.specs.declared.by_root.Place.{Place}
 use Rattle.prolly_proof.specs.declared.root_fault.RootFault.{RootFault}
 use Rattle.prolly_proof.specs.declared.walk.Frame.{Frame}
 use Rattle.prolly_proof.specs.declared.walk.Walk.{Walk}
-use Rattle.prolly_proof.proofs.Walking.{apart, ending, front_length, level_is, start, top_last}
+use Rattle.prolly_proof.proofs.Walking.{apart, ending, front_length, level_is, same_size, start}
+use Rattle.prolly_proof.proofs.Walking.{top_last}
 
 -- ---- the bytes of a chunk
 
@@ -202,13 +209,13 @@ same_children xs ys e = cc
 module _ (device : DeviceView) (content : Content) (holds : HoldsFile device content)
     (child_tree : (version : Version) → ChildIsTree version)
     (read : (version : Version) → TopIsRead version) where
-  abbrev size : ℕ
-  size = length device.bytes
+  abbrev room : ℕ
+  room = length device.bytes
 
   -- from one child that is led to
   down_to : (level : ℕ) (ts : List (Tree level)) →
       IsTreeOf content.version (chunks_of content) (suc level) ts → (due : Due) (place : Place) →
-      LeadsToOne content level ts size due place → StandsAtTree content size due place
+      LeadsToOne content level ts room due place → StandsAtTree content room due place
   down_to level ts below due place to = record {
     level = level;
     t = to.t;
@@ -222,26 +229,26 @@ module _ (device : DeviceView) (content : Content) (holds : HoldsFile device con
 
   steps : (level : ℕ) (ts : List (Tree level)) →
       IsTreeOf content.version (chunks_of content) (suc level) ts →
-      (result : Result Onward RootFault) → LeadsAmong content level ts size result →
-      StepsDown content size result
+      (result : Result Onward RootFault) → LeadsAmong content level ts room result →
+      StepsDown content room result
   steps level ts below (Ok (End value)) leads = tt
   steps level ts below (Ok (Below due place)) leads = down_to level ts below due place leads
   steps level ts below (Err fault) leads = inr leads
 
   -- from the children of a node whose place this is
-  pub node_steps : (due : Due) (place : Place) (at : StandsAtTree content size due place)
+  pub node_steps : (due : Due) (place : Place) (at : StandsAtTree content room due place)
       (chunk : List ℕ) (children : List Child) (result : Result Onward RootFault) →
       chunk ≡ bytes_of content.version at.level at.t →
       ◌≡◌ {A = Entries} (Node children) (kind_of content.version chunk) →
       GoesAmong device children place.below result (slice_index chunk 0 - 1) →
-      StepsDown content size result
+      StepsDown content room result
   node_steps due place at chunk children result is node goes =
       by_level at.level at.t at.below at.stands is
     where
       by_level : (level : ℕ) (t : Tree level) →
           IsTreeOf content.version (chunks_of content) level t →
-          IsPlaceOf content level t size place → chunk ≡ bytes_of content.version level t →
-          StepsDown content size result
+          IsPlaceOf content level t room place → chunk ≡ bytes_of content.version level t →
+          StepsDown content room result
       by_level zero leaf below stands is = absurd (leaf_node content leaf children
           (sym (node ∙ ap (kind_of content.version) is ∙
           (read content.version (chunks_of content) 0 leaf below).1)))
@@ -258,3 +265,73 @@ module _ (device : DeviceView) (content : Content) (holds : HoldsFile device con
           (ap (λ cs. cs ++ stands.left) (top_last content.version (suc level) ts) ∙
           append_assoc (chunks_of_trees content level ts)
           (bytes_of content.version (suc level) ts ∷ []) stands.left)) stands.below)
+
+  -- the chunk in this place is the one that is due
+  pub is_due : (due : Due) (place : Place) (at : StandsAtTree content room due place)
+      (version : Version) (chunk : List ℕ) → version ≡ content.version →
+      chunk ≡ bytes_of content.version at.level at.t →
+      IsNamed version due.reference.0 chunk × FallsTo due.above chunk
+  is_due due place at version chunk same is = (
+    record {
+      is = ap reference_of is ∙ sym at.named;
+      ordered = subst (λ v. IsOrdered v chunk) (sym same) (subst (IsOrdered content.version)
+          (sym is) (read content.version (chunks_of content) at.level at.t at.below).0);
+    },
+    subst (FallsTo due.above) (sym is) at.falls,
+  )
+
+-- ---- at the root
+
+-- the last chunk is the root, and all are below it
+pub root_stands : (content : Content) (root : List ℕ) (size : ℕ) (due : Due) (place : Place)
+    (lawful : RootIsTree) → AllByRecursion IsPair content.pairs →
+    Rising (map (λ p. p.key) content.pairs) →
+    root ≡ root_reference (sha512_cut content.bits) content.version content.pairs →
+    due.reference.0 ≡ root → due.above ≡ None → StandsBehind size [] place.below →
+    ((before : List (List ℕ)) (chunk : List ℕ) → chunks_of content ≡ before ++ chunk ∷ [] →
+    IsFrameOf before chunk place.frame) → StandsAtTree content size due place
+root_stands content root size due place trees lawful rising root_is reference above below last =
+    let tree = tree_of (sha512_cut content.bits) content.version content.pairs in
+    record {
+      level = tree.level;
+      t = tree.tree;
+      below = trees content.version content.bits content.pairs lawful rising;
+      named = reference ∙ root_is;
+      falls = subst (λ above. FallsTo above (bytes_of content.version tree.level tree.tree))
+          (sym above) tt;
+      stands = record {
+        before = [];
+        left = [];
+        are = sym (append-nil (chunks_of_tree content.version tree.level tree.tree));
+        below = below;
+        frame = last (chunks_below content.version tree.level tree.tree)
+            (bytes_of content.version tree.level tree.tree)
+            (top_last content.version tree.level tree.tree);
+      };
+    }
+
+-- the chunk that stands in such a place
+pub frame_stands : (content : Content) (size : ℕ) (due : Due) (place : Place)
+    (at : StandsAtTree content size due place) → chunks_of content ≡
+    (at.stands.before ++ chunks_below content.version at.level at.t) ++
+    bytes_of content.version at.level at.t ∷ at.stands.left
+frame_stands content size due place at =
+    let low = chunks_below content.version at.level at.t in
+    let top = bytes_of content.version at.level at.t in
+    at.stands.are ∙ ap (λ cs. at.stands.before ++ (cs ++ at.stands.left))
+    (top_last content.version at.level at.t) ∙
+    ap (λ cs. at.stands.before ++ cs) (append_assoc low (top ∷ []) at.stands.left) ∙
+    sym (append_assoc at.stands.before low (top ∷ at.stands.left))
+
+-- where a step comes that was said of a later device
+pub step_lands : (old late : DeviceView) (content : Content) (due : Due) (place : Place)
+    (chunk : List ℕ) (result : Result Onward RootFault) → StaysSame old late →
+    HoldsFile old content → ((at : StandsAtTree content (length late.bytes) due place) →
+    chunk ≡ bytes_of content.version at.level at.t →
+    StepsDown content (length late.bytes) result) →
+    (at : StandsAtTree content (length old.bytes) due place) →
+    chunk ≡ bytes_of content.version at.level at.t → StepsDown content (length old.bytes) result
+step_lands old late content due place chunk result same holds down =
+    subst (λ n. (at : StandsAtTree content n due place) →
+    chunk ≡ bytes_of content.version at.level at.t → StepsDown content n result)
+    (sym (same_size old late content same holds)) down

@@ -1,6 +1,6 @@
 -- Going over the frames of a file.
 use Rattle.std.proofs.Common.{◌≡◌, ℕ, zero, suc, ◌+◌, ◌^◌, ◌<◌, ◌≤◌, List, [], ◌∷◌, ◌++◌, length}
-use Rattle.std.proofs.Common.{take, drop, map, Result, Ok, Err, refl, sym, ap, ◌∙◌, subst, arith}
+use Rattle.std.proofs.Common.{take, drop, map, Result, Ok, refl, sym, ap, ◌∙◌, subst, arith}
 use Rattle.std.proofs.Common.{append_assoc, append-nil, Option, Some, None}
 use Rattle.std.specs.Int.{w64, to_be_bytes}
 use Rattle.std.specs.List.{AllByRecursion, flat_map}
@@ -22,7 +22,7 @@ use Rattle.prolly_tree.specs.Chunk.{Chunk, chunk_of, chunks, post_order}
 use Rattle.prolly_tree.specs.File.{end_record, header, root_reference}
 use Rattle.prolly_tree.specs.Tree.{Tree, bytes_of, tree_of}
 use Rattle.prolly_proof.specs.Walks.{GoesOver, GoesOverTree, HoldsFile}
-use Rattle.prolly_proof.specs.Walks.{ IsFrameOf, IsFrameOfTop, IsStartOf}
+use Rattle.prolly_proof.specs.Walks.{IsFrameOf, IsFrameOfTop, IsStartOf}
 use Rattle.prolly_proof.specs.Walks.{StandsBehind, StaysSame, chunks_below, chunks_of_tree}
 use Rattle.prolly_proof.specs.Walks.{place_behind}
 use Rattle.prolly_proof.specs.declared.root_fault.RootFault.{RootFault}
@@ -168,8 +168,8 @@ module _ (bytes : List ℕ) (content : Content) (f : IsFileOf bytes content)
       (begins : (len level : ℕ) → len < 2 ^ 64 →
       bytes_read ≡ 0x43 ∷ (to_be_bytes w64 len ++ level ∷ []) → result ≡ Ok (ChunkStart len level))
       (short : length bytes < 2 ^ 64) where
-    by_what_is_left : (rest : List (List ℕ)) → left ≡ rest → AllByRecursion (λ c. 0 < length c) rest →
-        IsStartOf rest result
+    by_what_is_left : (rest : List (List ℕ)) → left ≡ rest →
+        AllByRecursion (λ c. 0 < length c) rest → IsStartOf rest result
     by_what_is_left [] e some = subst (IsStartOf []) (sym (ends (take 9 (drop 1 ending)) (read ∙
         ap (λ cs. take 10 (flat_map framed cs ++ ending)) e))) tt
     by_what_is_left ([] ∷ rest) e some = absurd (omega (arith, some.0))
@@ -447,13 +447,15 @@ module _ (content : Content) (level : ℕ) (t : Tree level) (size : ℕ)
             by_what_is_left [] below over =
                 let all = sym (below ∙ append-nil amid.passed) in (
                   subst (λ cs. IsFrameOf (before ++ cs) top frame) all over.0,
-                  subst (λ cs. StandsBehind size cs new) (append_assoc before amid.passed (top ∷ []) ∙
+                  subst (λ cs. StandsBehind size cs new)
+                      (append_assoc before amid.passed (top ∷ []) ∙
                       ap (λ cs. before ++ (cs ++ top ∷ [])) all ∙
                       ap (λ cs. before ++ cs) (sym (top_last version level t))) over.1,
                 )
             by_what_is_left (r ∷ rest) below over =
                 let low = (all_back (IsLower version level) amid.passed (r ∷ rest)
-                (subst (AllByRecursion (IsLower version level)) below (all_lower version level t))).0
+                (subst (AllByRecursion (IsLower version level)) below
+                (all_lower version level t))).0
                 in absurd (omega (arith, low, over.0.level, same))
 
         -- of another one is a chunk below it

@@ -34,8 +34,8 @@ pub record IsPlaceOf (content : Content) (level : ℕ) (t : Tree level) (size : 
   pub frame : IsFrameOfTop content.version level t before place.frame
 
 -- The chunk that is due is the top of one of these trees, and this is its place.
-pub record LeadsToOne (content : Content) (level : ℕ) (ts : List (Tree level)) (size : ℕ) (due : Due)
-    (place : Place) : Type 0 where
+pub record LeadsToOne (content : Content) (level : ℕ) (ts : List (Tree level)) (size : ℕ)
+    (due : Due) (place : Place) : Type 0 where
   pub before : List (Tree level)
   pub t : Tree level
   pub after : List (Tree level)

@@ -35,9 +35,9 @@ pub struct Found {
 
 /// What the tree with this root has at the key: its value, or none.
 ///
-/// Only what that wants is read of the file: the starts of its frames, ten bytes each, which is done
-/// once for the root and once more for each level, there only among the frames below one chunk; and
-/// one chunk a level. Takes memory for these chunks.
+/// Only what that wants is read of the file: the starts of its frames, ten bytes each, once to find
+/// the root, and once more for each level, there only among the frames below one chunk; and one
+/// chunk a level. Takes memory for these chunks.
 ///
 /// What is answered is what any map with this root has at the key, unless a chunk of the way and
 /// another one have one reference: see
@@ -60,6 +60,7 @@ pub fn get_by_root<D: Device>(
         content.version content.pairs → IfErr result MayFail }
     ensures reads { TellsReads (D.seen device.old).failures (D.seen device.new).failures result }
 {
+    // By this law a lawful file has the chunks that the root leads to.
     tops_are_read();
     let start = Walk::begin(device, version)?;
     let mut place = Place {
@@ -158,6 +159,7 @@ fn step_from<D: Device>(
         chunk.now ≡ bytes_of content.version at.level at.t →
         StepsDown content (length (D.seen device.old).bytes) result }
 {
+    // By this law the chunk of a lawful file can be read.
     tops_are_read();
     match entries_at(version, chunk, place.frame.number, due)? {
         Entries::Leaf(pairs) => Ok(Onward::End(copied(alloc, value_in(pairs, key))?)),

@@ -61,7 +61,8 @@ impl Walk {
     /// The place before the first frame of a chunk file of this version.
     pub(crate) fn begin<D: Device>(device: &mut D, version: Version) -> Result<Walk, RootFault>
         ensures same { StaysSame (D.seen device.old) (D.seen device.new) }
-        ensures reads { TellsReads (D.seen device.old).failures (D.seen device.new).failures result }
+        ensures reads { TellsReads (D.seen device.old).failures (D.seen device.new).failures
+            result }
         ensures begins { (content : Content) → HoldsFile (D.seen device.old) content →
             version ≡ content.version →
             IfOk result (StandsBehind (length (D.seen device.old).bytes) []) }
@@ -85,7 +86,8 @@ impl Walk {
     /// Goes over the next frame; none where the end record is next. One read, of ten bytes.
     pub(crate) fn next<D: Device>(&mut self, device: &mut D) -> Result<Option<Frame>, RootFault>
         ensures same { StaysSame (D.seen device.old) (D.seen device.new) }
-        ensures reads { TellsReads (D.seen device.old).failures (D.seen device.new).failures result }
+        ensures reads { TellsReads (D.seen device.old).failures (D.seen device.new).failures
+            result }
         ensures size { self.new.size ≡ self.old.size }
         ensures within { IfOk result (λ next. IfSome next (λ frame. self.new.place ≤
             self.new.size)) }
@@ -109,7 +111,8 @@ impl Walk {
         level: u8,
     ) -> Result<Frame, RootFault>
         ensures same { StaysSame (D.seen device.old) (D.seen device.new) }
-        ensures reads { TellsReads (D.seen device.old).failures (D.seen device.new).failures result }
+        ensures reads { TellsReads (D.seen device.old).failures (D.seen device.new).failures
+            result }
         ensures goes { (content : Content) (t : Tree level) (before left : List (List ℕ)) →
             HoldsFile (D.seen device.old) content →
             chunks_of content ≡ before ++ (chunks_of_tree content.version level t ++ left) →
@@ -129,7 +132,8 @@ impl Walk {
     /// The last frame of the file, where this place is before the first one.
     pub(crate) fn last<D: Device>(mut self, device: &mut D) -> Result<Frame, RootFault>
         ensures same { StaysSame (D.seen device.old) (D.seen device.new) }
-        ensures reads { TellsReads (D.seen device.old).failures (D.seen device.new).failures result }
+        ensures reads { TellsReads (D.seen device.old).failures (D.seen device.new).failures
+            result }
         ensures last { (content : Content) (before : List (List ℕ)) (chunk : List ℕ) →
             HoldsFile (D.seen device.old) content → chunks_of content ≡ before ++ chunk ∷ [] →
             StandsBehind (length (D.seen device.old).bytes) [] self →
@@ -150,7 +154,8 @@ impl Walk {
     /// What begins here.
     fn start<D: Device>(&self, device: &mut D) -> Result<Start, RootFault>
         ensures same { StaysSame (D.seen device.old) (D.seen device.new) }
-        ensures reads { TellsReads (D.seen device.old).failures (D.seen device.new).failures result }
+        ensures reads { TellsReads (D.seen device.old).failures (D.seen device.new).failures
+            result }
         ensures is { (content : Content) (before left : List (List ℕ)) →
             HoldsFile (D.seen device.old) content → chunks_of content ≡ before ++ left →
             StandsBehind (length (D.seen device.old).bytes) before self.now →
@@ -215,7 +220,8 @@ impl Walk {
 fn start_in(bytes: &[u8], number: u64) -> Result<Start, RootFault>
     ensures end { (more : List ℕ) → bytes.now ≡ 0x45 ∷ more → result ≡ Ok Start.End }
     ensures chunk { (len level : ℕ) → len < 2 ^ 64 →
-        bytes.now ≡ 0x43 ∷ (to_be_bytes w64 len ++ level ∷ []) → result ≡ Ok (Start.Chunk len level) }
+        bytes.now ≡ 0x43 ∷ (to_be_bytes w64 len ++ level ∷ []) →
+        result ≡ Ok (Start.Chunk len level) }
     ensures read { IfErr result (λ fault. fault ≡ RootFault.Read → ⊥) }
 {
     match bytes {

@@ -1,10 +1,22 @@
-use Rattle.std.proofs.Common.{map}
-use Rattle.prolly_proof.proofs.Descending.{Descended, room_below}
+use Rattle.std.proofs.Common.{◌≡◌, length}
+use Rattle.prolly_check.specs.Content.{Content}
+use Rattle.prolly_entry.specs.Cut.{sha512_cut}
+use Rattle.prolly_proof.specs.Descents.{StandsAtTree}
+use Rattle.prolly_proof.specs.Walks.{HoldsFile, StaysSame}
+use Rattle.prolly_tree.specs.File.{root_reference}
+use Rattle.prolly_proof.proofs.Descending.{Descended, bytes_in, room_below}
 use Rattle.prolly_proof.proofs.by_root.get_by_root.Given as goal
 
 abbrev pub invariant-loop-way : goal.invariant-loop-way
-invariant-loop-way g l = Descended l.version l.root.0 l.key
-    (map (λ chunk. chunk.items) l.way.items) l.due
+invariant-loop-way g l = record {
+  way : Descended l.version l.root.0 l.key (bytes_in l.way.items) l.due;
+  same : StaysSame (g.D.Device.seen l.fn.device) (g.D.Device.seen l.device);
+  reads : (g.D.Device.seen l.device).failures ≡ (g.D.Device.seen l.fn.device).failures;
+  lawful : (content : Content) → HoldsFile (g.D.Device.seen l.fn.device) content →
+      l.version ≡ content.version → l.root.0 ≡ root_reference (sha512_cut content.bits)
+      content.version content.pairs →
+      StandsAtTree content (length (g.D.Device.seen l.fn.device).bytes) l.due l.place;
+}
 
 abbrev pub decreases-loop-way : goal.decreases-loop-way
 decreases-loop-way g l = room_below l.due.above

@@ -1,29 +1,50 @@
-use Rattle.std.proofs.Common.{◌≡◌, length, ap, arith, ◌∙◌, sym}
-use Rattle.std.proofs.Math.Seq.{take-append_seam}
+use Rattle.std.proofs.Common.{◌≡◌, length, ap, arith}
 use Rattle.prolly_proof.proofs.GoingDown.{all_read, chunk_there, read_whole}
 use Rattle.prolly_proof.proofs.by_root.read_chunk.Goals as goal
 
 pub returns-then-count-len-clause-only : goal.returns-then-count-len-clause-only
 returns-then-count-len-clause-only g c content before left chunk holds are of =
     let long : length c.read_at.new.buf ≡ length chunk =
-    omega (arith, c.read_at.auto.buf, ap length c.deref_mut.ensures.value, c.in_ok-chunk.ensures.len,
-    of.len) in
+    omega (
+      arith,
+      c.read_at.auto.buf,
+      ap length c.deref_mut.ensures.value,
+      c.in_ok-chunk.ensures.len,
+      of.len,
+    ) in
     absurd (all_read c.in_ok-count.count c.read_at.new.buf chunk
     (chunk_there (g.D.Device.seen c.args.device.now).bytes content holds.is before left chunk are
     c.args.frame.now.start c.in_ok-count.count c.read_at.new.buf of.start long
     (c.in_ok-count.ensures.bytes holds.honest)) long
-    (omega (arith, c.if-count-len.true, c.len.ensures, c.read_at.auto.buf,
-    ap length c.deref_mut.ensures.value, c.in_ok-chunk.ensures.len)))
+    (omega (
+      arith,
+      c.if-count-len.true,
+      c.len.ensures,
+      c.read_at.auto.buf,
+      ap length c.deref_mut.ensures.value,
+      c.in_ok-chunk.ensures.len,
+    )))
 
 pub returns-clause-is : goal.returns-clause-is
 returns-clause-is g c content before left chunk holds are of =
     let long : length c.read_at.new.buf ≡ length chunk =
-    omega (arith, c.read_at.auto.buf, ap length c.deref_mut.ensures.value, c.in_ok-chunk.ensures.len,
-    of.len) in
+    omega (
+      arith,
+      c.read_at.auto.buf,
+      ap length c.deref_mut.ensures.value,
+      c.in_ok-chunk.ensures.len,
+      of.len,
+    ) in
     read_whole c.in_ok-count.count c.in_ok-chunk.chunk.len c.read_at.new.buf chunk _
     (chunk_there (g.D.Device.seen c.args.device.now).bytes content holds.is before left chunk are
     c.args.frame.now.start c.in_ok-count.count c.read_at.new.buf of.start long
     (c.in_ok-count.ensures.bytes holds.honest)) long
     (omega (arith, c.read_at.auto.buf, ap length c.deref_mut.ensures.value))
-    (omega (arith, c.if-count-len.false, c.len.ensures, c.read_at.auto.buf,
-    ap length c.deref_mut.ensures.value, c.in_ok-chunk.ensures.len))
+    (omega (
+      arith,
+      c.if-count-len.false,
+      c.len.ensures,
+      c.read_at.auto.buf,
+      ap length c.deref_mut.ensures.value,
+      c.in_ok-chunk.ensures.len,
+    ))

@@ -1,4 +1,4 @@
-use Rattle.std.proofs.Common.{◌≡◌, Ok, sym, subst}
+use Rattle.std.proofs.Common.{Ok, sym, subst}
 use Rattle.std.proofs.lemmas.Bool.{false≢true}
 use Rattle.prolly_proof.specs.Walks.{GoesOver, IsStartOf}
 use Rattle.prolly_proof.proofs.Walking.{ends_there, fits}
