@@ -56,7 +56,25 @@ fn commands_have_their_fields(rt: HostRuntime) -> Result<(), Fail> {
              mode: WriteMode { atomic: false, sync: true } }",
         ),
         ("check a.prl", "Check { file: \"a.prl\" }"),
-        ("get a.prl 61fF", "Get { file: \"a.prl\", key: [97, 255] }"),
+        (
+            "get a.prl 61fF",
+            "Get { file: \"a.prl\", key: [97, 255], root: None, version: 1 }",
+        ),
+        (
+            "get --root 00000000000000000000000000000000 a.prl 61",
+            "Get { file: \"a.prl\", key: [97], root: Some(Ref([0, 0, 0, 0, 0, 0, 0, 0, 0, 0, 0, \
+             0, 0, 0, 0, 0, 0, 0, 0, 0])), version: 1 }",
+        ),
+        (
+            "get a.prl --format 2 61 --root vvvvvvvvvvvvvvvvvvvvvvvvvvvvvvvv",
+            "Get { file: \"a.prl\", key: [97], root: Some(Ref([255, 255, 255, 255, 255, 255, 255, \
+             255, 255, 255, 255, 255, 255, 255, 255, 255, 255, 255, 255, 255])), version: 2 }",
+        ),
+        // Without a root the version is taken too, and is of no use.
+        (
+            "get --format 2 a.prl 61",
+            "Get { file: \"a.prl\", key: [97], root: None, version: 2 }",
+        ),
         (
             "build --atomic out.prl",
             "Build { bits: 12, stages: 12, capacity: 64, max_records: 16777216, \
@@ -148,6 +166,9 @@ fn words_out_of_range_are_usage(rt: HostRuntime) -> Result<(), Fail> {
         "prove a.prl 00",
         "verify 00",
         "verify --format 3 00000000000000000000000000000000 00",
+        "get --format 3 --root 00000000000000000000000000000000 a.prl 00",
+        "get --format 0 a.prl 00",
+        "get a.prl 00 --root",
         "forget a.prl",
     ];
     for line in lines {
@@ -197,6 +218,9 @@ fn keys_are_hexadecimal_of_1024_bytes_at_most(rt: HostRuntime) -> Result<(), Fai
         ("get a.prl 6", "bad key"),
         ("scan a.prl 6x 1", "bad key"),
         ("prove a.prl 6 a.prf", "bad key"),
+        ("get --root 0 a.prl 6", "bad root"),
+        ("get --root w0000000000000000000000000000000 a.prl 00", "bad root"),
+        ("get --root 00000000000000000000000000000000 a.prl 6", "bad key"),
         ("verify 0 6", "bad root"),
         ("verify w0000000000000000000000000000000 00", "bad root"),
         ("verify 00000000000000000000000000000000 6", "bad key"),

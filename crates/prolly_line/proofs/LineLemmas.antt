@@ -1,5 +1,6 @@
 -- What clap's clauses say of the program's command line.
-use Rattle.std.proofs.Common.{◌≡◌, ◌∙◌, Bool, List, [], Some, true, refl, sym, ap, subst, inl, inr}
+use Rattle.std.proofs.Common.{◌≡◌, ◌∙◌, ℕ, Bool, List, [], Option, Some, None, true, refl, sym, ap}
+use Rattle.std.proofs.Common.{subst, inl, inr}
 use Rattle.std.specs.Prelude.{IfErr, IfOk, Result, Ok, Err}
 use Rattle.clap.specs.Words.{App, HasKind, HasMatchesOf, IsAmong, Row, Text, app_of, fault_of}
 use Rattle.clap.specs.Words.{is_simple, is_simple_and_free, kind_of, subcommand_of}
@@ -8,8 +9,10 @@ use Rattle.clap.specs.declared.builder.command.Command.{Command as ClapCommand}
 use Rattle.clap.specs.declared.error.Error.{Error}
 use Rattle.clap.specs.declared.parser.matches.ArgMatches.{ArgMatches}
 use Rattle.clap.proofs.OnLiterals.{clap_on_literals}
+use Rattle.prolly_entry.specs.declared.reference.Ref.{Ref}
 use Rattle.prolly_line.specs.Accepted.{Answers, IsRefusedAt}
-use Rattle.prolly_line.specs.Given.{HasFields, IsGivenBy, IsRefusalOf, IsRefusedBy, IsWithinLimits}
+use Rattle.prolly_line.specs.Given.{GivesTrust, HasFields, IsGivenBy, IsLawfulTrust, IsRefusalOf}
+use Rattle.prolly_line.specs.Given.{IsRefusedBy, IsWithinLimits}
 use Rattle.prolly_line.specs.Line.{line_faults, line_given, program_line}
 use Rattle.prolly_line.specs.declared.command.Command.{Command}
 use Rattle.prolly_line.specs.declared.command.Command.TheVariants.{Pack, Scratch, Build, Check, Get}
@@ -111,6 +114,12 @@ answers_words words given (Err fault) entered refused = (tt, go fault refused)
     go BadRoot r = (entered.0, (given, entered.1, r))
     go BadKey r = (entered.0, (given, entered.1, r))
 
+-- what a look-up trusts is lawful
+lawful_trust : (rows : List Row) (root : Option Ref) (version : ℕ) → GivesTrust rows root version →
+    IsLawfulTrust root version
+lawful_trust rows None version h = (tt, h.1.1, h.1.2)
+lawful_trust rows (Some root) version h = (h.0.1, h.1.1, h.1.2)
+
 -- the fields that an accepted subcommand gives are within the limits
 pub limits_kept : (given : Text × List Row) (answer : Result Command ParseFault) →
     Answers given answer → IfOk answer IsWithinLimits
@@ -122,7 +131,7 @@ limits_kept given (Ok command) fields = go command fields
     go (Build bits stages capacity max_records batch version out files mode) h =
         (h.1.2, h.2.1, h.2.2, h.3.1, h.3.2, h.4.1, h.4.2, h.5.1, h.5.2, h.6.1, h.6.2)
     go (Check file) h = tt
-    go (Get file key) h = h.2.2.1
+    go (Get file key root version) h = (h.2.2.1, lawful_trust given.1 root version h.3)
     go (Scan file from limit) h = (h.2.2.1, h.3.2)
     go (Nth file n) h = h.2.2
     go (Dump file out text mode) h = tt

@@ -181,9 +181,10 @@ get_found = refl
 
 get_sound : IsSoundShape get_shape
 unfolding clap_on_literals get_shape
-get_sound = ((refl, refl), ((refl, refl), ((refl, refl), tt)))
+get_sound = ((refl, refl), ((refl, refl), ((refl, refl), ((refl, refl), ((refl, refl), tt)))))
 
 pub record TakesGet (rows : List Row) : Type 0 where
+  pub format : HasNumber (codes "format") 1 2 rows
   pub file : HasWord (codes "file") rows
   pub key : HasWord (codes "key") rows
 
@@ -192,6 +193,7 @@ unfolding clap_on_literals get_shape
 takes_get rows accepted =
     let level = level_at (codes "get") get_shape rows get_found accepted in
     record {
+      format = number_at get_shape rows (codes "format") 1 2 get_sound level refl refl;
       file = word_at get_shape rows (codes "file") get_sound level refl refl;
       key = word_at get_shape rows (codes "key") get_sound level refl refl;
     }

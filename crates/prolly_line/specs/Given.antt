@@ -1,6 +1,6 @@
 -- Which command the words give, and how they are refused.
 use Rattle.std.specs.Prelude.{◌≡◌, ◌≢◌, ◌≤◌, ◌↔◌, Bool, IsTrue, ⊤, ℕ, ◌⊎◌}
-use Rattle.std.specs.Prelude.{Ok, Option, Some, List, []}
+use Rattle.std.specs.Prelude.{Ok, Option, Some, None, List, [], IfSome}
 use Rattle.std.specs.Prelude.{length, map, option_map, string_bytes, codes, unwrap_or}
 use Rattle.hex.specs.Hex.{decode_of}
 use Rattle.std.specs.Str.Parse.{digits_value, without_leading_plus}
@@ -8,6 +8,7 @@ use Rattle.clap.specs.Words.{IsAmong, Row, Text, all_of, first_of, one_of}
 use Rattle.clap.specs.declared.error.kind.ErrorKind.{ErrorKind}
 use Rattle.clap.specs.declared.error.kind.ErrorKind.TheVariants.{DisplayHelp, OutOfMemory}
 use Rattle.prolly_entry.specs.Reference.{IsReference, reference_text}
+use Rattle.prolly_entry.specs.declared.reference.Ref.{Ref}
 use Rattle.prolly_line.specs.Line.{line_faults, line_given}
 use Rattle.prolly_line.specs.declared.command.Command.{Command}
 use Rattle.prolly_line.specs.declared.command.WriteMode.{WriteMode}
@@ -75,6 +76,18 @@ GivesBadKey rows =
 abbrev pub GivesRoot : List Row → List ℕ → Type 0
 GivesRoot rows root = GivesWord rows (codes "root") (reference_text root) × IsReference root
 
+-- the same of a root that may be missing: there is none where the words have no word for it
+abbrev pub MayGiveRoot : List Row → Option Ref → Type 0
+MayGiveRoot rows None = first_of (codes "root") rows ≡ None
+MayGiveRoot rows (Some root) = GivesRoot rows root.0
+
+-- what a look-up trusts: with `--root` the reference that this gives, and not the file, whose
+-- chunks are to be of the version that `--format` gives; without it the file, which is then to be
+-- checked, and whose own version counts
+abbrev pub GivesTrust : List Row → Option Ref → ℕ → Type 0
+GivesTrust rows root version =
+    MayGiveRoot rows root × GivesNumber rows (codes "format") 1 2 version
+
 -- the word for the root is the text of no reference
 abbrev pub GivesBadRoot : List Row → Type 0
 GivesBadRoot rows =
@@ -108,10 +121,11 @@ HasFields (Build bits stages capacity max_records batch version out files mode) 
     × GivesMode given.1 mode
 HasFields (Check file) given =
     (given.0 ≡ codes "check") × GivesWord given.1 (codes "file") (string_bytes file)
-HasFields (Get file key) given =
+HasFields (Get file key root version) given =
     (given.0 ≡ codes "get")
     × GivesWord given.1 (codes "file") (string_bytes file)
     × GivesKey given.1 key.items
+    × GivesTrust given.1 root version
 HasFields (Scan file from limit) given =
     (given.0 ≡ codes "scan")
     × GivesWord given.1 (codes "file") (string_bytes file)
@@ -153,6 +167,11 @@ IsGivenBy words command =
     (line_faults words ≡ [])
     × ((given : Text × List Row) × (line_given words ≡ Some given) × HasFields command given)
 
+-- a root that may be missing is a reference, and the version one of the two
+abbrev pub IsLawfulTrust : Option Ref → ℕ → Type 0
+IsLawfulTrust root version =
+    IfSome root (λ root. IsReference root.0) × (1 ≤ version) × (version ≤ 2)
+
 -- the numbers of the command, and the length of its key, are within their limits, and its root is
 -- a reference
 abbrev pub IsWithinLimits : Command → Type 0
@@ -166,7 +185,8 @@ IsWithinLimits (Build bits stages capacity max_records batch version out files m
     × (1 ≤ batch) × (batch ≤ 1024)
     × (1 ≤ version) × (version ≤ 2)
 IsWithinLimits (Check file) = ⊤
-IsWithinLimits (Get file key) = length key.items ≤ 1024
+IsWithinLimits (Get file key root version) =
+    (length key.items ≤ 1024) × IsLawfulTrust root version
 IsWithinLimits (Scan file from limit) = (length from.items ≤ 1024) × (limit ≤ 1000000)
 IsWithinLimits (Nth file n) = n ≤ 4294967295
 IsWithinLimits (Dump file out text mode) = ⊤
@@ -177,14 +197,19 @@ IsWithinLimits (Verify root key version proof) =
 
 -- ---- refusals
 
+-- the subcommand takes a root, or may be given one
+abbrev pub TakesRoot : Text → Type 0
+TakesRoot name = (name ≡ codes "get") ⊎ (name ≡ codes "verify")
+
 -- the subcommand takes a root, and its word for the root is the text of no reference
 abbrev pub HasBadRoot : Text × List Row → Type 0
-HasBadRoot given = (given.0 ≡ codes "verify") × GivesBadRoot given.1
+HasBadRoot given = TakesRoot given.0 × GivesBadRoot given.1
 
 -- the subcommand takes a key, and a root before it only if its word is the text of a reference
 abbrev pub ReadsKey : Text × List Row → Type 0
 ReadsKey given =
-    (given.0 ≡ codes "get") ⊎ (given.0 ≡ codes "scan") ⊎ (given.0 ≡ codes "prove")
+    (given.0 ≡ codes "scan") ⊎ (given.0 ≡ codes "prove")
+    ⊎ ((given.0 ≡ codes "get") × ((root : Option Ref) × MayGiveRoot given.1 root))
     ⊎ ((given.0 ≡ codes "verify") × ((root : List ℕ) × GivesRoot given.1 root))
 
 -- the subcommand takes a key, its word for the key is no text of one, and no word before is bad

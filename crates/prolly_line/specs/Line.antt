@@ -62,6 +62,9 @@ batch_option = number_option (codes "batch") 1 1024 (codes "16")
 abbrev pub format_option : Rule
 format_option = number_option (codes "format") 1 2 (codes "1")
 
+abbrev pub root_option : Rule
+root_option = option_rule (codes "root")
+
 abbrev pub out_option : Rule
 out_option = option_rule (codes "out")
 
@@ -112,6 +115,10 @@ files_words = words_rule (codes "files")
 
 -- ---- subcommands
 
+-- `[--root ROOT] [--format V]`, the options of a look-up that trusts a root and not its file
+abbrev pub with_trust : App → App
+with_trust line = with_rule (with_rule line root_option) format_option
+
 -- `pack [--atomic] [--sync] OUT`
 abbrev pub pack_line : App
 pack_line = with_rule (with_rule (with_rule (new_app (codes "pack")) atomic_flag) sync_flag)
@@ -135,9 +142,9 @@ build_line = with_rule (with_rule (with_rule (with_rule
 abbrev pub check_line : App
 check_line = with_rule (new_app (codes "check")) file_word
 
--- `get FILE HEXKEY`
+-- `get [--root ROOT] [--format V] FILE HEXKEY`
 abbrev pub get_line : App
-get_line = with_rule (with_rule (new_app (codes "get")) file_word) key_word
+get_line = with_rule (with_rule (with_trust (new_app (codes "get"))) file_word) key_word
 
 -- `scan FILE HEXKEY LIMIT`
 abbrev pub scan_line : App

@@ -3,7 +3,8 @@ ghost use Rattle.prolly_line.specs.Line.{atomic_flag, batch_option, bits_option,
 ghost use Rattle.prolly_line.specs.Line.{file_word, files_words, flag, format_option, key_word};
 ghost use Rattle.prolly_line.specs.Line.{limit_word};
 ghost use Rattle.prolly_line.specs.Line.{max_records_option, n_word, number_option, number_word};
-ghost use Rattle.prolly_line.specs.Line.{optional_out_word, out_option, out_word, proof_word};
+ghost use Rattle.prolly_line.specs.Line.{option_rule, optional_out_word, out_option, out_word};
+ghost use Rattle.prolly_line.specs.Line.{proof_word, root_option};
 ghost use Rattle.prolly_line.specs.Line.{root_word, stages_option, stat_flag, sync_flag};
 ghost use Rattle.prolly_line.specs.Line.{text_flag, word_rule};
 ghost use Rattle.prolly_line.specs.Local.{IsReadBy};
@@ -12,7 +13,14 @@ use clap::builder::ValueParser;
 use clap::{Arg, ArgAction};
 use std::alloc::Global;
 
-// `--NAME VALUE_NAME`, for a number from `least` to `most`.
+// `--NAME VALUE_NAME`
+fn text_option<'a>(alloc: Global, name: &'a str, value_name: &'a str) -> Arg<'a>
+    ensures { IsReadBy (option_rule name.now) result }
+{
+    Arg::new(alloc, name).long(name).value_name(value_name)
+}
+
+// Such an option, for a number from `least` to `most`.
 fn number_option<'a>(
     alloc: Global,
     name: &'a str,
@@ -23,9 +31,7 @@ fn number_option<'a>(
 ) -> Arg<'a>
     ensures { IsReadBy (number_option name.now least most default.now) result }
 {
-    Arg::new(alloc, name)
-        .long(name)
-        .value_name(value_name)
+    text_option(alloc, name, value_name)
         .value_parser(ValueParser::signed(i64::from(least), i64::from(most)))
         .default_value(default)
 }
@@ -116,10 +122,16 @@ pub(crate) fn format_option<'a>(alloc: Global, what: &'a str) -> Arg<'a>
 pub(crate) fn out_option<'a>(alloc: Global, what: &'a str) -> Arg<'a>
     ensures { IsReadBy out_option result }
 {
-    Arg::new(alloc, "out")
-        .long("out")
-        .value_name("FILE")
-        .help(what)
+    text_option(alloc, "out", "FILE").help(what)
+}
+
+/// `--root ROOT`, the root that a look-up trusts.
+pub(crate) fn root_option<'a>(alloc: Global) -> Arg<'a>
+    ensures { IsReadBy root_option result }
+{
+    text_option(alloc, "root", "ROOT").help(
+        "Trust ROOT, the text of the tree's root, in place of the whole file",
+    )
 }
 
 /// `--atomic`

@@ -53,10 +53,13 @@ pub enum Command {
     Check {
         file: String,
     },
-    /// Print the value of a key.
+    /// Print the value of a key: with a root, what the tree of it has in chunks of the version,
+    /// and without one, what the file has, whose own version counts then.
     Get {
         file: String,
         key: Vec<u8>,
+        root: Option<Ref>,
+        version: u8,
     },
     /// Print pairs in the order of keys, from a key on.
     Scan {

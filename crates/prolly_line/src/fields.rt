@@ -5,7 +5,7 @@ ghost use Rattle.prolly_line.specs.Accepted.{Answers, IsAccepted, rows_in};
 
 use crate::command::{Command, ParseFault};
 use crate::values::{
-    byte_of, flag_of, key_of, mode_of, number_of, option_of, root_of, text_of, texts_of,
+    byte_of, flag_of, key_of, mode_of, number_of, option_of, root_of, text_of, texts_of, trust_of,
 };
 use clap::ArgMatches;
 use std::alloc::Global;
@@ -74,14 +74,20 @@ pub(crate) fn check(alloc: Global, given: &ArgMatches<'_>) -> Result<Command, Pa
     Ok(Command::Check { file })
 }
 
-/// `get FILE HEXKEY`
+/// `get [--root ROOT] [--format V] FILE HEXKEY`
 pub(crate) fn get(alloc: Global, given: &ArgMatches<'_>) -> Result<Command, ParseFault>
     requires { IsAccepted (codes "get", rows_in given.now) }
     ensures { Answers (codes "get", rows_in given.now) result }
 {
+    let (root, version) = trust_of(given)?;
     let key = key_of(alloc, given)?;
     let file = text_of(alloc, given, "file")?;
-    Ok(Command::Get { file, key })
+    Ok(Command::Get {
+        file,
+        key,
+        root,
+        version,
+    })
 }
 
 /// `scan FILE HEXKEY LIMIT`

@@ -99,8 +99,8 @@ no more than the first part of a chunk file, which `check` calls truncated; only
 where nothing but its line could not be made or printed is it whole. With
 --atomic it is as it was, unless only standard output failed.
 
-No command reads a chunk file of more than 1,073,741,824 bytes, which about
-28,200,000 records of 38 bytes make.
+No command reads a whole chunk file of more than 1,073,741,824 bytes, which
+about 28,200,000 records of 38 bytes make.
 
 --bits and --format decide what the chunk file holds. --stages and --max-records
 are limits: a tree of more levels, or a file of more records, is refused.
@@ -123,7 +123,14 @@ Prints `ok`, the text of the root, the number of --bits and that of chunks.",
 pub(crate) const GET: Help<'static> = Help {
     about: "Print the value of a key in a chunk file",
     details: "Prints the value of one key in a chunk file, in hexadecimal. Where the file does
-not have the key, nothing is printed and the exit status is 1.",
+not have the key, nothing is printed and the exit status is 1.
+
+Without --root the whole file is checked first, as by `check`: that takes time
+linear in it, no file over 1 GiB is read, and --format says nothing. With --root
+only what is needed is read: the lengths and levels of the frames, and one chunk
+a level, each compared with the reference above it, from ROOT down. So what is
+printed is right for ROOT, whatever else the file holds; a chunk that does not
+fit is refused.",
     example: "Example: the value of the key of one byte, 61
   prolly get ab.prl 61",
 };

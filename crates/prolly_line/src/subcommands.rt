@@ -4,7 +4,7 @@ ghost use Rattle.clap.specs.Words.{App, with_rule};
 ghost use Rattle.prolly_line.specs.Line.{atomic_flag, sync_flag};
 ghost use Rattle.prolly_line.specs.Line.{build_line, check_line, diff_line, dump_line, get_line};
 ghost use Rattle.prolly_line.specs.Line.{nth_line, pack_line, prove_line, scan_line, scratch_line};
-ghost use Rattle.prolly_line.specs.Line.{verify_line};
+ghost use Rattle.prolly_line.specs.Line.{verify_line, with_trust};
 ghost use Rattle.prolly_line.specs.Local.{HasLine};
 
 use crate::assembly::{described, with_argument};
@@ -25,6 +25,21 @@ fn with_mode<'a>(
 {
     let line = with_argument(line, arguments::atomic_flag(alloc));
     with_argument(line, arguments::sync_flag(alloc))
+}
+
+// Adds the options of a look-up that trusts a root and not its file.
+fn with_trust<'a>(
+    alloc: Global,
+    line: Result<Command<'a>, AllocError>,
+) -> Result<Command<'a>, AllocError>
+    ensures { (app : App) → IfOk line.entry (HasLine app)
+        → IfOk result (HasLine (with_trust app)) }
+{
+    let format = arguments::format_option(
+        alloc,
+        "The version of the tree's chunks (1 or 2); without --root, the file tells it",
+    );
+    with_argument(with_argument(line, arguments::root_option(alloc)), format)
 }
 
 /// `pack [--atomic] [--sync] OUT`
@@ -98,11 +113,12 @@ pub(crate) fn diff_line<'a>(alloc: Global) -> Result<Command<'a>, AllocError>
     with_argument(with_argument(line, old), new)
 }
 
-/// `get FILE HEXKEY`
+/// `get [--root ROOT] [--format V] FILE HEXKEY`
 pub(crate) fn get_line<'a>(alloc: Global) -> Result<Command<'a>, AllocError>
     ensures { IfOk result (HasLine get_line) }
 {
-    let line = described(alloc, "get", help::GET).arg(arguments::file_word(alloc));
+    let line = with_trust(alloc, Ok(described(alloc, "get", help::GET)));
+    let line = with_argument(line, arguments::file_word(alloc));
     with_argument(line, arguments::key_word(alloc))
 }
 

@@ -3,7 +3,8 @@ ghost use Rattle.std.specs.Prelude.{◌≡◌, ◌⊎◌, Some, IfOk, IfErr, ℕ
 ghost use Rattle.std.specs.Prelude.{option_map, codes};
 ghost use Rattle.clap.specs.Words.{first_of};
 ghost use Rattle.prolly_line.specs.Given.{GivesFlag, GivesKey, GivesMode, GivesOption, GivesWord};
-ghost use Rattle.prolly_line.specs.Given.{GivesBadRoot, GivesRoot, GivesWords, IsKeyText};
+ghost use Rattle.prolly_line.specs.Given.{GivesBadRoot, GivesRoot, GivesTrust, GivesWords};
+ghost use Rattle.prolly_line.specs.Given.{IsKeyText};
 ghost use Rattle.prolly_line.specs.Accepted.{HasNumber, HasWord, IsRefusedKey, ReadsNumber};
 ghost use Rattle.prolly_line.specs.Accepted.{rows_in};
 ghost use Rattle.prolly_line.specs.declared.command.ParseFault.TheVariants.{BadKey, BadRoot};
@@ -148,4 +149,18 @@ pub(crate) fn root_of(given: &ArgMatches<'_>) -> Result<Ref, ParseFault>
 {
     let text = word_of(given, "root").as_bytes();
     Ref::from_text(text).ok_or(ParseFault::BadRoot)
+}
+
+/// What a look-up trusts: a root, if one is given, and the version of the chunks.
+pub(crate) fn trust_of(given: &ArgMatches<'_>) -> Result<(Option<Ref>, u8), ParseFault>
+    requires { HasNumber (codes "format") 1 2 (rows_in given.now) }
+    ensures trust { IfOk result (λ trust. GivesTrust (rows_in given.now) trust.0 trust.1) }
+    ensures refused { IfErr result (λ fault.
+        (fault ≡ BadRoot) × GivesBadRoot (rows_in given.now)) }
+{
+    let root = match given.get_str("root") {
+        None => None,
+        Some(_) => Some(root_of(given)?),
+    };
+    Ok((root, byte_of(given, "format")))
 }

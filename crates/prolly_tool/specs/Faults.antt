@@ -7,13 +7,15 @@ use Rattle.prolly_check.specs.declared.fault.CheckFault.{CheckFault}
 use Rattle.prolly_check.specs.declared.fault.CheckFault.TheVariants as checks
 use Rattle.prolly_proof.specs.declared.fault.ProofFault.{ProofFault}
 use Rattle.prolly_proof.specs.declared.fault.ProofFault.TheVariants as proofs
+use Rattle.prolly_proof.specs.declared.root_fault.RootFault.{RootFault}
+use Rattle.prolly_proof.specs.declared.root_fault.RootFault.TheVariants as roots
 use Rattle.prolly_tool.specs.declared.pack.PackFault.{PackFault}
 use Rattle.prolly_tool.specs.declared.pack.PackFault.TheVariants as packs
 use Rattle.prolly_tool.specs.declared.fault.Fault.{Fault}
 use Rattle.prolly_tool.specs.declared.fault.Fault.TheVariants.{Run, Pack, Check, NoCounts}
 use Rattle.prolly_tool.specs.declared.fault.Fault.TheVariants.{InputTooLong, BadKey, NotUnicode}
 use Rattle.prolly_tool.specs.declared.fault.Fault.TheVariants.{OutIsStdout, CheckOld, CheckNew}
-use Rattle.prolly_tool.specs.declared.fault.Fault.TheVariants.{Proof, BadRoot}
+use Rattle.prolly_tool.specs.declared.fault.Fault.TheVariants.{Proof, Root, BadRoot}
 
 -- What is said of a record of a file.
 abbrev pub record_text : ℕ → ℕ → List ℕ → List ℕ
@@ -77,6 +79,23 @@ proof_fault_text (proofs.KeysOutOfOrder chunk) = codes "proof: keys out of order
 proof_fault_text (proofs.Level chunk) = codes "proof: wrong level in chunk " ++ decimal chunk
 proof_fault_text proofs.Trailing = codes "proof: bytes after the end"
 
+-- Of a file that has no answer to a look-up by a root.
+abbrev pub root_fault_text : RootFault → List ℕ
+root_fault_text roots.Memory = codes "out of memory"
+root_fault_text roots.Read = codes "chunk file: read failed"
+root_fault_text roots.Header = codes "chunk file: bad header"
+root_fault_text roots.Version = codes "chunk file: wrong version"
+root_fault_text roots.Truncated = codes "chunk file: truncated"
+root_fault_text (roots.Frame chunk) = codes "chunk file: bad frame " ++ decimal chunk
+root_fault_text roots.Trailing = codes "chunk file: bytes after the end"
+root_fault_text roots.Missing = codes "chunk file: chunks are missing"
+root_fault_text (roots.Reference chunk) = codes "chunk file: chunk " ++ decimal chunk ++
+    codes " is not the one referred to"
+root_fault_text (roots.Chunk chunk) = codes "chunk file: bad chunk " ++ decimal chunk
+root_fault_text (roots.KeysOutOfOrder chunk) = codes "chunk file: keys out of order in chunk " ++
+    decimal chunk
+root_fault_text (roots.Level chunk) = codes "chunk file: wrong level in chunk " ++ decimal chunk
+
 -- What is said of a fault.
 abbrev pub fault_text : Fault → List ℕ
 fault_text (Run fault) = run_text fault
@@ -85,6 +104,7 @@ fault_text (Check fault) = check_fault_text fault
 fault_text (CheckOld fault) = side_fault_text (codes "old ") fault
 fault_text (CheckNew fault) = side_fault_text (codes "new ") fault
 fault_text (Proof fault) = proof_fault_text fault
+fault_text (Root fault) = root_fault_text fault
 fault_text NoCounts = codes "chunk file: no counts"
 fault_text InputTooLong = codes "input too long"
 fault_text BadKey = codes "not a key in hexadecimal"
@@ -122,6 +142,20 @@ check_status (checks.NotCanonical chunk) = 4
 check_status checks.BadEnd = 4
 check_status (checks.Collision chunk) = 4
 
+abbrev pub root_status : RootFault → ℕ
+root_status roots.Memory = 6
+root_status roots.Read = 5
+root_status roots.Header = 4
+root_status roots.Version = 4
+root_status roots.Truncated = 4
+root_status (roots.Frame chunk) = 4
+root_status roots.Trailing = 4
+root_status roots.Missing = 4
+root_status (roots.Reference chunk) = 4
+root_status (roots.Chunk chunk) = 4
+root_status (roots.KeysOutOfOrder chunk) = 4
+root_status (roots.Level chunk) = 4
+
 abbrev pub fault_status : Fault → ℕ
 fault_status (Run fault) = run_status fault
 fault_status (Pack packs.Memory) = 6
@@ -132,6 +166,7 @@ fault_status (Check fault) = check_status fault
 fault_status (CheckOld fault) = check_status fault
 fault_status (CheckNew fault) = check_status fault
 fault_status (Proof fault) = 4
+fault_status (Root fault) = root_status fault
 fault_status NoCounts = 4
 fault_status InputTooLong = 5
 fault_status BadKey = 2

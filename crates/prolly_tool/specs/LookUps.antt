@@ -1,6 +1,6 @@
 -- What the commands that read a chunk file print.
 use Rattle.std.specs.Prelude.{◌≡◌, ◌↔◌, ◌⊎◌, ℕ, List, [], ◌∷◌, ◌++◌, length, Option, Some, None}
-use Rattle.std.specs.Prelude.{codes}
+use Rattle.std.specs.Prelude.{codes, option_map, Result, Ok, Err}
 use Rattle.std.specs.Fmt.{decimal}
 use Rattle.std.specs.List.{flat_map}
 use Rattle.hex.specs.Hex.{encode_lower}
@@ -11,6 +11,8 @@ use Rattle.prolly_check.specs.declared.fault.CheckFault.{CheckFault}
 use Rattle.prolly_check.specs.declared.fault.CheckFault.TheVariants.{Read}
 use Rattle.prolly_entry.specs.declared.version.Version.{Version}
 use Rattle.prolly_entry.specs.declared.version.Version.TheVariants.{One, Two}
+use Rattle.prolly_proof.specs.declared.by_root.Found.{Found}
+use Rattle.prolly_proof.specs.declared.root_fault.RootFault.{RootFault}
 use Rattle.prolly_tree.specs.Chunk.{chunks}
 use Rattle.prolly_entry.specs.Cut.{sha512_cut}
 use Rattle.prolly_tree.specs.File.{root_reference}
@@ -21,7 +23,7 @@ use Rattle.prolly_tool.specs.Answers.{Shows, ShowsLine, ShowsNothing, ShowsFault
 use Rattle.prolly_tool.specs.Input.{IsReadWhole}
 use Rattle.prolly_tool.specs.declared.answer.Answer.{Answer}
 use Rattle.prolly_tool.specs.declared.fault.Fault.{Fault}
-use Rattle.prolly_tool.specs.declared.fault.Fault.TheVariants.{Check, NoCounts}
+use Rattle.prolly_tool.specs.declared.fault.Fault.TheVariants.{Check, Root, NoCounts}
 
 -- How many bytes a chunk file has at most that a command reads.
 abbrev pub file_limit : ℕ
@@ -97,3 +99,8 @@ IsLookUp bytes failed shows answer = IsLookedUp bytes failed (shows answer) ⊎
 -- The line of a failed read.
 abbrev pub ShowsFailedRead : Answer → Type 0
 ShowsFailedRead answer = ShowsFault answer (Check Read)
+
+-- What a look-up by a root came to is shown: the value that it found, or none; or its fault.
+abbrev pub ShowsFound : Answer → Result Found RootFault → Type 0
+ShowsFound answer (Ok found) = ShowsValue answer (option_map (λ value. value.items) found.value)
+ShowsFound answer (Err fault) = ShowsFault answer (Root fault)

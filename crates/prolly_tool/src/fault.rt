@@ -1,12 +1,13 @@
 //! The faults of commands, each with its line and its status.
 ghost use Rattle.std.specs.Prelude.{◌≡◌, Some};
-ghost use Rattle.prolly_tool.specs.Faults.{fault_text, check_status, run_status};
+ghost use Rattle.prolly_tool.specs.Faults.{fault_text, check_status, root_status, run_status};
 ghost use Rattle.prolly_tool.specs.Faults.{fault_status};
 
+use crate::file_texts::{CheckText, ProofText, RootText, SideText};
 use crate::pack::PackFault;
 use prolly_check::CheckFault;
 use prolly_fault::RunFault;
-use prolly_proof::ProofFault;
+use prolly_proof::{ProofFault, RootFault};
 use std::fmt;
 use std::fmt::{Display, Formatter};
 use thiserror::Error;
@@ -26,6 +27,8 @@ pub enum Fault {
     CheckNew(CheckFault),
     /// Bytes are no proof of what a map with the root has at the key.
     Proof(ProofFault),
+    /// A file has no answer to a look-up by a root.
+    Root(RootFault),
     /// A chunk file of version One has no counts, by which a pair is found by its number.
     NoCounts,
     /// Standard input is longer than the program reads.
@@ -52,6 +55,7 @@ impl Fault {
             Fault::Check(fault) | Fault::CheckOld(fault) | Fault::CheckNew(fault) => {
                 check_status(fault)
             }
+            Fault::Root(fault) => root_status(fault),
             Fault::Proof(_) | Fault::NoCounts => 4,
             Fault::InputTooLong | Fault::OutIsStdout => 5,
             Fault::BadKey | Fault::BadRoot | Fault::NotUnicode => 2,
@@ -65,6 +69,16 @@ fn check_status(fault: CheckFault) -> u8
     match fault {
         CheckFault::Memory => 6,
         CheckFault::Read => 5,
+        _ => 4,
+    }
+}
+
+fn root_status(fault: RootFault) -> u8
+    ensures { result ≡ root_status fault }
+{
+    match fault {
+        RootFault::Memory => 6,
+        RootFault::Read => 5,
         _ => 4,
     }
 }
@@ -96,6 +110,7 @@ impl Display for Fault {
             Fault::CheckOld(fault) => SideText("old ", *fault).fmt(f),
             Fault::CheckNew(fault) => SideText("new ", *fault).fmt(f),
             Fault::Proof(fault) => ProofText(*fault).fmt(f),
+            Fault::Root(fault) => RootText(*fault).fmt(f),
             Fault::NoCounts => f.write_str("chunk file: no counts"),
             Fault::InputTooLong => f.write_str("input too long"),
             Fault::BadKey => f.write_str("not a key in hexadecimal"),
@@ -151,84 +166,5 @@ impl Display for RecordText<'_> {
     fn fmt<W: fmt::Write>(&self, f: &mut Formatter<W>) -> fmt::Result {
         let RecordText(file, place, text) = *self;
         write!(f, "file {file}: record {place}{text}")
-    }
-}
-
-/// Why a file is no lawful chunk file, to be shown.
-#[derive(Clone, Copy)]
-struct CheckText(CheckFault);
-
-impl Display for CheckText {
-    ghost use Rattle.prolly_tool.specs.Faults.{check_fault_text};
-
-    ghost output = { λ shown. Some (check_fault_text shown.0) };
-
-    fn fmt<W: fmt::Write>(&self, f: &mut Formatter<W>) -> fmt::Result {
-        match self.0 {
-            CheckFault::Memory => f.write_str("out of memory"),
-            CheckFault::Read => f.write_str("chunk file: read failed"),
-            CheckFault::TooLong => f.write_str("chunk file: too long"),
-            CheckFault::BadHeader => f.write_str("chunk file: bad header"),
-            CheckFault::BadFrame { chunk } => write!(f, "chunk file: bad frame {chunk}"),
-            CheckFault::Truncated => f.write_str("chunk file: truncated"),
-            CheckFault::Trailing => f.write_str("chunk file: bytes after the end"),
-            CheckFault::BadChunk { chunk } => write!(f, "chunk file: bad chunk {chunk}"),
-            CheckFault::KeysOutOfOrder { chunk } => {
-                write!(f, "chunk file: keys out of order in chunk {chunk}")
-            }
-            CheckFault::NotCanonical { chunk } => {
-                write!(f, "chunk file: chunk {chunk} is not canonical")
-            }
-            CheckFault::BadEnd => f.write_str("chunk file: bad end record"),
-            CheckFault::Collision { chunk } => {
-                write!(f, "chunk file: reference of chunk {chunk} is used twice")
-            }
-        }
-    }
-}
-
-/// Why one of two files is no lawful chunk file, to be shown: which of them, and then the fault.
-#[derive(Clone, Copy)]
-struct SideText<'a>(&'a str, CheckFault);
-
-impl Display for SideText<'_> {
-    ghost use Rattle.prolly_tool.specs.Faults.{side_fault_text};
-
-    ghost output = { λ shown. Some (side_fault_text shown.0.now shown.1) };
-
-    fn fmt<W: fmt::Write>(&self, f: &mut Formatter<W>) -> fmt::Result {
-        let SideText(side, fault) = *self;
-        if fault != CheckFault::Memory {
-            f.write_str(side)?;
-        }
-        CheckText(fault).fmt(f)
-    }
-}
-
-/// Why bytes are no proof, to be shown.
-#[derive(Clone, Copy)]
-struct ProofText(ProofFault);
-
-impl Display for ProofText {
-    ghost use Rattle.prolly_tool.specs.Faults.{proof_fault_text};
-
-    ghost output = { λ shown. Some (proof_fault_text shown.0) };
-
-    fn fmt<W: fmt::Write>(&self, f: &mut Formatter<W>) -> fmt::Result {
-        match self.0 {
-            ProofFault::Header => f.write_str("proof: bad header"),
-            ProofFault::Version => f.write_str("proof: wrong version"),
-            ProofFault::Truncated => f.write_str("proof: truncated"),
-            ProofFault::Frame { chunk } => write!(f, "proof: bad frame {chunk}"),
-            ProofFault::Reference { chunk } => {
-                write!(f, "proof: chunk {chunk} is not the one referred to")
-            }
-            ProofFault::Chunk { chunk } => write!(f, "proof: bad chunk {chunk}"),
-            ProofFault::KeysOutOfOrder { chunk } => {
-                write!(f, "proof: keys out of order in chunk {chunk}")
-            }
-            ProofFault::Level { chunk } => write!(f, "proof: wrong level in chunk {chunk}"),
-            ProofFault::Trailing => f.write_str("proof: bytes after the end"),
-        }
     }
 }
