@@ -10,12 +10,13 @@ use crate::refusal::Refusal;
 use prolly_build::{FILES_LIMIT, build};
 use prolly_entry::{Ref, Version};
 use prolly_fault::RunFault;
-use prolly_file::{Buffered, FromRead, Sink, ToWrite};
+use prolly_file::{Buffered, FromRead, FromSeek, Sink, ToWrite};
+use prolly_proof::get_by_root;
 use prolly_stage::OpenGate;
 use prolly_tool::{
     Answer, Command, Config, Fault, NameFault, RecordForm, WriteMode, answer_build, answer_check,
-    answer_diff, answer_dump, answer_get, answer_nth, answer_pack, answer_prove, answer_scan,
-    answer_scratch, answer_verify,
+    answer_diff, answer_dump, answer_found, answer_get, answer_nth, answer_pack, answer_prove,
+    answer_scan, answer_scratch, answer_verify,
 };
 use std::alloc::AllocError;
 use std::fs;
@@ -80,9 +81,17 @@ fn answer_or_refusal<T: Wait + Threads + Sync>(
             let mut source = opened(rt, &file)?;
             Ok(answer_check(rt.alloc(), &mut source)?)
         }
-        Command::Get { file, key } => {
-            let mut source = opened(rt, &file)?;
-            Ok(answer_get(rt.alloc(), &mut source, &key)?)
+        Command::Get {
+            file,
+            key,
+            root,
+            version,
+        } => {
+            let version = Version::of(version).unwrap();
+            match root {
+                None => get(rt, &file, &key),
+                Some(root) => get_from_root(rt, &file, version, &root, &key),
+            }
         }
         Command::Scan { file, from, limit } => {
             let mut source = opened(rt, &file)?;
@@ -175,6 +184,25 @@ fn scratch_to(
     Ok(output.finish(rt, out, answer)?)
 }
 
+/// `get FILE HEXKEY`
+fn get(rt: &HostRuntime, file: &str, key: &[u8]) -> Result<Answer, Refusal> {
+    let mut source = opened(rt, file)?;
+    Ok(answer_get(rt.alloc(), &mut source, key)?)
+}
+
+/// `get --root ROOT [--format V] FILE HEXKEY`, which reads no more of the file than it needs.
+fn get_from_root(
+    rt: &HostRuntime,
+    file: &str,
+    version: Version,
+    root: &Ref,
+    key: &[u8],
+) -> Result<Answer, Refusal> {
+    let mut device = FromSeek::new(file_beside(rt, file, None)?);
+    let found = get_by_root(rt.alloc(), &mut device, version, root, key);
+    Ok(answer_found(rt.alloc(), &found)?)
+}
+
 /// How `dump` writes pairs, with `--text` or without it.
 fn dump_form(text: bool) -> RecordForm {
     if text {
@@ -198,9 +226,7 @@ fn dump_to(
     out: &str,
     mode: WriteMode,
 ) -> Result<Answer, Refusal> {
-    let target = FileId::at(rt, out);
-    let source = opened_beside(rt, file, target)?;
-    let output = output_of(rt, out, target, mode)?;
+    let (source, output) = opened_with_output(rt, file, out, mode)?;
     let answer = dump_into(rt, source, form, output.file());
     Ok(output.finish(rt, out, answer)?)
 }
@@ -218,11 +244,7 @@ fn dump_into<W: Write + Drop>(
 
 /// `diff [--stat] OLD NEW`
 fn diff(rt: &HostRuntime, old: &str, new: &str, stat: bool) -> Result<Answer, Refusal> {
-    let target = FileId::at(rt, STDOUT);
-    let (old, new) = (
-        opened_beside(rt, old, target)?,
-        opened_beside(rt, new, target)?,
-    );
+    let (old, new) = opened_both(rt, old, new, FileId::at(rt, STDOUT))?;
     let form = if stat { None } else { Some(RecordForm::Lines) };
     Ok(diff_into(rt, old, new, form, stat, rt.stdout())?)
 }
@@ -237,10 +259,7 @@ fn diff_to(
     mode: WriteMode,
 ) -> Result<Answer, Refusal> {
     let target = FileId::at(rt, out);
-    let (old, new) = (
-        opened_beside(rt, old, target)?,
-        opened_beside(rt, new, target)?,
-    );
+    let (old, new) = opened_both(rt, old, new, target)?;
     let output = output_of(rt, out, target, mode)?;
     let form = Some(RecordForm::Records);
     let answer = diff_into(rt, old, new, form, stat, output.file());
@@ -269,9 +288,7 @@ fn prove(
     out: &str,
     mode: WriteMode,
 ) -> Result<Answer, Refusal> {
-    let target = FileId::at(rt, out);
-    let mut source = opened_beside(rt, file, target)?;
-    let output = output_of(rt, out, target, mode)?;
+    let (mut source, output) = opened_with_output(rt, file, out, mode)?;
     let answer = answer_prove(
         rt.alloc(),
         &mut source,
@@ -316,13 +333,44 @@ fn opened_beside(
     name: &str,
     target: Option<FileId>,
 ) -> Result<FromRead<File>, Refusal> {
+    Ok(FromRead::new(file_beside(rt, name, target)?))
+}
+
+/// The same file, of which any part can be read.
+fn file_beside(rt: &HostRuntime, name: &str, target: Option<FileId>) -> Result<File, Refusal> {
     let Ok(file) = fs::open(rt, name) else {
         return Err(Refusal::of_name(rt, NameFault::CannotOpen, name));
     };
     if target.is_some() && target == FileId::of(file.metadata()) {
         return Err(Refusal::of_name(rt, NameFault::IsInput, name));
     }
-    Ok(FromRead::new(file))
+    Ok(file)
+}
+
+/// The files of these two names, to be read, where neither is the one that is to be written.
+fn opened_both(
+    rt: &HostRuntime,
+    old: &str,
+    new: &str,
+    target: Option<FileId>,
+) -> Result<(FromRead<File>, FromRead<File>), Refusal> {
+    Ok((
+        opened_beside(rt, old, target)?,
+        opened_beside(rt, new, target)?,
+    ))
+}
+
+/// The file of this name, to be read, and the output OUT, which is another file.
+fn opened_with_output(
+    rt: &HostRuntime,
+    name: &str,
+    out: &str,
+    mode: WriteMode,
+) -> Result<(FromRead<File>, Output), Refusal> {
+    let target = FileId::at(rt, out);
+    let source = opened_beside(rt, name, target)?;
+    let output = output_of(rt, out, target, mode)?;
+    Ok((source, output))
 }
 
 /// The output of a command that reads standard input.
