@@ -14,6 +14,7 @@ from pathlib import Path
 from damaged import HEADER_SIZE, Fault, read_header
 from harness import FOLDER, Case, shown
 from look_ups import LONG, NUMBERS, assembled, hexed, leaf
+from measured import HUNG
 from place import Place, compiled
 from proofs import (
     ABSENT,
@@ -43,6 +44,9 @@ MISSING = "chunks are missing"
 READ_FAILED = b"prolly: chunk file: read failed\n"
 
 NO_VALUE = (1, b"", b"")
+
+LONGEST = 20.0
+"""Seconds after which a look-up hangs. It takes some milliseconds on an idle machine."""
 
 KEYS_OF_A_TREE = 24
 
@@ -157,7 +161,10 @@ class Asked:
 
     def run(self, words):
         """Runs the program, and gives its status and what it printed."""
-        done = subprocess.run([self.program, *words], cwd=self.folder, capture_output=True, check=False)
+        try:
+            done = subprocess.run([self.program, *words], cwd=self.folder, capture_output=True, check=False, timeout=LONGEST)
+        except subprocess.TimeoutExpired:
+            return HUNG, b"", b""
         return done.returncode, done.stdout, done.stderr
 
     def lay(self, content):
