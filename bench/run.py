@@ -36,6 +36,15 @@ PROOF_BITS = (12, 6)
 PROVED_KEYS = 25
 """Of how many keys proofs are made."""
 
+ROOTED_KEYS = 25
+"""How many keys are looked up by the root."""
+
+LEAST_MEMORY = 1_000
+"""Kilobytes of addresses with which no command is done."""
+
+MEMORY_STEP = 100
+"""By how many of them the least is told with which one is."""
+
 LONG_RECORDS = 200_000
 LONG_VALUE = 1_024
 
@@ -62,6 +71,7 @@ def main():
         show_commands(program, parts, turns)
         show_diff(program, parts, turns)
         show_proofs(program)
+        show_rooted(program)
         show_builds(program, parts, turns)
         show_long_builds(program, parts, turns)
         show_growth(program, parts, turns)
@@ -259,6 +269,36 @@ def show_proofs(program):
             f" peak {max(done.peak for done in verifying) / 1e6:.1f} MB"
         )
     remove(["records", "tree", "proof"])
+
+
+def show_rooted(program):
+    """Keys looked up by the root in files of more and more pairs, beside a look-up and the check that read them whole."""
+    for count, bits in ((RECORDS, 12), (RECORDS, 0), (MORE_RECORDS, 12)):
+        names = write_parts(16, count)
+        root, chunks = Command([*build(program, names), "--bits", str(bits)]).run().out.decode().split()[:2]
+        remove(names)
+        keys = [number.to_bytes(16, "big").hex() for number in range(0, count, count // ROOTED_KEYS)]
+        asking = [Command([program, "get", "--root", root, "tree", key]) for key in keys]
+        seconds = [command.run().seconds for command in asking]
+        checking = Command([program, "check", "tree"]).run()
+        memory = LEAST_MEMORY
+        for command in asking:
+            memory = least_memory(command, memory)
+        print(
+            f"get --root of {len(keys)} keys of {count}, --bits {bits}, {chunks} chunks, {os.path.getsize('tree') / 1e6:.0f} MB:"
+            f" {median(seconds) * 1000:.1f} ms ({min(seconds) * 1000:.1f} to {max(seconds) * 1000:.1f}),"
+            f" {memory / 1e3:.1f} MB of addresses;"
+            f" check {checking.seconds:.2f} s, peak {checking.peak / 1e6:.0f} MB"
+        )
+    remove(["tree"])
+
+
+def least_memory(command, size):
+    """The least kilobytes of addresses, from these on, with which a command is done. They are more than the memory that it
+    has, of which less than this process has can't be told."""
+    while run(["/bin/sh", "-c", f'ulimit -v {size}; exec "$0" "$@"', *command.words]).status != 0:
+        size += MEMORY_STEP
+    return size
 
 
 def show_builds(program, parts, turns):

@@ -63,6 +63,7 @@ def printed():
         stat_line(words, both, (BITS, 1), (BITS, 1)).decode().strip(),
         f"{len(proof_of(tree(both, BITS, 1), b'week', 1))} week.prf",
         "571",
+        "571",
         f"prolly: proof: {another(0)}",
         *cut_short(words, cut),
     ]

@@ -18,7 +18,7 @@ from dumps import lines
 from place import DONE, Place, compiled
 from proofs import proof_of
 from scratch import ABC, numbered
-from trees import END_SIZE, chunk_file, records, report, root_text, tree
+from trees import END_SIZE, chunk_file, records, reference_text, report, root_text, tree
 
 A = records(ABC[:2])
 B = records(ABC[2:])
@@ -582,6 +582,7 @@ def interrupted():
     read = [
         (["check", "abc.prl"], None, 0),
         (["get", "abc.prl", "61"], b"31\n", 0),
+        (["get", "--format", "2", "--root", reference_text(tree(ABC, 0, 2).reference), "abc.prl", "62"], b"31\n", 0),
         (["scan", "abc.prl", "62", "1"], b"62 31\n", 0),
         (["nth", "abc.prl", "0"], b"61 31\n", 0),
         (["dump", "abc.prl"], records(ABC), 0),

@@ -11,6 +11,7 @@ from diffs import difference, stat_line
 from dumps import lines
 from harness import NO_THREAD, SCARCE, file_differences, lay_out, shown
 from proofs import proof_of, verdict
+from rooted import WRONG_VERSION, refusal, words_for
 from scratch import ABC
 from trees import END_SIZE, begun_file, chunk_file, overlay, record, records, reference_text, report, root_text, tree
 
@@ -30,6 +31,8 @@ COUNTED_TREE = tree(ABC, 0, 2)
 ROOT = reference_text(COUNTED_TREE.reference)
 
 PROOF = proof_of(COUNTED_TREE, b"b", 2)
+
+REFERENCE = tree(ABC, 0, 1).reference
 
 MOST_GROWTHS = 2_000
 """More than any of the commands asks for."""
@@ -79,6 +82,11 @@ def commands():
         Command("check", ["check", "abc.prl"], out=b"ok " + root_text(ABC, 0).strip() + b" 0 6\n", before=reads),
         Command("get", ["get", "abc.prl", "62"], out=b"31\n", before=reads),
         Command("get of no pair", ["get", "abc.prl", "7a"], status=1, before=reads),
+        Command("get --root", words_for(REFERENCE, b"b", 1, "abc.prl"), out=b"31\n", before=reads),
+        Command("get --root in format 2", words_for(COUNTED_TREE.reference, b"c", 2, "counted.prl"), out=b"31\n", before=reads),
+        Command("get --root of no pair", words_for(REFERENCE, b"bb", 1, "abc.prl"), status=1, before=reads),
+        Command("get --root of a key above all", words_for(REFERENCE, b"z", 1, "abc.prl"), status=1, before=reads),
+        Command("get --root of the other format", words_for(REFERENCE, b"b", 1, "counted.prl"), status=4, err=refusal(WRONG_VERSION)[2], before=reads),
         Command("scan", ["scan", "abc.prl", "62", "5"], out=b"62 31\n63 31\n", before=reads),
         Command("nth", ["nth", "counted.prl", "2"], out=b"63 31\n", before=reads),
         Command("dump", ["dump", "abc.prl"], out=records(ABC), before=reads),

@@ -3,6 +3,8 @@
  * FAIL="CALL NUMBER ERROR"  the call of this name whose number, counted from 1, is NUMBER fails with the error, which is
  *                           a number, and is not made. Calls are counted by their name.
  * INTERRUPT=N               every read and write but each Nth fails with EINTR, and is not made; N is at least 2.
+ * TURN="NUMBER PLACE BITS"  of what the read whose number, counted from 1, is NUMBER gives, the byte at PLACE, if there is
+ *                           one, is another: these bits of it, a number, are turned.
  * TELL=DESCRIPTOR           each call that is made or made to fail is written there, a line: its name, and for one on a
  *                           descriptor the number of that.
  */
@@ -19,15 +21,16 @@
 #include <unistd.h>
 
 static char call_to_fail[16];
-static long number_to_fail, error_to_give, interrupt_but;
+static long number_to_fail, error_to_give, interrupt_but, number_to_turn, place_to_turn, bits_to_turn;
 static int told = -1;
-static atomic_long count_of_named, count_of_moves;
+static atomic_long count_of_named, count_of_moves, count_of_reads;
 
 __attribute__((constructor)) static void begin(void) {
-    const char *fail = getenv("FAIL"), *interrupt = getenv("INTERRUPT"), *tell = getenv("TELL");
+    const char *fail = getenv("FAIL"), *interrupt = getenv("INTERRUPT"), *tell = getenv("TELL"), *turn = getenv("TURN");
     if (fail && sscanf(fail, "%15s %ld %ld", call_to_fail, &number_to_fail, &error_to_give) != 3) abort();
     if (interrupt) interrupt_but = atol(interrupt);
     if (tell) told = atoi(tell);
+    if (turn && sscanf(turn, "%ld %ld %ld", &number_to_turn, &place_to_turn, &bits_to_turn) != 3) abort();
 }
 
 static void tell(const char *name, int descriptor) {
@@ -52,13 +55,23 @@ static int is_interrupted(void) {
 
 ssize_t read(int descriptor, void *bytes, size_t count) {
     if (is_interrupted() || is_to_fail("read", descriptor)) return -1;
-    return syscall(SYS_read, descriptor, bytes, count);
+    ssize_t given = syscall(SYS_read, descriptor, bytes, count);
+    if (atomic_fetch_add(&count_of_reads, 1) + 1 == number_to_turn && place_to_turn < given)
+        ((unsigned char *)bytes)[place_to_turn] ^= bits_to_turn;
+    return given;
 }
 
 ssize_t write(int descriptor, const void *bytes, size_t count) {
     if (is_interrupted() || is_to_fail("write", descriptor)) return -1;
     return syscall(SYS_write, descriptor, bytes, count);
 }
+
+/* The kit's standard library calls the second name, which means the same here. */
+off_t lseek(int descriptor, off_t offset, int from) {
+    return is_to_fail("lseek", descriptor) ? -1 : (off_t)syscall(SYS_lseek, descriptor, offset, from);
+}
+
+off_t lseek64(int descriptor, off_t offset, int from) { return lseek(descriptor, offset, from); }
 
 int fsync(int descriptor) { return is_to_fail("fsync", descriptor) ? -1 : (int)syscall(SYS_fsync, descriptor); }
 

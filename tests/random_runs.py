@@ -3,6 +3,7 @@
 import random
 import sys
 
+import rooted
 from damaged import lawful_or_fault
 from diffs import difference, stat_line
 from dumps import lines
@@ -26,7 +27,7 @@ def cases(_):
 
 def runs(seed, count):
     """So many runs; a difference is named with the seed that brings it back."""
-    kinds = [build, build, build, scratch, pack, look_up, look_up, dump, diff, prove, verify]
+    kinds = [build, build, build, scratch, pack, look_up, look_up, dump, diff, prove, verify, get_by_root]
     for number in range(count):
         chance = random.Random(f"{seed} {number}")
         case = chance.choice(kinds)(chance)
@@ -332,6 +333,23 @@ def verify(chance):
         err=err,
         before={"p": proof} if is_file else {},
     )
+
+
+def get_by_root(chance):
+    """A key looked up by a root, mostly that of the file's tree, in a chunk file which may be damaged."""
+    pairs, bits, version = some_pairs(chance), chance.choice([0, 0, 1, 2, 12]), chance.choice([1, 2])
+    content, wanted = chunk_file(pairs, bits, version), some_key(chance, pairs)
+    kind = chance.random()
+    if kind < 0.4:
+        content = turned(chance, content)
+    if 0.4 < kind < 0.45:
+        content = content[: chance.randrange(len(content))]
+    if 0.45 < kind < 0.5:
+        content += chance.randbytes(chance.randrange(1, 40))
+    root = tree(pairs if chance.random() < 0.9 else some_pairs(chance), bits, version).reference
+    believed = version if chance.random() < 0.9 else 3 - version
+    status, out, err = rooted.verdict(content, root, wanted, believed)
+    return Case("", rooted.words_for(root, wanted, believed), status=status, out=out, err=err, before={"in.prl": content})
 
 
 def some_key(chance, pairs):

@@ -28,6 +28,7 @@ import misuse
 import pack
 import proofs
 import random_runs
+import rooted
 import scratch
 from harness import run
 from trees import chunk_file
@@ -62,10 +63,10 @@ def all_runs(program, folder):
     if sys.argv[2:3] == ["--links"]:
         yield from links.by_hand(program, int(sys.argv[3]))
         return
-    for part in (command_line, pack, scratch, build, look_ups, dumps, diffs, proofs, damaged, random_runs):
+    for part in (command_line, pack, scratch, build, look_ups, dumps, diffs, proofs, rooted, damaged, random_runs):
         for case in part.cases(folder):
             yield case.name, run(program, case)
-    for part in (dumps, diffs, proofs, files, links, growths, examples, demo, misuse):
+    for part in (dumps, diffs, proofs, rooted, files, links, growths, examples, demo, misuse):
         yield from part.all_runs(program, folder)
 
 
