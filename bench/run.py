@@ -273,7 +273,7 @@ def show_proofs(program):
 
 def show_rooted(program):
     """Keys looked up by the root in files of more and more pairs, beside a look-up and the check that read them whole."""
-    for count, bits in ((RECORDS, 12), (RECORDS, 0), (MORE_RECORDS, 12)):
+    for count, bits in ((RECORDS, 12), (RECORDS, 2), (MORE_RECORDS, 12)):
         names = write_parts(16, count)
         root, chunks = Command([*build(program, names), "--bits", str(bits)]).run().out.decode().split()[:2]
         remove(names)
