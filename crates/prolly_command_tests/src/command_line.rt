@@ -219,8 +219,14 @@ fn keys_are_hexadecimal_of_1024_bytes_at_most(rt: HostRuntime) -> Result<(), Fai
         ("scan a.prl 6x 1", "bad key"),
         ("prove a.prl 6 a.prf", "bad key"),
         ("get --root 0 a.prl 6", "bad root"),
-        ("get --root w0000000000000000000000000000000 a.prl 00", "bad root"),
-        ("get --root 00000000000000000000000000000000 a.prl 6", "bad key"),
+        (
+            "get --root w0000000000000000000000000000000 a.prl 00",
+            "bad root",
+        ),
+        (
+            "get --root 00000000000000000000000000000000 a.prl 6",
+            "bad key",
+        ),
         ("verify 0 6", "bad root"),
         ("verify w0000000000000000000000000000000 00", "bad root"),
         ("verify 00000000000000000000000000000000 6", "bad key"),
