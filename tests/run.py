@@ -5,8 +5,8 @@
 Each case is a run with its words, input, output, error, status and files. What is wanted comes from
 docs/format.md, from a second builder written after it (trees.py), or, for texts of help, from texts/. Beside the
 cases there are runs in which files may be lost, runs whose workers wait for one another, runs in which each growth of
-memory is refused in turn, the reader in Python beside the program, the examples of the README, the demonstration,
-code that must not compile, and random command lines over random files.
+memory is refused in turn, the reader in Python beside the program, the examples of the README, a sort on a
+cluster, the demonstration, code that must not compile, and random command lines over random files.
 """
 
 import sys
@@ -30,6 +30,7 @@ import proofs
 import random_runs
 import readers
 import rooted
+import scale
 import scratch
 from harness import run
 from trees import chunk_file
@@ -67,7 +68,7 @@ def all_runs(program, folder):
     for part in (command_line, pack, scratch, build, look_ups, dumps, diffs, proofs, rooted, damaged, random_runs):
         for case in part.cases(folder):
             yield case.name, run(program, case)
-    for part in (dumps, diffs, proofs, rooted, readers, files, links, growths, examples, demo, misuse):
+    for part in (dumps, diffs, proofs, rooted, readers, files, links, growths, examples, scale, demo, misuse):
         yield from part.all_runs(program, folder)
 
 
