@@ -1,7 +1,9 @@
-.PHONY: test check prolly demo install bench
+.PHONY: test check prolly demo install uninstall bench
 
 PREFIX ?= /usr/local
 PROGRAM = crates/prolly/out/prolly
+MADE = $(dir $(PROGRAM))share
+SHARE = $(DESTDIR)$(PREFIX)/share
 
 # The gate: every proof from nothing, the must-fail edits, the tests of the crates, the programs, and then the program as a
 # user runs it.
@@ -21,8 +23,21 @@ prolly:
 demo: prolly
 	demo/run $(PROGRAM)
 
+# The program, its manual page, and what bash, zsh and fish complete its words by. These are made from its helps.
 install: prolly
 	install -D -m 755 $(PROGRAM) $(DESTDIR)$(PREFIX)/bin/prolly
+	share/words.py $(PROGRAM) $(MADE)
+	install -D -m 644 $(MADE)/man1/prolly.1 $(SHARE)/man/man1/prolly.1
+	install -D -m 644 $(MADE)/prolly.bash $(SHARE)/bash-completion/completions/prolly
+	install -D -m 644 $(MADE)/_prolly $(SHARE)/zsh/site-functions/_prolly
+	install -D -m 644 $(MADE)/prolly.fish $(SHARE)/fish/vendor_completions.d/prolly.fish
+
+uninstall:
+	rm -f $(DESTDIR)$(PREFIX)/bin/prolly
+	rm -f $(SHARE)/man/man1/prolly.1
+	rm -f $(SHARE)/bash-completion/completions/prolly
+	rm -f $(SHARE)/zsh/site-functions/_prolly
+	rm -f $(SHARE)/fish/vendor_completions.d/prolly.fish
 
 # How long the program and its parts take.
 bench: prolly

@@ -5,8 +5,8 @@
 Each case is a run with its words, input, output, error, status and files. What is wanted comes from
 docs/format.md, from a second builder written after it (trees.py), or, for texts of help, from texts/. Beside the
 cases there are runs in which files may be lost, runs whose workers wait for one another, runs in which each growth of
-memory is refused in turn, the reader in Python beside the program, the examples of the README, a sort on a
-cluster, the demonstration, code that must not compile, and random command lines over random files.
+memory is refused in turn, the reader in Python beside the program, the examples of the README, what is
+installed, a sort on a cluster, the demonstration, code that must not compile, and random command lines over random files.
 """
 
 import sys
@@ -22,6 +22,7 @@ import dumps
 import examples
 import files
 import growths
+import installed
 import links
 import look_ups
 import misuse
@@ -68,7 +69,7 @@ def all_runs(program, folder):
     for part in (command_line, pack, scratch, build, look_ups, dumps, diffs, proofs, rooted, damaged, random_runs):
         for case in part.cases(folder):
             yield case.name, run(program, case)
-    for part in (dumps, diffs, proofs, rooted, readers, files, links, growths, examples, scale, demo, misuse):
+    for part in (dumps, diffs, proofs, rooted, readers, files, links, growths, examples, installed, scale, demo, misuse):
         yield from part.all_runs(program, folder)
 
 
