@@ -42,8 +42,9 @@ def differences(program, folder):
         text=True,
         check=False,
     )
-    if by_cluster.returncode != 0:
-        return [f"the cluster: status {by_cluster.returncode}, {by_cluster.stderr[-300:]!r}"]
+    for name, done in (("the cluster", by_cluster), ("sort", by_sort)):
+        if done.returncode != 0:
+            return [f"{name}: status {done.returncode}, {done.stderr[-300:]!r}"]
     if by_cluster.stdout != by_sort.stdout.splitlines(keepends=True)[-1]:
         return [f"the cluster: {by_cluster.stdout!r}, sort: {by_sort.stdout!r}"]
     left = sorted(path.name for path in folder.iterdir())

@@ -7,7 +7,7 @@ A table has a row a line: a key, a tab, a value. Of rows with one key the last c
 their lines. The workers cut the keys into ranges, sort each range, and write it as a record file into FOLDER, which all
 of them and this program have to reach; then `prolly build` merges the record files into OUT, and prints its line.
 
-No worker holds more than a block of a table, or one range. See docs/scale.md.
+A task holds a block of a table, or one range; together the workers hold the tables. See docs/scale.md.
 """
 
 import argparse
