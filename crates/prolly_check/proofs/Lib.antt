@@ -54,8 +54,18 @@ pub mod Rebuilds
 pub mod RebuildSteps
 -- The end of the rebuilt chunks.
 pub mod FinishSteps
+-- The ways of look-ups down a tree, of whatever kind, for who knows the root alone.
+pub mod TreeWays
 -- The way of a look-up that knows the root alone.
 pub mod Ways
+-- The least key above another.
+pub mod NextKeys
+-- The way of a scan that knows the root alone.
+pub mod ScanWays
+-- Scans that go on leaf by leaf, for who knows the root alone.
+pub mod ScanRuns
+-- The way of a look-up by a number that knows the root alone.
+pub mod CountWays
 -- Reading the keys of one chunk, one after another.
 pub mod StepLemmas
 -- Going down the way of a look-up in a file that was checked.

@@ -72,7 +72,7 @@ reference_leads version = (
 
 -- ---- keys
 
-all_below : (ps : List Pair) (key : List ℕ) → Rises ps → KeyBelow (last_key ps) key →
+pub all_below : (ps : List Pair) (key : List ℕ) → Rises ps → KeyBelow (last_key ps) key →
     AllByRecursion (λ p. KeyBelow p.key key) ps
 all_below [] key h k = tt
 all_below (p ∷ []) key h k = (k, tt)
@@ -116,7 +116,7 @@ above_last [] ys some h = absurd (omega arith)
 above_last (p ∷ []) ys some h = h.0
 above_last (p ∷ q ∷ ps) ys some h = above_last (q ∷ ps) ys (omega arith) h.1
 
-above_not : (x key : List ℕ) (ps : List Pair) → is_lt (key_order x key) ≡ false → Above x ps →
+pub above_not : (x key : List ℕ) (ps : List Pair) → is_lt (key_order x key) ≡ false → Above x ps →
     Above key ps
 above_not x key ps h k = go (key_order x key) refl h
   where

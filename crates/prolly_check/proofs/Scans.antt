@@ -20,7 +20,7 @@ pub pairs_from-append : (from : List ℕ) (xs ys : List Pair) →
 pairs_from-append from xs ys = filter-append (λ p. not (is_lt (key_order p.key from))) xs ys
 
 -- pairs whose keys are below it are none of them
-none_from : (from : List ℕ) (ps : List Pair) → AllByRecursion (λ p. KeyBelow p.key from) ps →
+pub none_from : (from : List ℕ) (ps : List Pair) → AllByRecursion (λ p. KeyBelow p.key from) ps →
     pairs_from from ps ≡ []
 none_from from [] h = refl
 none_from from (p ∷ ps) h = cond-false (not (is_lt (key_order p.key from))) (p ∷ pairs_from from ps)

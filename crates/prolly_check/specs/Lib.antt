@@ -46,6 +46,10 @@ pub mod Leaves
 pub mod Rebuilt
 -- The way of a look-up down a tree, by the references of its chunks.
 pub mod Way
+-- The way of a scan down a tree, for who knows the root alone.
+pub mod ScanWay
+-- The way of a look-up by a number, for who knows the root alone.
+pub mod CountWay
 -- What a look-up comes to at a chunk.
 pub mod Steps
 -- Lemmas for the crates above, by subject.

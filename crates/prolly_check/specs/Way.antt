@@ -68,10 +68,10 @@ LevelsFall (chunk ∷ []) = Unit {0}
 LevelsFall (chunk ∷ below ∷ chunks) = (level_of chunk ≡ suc (level_of below)) ×
     LevelsFall (below ∷ chunks)
 
--- The chunks are the way of a look-up of the key from the root of this reference to its end, where
--- it finds this value or none.
-pub record IsWay (version : Version) (root key : List ℕ) (chunks : List (List ℕ))
-    (value : Option (List ℕ)) : Type 0 where
+-- The chunks are the way of a look-up of the key from the root of this reference to its end, and
+-- this is so of the entries where it ends.
+pub record IsWayTo (version : Version) (root key : List ℕ) (chunks : List (List ℕ))
+    (Ends : Entries → Type 0) : Type 0 where
   pub before : List (List ℕ)
   pub last : List ℕ
   pub reference : List ℕ
@@ -79,7 +79,12 @@ pub record IsWay (version : Version) (root key : List ℕ) (chunks : List (List 
   pub lead : Lead version key root before reference
   pub named : IsNamed version reference last
   pub down : LevelsFall chunks
-  pub ends : EndsWith key (kind_of version last) value
+  pub ends : Ends (kind_of version last)
+
+-- Such a way, where the look-up finds this value or none.
+abbrev pub IsWay : Version → List ℕ → List ℕ → List (List ℕ) → Option (List ℕ) → Type 0
+IsWay version root key chunks value =
+    IsWayTo version root key chunks (λ entries. EndsWith key entries value)
 
 -- ---- what it proves
 

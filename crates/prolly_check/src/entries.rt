@@ -17,8 +17,9 @@ pub enum Entries<'a> {
     Node(Children<'a>),
 }
 
-/// The entries of a chunk that was tested.
-pub(crate) fn entries_of(version: Version, chunk: &[u8]) -> Entries<'_>
+/// The entries of a chunk that was tested, as by [`entries_in`](crate::entries_in). Takes no memory,
+/// and reads none of them yet.
+pub fn entries_of(version: Version, chunk: &[u8]) -> Entries<'_>
     requires { IsWhole version chunk.now }
     ensures { result ≡ kind_of version chunk.now }
 {

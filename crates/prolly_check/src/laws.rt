@@ -6,6 +6,8 @@ ghost use Rattle.prolly_check.specs.Descent.{StandsAtRoot, FirstEntry, StepsDown
 ghost use Rattle.prolly_check.specs.Descent.{RootIsTree, ChildIsTree, TopIsRead};
 ghost use Rattle.prolly_check.specs.Entries.{NoLeaf, NoNode};
 ghost use Rattle.prolly_check.specs.Verdict.{OneVerdict, AcceptsFiles};
+ghost use Rattle.prolly_check.specs.CountWay.{CountWaysAreRight};
+ghost use Rattle.prolly_check.specs.ScanWay.{ScansAreRight, ScansGoOn};
 ghost use Rattle.prolly_check.specs.Way.{WaysAreRight};
 
 /// Bytes have one verdict, and are accepted exactly where they are the file of a map.
@@ -38,8 +40,11 @@ pub fn tops_are_read()
     ensures read { (version : Version) → TopIsRead version }
 {}
 
-/// Whoever knows the root of a map knows by the way of a look-up what the map has at the key, or
-/// has two different chunks with one reference.
+/// Whoever knows the root of a map knows by the way of a look-up what the map has at the key, from
+/// the key on, or at a number, or has two different chunks with one reference.
 pub fn ways_are_right()
-    ensures { WaysAreRight }
+    ensures found { WaysAreRight }
+    ensures scanned { ScansAreRight }
+    ensures onward { ScansGoOn }
+    ensures counted { CountWaysAreRight }
 {}

@@ -30,7 +30,7 @@ mod way;
 mod whole;
 
 pub use checker::check;
-pub use entries::Entries;
+pub use entries::{Entries, entries_of};
 pub use fault::CheckFault;
 pub use find::value_in;
 pub use frames::front_frame;
@@ -39,5 +39,7 @@ pub use leaf::Pairs;
 pub use leaves::Leaves;
 pub use missing::Missing;
 pub use node::{Child, Children};
+pub use nth::pair_at;
+pub use scan::pairs_from;
 pub use step::{ChunkFlaw, Step, entries_in, step_in};
 pub use tree::{NoCounts, Tree};

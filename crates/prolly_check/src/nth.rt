@@ -1,5 +1,5 @@
 //! Finding a pair by its number.
-ghost use Rattle.std.specs.Prelude.{◌≡◌};
+ghost use Rattle.std.specs.Prelude.{◌≡◌, ◌≤◌, length, IfSome};
 ghost use Rattle.prolly_tree.specs.LookUp.{nth};
 ghost use Rattle.prolly_entry.specs.declared.version.Version.TheVariants.{Two};
 ghost use Rattle.prolly_check.specs.Children.{child_with};
@@ -10,9 +10,12 @@ use crate::file::CheckedFile;
 use crate::leaf::Pairs;
 use crate::node::{Child, Children};
 
-/// The pair of this number among the pairs of a leaf.
-fn pair_at<'a>(mut pairs: Pairs<'a>, n: u64) -> Option<(&'a [u8], &'a [u8])>
-    ensures { pair_of result ≡ nth pairs.entry n }
+/// The pair of this number, counted from 0, among the pairs of a leaf. Takes no memory, and time
+/// linear in the number.
+pub fn pair_at<'a>(mut pairs: Pairs<'a>, n: u64) -> Option<(&'a [u8], &'a [u8])>
+    ensures is { pair_of result ≡ nth pairs.entry n }
+    ensures lawful { IfSome result (λ pair.
+        (length pair.0.now ≤ 1024) × (length pair.1.now ≤ 65536)) }
 {
     let mut ahead = n;
     while let Some(pair) = pairs.next() {

@@ -31,6 +31,18 @@ fn keep(
     Ok(())
 }
 
+/// Copies of the pairs of a leaf whose key is not less than `from`. Takes memory for them, and time
+/// linear in the leaf.
+pub fn pairs_from(alloc: Global, mut leaf: Pairs, from: &[u8]) -> Result<Vec<Pair>, AllocError>
+    ensures { IfOk result (λ pairs. pairs.items ≡ pairs_from from.now leaf.entry) }
+{
+    let mut pairs = Vec::new(alloc);
+    while let Some((key, value)) = leaf.next() {
+        keep(alloc, key, value, from, &mut pairs)?;
+    }
+    Ok(pairs)
+}
+
 /// Adds the pairs of a leaf whose key is not less than `from`, until there are `limit` pairs.
 fn scan_leaf(
     alloc: Global,

@@ -1,18 +1,18 @@
 -- Going down from the root, from each chunk to the one that it refers to.
 use Rattle.std.proofs.Common.{◌≡◌, ℕ, List, [], ◌∷◌, ◌++◌, map, Option, Some, None, Vec, Global}
 use Rattle.std.proofs.Common.{refl, sym, ap, ◌∙◌, subst}
-use Rattle.std.specs.Prelude.{option_map}
 use Rattle.std.proofs.lemmas.List.{map-append}
-use Rattle.prolly_check.specs.Kinds.{kind_of}
-use Rattle.prolly_check.specs.Way.{EndsWith, IsNamed, IsWay, Lead, LeadsOn, LevelsFall, level_of}
-use Rattle.prolly_check.specs.lemmas.Ways.{lead_more}
+use Rattle.prolly_check.specs.Way.{IsNamed, LevelsFall, level_of}
 use Rattle.prolly_entry.specs.declared.version.Version.{Version}
-use Rattle.prolly_proof.specs.ByRoot.{IsOnward}
+use Rattle.prolly_proof.specs.Descents.{IsOnward}
 use Rattle.prolly_proof.specs.Faults.{FallsTo, last_level}
-use Rattle.prolly_proof.specs.declared.by_root.Due.{Due}
-use Rattle.prolly_proof.specs.declared.by_root.Onward.{Onward}
-use Rattle.prolly_proof.specs.declared.by_root.Onward.TheVariants.{End, Below}
-use Rattle.prolly_proof.specs.declared.by_root.Place.{Place}
+use Rattle.prolly_proof.specs.Sought.{Leads, LeadsToEnd}
+use Rattle.prolly_proof.specs.declared.descent.Due.{Due}
+use Rattle.prolly_proof.specs.declared.descent.Onward.{Onward}
+use Rattle.prolly_proof.specs.declared.descent.Onward.TheVariants.{End, Below}
+use Rattle.prolly_proof.specs.declared.descent.Place.{Place}
+use Rattle.prolly_proof.specs.declared.sought.Sought.{Sought}
+use Rattle.prolly_proof.proofs.Seeking.{leads_more}
 
 -- ---- the levels
 
@@ -32,9 +32,9 @@ falls_more (c ∷ d ∷ passed) chunk down falls =
 -- ---- where a look-up stands
 
 -- these chunks led it to the one that is due
-pub record Descended (version : Version) (root key : List ℕ) (passed : List (List ℕ)) (due : Due)
-    : Type 0 where
-  pub lead : Lead version key root passed due.reference.0
+pub record Descended (version : Version) (root : List ℕ) (sought : Sought)
+    (passed : List (List ℕ)) (due : Due) : Type 0 where
+  pub lead : Leads version sought root passed due.reference.0 due.sought
   pub down : LevelsFall passed
   pub above : due.above ≡ last_level passed
 
@@ -43,62 +43,45 @@ abbrev pub room_below : Option ℕ → ℕ
 room_below None = 256
 room_below (Some level) = level
 
-pub begins : (version : Version) (root key : List ℕ) (due : Due) → root ≡ due.reference.0 →
-    due.above ≡ None → Descended version root key [] due
-begins version root key due reference above = record { lead = reference; down = tt; above = above }
-
-module _ (version : Version) (root key : List ℕ) (passed : List (List ℕ)) (due : Due)
-    (d : Descended version root key passed due) (chunk : List ℕ)
-    (named : IsNamed version due.reference.0 chunk) (falls : FallsTo due.above chunk) where
-  down : LevelsFall (passed ++ chunk ∷ [])
-  down = falls_more passed chunk d.down (subst (λ l. FallsTo l chunk) d.above falls)
-
-  pub ends_here : (value : Option (List ℕ)) → EndsWith key (kind_of version chunk) value →
-      IsWay version root key (passed ++ chunk ∷ []) value
-  ends_here value ends = record {
-    before = passed;
-    last = chunk;
-    reference = due.reference.0;
-    are = refl;
-    lead = d.lead;
-    named = named;
-    down = down;
-    ends = ends;
-  }
-
-  pub goes_on : (next : Due) → LeadsOn key (kind_of version chunk) next.reference.0 →
-      next.above ≡ Some (level_of chunk) →
-      Descended version root key (passed ++ chunk ∷ []) next
-  goes_on next on above = record {
-    lead = lead_more version key root passed due.reference.0 chunk next.reference.0 d.lead named on;
-    down = down;
-    above = above ∙ sym (last_more passed chunk);
-  }
-
--- ---- one step of it
+pub begins : (version : Version) (root : List ℕ) (sought : Sought) (due : Due) →
+    root ≡ due.reference.0 → due.above ≡ None → sought ≡ due.sought →
+    Descended version root sought [] due
+begins version root sought due reference above same =
+    record { lead = (reference, same); down = tt; above = above }
 
 abbrev pub bytes_in : List (Vec ℕ Global) → List (List ℕ)
 bytes_in chunks = map (λ chunk. chunk.items) chunks
 
-module _ (version : Version) (root key : List ℕ) (way new : List (Vec ℕ Global)) (due : Due)
-    (d : Descended version root key (bytes_in way) due) (chunk : Vec ℕ Global)
-    (kept : new ≡ way ++ chunk ∷ []) (named : IsNamed version due.reference.0 chunk.items)
-    (falls : FallsTo due.above chunk.items) (step : Onward)
-    (is : IsOnward version key chunk.items step) where
-  one_more : bytes_in new ≡ bytes_in way ++ chunk.items ∷ []
-  one_more = ap bytes_in kept ∙ map-append (λ chunk. chunk.items) way (chunk ∷ [])
+module _ (version : Version) (root : List ℕ) (sought : Sought) (passed : List (List ℕ)) (due : Due)
+    (d : Descended version root sought passed due) (chunk : List ℕ)
+    (named : IsNamed version due.reference.0 chunk) (falls : FallsTo due.above chunk)
+    (step : Onward) (is : IsOnward version due.sought chunk step) where
+  down : LevelsFall (passed ++ chunk ∷ [])
+  down = falls_more passed chunk d.down (subst (λ l. FallsTo l chunk) d.above falls)
 
-  pub step_ends : (value : Option (Vec ℕ Global)) → step ≡ End value →
-      IsWay version root key (bytes_in new) (option_map (λ value. value.items) value)
-  step_ends value e = subst (λ chunks. IsWay version root key chunks
-      (option_map (λ value. value.items) value)) (sym one_more)
-      (ends_here version root key (bytes_in way) due d chunk.items named falls
-      (option_map (λ value. value.items) value) (subst (IsOnward version key chunk.items) e is))
+  pub ends_here : step ≡ End → LeadsToEnd version root sought passed chunk due.sought
+  ends_here e = record {
+    reference = due.reference.0;
+    lead = d.lead;
+    named = named;
+    down = down;
+    ends = subst (IsOnward version due.sought chunk) e is;
+  }
 
-  pub step_goes_on : (next : Due) (there : Place) → step ≡ Below next there →
-      Descended version root key (bytes_in new) next
-  step_goes_on next there e =
-      let on : IsOnward version key chunk.items (Below next there) =
-      subst (IsOnward version key chunk.items) e is in
-      subst (λ chunks. Descended version root key chunks next) (sym one_more)
-      (goes_on version root key (bytes_in way) due d chunk.items named falls next on.0 on.1)
+  pub goes_on : (next : Due) (there : Place) → step ≡ Below next there →
+      Descended version root sought (passed ++ chunk ∷ []) next
+  goes_on next there e =
+      let on : IsOnward version due.sought chunk (Below next there) =
+      subst (IsOnward version due.sought chunk) e is in
+      record {
+        lead = leads_more version sought root passed due.reference.0 due.sought chunk
+            next.reference.0 next.sought d.lead named on.0;
+        down = down;
+        above = on.1 ∙ sym (last_more passed chunk);
+      }
+
+-- the chunks that were met, of which one more was kept
+pub one_more : (chunks new : List (Vec ℕ Global)) (chunk : Vec ℕ Global) →
+    new ≡ chunks ++ chunk ∷ [] → bytes_in new ≡ bytes_in chunks ++ chunk.items ∷ []
+one_more chunks new chunk kept = ap bytes_in kept ∙
+    map-append (λ chunk. chunk.items) chunks (chunk ∷ [])

@@ -32,10 +32,10 @@ use Rattle.prolly_proof.specs.Descents.{StandsAtTree, StepsDown, chunks_of_trees
 use Rattle.prolly_proof.specs.Faults.{FallsTo}
 use Rattle.prolly_proof.specs.Walks.{GoesOverTree, HoldsFile, IsFrameOf, StandsBehind, StaysSame}
 use Rattle.prolly_proof.specs.Walks.{chunks_below, chunks_of_tree, place_behind}
-use Rattle.prolly_proof.specs.declared.by_root.Due.{Due}
-use Rattle.prolly_proof.specs.declared.by_root.Onward.{Onward}
-use Rattle.prolly_proof.specs.declared.by_root.Onward.TheVariants.{End, Below}
-use Rattle.prolly_proof.specs.declared.by_root.Place.{Place}
+use Rattle.prolly_proof.specs.declared.descent.Due.{Due}
+use Rattle.prolly_proof.specs.declared.descent.Onward.{Onward}
+use Rattle.prolly_proof.specs.declared.descent.Onward.TheVariants.{End, Below}
+use Rattle.prolly_proof.specs.declared.descent.Place.{Place}
 use Rattle.prolly_proof.specs.declared.root_fault.RootFault.{RootFault}
 use Rattle.prolly_proof.specs.declared.walk.Frame.{Frame}
 use Rattle.prolly_proof.specs.declared.walk.Walk.{Walk}
@@ -231,7 +231,7 @@ module _ (device : DeviceView) (content : Content) (holds : HoldsFile device con
       IsTreeOf content.version (chunks_of content) (suc level) ts →
       (result : Result Onward RootFault) → LeadsAmong content level ts room result →
       StepsDown content room result
-  steps level ts below (Ok (End value)) leads = tt
+  steps level ts below (Ok End) leads = tt
   steps level ts below (Ok (Below due place)) leads = down_to level ts below due place leads
   steps level ts below (Err fault) leads = inr leads
 

@@ -8,6 +8,8 @@ pub mod Exclusion
 pub mod Rightness
 -- Appending the frames of chunks one after another.
 pub mod Appending
+-- What leads a look-up by a root, in the words of each kind of look-up.
+pub mod Seeking
 -- Going down from the root, from each chunk to the one that it refers to.
 pub mod Descending
 -- Going over the frames of a file.

@@ -1,12 +1,37 @@
 -- What a look-up by a root has found.
-use Rattle.std.specs.Prelude.{◌≡◌, ℕ, List, map, Some, option_map}
-use Rattle.prolly_check.specs.Kinds.{kind_of}
-use Rattle.prolly_check.specs.Way.{EndsWith, IsWay, LeadsOn, level_of}
+use Rattle.std.specs.Prelude.{◌≡◌, ℕ, List, [], map, Option, None, option_map}
+use Rattle.prolly_check.specs.CountWay.{IsCountWay}
+use Rattle.prolly_check.specs.Leaves.{pairs_from}
+use Rattle.prolly_check.specs.ScanWay.{IsScanWay}
+use Rattle.prolly_check.specs.Way.{IsWay}
 use Rattle.prolly_check.specs.declared.entries.Entries.{Entries}
+use Rattle.prolly_check.specs.declared.entries.Entries.TheVariants.{Leaf, Node}
+use Rattle.prolly_entry.specs.Pair.{Pair}
 use Rattle.prolly_entry.specs.declared.version.Version.{Version}
 use Rattle.prolly_proof.specs.declared.by_root.Found.{Found}
-use Rattle.prolly_proof.specs.declared.by_root.Onward.{Onward}
-use Rattle.prolly_proof.specs.declared.by_root.Onward.TheVariants.{End, Below}
+use Rattle.prolly_proof.specs.declared.by_root.FoundPair.{FoundPair}
+use Rattle.prolly_proof.specs.declared.by_root.FoundPairs.{FoundPairs}
+use Rattle.prolly_tree.specs.LookUp.{find, nth}
+
+-- ---- where it ends
+
+-- These entries say that a key has this value or none: a leaf's pairs what they have, and a node's
+-- children that there is none.
+abbrev pub TellsValue : List ℕ → Entries → Option (List ℕ) → Type 0
+TellsValue key (Leaf pairs) value = value ≡ find pairs key
+TellsValue key (Node children) value = value ≡ None
+
+-- The same of the pair of a number.
+abbrev pub TellsPair : ℕ → Entries → Option Pair → Type 0
+TellsPair n (Leaf pairs) pair = pair ≡ nth pairs n
+TellsPair n (Node children) pair = pair ≡ None
+
+-- The same of the first pairs from a key on.
+abbrev pub TellPairs : List ℕ → Entries → List Pair → Type 0
+TellPairs key (Leaf pairs) found = found ≡ pairs_from key pairs
+TellPairs key (Node children) found = found ≡ []
+
+-- ---- what it has found
 
 -- The chunks that it gives are the way of a look-up of the key from the root of this reference, and
 -- the value, or none, is what that finds.
@@ -14,14 +39,11 @@ abbrev pub IsFound : Version → List ℕ → List ℕ → Found → Type 0
 IsFound version root key found = IsWay version root key
     (map (λ chunk. chunk.items) found.way.items) (option_map (λ value. value.items) found.value)
 
--- The look-up of the key ends at the entries with this value or none, or goes on from them, which
--- are those of a node of this level, at the chunk that is due.
-abbrev pub LooksOn : List ℕ → ℕ → Entries → Onward → Type 0
-LooksOn key level entries (End value) = EndsWith key entries
-    (option_map (λ value. value.items) value)
-LooksOn key level entries (Below due place) = LeadsOn key entries due.reference.0 ×
-    (due.above ≡ Some level)
+-- The same of the pair of this number, or none.
+abbrev pub IsFoundPair : List ℕ → ℕ → FoundPair → Type 0
+IsFoundPair root n found = IsCountWay root n (map (λ chunk. chunk.items) found.way.items) found.pair
 
--- The same of the entries of a chunk.
-abbrev pub IsOnward : Version → List ℕ → List ℕ → Onward → Type 0
-IsOnward version key chunk onward = LooksOn key (level_of chunk) (kind_of version chunk) onward
+-- The same of the pairs that it finds from the key on.
+abbrev pub AreFound : Version → List ℕ → List ℕ → FoundPairs → Type 0
+AreFound version root key found = IsScanWay version root key
+    (map (λ chunk. chunk.items) found.way.items) found.pairs.items

@@ -5,20 +5,44 @@ use Rattle.prolly_check.specs.Checked.{chunks_of}
 use Rattle.prolly_check.specs.Content.{Content}
 use Rattle.prolly_check.specs.Descent.{IsTreeOf, child_of}
 use Rattle.prolly_check.specs.Entries.{Child}
+use Rattle.prolly_check.specs.Kinds.{kind_of}
+use Rattle.prolly_check.specs.Way.{level_of}
+use Rattle.prolly_check.specs.declared.entries.Entries.{Entries}
+use Rattle.prolly_entry.specs.declared.version.Version.{Version}
+use Rattle.prolly_proof.specs.Sought.{EndsFor, LeadsFor, LeadsToEnd}
+use Rattle.prolly_proof.specs.declared.descent.Descent.{Descent}
+use Rattle.prolly_proof.specs.declared.sought.Sought.{Sought}
 use Rattle.prolly_entry.specs.Reference.{reference_of}
 use Rattle.prolly_file.specs.Device.{DeviceView}
 use Rattle.prolly_proof.specs.Faults.{FallsTo}
 use Rattle.prolly_proof.specs.Walks.{HoldsFile, IsFrameOfTop, OnlyRead, StandsBehind}
 use Rattle.prolly_proof.specs.Walks.{chunks_of_tree}
-use Rattle.prolly_proof.specs.declared.by_root.Due.{Due}
-use Rattle.prolly_proof.specs.declared.by_root.Onward.{Onward}
-use Rattle.prolly_proof.specs.declared.by_root.Onward.TheVariants.{End, Below}
-use Rattle.prolly_proof.specs.declared.by_root.Place.{Place}
+use Rattle.prolly_proof.specs.declared.descent.Due.{Due}
+use Rattle.prolly_proof.specs.declared.descent.Onward.{Onward}
+use Rattle.prolly_proof.specs.declared.descent.Onward.TheVariants.{End, Below}
+use Rattle.prolly_proof.specs.declared.descent.Place.{Place}
 use Rattle.prolly_proof.specs.declared.root_fault.RootFault.{RootFault}
 use Rattle.prolly_proof.specs.declared.root_fault.RootFault.TheVariants.{Memory, Read}
 use Rattle.prolly_proof.specs.declared.walk.Walk.{Walk}
 use Rattle.prolly_tree.specs.Chunk.{post_order}
 use Rattle.prolly_tree.specs.Tree.{Tree, bytes_of}
+
+-- The chunks of the descent lead a look-up from the root of this reference to where it ends.
+abbrev pub IsDescent : Version → List ℕ → Sought → Descent → Type 0
+IsDescent version root sought descent = LeadsToEnd version root sought
+    (map (λ chunk. chunk.items) descent.above.items) descent.last.items descent.sought
+
+-- The look-up ends at the entries, or goes on from them, which are those of a node of this level,
+-- at the chunk that is due.
+abbrev pub LooksOn : Sought → ℕ → Entries → Onward → Type 0
+LooksOn sought level entries End = EndsFor sought entries
+LooksOn sought level entries (Below due place) =
+    LeadsFor sought entries due.reference.0 due.sought × (due.above ≡ Some level)
+
+-- The same of the entries of a chunk.
+abbrev pub IsOnward : Version → Sought → List ℕ → Onward → Type 0
+IsOnward version sought chunk onward =
+    LooksOn sought (level_of chunk) (kind_of version chunk) onward
 
 -- There is no fault but want of memory, or that a read failed.
 abbrev pub MayFail : RootFault → Type 0
@@ -46,7 +70,7 @@ pub record LeadsToOne (content : Content) (level : ℕ) (ts : List (Tree level))
 
 abbrev pub LeadsAmong : (content : Content) (level : ℕ) → List (Tree level) → ℕ →
     Result Onward RootFault → Type 0
-LeadsAmong content level ts size (Ok (End value)) = Unit {0}
+LeadsAmong content level ts size (Ok End) = Unit {0}
 LeadsAmong content level ts size (Ok (Below due place)) =
     LeadsToOne content level ts size due place
 LeadsAmong content level ts size (Err fault) = OnlyRead fault
@@ -77,6 +101,6 @@ pub record StandsAtTree (content : Content) (size : ℕ) (due : Due) (place : Pl
 
 -- A step comes to such a chunk again, or to an end.
 abbrev pub StepsDown : Content → ℕ → Result Onward RootFault → Type 0
-StepsDown content size (Ok (End value)) = Unit {0}
+StepsDown content size (Ok End) = Unit {0}
 StepsDown content size (Ok (Below due place)) = StandsAtTree content size due place
 StepsDown content size (Err fault) = MayFail fault

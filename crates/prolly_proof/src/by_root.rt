@@ -1,30 +1,40 @@
-//! Looking a key up by the root, in a file of which no more is read than that wants.
-ghost use Rattle.std.specs.Prelude.{◌≡◌, ◌+◌, ◌<◌, ℕ, List, [], ◌∷◌, ◌++◌, length, option_map};
-ghost use Rattle.std.specs.Prelude.{IfOk, IfErr, IsOk, OnOk};
+//! Looking up by the root, in a file of which no more is read than that wants.
+//!
+//! What is answered is what any map with this root has, unless a chunk of the way and another one
+//! have one reference: see [`laws::ways_are_right`](prolly_check::laws::ways_are_right). That holds
+//! whatever the device does, and whatever else the file holds, for nothing of it is believed: each
+//! chunk is compared with the reference in the one above it, and the first with the root. The
+//! version is that of the tree's chunks. Like the root it has to come from who is trusted, and not
+//! from the file.
+//!
+//! Only what that wants is read of the file: the starts of its frames, ten bytes each, once to find
+//! the root, and once more for each level, there only among the frames below one chunk; and one
+//! chunk a level. Takes memory for these chunks.
+ghost use Rattle.std.specs.Prelude.{◌≡◌, ◌≤◌, ℕ, [], ◌∷◌, ◌++◌, length, option_map};
+ghost use Rattle.std.specs.Prelude.{IfOk, IfErr, IfSome};
 ghost use Rattle.std.specs.Option.{option_copied};
-ghost use Rattle.prolly_check.specs.Checked.{chunks_of};
 ghost use Rattle.prolly_check.specs.Content.{Content};
+ghost use Rattle.prolly_check.specs.Counted.{pair_of};
 ghost use Rattle.prolly_check.specs.Kinds.{kind_of};
-ghost use Rattle.prolly_check.specs.Way.{IsNamed};
-ghost use Rattle.prolly_check.specs.declared.entries.Entries.TheVariants.{Node};
-ghost use Rattle.prolly_proof.specs.ByRoot.{IsFound, IsOnward, LooksOn};
+ghost use Rattle.prolly_check.specs.Whole.{IsWhole};
 ghost use Rattle.prolly_entry.specs.Cut.{sha512_cut};
-ghost use Rattle.prolly_proof.specs.Descents.{GoesAmong, MayFail, StandsAtTree, StepsDown};
-ghost use Rattle.prolly_proof.specs.Faults.{FallsTo};
-ghost use Rattle.prolly_proof.specs.Walks.{HoldsFile, IsFrameOf, StaysSame, TellsReads};
+ghost use Rattle.prolly_entry.specs.declared.version.Version.TheVariants.{Two};
+ghost use Rattle.prolly_proof.specs.ByRoot.{AreFound, IsFound, IsFoundPair};
+ghost use Rattle.prolly_proof.specs.ByRoot.{TellPairs, TellsPair, TellsValue};
+ghost use Rattle.prolly_proof.specs.Descents.{MayFail};
+ghost use Rattle.prolly_proof.specs.Walks.{HoldsFile, TellsReads};
+ghost use Rattle.prolly_proof.specs.declared.sought.Sought.TheVariants.{Place};
 ghost use Rattle.prolly_tree.specs.File.{root_reference};
-ghost use Rattle.prolly_tree.specs.Tree.{bytes_of};
 
+use crate::descent::{go_down, keep};
 use crate::root_fault::RootFault;
-use crate::verifier::falls_to;
-use crate::walk::{Frame, Walk};
-use prolly_check::laws::tops_are_read;
-use prolly_check::{Children, ChunkFlaw, Entries, entries_in, value_in};
-use prolly_entry::{Ref, Version, key_order};
+use crate::sought::Sought;
+use prolly_check::{Entries, entries_of, pair_at, pairs_from, value_in};
+use prolly_entry::{Pair, Ref, Version};
 use prolly_file::Device;
 use std::alloc::{AllocError, Global};
 
-/// What a look-up has found, and the chunks that show it.
+/// What a look-up of a key has found, and the chunks that show it.
 #[derive(Drop)]
 pub struct Found {
     /// The chunks that the look-up met, from the root down.
@@ -33,18 +43,25 @@ pub struct Found {
     pub value: Option<Vec<u8>>,
 }
 
+/// What a look-up by a number has found, and the chunks that show it.
+#[derive(Drop)]
+pub struct FoundPair {
+    /// The chunks that the look-up met, from the root down.
+    pub way: Vec<Vec<u8>>,
+    /// The pair of the number, or none.
+    pub pair: Option<Pair>,
+}
+
+/// The pairs that a look-up has found from a key on, and the chunks that show it.
+#[derive(Drop)]
+pub struct FoundPairs {
+    /// The chunks that the look-up met, from the root down.
+    pub way: Vec<Vec<u8>>,
+    /// The pairs, in the order of their keys.
+    pub pairs: Vec<Pair>,
+}
+
 /// What the tree with this root has at the key: its value, or none.
-///
-/// Only what that wants is read of the file: the starts of its frames, ten bytes each, once to find
-/// the root, and once more for each level, there only among the frames below one chunk; and one
-/// chunk a level. Takes memory for these chunks.
-///
-/// What is answered is what any map with this root has at the key, unless a chunk of the way and
-/// another one have one reference: see
-/// [`laws::ways_are_right`](prolly_check::laws::ways_are_right). That holds whatever the device
-/// does, and whatever else the file holds, for nothing of it is believed: each chunk is compared
-/// with the reference in the one above it, and the first with the root. The version is that of the
-/// tree's chunks. Like the root it has to come from who is trusted, and not from the file.
 pub fn get_by_root<D: Device>(
     alloc: Global,
     device: &mut D,
@@ -60,165 +77,109 @@ pub fn get_by_root<D: Device>(
         content.version content.pairs → IfErr result MayFail }
     ensures reads { TellsReads (D.seen device.old).failures (D.seen device.new).failures result }
 {
-    // By this law a lawful file has the chunks that the root leads to.
-    tops_are_read();
-    let start = Walk::begin(device, version)?;
-    let mut place = Place {
-        frame: start.last(device)?,
-        below: start,
-    };
-    let mut due = Due {
-        reference: *root,
-        above: None,
-    };
-    let mut way = Vec::new(alloc);
-    loop {
-        let chunk = read_chunk(alloc, device, &place.frame)?;
-        let step = step_from(alloc, device, version, &chunk, key, &place, &due)?;
-        keep(&mut way, chunk)?;
-        match step {
-            Onward::End(value) => return Ok(Found { way, value }),
-            Onward::Below(next, there) => {
-                due = next;
-                place = there;
-            }
-        }
-    }
+    let descent = go_down(alloc, device, version, root, Sought::Key(key))?;
+    let value = value_at(alloc, version, &descent.last, key)?;
+    let way = with(descent.above, descent.last)?;
+    Ok(Found { way, value })
 }
 
-/// Adds a chunk to the way.
-fn keep(way: &mut Vec<Vec<u8>>, chunk: Vec<u8>) -> Result<(), AllocError>
-    ensures { OnOk result (way.new.items ≡ way.old.items ++ chunk ∷ []) }
-{
-    way.push(chunk)?;
-    Ok(())
-}
+/// The pair of this number, counted from 0 in the order of keys, that the tree with this root has,
+/// or none. Only chunks of version Two have the counts that this goes by.
+pub fn nth_by_root<D: Device>(
+    alloc: Global,
+    device: &mut D,
+    root: &Ref,
+    n: u64,
+) -> Result<FoundPair, RootFault>
+    ensures found { IfOk result (IsFoundPair root.now.0 n) }
 
-/// The chunk that is due next.
-#[derive(Clone, Copy, Debug)]
-struct Due {
-    /// Its reference.
-    reference: Ref,
-    /// The level of the chunk above it; none is above the root.
-    above: Option<u8>,
-}
-
-/// Where a chunk stands in its file, and where the frames of what is below it begin.
-#[derive(Clone, Copy, Debug)]
-struct Place {
-    frame: Frame,
-    below: Walk,
-}
-
-/// What a look-up comes to at a chunk.
-#[derive(Drop)]
-enum Onward {
-    /// It ends there, with the value of the key, or with none.
-    End(Option<Vec<u8>>),
-    /// It goes on at the chunk that is due next, in this place.
-    Below(Due, Place),
-}
-
-/// The bytes of a chunk.
-fn read_chunk<D: Device>(alloc: Global, device: &mut D, frame: &Frame) -> Result<Vec<u8>, RootFault>
-    ensures same { StaysSame (D.seen device.old) (D.seen device.new) }
+    // A lawful file with this root is never refused.
+    ensures lawful { (content : Content) → HoldsFile (D.seen device.old) content →
+        content.version ≡ Two → root.now.0 ≡ root_reference (sha512_cut content.bits)
+        content.version content.pairs → IfErr result MayFail }
     ensures reads { TellsReads (D.seen device.old).failures (D.seen device.new).failures result }
-    ensures is { (content : Content) (before left : List (List ℕ)) (chunk : List ℕ) →
-        HoldsFile (D.seen device.old) content → chunks_of content ≡ before ++ chunk ∷ left →
-        IsFrameOf before chunk frame.now → IfOk result (λ bytes. bytes.items ≡ chunk) }
-    ensures only { (content : Content) (before left : List (List ℕ)) (chunk : List ℕ) →
-        HoldsFile (D.seen device.old) content → chunks_of content ≡ before ++ chunk ∷ left →
-        IsFrameOf before chunk frame.now → IfErr result MayFail }
 {
-    let mut chunk = vec![in alloc; 0; frame.len as usize]?;
-    let count = device.read_at(frame.start, &mut chunk)?;
-    if count < chunk.len() {
-        return Err(RootFault::Truncated);
-    }
-    Ok(chunk)
+    let descent = go_down(alloc, device, Version::Two, root, Sought::Place(n))?;
+    let pair = pair_sought(alloc, &descent.last, descent.sought)?;
+    let way = with(descent.above, descent.last)?;
+    Ok(FoundPair { way, pair })
 }
 
-/// What a look-up of the key comes to at a chunk, where it is the one that is due.
-fn step_from<D: Device>(
+/// The first pairs that the tree with this root has from the key on: those of one leaf. The others
+/// are those from behind the last of these on, at which the next look-up begins; where there are
+/// none, the tree has none.
+pub fn pairs_by_root<D: Device>(
     alloc: Global,
     device: &mut D,
     version: Version,
+    root: &Ref,
+    from: &[u8],
+) -> Result<FoundPairs, RootFault>
+    ensures found { IfOk result (AreFound version root.now.0 from.now) }
+
+    // A lawful file with this root is never refused.
+    ensures lawful { (content : Content) → HoldsFile (D.seen device.old) content →
+        version ≡ content.version → root.now.0 ≡ root_reference (sha512_cut content.bits)
+        content.version content.pairs → IfErr result MayFail }
+    ensures reads { TellsReads (D.seen device.old).failures (D.seen device.new).failures result }
+{
+    let descent = go_down(alloc, device, version, root, Sought::Key(from))?;
+    let pairs = pairs_at(alloc, version, &descent.last, from)?;
+    let way = with(descent.above, descent.last)?;
+    Ok(FoundPairs { way, pairs })
+}
+
+/// What the chunk at which a look-up of the key ends says of it.
+fn value_at(
+    alloc: Global,
+    version: Version,
     chunk: &[u8],
     key: &[u8],
-    place: &Place,
-    due: &Due,
-) -> Result<Onward, RootFault>
-    ensures named { IfOk result (λ step. IsNamed version due.now.reference.0 chunk.now) }
-    ensures falls { IfOk result (λ step. FallsTo due.now.above chunk.now) }
-    ensures is { IfOk result (IsOnward version key.now chunk.now) }
-    ensures same { StaysSame (D.seen device.old) (D.seen device.new) }
-    ensures reads { TellsReads (D.seen device.old).failures (D.seen device.new).failures result }
-    ensures down { (content : Content) →
-        HoldsFile (D.seen device.old) content → version ≡ content.version →
-        (at : StandsAtTree content (length (D.seen device.old).bytes) due.now place.now) →
-        chunk.now ≡ bytes_of content.version at.level at.t →
-        StepsDown content (length (D.seen device.old).bytes) result }
+) -> Result<Option<Vec<u8>>, AllocError>
+    requires { IsWhole version chunk.now }
+    ensures { IfOk result (λ value. TellsValue key.now (kind_of version chunk.now)
+        (option_map (λ v. v.items) value)) }
 {
-    // By this law the chunk of a lawful file can be read.
-    tops_are_read();
-    match entries_at(version, chunk, place.frame.number, due)? {
-        Entries::Leaf(pairs) => Ok(Onward::End(copied(alloc, value_in(pairs, key))?)),
-        Entries::Node(children) => below(device, children, key, place.below, chunk[0] - 1),
+    match entries_of(version, chunk) {
+        Entries::Leaf(pairs) => copied(alloc, value_in(pairs, key)),
+        Entries::Node(_) => Ok(None),
     }
 }
 
-/// The entries of the chunk of this number, where it is the one that is due.
-fn entries_at<'a>(
+/// The pair that the chunk at which a look-up by a number ends has at the number sought there.
+fn pair_sought(alloc: Global, chunk: &[u8], sought: Sought<'_>) -> Result<Option<Pair>, AllocError>
+    requires { IsWhole Two chunk.now }
+    ensures { (n : ℕ) → sought.entry ≡ Place n →
+        IfOk result (TellsPair n (kind_of Two chunk.now)) }
+{
+    match (entries_of(Version::Two, chunk), sought) {
+        (Entries::Leaf(pairs), Sought::Place(n)) => copy_of(alloc, pair_at(pairs, n)),
+        _ => Ok(None),
+    }
+}
+
+/// The first pairs that the chunk at which a look-up of the key ends has from the key on.
+fn pairs_at(
+    alloc: Global,
     version: Version,
-    chunk: &'a [u8],
-    number: u64,
-    due: &Due,
-) -> Result<Entries<'a>, RootFault>
-    ensures named { IfOk result (λ entries. IsNamed version due.now.reference.0 chunk.now) }
-    ensures falls { IfOk result (λ entries. FallsTo due.now.above chunk.now) }
-    ensures are { IfOk result (λ entries. entries ≡ kind_of version chunk.now) }
-    ensures fits { IsNamed version due.now.reference.0 chunk.now →
-        FallsTo due.now.above chunk.now → IsOk result }
-    ensures read { IfErr result (λ fault. fault ≡ RootFault.Read → ⊥) }
+    chunk: &[u8],
+    from: &[u8],
+) -> Result<Vec<Pair>, AllocError>
+    requires { IsWhole version chunk.now }
+    ensures { IfOk result (λ pairs. TellPairs from.now (kind_of version chunk.now) pairs.items) }
 {
-    if Ref::of(chunk) != due.reference {
-        return Err(RootFault::Reference { chunk: number });
-    }
-    match entries_in(version, chunk) {
-        Ok(entries) if falls_to(due.above, chunk) => Ok(entries),
-        Ok(_) => Err(RootFault::Level { chunk: number }),
-        Err(ChunkFlaw::Entries) => Err(RootFault::Chunk { chunk: number }),
-        Err(ChunkFlaw::Order) => Err(RootFault::KeysOutOfOrder { chunk: number }),
+    match entries_of(version, chunk) {
+        Entries::Leaf(pairs) => pairs_from(alloc, pairs, from),
+        Entries::Node(_) => Ok(Vec::new(alloc)),
     }
 }
 
-/// Goes on from the children of a node, which are of this level and stand in the file from `walk`
-/// on, to the one that the key leads to.
-fn below<D: Device>(
-    device: &mut D,
-    mut children: Children<'_>,
-    key: &[u8],
-    mut walk: Walk,
-    level: u8,
-) -> Result<Onward, RootFault>
-    requires { level < 255 }
-    ensures is { IfOk result (LooksOn key.now (level + 1) (Node children.entry)) }
-    ensures same { StaysSame (D.seen device.old) (D.seen device.new) }
-    ensures reads { TellsReads (D.seen device.old).failures (D.seen device.new).failures result }
-    ensures goes { GoesAmong (D.seen device.old) children.entry walk result level }
+/// The chunks, with one more behind them.
+fn with(mut chunks: Vec<Vec<u8>>, chunk: Vec<u8>) -> Result<Vec<Vec<u8>>, AllocError>
+    ensures { IfOk result (λ way. way.items ≡ chunks.items ++ chunk ∷ []) }
 {
-    while let Some(child) = children.next() {
-        let below = walk;
-        let frame = walk.next_of_level(device, level)?;
-        if !key_order(child.key, key).is_lt() {
-            let due = Due {
-                reference: child.reference,
-                above: Some(level + 1),
-            };
-            return Ok(Onward::Below(due, Place { frame, below }));
-        }
-    }
-    Ok(Onward::End(None))
+    keep(&mut chunks, chunk)?;
+    Ok(chunks)
 }
 
 /// A copy of the value.
@@ -228,5 +189,17 @@ fn copied(alloc: Global, value: Option<&[u8]>) -> Result<Option<Vec<u8>>, AllocE
     match value {
         None => Ok(None),
         Some(value) => Ok(Some(Vec::from_slice(alloc, value)?)),
+    }
+}
+
+/// A copy of the pair.
+fn copy_of(alloc: Global, pair: Option<(&[u8], &[u8])>) -> Result<Option<Pair>, AllocError>
+    requires { IfSome pair (λ pair. (length pair.0.now ≤ 1024) ×
+        (length pair.1.now ≤ 65536)) }
+    ensures { IfOk result (λ copy. copy ≡ pair_of pair.entry) }
+{
+    match pair {
+        None => Ok(None),
+        Some((key, value)) => Ok(Some(Pair::copy_of(alloc, key, value)?)),
     }
 }

@@ -5,15 +5,17 @@
 #![tactic(auto)]
 
 mod by_root;
+mod descent;
 mod fault;
 pub mod laws;
 mod prover;
 mod root_fault;
+mod sought;
 mod start;
 mod verifier;
 mod walk;
 
-pub use by_root::{Found, get_by_root};
+pub use by_root::{Found, FoundPair, FoundPairs, get_by_root, nth_by_root, pairs_by_root};
 pub use fault::ProofFault;
 pub use prover::prove;
 pub use root_fault::RootFault;

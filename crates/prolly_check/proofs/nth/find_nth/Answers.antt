@@ -10,7 +10,7 @@ loop-pairs-init c =
     (count_begins c.args.file.now c.args.n)
 
 pub returns-in-Leaf : goal.returns-in-Leaf
-returns-in-Leaf c = c.pair_at.ensures ∙ at_pair c.args.file.now c.args.n c.loop-pairs.ahead
+returns-in-Leaf c = c.pair_at.ensures.is ∙ at_pair c.args.file.now c.args.n c.loop-pairs.ahead
     c.loop-pairs.number c.root-number.ensures.file c.loop-pairs.invariant c.in-Leaf.pairs
     (sym c.entries.ensures ∙ c.in-Leaf.is)
 

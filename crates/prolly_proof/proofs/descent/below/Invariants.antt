@@ -1,17 +1,17 @@
 use Rattle.std.proofs.Common.{◌≡◌, ◌++◌, List, ℕ, length, map}
 use Rattle.prolly_check.specs.Checked.{chunks_of}
-use Rattle.prolly_check.specs.Children.{child_for}
 use Rattle.prolly_check.specs.Content.{Content}
 use Rattle.prolly_check.specs.Descent.{child_of}
 use Rattle.prolly_tree.specs.Tree.{Tree}
 use Rattle.prolly_proof.specs.Descents.{chunks_of_trees}
+use Rattle.prolly_proof.specs.Sought.{child_sought}
 use Rattle.prolly_proof.specs.Walks.{HoldsFile, StandsBehind, StaysSame}
 use Rattle.prolly_proof.proofs.GoingDown.{IsAmong}
-use Rattle.prolly_proof.proofs.by_root.below.Given as goal
+use Rattle.prolly_proof.proofs.descent.below.Given as goal
 
 abbrev pub invariant-loop-child : goal.invariant-loop-child
 invariant-loop-child g l = record {
-  child : child_for l.key l.initial.children ≡ child_for l.key l.children;
+  child : child_sought l.initial.sought l.initial.children ≡ child_sought l.sought l.children;
   same : StaysSame (g.D.Device.seen l.initial.device) (g.D.Device.seen l.device);
   reads : (g.D.Device.seen l.device).failures ≡ (g.D.Device.seen l.initial.device).failures;
   among : (content : Content) (ts : List (Tree l.level)) (before left : List (List ℕ)) →

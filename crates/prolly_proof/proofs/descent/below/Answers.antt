@@ -4,7 +4,7 @@ use Rattle.prolly_proof.specs.Descents.{chunks_of_trees}
 use Rattle.prolly_proof.specs.Walks.{OnlyRead}
 use Rattle.prolly_proof.proofs.GoingDown.{among_others, has_tree, leads_here, parts_here}
 use Rattle.prolly_proof.proofs.Walking.{stays, tree_from}
-use Rattle.prolly_proof.proofs.by_root.below.Goals as goal
+use Rattle.prolly_proof.proofs.descent.below.Goals as goal
 
 pub returns-in_err-frame-clause-goes : goal.returns-in_err-frame-clause-goes
 returns-in_err-frame-clause-goes g c content ts before left holds all are stands =
@@ -24,8 +24,8 @@ returns-in_err-frame-clause-goes g c content ts before left holds all are stands
     c.loop-child.walk among child others c.in-Some.ensures) among.stands in
     search rules
 
-pub returns-then-not-is_lt-clause-goes : goal.returns-then-not-is_lt-clause-goes
-returns-then-not-is_lt-clause-goes g c content ts before left holds all are stands =
+pub returns-in_default-behind-clause-goes : goal.returns-in_default-behind-clause-goes
+returns-in_default-behind-clause-goes g c content ts before left holds all are stands =
     let size = length (g.D.Device.seen c.args.device.now).bytes in
     let among = c.loop-child.invariant.among content ts before left holds all are stands in
     let others = c.next.new.self in
@@ -41,7 +41,11 @@ returns-then-not-is_lt-clause-goes g c content ts before left holds all are stan
     (chunks_of_trees content c.args.level tree.after ++ left)
     (parts_here content c.args.level ts size before left are c.loop-child.children
     c.loop-child.walk among child others c.in-Some.ensures) among.stands)
-    (record { reference = c.in-Some.child.reference; above = Some (c.args.level + 1) }) refl refl
+    (record {
+      reference = c.in-Some.child.reference;
+      above = Some (c.args.level + 1);
+      sought = c.loop-child.sought;
+    }) refl refl
 
 pub loop-child-preserved : goal.loop-child-preserved
 loop-child-preserved g c = record {

@@ -5,11 +5,11 @@ use Rattle.prolly_proof.specs.Descents.{StandsAtTree}
 use Rattle.prolly_proof.specs.Walks.{HoldsFile, StaysSame}
 use Rattle.prolly_tree.specs.File.{root_reference}
 use Rattle.prolly_proof.proofs.Descending.{Descended, bytes_in, room_below}
-use Rattle.prolly_proof.proofs.by_root.get_by_root.Given as goal
+use Rattle.prolly_proof.proofs.descent.go_down.Given as goal
 
-abbrev pub invariant-loop-way : goal.invariant-loop-way
-invariant-loop-way g l = record {
-  way : Descended l.version l.root.0 l.key (bytes_in l.way.items) l.due;
+abbrev pub invariant-loop-above : goal.invariant-loop-above
+invariant-loop-above g l = record {
+  way : Descended l.version l.root.0 l.sought (bytes_in l.above.items) l.due;
   same : StaysSame (g.D.Device.seen l.fn.device) (g.D.Device.seen l.device);
   reads : (g.D.Device.seen l.device).failures ≡ (g.D.Device.seen l.fn.device).failures;
   lawful : (content : Content) → HoldsFile (g.D.Device.seen l.fn.device) content →
@@ -18,5 +18,5 @@ invariant-loop-way g l = record {
       StandsAtTree content (length (g.D.Device.seen l.fn.device).bytes) l.due l.place;
 }
 
-abbrev pub decreases-loop-way : goal.decreases-loop-way
-decreases-loop-way g l = room_below l.due.above
+abbrev pub decreases-loop-above : goal.decreases-loop-above
+decreases-loop-above g l = room_below l.due.above
