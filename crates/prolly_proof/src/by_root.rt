@@ -22,7 +22,7 @@ ghost use Rattle.prolly_entry.specs.declared.version.Version.TheVariants.{Two};
 ghost use Rattle.prolly_proof.specs.ByRoot.{AreFound, IsFound, IsFoundPair};
 ghost use Rattle.prolly_proof.specs.ByRoot.{TellPairs, TellsPair, TellsValue};
 ghost use Rattle.prolly_proof.specs.Descents.{MayFail};
-ghost use Rattle.prolly_proof.specs.Walks.{HoldsFile, TellsReads};
+ghost use Rattle.prolly_proof.specs.Walks.{HoldsFile, StaysSame, TellsReads};
 ghost use Rattle.prolly_proof.specs.declared.sought.Sought.TheVariants.{Place};
 ghost use Rattle.prolly_tree.specs.File.{root_reference};
 
@@ -76,6 +76,7 @@ pub fn get_by_root<D: Device>(
         version ≡ content.version → root.now.0 ≡ root_reference (sha512_cut content.bits)
         content.version content.pairs → IfErr result MayFail }
     ensures reads { TellsReads (D.seen device.old).failures (D.seen device.new).failures result }
+    ensures same { StaysSame (D.seen device.old) (D.seen device.new) }
 {
     let descent = go_down(alloc, device, version, root, Sought::Key(key))?;
     let value = value_at(alloc, version, &descent.last, key)?;
@@ -98,6 +99,7 @@ pub fn nth_by_root<D: Device>(
         content.version ≡ Two → root.now.0 ≡ root_reference (sha512_cut content.bits)
         content.version content.pairs → IfErr result MayFail }
     ensures reads { TellsReads (D.seen device.old).failures (D.seen device.new).failures result }
+    ensures same { StaysSame (D.seen device.old) (D.seen device.new) }
 {
     let descent = go_down(alloc, device, Version::Two, root, Sought::Place(n))?;
     let pair = pair_sought(alloc, &descent.last, descent.sought)?;
@@ -122,6 +124,7 @@ pub fn pairs_by_root<D: Device>(
         version ≡ content.version → root.now.0 ≡ root_reference (sha512_cut content.bits)
         content.version content.pairs → IfErr result MayFail }
     ensures reads { TellsReads (D.seen device.old).failures (D.seen device.new).failures result }
+    ensures same { StaysSame (D.seen device.old) (D.seen device.new) }
 {
     let descent = go_down(alloc, device, version, root, Sought::Key(from))?;
     let pairs = pairs_at(alloc, version, &descent.last, from)?;

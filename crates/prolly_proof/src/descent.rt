@@ -79,6 +79,7 @@ pub(crate) fn go_down<'a, D: Device>(
         version ≡ content.version → root.now.0 ≡ root_reference (sha512_cut content.bits)
         content.version content.pairs → IfErr result MayFail }
     ensures reads { TellsReads (D.seen device.old).failures (D.seen device.new).failures result }
+    ensures same { StaysSame (D.seen device.old) (D.seen device.new) }
 {
     // By this law a lawful file has the chunks that the root leads to.
     tops_are_read();
