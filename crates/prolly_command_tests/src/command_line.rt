@@ -99,11 +99,23 @@ fn commands_have_their_fields(rt: HostRuntime) -> Result<(), Fail> {
         ),
         (
             "scan a.prl 00 1000000",
-            "Scan { file: \"a.prl\", from: [0], limit: 1000000 }",
+            "Scan { file: \"a.prl\", from: [0], limit: 1000000, root: None, version: 1 }",
+        ),
+        (
+            "scan --format 2 --root 00000000000000000000000000000000 a.prl 00 1",
+            "Scan { file: \"a.prl\", from: [0], limit: 1, \
+             root: Some(Ref([0, 0, 0, 0, 0, 0, 0, 0, 0, 0, 0, 0, 0, 0, 0, 0, 0, 0, 0, 0])), \
+             version: 2 }",
         ),
         (
             "nth a.prl 4294967295",
-            "Nth { file: \"a.prl\", n: 4294967295 }",
+            "Nth { file: \"a.prl\", n: 4294967295, root: None, version: 1 }",
+        ),
+        (
+            "nth --root 00000000000000000000000000000000 --format 2 a.prl 0",
+            "Nth { file: \"a.prl\", n: 0, \
+             root: Some(Ref([0, 0, 0, 0, 0, 0, 0, 0, 0, 0, 0, 0, 0, 0, 0, 0, 0, 0, 0, 0])), \
+             version: 2 }",
         ),
         (
             "dump a.prl",
@@ -227,6 +239,12 @@ fn keys_are_hexadecimal_of_1024_bytes_at_most(rt: HostRuntime) -> Result<(), Fai
             "get --root 00000000000000000000000000000000 a.prl 6",
             "bad key",
         ),
+        ("scan --root 0 a.prl 6 1", "bad root"),
+        (
+            "scan --root 00000000000000000000000000000000 a.prl 6 1",
+            "bad key",
+        ),
+        ("nth --root 0 a.prl 1", "bad root"),
         ("verify 0 6", "bad root"),
         ("verify w0000000000000000000000000000000 00", "bad root"),
         ("verify 00000000000000000000000000000000 6", "bad key"),

@@ -132,8 +132,9 @@ limits_kept given (Ok command) fields = go command fields
         (h.1.2, h.2.1, h.2.2, h.3.1, h.3.2, h.4.1, h.4.2, h.5.1, h.5.2, h.6.1, h.6.2)
     go (Check file) h = tt
     go (Get file key root version) h = (h.2.2.1, lawful_trust given.1 root version h.3)
-    go (Scan file from limit) h = (h.2.2.1, h.3.2)
-    go (Nth file n) h = h.2.2
+    go (Scan file from limit root version) h =
+        (h.2.2.1, h.3.2, lawful_trust given.1 root version h.4)
+    go (Nth file n root version) h = (h.2.2, lawful_trust given.1 root version h.3)
     go (Dump file out text mode) h = tt
     go (Diff old new out stat mode) h = tt
     go (Prove file key out mode) h = h.2.2.1

@@ -209,9 +209,19 @@ scan_found = refl
 
 scan_sound : IsSoundShape scan_shape
 unfolding clap_on_literals scan_shape
-scan_sound = ((refl, refl), ((refl, refl), ((refl, refl), ((refl, refl), tt))))
+scan_sound = (
+  (refl, refl),
+  (
+    (refl, refl),
+    (
+      (refl, refl),
+      ((refl, refl), ((refl, refl), ((refl, refl), tt))),
+    ),
+  ),
+)
 
 pub record TakesScan (rows : List Row) : Type 0 where
+  pub format : HasNumber (codes "format") 1 2 rows
   pub file : HasWord (codes "file") rows
   pub key : HasWord (codes "key") rows
   pub limit : HasNumber (codes "limit") 0 1000000 rows
@@ -221,6 +231,7 @@ unfolding clap_on_literals scan_shape
 takes_scan rows accepted =
     let level = level_at (codes "scan") scan_shape rows scan_found accepted in
     record {
+      format = number_at scan_shape rows (codes "format") 1 2 scan_sound level refl refl;
       file = word_at scan_shape rows (codes "file") scan_sound level refl refl;
       key = word_at scan_shape rows (codes "key") scan_sound level refl refl;
       limit = number_at scan_shape rows (codes "limit") 0 1000000 scan_sound level refl refl;
@@ -237,9 +248,10 @@ nth_found = refl
 
 nth_sound : IsSoundShape nth_shape
 unfolding clap_on_literals nth_shape
-nth_sound = ((refl, refl), ((refl, refl), ((refl, refl), tt)))
+nth_sound = ((refl, refl), ((refl, refl), ((refl, refl), ((refl, refl), ((refl, refl), tt)))))
 
 pub record TakesNth (rows : List Row) : Type 0 where
+  pub format : HasNumber (codes "format") 1 2 rows
   pub file : HasWord (codes "file") rows
   pub n : HasNumber (codes "n") 0 4294967295 rows
 
@@ -248,6 +260,7 @@ unfolding clap_on_literals nth_shape
 takes_nth rows accepted =
     let level = level_at (codes "nth") nth_shape rows nth_found accepted in
     record {
+      format = number_at nth_shape rows (codes "format") 1 2 nth_sound level refl refl;
       file = word_at nth_shape rows (codes "file") nth_sound level refl refl;
       n = number_at nth_shape rows (codes "n") 0 4294967295 nth_sound level refl refl;
     }

@@ -1,10 +1,13 @@
 -- What stands in the rows of a subcommand whose words clap takes, and what is made of them.
-use Rattle.std.specs.Prelude.{◌≡◌, ◌≤◌, ⊤, ℕ, pos, Result, MatchResult, Some, List, []}
+use Rattle.std.specs.Prelude.{◌≡◌, ◌≤◌, ⊤, ℕ, pos, Result, MatchResult, Option, Some, List}
+use Rattle.std.specs.Prelude.{[]}
 use Rattle.clap.specs.Values.{IsSignedIn}
 use Rattle.clap.specs.Words.{Row, Text, first_of, found_of, one_of, rows_of, without_minus}
 use Rattle.clap.specs.declared.parser.matches.ArgMatches.{ArgMatches}
 use Rattle.prolly_line.specs.Line.{line_faults, line_given}
-use Rattle.prolly_line.specs.Given.{GivesBadKey, GivesNumber, HasBadKey, HasBadRoot, HasFields}
+use Rattle.prolly_entry.specs.declared.reference.Ref.{Ref}
+use Rattle.prolly_line.specs.Given.{GivesBadKey, GivesBadRoot, GivesNumber, HasBadKey, HasBadRoot}
+use Rattle.prolly_line.specs.Given.{HasFields, MayGiveRoot}
 use Rattle.prolly_line.specs.declared.command.Command.{Command}
 use Rattle.prolly_line.specs.declared.command.ParseFault.{ParseFault}
 use Rattle.prolly_line.specs.declared.command.ParseFault.TheVariants.{Memory, BadRoot, BadKey}
@@ -49,3 +52,11 @@ abbrev pub IsRefusedKey : List Row → ParseFault → Type 0
 IsRefusedKey rows Memory = ⊤
 IsRefusedKey rows BadKey = GivesBadKey rows
 IsRefusedKey rows _ = ⊥
+
+-- what a look-up trusts, or the word for its key, is refused in this way: the key only where the
+-- root is good
+abbrev pub IsRefusedLookUp : List Row → ParseFault → Type 0
+IsRefusedLookUp rows Memory = ⊤
+IsRefusedLookUp rows BadRoot = GivesBadRoot rows
+IsRefusedLookUp rows BadKey = ((root : Option Ref) × MayGiveRoot rows root) × GivesBadKey rows
+IsRefusedLookUp rows _ = ⊥

@@ -126,15 +126,17 @@ HasFields (Get file key root version) given =
     × GivesWord given.1 (codes "file") (string_bytes file)
     × GivesKey given.1 key.items
     × GivesTrust given.1 root version
-HasFields (Scan file from limit) given =
+HasFields (Scan file from limit root version) given =
     (given.0 ≡ codes "scan")
     × GivesWord given.1 (codes "file") (string_bytes file)
     × GivesKey given.1 from.items
     × GivesNumber given.1 (codes "limit") 0 1000000 limit
-HasFields (Nth file n) given =
+    × GivesTrust given.1 root version
+HasFields (Nth file n root version) given =
     (given.0 ≡ codes "nth")
     × GivesWord given.1 (codes "file") (string_bytes file)
     × GivesNumber given.1 (codes "n") 0 4294967295 n
+    × GivesTrust given.1 root version
 HasFields (Dump file out text mode) given =
     (given.0 ≡ codes "dump")
     × GivesWord given.1 (codes "file") (string_bytes file)
@@ -187,8 +189,9 @@ IsWithinLimits (Build bits stages capacity max_records batch version out files m
 IsWithinLimits (Check file) = ⊤
 IsWithinLimits (Get file key root version) =
     (length key.items ≤ 1024) × IsLawfulTrust root version
-IsWithinLimits (Scan file from limit) = (length from.items ≤ 1024) × (limit ≤ 1000000)
-IsWithinLimits (Nth file n) = n ≤ 4294967295
+IsWithinLimits (Scan file from limit root version) =
+    (length from.items ≤ 1024) × (limit ≤ 1000000) × IsLawfulTrust root version
+IsWithinLimits (Nth file n root version) = (n ≤ 4294967295) × IsLawfulTrust root version
 IsWithinLimits (Dump file out text mode) = ⊤
 IsWithinLimits (Diff old new out stat mode) = ⊤
 IsWithinLimits (Prove file key out mode) = length key.items ≤ 1024
@@ -197,9 +200,13 @@ IsWithinLimits (Verify root key version proof) =
 
 -- ---- refusals
 
+-- the subcommand looks up in a file, and may be given a root
+abbrev pub MayTakeRoot : Text → Type 0
+MayTakeRoot name = (name ≡ codes "get") ⊎ (name ≡ codes "scan") ⊎ (name ≡ codes "nth")
+
 -- the subcommand takes a root, or may be given one
 abbrev pub TakesRoot : Text → Type 0
-TakesRoot name = (name ≡ codes "get") ⊎ (name ≡ codes "verify")
+TakesRoot name = MayTakeRoot name ⊎ (name ≡ codes "verify")
 
 -- the subcommand takes a root, and its word for the root is the text of no reference
 abbrev pub HasBadRoot : Text × List Row → Type 0
@@ -208,8 +215,9 @@ HasBadRoot given = TakesRoot given.0 × GivesBadRoot given.1
 -- the subcommand takes a key, and a root before it only if its word is the text of a reference
 abbrev pub ReadsKey : Text × List Row → Type 0
 ReadsKey given =
-    (given.0 ≡ codes "scan") ⊎ (given.0 ≡ codes "prove")
-    ⊎ ((given.0 ≡ codes "get") × ((root : Option Ref) × MayGiveRoot given.1 root))
+    (given.0 ≡ codes "prove")
+    ⊎ (((given.0 ≡ codes "get") ⊎ (given.0 ≡ codes "scan"))
+    × ((root : Option Ref) × MayGiveRoot given.1 root))
     ⊎ ((given.0 ≡ codes "verify") × ((root : List ℕ) × GivesRoot given.1 root))
 
 -- the subcommand takes a key, its word for the key is no text of one, and no word before is bad

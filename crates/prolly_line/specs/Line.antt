@@ -146,13 +146,14 @@ check_line = with_rule (new_app (codes "check")) file_word
 abbrev pub get_line : App
 get_line = with_rule (with_rule (with_trust (new_app (codes "get"))) file_word) key_word
 
--- `scan FILE HEXKEY LIMIT`
+-- `scan [--root ROOT] [--format V] FILE HEXKEY LIMIT`
 abbrev pub scan_line : App
-scan_line = with_rule (with_rule (with_rule (new_app (codes "scan")) file_word) key_word) limit_word
+scan_line = with_rule (with_rule (with_rule (with_trust (new_app (codes "scan"))) file_word)
+    key_word) limit_word
 
--- `nth FILE N`
+-- `nth [--root ROOT] [--format V] FILE N`
 abbrev pub nth_line : App
-nth_line = with_rule (with_rule (new_app (codes "nth")) file_word) n_word
+nth_line = with_rule (with_rule (with_trust (new_app (codes "nth"))) file_word) n_word
 
 -- `dump [--text] [--atomic] [--sync] FILE [OUT]`
 abbrev pub dump_line : App

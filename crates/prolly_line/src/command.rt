@@ -61,16 +61,22 @@ pub enum Command {
         root: Option<Ref>,
         version: u8,
     },
-    /// Print pairs in the order of keys, from a key on.
+    /// Print pairs in the order of keys, from a key on. The root and the version say the same as
+    /// for `Get`.
     Scan {
         file: String,
         from: Vec<u8>,
         limit: u32,
+        root: Option<Ref>,
+        version: u8,
     },
-    /// Print the pair of a number, counted from 0 in the order of keys.
+    /// Print the pair of a number, counted from 0 in the order of keys. The root and the version
+    /// say the same as for `Get`.
     Nth {
         file: String,
         n: u64,
+        root: Option<Ref>,
+        version: u8,
     },
     /// Write the pairs of a file, in lines where `text` is set, and else as a record file: to
     /// standard output where there is no output, and then the mode says nothing.

@@ -1,13 +1,16 @@
 //! The fields of a command, from what clap found for its subcommand. Each function requires that
 //! clap has accepted the words, and so takes what has to be there without a test.
-ghost use Rattle.std.specs.Prelude.{codes};
-ghost use Rattle.prolly_line.specs.Accepted.{Answers, IsAccepted, rows_in};
+ghost use Rattle.std.specs.Prelude.{codes, IfErr, IfOk};
+ghost use Rattle.prolly_line.specs.Accepted.{Answers, HasNumber, HasWord, IsAccepted};
+ghost use Rattle.prolly_line.specs.Accepted.{IsRefusedLookUp, rows_in};
+ghost use Rattle.prolly_line.specs.Given.{GivesKey, GivesTrust};
 
 use crate::command::{Command, ParseFault};
 use crate::values::{
     byte_of, flag_of, key_of, mode_of, number_of, option_of, root_of, text_of, texts_of, trust_of,
 };
 use clap::ArgMatches;
+use prolly_entry::Ref;
 use std::alloc::Global;
 
 /// `pack [--atomic] [--sync] OUT`
@@ -74,13 +77,28 @@ pub(crate) fn check(alloc: Global, given: &ArgMatches<'_>) -> Result<Command, Pa
     Ok(Command::Check { file })
 }
 
+// What a look-up of a key trusts, and the key. A bad root is told before a bad key.
+fn trusted_key(
+    alloc: Global,
+    given: &ArgMatches<'_>,
+) -> Result<(Option<Ref>, u8, Vec<u8>), ParseFault>
+    requires format { HasNumber (codes "format") 1 2 (rows_in given.now) }
+    requires key { HasWord (codes "key") (rows_in given.now) }
+    ensures trust { IfOk result (λ found. GivesTrust (rows_in given.now) found.0 found.1) }
+    ensures key { IfOk result (λ found. GivesKey (rows_in given.now) found.2.items) }
+    ensures refused { IfErr result (IsRefusedLookUp (rows_in given.now)) }
+{
+    let trust = trust_of(given)?;
+    let key = key_of(alloc, given)?;
+    Ok((trust.0, trust.1, key))
+}
+
 /// `get [--root ROOT] [--format V] FILE HEXKEY`
 pub(crate) fn get(alloc: Global, given: &ArgMatches<'_>) -> Result<Command, ParseFault>
     requires { IsAccepted (codes "get", rows_in given.now) }
     ensures { Answers (codes "get", rows_in given.now) result }
 {
-    let (root, version) = trust_of(given)?;
-    let key = key_of(alloc, given)?;
+    let (root, version, key) = trusted_key(alloc, given)?;
     let file = text_of(alloc, given, "file")?;
     Ok(Command::Get {
         file,
@@ -90,25 +108,37 @@ pub(crate) fn get(alloc: Global, given: &ArgMatches<'_>) -> Result<Command, Pars
     })
 }
 
-/// `scan FILE HEXKEY LIMIT`
+/// `scan [--root ROOT] [--format V] FILE HEXKEY LIMIT`
 pub(crate) fn scan(alloc: Global, given: &ArgMatches<'_>) -> Result<Command, ParseFault>
     requires { IsAccepted (codes "scan", rows_in given.now) }
     ensures { Answers (codes "scan", rows_in given.now) result }
 {
-    let from = key_of(alloc, given)?;
+    let (root, version, from) = trusted_key(alloc, given)?;
     let limit = number_of(given, "limit");
     let file = text_of(alloc, given, "file")?;
-    Ok(Command::Scan { file, from, limit })
+    Ok(Command::Scan {
+        file,
+        from,
+        limit,
+        root,
+        version,
+    })
 }
 
-/// `nth FILE N`
+/// `nth [--root ROOT] [--format V] FILE N`
 pub(crate) fn nth(alloc: Global, given: &ArgMatches<'_>) -> Result<Command, ParseFault>
     requires { IsAccepted (codes "nth", rows_in given.now) }
     ensures { Answers (codes "nth", rows_in given.now) result }
 {
+    let (root, version) = trust_of(given)?;
     let n = u64::from(number_of(given, "n"));
     let file = text_of(alloc, given, "file")?;
-    Ok(Command::Nth { file, n })
+    Ok(Command::Nth {
+        file,
+        n,
+        root,
+        version,
+    })
 }
 
 /// `dump [--text] [--atomic] [--sync] FILE [OUT]`

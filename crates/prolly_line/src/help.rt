@@ -141,7 +141,14 @@ pub(crate) const SCAN: Help<'static> = Help {
 first LIMIT pairs whose key is not less than HEXKEY. Keys are compared byte by
 byte, and a key comes before the longer ones that it begins.
 
-Each pair is a line, HEXKEY HEXVALUE.",
+Each pair is a line, HEXKEY HEXVALUE.
+
+Without --root the whole file is checked first, as by `check`: that takes time
+linear in it, no file over 1 GiB is read, and --format says nothing. With --root
+only what is needed is read: the lengths and levels of the frames, and for each
+leaf that has some of these pairs the chunks on the way to it, each compared
+with the reference above it, from ROOT down. So what is printed is right for
+ROOT, whatever else the file holds; at a chunk that does not fit it ends.",
     example: "Example: the first ten pairs from the key 61 on
   prolly scan ab.prl 61 10",
 };
@@ -152,7 +159,14 @@ pub(crate) const NTH: Help<'static> = Help {
 is at place 0. The file has to be of --format 2, whose nodes count their pairs.
 
 The pair is a line, HEXKEY HEXVALUE. Where there is none, nothing is printed and
-the exit status is 1.",
+the exit status is 1.
+
+Without --root the whole file is checked first, as by `check`: that takes time
+linear in it, no file over 1 GiB is read, and --format says nothing. With --root
+--format 2 has to be given, and only what is needed is read: the lengths and
+levels of the frames, and one chunk a level, each compared with the reference
+above it, from ROOT down. So what is printed is right for ROOT, whatever else
+the file holds; a chunk that does not fit is refused.",
     example: "Example: the first pair
   prolly nth ab.prl 0",
 };

@@ -122,20 +122,22 @@ pub(crate) fn get_line<'a>(alloc: Global) -> Result<Command<'a>, AllocError>
     with_argument(line, arguments::key_word(alloc))
 }
 
-/// `scan FILE HEXKEY LIMIT`
+/// `scan [--root ROOT] [--format V] FILE HEXKEY LIMIT`
 pub(crate) fn scan_line<'a>(alloc: Global) -> Result<Command<'a>, AllocError>
     ensures { IfOk result (HasLine scan_line) }
 {
-    let line = described(alloc, "scan", help::SCAN).arg(arguments::file_word(alloc));
+    let line = with_trust(alloc, Ok(described(alloc, "scan", help::SCAN)));
+    let line = with_argument(line, arguments::file_word(alloc));
     let line = with_argument(line, arguments::key_word(alloc));
     with_argument(line, arguments::limit_word(alloc))
 }
 
-/// `nth FILE N`
+/// `nth [--root ROOT] [--format V] FILE N`
 pub(crate) fn nth_line<'a>(alloc: Global) -> Result<Command<'a>, AllocError>
     ensures { IfOk result (HasLine nth_line) }
 {
-    let line = described(alloc, "nth", help::NTH).arg(arguments::file_word(alloc));
+    let line = with_trust(alloc, Ok(described(alloc, "nth", help::NTH)));
+    let line = with_argument(line, arguments::file_word(alloc));
     with_argument(line, arguments::n_word(alloc))
 }
 

@@ -5,6 +5,9 @@ use Rattle.prolly_line.specs.Given.{GivesNumber}
 use Rattle.prolly_line.specs.Accepted.{rows_in}
 use Rattle.prolly_line.proofs.fields.nth.Goals as goal
 
+pub trust_of-requires : goal.trust_of-requires
+trust_of-requires c = (takes_nth (rows_in c.args.given.now) c.requires).format
+
 pub number_of-requires : goal.number_of-requires
 number_of-requires c =
     HasNumber-wider (codes "n") (rows_in c.args.given.now) 0 4294967295 0 4294967295 (omega arith)
@@ -22,4 +25,5 @@ returns c =
       subst (GivesNumber (rows_in c.args.given.now) (codes "n") 0
           4294967295) (sym c.from-n.ensures) (c.number_of.ensures 0 4294967295 (omega arith)
           takes.n),
+      c.in_ok-root.ensures.trust,
     )

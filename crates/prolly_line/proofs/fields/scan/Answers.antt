@@ -4,8 +4,10 @@ use Rattle.prolly_line.proofs.ValueLemmas.{HasNumber-wider}
 use Rattle.prolly_line.specs.Accepted.{rows_in}
 use Rattle.prolly_line.proofs.fields.scan.Goals as goal
 
-pub key_of-requires : goal.key_of-requires
-key_of-requires c = (takes_scan (rows_in c.args.given.now) c.requires).key
+pub trusted_key-requires : goal.trusted_key-requires
+trusted_key-requires c =
+    let takes = takes_scan (rows_in c.args.given.now) c.requires in
+    record { format = takes.format; key = takes.key }
 
 pub number_of-limit-requires : goal.number_of-limit-requires
 number_of-limit-requires c =
@@ -21,6 +23,7 @@ returns c =
     let takes = takes_scan (rows_in c.args.given.now) c.requires in (
       refl,
       c.in_ok-file.ensures,
-      c.in_ok-from.ensures.key,
+      c.in_ok-root.ensures.key,
       c.number_of-limit.ensures 0 1000000 (omega arith) takes.limit,
+      c.in_ok-root.ensures.trust,
     )

@@ -1,12 +1,9 @@
 -- One argument more at each step.
-use Rattle.std.proofs.lemmas.Result.{IfOk-weaker}
-use Rattle.prolly_line.proofs.LineSteps.{added}
 use Rattle.prolly_line.proofs.subcommands.scan_line.Goals as goal
 
 pub returns : goal.returns
 returns c =
-    let with_file = IfOk-weaker c.arg-line.result _ _
-    (λ x adds. added c.described.result x c.file_word.result _ _ c.described.ensures
-    c.file_word.ensures adds) c.arg-line.ensures in
-    let with_key = c.with_argument-line.ensures _ _ with_file c.key_word.ensures in
+    let with_trust = c.with_trust-line.ensures _ c.described.ensures in
+    let with_file = c.with_argument-line.ensures _ _ with_trust c.file_word.ensures in
+    let with_key = c.with_argument-line-2.ensures _ _ with_file c.key_word.ensures in
     c.with_argument.ensures _ _ with_key c.limit_word.ensures
