@@ -115,9 +115,10 @@ files_words = words_rule (codes "files")
 
 -- ---- subcommands
 
--- `[--root ROOT] [--format V]`, the options of a look-up that trusts a root and not its file
-abbrev pub with_trust : App → App
-with_trust line = with_rule (with_rule line root_option) format_option
+-- `NAME [--root ROOT] [--format V] FILE`, a look-up in a file, or by a root that it trusts
+abbrev pub look_up_line : Text → App
+look_up_line name = with_rule (with_rule (with_rule (new_app name) root_option) format_option)
+    file_word
 
 -- `pack [--atomic] [--sync] OUT`
 abbrev pub pack_line : App
@@ -144,16 +145,15 @@ check_line = with_rule (new_app (codes "check")) file_word
 
 -- `get [--root ROOT] [--format V] FILE HEXKEY`
 abbrev pub get_line : App
-get_line = with_rule (with_rule (with_trust (new_app (codes "get"))) file_word) key_word
+get_line = with_rule (look_up_line (codes "get")) key_word
 
 -- `scan [--root ROOT] [--format V] FILE HEXKEY LIMIT`
 abbrev pub scan_line : App
-scan_line = with_rule (with_rule (with_rule (with_trust (new_app (codes "scan"))) file_word)
-    key_word) limit_word
+scan_line = with_rule (with_rule (look_up_line (codes "scan")) key_word) limit_word
 
 -- `nth [--root ROOT] [--format V] FILE N`
 abbrev pub nth_line : App
-nth_line = with_rule (with_rule (with_trust (new_app (codes "nth"))) file_word) n_word
+nth_line = with_rule (look_up_line (codes "nth")) n_word
 
 -- `dump [--text] [--atomic] [--sync] FILE [OUT]`
 abbrev pub dump_line : App

@@ -4,10 +4,11 @@ ghost use Rattle.clap.specs.Words.{App, with_rule};
 ghost use Rattle.prolly_line.specs.Line.{atomic_flag, sync_flag};
 ghost use Rattle.prolly_line.specs.Line.{build_line, check_line, diff_line, dump_line, get_line};
 ghost use Rattle.prolly_line.specs.Line.{nth_line, pack_line, prove_line, scan_line, scratch_line};
-ghost use Rattle.prolly_line.specs.Line.{verify_line, with_trust};
+ghost use Rattle.prolly_line.specs.Line.{look_up_line, verify_line};
 ghost use Rattle.prolly_line.specs.Local.{HasLine};
 
 use crate::assembly::{described, with_argument};
+use crate::help::Help;
 use crate::{arguments, help};
 use clap::Command;
 use std::alloc::{AllocError, Global};
@@ -27,19 +28,17 @@ fn with_mode<'a>(
     with_argument(line, arguments::sync_flag(alloc))
 }
 
-// Adds the options of a look-up that trusts a root and not its file.
-fn with_trust<'a>(
-    alloc: Global,
-    line: Result<Command<'a>, AllocError>,
-) -> Result<Command<'a>, AllocError>
-    ensures { (app : App) → IfOk line.entry (HasLine app)
-        → IfOk result (HasLine (with_trust app)) }
+// `NAME [--root ROOT] [--format V] FILE`, a look-up in a file, or by a root that it trusts.
+fn look_up_line<'a>(alloc: Global, name: &'a str, help: Help<'a>) -> Result<Command<'a>, AllocError>
+    ensures { IfOk result (HasLine (look_up_line name.now)) }
 {
     let format = arguments::format_option(
         alloc,
         "The version of the tree's chunks (1 or 2); without --root, the file tells it",
     );
-    with_argument(with_argument(line, arguments::root_option(alloc)), format)
+    let line = described(alloc, name, help).arg(arguments::root_option(alloc));
+    let line = with_argument(line, format);
+    with_argument(line, arguments::file_word(alloc))
 }
 
 /// `pack [--atomic] [--sync] OUT`
@@ -117,8 +116,7 @@ pub(crate) fn diff_line<'a>(alloc: Global) -> Result<Command<'a>, AllocError>
 pub(crate) fn get_line<'a>(alloc: Global) -> Result<Command<'a>, AllocError>
     ensures { IfOk result (HasLine get_line) }
 {
-    let line = with_trust(alloc, Ok(described(alloc, "get", help::GET)));
-    let line = with_argument(line, arguments::file_word(alloc));
+    let line = look_up_line(alloc, "get", help::GET);
     with_argument(line, arguments::key_word(alloc))
 }
 
@@ -126,8 +124,7 @@ pub(crate) fn get_line<'a>(alloc: Global) -> Result<Command<'a>, AllocError>
 pub(crate) fn scan_line<'a>(alloc: Global) -> Result<Command<'a>, AllocError>
     ensures { IfOk result (HasLine scan_line) }
 {
-    let line = with_trust(alloc, Ok(described(alloc, "scan", help::SCAN)));
-    let line = with_argument(line, arguments::file_word(alloc));
+    let line = look_up_line(alloc, "scan", help::SCAN);
     let line = with_argument(line, arguments::key_word(alloc));
     with_argument(line, arguments::limit_word(alloc))
 }
@@ -136,8 +133,7 @@ pub(crate) fn scan_line<'a>(alloc: Global) -> Result<Command<'a>, AllocError>
 pub(crate) fn nth_line<'a>(alloc: Global) -> Result<Command<'a>, AllocError>
     ensures { IfOk result (HasLine nth_line) }
 {
-    let line = with_trust(alloc, Ok(described(alloc, "nth", help::NTH)));
-    let line = with_argument(line, arguments::file_word(alloc));
+    let line = look_up_line(alloc, "nth", help::NTH);
     with_argument(line, arguments::n_word(alloc))
 }
 

@@ -1,5 +1,8 @@
 -- Going down from the root in a file on a device.
 use Rattle.std.specs.Prelude.{◌≡◌, ℕ, suc, ◌⊎◌, List, ◌∷◌, ◌++◌, length, map, Some, Result, Ok, Err}
+use Rattle.std.specs.Prelude.{IfErr}
+use Rattle.prolly_entry.specs.Cut.{sha512_cut}
+use Rattle.prolly_tree.specs.File.{root_reference}
 use Rattle.std.specs.List.{flat_map}
 use Rattle.prolly_check.specs.Checked.{chunks_of}
 use Rattle.prolly_check.specs.Content.{Content}
@@ -47,6 +50,15 @@ IsOnward version sought chunk onward =
 -- There is no fault but want of memory, or that a read failed.
 abbrev pub MayFail : RootFault → Type 0
 MayFail fault = (fault ≡ Memory) ⊎ (fault ≡ Read)
+
+-- Where an honest device has the file of a map, of this version and with this root, there is no
+-- other fault.
+abbrev pub AnswersLawful : {T : Type 0} → DeviceView → Version → List ℕ → Result T RootFault →
+    Type 0
+AnswersLawful device version root result = (content : Content) → HoldsFile device content →
+    version ≡ content.version →
+    root ≡ root_reference (sha512_cut content.bits) content.version content.pairs →
+    IfErr result MayFail
 
 -- The place is that of the top of this tree of the file, and where the frames of the tree begin.
 pub record IsPlaceOf (content : Content) (level : ℕ) (t : Tree level) (size : ℕ) (place : Place)

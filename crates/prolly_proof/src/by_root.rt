@@ -21,7 +21,7 @@ ghost use Rattle.prolly_entry.specs.Cut.{sha512_cut};
 ghost use Rattle.prolly_entry.specs.declared.version.Version.TheVariants.{Two};
 ghost use Rattle.prolly_proof.specs.ByRoot.{AreFound, IsFound, IsFoundPair};
 ghost use Rattle.prolly_proof.specs.ByRoot.{TellPairs, TellsPair, TellsValue};
-ghost use Rattle.prolly_proof.specs.Descents.{MayFail};
+ghost use Rattle.prolly_proof.specs.Descents.{AnswersLawful};
 ghost use Rattle.prolly_proof.specs.Walks.{HoldsFile, StaysSame, TellsReads};
 ghost use Rattle.prolly_proof.specs.declared.sought.Sought.TheVariants.{Place};
 ghost use Rattle.prolly_tree.specs.File.{root_reference};
@@ -72,9 +72,7 @@ pub fn get_by_root<D: Device>(
     ensures found { IfOk result (IsFound version root.now.0 key.now) }
 
     // A lawful file with this root is never refused.
-    ensures lawful { (content : Content) → HoldsFile (D.seen device.old) content →
-        version ≡ content.version → root.now.0 ≡ root_reference (sha512_cut content.bits)
-        content.version content.pairs → IfErr result MayFail }
+    ensures lawful { AnswersLawful (D.seen device.old) version root.now.0 result }
     ensures reads { TellsReads (D.seen device.old).failures (D.seen device.new).failures result }
     ensures same { StaysSame (D.seen device.old) (D.seen device.new) }
 {
@@ -95,9 +93,7 @@ pub fn nth_by_root<D: Device>(
     ensures found { IfOk result (IsFoundPair root.now.0 n) }
 
     // A lawful file with this root is never refused.
-    ensures lawful { (content : Content) → HoldsFile (D.seen device.old) content →
-        content.version ≡ Two → root.now.0 ≡ root_reference (sha512_cut content.bits)
-        content.version content.pairs → IfErr result MayFail }
+    ensures lawful { AnswersLawful (D.seen device.old) Two root.now.0 result }
     ensures reads { TellsReads (D.seen device.old).failures (D.seen device.new).failures result }
     ensures same { StaysSame (D.seen device.old) (D.seen device.new) }
 {
@@ -120,9 +116,7 @@ pub fn pairs_by_root<D: Device>(
     ensures found { IfOk result (AreFound version root.now.0 from.now) }
 
     // A lawful file with this root is never refused.
-    ensures lawful { (content : Content) → HoldsFile (D.seen device.old) content →
-        version ≡ content.version → root.now.0 ≡ root_reference (sha512_cut content.bits)
-        content.version content.pairs → IfErr result MayFail }
+    ensures lawful { AnswersLawful (D.seen device.old) version root.now.0 result }
     ensures reads { TellsReads (D.seen device.old).failures (D.seen device.new).failures result }
     ensures same { StaysSame (D.seen device.old) (D.seen device.new) }
 {

@@ -7,8 +7,8 @@ ghost use Rattle.prolly_check.specs.Kinds.{kind_of};
 ghost use Rattle.prolly_check.specs.Way.{IsNamed};
 ghost use Rattle.prolly_check.specs.declared.entries.Entries.TheVariants.{Node};
 ghost use Rattle.prolly_entry.specs.Cut.{sha512_cut};
-ghost use Rattle.prolly_proof.specs.Descents.{GoesAmong, IsDescent, IsOnward, LooksOn, MayFail};
-ghost use Rattle.prolly_proof.specs.Descents.{StandsAtTree, StepsDown};
+ghost use Rattle.prolly_proof.specs.Descents.{AnswersLawful, GoesAmong, IsDescent, IsOnward};
+ghost use Rattle.prolly_proof.specs.Descents.{LooksOn, MayFail, StandsAtTree, StepsDown};
 ghost use Rattle.prolly_proof.specs.Faults.{FallsTo};
 ghost use Rattle.prolly_proof.specs.Walks.{HoldsFile, IsFrameOf, StaysSame, TellsReads};
 ghost use Rattle.prolly_tree.specs.File.{root_reference};
@@ -75,9 +75,7 @@ pub(crate) fn go_down<'a, D: Device>(
     sought: Sought<'a>,
 ) -> Result<Descent<'a>, RootFault>
     ensures found { IfOk result (IsDescent version root.now.0 sought.entry) }
-    ensures lawful { (content : Content) → HoldsFile (D.seen device.old) content →
-        version ≡ content.version → root.now.0 ≡ root_reference (sha512_cut content.bits)
-        content.version content.pairs → IfErr result MayFail }
+    ensures lawful { AnswersLawful (D.seen device.old) version root.now.0 result }
     ensures reads { TellsReads (D.seen device.old).failures (D.seen device.new).failures result }
     ensures same { StaysSame (D.seen device.old) (D.seen device.new) }
 {

@@ -1,0 +1,12 @@
+-- One argument more at each step.
+use Rattle.std.proofs.lemmas.Result.{IfOk-weaker}
+use Rattle.prolly_line.proofs.LineSteps.{added}
+use Rattle.prolly_line.proofs.subcommands.look_up_line.Goals as goal
+
+pub returns : goal.returns
+returns c =
+    let with_root = IfOk-weaker c.arg-line.result _ _
+    (λ x adds. added c.described.result x c.root_option.result _ _ c.described.ensures
+    c.root_option.ensures adds) c.arg-line.ensures in
+    let with_format = c.with_argument-line.ensures _ _ with_root c.format_option-format.ensures in
+    c.with_argument.ensures _ _ with_format c.file_word.ensures
