@@ -11,20 +11,17 @@
 //! the root, and once more for each level, there only among the frames below one chunk; and one
 //! chunk a level. Takes memory for these chunks.
 ghost use Rattle.std.specs.Prelude.{◌≡◌, ◌≤◌, ℕ, [], ◌∷◌, ◌++◌, length, option_map};
-ghost use Rattle.std.specs.Prelude.{IfOk, IfErr, IfSome};
+ghost use Rattle.std.specs.Prelude.{IfOk, IfSome};
 ghost use Rattle.std.specs.Option.{option_copied};
-ghost use Rattle.prolly_check.specs.Content.{Content};
 ghost use Rattle.prolly_check.specs.Counted.{pair_of};
 ghost use Rattle.prolly_check.specs.Kinds.{kind_of};
 ghost use Rattle.prolly_check.specs.Whole.{IsWhole};
-ghost use Rattle.prolly_entry.specs.Cut.{sha512_cut};
 ghost use Rattle.prolly_entry.specs.declared.version.Version.TheVariants.{Two};
 ghost use Rattle.prolly_proof.specs.ByRoot.{AreFound, IsFound, IsFoundPair};
 ghost use Rattle.prolly_proof.specs.ByRoot.{TellPairs, TellsPair, TellsValue};
 ghost use Rattle.prolly_proof.specs.Descents.{AnswersLawful};
-ghost use Rattle.prolly_proof.specs.Walks.{HoldsFile, StaysSame, TellsReads};
+ghost use Rattle.prolly_proof.specs.Walks.{StaysSame, TellsReads};
 ghost use Rattle.prolly_proof.specs.declared.sought.Sought.TheVariants.{Place};
-ghost use Rattle.prolly_tree.specs.File.{root_reference};
 
 use crate::descent::{go_down, keep};
 use crate::root_fault::RootFault;

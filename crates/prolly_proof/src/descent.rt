@@ -1,17 +1,15 @@
 //! Going down by the root, in a file of which no more is read than that wants.
-ghost use Rattle.std.specs.Prelude.{◌≡◌, ◌+◌, ◌<◌, ℕ, List, [], ◌∷◌, ◌++◌, length, map};
+ghost use Rattle.std.specs.Prelude.{◌≡◌, ◌+◌, ◌<◌, ℕ, List, [], ◌∷◌, ◌++◌, length};
 ghost use Rattle.std.specs.Prelude.{IfOk, IfErr, IsOk, OnOk};
 ghost use Rattle.prolly_check.specs.Checked.{chunks_of};
 ghost use Rattle.prolly_check.specs.Content.{Content};
 ghost use Rattle.prolly_check.specs.Kinds.{kind_of};
 ghost use Rattle.prolly_check.specs.Way.{IsNamed};
 ghost use Rattle.prolly_check.specs.declared.entries.Entries.TheVariants.{Node};
-ghost use Rattle.prolly_entry.specs.Cut.{sha512_cut};
 ghost use Rattle.prolly_proof.specs.Descents.{AnswersLawful, GoesAmong, IsDescent, IsOnward};
 ghost use Rattle.prolly_proof.specs.Descents.{LooksOn, MayFail, StandsAtTree, StepsDown};
 ghost use Rattle.prolly_proof.specs.Faults.{FallsTo};
 ghost use Rattle.prolly_proof.specs.Walks.{HoldsFile, IsFrameOf, StaysSame, TellsReads};
-ghost use Rattle.prolly_tree.specs.File.{root_reference};
 ghost use Rattle.prolly_tree.specs.Tree.{bytes_of};
 
 use crate::root_fault::RootFault;
