@@ -21,6 +21,7 @@ from proofs import (
     BAD_ROOT,
     FRAME_SIZE,
     MORE,
+    REFERENCE_SIZE,
     TRUNCATED,
     WRONG_VERSION,
     another,
@@ -29,7 +30,6 @@ from proofs import (
     node,
     out_of_order,
     read_linked,
-    step,
     way,
     wrong_level,
 )
@@ -98,34 +98,92 @@ def frame_at(content, place, number):
     return Frame(number, place + FRAME_SIZE, end, start[FRAME_SIZE])
 
 
-def look_up(content, root, key, version):
-    """The value of a key in the tree whose root has this reference, or none; a `Fault` where the file does not show it."""
-    if read_header(content)[0] != version:
-        raise Fault(WRONG_VERSION)
-    frames = list(frames_of(content))
-    if not frames:
-        raise Fault(MISSING)
-    found, first, wanted, above = frames[-1], 0, root, None
-    while True:
-        entries = read_linked(content[found.start : found.end], wanted, above, found.number, version)
-        above = found.level
-        value, wanted = step(entries, above, key)
-        if above == 0:
-            return value
-        found, first = child_of(frames[first:], above, [last for last, _ in entries], key) or (None, None)
-        if found is None:
-            return ABSENT
+class SoughtKey:
+    """A key, which is looked for in the first child whose greatest key is not below it."""
+
+    def __init__(self, key):
+        self.key = key
+
+    def passes(self, last, _):
+        """Whether it is behind this child."""
+        return last < self.key
 
 
-def child_of(frames, level, keys, key):
-    """The child of a node at which a look-up goes on, and the number of the first frame of what is below it; none where
-    there is no such child. The children are the next chunks one level below the node."""
+class SoughtNumber:
+    """A pair's number, which is looked for in the first child that has so many pairs below it, those passed left out."""
+
+    def __init__(self, number):
+        self.number = number
+
+    def passes(self, _, behind):
+        """Whether it is behind this child. Then the child's pairs are passed."""
+        count = int.from_bytes(behind[REFERENCE_SIZE:], "big")
+        if self.number < count:
+            return False
+        self.number -= count
+        return True
+
+
+class Reader:
+    """A file, of which nothing is believed, beside the reference of a root. Each call raises a `Fault` where the file does
+    not show what is asked for."""
+
+    def __init__(self, content, root, version):
+        self.content = content
+        self.root = root
+        self.version = version
+        self.frames = None
+
+    def get(self, key):
+        """The value of a key, or none."""
+        return dict(self.last_pairs(SoughtKey(key))).get(key, ABSENT)
+
+    def nth(self, number):
+        """The pair of a number, or none."""
+        sought = SoughtNumber(number)
+        pairs = self.last_pairs(sought)
+        return pairs[sought.number] if sought.number < len(pairs) else None
+
+    def pairs_from(self, key):
+        """The first pairs from a key on: those of one leaf."""
+        return [pair for pair in self.last_pairs(SoughtKey(key)) if pair[0] >= key]
+
+    def last_pairs(self, sought):
+        """The pairs of the leaf at which a look-up ends; none where it ends at a node."""
+        frames = self.opened()
+        found, first, wanted, above = frames[-1], 0, self.root, None
+        while True:
+            chunk = self.content[found.start : found.end]
+            entries = read_linked(chunk, wanted, above, found.number, self.version)
+            above = found.level
+            if above == 0:
+                return entries
+            below = child_of(frames[first:], above, entries, sought)
+            if below is None:
+                return []
+            found, first, wanted = below
+
+    def opened(self):
+        """The frames of the file, of which there is one at least."""
+        if self.frames is None:
+            if read_header(self.content)[0] != self.version:
+                raise Fault(WRONG_VERSION)
+            self.frames = list(frames_of(self.content))
+        if not self.frames:
+            raise Fault(MISSING)
+        return self.frames
+
+
+def child_of(frames, level, entries, sought):
+    """The child of a node at which a look-up goes on, the number of the first frame of what is below it, and its reference;
+    none where there is no such child. The children are the next chunks one level below the node."""
     below = [found for found in frames if found.level == level - 1]
-    for place, last in enumerate(keys):
+    for place, (last, behind) in enumerate(entries):
         if place == len(below):
             raise Fault(MISSING)
-        if last >= key:
-            return below[place], below[place - 1].number + 1 if place else frames[0].number
+        if not sought.passes(last, behind):
+            first = below[place - 1].number + 1 if place else frames[0].number
+            return below[place], first, behind[:REFERENCE_SIZE]
     return None
 
 
@@ -137,7 +195,7 @@ def answer_of(value):
 def verdict(content, root, key, version):
     """What `get --root` answers: its status, and what it prints to both streams."""
     try:
-        return answer_of(look_up(content, root, key, version))
+        return answer_of(Reader(content, root, version).get(key))
     except Fault as fault:
         return 4, b"", f"prolly: chunk file: {fault}\n".encode()
 
