@@ -12,6 +12,7 @@ from dumps import lines
 from harness import NO_THREAD, SCARCE, file_differences, lay_out, shown
 from proofs import proof_of, verdict
 from rooted import WRONG_VERSION, refusal, words_for
+from rooted_pairs import ALL, NO_COUNTS, number_words, scan_words
 from scratch import ABC
 from trees import END_SIZE, begun_file, chunk_file, overlay, record, records, reference_text, report, root_text, tree
 
@@ -55,6 +56,8 @@ class Command:
     """What this file holds where nothing is refused."""
     parts: list = field(default_factory=list)
     """Where a growth is refused, it holds a first part of one of these, or nothing."""
+    is_printed_early: bool = False
+    """It prints as it goes, so where a growth is refused the first lines may be there."""
     is_made_first: bool = False
     """The file is made before the line that tells of it, for which there may be no memory."""
 
@@ -88,7 +91,15 @@ def commands():
         Command("get --root of a key above all", words_for(REFERENCE, b"z", 1, "abc.prl"), status=1, before=reads),
         Command("get --root of the other format", words_for(REFERENCE, b"b", 1, "counted.prl"), status=4, err=refusal(WRONG_VERSION)[2], before=reads),
         Command("scan", ["scan", "abc.prl", "62", "5"], out=b"62 31\n63 31\n", before=reads),
+        scanned("scan --root", REFERENCE, 1, "abc.prl", b"b", reads),
+        scanned("scan --root in format 2", COUNTED_TREE.reference, 2, "counted.prl", b"", reads),
+        Command("scan --root of no pair", scan_words(REFERENCE, b"z", ALL, 1, "abc.prl"), before=reads),
+        Command("scan --root of the other format", scan_words(REFERENCE, b"b", 1, 1, "counted.prl"), status=4, err=refusal(WRONG_VERSION)[2], before=reads),
         Command("nth", ["nth", "counted.prl", "2"], out=b"63 31\n", before=reads),
+        Command("nth --root", number_words(COUNTED_TREE.reference, 2, name="counted.prl"), out=b"63 31\n", before=reads),
+        Command("nth --root of no pair", number_words(COUNTED_TREE.reference, 3, name="counted.prl"), status=1, before=reads),
+        Command("nth --root without counts", number_words(REFERENCE, 2, 1, "abc.prl"), status=4, err=NO_COUNTS[2], before=reads),
+        Command("nth --root of the other format", number_words(COUNTED_TREE.reference, 2, name="abc.prl"), status=4, err=refusal(WRONG_VERSION)[2], before=reads),
         Command("dump", ["dump", "abc.prl"], out=records(ABC), before=reads),
         Command("dump --text", ["dump", "--text", "abc.prl"], out=lines(ABC), before=reads),
         Command("dump --text to a file", ["dump", "--text", "abc.prl", "out.txt"], before=reads, made="out.txt", whole=lines(ABC)),
@@ -116,6 +127,12 @@ def commands():
         Command("atomic diff", ["diff", "--atomic", "--sync", "old.prl", "abc.prl", "--out", "out.rec"], status=1, before=both, made="out.rec", whole=records(CHANGES)),
         Command("atomic dump", ["dump", "--atomic", "--sync", "abc.prl", "out.rec"], before=reads, made="out.rec", whole=records(ABC)),
     ]
+
+
+def scanned(name, root, version, file, key, before):
+    """A scan by the root to the end, which prints leaf by leaf."""
+    out = lines([pair for pair in ABC if pair[0] >= key])
+    return Command(name, scan_words(root, key, ALL, version, file), out=out, before=before, is_printed_early=True)
 
 
 def built(name, files, version=1):
@@ -200,9 +217,14 @@ def refuse(program, allocator, command, number):
         answer = (done.returncode, done.stdout, done.stderr)
         if answer == (command.status, command.out, command.err):
             return was_refused, file_differences(folder, command.before | whole_of(command))
-        if was_refused and answer[:2] == (6, b"") and done.stderr in SCARCE:
+        if was_refused and done.returncode == 6 and is_printed_in_part(command, done.stdout) and done.stderr in SCARCE:
             return True, part_differences(folder, command, done.stderr == NO_THREAD)
         return was_refused, [f"status {done.returncode}, output {shown(done.stdout)}, error {shown(done.stderr)}"]
+
+
+def is_printed_in_part(command, out):
+    """Whether this is nothing, or the first lines where a command prints as it goes."""
+    return out == b"" or command.is_printed_early and out.endswith(b"\n") and command.out.startswith(out)
 
 
 def whole_of(command):

@@ -22,6 +22,8 @@ COMPLETED = [
     (["p"], ["pack", "prove"]),
     (["build", "--ba"], ["--batch"]),
     (["get", "--r"], ["--root"]),
+    (["scan", "--r"], ["--root"]),
+    (["nth", "--"], ["--root", "--format", "--help"]),
     (["check", "fi"], []),
     (["diff", "old", "--s"], ["--stat", "--sync"]),
 ]

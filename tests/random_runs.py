@@ -4,6 +4,7 @@ import random
 import sys
 
 import rooted
+import rooted_pairs
 from damaged import lawful_or_fault
 from diffs import difference, stat_line
 from dumps import lines
@@ -27,7 +28,7 @@ def cases(_):
 
 def runs(seed, count):
     """So many runs; a difference is named with the seed that brings it back."""
-    kinds = [build, build, build, scratch, pack, look_up, look_up, dump, diff, prove, verify, get_by_root]
+    kinds = [build, build, build, scratch, pack, look_up, look_up, dump, diff, prove, verify, by_root]
     for number in range(count):
         chance = random.Random(f"{seed} {number}")
         case = chance.choice(kinds)(chance)
@@ -335,8 +336,9 @@ def verify(chance):
     )
 
 
-def get_by_root(chance):
-    """A key looked up by a root, mostly that of the file's tree, in a chunk file which may be damaged."""
+def by_root(chance):
+    """A key, a number, or the pairs from a key on, looked up by a root, mostly that of the file's tree, in a chunk file which
+    may be damaged."""
     pairs, bits, version = some_pairs(chance), chance.choice([0, 0, 1, 2, 12]), chance.choice([1, 2])
     content, wanted = chunk_file(pairs, bits, version), some_key(chance, pairs)
     kind = chance.random()
@@ -348,8 +350,22 @@ def get_by_root(chance):
         content += chance.randbytes(chance.randrange(1, 40))
     root = tree(pairs if chance.random() < 0.9 else some_pairs(chance), bits, version).reference
     believed = version if chance.random() < 0.9 else 3 - version
-    status, out, err = rooted.verdict(content, root, wanted, believed)
-    return Case("", rooted.words_for(root, wanted, believed), status=status, out=out, err=err, before={"in.prl": content})
+    words, (status, out, err) = sought_by_root(chance, content, root, wanted, believed, len(pairs))
+    return Case("", words, status=status, out=out, err=err, before={"in.prl": content})
+
+
+def sought_by_root(chance, content, root, wanted, believed, count):
+    """The words of a look-up by a root, and what the second reader answers."""
+    command = chance.choice(["get", "nth", "scan"])
+    if command == "get":
+        return rooted.words_for(root, wanted, believed), rooted.verdict(content, root, wanted, believed)
+    if command == "nth":
+        number = chance.randrange(count + 2)
+        return rooted_pairs.number_words(root, number, believed), rooted_pairs.number_verdict(content, root, number, believed)
+    # A scan of no pair need not look at the file.
+    limit = chance.choice([1, 2, 5, rooted_pairs.ALL])
+    words = rooted_pairs.scan_words(root, wanted, limit, believed)
+    return words, rooted_pairs.scan_verdict(content, root, wanted, limit, believed)
 
 
 def some_key(chance, pairs):

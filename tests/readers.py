@@ -90,24 +90,28 @@ def look_ups(asked, path, pairs, bits, version):
         yield from differs(f"the map at {key.hex()}", dict(pairs).get(key), reader.get(key))
 
 
-def scans(asked, path, pairs, _bits, _version):
-    """Pairs from keys on."""
+def scans(asked, path, pairs, bits, version):
+    """Pairs from keys on, with the file and by its root."""
     reader = Tree.open(path)
+    by_root = ["--root", reference_text(tree(pairs, bits, version).reference), "--format", str(version)]
     for key in some_keys(pairs)[::3]:
         wanted = (0, as_lines(reader.scan(key, 9)))
         yield from differs(f"scan {key.hex()}", asked("scan", "tree", key.hex(), "9"), wanted)
+        yield from differs(f"scan --root {key.hex()}", asked("scan", *by_root, "tree", key.hex(), "9"), wanted)
     yield from differs("all pairs", [tuple(pair) for pair in reader.scan(b"")], list(pairs))
 
 
-def places(asked, path, pairs, _bits, version):
-    """Pairs by their numbers."""
+def places(asked, path, pairs, bits, version):
+    """Pairs by their numbers, with the file and by its root."""
     if version == 1:
         return
     reader = Tree.open(path)
+    by_root = ["--root", reference_text(tree(pairs, bits, version).reference), "--format", str(version)]
     for number in sorted({0, 1, len(pairs) // 2, max(0, len(pairs) - 1), len(pairs), 2**32 - 1}):
         pair = reader.nth(number)
         wanted = (1, b"") if pair is None else (0, as_lines([pair]))
         yield from differs(f"nth {number}", asked("nth", "tree", str(number)), wanted)
+        yield from differs(f"nth --root {number}", asked("nth", *by_root, "tree", str(number)), wanted)
 
 
 def proofs(asked, path, pairs, bits, version):

@@ -679,10 +679,10 @@ def large_cases(folder):
     ]
 
 
-def write_gap(path, level, rest):
-    """A file of format 1 whose first chunk is of zeros behind its level, of which no more than that lies on the disk."""
+def write_gap(path, level, rest, version=1):
+    """A file whose first chunk is of zeros behind its level, of which no more than that lies on the disk."""
     with open(path, "wb") as file:
-        file.write(header(0, 1) + b"C" + GAP.to_bytes(8, "big") + level)
+        file.write(header(0, version) + b"C" + GAP.to_bytes(8, "big") + level)
         file.seek(GAP - 1, os.SEEK_CUR)
         file.write(rest)
 

@@ -31,6 +31,7 @@ import proofs
 import random_runs
 import readers
 import rooted
+import rooted_pairs
 import scale
 import scratch
 from harness import run
@@ -66,10 +67,10 @@ def all_runs(program, folder):
     if sys.argv[2:3] == ["--links"]:
         yield from links.by_hand(program, int(sys.argv[3]))
         return
-    for part in (command_line, pack, scratch, build, look_ups, dumps, diffs, proofs, rooted, damaged, random_runs):
+    for part in (command_line, pack, scratch, build, look_ups, dumps, diffs, proofs, rooted, rooted_pairs, damaged, random_runs):
         for case in part.cases(folder):
             yield case.name, run(program, case)
-    for part in (dumps, diffs, proofs, rooted, readers, files, links, growths, examples, installed, scale, demo, misuse):
+    for part in (dumps, diffs, proofs, rooted, rooted_pairs, readers, files, links, growths, examples, installed, scale, demo, misuse):
         yield from part.all_runs(program, folder)
 
 
