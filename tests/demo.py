@@ -64,6 +64,7 @@ def printed():
         f"{len(proof_of(tree(both, BITS, 1), b'week', 1))} week.prf",
         "571",
         "571",
+        *(f"{word.decode()} {count.decode()}" for word, count in from_p),
         f"prolly: proof: {another(0)}",
         *cut_short(words, cut),
     ]
