@@ -167,9 +167,8 @@ class AskedPairs(Asked):
         """Asks for the first number and for all pairs, of a file that is refused at once."""
         if kind.version == 2:
             self.wants(f"the second reader, {about}", self.counts(about, content, kind.root, 0), wanted)
-        for limit in (1, ALL):
-            answer = self.scans(about, content, kind.root, b"", limit, kind.version)
-            self.wants(f"the second reader, {about}", answer, wanted)
+        answer = self.scans(about, content, kind.root, b"", ALL, kind.version)
+        self.wants(f"the second reader, {about}", answer, wanted)
 
     def is_never_wrong(self, about, kind, changed, key, number):
         """A file that was changed in any way is refused, or answers rightly; and what is printed before a fault is right."""
