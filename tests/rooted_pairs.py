@@ -13,7 +13,7 @@ from damaged import HEADER_SIZE, KEY_LIMIT, Fault
 from harness import FOLDER, Case
 from look_ups import LONG, NUMBERS, assembled, leaf, line
 from place import Place, compiled
-from proofs import BAD_ROOT, FRAME_SIZE, MORE, TRUNCATED, WRONG_VERSION, another, bad_chunk, bad_frame, out_of_order
+from proofs import BAD_ROOT, FRAME_SIZE, MORE, TRUNCATED, WRONG_VERSION, another, bad_chunk, bad_frame, out_of_order, wrong_level
 from rooted import MISSING, NO_VALUE, READ_FAILED, SMALL_MEMORY, Asked, Kind, Reader, random_pairs, reads_in, refusal, shown_answer, starts_read, turned, write_gap
 from scratch import ABC, numbered
 from trees import chunk_file, frame, reference, reference_text, tree
@@ -649,6 +649,18 @@ def give_other_bytes(place, version):
                     place.note(f"{words[0]}, turned {turn}: {shown_answer(answer)}")
 
 
+def are_of_another_level(place):
+    """A child that stands two levels below its node, of which the start of its frame told another level before."""
+    a = leaf(ABC[0])
+    root = counted_node(2, (b"a", a, 1))
+    place.lay(in_prl=assembled([a, root], bytes(20), 0, 2))
+    for words in (number_words(reference(root), 0), scan_words(reference(root), b"", ALL, 2)):
+        place.answers(place.meddled(*words)[0], refusal(MISSING))
+        # The header, the starts of the two frames and of the end record, the root, and then the start of the first frame.
+        answer, _ = place.meddled(*words, meddle={"turn": f"6 {FRAME_SIZE} 1"})
+        place.answers(answer, refusal(wrong_level(0)))
+
+
 def fail_to_read(place, call, version):
     """Each call of a kind fails in turn: that is told behind the pairs of the leaves that were read before."""
     kind = Kind(ABC, 0, version)
@@ -788,7 +800,7 @@ def placed_tests():
             yield f"each {call} fails, format {version}", partial(fail_to_read, call=call, version=version)
         for bits in (0, 2, 12):
             yield f"read little, --bits {bits}, format {version}", partial(read_little, bits=bits, version=version)
-    for test in (print_as_they_go, are_fifos, are_links, are_not_readable):
+    for test in (are_of_another_level, print_as_they_go, are_fifos, are_links, are_not_readable):
         yield test.__name__.replace("_", " "), test
 
 
