@@ -16,7 +16,7 @@ from place import Place, compiled
 from proofs import BAD_ROOT, FRAME_SIZE, MORE, TRUNCATED, WRONG_VERSION, another, bad_chunk, bad_frame, out_of_order, wrong_level
 from rooted import MISSING, NO_VALUE, READ_FAILED, SMALL_MEMORY, Asked, Kind, Reader, random_pairs, reads_in, refusal, shown_answer, starts_read, turned, write_gap
 from scratch import ABC, numbered
-from trees import chunk_file, frame, reference, reference_text, tree
+from trees import chunk_file, reference, reference_text, tree
 
 NO_COUNTS = refusal("no counts")
 """The answer to who asks for a number in a tree whose nodes have no counts."""
