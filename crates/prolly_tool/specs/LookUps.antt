@@ -12,6 +12,7 @@ use Rattle.prolly_check.specs.declared.fault.CheckFault.TheVariants.{Read}
 use Rattle.prolly_entry.specs.declared.version.Version.{Version}
 use Rattle.prolly_entry.specs.declared.version.Version.TheVariants.{One, Two}
 use Rattle.prolly_proof.specs.declared.by_root.Found.{Found}
+use Rattle.prolly_proof.specs.declared.by_root.FoundPair.{FoundPair}
 use Rattle.prolly_proof.specs.declared.root_fault.RootFault.{RootFault}
 use Rattle.prolly_tree.specs.Chunk.{chunks}
 use Rattle.prolly_entry.specs.Cut.{sha512_cut}
@@ -50,8 +51,11 @@ ShowsPair answer None = ShowsNothing answer
 ShowsPair answer (Some p) = ShowsLine answer (pair_text p)
 
 -- A line for each pair.
+abbrev pub pair_lines : List Pair → List ℕ
+pair_lines pairs = flat_map (λ p. pair_text p ++ 0x0A ∷ []) pairs
+
 abbrev pub ShowsPairs : Answer → List Pair → Type 0
-ShowsPairs answer pairs = Shows answer 0 (flat_map (λ p. pair_text p ++ 0x0A ∷ []) pairs) []
+ShowsPairs answer pairs = Shows answer 0 (pair_lines pairs) []
 
 -- The files of version One have no counts.
 abbrev pub ShowsNth : Answer → Version → Option Pair → Type 0
@@ -104,3 +108,8 @@ ShowsFailedRead answer = ShowsFault answer (Check Read)
 abbrev pub ShowsFound : Answer → Result Found RootFault → Type 0
 ShowsFound answer (Ok found) = ShowsValue answer (option_map (λ value. value.items) found.value)
 ShowsFound answer (Err fault) = ShowsFault answer (Root fault)
+
+-- The same of the pair that it found, or none.
+abbrev pub ShowsFoundPair : Answer → Result FoundPair RootFault → Type 0
+ShowsFoundPair answer (Ok found) = ShowsPair answer found.pair
+ShowsFoundPair answer (Err fault) = ShowsFault answer (Root fault)

@@ -1,7 +1,6 @@
 //! The command `scan`: pairs from a key on.
-ghost use Rattle.std.specs.Prelude.{◌≡◌, ◌≢◌, true, IfOk, OnOk, ◌++◌, ◌∷◌, []};
-ghost use Rattle.std.specs.List.{flat_map};
-ghost use Rattle.prolly_tool.specs.LookUps.{IsLookUp, ShowsScan, ShowsFailedRead, pair_text};
+ghost use Rattle.std.specs.Prelude.{◌≡◌, ◌≢◌, true, IfOk, OnOk};
+ghost use Rattle.prolly_tool.specs.LookUps.{IsLookUp, ShowsScan, ShowsFailedRead, pair_lines};
 
 use crate::answer::Answer;
 use crate::fault::Fault;
@@ -43,9 +42,8 @@ pub fn answer_scan<S: Source>(
 }
 
 /// A line for each pair.
-fn lines_of(alloc: Global, pairs: &[Pair]) -> Result<Vec<u8>, AllocError>
-    ensures { IfOk result (λ lines. lines.items ≡ flat_map
-        (λ p. pair_text p ++ 0x0A ∷ []) pairs.now) }
+pub(crate) fn lines_of(alloc: Global, pairs: &[Pair]) -> Result<Vec<u8>, AllocError>
+    ensures { IfOk result (λ lines. lines.items ≡ pair_lines pairs.now) }
 {
     let mut lines = Vec::new(alloc);
     for pair in pairs {

@@ -1,6 +1,5 @@
-use Rattle.std.proofs.Common.{◌∷◌, [], ◌++◌, ◌∙◌, ap, refl, inl}
-use Rattle.std.specs.List.{flat_map}
-use Rattle.prolly_tool.specs.LookUps.{pair_text}
+use Rattle.std.proofs.Common.{◌∙◌, ap, refl, inl}
+use Rattle.prolly_tool.specs.LookUps.{pair_lines}
 use Rattle.prolly_tool.proofs.Answering.{looked_up}
 use Rattle.prolly_tool.proofs.scan_answer.answer_scan.Goals as goal
 
@@ -10,7 +9,7 @@ returns-clause-shown g c = λ honest. inl (
     (λ failed. failed c.in-Ok.ensures.unfailed)
     (λ content is. record {
       status_is = refl;
-      out_is = c.in_ok-out.ensures ∙ ap (flat_map (λ p. pair_text p ++ 0x0A ∷ []))
+      out_is = c.in_ok-out.ensures ∙ ap pair_lines
           (c.deref.ensures.value ∙ c.in_ok-pairs.ensures content is);
       err_is = c.new.ensures.items;
     })

@@ -1,0 +1,40 @@
+//! What the command `nth` prints of a look-up by a root.
+ghost use Rattle.std.specs.Prelude.{IfOk};
+ghost use Rattle.prolly_tool.specs.LookUps.{ShowsFoundPair, ShowsPair};
+
+use crate::answer::Answer;
+use crate::fault::Fault;
+use crate::line_parts::append_pair;
+use prolly_entry::Pair;
+use prolly_proof::{FoundPair, RootFault};
+use std::alloc::{AllocError, Global};
+
+/// What `nth` answers to who names the root: the pair that was found, as key and value in
+/// hexadecimal; nothing, with status 1, where it was found that there is none; or the line of the
+/// fault for which nothing was found out. An `Err` is want of memory for that text.
+///
+/// What a pair or none says of the map with the root is said where the look-up is made: see
+/// [`nth_by_root`](prolly_proof::nth_by_root).
+pub fn answer_found_pair(
+    alloc: Global,
+    found: &Result<FoundPair, RootFault>,
+) -> Result<Answer, AllocError>
+    ensures { IfOk result (λ answer. ShowsFoundPair answer found.now) }
+{
+    match found {
+        Ok(found) => pair_shown(alloc, &found.pair),
+        Err(fault) => Answer::of_fault(alloc, Fault::Root(*fault)),
+    }
+}
+
+/// The answer of a look-up by a number: the line of its pair, or that there is none.
+fn pair_shown(alloc: Global, pair: &Option<Pair>) -> Result<Answer, AllocError>
+    ensures { IfOk result (λ answer. ShowsPair answer pair.now) }
+{
+    let Some(pair) = pair else {
+        return Ok(Answer::of_nothing(alloc));
+    };
+    let mut line = Vec::new(alloc);
+    append_pair(alloc, &mut line, pair.key(), pair.value())?;
+    Answer::of_line(alloc, &line)
+}
