@@ -18,3 +18,5 @@ pub mod Counting
 pub mod DiffSteps
 -- What is answered to bytes that are no proof.
 pub mod Verifying
+-- Scans by a root, leaf by leaf.
+pub mod ScanSteps

@@ -28,3 +28,5 @@ pub mod Counts
 pub mod Diff
 -- What the commands `prove` and `verify` answer.
 pub mod Proofs
+-- What `scan` answers to who names the root.
+pub mod RootScans

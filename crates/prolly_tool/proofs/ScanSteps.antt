@@ -1,0 +1,507 @@
+-- Scans by a root, leaf by leaf.
+use Rattle.std.proofs.Common.{◌≡◌, ◌≢◌, ℕ, suc, zero, ◌+◌, ◌-◌, ◌<◌, ◌^◌, inl, inr, ◌⊎◌, true, List}
+use Rattle.std.proofs.Common.{[], ◌∷◌, ◌++◌, length, take, Some, None, Ok, Err, refl, sym, ap, ◌∙◌}
+use Rattle.std.proofs.Common.{subst, arith, append_assoc, append-nil, Result}
+use Rattle.std.specs.Prelude.{OnOk, IfErr}
+use Rattle.std.specs.List.{slice_get}
+use Rattle.std.proofs.Math.Seq.{take-append-add}
+use Rattle.std.proofs.lemmas.List.{length-append, take_all}
+use Rattle.std.proofs.lemmas.List.Concat.{flat_map-append}
+use Rattle.std.proofs.lemmas.Option.{slice_get-get_or}
+use Rattle.prolly_check.specs.ScanWay.{AreScanned, EndsEmpty, IsScanWay, from_behind, joined}
+use Rattle.prolly_check.specs.ScanWay.{next_key}
+use Rattle.prolly_check.specs.Verdict.{IsFileOf}
+use Rattle.prolly_entry.specs.Pair.{Pair}
+use Rattle.prolly_entry.specs.declared.version.Version.{Version}
+use Rattle.prolly_fault.specs.declared.fault.RunFault.{RunFault}
+use Rattle.prolly_fault.specs.declared.fault.RunFault.TheVariants as runs
+use Rattle.prolly_fault.specs.declared.fault.RunFault.TheVariants.{Memory, Write}
+use Rattle.prolly_file.specs.Device.{DeviceView}
+use Rattle.prolly_file.specs.Failures.{CountsFailure, after_failure}
+use Rattle.prolly_file.specs.Sink.{SinkView}
+use Rattle.prolly_proof.specs.Descents.{AnswersLawful}
+use Rattle.prolly_proof.specs.Walks.{StaysSame}
+use Rattle.prolly_proof.specs.declared.root_fault.RootFault.{RootFault}
+use Rattle.prolly_tree.specs.Tree.{last_key}
+use Rattle.prolly_tool.specs.LookUps.{pair_lines, pair_text}
+use Rattle.prolly_tool.specs.Outputs.{TookAll, TookPart, TookPrefix, TookUntil}
+use Rattle.prolly_tool.specs.RootScans.{AreTooFew, IsDoneScan, IsStoppedScan, Scanned}
+use Rattle.prolly_tool.specs.RootScans.{StoppedScan, limited_lines}
+use Rattle.prolly_tool.specs.declared.fault.Fault.{Fault}
+use Rattle.prolly_tool.specs.declared.fault.Fault.TheVariants as faults
+use Rattle.prolly_tool.specs.declared.fault.Fault.TheVariants.{Root, Run}
+use Rattle.prolly_tool.proofs.Writing.{TookSoFar, flushed, other_failures, took_front, took_none}
+use Rattle.prolly_tool.proofs.Writing.{unflushed}
+
+-- ---- the last pair of a leaf
+
+last_pair : (q : Pair) (qs : List Pair) (p : Pair) → slice_get (q ∷ qs) (length qs) ≡ Some p →
+    last_key (q ∷ qs) ≡ p.key
+last_pair q [] p e = let same : q ≡ p = cc in ap (λ r. r.key) same
+last_pair q (r ∷ rs) p e = last_pair r rs p e
+
+pub behind_last : (from : List ℕ) (pairs : List Pair) (p : Pair) →
+    slice_get pairs (length pairs - 1) ≡ Some p → from_behind from pairs ≡ next_key p.key
+behind_last from [] p e = absurd (cc)
+behind_last from (q ∷ qs) p e =
+    let less : length (q ∷ qs) - 1 ≡ length qs = omega arith in
+    ap next_key (last_pair q qs p (subst (λ n. slice_get (q ∷ qs) n ≡ Some p) less e))
+
+pub none_last : (pairs : List Pair) → slice_get pairs (length pairs - 1) ≡ None → pairs ≡ []
+none_last [] e = refl
+none_last (q ∷ qs) e =
+    let there = slice_get-get_or (q ∷ qs) (length (q ∷ qs) - 1) q (omega arith) in
+    absurd (cc)
+
+pub some_last : (pairs : List Pair) (n : ℕ) (p : Pair) → slice_get pairs n ≡ Some p → pairs ≢ []
+some_last [] n p e = absurd (cc)
+some_last (q ∷ qs) n p e = λ none. cc
+
+-- ---- look-ups one after another
+
+-- Behind what these lists have, where the next look-up begins.
+abbrev pub behind : List ℕ → List (List Pair) → List ℕ
+behind from [] = from
+behind from (found ∷ lists) = behind (from_behind from found) lists
+
+behind_more : (from : List ℕ) (lists : List (List Pair)) (found : List Pair) →
+    behind from (lists ++ found ∷ []) ≡ from_behind (behind from lists) found
+behind_more from [] found = refl
+behind_more from (one ∷ lists) found = behind_more (from_behind from one) lists found
+
+scanned_more : (version : Version) (root from : List ℕ) (lists : List (List Pair))
+    (ways : List (List (List ℕ))) (found : List Pair) (way : List (List ℕ)) →
+    AreScanned version root from lists ways →
+    IsScanWay version root (behind from lists) way found →
+    AreScanned version root from (lists ++ found ∷ []) (ways ++ way ∷ [])
+scanned_more version root from [] [] found way are more = (more, tt)
+scanned_more version root from [] (one ∷ ways) found way are more = absurd are
+scanned_more version root from (one ∷ lists) [] found way are more = absurd are
+scanned_more version root from (one ∷ lists) (other ∷ ways) found way are more =
+    (are.0, scanned_more version root (from_behind from one) lists ways found way are.1 more)
+
+joined_more : (lists : List (List Pair)) (found : List Pair) →
+    joined (lists ++ found ∷ []) ≡ joined lists ++ found
+joined_more lists found = flat_map-append (λ list. list) lists (found ∷ []) ∙
+    ap (λ ps. joined lists ++ ps) (append-nil found)
+
+ends_empty : (lists : List (List Pair)) → EndsEmpty (lists ++ [] ∷ [])
+ends_empty [] = refl
+ends_empty (one ∷ []) = refl
+ends_empty (one ∷ two ∷ lists) = ends_empty (two ∷ lists)
+
+ends_full : (lists : List (List Pair)) (found : List Pair) → found ≢ [] →
+    ¬ (EndsEmpty (lists ++ found ∷ []))
+ends_full [] found some ends = some ends
+ends_full (one ∷ []) found some ends = some ends
+ends_full (one ∷ two ∷ lists) found some ends = ends_full (two ∷ lists) found some ends
+
+-- ---- lines
+
+few_lines : (limit : ℕ) (lists : List (List Pair)) → AreTooFew limit lists →
+    pair_lines (joined lists) ≡ limited_lines limit lists
+few_lines limit lists few =
+    ap pair_lines (sym (take_all limit (joined lists) (omega (arith, few.0))))
+
+-- The lines of what one more look-up found stand behind the others.
+lines_more : (limit left : ℕ) (lists : List (List Pair)) (found : List Pair) →
+    left ≡ limit - length (joined lists) → 0 < left →
+    limited_lines limit (lists ++ found ∷ []) ≡
+    limited_lines limit lists ++ pair_lines (take left found)
+lines_more limit left lists found is some =
+    let all = joined lists in
+    let room : limit ≡ length all + left = omega (arith, is) in
+    let whole : take limit all ≡ all = take_all limit all (omega (arith, is)) in
+    ap (λ ps. pair_lines (take limit ps)) (joined_more lists found) ∙
+    ap (λ n. pair_lines (take n (all ++ found))) room ∙
+    ap pair_lines (take-append-add all found left) ∙
+    flat_map-append (λ p. pair_text p ++ 0x0A ∷ []) all (take left found) ∙
+    ap (λ ps. pair_lines ps ++ pair_lines (take left found)) (sym whole)
+
+take_none : (n : ℕ) → pair_lines (take n []) ≡ []
+take_none zero = refl
+take_none (suc n) = refl
+
+-- ---- the sink
+
+module _ {W : Type 0} (seen : W → SinkView) where
+  until_cases : (fault : RunFault) (bytes : List ℕ) (old new : W) →
+      TookUntil seen fault bytes old new →
+      ((fault ≡ Memory) × TookPrefix seen bytes old new)
+      ⊎ ((fault ≡ Write) × TookPart seen bytes old new)
+  until_cases runs.Memory bytes old new t = inl (refl, t)
+  until_cases (runs.Read file) bytes old new t = absurd t
+  until_cases (runs.Truncated file place) bytes old new t = absurd t
+  until_cases (runs.KeyTooLong file place) bytes old new t = absurd t
+  until_cases (runs.ValueTooLong file place) bytes old new t = absurd t
+  until_cases (runs.OutOfOrder file place) bytes old new t = absurd t
+  until_cases (runs.TooManyRecords file) bytes old new t = absurd t
+  until_cases runs.Write bytes old new t = inr (refl, t)
+  until_cases runs.TooTall bytes old new t = absurd t
+  until_cases runs.NoThread bytes old new t = absurd t
+  until_cases runs.Lost bytes old new t = absurd t
+  until_cases runs.TooManyFiles bytes old new t = absurd t
+
+  -- More bytes are written behind those that the sink took.
+  module _ (done own : List ℕ) (old mid new : W) (so_far : TookSoFar seen done old mid) where
+    took_also : TookAll seen own mid new →
+        ((seen mid).is_keeping ≡ true → (seen new).is_keeping ≡ true) →
+        TookSoFar seen (done ++ own) old new
+    took_also t keeping = record {
+      all = record {
+        unfailed = t.unfailed ∙ so_far.all.unfailed;
+        took = λ k. t.took (so_far.keeping k) ∙
+            ap (λ bytes. bytes ++ own) (so_far.all.took k) ∙
+            append_assoc (seen old).taken done own;
+      };
+      keeping = λ k. keeping (so_far.keeping k);
+    }
+
+    part_also : TookPart seen own mid new → TookPart seen (done ++ own) old new
+    part_also t = record {
+      failed = λ e. t.failed (e ∙ sym so_far.all.unfailed);
+      took = λ k. let q = t.took (so_far.keeping k) in record {
+        part = done ++ q.part;
+        grown = q.grown ∙ ap (λ bytes. bytes ++ q.part) (so_far.all.took k) ∙
+            append_assoc (seen old).taken done q.part;
+        is_prefix = (
+          q.is_prefix.0,
+          ap (λ bytes. done ++ bytes) q.is_prefix.1 ∙ sym (append_assoc done q.part q.is_prefix.0),
+        );
+      };
+    }
+
+    prefix_also : TookPrefix seen own mid new → TookPrefix seen (done ++ own) old new
+    prefix_also t = record {
+      unfailed = t.unfailed ∙ so_far.all.unfailed;
+      took = λ k. let q = t.took (so_far.keeping k) in record {
+        part = done ++ q.part;
+        grown = q.grown ∙ ap (λ bytes. bytes ++ q.part) (so_far.all.took k) ∙
+            append_assoc (seen old).taken done q.part;
+        is_prefix = (
+          q.is_prefix.0,
+          ap (λ bytes. done ++ bytes) q.is_prefix.1 ∙ sym (append_assoc done q.part q.is_prefix.0),
+        );
+      };
+    }
+
+    until_also : (fault : RunFault) → TookUntil seen fault own mid new →
+        TookUntil seen fault (done ++ own) old new
+    until_also fault t = until_also_in fault (until_cases fault own mid new t)
+      where
+        until_also_in : (fault : RunFault) →
+            ((fault ≡ Memory) × TookPrefix seen own mid new)
+            ⊎ ((fault ≡ Write) × TookPart seen own mid new) →
+            TookUntil seen fault (done ++ own) old new
+        until_also_in fault (inl m) =
+            subst (λ f. TookUntil seen f (done ++ own) old new) (sym m.0) (prefix_also m.1)
+        until_also_in fault (inr w) =
+            subst (λ f. TookUntil seen f (done ++ own) old new) (sym w.0) (part_also w.1)
+
+-- ---- a scan on its way
+
+module _ {W : Type 0} (seen : W → SinkView) (version : Version) (root from : List ℕ) (limit : ℕ)
+  where
+    -- So much is left of the limit, and the next look-up is that of this key.
+    pub record IsScanning (left : ℕ) (next : List ℕ) (old new : W) : Type 0 where
+      pub lists : List (List Pair)
+      pub ways : List (List (List ℕ))
+      pub are : AreScanned version root from lists ways
+      pub full : ¬ (EndsEmpty lists)
+      pub next_is : next ≡ behind from lists
+      pub left_is : left ≡ limit - length (joined lists)
+      pub took : TookSoFar seen (limited_lines limit lists) old new
+
+    pub scan_begins : (left : ℕ) (next : List ℕ) (old : W) → left ≡ limit → next ≡ from →
+        IsScanning left next old old
+    scan_begins left next old all is = record {
+      lists = [];
+      ways = [];
+      are = tt;
+      full = λ ends. ends;
+      next_is = is;
+      left_is = omega (arith, all);
+      took = subst (λ bytes. TookSoFar seen bytes old old) (sym (take_none limit))
+          (took_none seen old);
+    }
+
+    module _ (left : ℕ) (next : List ℕ) (old mid : W) (s : IsScanning left next old mid) where
+      abbrev so_far : Scanned version root from
+      so_far = record { lists = s.lists; ways = s.ways; are = s.are }
+
+      -- The limit is reached.
+      pub scan_full : left ≡ 0 → IsDoneScan version root from limit
+          (λ bytes. TookAll seen bytes old mid)
+      scan_full none = (so_far, inl (omega (arith, none, s.left_is)), s.took.all)
+
+      -- Memory is wanted before more is sought.
+      pub scan_wants : (device : DeviceView) → IsStoppedScan device version root from limit
+          (λ bytes. TookAll seen bytes old mid)
+          (λ fault bytes. TookUntil seen fault bytes old mid) (Run Memory)
+      scan_wants device = (
+        so_far,
+        took_front seen (limited_lines limit s.lists) old mid s.took (limited_lines limit s.lists)
+            [] (sym (append-nil (limited_lines limit s.lists))),
+      )
+
+      module _ (some : 0 < left) where
+        too_few : AreTooFew limit s.lists
+        too_few = (omega (arith, some, s.left_is), s.full)
+
+        -- A look-up has a fault.
+        pub scan_fails : (device : DeviceView) (fault : RootFault) →
+            AnswersLawful {T = Unit {0}} device version root (Err fault) →
+            IsStoppedScan device version root from limit (λ bytes. TookAll seen bytes old mid)
+            (λ fault bytes. TookUntil seen fault bytes old mid) (Root fault)
+        scan_fails device fault lawful = (
+          so_far,
+          (
+            too_few,
+            subst (λ bytes. TookAll seen bytes old mid) (sym (few_lines limit s.lists too_few))
+                s.took.all,
+            lawful,
+          ),
+        )
+
+        module _ (found : List Pair) (way : List (List ℕ))
+            (more : IsScanWay version root next way found) where
+          abbrev with_more : Scanned version root from
+          with_more = record {
+            lists = s.lists ++ found ∷ [];
+            ways = s.ways ++ way ∷ [];
+            are = scanned_more version root from s.lists s.ways found way s.are
+                (subst (λ key. IsScanWay version root key way found) s.next_is more);
+          }
+
+          text : limited_lines limit (s.lists ++ found ∷ []) ≡
+              limited_lines limit s.lists ++ pair_lines (take left found)
+          text = lines_more limit left s.lists found s.left_is some
+
+          -- It finds that there are no more.
+          pub scan_ends : found ≡ [] → IsDoneScan version root from limit
+              (λ bytes. TookAll seen bytes old mid)
+          scan_ends none =
+              let same : limited_lines limit s.lists ≡ limited_lines limit with_more.lists =
+              sym (text ∙ ap (λ ps. limited_lines limit s.lists ++ pair_lines (take left ps))
+              none ∙ ap (λ bytes. limited_lines limit s.lists ++ bytes) (take_none left) ∙
+              append-nil (limited_lines limit s.lists)) in (
+                with_more,
+                inr (subst (λ ps. EndsEmpty (s.lists ++ ps ∷ [])) (sym none) (ends_empty s.lists)),
+                subst (λ bytes. TookAll seen bytes old mid) same s.took.all,
+              )
+
+          module _ (new : W) where
+            -- Its lines are written.
+            pub scan_goes_on : (p : Pair) (rest : ℕ) (key : List ℕ) →
+                TookAll seen (pair_lines (take left found)) mid new →
+                ((seen mid).is_keeping ≡ true → (seen new).is_keeping ≡ true) →
+                slice_get found (length found - 1) ≡ Some p → key ≡ next_key p.key →
+                rest ≡ left - length found → IsScanning rest key old new
+            scan_goes_on p rest key t keeping last is less = record {
+              lists = with_more.lists;
+              ways = with_more.ways;
+              are = with_more.are;
+              full = ends_full s.lists found (some_last found (length found - 1) p last);
+              next_is = is ∙ sym (behind_more from s.lists found ∙
+                  behind_last (behind from s.lists) found p last);
+              left_is = omega (
+                arith,
+                less,
+                s.left_is,
+                ap length (joined_more s.lists found),
+                length-append (joined s.lists) found,
+              );
+              took = subst (λ bytes. TookSoFar seen bytes old new) (sym text)
+                  (took_also seen (limited_lines limit s.lists) (pair_lines (take left found)) old
+                  mid new s.took t keeping);
+            }
+
+            -- A part of them is.
+            pub scan_unwritten : (device : DeviceView) (fault : RunFault) →
+                TookUntil seen fault (pair_lines (take left found)) mid new →
+                IsStoppedScan device version root from limit (λ bytes. TookAll seen bytes old new)
+                (λ fault bytes. TookUntil seen fault bytes old new) (Run fault)
+            scan_unwritten device fault t = (
+              with_more,
+              subst (λ bytes. TookUntil seen fault bytes old new) (sym text)
+                  (until_also seen (limited_lines limit s.lists) (pair_lines (take left found)) old
+                  mid new s.took fault t),
+            )
+
+-- ---- the end of a scan
+
+-- A scan stops at a fault of a look-up, or at one of writing.
+stop_cases : (device : DeviceView) (version : Version) (root : List ℕ) (limit : ℕ)
+    (took_all : List ℕ → Type 0) (took_until : RunFault → List ℕ → Type 0) (fault : Fault)
+    (lists : List (List Pair)) (goal : Fault → Type 0) →
+    ((of_root : RootFault) → AreTooFew limit lists × took_all (pair_lines (joined lists)) ×
+    AnswersLawful {T = Unit {0}} device version root (Err of_root) → goal (Root of_root)) →
+    ((of_run : RunFault) → took_until of_run (limited_lines limit lists) → goal (Run of_run)) →
+    StoppedScan device version root limit took_all took_until fault lists → goal fault
+stop_cases device version root limit took_all took_until (faults.Run f) lists goal a b t = b f t
+stop_cases device version root limit took_all took_until (faults.Pack f) lists goal a b t = absurd t
+stop_cases device version root limit took_all took_until (faults.Check f) lists goal a b t =
+    absurd t
+stop_cases device version root limit took_all took_until (faults.CheckOld f) lists goal a b t =
+    absurd t
+stop_cases device version root limit took_all took_until (faults.CheckNew f) lists goal a b t =
+    absurd t
+stop_cases device version root limit took_all took_until (faults.Proof f) lists goal a b t =
+    absurd t
+stop_cases device version root limit took_all took_until (faults.Root f) lists goal a b t = a f t
+stop_cases device version root limit took_all took_until faults.NoCounts lists goal a b t = absurd t
+stop_cases device version root limit took_all took_until faults.InputTooLong lists goal a b t =
+    absurd t
+stop_cases device version root limit took_all took_until faults.BadKey lists goal a b t = absurd t
+stop_cases device version root limit took_all took_until faults.BadRoot lists goal a b t = absurd t
+stop_cases device version root limit took_all took_until faults.NotUnicode lists goal a b t =
+    absurd t
+stop_cases device version root limit took_all took_until faults.OutIsStdout lists goal a b t =
+    absurd t
+
+-- The sink is flushed, which takes no more bytes.
+module _ {W : Type 0} (seen : W → SinkView) (old mid new : W)
+    (keeping : (seen old).is_keeping ≡ true → (seen mid).is_keeping ≡ true)
+    (same : (seen mid).is_keeping ≡ true → (seen new).taken ≡ (seen mid).taken) where
+  so_far_all : (bytes : List ℕ) → TookAll seen bytes old mid → TookSoFar seen bytes old mid
+  so_far_all bytes t = record { all = t; keeping = keeping }
+
+  module _ (counted : (seen new).failures ≡ (seen mid).failures) where
+    all_flushed : (bytes : List ℕ) → TookAll seen bytes old mid → TookAll seen bytes old new
+    all_flushed bytes t = flushed seen bytes old mid (so_far_all bytes t) new same counted
+
+    prefix_flushed : (bytes : List ℕ) → TookPrefix seen bytes old mid →
+        TookPrefix seen bytes old new
+    prefix_flushed bytes t = record {
+      unfailed = counted ∙ t.unfailed;
+      took = λ k. let q = t.took k in record {
+        part = q.part;
+        grown = same (keeping k) ∙ q.grown;
+        is_prefix = q.is_prefix;
+      };
+    }
+
+    until_flushed : (fault : RunFault) (bytes : List ℕ) → fault ≢ Write →
+        ((fault ≡ Memory) × TookPrefix seen bytes old mid)
+        ⊎ ((fault ≡ Write) × TookPart seen bytes old mid) → TookUntil seen fault bytes old new
+    until_flushed fault bytes other (inl m) =
+        subst (λ f. TookUntil seen f bytes old new) (sym m.0) (prefix_flushed bytes m.1)
+    until_flushed fault bytes other (inr w) = absurd (other w.0)
+
+    module _ (device : DeviceView) (version : Version) (root from : List ℕ) (limit : ℕ) where
+      pub done_flushed : IsDoneScan version root from limit (λ bytes. TookAll seen bytes old mid) →
+          IsDoneScan version root from limit (λ bytes. TookAll seen bytes old new)
+      done_flushed d = (d.0, d.1, all_flushed (limited_lines limit d.0.lists) d.2)
+
+      pub stopped_flushed : (fault : Fault) → fault ≢ Run Write →
+          IsStoppedScan device version root from limit (λ bytes. TookAll seen bytes old mid)
+          (λ fault bytes. TookUntil seen fault bytes old mid) fault →
+          IsStoppedScan device version root from limit (λ bytes. TookAll seen bytes old new)
+          (λ fault bytes. TookUntil seen fault bytes old new) fault
+      stopped_flushed fault other d = (
+        d.0,
+        stop_cases device version root limit (λ bytes. TookAll seen bytes old mid)
+            (λ fault bytes. TookUntil seen fault bytes old mid) fault d.0.lists
+            (λ f. f ≢ Run Write → StoppedScan device version root limit
+            (λ bytes. TookAll seen bytes old new) (λ fault bytes. TookUntil seen fault bytes old new)
+            f d.0.lists)
+            (λ of_root t other. (t.0, all_flushed (pair_lines (joined d.0.lists)) t.1, t.2))
+            (λ of_run t other. until_flushed of_run (limited_lines limit d.0.lists)
+            (λ e. other (ap Run e))
+            (until_cases seen of_run (limited_lines limit d.0.lists) old mid t))
+            d.1 other,
+      )
+
+  module _ (counted : (seen new).failures ≡ after_failure (seen mid).failures) where
+    all_unflushed : (bytes : List ℕ) → TookAll seen bytes old mid → TookPart seen bytes old new
+    all_unflushed bytes t = unflushed seen bytes old mid (so_far_all bytes t) new same counted
+
+    prefix_unflushed : (bytes : List ℕ) → TookPrefix seen bytes old mid →
+        TookPart seen bytes old new
+    prefix_unflushed bytes t = record {
+      failed = λ e. other_failures (seen old).failures
+          (ap after_failure (sym t.unfailed) ∙ (sym counted ∙ e));
+      took = λ k. let q = t.took k in record {
+        part = q.part;
+        grown = same (keeping k) ∙ q.grown;
+        is_prefix = q.is_prefix;
+      };
+    }
+
+    until_unflushed : (fault : RunFault) (bytes : List ℕ) → fault ≢ Write →
+        ((fault ≡ Memory) × TookPrefix seen bytes old mid)
+        ⊎ ((fault ≡ Write) × TookPart seen bytes old mid) → TookPart seen bytes old new
+    until_unflushed fault bytes other (inl m) = prefix_unflushed bytes m.1
+    until_unflushed fault bytes other (inr w) = absurd (other w.0)
+
+    module _ (device : DeviceView) (version : Version) (root from : List ℕ) (limit : ℕ) where
+      pub done_unflushed :
+          IsDoneScan version root from limit (λ bytes. TookAll seen bytes old mid) →
+          IsStoppedScan device version root from limit (λ bytes. TookAll seen bytes old new)
+          (λ fault bytes. TookUntil seen fault bytes old new) (Run Write)
+      done_unflushed d = (d.0, all_unflushed (limited_lines limit d.0.lists) d.2)
+
+      pub stopped_unflushed : (fault : Fault) → fault ≢ Run Write →
+          IsStoppedScan device version root from limit (λ bytes. TookAll seen bytes old mid)
+          (λ fault bytes. TookUntil seen fault bytes old mid) fault →
+          IsStoppedScan device version root from limit (λ bytes. TookAll seen bytes old new)
+          (λ fault bytes. TookUntil seen fault bytes old new) (Run Write)
+      stopped_unflushed fault other d = (
+        d.0,
+        stop_cases device version root limit (λ bytes. TookAll seen bytes old mid)
+            (λ fault bytes. TookUntil seen fault bytes old mid) fault d.0.lists
+            (λ f. f ≢ Run Write → TookPart seen (limited_lines limit d.0.lists) old new)
+            (λ of_root t other. subst (λ bytes. TookPart seen bytes old new)
+            (few_lines limit d.0.lists t.0)
+            (all_unflushed (pair_lines (joined d.0.lists)) t.1))
+            (λ of_run t other. until_unflushed of_run (limited_lines limit d.0.lists)
+            (λ e. other (ap Run e))
+            (until_cases seen of_run (limited_lines limit d.0.lists) old mid t))
+            d.1 other,
+      )
+
+-- The flush that follows a scan ends it.
+module _ {W : Type 0} (seen : W → SinkView) (old mid new : W)
+    (keeping : (seen old).is_keeping ≡ true → (seen mid).is_keeping ≡ true)
+    (same : (seen mid).is_keeping ≡ true → (seen new).taken ≡ (seen mid).taken)
+    (device : DeviceView) (version : Version) (root from : List ℕ) (limit : ℕ)
+    (d : IsDoneScan version root from limit (λ bytes. TookAll seen bytes old mid)) where
+  pub done_ended : (result : Result (Unit {0}) Fault) →
+      CountsFailure (seen mid).failures (seen new).failures result →
+      OnOk result (IsDoneScan version root from limit (λ bytes. TookAll seen bytes old new))
+  done_ended (Ok x) counted =
+      done_flushed seen old mid new keeping same counted device version root from limit d
+  done_ended (Err fault) counted = tt
+
+  pub done_failed : (result : Result (Unit {0}) Fault) →
+      CountsFailure (seen mid).failures (seen new).failures result →
+      IfErr result (λ fault. fault ≡ Run Write) → IfErr result
+      (IsStoppedScan device version root from limit (λ bytes. TookAll seen bytes old new)
+      (λ fault bytes. TookUntil seen fault bytes old new))
+  done_failed (Ok x) counted is = tt
+  done_failed (Err fault) counted is = subst
+      (IsStoppedScan device version root from limit (λ bytes. TookAll seen bytes old new)
+      (λ fault bytes. TookUntil seen fault bytes old new)) (sym is)
+      (done_unflushed seen old mid new keeping same counted device version root from limit d)
+
+-- ---- the device
+
+-- What is said of a later device is said of the one before.
+pub lawful_before : (old late : DeviceView) (version : Version) (root : List ℕ)
+    (fault : RootFault) → StaysSame old late →
+    AnswersLawful {T = Unit {0}} late version root (Err fault) →
+    AnswersLawful {T = Unit {0}} old version root (Err fault)
+lawful_before old late version root fault same lawful content holds =
+    let still = same holds.honest in
+    lawful content (record {
+      honest = still.0;
+      short = subst (λ bytes. length bytes < 2 ^ 64) (sym still.1) holds.short;
+      is = subst (λ bytes. IsFileOf bytes content) (sym still.1) holds.is;
+    })
+
+pub stays_same : (old mid late : DeviceView) → StaysSame old mid → StaysSame mid late →
+    StaysSame old late
+stays_same old mid late first second honest =
+    let a = first honest in
+    let b = second a.0 in
+    (b.0, b.1 ∙ a.1)

@@ -1,0 +1,66 @@
+use Rattle.std.proofs.Common.{◌≡◌, ◌≢◌, ◌⊎◌, inl, inr, ℕ, List, true, sym, subst}
+use Rattle.prolly_entry.specs.declared.version.Version.{Version}
+use Rattle.prolly_fault.specs.declared.fault.RunFault.TheVariants.{Write}
+use Rattle.prolly_file.specs.Device.{DeviceView}
+use Rattle.prolly_file.specs.Failures.{after_failure}
+use Rattle.prolly_file.specs.Sink.{SinkView}
+use Rattle.prolly_tool.specs.Outputs.{TookAll, TookUntil}
+use Rattle.prolly_tool.specs.RootScans.{IsFlushed, IsStoppedScan}
+use Rattle.prolly_tool.specs.declared.fault.Fault.{Fault}
+use Rattle.prolly_tool.specs.declared.fault.Fault.TheVariants.{Run}
+use Rattle.prolly_tool.proofs.ScanSteps.{done_ended, done_failed, stopped_flushed, stopped_unflushed}
+use Rattle.prolly_tool.proofs.root_scan_answer.write_scan.Goals as goal
+
+-- The flush before a fault is told.
+module _ {W : Type 0} (seen : W → SinkView) (old mid new : W)
+    (keeping : (seen old).is_keeping ≡ true → (seen mid).is_keeping ≡ true)
+    (device : DeviceView) (version : Version) (root from : List ℕ) (limit : ℕ)
+    (fault told : Fault)
+    (d : IsStoppedScan device version root from limit (λ bytes. TookAll seen bytes old mid)
+    (λ fault bytes. TookUntil seen fault bytes old mid) fault) where
+  told_flushed : fault ≢ Run Write →
+      ((seen mid).is_keeping ≡ true → (seen new).taken ≡ (seen mid).taken) →
+      ((told ≡ fault) × ((seen new).failures ≡ (seen mid).failures))
+      ⊎ ((told ≡ Run Write) × ((seen new).failures ≡ after_failure (seen mid).failures)) →
+      IsStoppedScan device version root from limit (λ bytes. TookAll seen bytes old new)
+      (λ fault bytes. TookUntil seen fault bytes old new) told
+  told_flushed other same (inl is) = subst
+      (IsStoppedScan device version root from limit (λ bytes. TookAll seen bytes old new)
+      (λ fault bytes. TookUntil seen fault bytes old new)) (sym is.0)
+      (stopped_flushed seen old mid new keeping same is.1 device version root from limit fault
+      other d)
+  told_flushed other same (inr is) = subst
+      (IsStoppedScan device version root from limit (λ bytes. TookAll seen bytes old new)
+      (λ fault bytes. TookUntil seen fault bytes old new)) (sym is.0)
+      (stopped_unflushed seen old mid new keeping same is.1 device version root from limit fault
+      other d)
+
+  stopped_ended : ((told ≡ fault) × (new ≡ mid))
+      ⊎ ((fault ≢ Run Write) × IsFlushed seen mid new fault told) →
+      IsStoppedScan device version root from limit (λ bytes. TookAll seen bytes old new)
+      (λ fault bytes. TookUntil seen fault bytes old new) told
+  stopped_ended (inl is) = subst
+      (IsStoppedScan device version root from limit (λ bytes. TookAll seen bytes old new)
+      (λ fault bytes. TookUntil seen fault bytes old new)) (sym is.0)
+      (subst (λ last. IsStoppedScan device version root from limit
+      (λ bytes. TookAll seen bytes old last) (λ fault bytes. TookUntil seen fault bytes old last)
+      fault) (sym is.1) d)
+  stopped_ended (inr is) = told_flushed is.0 is.1.same is.1.tells
+
+pub returns-in-Ok-clause-ok : goal.returns-in-Ok-clause-ok
+returns-in-Ok-clause-ok g c = done_ended g.W.Sink.seen c.args.sink.now c.write_leaves.new.sink
+    c.flush.new.sink c.write_leaves.ensures.keeping c.flush.ensures.bytes
+    (g.D.Device.seen c.args.device.now) c.args.version c.args.root.now.0 c.args.from.now
+    c.args.limit c.in-Ok.ensures.ok c.flush.result c.flush.ensures.failures
+
+pub returns-in-Ok-clause-err : goal.returns-in-Ok-clause-err
+returns-in-Ok-clause-err g c = done_failed g.W.Sink.seen c.args.sink.now c.write_leaves.new.sink
+    c.flush.new.sink c.write_leaves.ensures.keeping c.flush.ensures.bytes
+    (g.D.Device.seen c.args.device.now) c.args.version c.args.root.now.0 c.args.from.now
+    c.args.limit c.in-Ok.ensures.ok c.flush.result c.flush.ensures.failures c.flush.ensures.fault
+
+pub returns-in-Err-clause-err : goal.returns-in-Err-clause-err
+returns-in-Err-clause-err g c = stopped_ended g.W.Sink.seen c.args.sink.now c.write_leaves.new.sink
+    c.fault_flushed.new.sink c.write_leaves.ensures.keeping (g.D.Device.seen c.args.device.now)
+    c.args.version c.args.root.now.0 c.args.from.now c.args.limit c.in-Err.fault
+    c.fault_flushed.result c.in-Err.ensures.err c.fault_flushed.ensures

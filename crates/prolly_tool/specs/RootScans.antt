@@ -1,0 +1,80 @@
+-- What `scan` answers to who names the root.
+use Rattle.std.specs.Prelude.{◌≡◌, ℕ, ◌≤◌, ◌<◌, ◌⊎◌, true, List, length, take, Err}
+use Rattle.prolly_check.specs.ScanWay.{AreScanned, EndsEmpty, joined}
+use Rattle.prolly_entry.specs.Pair.{Pair}
+use Rattle.prolly_entry.specs.declared.version.Version.{Version}
+use Rattle.prolly_fault.specs.declared.fault.RunFault.{RunFault}
+use Rattle.prolly_fault.specs.declared.fault.RunFault.TheVariants.{Write}
+use Rattle.prolly_file.specs.Device.{DeviceView}
+use Rattle.prolly_file.specs.Failures.{after_failure}
+use Rattle.prolly_file.specs.Sink.{SinkView}
+use Rattle.prolly_proof.specs.Descents.{AnswersLawful}
+use Rattle.prolly_tool.specs.Answers.{ShowsDone, ShowsFault}
+use Rattle.prolly_tool.specs.LookUps.{pair_lines}
+use Rattle.prolly_tool.specs.declared.answer.Answer.{Answer}
+use Rattle.prolly_tool.specs.declared.fault.Fault.{Fault}
+use Rattle.prolly_tool.specs.declared.fault.Fault.TheVariants.{Root, Run}
+
+-- ---- what was found
+
+-- Look-ups by the root, one after another from the key on, found these lists of pairs, by these
+-- ways.
+pub record Scanned (version : Version) (root from : List ℕ) : Type 0 where
+  pub lists : List (List Pair)
+  pub ways : List (List (List ℕ))
+  pub are : AreScanned version root from lists ways
+
+-- No more is sought: the lists have as many pairs as the limit says, or all that the tree has.
+abbrev pub AreEnough : ℕ → List (List Pair) → Type 0
+AreEnough limit lists = (limit ≤ length (joined lists)) ⊎ EndsEmpty lists
+
+-- More is sought: neither is so.
+abbrev pub AreTooFew : ℕ → List (List Pair) → Type 0
+AreTooFew limit lists = (length (joined lists) < limit) × ¬ (EndsEmpty lists)
+
+-- A line for each of the pairs that were found, up to the limit.
+abbrev pub limited_lines : ℕ → List (List Pair) → List ℕ
+limited_lines limit lists = pair_lines (take limit (joined lists))
+
+-- ---- what comes of it
+
+-- The scan found enough, and the lines were written. Of the sink, `took_all` says that it took all
+-- of these bytes.
+abbrev pub IsDoneScan : Version → List ℕ → List ℕ → ℕ → (List ℕ → Type 0) → Type 0
+IsDoneScan version root from limit took_all = (s : Scanned version root from) ×
+    AreEnough limit s.lists × took_all (limited_lines limit s.lists)
+
+-- This fault stopped the scan when it had found these lists. It is that of a look-up, once all
+-- lines of what was found before were written, and where the device is honest and has a lawful file
+-- of this version and root it is only want of memory or a failed read; or it is that of writing
+-- the lines, of which the sink took a part until then.
+abbrev pub StoppedScan : DeviceView → Version → List ℕ → ℕ → (List ℕ → Type 0) →
+    (RunFault → List ℕ → Type 0) → Fault → List (List Pair) → Type 0
+StoppedScan device version root limit took_all took_until (Root fault) lists =
+    AreTooFew limit lists × took_all (pair_lines (joined lists)) ×
+    AnswersLawful {T = Unit {0}} device version root (Err fault)
+StoppedScan device version root limit took_all took_until (Run fault) lists =
+    took_until fault (limited_lines limit lists)
+StoppedScan device version root limit took_all took_until _ lists = ⊥
+
+-- The same of lists that look-ups found.
+abbrev pub IsStoppedScan : DeviceView → Version → List ℕ → List ℕ → ℕ → (List ℕ → Type 0) →
+    (RunFault → List ℕ → Type 0) → Fault → Type 0
+IsStoppedScan device version root from limit took_all took_until fault =
+    (s : Scanned version root from) ×
+    StoppedScan device version root limit took_all took_until fault s.lists
+
+-- The answer: the scan is done, or the fault that stopped it is shown.
+abbrev pub IsRootScan : DeviceView → Version → List ℕ → List ℕ → ℕ → (List ℕ → Type 0) →
+    (RunFault → List ℕ → Type 0) → Answer → Type 0
+IsRootScan device version root from limit took_all took_until answer =
+    (IsDoneScan version root from limit took_all × ShowsDone answer)
+    ⊎ ((fault : Fault) × IsStoppedScan device version root from limit took_all took_until fault ×
+    ShowsFault answer fault)
+
+-- The sink was flushed before the fault is told, and that is told, or that the flush failed.
+pub record IsFlushed {W : Type 0} (seen : W → SinkView) (old new : W) (fault told : Fault)
+    : Type 0 where
+  pub same : (seen old).is_keeping ≡ true → (seen new).taken ≡ (seen old).taken
+  pub tells : ((told ≡ fault) × ((seen new).failures ≡ (seen old).failures))
+      ⊎ ((told ≡ Run Write) × ((seen new).failures ≡ after_failure (seen old).failures))

@@ -1,0 +1,191 @@
+//! The command `scan` of a file of which only the root is believed.
+ghost use Rattle.std.specs.Prelude.{◌≡◌, ◌≢◌, ◌⊎◌, IfOk, IfErr, OnOk, OnErr, take, true, false};
+ghost use Rattle.prolly_check.specs.ScanWay.{next_key};
+ghost use Rattle.prolly_file.specs.Failures.{CountsFailure};
+ghost use Rattle.prolly_tool.specs.LookUps.{pair_lines};
+ghost use Rattle.prolly_tool.specs.Outputs.{TookAll, TookUntil};
+ghost use Rattle.prolly_tool.specs.RootScans.{IsDoneScan, IsFlushed, IsRootScan, IsStoppedScan};
+ghost use Rattle.prolly_tool.specs.declared.fault.Fault.{Fault as FaultValue};
+ghost use Rattle.prolly_tool.specs.declared.fault.Fault.TheVariants.{Run};
+
+use crate::answer::Answer;
+use crate::fault::Fault;
+use crate::scan_answer::lines_of;
+use prolly_entry::{Pair, Ref, Version};
+use prolly_fault::RunFault;
+use prolly_file::{Device, Sink, write_all};
+use prolly_proof::pairs_by_root;
+use std::alloc::{AllocError, Global};
+
+/// What `scan` answers to who names the root: it writes a line of key and value in hexadecimal to
+/// the sink for each of the first `limit` pairs whose key is not less than `from`, and shows
+/// nothing; or it shows the line of the fault that stopped it, and what was found before that was
+/// written. An `Err` is want of memory for that line; the sink then has what was found before.
+///
+/// It goes on leaf by leaf, and looks each up from the root: see
+/// [`pairs_by_root`](prolly_proof::pairs_by_root). So it takes memory for one look-up, and for the
+/// pairs and the lines of one leaf. What the pairs of such look-ups are of the map with the root is
+/// said by [`ways_are_right`](prolly_check::laws::ways_are_right). The sink is called once for each
+/// leaf, or more often where it takes only a part, and flushed at the end.
+pub fn answer_scan_by_root<D: Device, W: Sink>(
+    alloc: Global,
+    device: &mut D,
+    version: Version,
+    root: &Ref,
+    from: &[u8],
+    limit: u32,
+    sink: &mut W,
+) -> Result<Answer, AllocError>
+    ensures ok { IfOk result (IsRootScan (D.seen device.old) version root.now.0 from.now limit
+        (λ bytes. TookAll W.seen bytes sink.old sink.new)
+        (λ fault bytes. TookUntil W.seen fault bytes sink.old sink.new)) }
+    ensures err { OnErr result ((fault : FaultValue) × IsStoppedScan (D.seen device.old) version
+        root.now.0 from.now limit (λ bytes. TookAll W.seen bytes sink.old sink.new)
+        (λ fault bytes. TookUntil W.seen fault bytes sink.old sink.new) fault) }
+{
+    match write_scan(alloc, device, version, root, from, limit, sink) {
+        Ok(()) => Ok(Answer::of_done(alloc)),
+        Err(fault) => Answer::of_fault(alloc, fault),
+    }
+}
+
+/// Writes the lines of a scan, and flushes the sink, also where a fault stops the scan.
+fn write_scan<D: Device, W: Sink>(
+    alloc: Global,
+    device: &mut D,
+    version: Version,
+    root: &Ref,
+    from: &[u8],
+    limit: u32,
+    sink: &mut W,
+) -> Result<(), Fault>
+    ensures ok { OnOk result (IsDoneScan version root.now.0 from.now limit
+        (λ bytes. TookAll W.seen bytes sink.old sink.new)) }
+    ensures err { IfErr result (IsStoppedScan (D.seen device.old) version root.now.0 from.now limit
+        (λ bytes. TookAll W.seen bytes sink.old sink.new)
+        (λ fault bytes. TookUntil W.seen fault bytes sink.old sink.new)) }
+{
+    match write_leaves(alloc, device, version, root, from, limit, sink) {
+        Ok(()) => flush(sink),
+        Err(fault) => Err(fault_flushed(sink, fault)),
+    }
+}
+
+/// Writes the lines of a scan, leaf by leaf.
+fn write_leaves<D: Device, W: Sink>(
+    alloc: Global,
+    device: &mut D,
+    version: Version,
+    root: &Ref,
+    from: &[u8],
+    limit: u32,
+    sink: &mut W,
+) -> Result<(), Fault>
+    ensures ok { OnOk result (IsDoneScan version root.now.0 from.now limit
+        (λ bytes. TookAll W.seen bytes sink.old sink.new)) }
+    ensures err { IfErr result (IsStoppedScan (D.seen device.old) version root.now.0 from.now limit
+        (λ bytes. TookAll W.seen bytes sink.old sink.new)
+        (λ fault bytes. TookUntil W.seen fault bytes sink.old sink.new)) }
+    ensures keeping { (W.seen sink.old).is_keeping ≡ true → (W.seen sink.new).is_keeping ≡ true }
+{
+    let Ok(mut next) = Vec::from_slice(alloc, from) else {
+        return Err(Fault::Run(RunFault::Memory));
+    };
+    let mut left = limit as usize;
+    while left > 0 {
+        let found = match pairs_by_root(alloc, device, version, root, &next) {
+            Ok(found) => found,
+            Err(fault) => return Err(Fault::Root(fault)),
+        };
+        let Some(last) = found.pairs.last() else {
+            return Ok(());
+        };
+        if let Err(fault) = write_first(alloc, &found.pairs, left, sink) {
+            return Err(Fault::Run(fault));
+        }
+        left = left.saturating_sub(found.pairs.len());
+        next = match key_behind(alloc, last.key()) {
+            Ok(next) => next,
+            Err(_) => return Err(Fault::Run(RunFault::Memory)),
+        };
+    }
+    Ok(())
+}
+
+/// Writes the lines of the first of the pairs of a leaf, at most so many.
+fn write_first<W: Sink>(
+    alloc: Global,
+    pairs: &[Pair],
+    most: usize,
+    sink: &mut W,
+) -> Result<(), RunFault>
+    ensures ok { OnOk result (TookAll W.seen (pair_lines (take most pairs.now)) sink.old sink.new) }
+    ensures err { IfErr result (λ fault. TookUntil W.seen fault
+        (pair_lines (take most pairs.now)) sink.old sink.new) }
+    ensures keeping { (W.seen sink.old).is_keeping ≡ true → (W.seen sink.new).is_keeping ≡ true }
+{
+    let Ok(lines) = lines_of(alloc, first_of(pairs, most)) else {
+        return Err(RunFault::Memory);
+    };
+    match write_all(sink, &lines) {
+        Ok(()) => Ok(()),
+        Err(_) => Err(RunFault::Write),
+    }
+}
+
+/// The first of the pairs, at most so many.
+fn first_of(pairs: &[Pair], most: usize) -> &[Pair]
+    ensures { result.now ≡ take most pairs.now }
+{
+    if pairs.len() <= most {
+        return pairs;
+    }
+    &pairs[..most]
+}
+
+/// The least key that is greater than this one.
+fn key_behind(alloc: Global, key: &[u8]) -> Result<Vec<u8>, AllocError>
+    ensures { IfOk result (λ next. next.items ≡ next_key key.now) }
+{
+    let mut next = Vec::from_slice(alloc, key)?;
+    next.push(0)?;
+    Ok(next)
+}
+
+/// Flushes the sink.
+fn flush<W: Sink>(sink: &mut W) -> Result<(), Fault>
+    ensures bytes { (W.seen sink.old).is_keeping ≡ true →
+        (W.seen sink.new).taken ≡ (W.seen sink.old).taken }
+    ensures failures { CountsFailure (W.seen sink.old).failures (W.seen sink.new).failures result }
+    ensures fault { IfErr result (λ fault. fault ≡ Run RunFault.Write) }
+{
+    match sink.flush() {
+        Ok(()) => Ok(()),
+        Err(_) => Err(Fault::Run(RunFault::Write)),
+    }
+}
+
+/// Flushes the sink before the fault is told, and answers it, or else that this failed. A sink of
+/// which a write failed is left as it is.
+fn fault_flushed<W: Sink>(sink: &mut W, fault: Fault) -> Fault
+    ensures { ((result ≡ fault) × (sink.new ≡ sink.old))
+        ⊎ ((fault ≢ Run RunFault.Write) × IsFlushed W.seen sink.old sink.new fault result) }
+{
+    if is_failed_write(fault) {
+        return fault;
+    }
+    match sink.flush() {
+        Ok(()) => fault,
+        Err(_) => Fault::Run(RunFault::Write),
+    }
+}
+
+/// Whether this is the fault of a write that failed.
+fn is_failed_write(fault: Fault) -> bool
+    ensures { result ≡ false → fault ≢ Run RunFault.Write }
+{
+    match fault {
+        Fault::Run(fault) => matches!(fault, RunFault::Write),
+        _ => false,
+    }
+}
