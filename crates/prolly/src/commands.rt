@@ -11,12 +11,12 @@ use prolly_build::{FILES_LIMIT, build};
 use prolly_entry::{Ref, Version};
 use prolly_fault::RunFault;
 use prolly_file::{Buffered, FromRead, FromSeek, Sink, ToWrite};
-use prolly_proof::get_by_root;
+use prolly_proof::{get_by_root, nth_by_root};
 use prolly_stage::OpenGate;
 use prolly_tool::{
     Answer, Command, Config, Fault, NameFault, RecordForm, WriteMode, answer_build, answer_check,
-    answer_diff, answer_dump, answer_found, answer_get, answer_nth, answer_pack, answer_prove,
-    answer_scan, answer_scratch, answer_verify,
+    answer_diff, answer_dump, answer_found, answer_found_pair, answer_get, answer_nth, answer_pack,
+    answer_prove, answer_scan, answer_scan_by_root, answer_scratch, answer_verify,
 };
 use std::alloc::AllocError;
 use std::fs;
@@ -93,13 +93,30 @@ fn answer_or_refusal<T: Wait + Threads + Sync>(
                 Some(root) => get_from_root(rt, &file, version, &root, &key),
             }
         }
-        Command::Scan { file, from, limit } => {
-            let mut source = opened(rt, &file)?;
-            Ok(answer_scan(rt.alloc(), &mut source, &from, limit)?)
+        Command::Scan {
+            file,
+            from,
+            limit,
+            root,
+            version,
+        } => {
+            let version = Version::of(version).unwrap();
+            match root {
+                None => scan(rt, &file, &from, limit),
+                Some(root) => scan_from_root(rt, &file, version, &root, &from, limit),
+            }
         }
-        Command::Nth { file, n } => {
-            let mut source = opened(rt, &file)?;
-            Ok(answer_nth(rt.alloc(), &mut source, n)?)
+        Command::Nth {
+            file,
+            n,
+            root,
+            version,
+        } => {
+            let version = Version::of(version).unwrap();
+            match root {
+                None => nth(rt, &file, n),
+                Some(root) => nth_from_root(rt, &file, version, &root, n),
+            }
         }
         Command::Dump {
             file,
@@ -201,6 +218,51 @@ fn get_from_root(
     let mut device = FromSeek::new(file_beside(rt, file, None)?);
     let found = get_by_root(rt.alloc(), &mut device, version, root, key);
     Ok(answer_found(rt.alloc(), &found)?)
+}
+
+/// `scan FILE HEXKEY LIMIT`
+fn scan(rt: &HostRuntime, file: &str, from: &[u8], limit: u32) -> Result<Answer, Refusal> {
+    let mut source = opened(rt, file)?;
+    Ok(answer_scan(rt.alloc(), &mut source, from, limit)?)
+}
+
+/// `scan --root ROOT [--format V] FILE HEXKEY LIMIT`, which prints the pairs of a leaf before it
+/// looks for the next one.
+fn scan_from_root(
+    rt: &HostRuntime,
+    file: &str,
+    version: Version,
+    root: &Ref,
+    from: &[u8],
+    limit: u32,
+) -> Result<Answer, Refusal> {
+    let target = FileId::at(rt, STDOUT);
+    let mut device = FromSeek::new(file_beside(rt, file, target)?);
+    let mut sink = ToWrite::new(rt.stdout());
+    let alloc = rt.alloc();
+    Ok(answer_scan_by_root(alloc, &mut device, version, root, from, limit, &mut sink)?)
+}
+
+/// `nth FILE N`
+fn nth(rt: &HostRuntime, file: &str, n: u64) -> Result<Answer, Refusal> {
+    let mut source = opened(rt, file)?;
+    Ok(answer_nth(rt.alloc(), &mut source, n)?)
+}
+
+/// `nth --root ROOT --format 2 FILE N`. Chunks of version One have no counts to go by.
+fn nth_from_root(
+    rt: &HostRuntime,
+    file: &str,
+    version: Version,
+    root: &Ref,
+    n: u64,
+) -> Result<Answer, Refusal> {
+    if version == Version::One {
+        return Err(Refusal::of_fault(rt, Fault::NoCounts));
+    }
+    let mut device = FromSeek::new(file_beside(rt, file, None)?);
+    let found = nth_by_root(rt.alloc(), &mut device, root, n);
+    Ok(answer_found_pair(rt.alloc(), &found)?)
 }
 
 /// How `dump` writes pairs, with `--text` or without it.
