@@ -403,8 +403,8 @@ module _ {W : Type 0} (seen : W → SinkView) (old mid new : W)
         stop_cases device version root limit (λ bytes. TookAll seen bytes old mid)
             (λ fault bytes. TookUntil seen fault bytes old mid) fault d.0.lists
             (λ f. f ≢ Run Write → StoppedScan device version root limit
-            (λ bytes. TookAll seen bytes old new) (λ fault bytes. TookUntil seen fault bytes old new)
-            f d.0.lists)
+            (λ bytes. TookAll seen bytes old new)
+            (λ fault bytes. TookUntil seen fault bytes old new) f d.0.lists)
             (λ of_root t other. (t.0, all_flushed (pair_lines (joined d.0.lists)) t.1, t.2))
             (λ of_run t other. until_flushed of_run (limited_lines limit d.0.lists)
             (λ e. other (ap Run e))

@@ -1,4 +1,5 @@
-use Rattle.std.proofs.Common.{◌≡◌, ◌-◌, ◌∙◌, refl, sym, ap, arith, subst, map, length, take, Some, None}
+use Rattle.std.proofs.Common.{◌≡◌, ◌-◌, ◌∙◌, refl, sym, ap, arith, subst, map, length, take}
+use Rattle.std.proofs.Common.{Some, None}
 use Rattle.std.specs.List.{slice_get}
 use Rattle.prolly_check.specs.ScanWay.{IsScanWay, next_key}
 use Rattle.prolly_tool.specs.LookUps.{pair_lines}

@@ -8,7 +8,8 @@ use Rattle.prolly_tool.specs.Outputs.{TookAll, TookUntil}
 use Rattle.prolly_tool.specs.RootScans.{IsFlushed, IsStoppedScan}
 use Rattle.prolly_tool.specs.declared.fault.Fault.{Fault}
 use Rattle.prolly_tool.specs.declared.fault.Fault.TheVariants.{Run}
-use Rattle.prolly_tool.proofs.ScanSteps.{done_ended, done_failed, stopped_flushed, stopped_unflushed}
+use Rattle.prolly_tool.proofs.ScanSteps.{done_ended, done_failed, stopped_flushed}
+use Rattle.prolly_tool.proofs.ScanSteps.{stopped_unflushed}
 use Rattle.prolly_tool.proofs.root_scan_answer.write_scan.Goals as goal
 
 -- The flush before a fault is told.
