@@ -1,18 +1,30 @@
 -- Going down from the root, from each chunk to the one that it refers to.
-use Rattle.std.proofs.Common.{◌≡◌, ℕ, List, [], ◌∷◌, ◌++◌, map, Option, Some, None, Vec, Global}
+use Rattle.std.proofs.Common.{◌≡◌, ℕ, List, [], ◌∷◌, ◌++◌, length, Option, Some, None}
+use Rattle.std.proofs.Common.{Result, IfSome}
 use Rattle.std.proofs.Common.{refl, sym, ap, ◌∙◌, subst}
+use Rattle.std.specs.List.{AllByRecursion}
+use Rattle.std.specs.Option.{option_to_list}
 use Rattle.std.proofs.lemmas.List.{map-append}
+use Rattle.prolly_check.specs.Content.{Content}
 use Rattle.prolly_check.specs.Way.{IsNamed, LevelsFall, level_of}
 use Rattle.prolly_entry.specs.declared.version.Version.{Version}
-use Rattle.prolly_proof.specs.Descents.{IsOnward}
+use Rattle.prolly_file.specs.Device.{DeviceView}
+use Rattle.prolly_tree.specs.Tree.{bytes_of}
+use Rattle.prolly_proof.specs.Descents.{IsOnward, StandsAtTree, StepsDown, chunks_in}
 use Rattle.prolly_proof.specs.Faults.{FallsTo, last_level}
+use Rattle.prolly_proof.specs.Kept.{KeepsLevel}
 use Rattle.prolly_proof.specs.Sought.{Leads, LeadsToEnd}
-use Rattle.prolly_proof.specs.declared.descent.Due.{Due}
-use Rattle.prolly_proof.specs.declared.descent.Onward.{Onward}
-use Rattle.prolly_proof.specs.declared.descent.Onward.TheVariants.{End, Below}
-use Rattle.prolly_proof.specs.declared.descent.Place.{Place}
+use Rattle.prolly_proof.specs.Walks.{HoldsFile, StaysSame}
+use Rattle.prolly_proof.specs.declared.level.Due.{Due}
+use Rattle.prolly_proof.specs.declared.level.Level.{Level}
+use Rattle.prolly_proof.specs.declared.level.Onward.{Onward}
+use Rattle.prolly_proof.specs.declared.level.Onward.TheVariants.{End, Below}
+use Rattle.prolly_proof.specs.declared.place.Place.{Place}
+use Rattle.prolly_proof.specs.declared.root_fault.RootFault.{RootFault}
 use Rattle.prolly_proof.specs.declared.sought.Sought.{Sought}
+use Rattle.prolly_proof.proofs.GoingDown.{kept_is}
 use Rattle.prolly_proof.proofs.Seeking.{leads_more}
+use Rattle.prolly_proof.proofs.Walking.{holds_still, same_size}
 
 -- ---- the levels
 
@@ -49,9 +61,6 @@ pub begins : (version : Version) (root : List ℕ) (sought : Sought) (due : Due)
 begins version root sought due reference above same =
     record { lead = (reference, same); down = tt; above = above }
 
-abbrev pub bytes_in : List (Vec ℕ Global) → List (List ℕ)
-bytes_in chunks = map (λ chunk. chunk.items) chunks
-
 module _ (version : Version) (root : List ℕ) (sought : Sought) (passed : List (List ℕ)) (due : Due)
     (d : Descended version root sought passed due) (chunk : List ℕ)
     (named : IsNamed version due.reference.0 chunk) (falls : FallsTo due.above chunk)
@@ -80,8 +89,55 @@ module _ (version : Version) (root : List ℕ) (sought : Sought) (passed : List 
         above = on.1 ∙ sym (last_more passed chunk);
       }
 
--- the chunks that were met, of which one more was kept
-pub one_more : (chunks new : List (Vec ℕ Global)) (chunk : Vec ℕ Global) →
-    new ≡ chunks ++ chunk ∷ [] → bytes_in new ≡ bytes_in chunks ++ chunk.items ∷ []
-one_more chunks new chunk kept = ap bytes_in kept ∙
-    map-append (λ chunk. chunk.items) chunks (chunk ∷ [])
+-- the chunks of those that were met, of which one more was kept
+pub one_more : (levels new : List Level) (level : Level) → new ≡ levels ++ level ∷ [] →
+    chunks_in new ≡ chunks_in levels ++ level.chunk.items ∷ []
+one_more levels new level kept = ap chunks_in kept ∙
+    map-append (λ level. level.chunk.items) levels (level ∷ [])
+
+-- ---- in a lawful file
+
+-- the chunk that is due is the top of one of its trees, and what was kept is so
+pub record GoesOnLawful (content : Content) (size : ℕ) (due : Due) (place : Place)
+    (above kept : List Level) : Type 0 where
+  pub at : StandsAtTree content size due.reference.0 due.above place
+  pub met : AllByRecursion (KeepsLevel content size) above
+  pub left : AllByRecursion (KeepsLevel content size) kept
+
+pub next_kept : (P : Level → Type 0) (left rest : List Level) (next : Option Level) →
+    left ≡ option_to_list next ++ rest → AllByRecursion P left →
+    IfSome next P × AllByRecursion P rest
+next_kept P left rest None e all = (tt, subst (AllByRecursion P) e all)
+next_kept P left rest (Some level) e all =
+    let both : P level × AllByRecursion P rest = subst (AllByRecursion P) e all in both
+
+-- what was said of a later device
+module _ (old late : DeviceView) (content : Content) (same : StaysSame old late)
+    (holds : HoldsFile old content) where
+  abbrev size : length old.bytes ≡ length late.bytes
+  size = same_size old late content same holds
+
+  pub level_kept : (kept : Option Level) (level : Level) →
+      IfSome kept (KeepsLevel content (length old.bytes)) →
+      (HoldsFile late content → IfSome kept (KeepsLevel content (length late.bytes)) →
+      KeepsLevel content (length late.bytes) level) → KeepsLevel content (length old.bytes) level
+  level_kept kept level is keeps = subst (λ n. KeepsLevel content n level) (sym size)
+      (keeps (holds_still old late content same holds)
+      (subst (λ n. IfSome kept (KeepsLevel content n)) size is))
+
+  -- where a step comes
+  pub step_lands : (level : Level) (due : Due) (place : Place) (result : Result Onward RootFault) →
+      KeepsLevel content (length old.bytes) level →
+      StandsAtTree content (length old.bytes) due.reference.0 due.above place →
+      level.frame ≡ place.frame → level.below.first ≡ place.below →
+      (HoldsFile late content → KeepsLevel content (length late.bytes) level →
+      (at : StandsAtTree content (length late.bytes) due.reference.0 due.above place) →
+      level.below.first ≡ place.below →
+      level.chunk.items ≡ bytes_of content.version at.level at.t →
+      StepsDown content (length late.bytes) result) → StepsDown content (length old.bytes) result
+  step_lands level due place result keeps at frame first down =
+      let kept = subst (λ n. KeepsLevel content n level) size keeps in
+      let there = subst (λ n. StandsAtTree content n due.reference.0 due.above place) size at in
+      subst (λ n. StepsDown content n result) (sym size)
+      (down (holds_still old late content same holds) kept there first
+      (kept_is content (length late.bytes) due.reference.0 due.above place there level kept frame))

@@ -16,3 +16,5 @@ pub mod Descending
 pub mod Walking
 -- Going down from the root of a lawful file on a device.
 pub mod GoingDown
+-- What is kept of the frames below a chunk.
+pub mod Keeping

@@ -2,7 +2,6 @@
 use Rattle.std.specs.Prelude.{◌≡◌, ℕ, List, [], map, Option, None, option_map}
 use Rattle.prolly_check.specs.CountWay.{IsCountWay}
 use Rattle.prolly_check.specs.Leaves.{pairs_from}
-use Rattle.prolly_check.specs.ScanWay.{IsScanWay}
 use Rattle.prolly_check.specs.Way.{IsWay}
 use Rattle.prolly_check.specs.declared.entries.Entries.{Entries}
 use Rattle.prolly_check.specs.declared.entries.Entries.TheVariants.{Leaf, Node}
@@ -10,7 +9,6 @@ use Rattle.prolly_entry.specs.Pair.{Pair}
 use Rattle.prolly_entry.specs.declared.version.Version.{Version}
 use Rattle.prolly_proof.specs.declared.by_root.Found.{Found}
 use Rattle.prolly_proof.specs.declared.by_root.FoundPair.{FoundPair}
-use Rattle.prolly_proof.specs.declared.by_root.FoundPairs.{FoundPairs}
 use Rattle.prolly_tree.specs.LookUp.{find, nth}
 
 -- ---- where it ends
@@ -42,8 +40,3 @@ IsFound version root key found = IsWay version root key
 -- The same of the pair of this number, or none.
 abbrev pub IsFoundPair : List ℕ → ℕ → FoundPair → Type 0
 IsFoundPair root n found = IsCountWay root n (map (λ chunk. chunk.items) found.way.items) found.pair
-
--- The same of the pairs that it finds from the key on.
-abbrev pub AreFound : Version → List ℕ → List ℕ → FoundPairs → Type 0
-AreFound version root key found = IsScanWay version root key
-    (map (λ chunk. chunk.items) found.way.items) found.pairs.items

@@ -1,8 +1,6 @@
 -- Going down from the root in a file on a device.
-use Rattle.std.specs.Prelude.{◌≡◌, ℕ, suc, ◌⊎◌, List, ◌∷◌, ◌++◌, length, map, Some, Result, Ok, Err}
+use Rattle.std.specs.Prelude.{◌≡◌, ℕ, suc, ◌⊎◌, List, [], ◌∷◌, ◌++◌, map, Option, Some, Result, Ok, Err}
 use Rattle.std.specs.Prelude.{IfErr}
-use Rattle.prolly_entry.specs.Cut.{sha512_cut}
-use Rattle.prolly_tree.specs.File.{root_reference}
 use Rattle.std.specs.List.{flat_map}
 use Rattle.prolly_check.specs.Checked.{chunks_of}
 use Rattle.prolly_check.specs.Content.{Content}
@@ -11,29 +9,40 @@ use Rattle.prolly_check.specs.Entries.{Child}
 use Rattle.prolly_check.specs.Kinds.{kind_of}
 use Rattle.prolly_check.specs.Way.{level_of}
 use Rattle.prolly_check.specs.declared.entries.Entries.{Entries}
-use Rattle.prolly_entry.specs.declared.version.Version.{Version}
-use Rattle.prolly_proof.specs.Sought.{EndsFor, LeadsFor, LeadsToEnd}
-use Rattle.prolly_proof.specs.declared.descent.Descent.{Descent}
-use Rattle.prolly_proof.specs.declared.sought.Sought.{Sought}
+use Rattle.prolly_entry.specs.Cut.{sha512_cut}
 use Rattle.prolly_entry.specs.Reference.{reference_of}
+use Rattle.prolly_entry.specs.declared.version.Version.{Version}
 use Rattle.prolly_file.specs.Device.{DeviceView}
+use Rattle.prolly_tree.specs.Chunk.{post_order}
+use Rattle.prolly_tree.specs.File.{root_reference}
+use Rattle.prolly_tree.specs.Tree.{Tree, bytes_of}
 use Rattle.prolly_proof.specs.Faults.{FallsTo}
+use Rattle.prolly_proof.specs.Sought.{EndsFor, LeadsFor, LeadsToEnd}
 use Rattle.prolly_proof.specs.Walks.{HoldsFile, IsFrameOfTop, OnlyRead, StandsBehind}
 use Rattle.prolly_proof.specs.Walks.{chunks_of_tree}
-use Rattle.prolly_proof.specs.declared.descent.Due.{Due}
-use Rattle.prolly_proof.specs.declared.descent.Onward.{Onward}
-use Rattle.prolly_proof.specs.declared.descent.Onward.TheVariants.{End, Below}
-use Rattle.prolly_proof.specs.declared.descent.Place.{Place}
+use Rattle.prolly_proof.specs.declared.descent.Descent.{Descent}
+use Rattle.prolly_proof.specs.declared.level.Due.{Due}
+use Rattle.prolly_proof.specs.declared.level.Level.{Level}
+use Rattle.prolly_proof.specs.declared.level.Onward.{Onward}
+use Rattle.prolly_proof.specs.declared.level.Onward.TheVariants.{End, Below}
+use Rattle.prolly_proof.specs.declared.place.Place.{Place}
 use Rattle.prolly_proof.specs.declared.root_fault.RootFault.{RootFault}
 use Rattle.prolly_proof.specs.declared.root_fault.RootFault.TheVariants.{Memory, Read}
+use Rattle.prolly_proof.specs.declared.sought.Sought.{Sought}
 use Rattle.prolly_proof.specs.declared.walk.Walk.{Walk}
-use Rattle.prolly_tree.specs.Chunk.{post_order}
-use Rattle.prolly_tree.specs.Tree.{Tree, bytes_of}
+
+-- The bytes of the chunks.
+abbrev pub chunks_in : List Level → List (List ℕ)
+chunks_in levels = map (λ level. level.chunk.items) levels
+
+-- All that the descent went through, from the root down.
+abbrev pub levels_of : Descent → List Level
+levels_of descent = descent.above.items ++ descent.last ∷ []
 
 -- The chunks of the descent lead a look-up from the root of this reference to where it ends.
 abbrev pub IsDescent : Version → List ℕ → Sought → Descent → Type 0
 IsDescent version root sought descent = LeadsToEnd version root sought
-    (map (λ chunk. chunk.items) descent.above.items) descent.last.items descent.sought
+    (chunks_in descent.above.items) descent.last.chunk.items descent.sought
 
 -- The look-up ends at the entries, or goes on from them, which are those of a node of this level,
 -- at the chunk that is due.
@@ -92,27 +101,29 @@ abbrev pub chunks_of_trees : Content → (level : ℕ) → List (Tree level) →
 chunks_of_trees content level ts =
     map (λ c. c.bytes) (flat_map (post_order content.version level) ts)
 
--- From the children of a node of a file, whose frames begin where the walk stands, it goes on to
+-- From the children of a node of the file, whose frames begin where the walk stands, it goes on to
 -- one of them.
-abbrev pub GoesAmong : DeviceView → List Child → Walk → Result Onward RootFault → ℕ → Type 0
-GoesAmong device children walk result level =
-    (content : Content) (ts : List (Tree level)) (before left : List (List ℕ)) →
-    HoldsFile device content → children ≡ map (child_of content.version level) ts →
+abbrev pub GoesAmong : Content → ℕ → List Child → Walk → Result Onward RootFault → ℕ → Type 0
+GoesAmong content size children walk result level =
+    (ts : List (Tree level)) (before left : List (List ℕ)) →
+    children ≡ map (child_of content.version level) ts →
     chunks_of content ≡ before ++ (chunks_of_trees content level ts ++ left) →
-    StandsBehind (length device.bytes) before walk →
-    LeadsAmong content level ts (length device.bytes) result
+    StandsBehind size before walk → LeadsAmong content level ts size result
 
--- The chunk that is due is the top of a tree of the file, and this is its place.
-pub record StandsAtTree (content : Content) (size : ℕ) (due : Due) (place : Place) : Type 0 where
+-- The chunk with this reference, which stands below this level, is the top of a tree of the file,
+-- and this is its place.
+pub record StandsAtTree (content : Content) (size : ℕ) (reference : List ℕ) (above : Option ℕ)
+    (place : Place) : Type 0 where
   pub level : ℕ
   pub t : Tree level
   pub below : IsTreeOf content.version (chunks_of content) level t
-  pub named : due.reference.0 ≡ reference_of (bytes_of content.version level t)
-  pub falls : FallsTo due.above (bytes_of content.version level t)
+  pub named : reference ≡ reference_of (bytes_of content.version level t)
+  pub falls : FallsTo above (bytes_of content.version level t)
   pub stands : IsPlaceOf content level t size place
 
 -- A step comes to such a chunk again, or to an end.
 abbrev pub StepsDown : Content → ℕ → Result Onward RootFault → Type 0
 StepsDown content size (Ok End) = Unit {0}
-StepsDown content size (Ok (Below due place)) = StandsAtTree content size due place
+StepsDown content size (Ok (Below due place)) =
+    StandsAtTree content size due.reference.0 due.above place
 StepsDown content size (Err fault) = MayFail fault

@@ -10,3 +10,7 @@ pub mod Faults
 pub mod Walks
 -- Going down from the root in a file on a device.
 pub mod Descents
+-- What is kept of a file from one look-up to the next.
+pub mod Kept
+-- A reader that looks up by the root again and again.
+pub mod Readers

@@ -1,5 +1,5 @@
 -- What a look-up by a root seeks, and where that leads it. (This project's rules.)
-use Rattle.std.specs.Prelude.{◌≡◌, ℕ, List, [], ◌∷◌, ◌++◌, Option, Some, None, option_map}
+use Rattle.std.specs.Prelude.{◌≡◌, ℕ, List, [], ◌∷◌, ◌++◌, length, Option, Some, None, option_map}
 use Rattle.prolly_check.specs.Children.{child_for, child_with}
 use Rattle.prolly_check.specs.Entries.{Child}
 use Rattle.prolly_check.specs.Kinds.{kind_of}
@@ -7,6 +7,7 @@ use Rattle.prolly_check.specs.Way.{IsNamed, LevelsFall}
 use Rattle.prolly_check.specs.declared.entries.Entries.{Entries}
 use Rattle.prolly_check.specs.declared.entries.Entries.TheVariants.{Leaf, Node}
 use Rattle.prolly_entry.specs.declared.version.Version.{Version}
+use Rattle.prolly_proof.specs.declared.sought.ChildSought.{ChildSought}
 use Rattle.prolly_proof.specs.declared.sought.Sought.{Sought}
 use Rattle.prolly_proof.specs.declared.sought.Sought.TheVariants.{Key, Place}
 
@@ -26,6 +27,17 @@ child_sought (Place n) children = option_map counted_child (child_with n childre
 -- The reference of a child, and what is sought below it.
 abbrev pub reference_and_sought : Child × Sought → List ℕ × Sought
 reference_and_sought c = (c.0.reference, c.1)
+
+-- This is the child of these that a look-up goes on in: its number, its reference, and what is
+-- sought below it.
+pub record IsChildSought (sought : Sought) (children : List Child) (is : ChildSought) : Type 0 where
+  pub before : List Child
+  pub child : Child
+  pub after : List Child
+  pub are : children ≡ before ++ child ∷ after
+  pub number : is.number ≡ length before
+  pub reference : is.reference.0 ≡ child.reference
+  pub sought_there : child_sought sought children ≡ Some (child, is.sought)
 
 -- A look-up goes on from these entries at the chunk with this reference, and seeks this there.
 abbrev pub LeadsFor : Sought → Entries → List ℕ → Sought → Type 0

@@ -10,23 +10,24 @@
 //! Only what that wants is read of the file: the starts of its frames, ten bytes each, once to find
 //! the root, and once more for each level, there only among the frames below one chunk; and one
 //! chunk a level. Takes memory for these chunks.
-ghost use Rattle.std.specs.Prelude.{◌≡◌, ◌≤◌, ℕ, [], ◌∷◌, ◌++◌, length, option_map};
+ghost use Rattle.std.specs.Prelude.{◌≡◌, ◌≤◌, ℕ, length, map, option_map};
 ghost use Rattle.std.specs.Prelude.{IfOk, IfSome};
+ghost use Rattle.std.specs.List.{AllByRecursion};
 ghost use Rattle.std.specs.Option.{option_copied};
 ghost use Rattle.prolly_check.specs.Counted.{pair_of};
 ghost use Rattle.prolly_check.specs.Kinds.{kind_of};
 ghost use Rattle.prolly_check.specs.Whole.{IsWhole};
 ghost use Rattle.prolly_entry.specs.declared.version.Version.TheVariants.{Two};
-ghost use Rattle.prolly_proof.specs.ByRoot.{AreFound, IsFound, IsFoundPair};
-ghost use Rattle.prolly_proof.specs.ByRoot.{TellPairs, TellsPair, TellsValue};
-ghost use Rattle.prolly_proof.specs.Descents.{AnswersLawful};
+ghost use Rattle.prolly_proof.specs.ByRoot.{IsFound, IsFoundPair, TellsPair, TellsValue};
+ghost use Rattle.prolly_proof.specs.Descents.{AnswersLawful, IsDescent, chunks_in, levels_of};
+ghost use Rattle.prolly_proof.specs.Kept.{IsLevel};
 ghost use Rattle.prolly_proof.specs.Walks.{StaysSame, TellsReads};
 ghost use Rattle.prolly_proof.specs.declared.sought.Sought.TheVariants.{Place};
 
-use crate::descent::{go_down, keep};
+use crate::descent::{Descent, go_down, keep, top_of};
 use crate::root_fault::RootFault;
 use crate::sought::Sought;
-use prolly_check::{Entries, entries_of, pair_at, pairs_from, value_in};
+use prolly_check::{Entries, entries_of, pair_at, value_in};
 use prolly_entry::{Pair, Ref, Version};
 use prolly_file::Device;
 use std::alloc::{AllocError, Global};
@@ -49,15 +50,6 @@ pub struct FoundPair {
     pub pair: Option<Pair>,
 }
 
-/// The pairs that a look-up has found from a key on, and the chunks that show it.
-#[derive(Drop)]
-pub struct FoundPairs {
-    /// The chunks that the look-up met, from the root down.
-    pub way: Vec<Vec<u8>>,
-    /// The pairs, in the order of their keys.
-    pub pairs: Vec<Pair>,
-}
-
 /// What the tree with this root has at the key: its value, or none.
 pub fn get_by_root<D: Device>(
     alloc: Global,
@@ -73,9 +65,9 @@ pub fn get_by_root<D: Device>(
     ensures reads { TellsReads (D.seen device.old).failures (D.seen device.new).failures result }
     ensures same { StaysSame (D.seen device.old) (D.seen device.new) }
 {
-    let descent = go_down(alloc, device, version, root, Sought::Key(key))?;
-    let value = value_at(alloc, version, &descent.last, key)?;
-    let way = with(descent.above, descent.last)?;
+    let descent = descend(alloc, device, version, root, Sought::Key(key))?;
+    let value = value_at(alloc, version, &descent.last.chunk, key)?;
+    let way = way_of(alloc, descent)?;
     Ok(Found { way, value })
 }
 
@@ -94,33 +86,41 @@ pub fn nth_by_root<D: Device>(
     ensures reads { TellsReads (D.seen device.old).failures (D.seen device.new).failures result }
     ensures same { StaysSame (D.seen device.old) (D.seen device.new) }
 {
-    let descent = go_down(alloc, device, Version::Two, root, Sought::Place(n))?;
-    let pair = pair_sought(alloc, &descent.last, descent.sought)?;
-    let way = with(descent.above, descent.last)?;
+    let descent = descend(alloc, device, Version::Two, root, Sought::Place(n))?;
+    let pair = pair_sought(alloc, &descent.last.chunk, descent.sought)?;
+    let way = way_of(alloc, descent)?;
     Ok(FoundPair { way, pair })
 }
 
-/// The first pairs that the tree with this root has from the key on: those of one leaf. The others
-/// are those from behind the last of these on, at which the next look-up begins; where there are
-/// none, the tree has none.
-pub fn pairs_by_root<D: Device>(
+/// Goes down from the root, which has to be found first.
+fn descend<'a, D: Device>(
     alloc: Global,
     device: &mut D,
     version: Version,
     root: &Ref,
-    from: &[u8],
-) -> Result<FoundPairs, RootFault>
-    ensures found { IfOk result (AreFound version root.now.0 from.now) }
-
-    // A lawful file with this root is never refused.
+    sought: Sought<'a>,
+) -> Result<Descent<'a>, RootFault>
+    ensures found { IfOk result (IsDescent version root.now.0 sought.entry) }
+    ensures levels { IfOk result (λ descent. AllByRecursion (IsLevel version) (levels_of descent)) }
     ensures lawful { AnswersLawful (D.seen device.old) version root.now.0 result }
     ensures reads { TellsReads (D.seen device.old).failures (D.seen device.new).failures result }
     ensures same { StaysSame (D.seen device.old) (D.seen device.new) }
 {
-    let descent = go_down(alloc, device, version, root, Sought::Key(from))?;
-    let pairs = pairs_at(alloc, version, &descent.last, from)?;
-    let way = with(descent.above, descent.last)?;
-    Ok(FoundPairs { way, pairs })
+    let top = top_of(device, version)?;
+    go_down(alloc, device, version, root, top, Vec::new(alloc), sought)
+}
+
+/// The chunks of a descent.
+fn way_of(alloc: Global, descent: Descent<'_>) -> Result<Vec<Vec<u8>>, AllocError>
+    ensures { IfOk result (λ way. map (λ chunk. chunk.items) way.items ≡
+        chunks_in (levels_of descent.entry)) }
+{
+    let mut way = Vec::new(alloc);
+    for level in descent.above {
+        keep(&mut way, level.chunk)?;
+    }
+    keep(&mut way, descent.last.chunk)?;
+    Ok(way)
 }
 
 /// What the chunk at which a look-up of the key ends says of it.
@@ -150,30 +150,6 @@ fn pair_sought(alloc: Global, chunk: &[u8], sought: Sought<'_>) -> Result<Option
         (Entries::Leaf(pairs), Sought::Place(n)) => copy_of(alloc, pair_at(pairs, n)),
         _ => Ok(None),
     }
-}
-
-/// The first pairs that the chunk at which a look-up of the key ends has from the key on.
-fn pairs_at(
-    alloc: Global,
-    version: Version,
-    chunk: &[u8],
-    from: &[u8],
-) -> Result<Vec<Pair>, AllocError>
-    requires { IsWhole version chunk.now }
-    ensures { IfOk result (λ pairs. TellPairs from.now (kind_of version chunk.now) pairs.items) }
-{
-    match entries_of(version, chunk) {
-        Entries::Leaf(pairs) => pairs_from(alloc, pairs, from),
-        Entries::Node(_) => Ok(Vec::new(alloc)),
-    }
-}
-
-/// The chunks, with one more behind them.
-fn with(mut chunks: Vec<Vec<u8>>, chunk: Vec<u8>) -> Result<Vec<Vec<u8>>, AllocError>
-    ensures { IfOk result (λ way. way.items ≡ chunks.items ++ chunk ∷ []) }
-{
-    keep(&mut chunks, chunk)?;
-    Ok(chunks)
 }
 
 /// A copy of the value.

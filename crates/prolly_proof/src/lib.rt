@@ -4,19 +4,24 @@
 //! named by the reference in the chunk above it, and the first by the root.
 #![tactic(auto)]
 
+mod below;
 mod by_root;
 mod descent;
 mod fault;
 pub mod laws;
+mod level;
+mod place;
 mod prover;
+mod reader;
 mod root_fault;
 mod sought;
 mod start;
 mod verifier;
 mod walk;
 
-pub use by_root::{Found, FoundPair, FoundPairs, get_by_root, nth_by_root, pairs_by_root};
+pub use by_root::{Found, FoundPair, get_by_root, nth_by_root};
 pub use fault::ProofFault;
 pub use prover::prove;
+pub use reader::Reader;
 pub use root_fault::RootFault;
 pub use verifier::verify;

@@ -1,108 +1,116 @@
-use Rattle.std.proofs.Common.{[], ◌++◌, length, Ok, Err, None, refl, sym, subst, ◌∙◌, rules}
-use Rattle.prolly_proof.specs.Descents.{MayFail, StepsDown}
-use Rattle.prolly_proof.specs.Walks.{StandsBehind, chunks_below}
-use Rattle.prolly_tree.specs.Tree.{bytes_of}
-use Rattle.prolly_proof.proofs.Descending.{Descended, begins, bytes_in, ends_here, goes_on}
-use Rattle.prolly_proof.proofs.Descending.{one_more}
-use Rattle.prolly_proof.proofs.GoingDown.{frame_stands, root_stands, step_lands}
-use Rattle.prolly_proof.proofs.Walking.{holds_still, same_size, stays}
+use Rattle.std.proofs.Common.{[], ◌∷◌, ◌++◌, length, Ok, Err, Some, sym, subst, ◌∙◌, ap, rules}
+use Rattle.std.specs.List.{AllByRecursion}
+use Rattle.std.specs.Vec.Iter.{into_iter_items}
+use Rattle.prolly_check.specs.Way.{IsNamed}
+use Rattle.prolly_entry.specs.lemmas.Lists.{all_append}
+use Rattle.prolly_proof.specs.Descents.{MayFail, StepsDown, chunks_in}
+use Rattle.prolly_proof.specs.Kept.{IsLevel, KeepsLevel}
+use Rattle.prolly_proof.specs.Sought.{LeadsToEnd}
+use Rattle.prolly_proof.proofs.Descending.{Descended, ends_here, goes_on, level_kept, next_kept}
+use Rattle.prolly_proof.proofs.Descending.{one_more, step_lands}
+use Rattle.prolly_proof.proofs.Walking.{stays}
 use Rattle.prolly_proof.proofs.descent.go_down.Goals as goal
 
-pub loop-above-init : goal.loop-above-init
-loop-above-init g c = record {
-  way = rw c.new-above.ensures.items (begins c.args.version c.args.root.now.0 c.args.sought
-      (record { reference = c.args.root.now; above = None; sought = c.args.sought }) refl refl
-      refl);
-  same = stays (g.D.Device.seen c.args.device.now) (g.D.Device.seen c.begin.new.device)
-      (g.D.Device.seen c.last.new.device) c.in_ok-start.ensures.same c.in_ok-last.ensures.same;
-  reads = c.in_ok-last.ensures.reads ∙ c.in_ok-start.ensures.reads;
-  lawful = λ content holds same root.
-      let first = c.in_ok-start.ensures.begins content holds same in
-      let size = same_size (g.D.Device.seen c.args.device.now) (g.D.Device.seen c.begin.new.device)
-      content c.in_ok-start.ensures.same holds in
-      root_stands content c.args.root.now.0 (length (g.D.Device.seen c.args.device.now).bytes) _ _
-      c.tops_are_read.ensures.root holds.is.lawful holds.is.rising root refl refl first
-      (λ before chunk are. c.in_ok-last.ensures.last content before chunk
-      (holds_still (g.D.Device.seen c.args.device.now) (g.D.Device.seen c.begin.new.device) content
-      c.in_ok-start.ensures.same holds) are
-      (subst (λ n. StandsBehind n [] c.in_ok-start.start) size first));
-}
-
-pub returns-in_err-chunk-clause-lawful : goal.returns-in_err-chunk-clause-lawful
-returns-in_err-chunk-clause-lawful g c content holds same root =
-    let at = c.loop-above.invariant.lawful content holds same root in
-    let only : MayFail c.in_err-chunk.field-0.0 =
-    c.in_err-chunk.ensures.only content
-    (at.stands.before ++ chunks_below content.version at.level at.t) at.stands.left
-    (bytes_of content.version at.level at.t)
-    (holds_still (g.D.Device.seen c.args.device.now) (g.D.Device.seen c.loop-above.device) content
-    c.loop-above.invariant.same holds)
-    (frame_stands content (length (g.D.Device.seen c.args.device.now).bytes) c.loop-above.due
-    c.loop-above.place at) at.stands.frame in
-    search rules
-
-pub returns-in_err-step_from-clause-lawful : goal.returns-in_err-step_from-clause-lawful
-returns-in_err-step_from-clause-lawful g c content holds same root =
-    let at = c.loop-above.invariant.lawful content holds same root in
-    let kept = stays (g.D.Device.seen c.args.device.now) (g.D.Device.seen c.loop-above.device)
-    (g.D.Device.seen c.read_chunk.new.device) c.loop-above.invariant.same
-    c.in_ok-chunk.ensures.same in
-    let only : MayFail c.in_err-step_from.field-0.0 =
-    step_lands (g.D.Device.seen c.args.device.now) (g.D.Device.seen c.read_chunk.new.device) content
-    c.loop-above.due c.loop-above.place c.deref.result.now (Err c.in_err-step_from.field-0.0) kept
-    holds (c.in_err-step_from.ensures.down content (holds_still (g.D.Device.seen c.args.device.now)
-    (g.D.Device.seen c.read_chunk.new.device) content kept holds) same) at
-    (c.deref.ensures.value ∙ c.in_ok-chunk.ensures.is content
-    (at.stands.before ++ chunks_below content.version at.level at.t) at.stands.left
-    (bytes_of content.version at.level at.t)
-    (holds_still (g.D.Device.seen c.args.device.now) (g.D.Device.seen c.loop-above.device) content
-    c.loop-above.invariant.same holds)
-    (frame_stands content (length (g.D.Device.seen c.args.device.now).bytes) c.loop-above.due
-    c.loop-above.place at) at.stands.frame) in
+pub returns-in_err-step-clause-only : goal.returns-in_err-step-clause-only
+returns-in_err-step-clause-only g c content holds same top keeps =
+    let old = g.D.Device.seen c.args.device.now in
+    let mid = g.D.Device.seen c.loop-above.device in
+    let late = g.D.Device.seen c.level_at.new.device in
+    let before = c.loop-above.invariant in
+    let on = before.lawful content holds same top keeps in
+    let next = next_kept (KeepsLevel content (length old.bytes)) (into_iter_items c.loop-above.kept) (into_iter_items c.next.new.self)
+    c.next.result c.next.ensures.items on.left in
+    let level = c.in_ok-level.level in
+    let is = c.in_ok-level.ensures.is in
+    let kept = level_kept old mid content before.same holds c.next.result level next.0
+    (c.in_ok-level.ensures.keeps content) in
+    let only : MayFail c.in_err-step.field-0.0 =
+    step_lands old late content (stays old mid late before.same c.in_ok-level.ensures.same) holds
+    level c.loop-above.due c.loop-above.place (Err c.in_err-step.field-0.0) kept on.at is.frame
+    is.below (λ holds kept at. c.in_err-step.ensures.down content c.loop-above.due.reference.0
+    c.loop-above.due.above c.loop-above.place holds same kept at) in
     search rules
 
 pub returns-in-End-clause-found : goal.returns-in-End-clause-found
-returns-in-End-clause-found g c = ends_here c.args.version c.args.root.now.0 c.args.sought
-    (bytes_in c.loop-above.above.items) c.loop-above.due c.loop-above.invariant.way
-    c.in_ok-chunk.chunk.items (rw c.deref.ensures.value at c.in_ok-step_from.ensures.named)
-    (rw c.deref.ensures.value at c.in_ok-step_from.ensures.falls) c.in_ok-step_from.field-0
-    (rw c.deref.ensures.value at c.in_ok-step_from.ensures.is) c.in-End.is
+returns-in-End-clause-found g c =
+    let version = c.args.version in
+    let due = c.loop-above.due in
+    let above = chunks_in c.loop-above.above.items in
+    let level = c.in_ok-level.level in
+    let is = c.in_ok-level.ensures.is in
+    subst (λ chunk. LeadsToEnd version c.args.root.now.0 c.args.sought above chunk.items due.sought)
+    (sym c.in_ok-step.ensures.stays.1)
+    (ends_here version c.args.root.now.0 c.args.sought above due c.loop-above.invariant.way
+    level.chunk.items (subst (λ r. IsNamed version r.0 level.chunk.items) is.reference is.is)
+    is.falls c.in_ok-step.field-0 c.in_ok-step.ensures.is c.in-End.is)
+
+pub returns-in-End-clause-keeps : goal.returns-in-End-clause-keeps
+returns-in-End-clause-keeps g c content holds same top keeps =
+    let old = g.D.Device.seen c.args.device.now in
+    let mid = g.D.Device.seen c.loop-above.device in
+    let late = g.D.Device.seen c.level_at.new.device in
+    let before = c.loop-above.invariant in
+    let on = before.lawful content holds same top keeps in
+    let next = next_kept (KeepsLevel content (length old.bytes)) (into_iter_items c.loop-above.kept) (into_iter_items c.next.new.self)
+    c.next.result c.next.ensures.items on.left in
+    let level = c.in_ok-level.level in
+    let kept = level_kept old mid content before.same holds c.next.result level next.0
+    (c.in_ok-level.ensures.keeps content) in
+    let later = level_kept old late content
+    (stays old mid late before.same c.in_ok-level.ensures.same) holds (Some level) c.step.new.self
+    kept (c.in_ok-step.ensures.keeps content) in
+    all_append (KeepsLevel content (length old.bytes)) c.loop-above.above.items
+    (c.step.new.self ∷ []) on.met (later, tt)
 
 pub loop-above-preserved : goal.loop-above-preserved
 loop-above-preserved g c =
-    let kept = stays (g.D.Device.seen c.args.device.now) (g.D.Device.seen c.loop-above.device)
-    (g.D.Device.seen c.read_chunk.new.device) c.loop-above.invariant.same
-    c.in_ok-chunk.ensures.same in
-    record {
-      way = subst (λ chunks. Descended c.args.version c.args.root.now.0 c.args.sought chunks
-          c.in-Below.next) (sym (one_more c.loop-above.above.items c.keep.new.chunks.items
-          c.in_ok-chunk.chunk c.in_ok-keep-in-Below.ensures))
-          (goes_on c.args.version c.args.root.now.0 c.args.sought
-          (bytes_in c.loop-above.above.items) c.loop-above.due c.loop-above.invariant.way
-          c.in_ok-chunk.chunk.items
-          (rw c.deref.ensures.value at c.in_ok-step_from.ensures.named)
-          (rw c.deref.ensures.value at c.in_ok-step_from.ensures.falls)
-          c.in_ok-step_from.field-0
-          (rw c.deref.ensures.value at c.in_ok-step_from.ensures.is) c.in-Below.next
-          c.in-Below.there c.in-Below.is);
-      same = stays (g.D.Device.seen c.args.device.now) (g.D.Device.seen c.read_chunk.new.device)
-          (g.D.Device.seen c.step_from.new.device) kept c.in_ok-step_from.ensures.same;
-      reads = c.in_ok-step_from.ensures.reads ∙ c.in_ok-chunk.ensures.reads ∙
-          c.loop-above.invariant.reads;
-      lawful = λ content holds same root.
-          let at = c.loop-above.invariant.lawful content holds same root in
-          subst (λ step. StepsDown content (length (g.D.Device.seen c.args.device.now).bytes)
-          (Ok step)) c.in-Below.is
-          (step_lands (g.D.Device.seen c.args.device.now) (g.D.Device.seen c.read_chunk.new.device)
-          content c.loop-above.due c.loop-above.place c.deref.result.now
-          (Ok c.in_ok-step_from.field-0) kept holds (c.in_ok-step_from.ensures.down content
-          (holds_still (g.D.Device.seen c.args.device.now) (g.D.Device.seen c.read_chunk.new.device)
-          content kept holds) same) at
-          (c.deref.ensures.value ∙ c.in_ok-chunk.ensures.is content
-          (at.stands.before ++ chunks_below content.version at.level at.t) at.stands.left
-          (bytes_of content.version at.level at.t)
-          (holds_still (g.D.Device.seen c.args.device.now) (g.D.Device.seen c.loop-above.device)
-          content c.loop-above.invariant.same holds)
-          (frame_stands content (length (g.D.Device.seen c.args.device.now).bytes) c.loop-above.due
-          c.loop-above.place at) at.stands.frame));
+    let version = c.args.version in
+    let root = c.args.root.now.0 in
+    let old = g.D.Device.seen c.args.device.now in
+    let mid = g.D.Device.seen c.loop-above.device in
+    let late = g.D.Device.seen c.level_at.new.device in
+    let before = c.loop-above.invariant in
+    let to_late = stays old mid late before.same c.in_ok-level.ensures.same in
+    let above = c.loop-above.above.items in
+    let due = c.loop-above.due in
+    let level = c.in_ok-level.level in
+    let is = c.in_ok-level.ensures.is in
+    let stepped = c.in_ok-step.ensures in
+    let more = c.in_ok-keep-in-Below.ensures in record {
+      way = subst (λ chunks. Descended version root c.args.sought chunks c.in-Below.next)
+          (ap (λ chunk. chunks_in above ++ chunk.items ∷ []) (sym stepped.stays.1) ∙
+          sym (one_more above c.keep.new.list.items c.step.new.self more))
+          (goes_on version root c.args.sought (chunks_in above) due before.way level.chunk.items
+          (subst (λ r. IsNamed version r.0 level.chunk.items) is.reference is.is) is.falls
+          c.in_ok-step.field-0 stepped.is c.in-Below.next c.in-Below.there c.in-Below.is);
+      levels = subst (AllByRecursion (IsLevel version)) (sym more)
+          (all_append (IsLevel version) above (c.step.new.self ∷ []) before.levels (
+            subst (λ chunk. IsNamed version c.step.new.self.reference.0 chunk.items)
+                (sym stepped.stays.1)
+                (subst (λ r. IsNamed version r.0 level.chunk.items) (sym stepped.stays.0) is.is),
+            tt,
+          ));
+      kept = (next_kept (IsLevel version) (into_iter_items c.loop-above.kept) (into_iter_items c.next.new.self)
+          c.next.result c.next.ensures.items before.kept).1;
+      same = stays old late (g.D.Device.seen c.step.new.device) to_late stepped.same;
+      reads = stepped.reads ∙ c.in_ok-level.ensures.reads ∙ before.reads;
+      lawful = λ content holds same top keeps.
+          let on = before.lawful content holds same top keeps in
+          let next = next_kept (KeepsLevel content (length old.bytes)) (into_iter_items c.loop-above.kept)
+          (into_iter_items c.next.new.self) c.next.result c.next.ensures.items on.left in
+          let kept = level_kept old mid content before.same holds c.next.result level next.0
+          (c.in_ok-level.ensures.keeps content) in
+          let later = level_kept old late content to_late holds (Some level) c.step.new.self kept
+          (stepped.keeps content) in
+          record {
+            at = subst (λ step. StepsDown content (length old.bytes) (Ok step)) c.in-Below.is
+                (step_lands old late content to_late holds level due c.loop-above.place
+                (Ok c.in_ok-step.field-0) kept on.at is.frame is.below
+                (λ holds kept at. stepped.down content due.reference.0 due.above c.loop-above.place
+                holds same kept at));
+            met = subst (AllByRecursion (KeepsLevel content (length old.bytes))) (sym more)
+                (all_append (KeepsLevel content (length old.bytes)) above (c.step.new.self ∷ [])
+                on.met (later, tt));
+            left = next.1;
+          };
     }

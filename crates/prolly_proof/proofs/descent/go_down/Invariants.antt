@@ -1,21 +1,26 @@
-use Rattle.std.proofs.Common.{◌≡◌, length}
+use Rattle.std.proofs.Common.{◌≡◌, None, length}
+use Rattle.std.specs.List.{AllByRecursion}
+use Rattle.std.specs.Vec.Iter.{into_iter_items}
 use Rattle.prolly_check.specs.Content.{Content}
-use Rattle.prolly_entry.specs.Cut.{sha512_cut}
-use Rattle.prolly_proof.specs.Descents.{StandsAtTree}
+use Rattle.prolly_proof.specs.Descents.{StandsAtTree, chunks_in}
+use Rattle.prolly_proof.specs.Kept.{IsLevel, KeepsLevel}
 use Rattle.prolly_proof.specs.Walks.{HoldsFile, StaysSame}
-use Rattle.prolly_tree.specs.File.{root_reference}
-use Rattle.prolly_proof.proofs.Descending.{Descended, bytes_in, room_below}
+use Rattle.prolly_proof.proofs.Descending.{Descended, GoesOnLawful, room_below}
 use Rattle.prolly_proof.proofs.descent.go_down.Given as goal
 
 abbrev pub invariant-loop-above : goal.invariant-loop-above
 invariant-loop-above g l = record {
-  way : Descended l.version l.root.0 l.sought (bytes_in l.above.items) l.due;
+  way : Descended l.version l.root.0 l.fn.sought (chunks_in l.above.items) l.due;
+  levels : AllByRecursion (IsLevel l.version) l.above.items;
+  kept : AllByRecursion (IsLevel l.version) (into_iter_items l.kept);
   same : StaysSame (g.D.Device.seen l.fn.device) (g.D.Device.seen l.device);
   reads : (g.D.Device.seen l.device).failures ≡ (g.D.Device.seen l.fn.device).failures;
   lawful : (content : Content) → HoldsFile (g.D.Device.seen l.fn.device) content →
-      l.version ≡ content.version → l.root.0 ≡ root_reference (sha512_cut content.bits)
-      content.version content.pairs →
-      StandsAtTree content (length (g.D.Device.seen l.fn.device).bytes) l.due l.place;
+      l.version ≡ content.version →
+      StandsAtTree content (length (g.D.Device.seen l.fn.device).bytes) l.root.0 None l.fn.top →
+      AllByRecursion (KeepsLevel content (length (g.D.Device.seen l.fn.device).bytes))
+      l.fn.kept.items → GoesOnLawful content (length (g.D.Device.seen l.fn.device).bytes) l.due
+      l.place l.above.items (into_iter_items l.kept);
 }
 
 abbrev pub decreases-loop-above : goal.decreases-loop-above

@@ -1,6 +1,6 @@
 use Rattle.std.proofs.Common.{◌≡◌, length, ap, arith}
 use Rattle.prolly_proof.proofs.GoingDown.{all_read, chunk_there, read_whole}
-use Rattle.prolly_proof.proofs.descent.read_chunk.Goals as goal
+use Rattle.prolly_proof.proofs.level.read_chunk.Goals as goal
 
 pub returns-then-count-len-clause-only : goal.returns-then-count-len-clause-only
 returns-then-count-len-clause-only g c content before left chunk holds are of =

@@ -1,0 +1,17 @@
+use Rattle.std.proofs.Common.{[], length, subst}
+use Rattle.prolly_proof.specs.Walks.{StandsBehind}
+use Rattle.prolly_proof.proofs.GoingDown.{root_stands}
+use Rattle.prolly_proof.proofs.Walking.{holds_still, same_size}
+use Rattle.prolly_proof.proofs.descent.top_of.Goals as goal
+
+pub returns-clause-place : goal.returns-clause-place
+returns-clause-place g c content root holds same root_is =
+    let old = g.D.Device.seen c.args.device.now in
+    let mid = g.D.Device.seen c.begin.new.device in
+    let first = c.in_ok-below.ensures.begins content holds same in
+    let size = same_size old mid content c.in_ok-below.ensures.same holds in
+    root_stands content root (length old.bytes) _ c.tops_are_read.ensures.root holds.is.lawful
+    holds.is.rising root_is first
+    (λ before chunk are. c.in_ok-frame.ensures.last content before chunk
+    (holds_still old mid content c.in_ok-below.ensures.same holds) are
+    (subst (λ n. StandsBehind n [] c.in_ok-below.below) size first))

@@ -1,0 +1,27 @@
+-- A reader that looks up by the root again and again.
+use Rattle.std.specs.Prelude.{◌≡◌, ℕ, List, None}
+use Rattle.std.specs.List.{AllByRecursion}
+use Rattle.prolly_check.specs.Content.{Content}
+use Rattle.prolly_entry.specs.declared.version.Version.{Version}
+use Rattle.prolly_proof.specs.Descents.{StandsAtTree, chunks_in}
+use Rattle.prolly_proof.specs.Kept.{KeepsLevel}
+use Rattle.prolly_proof.specs.declared.level.Level.{Level}
+use Rattle.prolly_proof.specs.declared.place.Place.{Place}
+
+-- What a reader keeps: the version and the root that it was opened for, the place of the root in
+-- the file, and what the last look-up went through, from the root down.
+pub record ReaderView : Type 0 where
+  pub version : Version
+  pub root : List ℕ
+  pub top : Place
+  pub levels : List Level
+
+-- The chunks that show what the last look-up has found.
+abbrev pub way_of : ReaderView → List (List ℕ)
+way_of reader = chunks_in reader.levels
+
+-- What the reader keeps is so of the file of this content, which has so many bytes.
+pub record IsReaderOf (content : Content) (size : ℕ) (reader : ReaderView) : Type 0 where
+  pub version : reader.version ≡ content.version
+  pub top : StandsAtTree content size reader.root None reader.top
+  pub levels : AllByRecursion (KeepsLevel content size) reader.levels

@@ -1,0 +1,116 @@
+//! The places of the children of a node, which are found one behind another.
+ghost use Rattle.std.specs.Prelude.{◌≡◌, ◌≤◌, ℕ, List, length, IfOk, IfErr};
+
+use crate::place::Place;
+use crate::root_fault::RootFault;
+use crate::walk::Walk;
+use prolly_file::Device;
+
+/// The frames below a chunk, as far as they were gone over.
+#[derive(Clone, Copy, Debug)]
+pub(crate) struct FramesBelow {
+    /// Where they begin.
+    pub(crate) first: Walk,
+    /// The child that was gone to last.
+    pub(crate) last: Option<Passed>,
+}
+
+/// A child that was gone to.
+#[derive(Clone, Copy, Debug)]
+pub(crate) struct Passed {
+    /// Its number among the children, counted from 0.
+    number: u64,
+    /// Its place.
+    place: Place,
+    /// Where the frames behind it begin.
+    rest: Walk,
+}
+
+/// How far one has come: over so many children, to where the frames of the next one begin.
+#[derive(Clone, Copy, Debug)]
+struct Reached {
+    count: u64,
+    walk: Walk,
+}
+
+impl FramesBelow {
+    ghost use Rattle.prolly_check.specs.Checked.{chunks_of};
+    ghost use Rattle.prolly_check.specs.Content.{Content};
+    ghost use Rattle.prolly_proof.specs.Descents.{IsPlaceOf};
+    ghost use Rattle.prolly_proof.specs.Kept.{IsReached, KeepsPassed, StandsAmong};
+    ghost use Rattle.prolly_proof.specs.Walks.{HoldsFile, OnlyRead, StaysSame, TellsReads};
+    ghost use Rattle.prolly_tree.specs.Tree.{Tree};
+
+    /// The place of the child of this number. The children are of this level.
+    ///
+    /// Goes over the frames from behind the child that was gone to last, where this one stands
+    /// behind it, or else from the first on. One read for each frame.
+    pub(crate) fn child<D: Device>(
+        &mut self,
+        device: &mut D,
+        level: u8,
+        number: u64,
+    ) -> Result<Place, RootFault>
+        ensures same { StaysSame (D.seen device.old) (D.seen device.new) }
+        ensures reads { TellsReads (D.seen device.old).failures (D.seen device.new).failures
+            result }
+        ensures first { self.new.first ≡ self.old.first }
+        ensures keeps { (content : Content) → HoldsFile (D.seen device.old) content →
+            KeepsPassed content (length (D.seen device.old).bytes) level self.old.first
+            self.old.last → KeepsPassed content (length (D.seen device.old).bytes) level
+            self.new.first self.new.last }
+        ensures place { (content : Content) (t : Tree level) →
+            HoldsFile (D.seen device.old) content →
+            KeepsPassed content (length (D.seen device.old).bytes) level self.old.first
+            self.old.last → StandsAmong content (length (D.seen device.old).bytes) level t
+            self.old.first number →
+            IfOk result (IsPlaceOf content level t (length (D.seen device.old).bytes)) }
+        ensures only { (content : Content) (t : Tree level) →
+            HoldsFile (D.seen device.old) content →
+            KeepsPassed content (length (D.seen device.old).bytes) level self.old.first
+            self.old.last → StandsAmong content (length (D.seen device.old).bytes) level t
+            self.old.first number → IfErr result OnlyRead }
+    {
+        if let Some(passed) = self.last {
+            if passed.number == number {
+                return Ok(passed.place);
+            }
+        }
+        let Reached {
+            mut count,
+            mut walk,
+        } = self.nearest(number);
+        while count < number {
+            let _ = walk.next_of_level(device, level)?;
+            count += 1;
+        }
+        let below = walk;
+        let frame = walk.next_of_level(device, level)?;
+        let place = Place { frame, below };
+        self.last = Some(Passed {
+            number,
+            place,
+            rest: walk,
+        });
+        Ok(place)
+    }
+
+    /// Where it is nearest to the child of this number, and not behind it.
+    fn nearest(&self, number: u64) -> Reached
+        ensures near { result.count ≤ number }
+        ensures reached { (content : Content) (size level : ℕ) →
+            KeepsPassed content size level self.now.first self.now.last →
+            IsReached content size level self.now.first result.count result.walk }
+    {
+        match self.last {
+            Some(passed) if passed.number < number => Reached {
+                count: passed.number + 1,
+                walk: passed.rest,
+            },
+            _ => Reached {
+                count: 0,
+                walk: self.first,
+            },
+        }
+    }
+}

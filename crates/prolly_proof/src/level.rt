@@ -1,0 +1,220 @@
+//! A chunk on the way of a look-up by the root.
+ghost use Rattle.std.specs.Prelude.{◌≡◌, ◌<◌, ◌∷◌, ◌++◌, ℕ, List, Option, length, IfOk, IfErr, IfSome};
+ghost use Rattle.std.specs.Prelude.{IsOk, OnOk};
+ghost use Rattle.prolly_check.specs.Checked.{chunks_of};
+ghost use Rattle.prolly_check.specs.Content.{Content};
+ghost use Rattle.prolly_check.specs.Way.{IsNamed};
+ghost use Rattle.prolly_proof.specs.Descents.{MayFail, StandsAtTree};
+ghost use Rattle.prolly_proof.specs.Kept.{IsAtDue, IsLevel, KeepsLevel};
+ghost use Rattle.prolly_proof.specs.Walks.{HoldsFile, IsFrameOf, StaysSame, TellsReads};
+
+use crate::below::FramesBelow;
+use crate::place::Place;
+use crate::root_fault::RootFault;
+use crate::sought::{Sought, child_sought};
+use crate::verifier::falls_to;
+use crate::walk::Frame;
+use prolly_check::laws::tops_are_read;
+use prolly_check::{ChunkFlaw, Entries, entries_in, entries_of};
+use prolly_entry::{Ref, Version};
+use prolly_file::Device;
+use std::alloc::Global;
+
+/// The chunk that is due next.
+#[derive(Clone, Copy, Debug)]
+pub(crate) struct Due<'a> {
+    /// Its reference.
+    pub(crate) reference: Ref,
+    /// The level of the chunk above it; none is above the root.
+    pub(crate) above: Option<u8>,
+    /// What is sought there.
+    pub(crate) sought: Sought<'a>,
+}
+
+/// What a look-up comes to at a chunk.
+#[derive(Clone, Copy, Debug)]
+pub(crate) enum Onward<'a> {
+    /// It ends there.
+    End,
+    /// It goes on at the chunk that is due next, in this place.
+    Below(Due<'a>, Place),
+}
+
+/// A chunk on the way: one that has its reference and can be read.
+#[derive(Drop)]
+pub(crate) struct Level {
+    /// Its reference.
+    pub(crate) reference: Ref,
+    /// Where it stands in the file.
+    pub(crate) frame: Frame,
+    /// Its bytes.
+    pub(crate) chunk: Vec<u8>,
+    /// What is below it.
+    pub(crate) below: FramesBelow,
+}
+
+impl Level {
+    ghost use Rattle.prolly_proof.specs.Descents.{IsOnward, StepsDown};
+    ghost use Rattle.prolly_check.specs.Whole.{IsWhole};
+    ghost use Rattle.prolly_proof.specs.declared.place.Place.{Place as PlaceValue};
+    ghost use Rattle.prolly_tree.specs.Tree.{bytes_of};
+    ghost use Rattle.std.specs.Prelude.{true};
+
+    /// The chunk of this reference in this place.
+    fn read<D: Device>(
+        alloc: Global,
+        device: &mut D,
+        version: Version,
+        reference: Ref,
+        place: &Place,
+    ) -> Result<Level, RootFault>
+        ensures is { IfOk result (λ level. IsLevel version level ×
+            (level.reference ≡ reference) × (level.frame ≡ place.now.frame) ×
+            (level.below.first ≡ place.now.below)) }
+        ensures same { StaysSame (D.seen device.old) (D.seen device.new) }
+        ensures reads { TellsReads (D.seen device.old).failures (D.seen device.new).failures
+            result }
+        ensures keeps { (content : Content) → HoldsFile (D.seen device.old) content →
+            IfOk result (KeepsLevel content (length (D.seen device.old).bytes)) }
+        ensures only { (content : Content) (above : Option ℕ) →
+            HoldsFile (D.seen device.old) content → version ≡ content.version →
+            StandsAtTree content (length (D.seen device.old).bytes) reference.0 above place.now →
+            IfErr result MayFail }
+    {
+        // By this law the chunk of a lawful file can be read.
+        tops_are_read();
+        let chunk = read_chunk(alloc, device, &place.frame)?;
+        test(version, &chunk, &reference, place.frame.number)?;
+        Ok(Level {
+            reference,
+            frame: place.frame,
+            chunk,
+            below: FramesBelow {
+                first: place.below,
+                last: None,
+            },
+        })
+    }
+
+    /// Whether it is the chunk of this reference in this place.
+    fn is_at(&self, reference: &Ref, place: &Place) -> bool
+        ensures { result ≡ true → (self.now.reference ≡ reference.now) ×
+            (self.now.frame ≡ place.now.frame) × (self.now.below.first ≡ place.now.below) }
+    {
+        self.reference == *reference && self.frame == place.frame && self.below.first == place.below
+    }
+
+    /// What a look-up comes to here. See [`FramesBelow::child`] for what is read.
+    pub(crate) fn step<'a, D: Device>(
+        &mut self,
+        device: &mut D,
+        version: Version,
+        sought: Sought<'a>,
+    ) -> Result<Onward<'a>, RootFault>
+        requires { IsWhole version self.old.chunk.items }
+        ensures is { IfOk result (IsOnward version sought.entry self.old.chunk.items) }
+        ensures stays { (self.new.reference ≡ self.old.reference) ×
+            (self.new.chunk ≡ self.old.chunk) }
+        ensures same { StaysSame (D.seen device.old) (D.seen device.new) }
+        ensures reads { TellsReads (D.seen device.old).failures (D.seen device.new).failures
+            result }
+        ensures keeps { (content : Content) → HoldsFile (D.seen device.old) content →
+            KeepsLevel content (length (D.seen device.old).bytes) self.old →
+            KeepsLevel content (length (D.seen device.old).bytes) self.new }
+        ensures down { (content : Content) (reference : List ℕ) (above : Option ℕ)
+            (place : PlaceValue) → HoldsFile (D.seen device.old) content →
+            version ≡ content.version →
+            KeepsLevel content (length (D.seen device.old).bytes) self.old →
+            (at : StandsAtTree content (length (D.seen device.old).bytes) reference above place) →
+            self.old.below.first ≡ place.below →
+            self.old.chunk.items ≡ bytes_of content.version at.level at.t →
+            StepsDown content (length (D.seen device.old).bytes) result }
+    {
+        // By this law the children of a chunk of a lawful file are the trees below it.
+        tops_are_read();
+        let Entries::Node(children) = entries_of(version, &self.chunk) else {
+            return Ok(Onward::End);
+        };
+        let Some(child) = child_sought(children, sought) else {
+            return Ok(Onward::End);
+        };
+        let level = self.chunk[0];
+        let place = self.below.child(device, level - 1, child.number)?;
+        let due = Due {
+            reference: child.reference,
+            above: Some(level),
+            sought: child.sought,
+        };
+        Ok(Onward::Below(due, place))
+    }
+}
+
+/// The chunk that is due in this place: the one that was kept, where that is it, or else the one
+/// that is read there.
+pub(crate) fn level_at<D: Device>(
+    alloc: Global,
+    device: &mut D,
+    version: Version,
+    kept: Option<Level>,
+    due: &Due<'_>,
+    place: &Place,
+) -> Result<Level, RootFault>
+    requires { IfSome kept (IsLevel version) }
+    ensures is { IfOk result (IsAtDue version due.now place.now) }
+    ensures same { StaysSame (D.seen device.old) (D.seen device.new) }
+    ensures reads { TellsReads (D.seen device.old).failures (D.seen device.new).failures result }
+    ensures keeps { (content : Content) → HoldsFile (D.seen device.old) content →
+        IfSome kept (KeepsLevel content (length (D.seen device.old).bytes)) →
+        IfOk result (KeepsLevel content (length (D.seen device.old).bytes)) }
+    ensures only { (content : Content) → HoldsFile (D.seen device.old) content →
+        version ≡ content.version →
+        IfSome kept (KeepsLevel content (length (D.seen device.old).bytes)) →
+        StandsAtTree content (length (D.seen device.old).bytes) due.now.reference.0 due.now.above
+        place.now → IfErr result MayFail }
+{
+    let level = match kept {
+        Some(level) if level.is_at(&due.reference, place) => level,
+        _another => Level::read(alloc, device, version, due.reference, place)?,
+    };
+    if !falls_to(due.above, &level.chunk) {
+        return Err(RootFault::Level {
+            chunk: place.frame.number,
+        });
+    }
+    Ok(level)
+}
+
+/// The bytes of a chunk.
+fn read_chunk<D: Device>(alloc: Global, device: &mut D, frame: &Frame) -> Result<Vec<u8>, RootFault>
+    ensures same { StaysSame (D.seen device.old) (D.seen device.new) }
+    ensures reads { TellsReads (D.seen device.old).failures (D.seen device.new).failures result }
+    ensures is { (content : Content) (before left : List (List ℕ)) (chunk : List ℕ) →
+        HoldsFile (D.seen device.old) content → chunks_of content ≡ before ++ chunk ∷ left →
+        IsFrameOf before chunk frame.now → IfOk result (λ bytes. bytes.items ≡ chunk) }
+    ensures only { (content : Content) (before left : List (List ℕ)) (chunk : List ℕ) →
+        HoldsFile (D.seen device.old) content → chunks_of content ≡ before ++ chunk ∷ left →
+        IsFrameOf before chunk frame.now → IfErr result MayFail }
+{
+    let mut chunk = vec![in alloc; 0; frame.len as usize]?;
+    let count = device.read_at(frame.start, &mut chunk)?;
+    if count < chunk.len() {
+        return Err(RootFault::Truncated);
+    }
+    Ok(chunk)
+}
+
+/// Tests whether the chunk of this number has the reference and can be read.
+fn test(version: Version, chunk: &[u8], reference: &Ref, number: u64) -> Result<(), RootFault>
+    ensures named { OnOk result (IsNamed version reference.now.0 chunk.now) }
+    ensures fits { IsNamed version reference.now.0 chunk.now → IsOk result }
+    ensures read { IfErr result (λ fault. fault ≡ RootFault.Read → ⊥) }
+{
+    if Ref::of(chunk) != *reference {
+        return Err(RootFault::Reference { chunk: number });
+    }
+    match entries_in(version, chunk) {
+        Ok(_) => Ok(()),
+        Err(ChunkFlaw::Entries) => Err(RootFault::Chunk { chunk: number }),
+        Err(ChunkFlaw::Order) => Err(RootFault::KeysOutOfOrder { chunk: number }),
+    }
+}
