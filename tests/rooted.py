@@ -759,17 +759,19 @@ def reads_little(place, bits, version):
             place.note(f"{reads_in(calls)} reads, wanted {most}")
 
 
-def starts_read(kind, key):
-    """How many frames a look-up goes over to find the children that it goes on at, and those before them."""
-    count, part = 0, kind.top
-    while part.children:
-        first = [child.key >= key for child in part.children].index(True) if part.key >= key else None
-        passed = part.children if first is None else part.children[: first + 1]
-        count += sum(len(list(child.trees())) for child in passed)
-        if first is None:
-            break
+def gone_over(kind, key):
+    """The nodes from which a look-up goes on, and how many frames it goes over below each: those of the child that it goes
+    on at, and of those before it."""
+    part = kind.top
+    while part.children and part.key >= key:
+        first = [child.key >= key for child in part.children].index(True)
+        yield part.chunk, sum(len(list(child.trees())) for child in part.children[: first + 1])
         part = part.children[first]
-    return count
+
+
+def starts_read(kind, key):
+    """How many frames a look-up goes over to find the children that it goes on at."""
+    return sum(count for _, count in gone_over(kind, key))
 
 
 def is_a_fifo(place):

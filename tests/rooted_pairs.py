@@ -14,7 +14,7 @@ from harness import FOLDER, Case
 from look_ups import LONG, NUMBERS, assembled, leaf, line
 from place import Place, compiled
 from proofs import BAD_ROOT, FRAME_SIZE, MORE, TRUNCATED, WRONG_VERSION, another, bad_chunk, bad_frame, out_of_order, wrong_level
-from rooted import MISSING, NO_VALUE, READ_FAILED, SMALL_MEMORY, Asked, Kind, Reader, random_pairs, reads_in, refusal, shown_answer, starts_read, turned, write_gap
+from rooted import MISSING, NO_VALUE, READ_FAILED, SMALL_MEMORY, Asked, Kind, Reader, gone_over, random_pairs, reads_in, refusal, shown_answer, starts_read, turned, write_gap
 from scratch import ABC, numbered
 from trees import chunk_file, reference, reference_text, tree
 
@@ -691,14 +691,14 @@ def are_interrupted(place, version):
 
 
 def read_little(place, bits, version):
-    """Each look-up reads no more than the header, the starts of the frames, once for the root and once for each level
-    among those below one chunk, and a chunk a level."""
+    """A look-up reads no more than the header, the starts of the frames, once for the root and once for each level among
+    those below one chunk, and a chunk a level; and a scan reads no chunk twice, and no start among those below one."""
     kind = Kind(numbered(400), bits, version)
     place.lay(in_prl=kind.content)
     for key, limit in ((b"", 1), (kind.pairs[200][0], 9), (kind.pairs[-4][0], ALL), (ABOVE_ALL[:-1], 1)):
         answer, calls = place.meddled(*scan_words(kind.root, key, limit, version))
         place.answers(answer, right_scan(kind, key, limit))
-        at_most(place, calls, sum(reads_of(kind, sought) for _, sought in look_ups_of(kind, key, limit)))
+        at_most(place, calls, reads_of_scan(kind, [sought for _, sought in look_ups_of(kind, key, limit)]))
     for number in (0, 200, 399, 400) if version == 2 else ():
         answer, calls = place.meddled(*number_words(kind.root, number))
         place.answers(answer, right_number(kind, number))
@@ -708,6 +708,13 @@ def read_little(place, bits, version):
 def reads_of(kind, key):
     """How many reads a look-up makes at most."""
     return 1 + len(kind.chunks) + 1 + starts_read(kind, key) + len(kind.way(key))
+
+
+def reads_of_scan(kind, keys):
+    """How many reads the look-ups of a scan make at most, of which each seeks a greater key than the one before."""
+    met = {number for key in keys for number in kind.way(key)}
+    passed = dict(step for key in keys for step in gone_over(kind, key))
+    return 1 + len(kind.chunks) + 1 + sum(passed.values()) + len(met)
 
 
 def at_most(place, calls, most):

@@ -10,24 +10,18 @@
 //! Only what that wants is read of the file: the starts of its frames, ten bytes each, once to find
 //! the root, and once more for each level, there only among the frames below one chunk; and one
 //! chunk a level. Takes memory for these chunks.
-ghost use Rattle.std.specs.Prelude.{◌≡◌, ◌≤◌, ℕ, length, map, option_map};
-ghost use Rattle.std.specs.Prelude.{IfOk, IfSome};
+ghost use Rattle.std.specs.Prelude.{◌≡◌, map, IfOk};
 ghost use Rattle.std.specs.List.{AllByRecursion};
-ghost use Rattle.std.specs.Option.{option_copied};
-ghost use Rattle.prolly_check.specs.Counted.{pair_of};
-ghost use Rattle.prolly_check.specs.Kinds.{kind_of};
-ghost use Rattle.prolly_check.specs.Whole.{IsWhole};
 ghost use Rattle.prolly_entry.specs.declared.version.Version.TheVariants.{Two};
-ghost use Rattle.prolly_proof.specs.ByRoot.{IsFound, IsFoundPair, TellsPair, TellsValue};
+ghost use Rattle.prolly_proof.specs.ByRoot.{IsFound, IsFoundPair};
 ghost use Rattle.prolly_proof.specs.Descents.{AnswersLawful, IsDescent, chunks_in, levels_of};
 ghost use Rattle.prolly_proof.specs.Kept.{IsLevel};
 ghost use Rattle.prolly_proof.specs.Walks.{StaysSame, TellsReads};
-ghost use Rattle.prolly_proof.specs.declared.sought.Sought.TheVariants.{Place};
 
 use crate::descent::{Descent, go_down, keep, top_of};
+use crate::last_chunk::{pair_sought, value_at};
 use crate::root_fault::RootFault;
 use crate::sought::Sought;
-use prolly_check::{Entries, entries_of, pair_at, value_in};
 use prolly_entry::{Pair, Ref, Version};
 use prolly_file::Device;
 use std::alloc::{AllocError, Global};
@@ -121,55 +115,4 @@ fn way_of(alloc: Global, descent: Descent<'_>) -> Result<Vec<Vec<u8>>, AllocErro
     }
     keep(&mut way, descent.last.chunk)?;
     Ok(way)
-}
-
-/// What the chunk at which a look-up of the key ends says of it.
-fn value_at(
-    alloc: Global,
-    version: Version,
-    chunk: &[u8],
-    key: &[u8],
-) -> Result<Option<Vec<u8>>, AllocError>
-    requires { IsWhole version chunk.now }
-    ensures { IfOk result (λ value. TellsValue key.now (kind_of version chunk.now)
-        (option_map (λ v. v.items) value)) }
-{
-    match entries_of(version, chunk) {
-        Entries::Leaf(pairs) => copied(alloc, value_in(pairs, key)),
-        Entries::Node(_) => Ok(None),
-    }
-}
-
-/// The pair that the chunk at which a look-up by a number ends has at the number sought there.
-fn pair_sought(alloc: Global, chunk: &[u8], sought: Sought<'_>) -> Result<Option<Pair>, AllocError>
-    requires { IsWhole Two chunk.now }
-    ensures { (n : ℕ) → sought.entry ≡ Place n →
-        IfOk result (TellsPair n (kind_of Two chunk.now)) }
-{
-    match (entries_of(Version::Two, chunk), sought) {
-        (Entries::Leaf(pairs), Sought::Place(n)) => copy_of(alloc, pair_at(pairs, n)),
-        _ => Ok(None),
-    }
-}
-
-/// A copy of the value.
-fn copied(alloc: Global, value: Option<&[u8]>) -> Result<Option<Vec<u8>>, AllocError>
-    ensures { IfOk result (λ copy. option_map (λ v. v.items) copy ≡ option_copied value.entry) }
-{
-    match value {
-        None => Ok(None),
-        Some(value) => Ok(Some(Vec::from_slice(alloc, value)?)),
-    }
-}
-
-/// A copy of the pair.
-fn copy_of(alloc: Global, pair: Option<(&[u8], &[u8])>) -> Result<Option<Pair>, AllocError>
-    requires { IfSome pair (λ pair. (length pair.0.now ≤ 1024) ×
-        (length pair.1.now ≤ 65536)) }
-    ensures { IfOk result (λ copy. copy ≡ pair_of pair.entry) }
-{
-    match pair {
-        None => Ok(None),
-        Some((key, value)) => Ok(Some(Pair::copy_of(alloc, key, value)?)),
-    }
 }

@@ -8,6 +8,7 @@ mod below;
 mod by_root;
 mod descent;
 mod fault;
+mod last_chunk;
 pub mod laws;
 mod level;
 mod place;

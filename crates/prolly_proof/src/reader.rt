@@ -1,25 +1,22 @@
 //! Looking up by the root again and again, in a file of which no more is read than that wants.
 ghost use Rattle.std.specs.Prelude.{◌≡◌, length, IfOk, IfErr};
 ghost use Rattle.prolly_check.specs.Content.{Content};
-ghost use Rattle.prolly_check.specs.Kinds.{kind_of};
 ghost use Rattle.prolly_check.specs.ScanWay.{IsScanWay};
-ghost use Rattle.prolly_check.specs.Whole.{IsWhole};
 ghost use Rattle.prolly_entry.specs.Cut.{sha512_cut};
-ghost use Rattle.prolly_proof.specs.ByRoot.{TellPairs};
 ghost use Rattle.prolly_proof.specs.Descents.{AnswersLawful, MayFail};
 ghost use Rattle.prolly_proof.specs.Readers.{IsReaderOf, way_of};
 ghost use Rattle.prolly_proof.specs.Walks.{HoldsFile, StaysSame, TellsReads};
 ghost use Rattle.prolly_tree.specs.File.{root_reference};
 
 use crate::descent::{go_down, top_of, with};
+use crate::last_chunk::pairs_at;
 use crate::level::Level;
 use crate::place::Place;
 use crate::root_fault::RootFault;
 use crate::sought::Sought;
-use prolly_check::{Entries, entries_of, pairs_from};
 use prolly_entry::{Pair, Ref, Version};
 use prolly_file::Device;
-use std::alloc::{AllocError, Global};
+use std::alloc::Global;
 use std::marker::Model;
 use std::mem;
 
@@ -132,21 +129,5 @@ impl Reader {
         let pairs = pairs_at(alloc, self.version, &descent.last.chunk, from)?;
         self.levels = with(descent.above, descent.last)?;
         Ok(pairs)
-    }
-}
-
-/// The first pairs that the chunk at which a look-up of the key ends has from the key on.
-fn pairs_at(
-    alloc: Global,
-    version: Version,
-    chunk: &[u8],
-    from: &[u8],
-) -> Result<Vec<Pair>, AllocError>
-    requires { IsWhole version chunk.now }
-    ensures { IfOk result (λ pairs. TellPairs from.now (kind_of version chunk.now) pairs.items) }
-{
-    match entries_of(version, chunk) {
-        Entries::Leaf(pairs) => pairs_from(alloc, pairs, from),
-        Entries::Node(_) => Ok(Vec::new(alloc)),
     }
 }

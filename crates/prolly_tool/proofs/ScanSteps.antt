@@ -10,7 +10,9 @@ use Rattle.std.proofs.lemmas.List.Concat.{flat_map-append}
 use Rattle.std.proofs.lemmas.Option.{slice_get-get_or}
 use Rattle.prolly_check.specs.ScanWay.{AreScanned, EndsEmpty, IsScanWay, from_behind, joined}
 use Rattle.prolly_check.specs.ScanWay.{next_key}
+use Rattle.prolly_check.specs.Content.{Content}
 use Rattle.prolly_check.specs.Verdict.{IsFileOf}
+use Rattle.prolly_entry.specs.Cut.{sha512_cut}
 use Rattle.prolly_entry.specs.Pair.{Pair}
 use Rattle.prolly_entry.specs.declared.version.Version.{Version}
 use Rattle.prolly_fault.specs.declared.fault.RunFault.{RunFault}
@@ -19,13 +21,15 @@ use Rattle.prolly_fault.specs.declared.fault.RunFault.TheVariants.{Memory, Write
 use Rattle.prolly_file.specs.Device.{DeviceView}
 use Rattle.prolly_file.specs.Failures.{CountsFailure, after_failure}
 use Rattle.prolly_file.specs.Sink.{SinkView}
-use Rattle.prolly_proof.specs.Descents.{AnswersLawful}
-use Rattle.prolly_proof.specs.Walks.{StaysSame}
+use Rattle.prolly_proof.specs.Descents.{AnswersLawful, MayFail}
+use Rattle.prolly_proof.specs.Readers.{IsReaderOf, ReaderView}
+use Rattle.prolly_proof.specs.Walks.{HoldsFile, StaysSame}
 use Rattle.prolly_proof.specs.declared.root_fault.RootFault.{RootFault}
+use Rattle.prolly_tree.specs.File.{root_reference}
 use Rattle.prolly_tree.specs.Tree.{last_key}
 use Rattle.prolly_tool.specs.LookUps.{pair_lines, pair_text}
 use Rattle.prolly_tool.specs.Outputs.{TookAll, TookPart, TookPrefix, TookUntil}
-use Rattle.prolly_tool.specs.RootScans.{AreTooFew, IsDoneScan, IsStoppedScan, Scanned}
+use Rattle.prolly_tool.specs.RootScans.{AreTooFew, IsDoneScan, IsOpened, IsStoppedScan, Scanned}
 use Rattle.prolly_tool.specs.RootScans.{StoppedScan, limited_lines}
 use Rattle.prolly_tool.specs.declared.fault.Fault.{Fault}
 use Rattle.prolly_tool.specs.declared.fault.Fault.TheVariants as faults
@@ -486,18 +490,22 @@ module _ {W : Type 0} (seen : W → SinkView) (old mid new : W)
 
 -- ---- the device
 
+holds_late : (old late : DeviceView) (content : Content) → StaysSame old late →
+    HoldsFile old content → HoldsFile late content
+holds_late old late content same holds =
+    let still = same holds.honest in record {
+      honest = still.0;
+      short = subst (λ bytes. length bytes < 2 ^ 64) (sym still.1) holds.short;
+      is = subst (λ bytes. IsFileOf bytes content) (sym still.1) holds.is;
+    }
+
 -- What is said of a later device is said of the one before.
 pub lawful_before : (old late : DeviceView) (version : Version) (root : List ℕ)
     (fault : RootFault) → StaysSame old late →
     AnswersLawful {T = Unit {0}} late version root (Err fault) →
     AnswersLawful {T = Unit {0}} old version root (Err fault)
 lawful_before old late version root fault same lawful content holds =
-    let still = same holds.honest in
-    lawful content (record {
-      honest = still.0;
-      short = subst (λ bytes. length bytes < 2 ^ 64) (sym still.1) holds.short;
-      is = subst (λ bytes. IsFileOf bytes content) (sym still.1) holds.is;
-    })
+    lawful content (holds_late old late content same holds)
 
 pub stays_same : (old mid late : DeviceView) → StaysSame old mid → StaysSame mid late →
     StaysSame old late
@@ -505,3 +513,41 @@ stays_same old mid late first second honest =
     let a = first honest in
     let b = second a.0 in
     (b.0, b.1 ∙ a.1)
+
+-- ---- the reader
+
+-- What it finds by its version and root is found by those that it had.
+pub way_from : (old now : ReaderView) (key next : List ℕ) (way : List (List ℕ))
+    (found : List Pair) → now.version ≡ old.version → now.root ≡ old.root → key ≡ next →
+    IsScanWay now.version now.root key way found → IsScanWay old.version old.root next way found
+way_from old now key next way found version root is found_there =
+    subst (λ v. IsScanWay v old.root next way found) version
+    (subst (λ r. IsScanWay now.version r next way found) root
+    (subst (λ key. IsScanWay now.version now.root key way found) is found_there))
+
+module _ (first late : DeviceView) (same : StaysSame first late) (reader : ReaderView)
+    (opened : IsOpened first reader) where
+  opened_late : (content : Content) → HoldsFile first content → reader.version ≡ content.version →
+      reader.root ≡ root_reference (sha512_cut content.bits) content.version content.pairs →
+      IsReaderOf content (length late.bytes) reader
+  opened_late content holds version root = subst (λ bytes. IsReaderOf content (length bytes) reader)
+      (sym (same holds.honest).1) (opened content holds version root)
+
+  -- The file that it was opened for is not refused.
+  pub opened_lawful : (version : Version) (root : List ℕ) (fault : RootFault) →
+      reader.version ≡ version → reader.root ≡ root → ((content : Content) →
+      HoldsFile late content → IsReaderOf content (length late.bytes) reader → MayFail fault) →
+      AnswersLawful {T = Unit {0}} first version root (Err fault)
+  opened_lawful version root fault same_version same_root only content holds is root_is =
+      only content (holds_late first late content same holds)
+      (opened_late content holds (same_version ∙ is) (same_root ∙ root_is))
+
+  -- A look-up leaves it so.
+  pub opened_still : (new : ReaderView) → new.version ≡ reader.version → new.root ≡ reader.root →
+      ((content : Content) → HoldsFile late content →
+      IsReaderOf content (length late.bytes) reader →
+      IsReaderOf content (length late.bytes) new) → IsOpened first new
+  opened_still new same_version same_root keeps content holds is root_is =
+      subst (λ bytes. IsReaderOf content (length bytes) new) (same holds.honest).1
+      (keeps content (holds_late first late content same holds)
+      (opened_late content holds (sym same_version ∙ is) (sym same_root ∙ root_is)))

@@ -1,6 +1,8 @@
 -- What `scan` answers to who names the root.
 use Rattle.std.specs.Prelude.{◌≡◌, ℕ, ◌≤◌, ◌<◌, ◌⊎◌, true, List, length, take, Err}
 use Rattle.prolly_check.specs.ScanWay.{AreScanned, EndsEmpty, joined}
+use Rattle.prolly_check.specs.Content.{Content}
+use Rattle.prolly_entry.specs.Cut.{sha512_cut}
 use Rattle.prolly_entry.specs.Pair.{Pair}
 use Rattle.prolly_entry.specs.declared.version.Version.{Version}
 use Rattle.prolly_fault.specs.declared.fault.RunFault.{RunFault}
@@ -9,6 +11,9 @@ use Rattle.prolly_file.specs.Device.{DeviceView}
 use Rattle.prolly_file.specs.Failures.{after_failure}
 use Rattle.prolly_file.specs.Sink.{SinkView}
 use Rattle.prolly_proof.specs.Descents.{AnswersLawful}
+use Rattle.prolly_proof.specs.Readers.{IsReaderOf, ReaderView}
+use Rattle.prolly_proof.specs.Walks.{HoldsFile}
+use Rattle.prolly_tree.specs.File.{root_reference}
 use Rattle.prolly_tool.specs.Answers.{ShowsDone, ShowsFault}
 use Rattle.prolly_tool.specs.LookUps.{pair_lines}
 use Rattle.prolly_tool.specs.declared.answer.Answer.{Answer}
@@ -27,6 +32,14 @@ pub record Scanned (version : Version) (root from : List ℕ) : Type 0 where
 -- No more is sought: the lists have as many pairs as the limit says, or all that the tree has.
 abbrev pub AreEnough : ℕ → List (List Pair) → Type 0
 AreEnough limit lists = (limit ≤ length (joined lists)) ⊎ EndsEmpty lists
+
+-- The reader was opened for the file that the device has, where that is lawful and has the reader's
+-- version and root.
+abbrev pub IsOpened : DeviceView → ReaderView → Type 0
+IsOpened device reader = (content : Content) → HoldsFile device content →
+    reader.version ≡ content.version →
+    reader.root ≡ root_reference (sha512_cut content.bits) content.version content.pairs →
+    IsReaderOf content (length device.bytes) reader
 
 -- More is sought: neither is so.
 abbrev pub AreTooFew : ℕ → List (List Pair) → Type 0

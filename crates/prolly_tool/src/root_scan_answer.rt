@@ -1,10 +1,13 @@
 //! The command `scan` of a file of which only the root is believed.
 ghost use Rattle.std.specs.Prelude.{◌≡◌, ◌≢◌, ◌⊎◌, IfOk, IfErr, OnOk, OnErr, take, true, false};
 ghost use Rattle.prolly_check.specs.ScanWay.{next_key};
+ghost use Rattle.prolly_file.specs.Device.{DeviceView};
 ghost use Rattle.prolly_file.specs.Failures.{CountsFailure};
+ghost use Rattle.prolly_proof.specs.Walks.{StaysSame};
 ghost use Rattle.prolly_tool.specs.LookUps.{pair_lines};
 ghost use Rattle.prolly_tool.specs.Outputs.{TookAll, TookUntil};
-ghost use Rattle.prolly_tool.specs.RootScans.{IsDoneScan, IsFlushed, IsRootScan, IsStoppedScan};
+ghost use Rattle.prolly_tool.specs.RootScans.{IsDoneScan, IsFlushed, IsOpened, IsRootScan};
+ghost use Rattle.prolly_tool.specs.RootScans.{IsStoppedScan};
 ghost use Rattle.prolly_tool.specs.declared.fault.Fault.{Fault as FaultValue};
 ghost use Rattle.prolly_tool.specs.declared.fault.Fault.TheVariants.{Run};
 
@@ -14,7 +17,7 @@ use crate::scan_answer::lines_of;
 use prolly_entry::{Pair, Ref, Version};
 use prolly_fault::RunFault;
 use prolly_file::{Device, Sink, write_all};
-use prolly_proof::pairs_by_root;
+use prolly_proof::Reader;
 use std::alloc::{AllocError, Global};
 
 /// What `scan` answers to who names the root: it writes a line of key and value in hexadecimal to
@@ -22,11 +25,12 @@ use std::alloc::{AllocError, Global};
 /// nothing; or it shows the line of the fault that stopped it, and what was found before that was
 /// written. An `Err` is want of memory for that line; the sink then has what was found before.
 ///
-/// It goes on leaf by leaf, and looks each up from the root: see
-/// [`pairs_by_root`](prolly_proof::pairs_by_root). So it takes memory for one look-up, and for the
-/// pairs and the lines of one leaf. What the pairs of such look-ups are of the map with the root is
-/// said by [`ways_are_right`](prolly_check::laws::ways_are_right). The sink is called once for each
-/// leaf, or more often where it takes only a part, and flushed at the end.
+/// It goes on leaf by leaf, and looks each up from the root with one [`Reader`], which goes over
+/// the frames below a chunk once and reads no chunk twice. It takes memory for one look-up, and for
+/// the pairs and the lines of one leaf. What the pairs of such look-ups are of the map with the
+/// root is said by [`ways_are_right`](prolly_check::laws::ways_are_right). The sink is called once
+/// for each leaf, or more often where it takes only a part, and flushed at the end. Where the limit
+/// is 0, nothing is read.
 pub fn answer_scan_by_root<D: Device, W: Sink>(
     alloc: Global,
     device: &mut D,
@@ -65,26 +69,33 @@ fn write_scan<D: Device, W: Sink>(
         (λ bytes. TookAll W.seen bytes sink.old sink.new)
         (λ fault bytes. TookUntil W.seen fault bytes sink.old sink.new)) }
 {
-    match write_leaves(alloc, device, version, root, from, limit, sink) {
+    if limit == 0 {
+        return Ok(());
+    }
+    let reader = match Reader::open(alloc, device, version, root) {
+        Ok(reader) => reader,
+        Err(fault) => return Err(Fault::Root(fault)),
+    };
+    match write_leaves(alloc, device, reader, from, limit, sink) {
         Ok(()) => flush(sink),
         Err(fault) => Err(fault_flushed(sink, fault)),
     }
 }
 
-/// Writes the lines of a scan, leaf by leaf.
+/// Writes the lines of a scan, leaf by leaf, as the reader finds them.
 fn write_leaves<D: Device, W: Sink>(
     alloc: Global,
     device: &mut D,
-    version: Version,
-    root: &Ref,
+    mut reader: Reader,
     from: &[u8],
     limit: u32,
     sink: &mut W,
 ) -> Result<(), Fault>
-    ensures ok { OnOk result (IsDoneScan version root.now.0 from.now limit
+    ensures ok { OnOk result (IsDoneScan reader.version reader.root from.now limit
         (λ bytes. TookAll W.seen bytes sink.old sink.new)) }
-    ensures err { IfErr result (IsStoppedScan (D.seen device.old) version root.now.0 from.now limit
-        (λ bytes. TookAll W.seen bytes sink.old sink.new)
+    ensures err { (first : DeviceView) → StaysSame first (D.seen device.old) →
+        IsOpened first reader → IfErr result (IsStoppedScan first reader.version reader.root
+        from.now limit (λ bytes. TookAll W.seen bytes sink.old sink.new)
         (λ fault bytes. TookUntil W.seen fault bytes sink.old sink.new)) }
     ensures keeping { (W.seen sink.old).is_keeping ≡ true → (W.seen sink.new).is_keeping ≡ true }
 {
@@ -93,17 +104,17 @@ fn write_leaves<D: Device, W: Sink>(
     };
     let mut left = limit as usize;
     while left > 0 {
-        let found = match pairs_by_root(alloc, device, version, root, &next) {
-            Ok(found) => found,
+        let pairs = match reader.pairs_from(alloc, device, &next) {
+            Ok(pairs) => pairs,
             Err(fault) => return Err(Fault::Root(fault)),
         };
-        let Some(last) = found.pairs.last() else {
+        let Some(last) = pairs.last() else {
             return Ok(());
         };
-        if let Err(fault) = write_first(alloc, &found.pairs, left, sink) {
+        if let Err(fault) = write_first(alloc, &pairs, left, sink) {
             return Err(Fault::Run(fault));
         }
-        left = left.saturating_sub(found.pairs.len());
+        left = left.saturating_sub(pairs.len());
         next = match key_behind(alloc, last.key()) {
             Ok(next) => next,
             Err(_) => return Err(Fault::Run(RunFault::Memory)),

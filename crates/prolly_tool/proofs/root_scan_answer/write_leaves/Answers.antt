@@ -1,97 +1,115 @@
-use Rattle.std.proofs.Common.{◌≡◌, ◌-◌, ◌∙◌, refl, sym, ap, arith, subst, map, length, take}
+use Rattle.std.proofs.Common.{◌≡◌, ◌-◌, ◌∙◌, refl, sym, ap, arith, subst, length, take}
 use Rattle.std.proofs.Common.{Some, None}
 use Rattle.std.specs.List.{slice_get}
-use Rattle.prolly_check.specs.ScanWay.{IsScanWay, next_key}
+use Rattle.prolly_check.specs.ScanWay.{next_key}
+use Rattle.prolly_proof.specs.Readers.{way_of}
 use Rattle.prolly_tool.specs.LookUps.{pair_lines}
 use Rattle.prolly_tool.specs.Outputs.{TookAll, TookUntil}
-use Rattle.prolly_tool.proofs.ScanSteps.{lawful_before, none_last, scan_begins, scan_ends}
+use Rattle.prolly_tool.proofs.ScanSteps.{none_last, opened_lawful, opened_still, scan_begins, scan_ends}
 use Rattle.prolly_tool.proofs.ScanSteps.{scan_fails, scan_full, scan_goes_on, scan_unwritten}
-use Rattle.prolly_tool.proofs.ScanSteps.{scan_wants, stays_same}
+use Rattle.prolly_tool.proofs.ScanSteps.{scan_wants, stays_same, way_from}
 use Rattle.prolly_tool.proofs.root_scan_answer.write_leaves.Goals as goal
 
 pub returns-in_default-clause-err : goal.returns-in_default-clause-err
-returns-in_default-clause-err g c = scan_wants g.W.Sink.seen c.args.version c.args.root.now.0
+returns-in_default-clause-err g c first same opened = scan_wants g.W.Sink.seen c.args.reader.version c.args.reader.root
     c.args.from.now c.args.limit c.args.limit c.args.from.now c.args.sink.now c.args.sink.now
-    (scan_begins g.W.Sink.seen c.args.version c.args.root.now.0 c.args.from.now c.args.limit
-    c.args.limit c.args.from.now c.args.sink.now refl refl) (g.D.Device.seen c.args.device.now)
+    (scan_begins g.W.Sink.seen c.args.reader.version c.args.reader.root c.args.from.now c.args.limit
+    c.args.limit c.args.from.now c.args.sink.now refl refl) first
 
 pub loop-left-init : goal.loop-left-init
 loop-left-init g c = record {
-  scan = scan_begins g.W.Sink.seen c.args.version c.args.root.now.0 c.args.from.now c.args.limit
+  version = refl;
+  root = refl;
+  opened = λ first same opened. opened;
+  scan = scan_begins g.W.Sink.seen c.args.reader.version c.args.reader.root c.args.from.now c.args.limit
       c.args.limit c.in-Ok.next.items c.args.sink.now refl c.in-Ok.ensures.items;
   same = λ honest. (honest, refl);
 }
 
 pub returns-clause-ok : goal.returns-clause-ok
-returns-clause-ok g c = scan_full g.W.Sink.seen c.args.version c.args.root.now.0 c.args.from.now
+returns-clause-ok g c = scan_full g.W.Sink.seen c.args.reader.version c.args.reader.root c.args.from.now
     c.args.limit c.loop-left.left c.loop-left.next.items c.args.sink.now c.loop-left.sink
     c.loop-left.invariant.scan (omega arith)
 
 pub returns-in-Err-clause-err : goal.returns-in-Err-clause-err
-returns-in-Err-clause-err g c = scan_fails g.W.Sink.seen c.args.version c.args.root.now.0
+returns-in-Err-clause-err g c first same opened = scan_fails g.W.Sink.seen c.args.reader.version c.args.reader.root
     c.args.from.now c.args.limit c.loop-left.left c.loop-left.next.items c.args.sink.now
-    c.loop-left.sink c.loop-left.invariant.scan (omega arith) (g.D.Device.seen c.args.device.now)
-    c.in-Err.fault (lawful_before (g.D.Device.seen c.args.device.now)
-    (g.D.Device.seen c.loop-left.device) c.args.version c.args.root.now.0 c.in-Err.fault
-    c.loop-left.invariant.same c.in-Err.ensures.lawful)
+    c.loop-left.sink c.loop-left.invariant.scan (omega arith) first c.in-Err.fault
+    (opened_lawful first (g.D.Device.seen c.loop-left.device) (stays_same first
+    (g.D.Device.seen c.args.device.now) (g.D.Device.seen c.loop-left.device) same
+    c.loop-left.invariant.same) c.loop-left.reader (c.loop-left.invariant.opened first same opened)
+    c.args.reader.version c.args.reader.root c.in-Err.fault c.loop-left.invariant.version
+    c.loop-left.invariant.root c.in-Err.ensures.lawful)
 
 pub returns-in_default-last-clause-ok : goal.returns-in_default-last-clause-ok
 returns-in_default-last-clause-ok g c =
-    let found = c.in-Ok-pairs_by_root.found.pairs.items in
-    let way = map (λ chunk. chunk.items) c.in-Ok-pairs_by_root.found.way.items in
-    scan_ends g.W.Sink.seen c.args.version c.args.root.now.0 c.args.from.now c.args.limit
+    let found = c.in-Ok-pairs_from.pairs.items in
+    let way = way_of c.pairs_from.new.self in
+    scan_ends g.W.Sink.seen c.args.reader.version c.args.reader.root c.args.from.now c.args.limit
     c.loop-left.left c.loop-left.next.items c.args.sink.now c.loop-left.sink
     c.loop-left.invariant.scan (omega arith) found way
-    (subst (λ key. IsScanWay c.args.version c.args.root.now.0 key way found)
-    c.deref.ensures.value c.in-Ok-pairs_by_root.ensures.found)
+    (way_from c.args.reader c.loop-left.reader c.deref.result.now c.loop-left.next.items way found
+    c.loop-left.invariant.version c.loop-left.invariant.root c.deref.ensures.value
+    c.in-Ok-pairs_from.ensures.found)
     (none_last found (subst (λ ps. slice_get ps (length ps - 1) ≡ None)
     c.deref-in-loop-left.ensures.value (sym c.in_default-last.ensures.value)))
 
 pub returns-in-Err-write_first-clause-err : goal.returns-in-Err-write_first-clause-err
-returns-in-Err-write_first-clause-err g c =
-    let found = c.in-Ok-pairs_by_root.found.pairs.items in
-    let way = map (λ chunk. chunk.items) c.in-Ok-pairs_by_root.found.way.items in
-    scan_unwritten g.W.Sink.seen c.args.version c.args.root.now.0 c.args.from.now c.args.limit
+returns-in-Err-write_first-clause-err g c first same opened =
+    let found = c.in-Ok-pairs_from.pairs.items in
+    let way = way_of c.pairs_from.new.self in
+    scan_unwritten g.W.Sink.seen c.args.reader.version c.args.reader.root c.args.from.now c.args.limit
     c.loop-left.left c.loop-left.next.items c.args.sink.now c.loop-left.sink
     c.loop-left.invariant.scan (omega arith) found way
-    (subst (λ key. IsScanWay c.args.version c.args.root.now.0 key way found)
-    c.deref.ensures.value c.in-Ok-pairs_by_root.ensures.found) c.write_first.new.sink
-    (g.D.Device.seen c.args.device.now) c.in-Err-write_first.fault
+    (way_from c.args.reader c.loop-left.reader c.deref.result.now c.loop-left.next.items way found
+    c.loop-left.invariant.version c.loop-left.invariant.root c.deref.ensures.value
+    c.in-Ok-pairs_from.ensures.found) c.write_first.new.sink
+    first c.in-Err-write_first.fault
     (subst (λ ps. TookUntil g.W.Sink.seen c.in-Err-write_first.fault
     (pair_lines (take c.loop-left.left ps)) c.loop-left.sink c.write_first.new.sink)
     c.deref-in-loop-left-2.ensures.value c.in-Err-write_first.ensures.err)
 
 pub returns-in-Err-key_behind-clause-err : goal.returns-in-Err-key_behind-clause-err
-returns-in-Err-key_behind-clause-err g c =
-    let found = c.in-Ok-pairs_by_root.found.pairs.items in
-    let way = map (λ chunk. chunk.items) c.in-Ok-pairs_by_root.found.way.items in
+returns-in-Err-key_behind-clause-err g c first same opened =
+    let found = c.in-Ok-pairs_from.pairs.items in
+    let way = way_of c.pairs_from.new.self in
     let last = c.in-Some.last.now in
-    scan_wants g.W.Sink.seen c.args.version c.args.root.now.0 c.args.from.now c.args.limit
+    scan_wants g.W.Sink.seen c.args.reader.version c.args.reader.root c.args.from.now c.args.limit
     (c.loop-left.left - length found) (next_key last.key) c.args.sink.now c.write_first.new.sink
-    (scan_goes_on g.W.Sink.seen c.args.version c.args.root.now.0 c.args.from.now c.args.limit
+    (scan_goes_on g.W.Sink.seen c.args.reader.version c.args.reader.root c.args.from.now c.args.limit
     c.loop-left.left c.loop-left.next.items c.args.sink.now c.loop-left.sink
     c.loop-left.invariant.scan (omega arith) found way
-    (subst (λ key. IsScanWay c.args.version c.args.root.now.0 key way found)
-    c.deref.ensures.value c.in-Ok-pairs_by_root.ensures.found) c.write_first.new.sink last
+    (way_from c.args.reader c.loop-left.reader c.deref.result.now c.loop-left.next.items way found
+    c.loop-left.invariant.version c.loop-left.invariant.root c.deref.ensures.value
+    c.in-Ok-pairs_from.ensures.found) c.write_first.new.sink last
     (c.loop-left.left - length found) (next_key last.key)
     (subst (λ ps. TookAll g.W.Sink.seen (pair_lines (take c.loop-left.left ps)) c.loop-left.sink
     c.write_first.new.sink) c.deref-in-loop-left-2.ensures.value
     c.in_default-write_first.ensures.ok)
     c.in_default-write_first.ensures.keeping
     (subst (λ ps. slice_get ps (length ps - 1) ≡ Some last) c.deref-in-loop-left.ensures.value
-    (sym c.in-Some.ensures.value)) refl refl) (g.D.Device.seen c.args.device.now)
+    (sym c.in-Some.ensures.value)) refl refl) first
 
 pub loop-left-preserved : goal.loop-left-preserved
 loop-left-preserved g c =
-    let found = c.in-Ok-pairs_by_root.found.pairs.items in
-    let way = map (λ chunk. chunk.items) c.in-Ok-pairs_by_root.found.way.items in
+    let found = c.in-Ok-pairs_from.pairs.items in
+    let way = way_of c.pairs_from.new.self in
     let last = c.in-Some.last.now in
     record {
-      scan = scan_goes_on g.W.Sink.seen c.args.version c.args.root.now.0 c.args.from.now
+      version = c.in-Ok-pairs_from.ensures.of.0 ∙ c.loop-left.invariant.version;
+      root = c.in-Ok-pairs_from.ensures.of.1 ∙ c.loop-left.invariant.root;
+      opened = λ first same opened. opened_still first (g.D.Device.seen c.loop-left.device)
+          (stays_same first (g.D.Device.seen c.args.device.now)
+          (g.D.Device.seen c.loop-left.device) same c.loop-left.invariant.same) c.loop-left.reader
+          (c.loop-left.invariant.opened first same opened) c.pairs_from.new.self
+          c.in-Ok-pairs_from.ensures.of.0 c.in-Ok-pairs_from.ensures.of.1
+          c.in-Ok-pairs_from.ensures.keeps;
+      scan = scan_goes_on g.W.Sink.seen c.args.reader.version c.args.reader.root c.args.from.now
           c.args.limit c.loop-left.left c.loop-left.next.items c.args.sink.now c.loop-left.sink
           c.loop-left.invariant.scan (omega arith) found way
-          (subst (λ key. IsScanWay c.args.version c.args.root.now.0 key way found)
-          c.deref.ensures.value c.in-Ok-pairs_by_root.ensures.found) c.write_first.new.sink last
+          (way_from c.args.reader c.loop-left.reader c.deref.result.now c.loop-left.next.items way
+          found c.loop-left.invariant.version c.loop-left.invariant.root c.deref.ensures.value
+          c.in-Ok-pairs_from.ensures.found) c.write_first.new.sink last
           c.saturating_sub-left.result c.in-Ok-key_behind.next.items
           (subst (λ ps. TookAll g.W.Sink.seen (pair_lines (take c.loop-left.left ps))
           c.loop-left.sink c.write_first.new.sink) c.deref-in-loop-left-2.ensures.value
@@ -104,9 +122,9 @@ loop-left-preserved g c =
             arith,
             c.saturating_sub-left.ensures,
             c.len.ensures,
-            c.in-Ok-pairs_by_root.found.pairs.ok,
+            c.in-Ok-pairs_from.pairs.ok,
           ));
       same = stays_same (g.D.Device.seen c.args.device.now) (g.D.Device.seen c.loop-left.device)
-          (g.D.Device.seen c.pairs_by_root.new.device) c.loop-left.invariant.same
-          c.in-Ok-pairs_by_root.ensures.same;
+          (g.D.Device.seen c.pairs_from.new.device) c.loop-left.invariant.same
+          c.in-Ok-pairs_from.ensures.same;
     }

@@ -1,15 +1,16 @@
-use Rattle.std.proofs.Common.{◌≡◌, ◌≢◌, ◌⊎◌, inl, inr, ℕ, List, true, sym, subst}
+use Rattle.std.proofs.Common.{◌≡◌, ◌≢◌, ◌⊎◌, inl, inr, ℕ, List, true, refl, sym, ◌∙◌, subst, arith}
 use Rattle.prolly_entry.specs.declared.version.Version.{Version}
 use Rattle.prolly_fault.specs.declared.fault.RunFault.TheVariants.{Write}
 use Rattle.prolly_file.specs.Device.{DeviceView}
 use Rattle.prolly_file.specs.Failures.{after_failure}
 use Rattle.prolly_file.specs.Sink.{SinkView}
+use Rattle.prolly_proof.specs.Readers.{ReaderView}
 use Rattle.prolly_tool.specs.Outputs.{TookAll, TookUntil}
-use Rattle.prolly_tool.specs.RootScans.{IsFlushed, IsStoppedScan}
+use Rattle.prolly_tool.specs.RootScans.{IsDoneScan, IsFlushed, IsStoppedScan}
 use Rattle.prolly_tool.specs.declared.fault.Fault.{Fault}
 use Rattle.prolly_tool.specs.declared.fault.Fault.TheVariants.{Run}
 use Rattle.prolly_tool.proofs.ScanSteps.{done_ended, done_failed, stopped_flushed}
-use Rattle.prolly_tool.proofs.ScanSteps.{stopped_unflushed}
+use Rattle.prolly_tool.proofs.ScanSteps.{scan_begins, scan_fails, scan_full, stopped_unflushed}
 use Rattle.prolly_tool.proofs.root_scan_answer.write_scan.Goals as goal
 
 -- The flush before a fault is told.
@@ -48,20 +49,56 @@ module _ {W : Type 0} (seen : W → SinkView) (old mid new : W)
       fault) (sym is.1) d)
   stopped_ended (inr is) = told_flushed is.0 is.1.same is.1.tells
 
-pub returns-in-Ok-clause-ok : goal.returns-in-Ok-clause-ok
-returns-in-Ok-clause-ok g c = done_ended g.W.Sink.seen c.args.sink.now c.write_leaves.new.sink
-    c.flush.new.sink c.write_leaves.ensures.keeping c.flush.ensures.bytes
-    (g.D.Device.seen c.args.device.now) c.args.version c.args.root.now.0 c.args.from.now
-    c.args.limit c.in-Ok.ensures.ok c.flush.result c.flush.ensures.failures
+-- What is said by the reader's version and root is said by those that it was opened for.
+by_args : (version : Version) (root : List ℕ) (reader : ReaderView) →
+    (reader.version ≡ version) × (reader.root ≡ root) → (P : Version → List ℕ → Type 0) →
+    P reader.version reader.root → P version root
+by_args version root reader is P p =
+    subst (λ v. P v root) is.0 (subst (λ r. P reader.version r) is.1 p)
 
-pub returns-in-Ok-clause-err : goal.returns-in-Ok-clause-err
-returns-in-Ok-clause-err g c = done_failed g.W.Sink.seen c.args.sink.now c.write_leaves.new.sink
-    c.flush.new.sink c.write_leaves.ensures.keeping c.flush.ensures.bytes
-    (g.D.Device.seen c.args.device.now) c.args.version c.args.root.now.0 c.args.from.now
-    c.args.limit c.in-Ok.ensures.ok c.flush.result c.flush.ensures.failures c.flush.ensures.fault
+pub returns-then-limit-eq0-clause-ok : goal.returns-then-limit-eq0-clause-ok
+returns-then-limit-eq0-clause-ok g c = scan_full g.W.Sink.seen c.args.version c.args.root.now.0
+    c.args.from.now c.args.limit c.args.limit c.args.from.now c.args.sink.now c.args.sink.now
+    (scan_begins g.W.Sink.seen c.args.version c.args.root.now.0 c.args.from.now c.args.limit
+    c.args.limit c.args.from.now c.args.sink.now refl refl) c.if-limit-eq0.true
 
 pub returns-in-Err-clause-err : goal.returns-in-Err-clause-err
-returns-in-Err-clause-err g c = stopped_ended g.W.Sink.seen c.args.sink.now c.write_leaves.new.sink
-    c.fault_flushed.new.sink c.write_leaves.ensures.keeping (g.D.Device.seen c.args.device.now)
-    c.args.version c.args.root.now.0 c.args.from.now c.args.limit c.in-Err.fault
-    c.fault_flushed.result c.in-Err.ensures.err c.fault_flushed.ensures
+returns-in-Err-clause-err g c = scan_fails g.W.Sink.seen c.args.version c.args.root.now.0
+    c.args.from.now c.args.limit c.args.limit c.args.from.now c.args.sink.now c.args.sink.now
+    (scan_begins g.W.Sink.seen c.args.version c.args.root.now.0 c.args.from.now c.args.limit
+    c.args.limit c.args.from.now c.args.sink.now refl refl) (omega (arith, c.if-limit-eq0.false))
+    (g.D.Device.seen c.args.device.now) c.in-Err.fault c.in-Err.ensures.lawful
+
+pub returns-in-Ok-write_leaves-clause-ok : goal.returns-in-Ok-write_leaves-clause-ok
+returns-in-Ok-write_leaves-clause-ok g c = done_ended g.W.Sink.seen c.args.sink.now
+    c.write_leaves.new.sink c.flush.new.sink c.write_leaves.ensures.keeping c.flush.ensures.bytes
+    (g.D.Device.seen c.args.device.now) c.args.version c.args.root.now.0 c.args.from.now
+    c.args.limit (by_args c.args.version c.args.root.now.0 c.in-Ok.reader c.in-Ok.ensures.of
+    (λ v r. IsDoneScan v r c.args.from.now c.args.limit
+    (λ bytes. TookAll g.W.Sink.seen bytes c.args.sink.now c.write_leaves.new.sink))
+    c.in-Ok-write_leaves.ensures.ok) c.flush.result c.flush.ensures.failures
+
+pub returns-in-Ok-write_leaves-clause-err : goal.returns-in-Ok-write_leaves-clause-err
+returns-in-Ok-write_leaves-clause-err g c = done_failed g.W.Sink.seen c.args.sink.now
+    c.write_leaves.new.sink c.flush.new.sink c.write_leaves.ensures.keeping c.flush.ensures.bytes
+    (g.D.Device.seen c.args.device.now) c.args.version c.args.root.now.0 c.args.from.now
+    c.args.limit (by_args c.args.version c.args.root.now.0 c.in-Ok.reader c.in-Ok.ensures.of
+    (λ v r. IsDoneScan v r c.args.from.now c.args.limit
+    (λ bytes. TookAll g.W.Sink.seen bytes c.args.sink.now c.write_leaves.new.sink))
+    c.in-Ok-write_leaves.ensures.ok) c.flush.result c.flush.ensures.failures c.flush.ensures.fault
+
+pub returns-in-Err-write_leaves-clause-err : goal.returns-in-Err-write_leaves-clause-err
+returns-in-Err-write_leaves-clause-err g c =
+    let first = g.D.Device.seen c.args.device.now in
+    let of = c.in-Ok.ensures.of in
+    stopped_ended g.W.Sink.seen c.args.sink.now c.write_leaves.new.sink c.fault_flushed.new.sink
+    c.write_leaves.ensures.keeping first c.args.version c.args.root.now.0 c.args.from.now
+    c.args.limit c.in-Err-write_leaves.fault c.fault_flushed.result
+    (by_args c.args.version c.args.root.now.0 c.in-Ok.reader of
+    (λ v r. IsStoppedScan first v r c.args.from.now c.args.limit
+    (λ bytes. TookAll g.W.Sink.seen bytes c.args.sink.now c.write_leaves.new.sink)
+    (λ fault bytes. TookUntil g.W.Sink.seen fault bytes c.args.sink.now c.write_leaves.new.sink)
+    c.in-Err-write_leaves.fault)
+    (c.in-Err-write_leaves.ensures.err first c.in-Ok.ensures.same
+    (λ content holds version root. c.in-Ok.ensures.keeps content holds (sym of.0 ∙ version)
+    (sym of.1 ∙ root)))) c.fault_flushed.ensures
