@@ -1,16 +1,16 @@
 //! The subcommands, each with the line that clap reads it by.
 ghost use Rattle.std.specs.Prelude.{IfOk};
-ghost use Rattle.clap.specs.Words.{App, with_rule};
+ghost use Rattle.clap.specs.Words.{App, Rule, with_rule};
 ghost use Rattle.prolly_line.specs.Line.{atomic_flag, sync_flag};
 ghost use Rattle.prolly_line.specs.Line.{build_line, check_line, diff_line, dump_line, get_line};
 ghost use Rattle.prolly_line.specs.Line.{nth_line, pack_line, prove_line, scan_line, scratch_line};
 ghost use Rattle.prolly_line.specs.Line.{look_up_line, verify_line};
-ghost use Rattle.prolly_line.specs.Local.{HasLine};
+ghost use Rattle.prolly_line.specs.Local.{HasLine, IsReadBy};
 
 use crate::assembly::{described, with_argument};
 use crate::help::Help;
 use crate::{arguments, help};
-use clap::Command;
+use clap::{Arg, Command};
 use std::alloc::{AllocError, Global};
 
 // What `--format` says where a chunk file is made.
@@ -28,9 +28,15 @@ fn with_mode<'a>(
     with_argument(line, arguments::sync_flag(alloc))
 }
 
-// `NAME [--root ROOT] [--format V] FILE`, a look-up in a file, or by a root that it trusts.
-fn look_up_line<'a>(alloc: Global, name: &'a str, help: Help<'a>) -> Result<Command<'a>, AllocError>
-    ensures { IfOk result (HasLine (look_up_line name.now)) }
+// `NAME [--root ROOT] [--format V] FILE SOUGHT`, a look-up in a file, or by a root that it trusts.
+fn look_up_line<'a>(
+    alloc: Global,
+    name: &'a str,
+    help: Help<'a>,
+    sought: Arg<'a>,
+) -> Result<Command<'a>, AllocError>
+    ensures { (rule : Rule) → IsReadBy rule sought.entry
+        → IfOk result (HasLine (with_rule (look_up_line name.now) rule)) }
 {
     let format = arguments::format_option(
         alloc,
@@ -38,7 +44,8 @@ fn look_up_line<'a>(alloc: Global, name: &'a str, help: Help<'a>) -> Result<Comm
     );
     let line = described(alloc, name, help).arg(arguments::root_option(alloc));
     let line = with_argument(line, format);
-    with_argument(line, arguments::file_word(alloc))
+    let line = with_argument(line, arguments::file_word(alloc));
+    with_argument(line, sought)
 }
 
 /// `pack [--atomic] [--sync] OUT`
@@ -116,16 +123,14 @@ pub(crate) fn diff_line<'a>(alloc: Global) -> Result<Command<'a>, AllocError>
 pub(crate) fn get_line<'a>(alloc: Global) -> Result<Command<'a>, AllocError>
     ensures { IfOk result (HasLine get_line) }
 {
-    let line = look_up_line(alloc, "get", help::GET);
-    with_argument(line, arguments::key_word(alloc))
+    look_up_line(alloc, "get", help::GET, arguments::key_word(alloc))
 }
 
 /// `scan [--root ROOT] [--format V] FILE HEXKEY LIMIT`
 pub(crate) fn scan_line<'a>(alloc: Global) -> Result<Command<'a>, AllocError>
     ensures { IfOk result (HasLine scan_line) }
 {
-    let line = look_up_line(alloc, "scan", help::SCAN);
-    let line = with_argument(line, arguments::key_word(alloc));
+    let line = look_up_line(alloc, "scan", help::SCAN, arguments::key_word(alloc));
     with_argument(line, arguments::limit_word(alloc))
 }
 
@@ -133,8 +138,7 @@ pub(crate) fn scan_line<'a>(alloc: Global) -> Result<Command<'a>, AllocError>
 pub(crate) fn nth_line<'a>(alloc: Global) -> Result<Command<'a>, AllocError>
     ensures { IfOk result (HasLine nth_line) }
 {
-    let line = look_up_line(alloc, "nth", help::NTH);
-    with_argument(line, arguments::n_word(alloc))
+    look_up_line(alloc, "nth", help::NTH, arguments::n_word(alloc))
 }
 
 /// `prove [--atomic] [--sync] FILE HEXKEY OUT`

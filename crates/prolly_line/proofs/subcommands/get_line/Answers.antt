@@ -1,5 +1,5 @@
--- One argument more.
+-- The key is what is sought.
 use Rattle.prolly_line.proofs.subcommands.get_line.Goals as goal
 
 pub returns : goal.returns
-returns c = c.with_argument.ensures _ _ c.look_up_line-line.ensures c.key_word.ensures
+returns c = c.look_up_line.ensures _ c.key_word.ensures

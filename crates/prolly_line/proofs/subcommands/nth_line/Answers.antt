@@ -1,5 +1,5 @@
--- One argument more.
+-- The number is what is sought.
 use Rattle.prolly_line.proofs.subcommands.nth_line.Goals as goal
 
 pub returns : goal.returns
-returns c = c.with_argument.ensures _ _ c.look_up_line-line.ensures c.n_word.ensures
+returns c = c.look_up_line.ensures _ c.n_word.ensures
