@@ -90,7 +90,7 @@ fn answer_or_refusal<T: Wait + Threads + Sync>(
             let version = Version::of(version).unwrap();
             match root {
                 None => get(rt, &file, &key),
-                Some(root) => get_from_root(rt, &file, version, &root, &key),
+                Some(root) => get_from_root(rt, RootedFile::of(&file, version, &root), &key),
             }
         }
         Command::Scan {
@@ -103,7 +103,9 @@ fn answer_or_refusal<T: Wait + Threads + Sync>(
             let version = Version::of(version).unwrap();
             match root {
                 None => scan(rt, &file, &from, limit),
-                Some(root) => scan_from_root(rt, &file, version, &root, &from, limit),
+                Some(root) => {
+                    scan_from_root(rt, RootedFile::of(&file, version, &root), &from, limit)
+                }
             }
         }
         Command::Nth {
@@ -115,7 +117,7 @@ fn answer_or_refusal<T: Wait + Threads + Sync>(
             let version = Version::of(version).unwrap();
             match root {
                 None => nth(rt, &file, n),
-                Some(root) => nth_from_root(rt, &file, version, &root, n),
+                Some(root) => nth_from_root(rt, RootedFile::of(&file, version, &root), n),
             }
         }
         Command::Dump {
@@ -201,6 +203,30 @@ fn scratch_to(
     Ok(output.finish(rt, out, answer)?)
 }
 
+/// A file of which nothing is believed but what the root of its tree vouches for.
+#[derive(Clone, Copy)]
+struct RootedFile<'a> {
+    file: &'a str,
+    version: Version,
+    root: &'a Ref,
+}
+
+impl<'a> RootedFile<'a> {
+    /// The file of this name, with the root, and the version of the tree's chunks.
+    fn of(file: &'a str, version: Version, root: &'a Ref) -> RootedFile<'a> {
+        RootedFile {
+            file,
+            version,
+            root,
+        }
+    }
+
+    /// The file as a device, where it is not the one that is to be written.
+    fn device(self, rt: &HostRuntime, target: Option<FileId>) -> Result<FromSeek<File>, Refusal> {
+        Ok(FromSeek::new(file_beside(rt, self.file, target)?))
+    }
+}
+
 /// `get FILE HEXKEY`
 fn get(rt: &HostRuntime, file: &str, key: &[u8]) -> Result<Answer, Refusal> {
     let mut source = opened(rt, file)?;
@@ -208,15 +234,9 @@ fn get(rt: &HostRuntime, file: &str, key: &[u8]) -> Result<Answer, Refusal> {
 }
 
 /// `get --root ROOT [--format V] FILE HEXKEY`, which reads no more of the file than it needs.
-fn get_from_root(
-    rt: &HostRuntime,
-    file: &str,
-    version: Version,
-    root: &Ref,
-    key: &[u8],
-) -> Result<Answer, Refusal> {
-    let mut device = FromSeek::new(file_beside(rt, file, None)?);
-    let found = get_by_root(rt.alloc(), &mut device, version, root, key);
+fn get_from_root(rt: &HostRuntime, tree: RootedFile<'_>, key: &[u8]) -> Result<Answer, Refusal> {
+    let mut device = tree.device(rt, None)?;
+    let found = get_by_root(rt.alloc(), &mut device, tree.version, tree.root, key);
     Ok(answer_found(rt.alloc(), &found)?)
 }
 
@@ -230,14 +250,12 @@ fn scan(rt: &HostRuntime, file: &str, from: &[u8], limit: u32) -> Result<Answer,
 /// looks for the next one.
 fn scan_from_root(
     rt: &HostRuntime,
-    file: &str,
-    version: Version,
-    root: &Ref,
+    tree: RootedFile<'_>,
     from: &[u8],
     limit: u32,
 ) -> Result<Answer, Refusal> {
-    let target = FileId::at(rt, STDOUT);
-    let mut device = FromSeek::new(file_beside(rt, file, target)?);
+    let RootedFile { version, root, .. } = tree;
+    let mut device = tree.device(rt, FileId::at(rt, STDOUT))?;
     let mut sink = ToWrite::new(rt.stdout());
     let alloc = rt.alloc();
     Ok(answer_scan_by_root(alloc, &mut device, version, root, from, limit, &mut sink)?)
@@ -250,18 +268,12 @@ fn nth(rt: &HostRuntime, file: &str, n: u64) -> Result<Answer, Refusal> {
 }
 
 /// `nth --root ROOT --format 2 FILE N`. Chunks of version One have no counts to go by.
-fn nth_from_root(
-    rt: &HostRuntime,
-    file: &str,
-    version: Version,
-    root: &Ref,
-    n: u64,
-) -> Result<Answer, Refusal> {
-    if version == Version::One {
+fn nth_from_root(rt: &HostRuntime, tree: RootedFile<'_>, n: u64) -> Result<Answer, Refusal> {
+    if tree.version == Version::One {
         return Err(Refusal::of_fault(rt, Fault::NoCounts));
     }
-    let mut device = FromSeek::new(file_beside(rt, file, None)?);
-    let found = nth_by_root(rt.alloc(), &mut device, root, n);
+    let mut device = tree.device(rt, None)?;
+    let found = nth_by_root(rt.alloc(), &mut device, tree.root, n);
     Ok(answer_found_pair(rt.alloc(), &found)?)
 }
 
