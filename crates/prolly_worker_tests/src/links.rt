@@ -1,8 +1,7 @@
 //! Links in use: what arrives, how far a sender is ahead, and what is found where an end is gone.
 ghost use Rattle.std.specs.Prelude.{◌≡◌};
 
-use between::{copy_into_batches, copy_list, copy_out_of_batches};
-use copies::{Copies, copy_all};
+use copies::{Copies, copy_all, copy_list};
 use prolly_fault::{
     BatchReceiver, ClosedBatch, ClosedSender, End, ListIn, Next, Receiver, RunFault,
 };
@@ -17,7 +16,6 @@ use std::thread;
 use std::time::Duration;
 
 mod across;
-mod between;
 mod copies;
 mod gather;
 mod numbers;
@@ -224,9 +222,9 @@ fn a_worker_copies_between_all_ends(rt: HostRuntime) -> Result<(), Fail> {
     let (first, from_first) = link(rt.alloc(), 4)?;
     drop(copy_all(&rt, ListIn::new(list.items, list.last), first));
     let (second, from_second) = batch_link(rt.alloc(), 4, 2)?;
-    drop(copy_into_batches(&rt, from_first, second));
+    drop(copy_all(&rt, from_first, second));
     let (third, from_third) = link(rt.alloc(), 4)?;
-    drop(copy_out_of_batches(&rt, from_second, third));
+    drop(copy_all(&rt, from_second, third));
     let Copies { input, out } = copy_all(&rt, from_third, ListOut::new(rt.alloc()));
     assert_eq!(rt;
         (out.items.as_slice(), out.last),

@@ -2,11 +2,12 @@
 ghost use Rattle.std.specs.Prelude.{◌≡◌, ◌++◌, IfOk};
 ghost use Rattle.std.specs.List.{range_with_len};
 ghost use Rattle.prolly_link.specs.declared.end.End.TheVariants.{Clean};
+ghost use Rattle.prolly_link.specs.declared.progress.Progress.TheVariants.{Ended};
 
 use super::gather::gather;
 use super::numbers::send_numbers;
-use prolly_fault::{BatchSender, ClosedBatch, ClosedSender, End, RunFault, Sender};
-use prolly_link::{BatchDrained, Drained, batch_link, link, meet, meet_batches};
+use prolly_fault::{End, RunFault};
+use prolly_link::{BatchDrained, Drained, In, Out, batch_link, link, meet, meet_batches};
 use std::alloc::Global;
 use std::snapshot::Snapshot;
 use std::sync::Wait;
@@ -15,26 +16,51 @@ use std::thread::{Promise, Threads};
 
 // The sender comes back closed, having sent the numbers below `count` where its end is clean.
 #[derive(Drop)]
-struct SendsNumbers {
-    sender: Snapshot<Sender<u32>>,
+struct SendsNumbers<O> {
+    sender: Snapshot<O>,
     count: u32,
 }
 
-impl Promise<ClosedSender<u32>> for SendsNumbers {
-    ghost kept_by = { λ p r. (r.link ≡ p.sender.value.link) × (r.end ≡ Clean →
-        r.items ≡ p.sender.value.items ++ range_with_len 0 p.count) };
+impl<O: Out<u32, RunFault>> Promise<O::Closed> for SendsNumbers<O> {
+    ghost kept_by = { λ p r. (O.closed_link r ≡ O.link p.sender.value) × (O.end_sent r ≡ Clean →
+        O.all_sent r ≡ O.sent p.sender.value ++ range_with_len 0 p.count) };
 }
 
-// The same for a sender of batches.
-#[derive(Drop)]
-struct SendsBatches {
-    sender: Snapshot<BatchSender<u32>>,
+// Sends the numbers below `count` from another thread, and receives in this one. Answers the closed
+// sender, and what came before a clean end.
+fn send_and_gather<I, O, R>(
+    rt: R,
+    alloc: Global,
+    sender: O,
+    receiver: &mut I,
     count: u32,
-}
-
-impl Promise<ClosedBatch<u32>> for SendsBatches {
-    ghost kept_by = { λ p r. (r.link ≡ p.sender.value.link) × (r.end ≡ Clean →
-        r.items ≡ p.sender.value.items ++ range_with_len 0 p.count) };
+) -> Result<(O::Closed, Vec<u32>), RunFault>
+where
+    I: In<u32, RunFault>,
+    O: Out<u32, RunFault> + Send + Drop + 'static,
+    O::Closed: Send + Drop + 'static,
+    R: Threads + Wait + Copy + Send + 'static,
+    ensures reads { I.link receiver.new ≡ I.link receiver.old }
+    ensures got { IfOk result (λ across. (I.progress receiver.new ≡ Ended Clean) ×
+        (I.received receiver.old receiver.new ≡ across.1.items)) }
+    ensures writes { IfOk result (λ across. O.closed_link across.0 ≡ O.link sender) }
+    ensures sent { IfOk result (λ across. O.end_sent across.0 ≡ Clean →
+        O.all_sent across.0 ≡ O.sent sender ++ range_with_len 0 count) }
+{
+    let promise = SendsNumbers {
+        sender: Snapshot::of(&sender),
+        count,
+    };
+    let Ok(child) = thread::spawn_with(&rt, promise, move || send_numbers(&rt, sender, count))
+    else {
+        return Err(RunFault::NoThread);
+    };
+    let gathered = gather(&rt, alloc, receiver);
+    let closed = child.join(&rt);
+    match gathered? {
+        (got, End::Clean) => Ok((closed, got)),
+        (_, End::Fault(fault)) => Err(fault),
+    }
 }
 
 // Over a link with room for one message.
@@ -45,28 +71,15 @@ pub(super) fn numbers_across<R: Threads + Wait + Copy + Send + 'static>(
 ) -> Result<Vec<u32>, RunFault>
     ensures { IfOk result (λ got. got.items ≡ range_with_len 0 count) }
 {
-    let Ok((sender, mut receiver)) = link::<u32, RunFault>(alloc, 1) else {
+    let Ok((sender, mut receiver)) = link(alloc, 1) else {
         return Err(RunFault::Memory);
     };
-    let promise = SendsNumbers {
-        sender: Snapshot::of(&sender),
-        count,
-    };
-    let Ok(child) = thread::spawn_with(&rt, promise, move || send_numbers(&rt, sender, count))
-    else {
-        return Err(RunFault::NoThread);
-    };
-    let gathered = gather(&rt, alloc, &mut receiver);
-    let closed = child.join(&rt);
-    let (got, end) = gathered?;
+    let (closed, got) = send_and_gather(rt, alloc, sender, &mut receiver, count)?;
     let Drained::Ended(ended) = receiver.drain(&rt) else {
         return Err(RunFault::Lost);
     };
     drop(meet(closed, ended));
-    match end {
-        End::Clean => Ok(got),
-        End::Fault(fault) => Err(fault),
-    }
+    Ok(got)
 }
 
 // Over a link with room for one batch of 16.
@@ -77,26 +90,13 @@ pub(super) fn numbers_across_in_batches<R: Threads + Wait + Copy + Send + 'stati
 ) -> Result<Vec<u32>, RunFault>
     ensures { IfOk result (λ got. got.items ≡ range_with_len 0 count) }
 {
-    let Ok((sender, mut receiver)) = batch_link::<u32, RunFault>(alloc, 1, 16) else {
+    let Ok((sender, mut receiver)) = batch_link(alloc, 1, 16) else {
         return Err(RunFault::Memory);
     };
-    let promise = SendsBatches {
-        sender: Snapshot::of(&sender),
-        count,
-    };
-    let Ok(child) = thread::spawn_with(&rt, promise, move || send_numbers(&rt, sender, count))
-    else {
-        return Err(RunFault::NoThread);
-    };
-    let gathered = gather(&rt, alloc, &mut receiver);
-    let closed = child.join(&rt);
-    let (got, end) = gathered?;
+    let (closed, got) = send_and_gather(rt, alloc, sender, &mut receiver, count)?;
     let BatchDrained::Ended(ended) = receiver.drain(&rt) else {
         return Err(RunFault::Lost);
     };
     drop(meet_batches(closed, ended));
-    match end {
-        End::Clean => Ok(got),
-        End::Fault(fault) => Err(fault),
-    }
+    Ok(got)
 }

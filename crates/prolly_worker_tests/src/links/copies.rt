@@ -4,8 +4,9 @@ ghost use Rattle.prolly_link.specs.Receipts.{HasEnded};
 ghost use Rattle.prolly_fault.specs.Ends.{end_given};
 ghost use Rattle.prolly_link.specs.declared.end.End.TheVariants.{Fault};
 
-use prolly_fault::{End, Next, RunFault};
-use prolly_link::{In, Out, receive_rest};
+use prolly_fault::{ClosedList, End, ListIn, Next, RunFault};
+use prolly_link::{In, ListOut, Out, receive_rest};
+use std::alloc::Global;
 use std::sync::Wait;
 
 // What the worker gives back.
@@ -52,4 +53,19 @@ pub(super) fn copy_all<T: Drop, I: In<T, RunFault>, O: Out<T, RunFault>, R: Wait
         }
     }
     unreachable!()
+}
+
+// From a list to a list.
+pub(super) fn copy_list<T: Drop, R: Wait>(
+    rt: &R,
+    alloc: Global,
+    items: Vec<T>,
+    last: End,
+) -> ClosedList<T>
+    ensures { result.last ≢ Fault RunFault.Memory →
+        (result.items.items ≡ items.items) × (result.last ≡ last) }
+{
+    let Copies { input, out } = copy_all(rt, ListIn::new(items, last), ListOut::new(alloc));
+    drop(input);
+    out
 }
