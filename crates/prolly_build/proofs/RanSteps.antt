@@ -1,9 +1,9 @@
 -- What the driver's parts give back.
 use Rattle.std.proofs.Common.{◌≡◌, ℕ, ◌-◌, List, [], ◌++◌, ◌≢◌, inl, inr, refl, sym, subst, ap, ◌∙◌}
-use Rattle.std.proofs.Common.{Result}
+use Rattle.std.proofs.Common.{Result, Ok, Err}
 use Rattle.std.proofs.lemmas.List.{append-nil}
 use Rattle.std.proofs.lemmas.Result.{err_from_is_err_and}
-use Rattle.std.specs.Prelude.{IsErrAnd}
+use Rattle.std.specs.Prelude.{IsErrAnd, IfOk, IfErr, OnOk}
 use Rattle.prolly_tree.specs.Chunk.{Chunk}
 use Rattle.prolly_tree.specs.File.{header}
 use Rattle.prolly_tree.specs.Pipeline.{before_second}
@@ -98,6 +98,26 @@ unmet_hands_on settings last old new untouched got wrote result halt h is lost =
   where
     lost_is_started : Lost ≡ NoThread → ⊥
     lost_is_started e = cc
+
+-- a level that met its link, or could not meet it, above a writer that wrote
+pub met_hands_on : {T : Type 0} (settings : Settings) (last : Receiving Chunk)
+    (old new : SinkView) (untouched : Type 0) (got : Wrote) (wrote : T → Wrote)
+    (result : Result T Halt) → IsWritten settings last old new got →
+    IfOk result (λ t. wrote t ≡ got) → IfErr result (λ h. h ≡ Lost) →
+    HandsOn settings last old new untouched result wrote
+met_hands_on settings last old new untouched got wrote (Ok t) h same lost = record {
+  written = subst (λ w. IsWritten settings last old new w) (sym same) h;
+  refused = tt;
+  begun = tt;
+}
+met_hands_on settings last old new untouched got wrote (Err halt) h same lost =
+    unmet_hands_on settings last old new untouched got wrote (Err halt) halt h refl lost
+
+-- what holds of a value holds of a result that is this value
+pub of_made : {T E : Type 0} (P : T → Type 0) (met : Type 0) (made : T) (result : Result T E) →
+    IfOk result (λ t. t ≡ made) → OnOk result met → (met → P made) → IfOk result P
+of_made P met made (Ok t) is shown holds = subst P (sym is) (holds shown)
+of_made P met made (Err e) is shown holds = tt
 
 -- a receiver that had given nothing has given all that it gave since
 between_all : (before after : List Chunk) → before ≡ [] → items_between before after ≡ after

@@ -4,10 +4,10 @@ ghost use Rattle.prolly_build.specs.Ran.{HandsOn};
 ghost use Rattle.prolly_build.specs.Staging.{HasStaged};
 
 use crate::end::{Halt, refuse};
-use crate::links::{Feed, NewLink, meet};
+use crate::links::{Feed, NewLink};
 use crate::run::last_merger::gather;
 use crate::run::ran::Ran;
-use crate::start::{Input, Permit, Runtime, Site, StageEnds, start_leaves, start_nodes};
+use crate::start::{Input, Permit, Runtime, Site, start_leaves, start_nodes};
 use prolly_chunk::ChunkEvent;
 use prolly_entry::Pair;
 use prolly_fault::{BatchReceiver, BatchSender};
@@ -40,14 +40,8 @@ fn run_from_leaves<'s, E, R: Runtime, G: Gate, P: Permit, S: Input + 's, W: Sink
         return Err(refuse(site.rt, (feed, sender), last));
     };
     let gathered = gather(site, feed, sender, sources, last, sink);
-    let StageEnds { input, out } = handle.join(site.rt);
-    let Ran {
-        out: sent,
-        pairs,
-        wrote,
-    } = gathered?;
-    meet(site.rt, sent, input)?;
-    Ok(Ran { out, pairs, wrote })
+    let stage = handle.join(site.rt);
+    gathered?.up_to_stage(site.rt, stage)
 }
 
 /// Starts a stage of nodes for each link, the highest one first, then all workers below them,
@@ -83,12 +77,6 @@ pub(crate) fn run_from_top<'s, E, R: Runtime, G: Gate, P: Permit, S: Input + 's,
         return Err(refuse(site.rt, (events, pairs, feed, sender), last));
     };
     let ran = run_from_top(site, events, pairs, feed, sender, sources, last, sink);
-    let StageEnds { input, out } = handle.join(site.rt);
-    let Ran {
-        out: sent,
-        pairs,
-        wrote,
-    } = ran?;
-    meet(site.rt, sent, input)?;
-    Ok(Ran { out, pairs, wrote })
+    let stage = handle.join(site.rt);
+    ran?.up_to_stage(site.rt, stage)
 }

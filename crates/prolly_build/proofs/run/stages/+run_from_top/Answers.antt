@@ -1,5 +1,6 @@
-use Rattle.std.proofs.Common.{◌∙◌, vec_len, arith, refl}
-use Rattle.prolly_build.proofs.RanSteps.{nothing_begun, unmet_hands_on}
+use Rattle.std.proofs.Common.{ap, ◌∙◌, vec_len, arith, refl}
+use Rattle.std.proofs.lemmas.Result.{IfOk-weaker}
+use Rattle.prolly_build.proofs.RanSteps.{met_hands_on, nothing_begun, of_made}
 use Rattle.prolly_build.proofs.StagingSteps.{nodes_staged}
 use Rattle.prolly_build.proofs.run.stages.+run_from_top.Goals as goal
 
@@ -16,16 +17,17 @@ returns-in_default-start_nodes g t c = record {
 
 pub returns-clause-staged : goal.returns-clause-staged
 returns-clause-staged g t c =
-    nodes_staged g.S.Source.seen c.args.site.now.config _ _ _
+    of_made _ _ _ c.up_to_stage.result c.up_to_stage.ensures.ran c.up_to_stage.ensures.met
+    (λ met. nodes_staged g.S.Source.seen c.args.site.now.config _ _ _
     (vec_len c.pop.new.self) c.in-Some-start_nodes.handle.promise.level (vec_len c.args.events) _ _
     (c.in-Some-start_nodes.ensures.level ∙ (omega (arith, c.len.ensures)))
     (omega (arith, c.in-Some.ensures.cases))
     c.in-Some-start_nodes.ensures.cut.0 c.in-Some-start_nodes.ensures.cut.1
-    _ _ c.join-input.result.input c.join-input.result.out c.in_ok-sent.field-0.out
-    c.in_ok-sent.ensures.staged c.join-input.ensures
-    (c.in_ok-meet.ensures.met c.join-input.ensures.has_ended)
+    _ _ c.join-stage.result.input c.join-stage.result.out c.in_ok-ran.field-0.out
+    c.in_ok-ran.ensures.staged c.join-stage.ensures (met c.join-stage.ensures.has_ended))
 
-pub returns-in_err-meet-clause-hands_on : goal.returns-in_err-meet-clause-hands_on
-returns-in_err-meet-clause-hands_on g t c =
-    unmet_hands_on _ _ _ _ _ _ _ _ _ c.in_ok-sent.ensures.hands_on.written
-    c.from_residual-in_err-meet.ensures.1 c.in_err-meet.ensures.lost
+pub returns-clause-hands_on : goal.returns-clause-hands_on
+returns-clause-hands_on g t c =
+    met_hands_on _ _ _ _ _ _ _ c.up_to_stage.result c.in_ok-ran.ensures.hands_on.written
+    (IfOk-weaker c.up_to_stage.result _ _ (λ ran is. ap (λ r. r.wrote) is)
+    c.up_to_stage.ensures.ran) c.up_to_stage.ensures.lost

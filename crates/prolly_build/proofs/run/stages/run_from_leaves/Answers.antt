@@ -1,5 +1,6 @@
 use Rattle.std.proofs.Common.{ap, ◌∙◌, sym, refl}
-use Rattle.prolly_build.proofs.RanSteps.{nothing_begun, unmet_hands_on}
+use Rattle.std.proofs.lemmas.Result.{IfOk-weaker}
+use Rattle.prolly_build.proofs.RanSteps.{met_hands_on, nothing_begun, of_made}
 use Rattle.prolly_build.proofs.StagingSteps.{leaves_staged}
 use Rattle.prolly_build.proofs.run.stages.run_from_leaves.Goals as goal
 
@@ -14,25 +15,28 @@ returns-in_default g c = record {
   };
 }
 
-pub meet-requires : goal.meet-requires
-meet-requires g c =
-    let stage = c.join-input.ensures c.args.site.now.config.version in
-    c.in_ok-sent.ensures.link ∙ (c.args.pairs.paired ∙
+pub up_to_stage-requires : goal.up_to_stage-requires
+up_to_stage-requires g c =
+    let stage = c.join-stage.ensures c.args.site.now.config.version in
+    c.in_ok-gathered.ensures.link ∙ (c.args.pairs.paired ∙
     sym (stage.reads ∙ ap (λ r. r.link) c.in-Some.ensures.input))
 
 pub returns-clause-link : goal.returns-clause-link
 returns-clause-link g c =
-    let stage = c.join-input.ensures c.args.site.now.config.version in
-    stage.writes ∙ ap (λ o. o.link) c.in-Some.ensures.out
+    let stage = c.join-stage.ensures c.args.site.now.config.version in
+    IfOk-weaker c.up_to_stage.result _ _ (λ ran is. ap (λ r. r.out.link) is ∙
+    (stage.writes ∙ ap (λ o. o.link) c.in-Some.ensures.out)) c.up_to_stage.ensures.ran
 
 pub returns-clause-staged : goal.returns-clause-staged
 returns-clause-staged g c =
-    let stage = c.join-input.ensures c.args.site.now.config.version in
-    leaves_staged g.S.Source.seen c.args.site.now.config _ _ _ _ c.in-Some.ensures.cut
-    _ _ c.join-input.result.input c.join-input.result.out c.in_ok-sent.field-0.out
-    c.in_ok-sent.ensures.gathered stage (c.in_ok-meet.ensures.met stage.has_ended)
+    let stage = c.join-stage.ensures c.args.site.now.config.version in
+    of_made _ _ _ c.up_to_stage.result c.up_to_stage.ensures.ran c.up_to_stage.ensures.met
+    (λ met. leaves_staged g.S.Source.seen c.args.site.now.config _ _ _ _ c.in-Some.ensures.cut
+    _ _ c.join-stage.result.input c.join-stage.result.out c.in_ok-gathered.field-0.out
+    c.in_ok-gathered.ensures.gathered stage (met stage.has_ended))
 
-pub returns-in_err-meet-clause-hands_on : goal.returns-in_err-meet-clause-hands_on
-returns-in_err-meet-clause-hands_on g c =
-    unmet_hands_on _ _ _ _ _ _ _ _ _ c.in_ok-sent.ensures.hands_on.written
-    c.from_residual-in_err-meet.ensures.1 c.in_err-meet.ensures.lost
+pub returns-clause-hands_on : goal.returns-clause-hands_on
+returns-clause-hands_on g c =
+    met_hands_on _ _ _ _ _ _ _ c.up_to_stage.result c.in_ok-gathered.ensures.hands_on.written
+    (IfOk-weaker c.up_to_stage.result _ _ (λ ran is. ap (λ r. r.wrote) is)
+    c.up_to_stage.ensures.ran) c.up_to_stage.ensures.lost
