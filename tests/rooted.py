@@ -179,9 +179,9 @@ def child_of(frames, level, entries, sought):
     none where there is no such child. The children are the next chunks one level below the node."""
     below = [found for found in frames if found.level == level - 1]
     for place, (last, behind) in enumerate(entries):
-        if place == len(below):
-            raise Fault(MISSING)
         if not sought.passes(last, behind):
+            if place >= len(below):
+                raise Fault(MISSING)
             first = below[place - 1].number + 1 if place else frames[0].number
             return below[place], first, behind[:REFERENCE_SIZE]
     return None
@@ -508,10 +508,10 @@ def chains():
     yield "a node without children", [node(1)], b"a", NO_VALUE
     yield "a root of level 255", [node(255)], b"a", NO_VALUE
     yield "no leaf below a node", [two], b"a", MISSING
-    yield "no leaf below a node, and a key above all", [two], b"z", MISSING
+    yield "no leaf below a node, and a key above all", [two], b"z", NO_VALUE
     yield "no second leaf", [a, two], b"b", MISSING
     yield "no second leaf, and a key of the first", [a, two], b"a", one
-    yield "no second leaf, and a key above all", [a, two], b"z", MISSING
+    yield "no second leaf, and a key above all", [a, two], b"z", NO_VALUE
     yield "no first leaf", [b, two], b"a", another(0)
     yield "no first leaf, and a key of the second", [b, two], b"b", MISSING
     yield "leaves exchanged", [b, a, two], b"a", another(0)

@@ -436,7 +436,7 @@ def counted():
     yield "no leaf", [two], 0, MISSING
     yield "no second leaf", [a, two], 1, MISSING
     yield "no second leaf, and a pair of the first", [a, two], 0, one
-    yield "no second leaf, and a number behind all", [a, two], 9, MISSING
+    yield "no second leaf, and a number behind all", [a, two], 9, NO_VALUE
     yield "leaves exchanged", [b, a, two], 0, another(0)
     yield "leaves exchanged, and the second number", [b, a, two], 1, another(1)
     yield "leaves exchanged, and a number behind all", [b, a, two], 2, NO_VALUE
@@ -467,7 +467,7 @@ def chained():
     yield "a node without children", [plain_node(1)], b"", 1, 0, None
     yield "no second leaf, and the first pair", [a, two], b"", 1, 1, None
     yield "no second leaf, and both pairs", [a, two], b"", 2, 1, MISSING
-    yield "no second leaf, and what is behind it", [a, two], b"bb", ALL, 0, MISSING
+    yield "no second leaf, and what is behind it", [a, two], b"bb", ALL, 0, None
     yield "leaves exchanged", [b, a, two], b"", ALL, 0, another(0)
     yield "leaves exchanged, and the second pair", [b, a, two], b"b", ALL, 0, another(1)
     yield "leaves exchanged, and what is behind them", [b, a, two], b"bb", ALL, 0, None
@@ -676,7 +676,8 @@ def fail_to_read(place, call, version):
             printed.append(answer[1])
         if number < 10:
             place.note("too few calls to tell")
-        firsts = [lines_of(ABC[:count]) for count in range(len(ABC) + 1)] if words[0] == "scan" else [b""]
+        # The last look-up of the scan ends at the root, which was read before: nothing is read once all is printed.
+        firsts = [lines_of(ABC[:count]) for count in range(len(ABC))] if words[0] == "scan" else [b""]
         if [out for number, out in enumerate(printed) if out not in printed[:number]] != firsts:
             place.note(f"{words[0]}, {call} fails: printed {printed}")
 
