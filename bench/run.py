@@ -39,6 +39,12 @@ PROVED_KEYS = 25
 ROOTED_KEYS = 25
 """How many keys are looked up by the root."""
 
+SCANNED_BITS = (12, 4)
+"""By which cuts the trees are made that are scanned."""
+
+SCANNED_PAIRS = (1_000, 100_000, RECORDS)
+"""How many pairs are scanned."""
+
 LEAST_MEMORY = 1_000
 """Kilobytes of addresses with which no command is done."""
 
@@ -72,6 +78,7 @@ def main():
         show_diff(program, parts, turns)
         show_proofs(program)
         show_rooted(program)
+        show_scans(program, turns)
         show_builds(program, parts, turns)
         show_long_builds(program, parts, turns)
         show_growth(program, parts, turns)
@@ -291,6 +298,26 @@ def show_rooted(program):
             f" check {checking.seconds:.2f} s, peak {checking.peak / 1e6:.0f} MB"
         )
     remove(["tree"])
+
+
+def show_scans(program, turns):
+    """Pairs from the first key on by the root, beside a scan that checks the file first."""
+    write_records("records", range(RECORDS))
+    for bits in SCANNED_BITS:
+        root, chunks = Command([*build(program, ["records"]), "--bits", str(bits)]).run().out.decode().split()[:2]
+        print(f"scans of {RECORDS} pairs, --bits {bits}, {chunks} chunks:")
+        for pairs in SCANNED_PAIRS:
+            by_root, whole = [], []
+            for _ in range(turns):
+                by_root.append(Command([program, "scan", "--root", root, "tree", "", str(pairs)]).run())
+                whole.append(Command([program, "scan", "tree", "", str(pairs)]).run())
+            assert all(one.out == other.out for one, other in zip(by_root, whole, strict=True))
+            print(
+                f"  {pairs} pairs: --root {spread([done.seconds for done in by_root])},"
+                f" peak {max(done.peak for done in by_root) / 1e6:.0f} MB;"
+                f" without it {spread([done.seconds for done in whole])}"
+            )
+    remove(["records", "tree"])
 
 
 def least_memory(command, size):
