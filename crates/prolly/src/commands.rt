@@ -14,9 +14,10 @@ use prolly_file::{Buffered, FromRead, FromSeek, Sink, ToWrite};
 use prolly_proof::{get_by_root, nth_by_root};
 use prolly_stage::OpenGate;
 use prolly_tool::{
-    Answer, Command, Config, Fault, NameFault, RecordForm, WriteMode, answer_build, answer_check,
-    answer_diff, answer_dump, answer_found, answer_found_pair, answer_get, answer_nth, answer_pack,
-    answer_prove, answer_scan, answer_scan_by_root, answer_scratch, answer_verify,
+    Answer, Command, Config, Fault, NameFault, RecordForm, RootScan, WriteMode, answer_build,
+    answer_check, answer_diff, answer_dump, answer_found, answer_found_pair, answer_get,
+    answer_nth, answer_pack, answer_prove, answer_scan, answer_scan_by_root, answer_scratch,
+    answer_verify,
 };
 use std::alloc::AllocError;
 use std::fs;
@@ -254,11 +255,15 @@ fn scan_from_root(
     from: &[u8],
     limit: u32,
 ) -> Result<Answer, Refusal> {
-    let RootedFile { version, root, .. } = tree;
     let mut device = tree.device(rt, FileId::at(rt, STDOUT))?;
     let mut sink = ToWrite::new(rt.stdout());
-    let alloc = rt.alloc();
-    Ok(answer_scan_by_root(alloc, &mut device, version, root, from, limit, &mut sink)?)
+    let scan = RootScan {
+        version: tree.version,
+        root: tree.root,
+        from,
+        limit,
+    };
+    Ok(answer_scan_by_root(rt.alloc(), &mut device, &scan, &mut sink)?)
 }
 
 /// `nth FILE N`

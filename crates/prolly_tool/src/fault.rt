@@ -3,7 +3,7 @@ ghost use Rattle.std.specs.Prelude.{◌≡◌, Some};
 ghost use Rattle.prolly_tool.specs.Faults.{fault_text, check_status, root_status, run_status};
 ghost use Rattle.prolly_tool.specs.Faults.{fault_status};
 
-use crate::file_texts::{CheckText, ProofText, RootText, SideText};
+use crate::fault_texts::{CheckText, ProofText, RootText, RunText, SideText};
 use crate::pack::PackFault;
 use prolly_check::CheckFault;
 use prolly_fault::RunFault;
@@ -118,53 +118,5 @@ impl Display for Fault {
             Fault::NotUnicode => f.write_str("a word is not UTF-8"),
             Fault::OutIsStdout => f.write_str("OUT is also standard output"),
         }
-    }
-}
-
-/// A fault of a run, to be shown.
-#[derive(Clone, Copy)]
-struct RunText(RunFault);
-
-impl Display for RunText {
-    ghost use Rattle.prolly_tool.specs.Faults.{run_text};
-
-    ghost output = { λ shown. Some (run_text shown.0) };
-
-    fn fmt<W: fmt::Write>(&self, f: &mut Formatter<W>) -> fmt::Result {
-        match self.0 {
-            RunFault::Memory => f.write_str("out of memory"),
-            RunFault::Read { file } => write!(f, "file {file}: read failed"),
-            RunFault::Truncated { file, place } => RecordText(file, place, " is cut").fmt(f),
-            RunFault::KeyTooLong { file, place } => {
-                RecordText(file, place, ": key too long").fmt(f)
-            }
-            RunFault::ValueTooLong { file, place } => {
-                RecordText(file, place, ": value too long").fmt(f)
-            }
-            RunFault::OutOfOrder { file, place } => {
-                RecordText(file, place, ": key out of order").fmt(f)
-            }
-            RunFault::TooManyRecords { file } => write!(f, "file {file}: too many records"),
-            RunFault::Write => f.write_str("write failed"),
-            RunFault::TooTall => f.write_str("tree too tall"),
-            RunFault::NoThread => f.write_str("a thread could not be started"),
-            RunFault::Lost => f.write_str("a worker was lost"),
-            RunFault::TooManyFiles => f.write_str("too many files"),
-        }
-    }
-}
-
-/// What is said of a record, to be shown: the numbers of its file and of it, and then the text.
-#[derive(Clone, Copy)]
-struct RecordText<'a>(u32, u32, &'a str);
-
-impl Display for RecordText<'_> {
-    ghost use Rattle.prolly_tool.specs.Faults.{record_text};
-
-    ghost output = { λ shown. Some (record_text shown.0 shown.1 shown.2.now) };
-
-    fn fmt<W: fmt::Write>(&self, f: &mut Formatter<W>) -> fmt::Result {
-        let RecordText(file, place, text) = *self;
-        write!(f, "file {file}: record {place}{text}")
     }
 }

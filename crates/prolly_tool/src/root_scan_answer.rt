@@ -20,10 +20,23 @@ use prolly_file::{Device, Sink, write_all};
 use prolly_proof::Reader;
 use std::alloc::{AllocError, Global};
 
+/// What a scan by the root asks for.
+#[derive(Clone, Copy, Debug)]
+pub struct RootScan<'a> {
+    /// The version of the tree's chunks.
+    pub version: Version,
+    /// The root of the tree.
+    pub root: &'a Ref,
+    /// The key from which on pairs are wanted.
+    pub from: &'a [u8],
+    /// How many pairs are wanted at most.
+    pub limit: u32,
+}
+
 /// What `scan` answers to who names the root: it writes a line of key and value in hexadecimal to
-/// the sink for each of the first `limit` pairs whose key is not less than `from`, and shows
-/// nothing; or it shows the line of the fault that stopped it, and what was found before that was
-/// written. An `Err` is want of memory for that line; the sink then has what was found before.
+/// the sink for each of the pairs that are asked for, and shows nothing; or it shows the line of
+/// the fault that stopped it, and what was found before that was written. An `Err` is want of
+/// memory for that line; the sink then has what was found before.
 ///
 /// It goes on leaf by leaf, and looks each up from the root with one [`Reader`], which goes over
 /// the frames below a chunk once and reads no chunk twice. It takes memory for one look-up, and for
@@ -34,20 +47,18 @@ use std::alloc::{AllocError, Global};
 pub fn answer_scan_by_root<D: Device, W: Sink>(
     alloc: Global,
     device: &mut D,
-    version: Version,
-    root: &Ref,
-    from: &[u8],
-    limit: u32,
+    scan: &RootScan<'_>,
     sink: &mut W,
 ) -> Result<Answer, AllocError>
-    ensures ok { IfOk result (IsRootScan (D.seen device.old) version root.now.0 from.now limit
-        (λ bytes. TookAll W.seen bytes sink.old sink.new)
+    ensures ok { IfOk result (IsRootScan (D.seen device.old) scan.now.version scan.now.root.now.0
+        scan.now.from.now scan.now.limit (λ bytes. TookAll W.seen bytes sink.old sink.new)
         (λ fault bytes. TookUntil W.seen fault bytes sink.old sink.new)) }
-    ensures err { OnErr result ((fault : FaultValue) × IsStoppedScan (D.seen device.old) version
-        root.now.0 from.now limit (λ bytes. TookAll W.seen bytes sink.old sink.new)
+    ensures err { OnErr result ((fault : FaultValue) × IsStoppedScan (D.seen device.old)
+        scan.now.version scan.now.root.now.0 scan.now.from.now scan.now.limit
+        (λ bytes. TookAll W.seen bytes sink.old sink.new)
         (λ fault bytes. TookUntil W.seen fault bytes sink.old sink.new) fault) }
 {
-    match write_scan(alloc, device, version, root, from, limit, sink) {
+    match write_scan(alloc, device, scan, sink) {
         Ok(()) => Ok(Answer::of_done(alloc)),
         Err(fault) => Answer::of_fault(alloc, fault),
     }
@@ -57,26 +68,24 @@ pub fn answer_scan_by_root<D: Device, W: Sink>(
 fn write_scan<D: Device, W: Sink>(
     alloc: Global,
     device: &mut D,
-    version: Version,
-    root: &Ref,
-    from: &[u8],
-    limit: u32,
+    scan: &RootScan<'_>,
     sink: &mut W,
 ) -> Result<(), Fault>
-    ensures ok { OnOk result (IsDoneScan version root.now.0 from.now limit
-        (λ bytes. TookAll W.seen bytes sink.old sink.new)) }
-    ensures err { IfErr result (IsStoppedScan (D.seen device.old) version root.now.0 from.now limit
+    ensures ok { OnOk result (IsDoneScan scan.now.version scan.now.root.now.0
+        scan.now.from.now scan.now.limit (λ bytes. TookAll W.seen bytes sink.old sink.new)) }
+    ensures err { IfErr result (IsStoppedScan (D.seen device.old) scan.now.version
+        scan.now.root.now.0 scan.now.from.now scan.now.limit
         (λ bytes. TookAll W.seen bytes sink.old sink.new)
         (λ fault bytes. TookUntil W.seen fault bytes sink.old sink.new)) }
 {
-    if limit == 0 {
+    if scan.limit == 0 {
         return Ok(());
     }
-    let reader = match Reader::open(alloc, device, version, root) {
+    let reader = match Reader::open(alloc, device, scan.version, scan.root) {
         Ok(reader) => reader,
         Err(fault) => return Err(Fault::Root(fault)),
     };
-    match write_leaves(alloc, device, reader, from, limit, sink) {
+    match write_leaves(alloc, device, reader, scan.from, scan.limit, sink) {
         Ok(()) => flush(sink),
         Err(fault) => Err(fault_flushed(sink, fault)),
     }

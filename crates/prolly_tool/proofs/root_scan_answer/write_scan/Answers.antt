@@ -56,34 +56,34 @@ by_args : (version : Version) (root : List ℕ) (reader : ReaderView) →
 by_args version root reader is P p =
     subst (λ v. P v root) is.0 (subst (λ r. P reader.version r) is.1 p)
 
-pub returns-then-limit-eq0-clause-ok : goal.returns-then-limit-eq0-clause-ok
-returns-then-limit-eq0-clause-ok g c = scan_full g.W.Sink.seen c.args.version c.args.root.now.0
-    c.args.from.now c.args.limit c.args.limit c.args.from.now c.args.sink.now c.args.sink.now
-    (scan_begins g.W.Sink.seen c.args.version c.args.root.now.0 c.args.from.now c.args.limit
-    c.args.limit c.args.from.now c.args.sink.now refl refl) c.if-limit-eq0.true
+pub returns-then-scan-eq0-clause-ok : goal.returns-then-scan-eq0-clause-ok
+returns-then-scan-eq0-clause-ok g c = scan_full g.W.Sink.seen c.args.scan.now.version c.args.scan.now.root.now.0
+    c.args.scan.now.from.now c.args.scan.now.limit c.args.scan.now.limit c.args.scan.now.from.now c.args.sink.now c.args.sink.now
+    (scan_begins g.W.Sink.seen c.args.scan.now.version c.args.scan.now.root.now.0 c.args.scan.now.from.now c.args.scan.now.limit
+    c.args.scan.now.limit c.args.scan.now.from.now c.args.sink.now refl refl) c.if-scan-eq0.true
 
 pub returns-in-Err-clause-err : goal.returns-in-Err-clause-err
-returns-in-Err-clause-err g c = scan_fails g.W.Sink.seen c.args.version c.args.root.now.0
-    c.args.from.now c.args.limit c.args.limit c.args.from.now c.args.sink.now c.args.sink.now
-    (scan_begins g.W.Sink.seen c.args.version c.args.root.now.0 c.args.from.now c.args.limit
-    c.args.limit c.args.from.now c.args.sink.now refl refl) (omega (arith, c.if-limit-eq0.false))
+returns-in-Err-clause-err g c = scan_fails g.W.Sink.seen c.args.scan.now.version c.args.scan.now.root.now.0
+    c.args.scan.now.from.now c.args.scan.now.limit c.args.scan.now.limit c.args.scan.now.from.now c.args.sink.now c.args.sink.now
+    (scan_begins g.W.Sink.seen c.args.scan.now.version c.args.scan.now.root.now.0 c.args.scan.now.from.now c.args.scan.now.limit
+    c.args.scan.now.limit c.args.scan.now.from.now c.args.sink.now refl refl) (omega (arith, c.if-scan-eq0.false))
     (g.D.Device.seen c.args.device.now) c.in-Err.fault c.in-Err.ensures.lawful
 
 pub returns-in-Ok-write_leaves-clause-ok : goal.returns-in-Ok-write_leaves-clause-ok
 returns-in-Ok-write_leaves-clause-ok g c = done_ended g.W.Sink.seen c.args.sink.now
     c.write_leaves.new.sink c.flush.new.sink c.write_leaves.ensures.keeping c.flush.ensures.bytes
-    (g.D.Device.seen c.args.device.now) c.args.version c.args.root.now.0 c.args.from.now
-    c.args.limit (by_args c.args.version c.args.root.now.0 c.in-Ok.reader c.in-Ok.ensures.of
-    (λ v r. IsDoneScan v r c.args.from.now c.args.limit
+    (g.D.Device.seen c.args.device.now) c.args.scan.now.version c.args.scan.now.root.now.0 c.args.scan.now.from.now
+    c.args.scan.now.limit (by_args c.args.scan.now.version c.args.scan.now.root.now.0 c.in-Ok.reader c.in-Ok.ensures.of
+    (λ v r. IsDoneScan v r c.args.scan.now.from.now c.args.scan.now.limit
     (λ bytes. TookAll g.W.Sink.seen bytes c.args.sink.now c.write_leaves.new.sink))
     c.in-Ok-write_leaves.ensures.ok) c.flush.result c.flush.ensures.failures
 
 pub returns-in-Ok-write_leaves-clause-err : goal.returns-in-Ok-write_leaves-clause-err
 returns-in-Ok-write_leaves-clause-err g c = done_failed g.W.Sink.seen c.args.sink.now
     c.write_leaves.new.sink c.flush.new.sink c.write_leaves.ensures.keeping c.flush.ensures.bytes
-    (g.D.Device.seen c.args.device.now) c.args.version c.args.root.now.0 c.args.from.now
-    c.args.limit (by_args c.args.version c.args.root.now.0 c.in-Ok.reader c.in-Ok.ensures.of
-    (λ v r. IsDoneScan v r c.args.from.now c.args.limit
+    (g.D.Device.seen c.args.device.now) c.args.scan.now.version c.args.scan.now.root.now.0 c.args.scan.now.from.now
+    c.args.scan.now.limit (by_args c.args.scan.now.version c.args.scan.now.root.now.0 c.in-Ok.reader c.in-Ok.ensures.of
+    (λ v r. IsDoneScan v r c.args.scan.now.from.now c.args.scan.now.limit
     (λ bytes. TookAll g.W.Sink.seen bytes c.args.sink.now c.write_leaves.new.sink))
     c.in-Ok-write_leaves.ensures.ok) c.flush.result c.flush.ensures.failures c.flush.ensures.fault
 
@@ -92,10 +92,10 @@ returns-in-Err-write_leaves-clause-err g c =
     let first = g.D.Device.seen c.args.device.now in
     let of = c.in-Ok.ensures.of in
     stopped_ended g.W.Sink.seen c.args.sink.now c.write_leaves.new.sink c.fault_flushed.new.sink
-    c.write_leaves.ensures.keeping first c.args.version c.args.root.now.0 c.args.from.now
-    c.args.limit c.in-Err-write_leaves.fault c.fault_flushed.result
-    (by_args c.args.version c.args.root.now.0 c.in-Ok.reader of
-    (λ v r. IsStoppedScan first v r c.args.from.now c.args.limit
+    c.write_leaves.ensures.keeping first c.args.scan.now.version c.args.scan.now.root.now.0 c.args.scan.now.from.now
+    c.args.scan.now.limit c.in-Err-write_leaves.fault c.fault_flushed.result
+    (by_args c.args.scan.now.version c.args.scan.now.root.now.0 c.in-Ok.reader of
+    (λ v r. IsStoppedScan first v r c.args.scan.now.from.now c.args.scan.now.limit
     (λ bytes. TookAll g.W.Sink.seen bytes c.args.sink.now c.write_leaves.new.sink)
     (λ fault bytes. TookUntil g.W.Sink.seen fault bytes c.args.sink.now c.write_leaves.new.sink)
     c.in-Err-write_leaves.fault)

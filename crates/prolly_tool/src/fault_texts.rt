@@ -1,10 +1,59 @@
-//! What is said of files that are refused.
+//! What is said of faults.
 ghost use Rattle.std.specs.Prelude.{Some};
 
 use prolly_check::CheckFault;
+use prolly_fault::RunFault;
 use prolly_proof::{ProofFault, RootFault};
 use std::fmt;
 use std::fmt::{Display, Formatter};
+
+/// A fault of a run, to be shown.
+#[derive(Clone, Copy)]
+pub struct RunText(pub RunFault);
+
+impl Display for RunText {
+    ghost use Rattle.prolly_tool.specs.Faults.{run_text};
+
+    ghost output = { λ shown. Some (run_text shown.0) };
+
+    fn fmt<W: fmt::Write>(&self, f: &mut Formatter<W>) -> fmt::Result {
+        match self.0 {
+            RunFault::Memory => f.write_str("out of memory"),
+            RunFault::Read { file } => write!(f, "file {file}: read failed"),
+            RunFault::Truncated { file, place } => RecordText(file, place, " is cut").fmt(f),
+            RunFault::KeyTooLong { file, place } => {
+                RecordText(file, place, ": key too long").fmt(f)
+            }
+            RunFault::ValueTooLong { file, place } => {
+                RecordText(file, place, ": value too long").fmt(f)
+            }
+            RunFault::OutOfOrder { file, place } => {
+                RecordText(file, place, ": key out of order").fmt(f)
+            }
+            RunFault::TooManyRecords { file } => write!(f, "file {file}: too many records"),
+            RunFault::Write => f.write_str("write failed"),
+            RunFault::TooTall => f.write_str("tree too tall"),
+            RunFault::NoThread => f.write_str("a thread could not be started"),
+            RunFault::Lost => f.write_str("a worker was lost"),
+            RunFault::TooManyFiles => f.write_str("too many files"),
+        }
+    }
+}
+
+/// What is said of a record, to be shown: the numbers of its file and of it, and then the text.
+#[derive(Clone, Copy)]
+struct RecordText<'a>(u32, u32, &'a str);
+
+impl Display for RecordText<'_> {
+    ghost use Rattle.prolly_tool.specs.Faults.{record_text};
+
+    ghost output = { λ shown. Some (record_text shown.0 shown.1 shown.2.now) };
+
+    fn fmt<W: fmt::Write>(&self, f: &mut Formatter<W>) -> fmt::Result {
+        let RecordText(file, place, text) = *self;
+        write!(f, "file {file}: record {place}{text}")
+    }
+}
 
 /// Why a file is no lawful chunk file, to be shown.
 #[derive(Clone, Copy)]
