@@ -1,6 +1,7 @@
 -- The file of a proof, and what it proves. (This project's format.)
 use Rattle.std.specs.Prelude.{◌≡◌, ℕ, ◌⊎◌, List, [], ◌∷◌, ◌++◌, Option}
 use Rattle.std.specs.List.{AllByRecursion, flat_map}
+use Rattle.prolly_check.specs.Content.{Content}
 use Rattle.prolly_check.specs.Frames.{IsSmall}
 use Rattle.prolly_check.specs.Judged.{chunk_bytes}
 use Rattle.prolly_check.specs.Way.{Clash, IsWay}
@@ -29,6 +30,13 @@ pub record IsProof (version : Version) (root key bytes : List ℕ) (value : Opti
     pub small : AllByRecursion IsSmall chunks
     pub is : bytes ≡ proof_file version chunks
     pub way : IsWay version root key chunks value
+
+-- The bytes are the proof of what the map of a file of this content has at the key, for the file's
+-- root: the key's value, or none.
+abbrev pub IsProofOf : Content → List ℕ → List ℕ → Type 0
+IsProofOf content key bytes = IsProof content.version
+    (root_reference (sha512_cut content.bits) content.version content.pairs) key bytes
+    (find content.pairs key)
 
 -- A chunk of the proof and a different one of these have one reference.
 pub record ShowsClash (version : Version) (bytes : List ℕ) (others : List (List ℕ)) : Type 0 where

@@ -3,11 +3,8 @@ ghost use Rattle.std.specs.Prelude.{◌≡◌, ◌++◌, OnOk, IfOk};
 ghost use Rattle.prolly_check.specs.Content.{Content};
 ghost use Rattle.prolly_check.specs.Frames.{IsSmall};
 ghost use Rattle.prolly_check.specs.Verdict.{IsFileOf};
-ghost use Rattle.prolly_entry.specs.Cut.{sha512_cut};
 ghost use Rattle.prolly_file.specs.Frame.{framed};
-ghost use Rattle.prolly_proof.specs.ProofFile.{IsProof};
-ghost use Rattle.prolly_tree.specs.File.{root_reference};
-ghost use Rattle.prolly_tree.specs.LookUp.{find};
+ghost use Rattle.prolly_proof.specs.ProofFile.{IsProofOf};
 
 use crate::start::proof_start;
 use prolly_check::Tree;
@@ -20,8 +17,7 @@ use std::alloc::{AllocError, Global};
 /// for it, and time linear in it.
 pub fn prove(alloc: Global, tree: &Tree, key: &[u8]) -> Result<Vec<u8>, AllocError>
     ensures { IfOk result (λ proof. (content : Content) → IsFileOf tree.now content →
-        IsProof content.version (root_reference (sha512_cut content.bits) content.version
-        content.pairs) key.now proof.items (find content.pairs key.now)) }
+        IsProofOf content key.now proof.items) }
 {
     let mut proof = Vec::new(alloc);
     proof.extend_from_slice(&proof_start(tree.version()))?;

@@ -1,13 +1,10 @@
 -- What the commands `prove` and `verify` answer.
 use Rattle.std.specs.Prelude.{◌⊎◌, ℕ, List, Option}
 use Rattle.prolly_check.specs.Content.{Content}
-use Rattle.prolly_entry.specs.Cut.{sha512_cut}
 use Rattle.prolly_entry.specs.declared.version.Version.{Version}
 use Rattle.prolly_fault.specs.declared.fault.RunFault.TheVariants.{Write}
 use Rattle.prolly_proof.specs.Faults.{IsFault}
-use Rattle.prolly_proof.specs.ProofFile.{IsProof}
-use Rattle.prolly_tree.specs.File.{root_reference}
-use Rattle.prolly_tree.specs.LookUp.{find}
+use Rattle.prolly_proof.specs.ProofFile.{IsProof, IsProofOf}
 use Rattle.prolly_tool.specs.Answers.{ShowsDone, ShowsFault}
 use Rattle.prolly_tool.specs.Input.{IsInputFault, IsReadWhole}
 use Rattle.prolly_tool.specs.LookUps.{IsLookedUp, IsNoFile, ShowsValue}
@@ -22,8 +19,7 @@ use Rattle.prolly_tool.specs.declared.fault.Fault.TheVariants.{Proof, Run}
 -- holds.
 pub record HasProof (key : List ℕ) (holds : List ℕ → Type 0) (content : Content) : Type 0 where
   pub proof : List ℕ
-  pub proves : IsProof content.version (root_reference (sha512_cut content.bits) content.version
-      content.pairs) key proof (find content.pairs key)
+  pub proves : IsProofOf content key proof
   pub so : holds proof
 
 -- The bytes were read whole and are the file of a map, of a proof of which this holds.
