@@ -23,14 +23,15 @@ use Rattle.prolly_file.specs.Failures.{CountsFailure, after_failure}
 use Rattle.prolly_file.specs.Sink.{SinkView}
 use Rattle.prolly_proof.specs.Descents.{AnswersLawful, MayFail}
 use Rattle.prolly_proof.specs.Readers.{IsReaderOf, ReaderView}
-use Rattle.prolly_proof.specs.Walks.{HoldsFile, StaysSame}
+use Rattle.prolly_proof.specs.Walks.{HoldsFile, StaysSame, TellsReads}
 use Rattle.prolly_proof.specs.declared.root_fault.RootFault.{RootFault}
+use Rattle.prolly_proof.specs.declared.root_fault.RootFault.TheVariants as roots
 use Rattle.prolly_tree.specs.File.{root_reference}
 use Rattle.prolly_tree.specs.Tree.{last_key}
 use Rattle.prolly_tool.specs.LookUps.{pair_lines, pair_text}
 use Rattle.prolly_tool.specs.Outputs.{TookAll, TookPart, TookPrefix, TookUntil}
-use Rattle.prolly_tool.specs.RootScans.{AreTooFew, IsDoneScan, IsOpened, IsStoppedScan, Scanned}
-use Rattle.prolly_tool.specs.RootScans.{StoppedScan, limited_lines}
+use Rattle.prolly_tool.specs.RootScans.{AreTooFew, IsDoneScan, IsFlushed, IsOpened, IsStoppedScan}
+use Rattle.prolly_tool.specs.RootScans.{Scanned, StoppedScan, TellsScanReads, limited_lines}
 use Rattle.prolly_tool.specs.declared.fault.Fault.{Fault}
 use Rattle.prolly_tool.specs.declared.fault.Fault.TheVariants as faults
 use Rattle.prolly_tool.specs.declared.fault.Fault.TheVariants.{Root, Run}
@@ -551,3 +552,48 @@ module _ (first late : DeviceView) (same : StaysSame first late) (reader : Reade
       subst (λ bytes. IsReaderOf content (length bytes) new) (same holds.honest).1
       (keeps content (holds_late first late content same holds)
       (opened_late content holds (sym same_version ∙ is) (sym same_root ∙ root_is)))
+
+-- ---- what is told of the device
+
+-- A look-up has a fault.
+pub look_up_tells : (old new : ℕ) (fault : RootFault) →
+    TellsReads {T = Unit {0}} old new (Err fault) → TellsScanReads old new (Err (Root fault))
+look_up_tells old new roots.Memory t = inr (λ e. cc, t)
+look_up_tells old new roots.Read t = inl (inl refl, t)
+look_up_tells old new roots.Header t = inr (λ e. cc, t)
+look_up_tells old new roots.Version t = inr (λ e. cc, t)
+look_up_tells old new roots.Truncated t = inr (λ e. cc, t)
+look_up_tells old new (roots.Frame chunk) t = inr (λ e. cc, t)
+look_up_tells old new roots.Trailing t = inr (λ e. cc, t)
+look_up_tells old new roots.Missing t = inr (λ e. cc, t)
+look_up_tells old new (roots.Reference chunk) t = inr (λ e. cc, t)
+look_up_tells old new (roots.Chunk chunk) t = inr (λ e. cc, t)
+look_up_tells old new (roots.KeysOutOfOrder chunk) t = inr (λ e. cc, t)
+look_up_tells old new (roots.Level chunk) t = inr (λ e. cc, t)
+
+-- The flush at the end is done, or fails.
+pub done_tells : (old new : ℕ) (result : Result (Unit {0}) Fault) → new ≡ old →
+    IfErr result (λ fault. fault ≡ Run Write) → TellsScanReads old new result
+done_tells old new (Ok done) same is = same
+done_tells old new (Err fault) same is =
+    subst (λ f. TellsScanReads old new (Err f)) (sym is) (inr (λ e. cc, same))
+
+-- The fault is told, once the sink is flushed, or that this failed.
+module _ {W : Type 0} (seen : W → SinkView) (mid late : W) (old new : ℕ) (fault told : Fault)
+    (tells : TellsScanReads old new (Err fault)) where
+  flush_tells : TellsScanReads old new (Err fault) → TellsScanReads old new (Err (Run Write))
+  flush_tells (inl failed) = inl (inr refl, failed.1)
+  flush_tells (inr none) = inr (λ e. cc, none.1)
+
+  told_tells : ((told ≡ fault) × ((seen late).failures ≡ (seen mid).failures))
+      ⊎ ((told ≡ Run Write) × ((seen late).failures ≡ after_failure (seen mid).failures)) →
+      TellsScanReads old new (Err told)
+  told_tells (inl is) = subst (λ f. TellsScanReads old new (Err f)) (sym is.0) tells
+  told_tells (inr is) =
+      subst (λ f. TellsScanReads old new (Err f)) (sym is.0) (flush_tells tells)
+
+  pub flushed_tells : ((fault ≡ Run Write) × (told ≡ fault) × (late ≡ mid))
+      ⊎ ((fault ≢ Run Write) × IsFlushed seen mid late fault told) →
+      TellsScanReads old new (Err told)
+  flushed_tells (inl is) = subst (λ f. TellsScanReads old new (Err f)) (sym is.1) tells
+  flushed_tells (inr is) = told_tells is.1.tells

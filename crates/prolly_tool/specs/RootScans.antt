@@ -1,5 +1,6 @@
 -- What `scan` answers to who names the root.
-use Rattle.std.specs.Prelude.{◌≡◌, ℕ, ◌≤◌, ◌<◌, ◌⊎◌, true, List, length, take, Err}
+use Rattle.std.specs.Prelude.{◌≡◌, ◌≢◌, ℕ, ◌≤◌, ◌<◌, ◌⊎◌, true, List, length, take, Result}
+use Rattle.std.specs.Prelude.{Ok, Err}
 use Rattle.prolly_check.specs.ScanWay.{AreScanned, EndsEmpty, joined}
 use Rattle.prolly_check.specs.Content.{Content}
 use Rattle.prolly_entry.specs.Cut.{sha512_cut}
@@ -13,6 +14,7 @@ use Rattle.prolly_file.specs.Sink.{SinkView}
 use Rattle.prolly_proof.specs.Descents.{AnswersLawful}
 use Rattle.prolly_proof.specs.Readers.{IsReaderOf, ReaderView}
 use Rattle.prolly_proof.specs.Walks.{HoldsFile}
+use Rattle.prolly_proof.specs.declared.root_fault.RootFault.TheVariants.{Read}
 use Rattle.prolly_tree.specs.File.{root_reference}
 use Rattle.prolly_tool.specs.Answers.{ShowsDone, ShowsFault}
 use Rattle.prolly_tool.specs.LookUps.{pair_lines}
@@ -77,13 +79,23 @@ IsStoppedScan device version root from limit took_all took_until fault =
     (s : Scanned version root from) ×
     StoppedScan device version root limit took_all took_until fault s.lists
 
--- The answer: the scan is done, or the fault that stopped it is shown.
+-- What is told of the calls of the device, whose failures were so many before and after: where none
+-- failed, no failed read is told, and where one did, that is told, or that writing failed behind
+-- it.
+abbrev pub TellsScanReads : ℕ → ℕ → Result (Unit {0}) Fault → Type 0
+TellsScanReads old new (Ok done) = new ≡ old
+TellsScanReads old new (Err fault) =
+    (((fault ≡ Root Read) ⊎ (fault ≡ Run Write)) × (new ≡ after_failure old))
+    ⊎ ((fault ≢ Root Read) × (new ≡ old))
+
+-- The answer: the scan is done, or the fault that stopped it is shown; and of this it is said what
+-- is told of the device.
 abbrev pub IsRootScan : DeviceView → Version → List ℕ → List ℕ → ℕ → (List ℕ → Type 0) →
-    (RunFault → List ℕ → Type 0) → Answer → Type 0
-IsRootScan device version root from limit took_all took_until answer =
-    (IsDoneScan version root from limit took_all × ShowsDone answer)
+    (RunFault → List ℕ → Type 0) → (Result (Unit {0}) Fault → Type 0) → Answer → Type 0
+IsRootScan device version root from limit took_all took_until tells answer =
+    (IsDoneScan version root from limit took_all × tells (Ok tt) × ShowsDone answer)
     ⊎ ((fault : Fault) × IsStoppedScan device version root from limit took_all took_until fault ×
-    ShowsFault answer fault)
+    tells (Err fault) × ShowsFault answer fault)
 
 -- The sink was flushed before the fault is told, and that is told, or that the flush failed.
 pub record IsFlushed {W : Type 0} (seen : W → SinkView) (old new : W) (fault told : Fault)

@@ -1,5 +1,6 @@
 //! The command `scan` of a file of which only the root is believed.
-ghost use Rattle.std.specs.Prelude.{◌≡◌, ◌≢◌, ◌⊎◌, IfOk, IfErr, OnOk, OnErr, take, true, false};
+ghost use Rattle.std.specs.Prelude.{◌≡◌, ◌≢◌, ◌⊎◌, ◌↔◌, IfOk, IfErr, OnOk, OnErr, take, true};
+ghost use Rattle.std.specs.Prelude.{Err, IsTrue};
 ghost use Rattle.prolly_check.specs.ScanWay.{next_key};
 ghost use Rattle.prolly_file.specs.Device.{DeviceView};
 ghost use Rattle.prolly_file.specs.Failures.{CountsFailure};
@@ -7,7 +8,7 @@ ghost use Rattle.prolly_proof.specs.Walks.{StaysSame};
 ghost use Rattle.prolly_tool.specs.LookUps.{pair_lines};
 ghost use Rattle.prolly_tool.specs.Outputs.{TookAll, TookUntil};
 ghost use Rattle.prolly_tool.specs.RootScans.{IsDoneScan, IsFlushed, IsOpened, IsRootScan};
-ghost use Rattle.prolly_tool.specs.RootScans.{IsStoppedScan};
+ghost use Rattle.prolly_tool.specs.RootScans.{IsStoppedScan, TellsScanReads};
 ghost use Rattle.prolly_tool.specs.declared.fault.Fault.{Fault as FaultValue};
 ghost use Rattle.prolly_tool.specs.declared.fault.Fault.TheVariants.{Run};
 
@@ -52,11 +53,13 @@ pub fn answer_scan_by_root<D: Device, W: Sink>(
 ) -> Result<Answer, AllocError>
     ensures ok { IfOk result (IsRootScan (D.seen device.old) scan.now.version scan.now.root.now.0
         scan.now.from.now scan.now.limit (λ bytes. TookAll W.seen bytes sink.old sink.new)
-        (λ fault bytes. TookUntil W.seen fault bytes sink.old sink.new)) }
+        (λ fault bytes. TookUntil W.seen fault bytes sink.old sink.new)
+        (TellsScanReads (D.seen device.old).failures (D.seen device.new).failures)) }
     ensures err { OnErr result ((fault : FaultValue) × IsStoppedScan (D.seen device.old)
         scan.now.version scan.now.root.now.0 scan.now.from.now scan.now.limit
         (λ bytes. TookAll W.seen bytes sink.old sink.new)
-        (λ fault bytes. TookUntil W.seen fault bytes sink.old sink.new) fault) }
+        (λ fault bytes. TookUntil W.seen fault bytes sink.old sink.new) fault ×
+        TellsScanReads (D.seen device.old).failures (D.seen device.new).failures (Err fault)) }
 {
     match write_scan(alloc, device, scan, sink) {
         Ok(()) => Ok(Answer::of_done(alloc)),
@@ -77,6 +80,8 @@ fn write_scan<D: Device, W: Sink>(
         scan.now.root.now.0 scan.now.from.now scan.now.limit
         (λ bytes. TookAll W.seen bytes sink.old sink.new)
         (λ fault bytes. TookUntil W.seen fault bytes sink.old sink.new)) }
+    ensures reads { TellsScanReads (D.seen device.old).failures (D.seen device.new).failures
+        result }
 {
     if scan.limit == 0 {
         return Ok(());
@@ -107,6 +112,8 @@ fn write_leaves<D: Device, W: Sink>(
         from.now limit (λ bytes. TookAll W.seen bytes sink.old sink.new)
         (λ fault bytes. TookUntil W.seen fault bytes sink.old sink.new)) }
     ensures keeping { (W.seen sink.old).is_keeping ≡ true → (W.seen sink.new).is_keeping ≡ true }
+    ensures reads { TellsScanReads (D.seen device.old).failures (D.seen device.new).failures
+        result }
 {
     let Ok(mut next) = Vec::from_slice(alloc, from) else {
         return Err(Fault::Run(RunFault::Memory));
@@ -188,7 +195,7 @@ fn flush<W: Sink>(sink: &mut W) -> Result<(), Fault>
 /// Flushes the sink before the fault is told, and answers it, or else that this failed. A sink of
 /// which a write failed is left as it is.
 fn fault_flushed<W: Sink>(sink: &mut W, fault: Fault) -> Fault
-    ensures { ((result ≡ fault) × (sink.new ≡ sink.old))
+    ensures { ((fault ≡ Run RunFault.Write) × (result ≡ fault) × (sink.new ≡ sink.old))
         ⊎ ((fault ≢ Run RunFault.Write) × IsFlushed W.seen sink.old sink.new fault result) }
 {
     if is_failed_write(fault) {
@@ -202,7 +209,7 @@ fn fault_flushed<W: Sink>(sink: &mut W, fault: Fault) -> Fault
 
 /// Whether this is the fault of a write that failed.
 fn is_failed_write(fault: Fault) -> bool
-    ensures { result ≡ false → fault ≢ Run RunFault.Write }
+    ensures { IsTrue result ↔ (fault ≡ Run RunFault.Write) }
 {
     match fault {
         Fault::Run(fault) => matches!(fault, RunFault::Write),

@@ -1,13 +1,16 @@
 use Rattle.std.proofs.Common.{◌≡◌, ◌-◌, ◌∙◌, refl, sym, ap, arith, subst, length, take}
-use Rattle.std.proofs.Common.{Some, None}
+use Rattle.std.proofs.Common.{Err, Some, None}
 use Rattle.std.specs.List.{slice_get}
 use Rattle.prolly_check.specs.ScanWay.{next_key}
 use Rattle.prolly_proof.specs.Readers.{way_of}
 use Rattle.prolly_tool.specs.LookUps.{pair_lines}
 use Rattle.prolly_tool.specs.Outputs.{TookAll, TookUntil}
-use Rattle.prolly_tool.proofs.ScanSteps.{none_last, opened_lawful, opened_still, scan_begins, scan_ends}
+use Rattle.prolly_tool.proofs.ScanSteps.{look_up_tells, none_last, opened_lawful, opened_still, scan_begins}
+use Rattle.prolly_tool.proofs.ScanSteps.{scan_ends}
 use Rattle.prolly_tool.proofs.ScanSteps.{scan_fails, scan_full, scan_goes_on, scan_unwritten}
 use Rattle.prolly_tool.proofs.ScanSteps.{scan_wants, stays_same, way_from}
+use Rattle.prolly_tool.specs.RootScans.{TellsScanReads}
+use Rattle.prolly_tool.specs.declared.fault.Fault.TheVariants.{Root}
 use Rattle.prolly_tool.proofs.root_scan_answer.write_leaves.Goals as goal
 
 pub returns-in_default-clause-err : goal.returns-in_default-clause-err
@@ -18,6 +21,7 @@ returns-in_default-clause-err g c first same opened = scan_wants g.W.Sink.seen c
 
 pub loop-left-init : goal.loop-left-init
 loop-left-init g c = record {
+  reads = refl;
   version = refl;
   root = refl;
   opened = λ first same opened. opened;
@@ -96,6 +100,7 @@ loop-left-preserved g c =
     let way = way_of c.pairs_from.new.self in
     let last = c.in-Some.last.now in
     record {
+      reads = c.in-Ok-pairs_from.ensures.reads ∙ c.loop-left.invariant.reads;
       version = c.in-Ok-pairs_from.ensures.of.0 ∙ c.loop-left.invariant.version;
       root = c.in-Ok-pairs_from.ensures.of.1 ∙ c.loop-left.invariant.root;
       opened = λ first same opened. opened_still first (g.D.Device.seen c.loop-left.device)
@@ -128,3 +133,11 @@ loop-left-preserved g c =
           (g.D.Device.seen c.pairs_from.new.device) c.loop-left.invariant.same
           c.in-Ok-pairs_from.ensures.same;
     }
+
+pub returns-in-Err-clause-reads : goal.returns-in-Err-clause-reads
+returns-in-Err-clause-reads g c =
+    let old = (g.D.Device.seen c.args.device.now).failures in
+    let new = (g.D.Device.seen c.pairs_from.new.device).failures in
+    subst (λ n. TellsScanReads n new (Err (Root c.in-Err.fault))) c.loop-left.invariant.reads
+    (look_up_tells (g.D.Device.seen c.loop-left.device).failures new c.in-Err.fault
+    c.in-Err.ensures.reads)

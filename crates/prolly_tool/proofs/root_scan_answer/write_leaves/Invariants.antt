@@ -11,6 +11,7 @@ invariant-loop-left g l = record {
   root : l.reader.root ≡ l.fn.reader.root;
   scan : IsScanning g.W.Sink.seen l.fn.reader.version l.fn.reader.root l.fn.from l.limit l.left
       l.next.items l.initial.sink l.sink;
+  reads : (g.D.Device.seen l.device).failures ≡ (g.D.Device.seen l.initial.device).failures;
   same : StaysSame (g.D.Device.seen l.initial.device) (g.D.Device.seen l.device);
   opened : (first : DeviceView) → StaysSame first (g.D.Device.seen l.initial.device) →
       IsOpened first l.fn.reader → IsOpened first l.reader;

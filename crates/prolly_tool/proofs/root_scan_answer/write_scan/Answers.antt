@@ -1,4 +1,4 @@
-use Rattle.std.proofs.Common.{◌≡◌, ◌≢◌, ◌⊎◌, inl, inr, ℕ, List, true, refl, sym, ◌∙◌, subst, arith}
+use Rattle.std.proofs.Common.{Err, ◌≡◌, ◌≢◌, ◌⊎◌, inl, inr, ℕ, List, true, refl, sym, ◌∙◌, subst, arith}
 use Rattle.prolly_entry.specs.declared.version.Version.{Version}
 use Rattle.prolly_fault.specs.declared.fault.RunFault.TheVariants.{Write}
 use Rattle.prolly_file.specs.Device.{DeviceView}
@@ -6,11 +6,12 @@ use Rattle.prolly_file.specs.Failures.{after_failure}
 use Rattle.prolly_file.specs.Sink.{SinkView}
 use Rattle.prolly_proof.specs.Readers.{ReaderView}
 use Rattle.prolly_tool.specs.Outputs.{TookAll, TookUntil}
-use Rattle.prolly_tool.specs.RootScans.{IsDoneScan, IsFlushed, IsStoppedScan}
+use Rattle.prolly_tool.specs.RootScans.{IsDoneScan, IsFlushed, IsStoppedScan, TellsScanReads}
 use Rattle.prolly_tool.specs.declared.fault.Fault.{Fault}
 use Rattle.prolly_tool.specs.declared.fault.Fault.TheVariants.{Run}
 use Rattle.prolly_tool.proofs.ScanSteps.{done_ended, done_failed, stopped_flushed}
-use Rattle.prolly_tool.proofs.ScanSteps.{scan_begins, scan_fails, scan_full, stopped_unflushed}
+use Rattle.prolly_tool.proofs.ScanSteps.{done_tells, flushed_tells, look_up_tells, scan_begins, scan_fails, scan_full}
+use Rattle.prolly_tool.proofs.ScanSteps.{stopped_unflushed}
 use Rattle.prolly_tool.proofs.root_scan_answer.write_scan.Goals as goal
 
 -- The flush before a fault is told.
@@ -37,16 +38,16 @@ module _ {W : Type 0} (seen : W → SinkView) (old mid new : W)
       (stopped_unflushed seen old mid new keeping same is.1 device version root from limit fault
       other d)
 
-  stopped_ended : ((told ≡ fault) × (new ≡ mid))
+  stopped_ended : ((fault ≡ Run Write) × (told ≡ fault) × (new ≡ mid))
       ⊎ ((fault ≢ Run Write) × IsFlushed seen mid new fault told) →
       IsStoppedScan device version root from limit (λ bytes. TookAll seen bytes old new)
       (λ fault bytes. TookUntil seen fault bytes old new) told
   stopped_ended (inl is) = subst
       (IsStoppedScan device version root from limit (λ bytes. TookAll seen bytes old new)
-      (λ fault bytes. TookUntil seen fault bytes old new)) (sym is.0)
+      (λ fault bytes. TookUntil seen fault bytes old new)) (sym is.1)
       (subst (λ last. IsStoppedScan device version root from limit
       (λ bytes. TookAll seen bytes old last) (λ fault bytes. TookUntil seen fault bytes old last)
-      fault) (sym is.1) d)
+      fault) (sym is.2) d)
   stopped_ended (inr is) = told_flushed is.0 is.1.same is.1.tells
 
 -- What is said by the reader's version and root is said by those that it was opened for.
@@ -57,48 +58,76 @@ by_args version root reader is P p =
     subst (λ v. P v root) is.0 (subst (λ r. P reader.version r) is.1 p)
 
 pub returns-then-scan-eq0-clause-ok : goal.returns-then-scan-eq0-clause-ok
-returns-then-scan-eq0-clause-ok g c = scan_full g.W.Sink.seen c.args.scan.now.version c.args.scan.now.root.now.0
-    c.args.scan.now.from.now c.args.scan.now.limit c.args.scan.now.limit c.args.scan.now.from.now c.args.sink.now c.args.sink.now
-    (scan_begins g.W.Sink.seen c.args.scan.now.version c.args.scan.now.root.now.0 c.args.scan.now.from.now c.args.scan.now.limit
-    c.args.scan.now.limit c.args.scan.now.from.now c.args.sink.now refl refl) c.if-scan-eq0.true
+returns-then-scan-eq0-clause-ok g c =
+    let scan = c.args.scan.now in
+    scan_full g.W.Sink.seen scan.version scan.root.now.0
+    scan.from.now scan.limit scan.limit scan.from.now c.args.sink.now c.args.sink.now
+    (scan_begins g.W.Sink.seen scan.version scan.root.now.0 scan.from.now scan.limit
+    scan.limit scan.from.now c.args.sink.now refl refl) c.if-scan-eq0.true
 
 pub returns-in-Err-clause-err : goal.returns-in-Err-clause-err
-returns-in-Err-clause-err g c = scan_fails g.W.Sink.seen c.args.scan.now.version c.args.scan.now.root.now.0
-    c.args.scan.now.from.now c.args.scan.now.limit c.args.scan.now.limit c.args.scan.now.from.now c.args.sink.now c.args.sink.now
-    (scan_begins g.W.Sink.seen c.args.scan.now.version c.args.scan.now.root.now.0 c.args.scan.now.from.now c.args.scan.now.limit
-    c.args.scan.now.limit c.args.scan.now.from.now c.args.sink.now refl refl) (omega (arith, c.if-scan-eq0.false))
+returns-in-Err-clause-err g c =
+    let scan = c.args.scan.now in
+    scan_fails g.W.Sink.seen scan.version scan.root.now.0
+    scan.from.now scan.limit scan.limit scan.from.now c.args.sink.now c.args.sink.now
+    (scan_begins g.W.Sink.seen scan.version scan.root.now.0 scan.from.now scan.limit
+    scan.limit scan.from.now c.args.sink.now refl refl) (omega (arith, c.if-scan-eq0.false))
     (g.D.Device.seen c.args.device.now) c.in-Err.fault c.in-Err.ensures.lawful
 
 pub returns-in-Ok-write_leaves-clause-ok : goal.returns-in-Ok-write_leaves-clause-ok
-returns-in-Ok-write_leaves-clause-ok g c = done_ended g.W.Sink.seen c.args.sink.now
+returns-in-Ok-write_leaves-clause-ok g c =
+    let scan = c.args.scan.now in
+    done_ended g.W.Sink.seen c.args.sink.now
     c.write_leaves.new.sink c.flush.new.sink c.write_leaves.ensures.keeping c.flush.ensures.bytes
-    (g.D.Device.seen c.args.device.now) c.args.scan.now.version c.args.scan.now.root.now.0 c.args.scan.now.from.now
-    c.args.scan.now.limit (by_args c.args.scan.now.version c.args.scan.now.root.now.0 c.in-Ok.reader c.in-Ok.ensures.of
-    (λ v r. IsDoneScan v r c.args.scan.now.from.now c.args.scan.now.limit
+    (g.D.Device.seen c.args.device.now) scan.version scan.root.now.0 scan.from.now
+    scan.limit (by_args scan.version scan.root.now.0 c.in-Ok.reader c.in-Ok.ensures.of
+    (λ v r. IsDoneScan v r scan.from.now scan.limit
     (λ bytes. TookAll g.W.Sink.seen bytes c.args.sink.now c.write_leaves.new.sink))
     c.in-Ok-write_leaves.ensures.ok) c.flush.result c.flush.ensures.failures
 
 pub returns-in-Ok-write_leaves-clause-err : goal.returns-in-Ok-write_leaves-clause-err
-returns-in-Ok-write_leaves-clause-err g c = done_failed g.W.Sink.seen c.args.sink.now
+returns-in-Ok-write_leaves-clause-err g c =
+    let scan = c.args.scan.now in
+    done_failed g.W.Sink.seen c.args.sink.now
     c.write_leaves.new.sink c.flush.new.sink c.write_leaves.ensures.keeping c.flush.ensures.bytes
-    (g.D.Device.seen c.args.device.now) c.args.scan.now.version c.args.scan.now.root.now.0 c.args.scan.now.from.now
-    c.args.scan.now.limit (by_args c.args.scan.now.version c.args.scan.now.root.now.0 c.in-Ok.reader c.in-Ok.ensures.of
-    (λ v r. IsDoneScan v r c.args.scan.now.from.now c.args.scan.now.limit
+    (g.D.Device.seen c.args.device.now) scan.version scan.root.now.0 scan.from.now
+    scan.limit (by_args scan.version scan.root.now.0 c.in-Ok.reader c.in-Ok.ensures.of
+    (λ v r. IsDoneScan v r scan.from.now scan.limit
     (λ bytes. TookAll g.W.Sink.seen bytes c.args.sink.now c.write_leaves.new.sink))
     c.in-Ok-write_leaves.ensures.ok) c.flush.result c.flush.ensures.failures c.flush.ensures.fault
 
 pub returns-in-Err-write_leaves-clause-err : goal.returns-in-Err-write_leaves-clause-err
 returns-in-Err-write_leaves-clause-err g c =
+    let scan = c.args.scan.now in
     let first = g.D.Device.seen c.args.device.now in
     let of = c.in-Ok.ensures.of in
     stopped_ended g.W.Sink.seen c.args.sink.now c.write_leaves.new.sink c.fault_flushed.new.sink
-    c.write_leaves.ensures.keeping first c.args.scan.now.version c.args.scan.now.root.now.0 c.args.scan.now.from.now
-    c.args.scan.now.limit c.in-Err-write_leaves.fault c.fault_flushed.result
-    (by_args c.args.scan.now.version c.args.scan.now.root.now.0 c.in-Ok.reader of
-    (λ v r. IsStoppedScan first v r c.args.scan.now.from.now c.args.scan.now.limit
+    c.write_leaves.ensures.keeping first scan.version scan.root.now.0 scan.from.now
+    scan.limit c.in-Err-write_leaves.fault c.fault_flushed.result
+    (by_args scan.version scan.root.now.0 c.in-Ok.reader of
+    (λ v r. IsStoppedScan first v r scan.from.now scan.limit
     (λ bytes. TookAll g.W.Sink.seen bytes c.args.sink.now c.write_leaves.new.sink)
     (λ fault bytes. TookUntil g.W.Sink.seen fault bytes c.args.sink.now c.write_leaves.new.sink)
     c.in-Err-write_leaves.fault)
     (c.in-Err-write_leaves.ensures.err first c.in-Ok.ensures.same
     (λ content holds version root. c.in-Ok.ensures.keeps content holds (sym of.0 ∙ version)
     (sym of.1 ∙ root)))) c.fault_flushed.ensures
+
+pub returns-in-Err-clause-reads : goal.returns-in-Err-clause-reads
+returns-in-Err-clause-reads g c = look_up_tells (g.D.Device.seen c.args.device.now).failures
+    (g.D.Device.seen c.open.new.device).failures c.in-Err.fault c.in-Err.ensures.reads
+
+pub returns-in-Ok-write_leaves-clause-reads : goal.returns-in-Ok-write_leaves-clause-reads
+returns-in-Ok-write_leaves-clause-reads g c =
+    done_tells (g.D.Device.seen c.args.device.now).failures
+    (g.D.Device.seen c.write_leaves.new.device).failures c.flush.result
+    (c.in-Ok-write_leaves.ensures.reads ∙ c.in-Ok.ensures.reads) c.flush.ensures.fault
+
+pub returns-in-Err-write_leaves-clause-reads : goal.returns-in-Err-write_leaves-clause-reads
+returns-in-Err-write_leaves-clause-reads g c =
+    let new = (g.D.Device.seen c.write_leaves.new.device).failures in
+    let fault = c.in-Err-write_leaves.fault in
+    flushed_tells g.W.Sink.seen c.write_leaves.new.sink c.fault_flushed.new.sink
+    (g.D.Device.seen c.args.device.now).failures new fault c.fault_flushed.result
+    (subst (λ n. TellsScanReads n new (Err fault)) c.in-Ok.ensures.reads
+    c.in-Err-write_leaves.ensures.reads) c.fault_flushed.ensures
