@@ -164,7 +164,8 @@ module _ (content : Content) (size level : ℕ) (first : Walk) where
           IsPlaceOf content level t size place
       place_found place is = is among.front t among.before
           (chunks_of_trees content level among.after ++ among.left) among.number
-          (apart content level (among.front ++ t ∷ among.after) among.front t among.after among.before
+          (apart content level (among.front ++ t ∷ among.after) among.front t among.after
+          among.before
           among.left refl among.are) among.stands
 
       -- there is one before it
@@ -186,7 +187,8 @@ module _ (content : Content) (size level : ℕ) (first : Walk) where
             among.number,
             most,
           )) in
-          let parts = apart content level ts at.front at.item at.after among.before among.left at.are
+          let parts = apart content level ts at.front at.item at.after among.before among.left
+          at.are
           among.are in
           record {
             next = at.item;
@@ -196,7 +198,8 @@ module _ (content : Content) (size level : ℕ) (first : Walk) where
                 (chunks_of_tree content.version level at.item ++
                 (chunks_of_trees content level at.after ++ among.left)));
             stands = reached at.front among.before (chunks_of_tree content.version level at.item ++
-                (chunks_of_trees content level at.after ++ among.left)) at.number parts among.stands;
+                (chunks_of_trees content level at.after ++ among.left)) at.number parts
+                among.stands;
           }
 
 -- ---- the child of a node

@@ -1,6 +1,6 @@
 -- Going down from the root in a file on a device.
-use Rattle.std.specs.Prelude.{◌≡◌, ℕ, suc, ◌⊎◌, List, [], ◌∷◌, ◌++◌, map, Option, Some, Result, Ok, Err}
-use Rattle.std.specs.Prelude.{IfErr}
+use Rattle.std.specs.Prelude.{◌≡◌, ℕ, suc, ◌⊎◌, List, [], ◌∷◌, ◌++◌, map, Option, Some, Result, Ok}
+use Rattle.std.specs.Prelude.{Err, IfErr}
 use Rattle.std.specs.List.{flat_map}
 use Rattle.prolly_check.specs.Checked.{chunks_of}
 use Rattle.prolly_check.specs.Content.{Content}

@@ -18,7 +18,8 @@ returns-in_err-step-clause-only g c content holds same top keeps =
     let late = g.D.Device.seen c.level_at.new.device in
     let before = c.loop-above.invariant in
     let on = before.lawful content holds same top keeps in
-    let next = next_kept (KeepsLevel content (length old.bytes)) (into_iter_items c.loop-above.kept) (into_iter_items c.next.new.self)
+    let next = next_kept (KeepsLevel content (length old.bytes)) (into_iter_items c.loop-above.kept)
+    (into_iter_items c.next.new.self)
     c.next.result c.next.ensures.items on.left in
     let level = c.in_ok-level.level in
     let is = c.in_ok-level.ensures.is in
@@ -51,7 +52,8 @@ returns-in-End-clause-keeps g c content holds same top keeps =
     let late = g.D.Device.seen c.level_at.new.device in
     let before = c.loop-above.invariant in
     let on = before.lawful content holds same top keeps in
-    let next = next_kept (KeepsLevel content (length old.bytes)) (into_iter_items c.loop-above.kept) (into_iter_items c.next.new.self)
+    let next = next_kept (KeepsLevel content (length old.bytes)) (into_iter_items c.loop-above.kept)
+    (into_iter_items c.next.new.self)
     c.next.result c.next.ensures.items on.left in
     let level = c.in_ok-level.level in
     let kept = level_kept old mid content before.same holds c.next.result level next.0
@@ -90,13 +92,15 @@ loop-above-preserved g c =
                 (subst (λ r. IsNamed version r.0 level.chunk.items) (sym stepped.stays.0) is.is),
             tt,
           ));
-      kept = (next_kept (IsLevel version) (into_iter_items c.loop-above.kept) (into_iter_items c.next.new.self)
+      kept = (next_kept (IsLevel version) (into_iter_items c.loop-above.kept) (into_iter_items
+          c.next.new.self)
           c.next.result c.next.ensures.items before.kept).1;
       same = stays old late (g.D.Device.seen c.step.new.device) to_late stepped.same;
       reads = stepped.reads ∙ c.in_ok-level.ensures.reads ∙ before.reads;
       lawful = λ content holds same top keeps.
           let on = before.lawful content holds same top keeps in
-          let next = next_kept (KeepsLevel content (length old.bytes)) (into_iter_items c.loop-above.kept)
+          let next = next_kept (KeepsLevel content (length old.bytes)) (into_iter_items
+          c.loop-above.kept)
           (into_iter_items c.next.new.self) c.next.result c.next.ensures.items on.left in
           let kept = level_kept old mid content before.same holds c.next.result level next.0
           (c.in_ok-level.ensures.keeps content) in

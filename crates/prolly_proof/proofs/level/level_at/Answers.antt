@@ -13,4 +13,5 @@ returns-then-not-falls_to-clause-only g c content holds same keeps at =
     let frame : level.frame ≡ c.args.place.now.frame = search rules in
     let is = c.deref.ensures.value ∙ kept_is content size c.args.due.now.reference.0
     c.args.due.now.above c.args.place.now at level kept frame in
-    absurd (false≢true (c.if-not-falls_to.ensures.1 (subst (FallsTo c.args.due.now.above) (sym is) at.falls)))
+    absurd (false≢true (c.if-not-falls_to.ensures.1 (subst (FallsTo c.args.due.now.above) (sym is)
+    at.falls)))

@@ -5,8 +5,8 @@ use Rattle.prolly_check.specs.ScanWay.{next_key}
 use Rattle.prolly_proof.specs.Readers.{way_of}
 use Rattle.prolly_tool.specs.LookUps.{pair_lines}
 use Rattle.prolly_tool.specs.Outputs.{TookAll, TookUntil}
-use Rattle.prolly_tool.proofs.ScanSteps.{look_up_tells, none_last, opened_lawful, opened_still, scan_begins}
-use Rattle.prolly_tool.proofs.ScanSteps.{scan_ends}
+use Rattle.prolly_tool.proofs.ScanSteps.{look_up_tells, none_last, opened_lawful, opened_still}
+use Rattle.prolly_tool.proofs.ScanSteps.{scan_begins, scan_ends}
 use Rattle.prolly_tool.proofs.ScanSteps.{scan_fails, scan_full, scan_goes_on, scan_unwritten}
 use Rattle.prolly_tool.proofs.ScanSteps.{scan_wants, stays_same, way_from}
 use Rattle.prolly_tool.specs.RootScans.{TellsScanReads}
@@ -14,7 +14,8 @@ use Rattle.prolly_tool.specs.declared.fault.Fault.TheVariants.{Root}
 use Rattle.prolly_tool.proofs.root_scan_answer.write_leaves.Goals as goal
 
 pub returns-in_default-clause-err : goal.returns-in_default-clause-err
-returns-in_default-clause-err g c first same opened = scan_wants g.W.Sink.seen c.args.reader.version c.args.reader.root
+returns-in_default-clause-err g c first same opened = scan_wants g.W.Sink.seen c.args.reader.version
+    c.args.reader.root
     c.args.from.now c.args.limit c.args.limit c.args.from.now c.args.sink.now c.args.sink.now
     (scan_begins g.W.Sink.seen c.args.reader.version c.args.reader.root c.args.from.now c.args.limit
     c.args.limit c.args.from.now c.args.sink.now refl refl) first
@@ -25,18 +26,21 @@ loop-left-init g c = record {
   version = refl;
   root = refl;
   opened = λ first same opened. opened;
-  scan = scan_begins g.W.Sink.seen c.args.reader.version c.args.reader.root c.args.from.now c.args.limit
+  scan = scan_begins g.W.Sink.seen c.args.reader.version c.args.reader.root c.args.from.now
+      c.args.limit
       c.args.limit c.in-Ok.next.items c.args.sink.now refl c.in-Ok.ensures.items;
   same = λ honest. (honest, refl);
 }
 
 pub returns-clause-ok : goal.returns-clause-ok
-returns-clause-ok g c = scan_full g.W.Sink.seen c.args.reader.version c.args.reader.root c.args.from.now
+returns-clause-ok g c = scan_full g.W.Sink.seen c.args.reader.version c.args.reader.root
+    c.args.from.now
     c.args.limit c.loop-left.left c.loop-left.next.items c.args.sink.now c.loop-left.sink
     c.loop-left.invariant.scan (omega arith)
 
 pub returns-in-Err-clause-err : goal.returns-in-Err-clause-err
-returns-in-Err-clause-err g c first same opened = scan_fails g.W.Sink.seen c.args.reader.version c.args.reader.root
+returns-in-Err-clause-err g c first same opened = scan_fails g.W.Sink.seen c.args.reader.version
+    c.args.reader.root
     c.args.from.now c.args.limit c.loop-left.left c.loop-left.next.items c.args.sink.now
     c.loop-left.sink c.loop-left.invariant.scan (omega arith) first c.in-Err.fault
     (opened_lawful first (g.D.Device.seen c.loop-left.device) (stays_same first
@@ -62,7 +66,8 @@ pub returns-in-Err-write_first-clause-err : goal.returns-in-Err-write_first-clau
 returns-in-Err-write_first-clause-err g c first same opened =
     let found = c.in-Ok-pairs_from.pairs.items in
     let way = way_of c.pairs_from.new.self in
-    scan_unwritten g.W.Sink.seen c.args.reader.version c.args.reader.root c.args.from.now c.args.limit
+    scan_unwritten g.W.Sink.seen c.args.reader.version c.args.reader.root c.args.from.now
+    c.args.limit
     c.loop-left.left c.loop-left.next.items c.args.sink.now c.loop-left.sink
     c.loop-left.invariant.scan (omega arith) found way
     (way_from c.args.reader c.loop-left.reader c.deref.result.now c.loop-left.next.items way found
@@ -80,7 +85,8 @@ returns-in-Err-key_behind-clause-err g c first same opened =
     let last = c.in-Some.last.now in
     scan_wants g.W.Sink.seen c.args.reader.version c.args.reader.root c.args.from.now c.args.limit
     (c.loop-left.left - length found) (next_key last.key) c.args.sink.now c.write_first.new.sink
-    (scan_goes_on g.W.Sink.seen c.args.reader.version c.args.reader.root c.args.from.now c.args.limit
+    (scan_goes_on g.W.Sink.seen c.args.reader.version c.args.reader.root c.args.from.now
+    c.args.limit
     c.loop-left.left c.loop-left.next.items c.args.sink.now c.loop-left.sink
     c.loop-left.invariant.scan (omega arith) found way
     (way_from c.args.reader c.loop-left.reader c.deref.result.now c.loop-left.next.items way found

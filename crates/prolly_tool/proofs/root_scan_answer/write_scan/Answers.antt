@@ -1,4 +1,5 @@
-use Rattle.std.proofs.Common.{Err, ◌≡◌, ◌≢◌, ◌⊎◌, inl, inr, ℕ, List, true, refl, sym, ◌∙◌, subst, arith}
+use Rattle.std.proofs.Common.{Err, ◌≡◌, ◌≢◌, ◌⊎◌, inl, inr, ℕ, List, true, refl, sym, ◌∙◌, subst}
+use Rattle.std.proofs.Common.{arith}
 use Rattle.prolly_entry.specs.declared.version.Version.{Version}
 use Rattle.prolly_fault.specs.declared.fault.RunFault.TheVariants.{Write}
 use Rattle.prolly_file.specs.Device.{DeviceView}
@@ -10,8 +11,8 @@ use Rattle.prolly_tool.specs.RootScans.{IsDoneScan, IsFlushed, IsStoppedScan, Te
 use Rattle.prolly_tool.specs.declared.fault.Fault.{Fault}
 use Rattle.prolly_tool.specs.declared.fault.Fault.TheVariants.{Run}
 use Rattle.prolly_tool.proofs.ScanSteps.{done_ended, done_failed, stopped_flushed}
-use Rattle.prolly_tool.proofs.ScanSteps.{done_tells, flushed_tells, look_up_tells, scan_begins, scan_fails, scan_full}
-use Rattle.prolly_tool.proofs.ScanSteps.{stopped_unflushed}
+use Rattle.prolly_tool.proofs.ScanSteps.{done_tells, flushed_tells, look_up_tells, scan_begins}
+use Rattle.prolly_tool.proofs.ScanSteps.{scan_fails, scan_full, stopped_unflushed}
 use Rattle.prolly_tool.proofs.root_scan_answer.write_scan.Goals as goal
 
 -- The flush before a fault is told.
