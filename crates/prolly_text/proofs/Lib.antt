@@ -1,0 +1,4 @@
+-- Two hexadecimal digits behind `\x`.
+pub mod Digits
+-- What is written, chunk by chunk.
+pub mod Writing

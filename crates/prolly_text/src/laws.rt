@@ -1,0 +1,24 @@
+//! Laws of the notations. Each is the contract of a function that does nothing: to call it is to
+//! know the law, and to prove the crate is to prove it.
+ghost use Rattle.prolly_text.specs.Notations.{OneReading, TextsStandApart, WrittenIsRead};
+ghost use Rattle.prolly_text.specs.Notations.{WrittenShows};
+
+/// What is written for bytes stands for them.
+pub fn written_is_read()
+    ensures { WrittenIsRead }
+{}
+
+/// A text stands for one list of bytes at most.
+pub fn one_reading()
+    ensures { OneReading }
+{}
+
+/// No text that stands for bytes has a newline, or what stands between a key and its value.
+pub fn texts_stand_apart()
+    ensures { TextsStandApart }
+{}
+
+/// Nothing that is written is a control character.
+pub fn written_shows()
+    ensures { WrittenShows }
+{}

@@ -1,0 +1,70 @@
+//! The first piece of a text, and the byte that it stands for.
+ghost use Rattle.std.specs.Prelude.{◌≡◌, ◌∷◌, IfSome, IfNone};
+ghost use Rattle.prolly_text.specs.Pieces.{BeginsWith, BeginsWithNone, is_plain, named_byte};
+
+/// The byte that the first piece of a text stands for, and the text behind that piece.
+pub(crate) fn split_piece(text: &[u8]) -> Option<(u8, &[u8])>
+    ensures some { IfSome result (λ first. BeginsWith text.now first.0 first.1.now) }
+    ensures none { IfNone result (BeginsWithNone text.now) }
+{
+    let (first, behind) = text.split_first()?;
+    if *first == b'\\' {
+        return split_escape(behind);
+    }
+    if is_plain(*first) {
+        return Some((*first, behind));
+    }
+    None
+}
+
+/// The same, where a backslash stands in front of the text.
+fn split_escape(text: &[u8]) -> Option<(u8, &[u8])>
+    ensures some { IfSome result (λ first. BeginsWith (0x5C ∷ text.now) first.0 first.1.now) }
+    ensures none { IfNone result (BeginsWithNone (0x5C ∷ text.now)) }
+{
+    let (letter, behind) = text.split_first()?;
+    if *letter == b'x' {
+        return split_digits(behind);
+    }
+    let byte = named_byte(*letter)?;
+    Some((byte, behind))
+}
+
+/// The same, where `\x` stands in front of the text.
+fn split_digits(text: &[u8]) -> Option<(u8, &[u8])>
+    ensures some { IfSome result (λ first.
+        BeginsWith (0x5C ∷ 0x78 ∷ text.now) first.0 first.1.now) }
+    ensures none { IfNone result (BeginsWithNone (0x5C ∷ 0x78 ∷ text.now)) }
+{
+    if text.len() < 2 {
+        return None;
+    }
+    let (digits, behind) = text.split_at(2);
+    let mut byte = [0u8];
+    match hex::decode_to_slice(digits, &mut byte) {
+        Ok(()) => Some((byte[0], behind)),
+        Err(_) => None,
+    }
+}
+
+fn is_plain(byte: u8) -> bool
+    ensures { result ≡ is_plain byte }
+{
+    !(byte == b'\\' || byte == b'\t' || byte == b'\n' || byte == b'\r')
+}
+
+/// The byte for which a letter stands behind a backslash.
+fn named_byte(letter: u8) -> Option<u8>
+    ensures { result ≡ named_byte letter }
+{
+    match letter {
+        b'b' => Some(0x08),
+        b't' => Some(0x09),
+        b'n' => Some(0x0a),
+        b'v' => Some(0x0b),
+        b'f' => Some(0x0c),
+        b'r' => Some(0x0d),
+        b'\\' => Some(0x5c),
+        _ => None,
+    }
+}
