@@ -126,17 +126,18 @@ pub limits_kept : (given : Text × List Row) (answer : Result Command ParseFault
 limits_kept given (Ok command) fields = go command fields
   where
     go : (command : Command) → HasFields command given → IsWithinLimits command
-    go (Pack out mode) h = tt
+    go (Pack out notation removals mode) h = tt
     go (Scratch bits version out mode) h = (h.1.2, h.2.1, h.2.2)
     go (Build bits stages capacity max_records batch version out files mode) h =
         (h.1.2, h.2.1, h.2.2, h.3.1, h.3.2, h.4.1, h.4.2, h.5.1, h.5.2, h.6.1, h.6.2)
     go (Check file) h = tt
-    go (Get file key root version) h = (h.2.2.1, lawful_trust given.1 root version h.3)
-    go (Scan file from limit root version) h =
-        (h.2.2.1, h.3.2, lawful_trust given.1 root version h.4)
-    go (Nth file n root version) h = (h.2.2, lawful_trust given.1 root version h.3)
-    go (Dump file out text mode) h = tt
-    go (Diff old new out stat mode) h = tt
-    go (Prove file key out mode) h = h.2.2.1
-    go (Verify root key version proof) h = (h.1.1, h.2.2.1, h.3.1, h.3.2)
+    go (Get file key root version notation) h =
+        (h.2.1.2.1, lawful_trust given.1 root version h.3)
+    go (Scan file from limit root version notation) h =
+        (h.2.1.2.1, h.3.2, lawful_trust given.1 root version h.4)
+    go (Nth file n root version notation) h = (h.2.2, lawful_trust given.1 root version h.3)
+    go (Dump file out lines mode) h = tt
+    go (Diff old new out stat notation mode) h = tt
+    go (Prove file key out mode) h = h.2.1.1.2.1
+    go (Verify root key version proof notation) h = (h.1.1, h.2.1.2.1, h.3.1, h.3.2)
 limits_kept given (Err fault) refused = tt

@@ -34,7 +34,10 @@ pack_found = refl
 
 pack_sound : IsSoundShape pack_shape
 unfolding clap_on_literals pack_shape
-pack_sound = ((refl, refl), ((refl, refl), ((refl, refl), ((refl, refl), tt))))
+pack_sound = (
+  (refl, refl),
+  ((refl, refl), ((refl, refl), ((refl, refl), ((refl, refl), ((refl, refl), tt))))),
+)
 
 pub record TakesPack (rows : List Row) : Type 0 where
   pub out : HasWord (codes "out") rows
@@ -181,7 +184,10 @@ get_found = refl
 
 get_sound : IsSoundShape get_shape
 unfolding clap_on_literals get_shape
-get_sound = ((refl, refl), ((refl, refl), ((refl, refl), ((refl, refl), ((refl, refl), tt)))))
+get_sound = (
+  (refl, refl),
+  ((refl, refl), ((refl, refl), ((refl, refl), ((refl, refl), ((refl, refl), tt))))),
+)
 
 pub record TakesGet (rows : List Row) : Type 0 where
   pub format : HasNumber (codes "format") 1 2 rows
@@ -213,10 +219,7 @@ scan_sound = (
   (refl, refl),
   (
     (refl, refl),
-    (
-      (refl, refl),
-      ((refl, refl), ((refl, refl), ((refl, refl), tt))),
-    ),
+    ((refl, refl), ((refl, refl), ((refl, refl), ((refl, refl), ((refl, refl), tt))))),
   ),
 )
 
@@ -248,7 +251,10 @@ nth_found = refl
 
 nth_sound : IsSoundShape nth_shape
 unfolding clap_on_literals nth_shape
-nth_sound = ((refl, refl), ((refl, refl), ((refl, refl), ((refl, refl), ((refl, refl), tt)))))
+nth_sound = (
+  (refl, refl),
+  ((refl, refl), ((refl, refl), ((refl, refl), ((refl, refl), ((refl, refl), tt))))),
+)
 
 pub record TakesNth (rows : List Row) : Type 0 where
   pub format : HasNumber (codes "format") 1 2 rows
@@ -280,7 +286,7 @@ dump_sound = (
   (refl, refl),
   (
     (refl, refl),
-    ((refl, refl), ((refl, refl), ((refl, refl), ((refl, refl), tt)))),
+    ((refl, refl), ((refl, refl), ((refl, refl), ((refl, refl), ((refl, refl), tt))))),
   ),
 )
 
@@ -312,7 +318,7 @@ diff_sound = (
     (refl, refl),
     (
       (refl, refl),
-      ((refl, refl), ((refl, refl), ((refl, refl), ((refl, refl), tt)))),
+      ((refl, refl), ((refl, refl), ((refl, refl), ((refl, refl), ((refl, refl), tt))))),
     ),
   ),
 )
@@ -345,7 +351,7 @@ prove_sound = (
   (refl, refl),
   (
     (refl, refl),
-    ((refl, refl), ((refl, refl), ((refl, refl), ((refl, refl), tt)))),
+    ((refl, refl), ((refl, refl), ((refl, refl), ((refl, refl), ((refl, refl), tt))))),
   ),
 )
 
@@ -375,7 +381,10 @@ verify_found = refl
 
 verify_sound : IsSoundShape verify_shape
 unfolding clap_on_literals verify_shape
-verify_sound = ((refl, refl), ((refl, refl), ((refl, refl), ((refl, refl), ((refl, refl), tt)))))
+verify_sound = (
+  (refl, refl),
+  ((refl, refl), ((refl, refl), ((refl, refl), ((refl, refl), ((refl, refl), tt))))),
+)
 
 pub record TakesVerify (rows : List Row) : Type 0 where
   pub root : HasWord (codes "root") rows

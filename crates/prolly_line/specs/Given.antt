@@ -1,14 +1,16 @@
 -- Which command the words give, and how they are refused.
-use Rattle.std.specs.Prelude.{◌≡◌, ◌≢◌, ◌≤◌, ◌↔◌, Bool, IsTrue, ⊤, ℕ, ◌⊎◌}
-use Rattle.std.specs.Prelude.{Ok, Option, Some, None, List, [], IfSome}
+use Rattle.std.specs.Prelude.{◌≡◌, ◌≢◌, ◌≤◌, ◌↔◌, Bool, true, false, IsTrue, ⊤, ℕ, ◌⊎◌}
+use Rattle.std.specs.Prelude.{Option, Some, None, List, [], IfSome}
 use Rattle.std.specs.Prelude.{length, map, option_map, string_bytes, codes, unwrap_or}
-use Rattle.hex.specs.Hex.{decode_of}
 use Rattle.std.specs.Str.Parse.{digits_value, without_leading_plus}
 use Rattle.clap.specs.Words.{IsAmong, Row, Text, all_of, first_of, one_of}
 use Rattle.clap.specs.declared.error.kind.ErrorKind.{ErrorKind}
 use Rattle.clap.specs.declared.error.kind.ErrorKind.TheVariants.{DisplayHelp, OutOfMemory}
 use Rattle.prolly_entry.specs.Reference.{IsReference, reference_text}
 use Rattle.prolly_entry.specs.declared.reference.Ref.{Ref}
+use Rattle.prolly_text.specs.Notations.{IsWritten}
+use Rattle.prolly_text.specs.declared.notation.Notation.{Notation}
+use Rattle.prolly_text.specs.declared.notation.Notation.TheVariants.{Hex, Text as AsText}
 use Rattle.prolly_line.specs.Line.{line_faults, line_given}
 use Rattle.prolly_line.specs.declared.command.Command.{Command}
 use Rattle.prolly_line.specs.declared.command.WriteMode.{WriteMode}
@@ -58,19 +60,35 @@ abbrev pub GivesMode : List Row → WriteMode → Type 0
 GivesMode rows mode =
     GivesFlag rows (codes "atomic") mode.atomic × GivesFlag rows (codes "sync") mode.sync
 
--- the text is that of a key: hexadecimal, of at most 1,024 bytes
-abbrev pub IsKeyText : Text → List ℕ → Type 0
-IsKeyText text key = (decode_of text ≡ Ok key) × (length key ≤ 1024)
+-- keys and values are in this notation: as text where the words have `--text`, and else in
+-- hexadecimal
+abbrev pub GivesNotation : List Row → Notation → Type 0
+GivesNotation rows Hex = GivesFlag rows (codes "text") false
+GivesNotation rows AsText = GivesFlag rows (codes "text") true
 
--- the bytes that the word for the key writes
-abbrev pub GivesKey : List Row → List ℕ → Type 0
-GivesKey rows key = (text : Text) × (first_of (codes "key") rows ≡ Some text) × IsKeyText text key
+-- what is dumped are lines in this notation, or a record file where there is none: lines as text
+-- where the words have `--text`, and else in hexadecimal where they have `--hex`
+abbrev pub GivesLines : List Row → Option Notation → Type 0
+GivesLines rows (Some AsText) = GivesNotation rows AsText
+GivesLines rows (Some Hex) = GivesNotation rows Hex × GivesFlag rows (codes "hex") true
+GivesLines rows None = GivesNotation rows Hex × GivesFlag rows (codes "hex") false
 
--- the word for the key is no text of a key
+-- the text writes a key, of at most 1,024 bytes, in the notation
+abbrev pub IsKeyText : Notation → Text → List ℕ → Type 0
+IsKeyText notation text key = IsWritten notation text key × (length key ≤ 1024)
+
+-- the notation, and the bytes that the word for the key writes in it
+abbrev pub GivesKey : List Row → Notation → List ℕ → Type 0
+GivesKey rows notation key =
+    GivesNotation rows notation
+    × ((text : Text) × (first_of (codes "key") rows ≡ Some text) × IsKeyText notation text key)
+
+-- the word for the key is no text of a key in the notation that the words give
 abbrev pub GivesBadKey : List Row → Type 0
 GivesBadKey rows =
-    (text : Text) × (first_of (codes "key") rows ≡ Some text) ×
-    ((key : List ℕ) → IsKeyText text key → ⊥)
+    (notation : Notation) × GivesNotation rows notation
+    × ((text : Text) × (first_of (codes "key") rows ≡ Some text)
+    × ((key : List ℕ) → IsKeyText notation text key → ⊥))
 
 -- the reference of which the word for the root is the text
 abbrev pub GivesRoot : List Row → List ℕ → Type 0
@@ -98,9 +116,11 @@ GivesBadRoot rows =
 
 -- the command has the fields that a subcommand, by its name, and its rows give
 abbrev pub HasFields : Command → Text × List Row → Type 0
-HasFields (Pack out mode) given =
+HasFields (Pack out notation removals mode) given =
     (given.0 ≡ codes "pack")
     × GivesWord given.1 (codes "out") (string_bytes out)
+    × GivesNotation given.1 notation
+    × GivesFlag given.1 (codes "removals") removals
     × GivesMode given.1 mode
 HasFields (Scratch bits version out mode) given =
     (given.0 ≡ codes "scratch")
@@ -121,45 +141,47 @@ HasFields (Build bits stages capacity max_records batch version out files mode) 
     × GivesMode given.1 mode
 HasFields (Check file) given =
     (given.0 ≡ codes "check") × GivesWord given.1 (codes "file") (string_bytes file)
-HasFields (Get file key root version) given =
+HasFields (Get file key root version notation) given =
     (given.0 ≡ codes "get")
     × GivesWord given.1 (codes "file") (string_bytes file)
-    × GivesKey given.1 key.items
+    × GivesKey given.1 notation key.items
     × GivesTrust given.1 root version
-HasFields (Scan file from limit root version) given =
+HasFields (Scan file from limit root version notation) given =
     (given.0 ≡ codes "scan")
     × GivesWord given.1 (codes "file") (string_bytes file)
-    × GivesKey given.1 from.items
+    × GivesKey given.1 notation from.items
     × GivesNumber given.1 (codes "limit") 0 1000000 limit
     × GivesTrust given.1 root version
-HasFields (Nth file n root version) given =
+HasFields (Nth file n root version notation) given =
     (given.0 ≡ codes "nth")
     × GivesWord given.1 (codes "file") (string_bytes file)
     × GivesNumber given.1 (codes "n") 0 4294967295 n
     × GivesTrust given.1 root version
-HasFields (Dump file out text mode) given =
+    × GivesNotation given.1 notation
+HasFields (Dump file out lines mode) given =
     (given.0 ≡ codes "dump")
     × GivesWord given.1 (codes "file") (string_bytes file)
     × GivesOption given.1 (codes "out") (option_map string_bytes out)
-    × GivesFlag given.1 (codes "text") text
+    × GivesLines given.1 lines
     × GivesMode given.1 mode
-HasFields (Diff old new out stat mode) given =
+HasFields (Diff old new out stat notation mode) given =
     (given.0 ≡ codes "diff")
     × GivesWord given.1 (codes "old") (string_bytes old)
     × GivesWord given.1 (codes "new") (string_bytes new)
     × GivesOption given.1 (codes "out") (option_map string_bytes out)
     × GivesFlag given.1 (codes "stat") stat
+    × GivesNotation given.1 notation
     × GivesMode given.1 mode
 HasFields (Prove file key out mode) given =
     (given.0 ≡ codes "prove")
     × GivesWord given.1 (codes "file") (string_bytes file)
-    × GivesKey given.1 key.items
+    × ((notation : Notation) × GivesKey given.1 notation key.items)
     × GivesWord given.1 (codes "out") (string_bytes out)
     × GivesMode given.1 mode
-HasFields (Verify root key version proof) given =
+HasFields (Verify root key version proof notation) given =
     (given.0 ≡ codes "verify")
     × GivesRoot given.1 root.0
-    × GivesKey given.1 key.items
+    × GivesKey given.1 notation key.items
     × GivesNumber given.1 (codes "format") 1 2 version
     × GivesOption given.1 (codes "proof") (option_map string_bytes proof)
 
@@ -177,7 +199,7 @@ IsLawfulTrust root version =
 -- the numbers of the command, and the length of its key, are within their limits, and its root is
 -- a reference
 abbrev pub IsWithinLimits : Command → Type 0
-IsWithinLimits (Pack out mode) = ⊤
+IsWithinLimits (Pack out notation removals mode) = ⊤
 IsWithinLimits (Scratch bits version out mode) = (bits ≤ 24) × (1 ≤ version) × (version ≤ 2)
 IsWithinLimits (Build bits stages capacity max_records batch version out files mode) =
     (bits ≤ 24)
@@ -187,15 +209,16 @@ IsWithinLimits (Build bits stages capacity max_records batch version out files m
     × (1 ≤ batch) × (batch ≤ 1024)
     × (1 ≤ version) × (version ≤ 2)
 IsWithinLimits (Check file) = ⊤
-IsWithinLimits (Get file key root version) =
+IsWithinLimits (Get file key root version notation) =
     (length key.items ≤ 1024) × IsLawfulTrust root version
-IsWithinLimits (Scan file from limit root version) =
+IsWithinLimits (Scan file from limit root version notation) =
     (length from.items ≤ 1024) × (limit ≤ 1000000) × IsLawfulTrust root version
-IsWithinLimits (Nth file n root version) = (n ≤ 4294967295) × IsLawfulTrust root version
-IsWithinLimits (Dump file out text mode) = ⊤
-IsWithinLimits (Diff old new out stat mode) = ⊤
+IsWithinLimits (Nth file n root version notation) =
+    (n ≤ 4294967295) × IsLawfulTrust root version
+IsWithinLimits (Dump file out lines mode) = ⊤
+IsWithinLimits (Diff old new out stat notation mode) = ⊤
 IsWithinLimits (Prove file key out mode) = length key.items ≤ 1024
-IsWithinLimits (Verify root key version proof) =
+IsWithinLimits (Verify root key version proof notation) =
     IsReference root.0 × (length key.items ≤ 1024) × (1 ≤ version) × (version ≤ 2)
 
 -- ---- refusals

@@ -77,6 +77,12 @@ sync_flag = flag (codes "sync")
 abbrev pub text_flag : Rule
 text_flag = flag (codes "text")
 
+abbrev pub removals_flag : Rule
+removals_flag = flag (codes "removals")
+
+abbrev pub hex_flag : Rule
+hex_flag = flag (codes "hex")
+
 abbrev pub stat_flag : Rule
 stat_flag = flag (codes "stat")
 
@@ -115,15 +121,15 @@ files_words = words_rule (codes "files")
 
 -- ---- subcommands
 
--- `NAME [--root ROOT] [--format V] FILE`, a look-up in a file, or by a root that it trusts
+-- `NAME [--text] [--root ROOT] [--format V] FILE`, a look-up in a file, or by a root that it trusts
 abbrev pub look_up_line : Text → App
-look_up_line name = with_rule (with_rule (with_rule (new_app name) root_option) format_option)
-    file_word
+look_up_line name = with_rule (with_rule (with_rule (with_rule (new_app name) text_flag)
+    root_option) format_option) file_word
 
--- `pack [--atomic] [--sync] OUT`
+-- `pack [--text] [--removals] [--atomic] [--sync] OUT`
 abbrev pub pack_line : App
-pack_line = with_rule (with_rule (with_rule (new_app (codes "pack")) atomic_flag) sync_flag)
-    out_word
+pack_line = with_rule (with_rule (with_rule (with_rule (with_rule (new_app (codes "pack"))
+    text_flag) removals_flag) atomic_flag) sync_flag) out_word
 
 -- `scratch [--bits Q] [--format V] [--out FILE] [--atomic] [--sync]`
 abbrev pub scratch_line : App
@@ -143,37 +149,39 @@ build_line = with_rule (with_rule (with_rule (with_rule
 abbrev pub check_line : App
 check_line = with_rule (new_app (codes "check")) file_word
 
--- `get [--root ROOT] [--format V] FILE HEXKEY`
+-- `get [--text] [--root ROOT] [--format V] FILE KEY`
 abbrev pub get_line : App
 get_line = with_rule (look_up_line (codes "get")) key_word
 
--- `scan [--root ROOT] [--format V] FILE HEXKEY LIMIT`
+-- `scan [--text] [--root ROOT] [--format V] FILE KEY LIMIT`
 abbrev pub scan_line : App
 scan_line = with_rule (with_rule (look_up_line (codes "scan")) key_word) limit_word
 
--- `nth [--root ROOT] [--format V] FILE N`
+-- `nth [--text] [--root ROOT] [--format V] FILE N`
 abbrev pub nth_line : App
 nth_line = with_rule (look_up_line (codes "nth")) n_word
 
--- `dump [--text] [--atomic] [--sync] FILE [OUT]`
+-- `dump [--text] [--hex] [--atomic] [--sync] FILE [OUT]`
 abbrev pub dump_line : App
-dump_line = with_rule (with_rule (with_rule (with_rule (with_rule (new_app (codes "dump"))
-    text_flag) atomic_flag) sync_flag) file_word) optional_out_word
+dump_line = with_rule (with_rule (with_rule (with_rule (with_rule (with_rule
+    (new_app (codes "dump")) text_flag) hex_flag) atomic_flag) sync_flag) file_word)
+    optional_out_word
 
--- `diff [--stat] [--out FILE] [--atomic] [--sync] OLD NEW`
+-- `diff [--text] [--stat] [--out FILE] [--atomic] [--sync] OLD NEW`
 abbrev pub diff_line : App
-diff_line = with_rule (with_rule (with_rule (with_rule (with_rule (with_rule
-    (new_app (codes "diff")) stat_flag) out_option) atomic_flag) sync_flag) old_word) new_word
+diff_line = with_rule (with_rule (with_rule (with_rule (with_rule (with_rule (with_rule
+    (new_app (codes "diff")) text_flag) stat_flag) out_option) atomic_flag) sync_flag) old_word)
+    new_word
 
--- `prove [--atomic] [--sync] FILE HEXKEY OUT`
+-- `prove [--text] [--atomic] [--sync] FILE KEY OUT`
 abbrev pub prove_line : App
-prove_line = with_rule (with_rule (with_rule (with_rule (with_rule (new_app (codes "prove"))
-    atomic_flag) sync_flag) file_word) key_word) out_word
+prove_line = with_rule (with_rule (with_rule (with_rule (with_rule (with_rule
+    (new_app (codes "prove")) text_flag) atomic_flag) sync_flag) file_word) key_word) out_word
 
--- `verify [--format V] ROOT HEXKEY [PROOF]`
+-- `verify [--text] [--format V] ROOT KEY [PROOF]`
 abbrev pub verify_line : App
-verify_line = with_rule (with_rule (with_rule (with_rule (new_app (codes "verify"))
-    format_option) root_word) key_word) proof_word
+verify_line = with_rule (with_rule (with_rule (with_rule (with_rule (new_app (codes "verify"))
+    text_flag) format_option) root_word) key_word) proof_word
 
 -- ---- the whole line
 

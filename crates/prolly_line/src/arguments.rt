@@ -1,7 +1,7 @@
 //! The options and words of the subcommands, each with the rule that clap reads it by.
 ghost use Rattle.prolly_line.specs.Line.{atomic_flag, batch_option, bits_option, capacity_option};
 ghost use Rattle.prolly_line.specs.Line.{file_word, files_words, flag, format_option, key_word};
-ghost use Rattle.prolly_line.specs.Line.{limit_word};
+ghost use Rattle.prolly_line.specs.Line.{hex_flag, limit_word, removals_flag};
 ghost use Rattle.prolly_line.specs.Line.{max_records_option, n_word, number_option, number_word};
 ghost use Rattle.prolly_line.specs.Line.{option_rule, optional_out_word, out_option, out_word};
 ghost use Rattle.prolly_line.specs.Line.{proof_word, root_option};
@@ -150,11 +150,25 @@ pub(crate) fn sync_flag<'a>(alloc: Global) -> Arg<'a>
     flag(alloc, "sync").help("Print the answer only once the output is on the disk")
 }
 
-/// `--text`
-pub(crate) fn text_flag<'a>(alloc: Global) -> Arg<'a>
+/// `--text`; `what` says for its help what is text then, and in place of what.
+pub(crate) fn text_flag<'a>(alloc: Global, what: &'a str) -> Arg<'a>
     ensures { IsReadBy text_flag result }
 {
-    flag(alloc, "text").help("Write lines, HEXKEY HEXVALUE, in place of a record file")
+    flag(alloc, "text").help(what)
+}
+
+/// `--removals`
+pub(crate) fn removals_flag<'a>(alloc: Global) -> Arg<'a>
+    ensures { IsReadBy removals_flag result }
+{
+    flag(alloc, "removals").help("With --text, take a line that is a key alone for its removal")
+}
+
+/// `--hex`
+pub(crate) fn hex_flag<'a>(alloc: Global) -> Arg<'a>
+    ensures { IsReadBy hex_flag result }
+{
+    flag(alloc, "hex").help("Write lines HEXKEY HEXVALUE in place of a record file")
 }
 
 /// `--stat`
@@ -217,12 +231,12 @@ pub(crate) fn root_word<'a>(alloc: Global) -> Arg<'a>
     )
 }
 
-/// `HEXKEY`
+/// `KEY`
 pub(crate) fn key_word<'a>(alloc: Global) -> Arg<'a>
     ensures { IsReadBy key_word result }
 {
-    required_word(alloc, "key", "HEXKEY").help(
-        "The key in hexadecimal: two digits a byte, at most 1,024 bytes",
+    required_word(alloc, "key", "KEY").help(
+        "The key in hexadecimal, two digits a byte, or with --text as text; at most 1,024 bytes",
     )
 }
 

@@ -10,6 +10,7 @@ use crate::line::program_line;
 use clap::ArgMatches;
 use clap::error::ErrorKind;
 use prolly_entry::Ref;
+use prolly_text::Notation;
 use std::alloc::{AllocError, Global};
 
 /// How an output is written.
@@ -21,12 +22,16 @@ pub struct WriteMode {
     pub sync: bool,
 }
 
-/// What the program is asked to do. File names are the words as they stand.
+/// What the program is asked to do. File names are the words as they stand. A notation is that of
+/// keys and values, in the words and in the lines that are read or printed.
 #[derive(Debug, Drop)]
 pub enum Command {
-    /// Make a record file of the lines of standard input.
+    /// Make a record file of the lines of standard input. Where `removals` is set, a line of text
+    /// that is a key alone takes it away; of lines in hexadecimal it says nothing.
     Pack {
         out: String,
+        notation: Notation,
+        removals: bool,
         mode: WriteMode,
     },
     /// Make the tree of one record file, which comes from standard input. Without an output its
@@ -60,6 +65,7 @@ pub enum Command {
         key: Vec<u8>,
         root: Option<Ref>,
         version: u8,
+        notation: Notation,
     },
     /// Print pairs in the order of keys, from a key on. The root and the version say the same as
     /// for `Get`.
@@ -69,6 +75,7 @@ pub enum Command {
         limit: u32,
         root: Option<Ref>,
         version: u8,
+        notation: Notation,
     },
     /// Print the pair of a number, counted from 0 in the order of keys. The root and the version
     /// say the same as for `Get`.
@@ -77,13 +84,14 @@ pub enum Command {
         n: u64,
         root: Option<Ref>,
         version: u8,
+        notation: Notation,
     },
-    /// Write the pairs of a file, in lines where `text` is set, and else as a record file: to
+    /// Write the pairs of a file, in lines of the notation `lines`, and else as a record file: to
     /// standard output where there is no output, and then the mode says nothing.
     Dump {
         file: String,
         out: Option<String>,
-        text: bool,
+        lines: Option<Notation>,
         mode: WriteMode,
     },
     /// Say what turns the map of the file `old` into that of the file `new`: in a record file
@@ -94,6 +102,7 @@ pub enum Command {
         new: String,
         out: Option<String>,
         stat: bool,
+        notation: Notation,
         mode: WriteMode,
     },
     /// Write a proof of what a file has at a key.
@@ -110,6 +119,7 @@ pub enum Command {
         key: Vec<u8>,
         version: u8,
         proof: Option<String>,
+        notation: Notation,
     },
 }
 
@@ -124,8 +134,8 @@ pub enum ParseFault {
     Help(String),
     /// The word for the root is not the text of a reference: 32 figures and letters from a to v.
     BadRoot,
-    /// The word for the key is not hexadecimal, or writes more than 1,024 bytes. It is told only
-    /// where the word for the root, if there is one, is good.
+    /// The word for the key is not written in the notation that the words ask for, or writes more
+    /// than 1,024 bytes. It is told only where the word for the root, if there is one, is good.
     BadKey,
 }
 

@@ -3,24 +3,33 @@
 ghost use Rattle.std.specs.Prelude.{codes, IfErr, IfOk};
 ghost use Rattle.prolly_line.specs.Accepted.{Answers, HasNumber, HasWord, IsAccepted};
 ghost use Rattle.prolly_line.specs.Accepted.{IsRefusedLookUp, rows_in};
-ghost use Rattle.prolly_line.specs.Given.{GivesKey, GivesTrust};
+ghost use Rattle.prolly_line.specs.Given.{GivesKey, GivesNotation, GivesTrust};
 
 use crate::command::{Command, ParseFault};
 use crate::values::{
-    byte_of, flag_of, key_of, mode_of, number_of, option_of, root_of, text_of, texts_of, trust_of,
+    byte_of, flag_of, key_of, lines_of, mode_of, notation_of, number_of, option_of, root_of,
+    text_of, texts_of, trust_of,
 };
 use clap::ArgMatches;
 use prolly_entry::Ref;
+use prolly_text::Notation;
 use std::alloc::Global;
 
-/// `pack [--atomic] [--sync] OUT`
+/// `pack [--text] [--removals] [--atomic] [--sync] OUT`
 pub(crate) fn pack(alloc: Global, given: &ArgMatches<'_>) -> Result<Command, ParseFault>
     requires { IsAccepted (codes "pack", rows_in given.now) }
     ensures { Answers (codes "pack", rows_in given.now) result }
 {
     let out = text_of(alloc, given, "out")?;
+    let notation = notation_of(given);
+    let removals = flag_of(given, "removals");
     let mode = mode_of(given);
-    Ok(Command::Pack { out, mode })
+    Ok(Command::Pack {
+        out,
+        notation,
+        removals,
+        mode,
+    })
 }
 
 /// `scratch [--bits Q] [--format V] [--out FILE] [--atomic] [--sync]`
@@ -81,39 +90,44 @@ pub(crate) fn check(alloc: Global, given: &ArgMatches<'_>) -> Result<Command, Pa
 fn trusted_key(
     alloc: Global,
     given: &ArgMatches<'_>,
+    notation: Notation,
 ) -> Result<(Option<Ref>, u8, Vec<u8>), ParseFault>
     requires format { HasNumber (codes "format") 1 2 (rows_in given.now) }
     requires key { HasWord (codes "key") (rows_in given.now) }
+    requires notation { GivesNotation (rows_in given.now) notation }
     ensures trust { IfOk result (λ found. GivesTrust (rows_in given.now) found.0 found.1) }
-    ensures key { IfOk result (λ found. GivesKey (rows_in given.now) found.2.items) }
+    ensures key { IfOk result (λ found. GivesKey (rows_in given.now) notation found.2.items) }
     ensures refused { IfErr result (IsRefusedLookUp (rows_in given.now)) }
 {
     let trust = trust_of(given)?;
-    let key = key_of(alloc, given)?;
+    let key = key_of(alloc, given, notation)?;
     Ok((trust.0, trust.1, key))
 }
 
-/// `get [--root ROOT] [--format V] FILE HEXKEY`
+/// `get [--text] [--root ROOT] [--format V] FILE KEY`
 pub(crate) fn get(alloc: Global, given: &ArgMatches<'_>) -> Result<Command, ParseFault>
     requires { IsAccepted (codes "get", rows_in given.now) }
     ensures { Answers (codes "get", rows_in given.now) result }
 {
-    let (root, version, key) = trusted_key(alloc, given)?;
+    let notation = notation_of(given);
+    let (root, version, key) = trusted_key(alloc, given, notation)?;
     let file = text_of(alloc, given, "file")?;
     Ok(Command::Get {
         file,
         key,
         root,
         version,
+        notation,
     })
 }
 
-/// `scan [--root ROOT] [--format V] FILE HEXKEY LIMIT`
+/// `scan [--text] [--root ROOT] [--format V] FILE KEY LIMIT`
 pub(crate) fn scan(alloc: Global, given: &ArgMatches<'_>) -> Result<Command, ParseFault>
     requires { IsAccepted (codes "scan", rows_in given.now) }
     ensures { Answers (codes "scan", rows_in given.now) result }
 {
-    let (root, version, from) = trusted_key(alloc, given)?;
+    let notation = notation_of(given);
+    let (root, version, from) = trusted_key(alloc, given, notation)?;
     let limit = number_of(given, "limit");
     let file = text_of(alloc, given, "file")?;
     Ok(Command::Scan {
@@ -122,10 +136,11 @@ pub(crate) fn scan(alloc: Global, given: &ArgMatches<'_>) -> Result<Command, Par
         limit,
         root,
         version,
+        notation,
     })
 }
 
-/// `nth [--root ROOT] [--format V] FILE N`
+/// `nth [--text] [--root ROOT] [--format V] FILE N`
 pub(crate) fn nth(alloc: Global, given: &ArgMatches<'_>) -> Result<Command, ParseFault>
     requires { IsAccepted (codes "nth", rows_in given.now) }
     ensures { Answers (codes "nth", rows_in given.now) result }
@@ -133,37 +148,40 @@ pub(crate) fn nth(alloc: Global, given: &ArgMatches<'_>) -> Result<Command, Pars
     let (root, version) = trust_of(given)?;
     let n = u64::from(number_of(given, "n"));
     let file = text_of(alloc, given, "file")?;
+    let notation = notation_of(given);
     Ok(Command::Nth {
         file,
         n,
         root,
         version,
+        notation,
     })
 }
 
-/// `dump [--text] [--atomic] [--sync] FILE [OUT]`
+/// `dump [--text] [--hex] [--atomic] [--sync] FILE [OUT]`
 pub(crate) fn dump(alloc: Global, given: &ArgMatches<'_>) -> Result<Command, ParseFault>
     requires { IsAccepted (codes "dump", rows_in given.now) }
     ensures { Answers (codes "dump", rows_in given.now) result }
 {
     let file = text_of(alloc, given, "file")?;
     let out = option_of(alloc, given, "out")?;
-    let text = flag_of(given, "text");
+    let lines = lines_of(given);
     let mode = mode_of(given);
     Ok(Command::Dump {
         file,
         out,
-        text,
+        lines,
         mode,
     })
 }
 
-/// `diff [--stat] [--out FILE] [--atomic] [--sync] OLD NEW`
+/// `diff [--text] [--stat] [--out FILE] [--atomic] [--sync] OLD NEW`
 pub(crate) fn diff(alloc: Global, given: &ArgMatches<'_>) -> Result<Command, ParseFault>
     requires { IsAccepted (codes "diff", rows_in given.now) }
     ensures { Answers (codes "diff", rows_in given.now) result }
 {
     let stat = flag_of(given, "stat");
+    let notation = notation_of(given);
     let mode = mode_of(given);
     let old = text_of(alloc, given, "old")?;
     let new = text_of(alloc, given, "new")?;
@@ -173,16 +191,17 @@ pub(crate) fn diff(alloc: Global, given: &ArgMatches<'_>) -> Result<Command, Par
         new,
         out,
         stat,
+        notation,
         mode,
     })
 }
 
-/// `prove [--atomic] [--sync] FILE HEXKEY OUT`
+/// `prove [--text] [--atomic] [--sync] FILE KEY OUT`
 pub(crate) fn prove(alloc: Global, given: &ArgMatches<'_>) -> Result<Command, ParseFault>
     requires { IsAccepted (codes "prove", rows_in given.now) }
     ensures { Answers (codes "prove", rows_in given.now) result }
 {
-    let key = key_of(alloc, given)?;
+    let key = key_of(alloc, given, notation_of(given))?;
     let file = text_of(alloc, given, "file")?;
     let out = text_of(alloc, given, "out")?;
     let mode = mode_of(given);
@@ -194,13 +213,14 @@ pub(crate) fn prove(alloc: Global, given: &ArgMatches<'_>) -> Result<Command, Pa
     })
 }
 
-/// `verify [--format V] ROOT HEXKEY [PROOF]`
+/// `verify [--text] [--format V] ROOT KEY [PROOF]`
 pub(crate) fn verify(alloc: Global, given: &ArgMatches<'_>) -> Result<Command, ParseFault>
     requires { IsAccepted (codes "verify", rows_in given.now) }
     ensures { Answers (codes "verify", rows_in given.now) result }
 {
+    let notation = notation_of(given);
     let root = root_of(given)?;
-    let key = key_of(alloc, given)?;
+    let key = key_of(alloc, given, notation)?;
     let version = byte_of(given, "format");
     let proof = option_of(alloc, given, "proof")?;
     Ok(Command::Verify {
@@ -208,5 +228,6 @@ pub(crate) fn verify(alloc: Global, given: &ArgMatches<'_>) -> Result<Command, P
         key,
         version,
         proof,
+        notation,
     })
 }

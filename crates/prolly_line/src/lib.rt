@@ -14,3 +14,4 @@ mod subcommands;
 mod values;
 
 pub use command::{Command, ParseFault, WriteMode, parse};
+pub use prolly_text::Notation;

@@ -16,6 +16,9 @@ use std::alloc::{AllocError, Global};
 // What `--format` says where a chunk file is made.
 const WRITTEN_FORMAT: &str = "Write version V of the chunk file (1 or 2)";
 
+// What `--text` says where a key is taken and its value is printed.
+const KEY_AND_VALUE: &str = "Take the key and print the value as text in place of hexadecimal";
+
 // Adds the flags that say how the output is written.
 fn with_mode<'a>(
     alloc: Global,
@@ -28,11 +31,13 @@ fn with_mode<'a>(
     with_argument(line, arguments::sync_flag(alloc))
 }
 
-// `NAME [--root ROOT] [--format V] FILE SOUGHT`, a look-up in a file, or by a root that it trusts.
+// `NAME [--text] [--root ROOT] [--format V] FILE SOUGHT`, a look-up in a file, or by a root that it
+// trusts; `text` says for the help of `--text` what is text then.
 fn look_up_line<'a>(
     alloc: Global,
     name: &'a str,
     help: Help<'a>,
+    text: &'a str,
     sought: Arg<'a>,
 ) -> Result<Command<'a>, AllocError>
     ensures { (rule : Rule) → IsReadBy rule sought.entry
@@ -42,17 +47,23 @@ fn look_up_line<'a>(
         alloc,
         "The version of the tree's chunks (1 or 2); without --root, the file tells it",
     );
-    let line = described(alloc, name, help).arg(arguments::root_option(alloc));
+    let line = described(alloc, name, help).arg(arguments::text_flag(alloc, text));
+    let line = with_argument(line, arguments::root_option(alloc));
     let line = with_argument(line, format);
     let line = with_argument(line, arguments::file_word(alloc));
     with_argument(line, sought)
 }
 
-/// `pack [--atomic] [--sync] OUT`
+/// `pack [--text] [--removals] [--atomic] [--sync] OUT`
 pub(crate) fn pack_line<'a>(alloc: Global) -> Result<Command<'a>, AllocError>
     ensures { IfOk result (HasLine pack_line) }
 {
-    let line = with_mode(alloc, Ok(described(alloc, "pack", help::PACK)));
+    let text = arguments::text_flag(
+        alloc,
+        "Read lines KEY, tab, VALUE of text in place of hexadecimal",
+    );
+    let line = described(alloc, "pack", help::PACK).arg(text);
+    let line = with_mode(alloc, with_argument(line, arguments::removals_flag(alloc)));
     with_argument(line, arguments::out_word(alloc, "The record file to make"))
 }
 
@@ -90,22 +101,27 @@ pub(crate) fn check_line<'a>(alloc: Global) -> Result<Command<'a>, AllocError>
     described(alloc, "check", help::CHECK).arg(arguments::file_word(alloc))
 }
 
-/// `dump [--text] [--atomic] [--sync] FILE [OUT]`
+/// `dump [--text] [--hex] [--atomic] [--sync] FILE [OUT]`
 pub(crate) fn dump_line<'a>(alloc: Global) -> Result<Command<'a>, AllocError>
     ensures { IfOk result (HasLine dump_line) }
 {
-    let line = described(alloc, "dump", help::DUMP).arg(arguments::text_flag(alloc));
-    let line = with_mode(alloc, line);
+    let text = arguments::text_flag(
+        alloc,
+        "Write lines KEY, tab, VALUE of text in place of a record file",
+    );
+    let line = described(alloc, "dump", help::DUMP).arg(text);
+    let line = with_mode(alloc, with_argument(line, arguments::hex_flag(alloc)));
     with_argument(
         with_argument(line, arguments::file_word(alloc)),
         arguments::optional_out_word(alloc),
     )
 }
 
-/// `diff [--stat] [--out FILE] [--atomic] [--sync] OLD NEW`
+/// `diff [--text] [--stat] [--out FILE] [--atomic] [--sync] OLD NEW`
 pub(crate) fn diff_line<'a>(alloc: Global) -> Result<Command<'a>, AllocError>
     ensures { IfOk result (HasLine diff_line) }
 {
+    let text = arguments::text_flag(alloc, "Print the changes as text in place of hexadecimal");
     let out = arguments::out_option(alloc, "Write the changes to FILE, a record file");
     let old = arguments::tree_word(alloc, "old", "OLD", "The chunk file of the map as it was");
     let new = arguments::tree_word(
@@ -114,44 +130,50 @@ pub(crate) fn diff_line<'a>(alloc: Global) -> Result<Command<'a>, AllocError>
         "NEW",
         "The chunk file of the map as it is now",
     );
-    let line = described(alloc, "diff", help::DIFF).arg(arguments::stat_flag(alloc));
+    let line = described(alloc, "diff", help::DIFF).arg(text);
+    let line = with_argument(line, arguments::stat_flag(alloc));
     let line = with_mode(alloc, with_argument(line, out));
     with_argument(with_argument(line, old), new)
 }
 
-/// `get [--root ROOT] [--format V] FILE HEXKEY`
+/// `get [--text] [--root ROOT] [--format V] FILE KEY`
 pub(crate) fn get_line<'a>(alloc: Global) -> Result<Command<'a>, AllocError>
     ensures { IfOk result (HasLine get_line) }
 {
-    look_up_line(alloc, "get", help::GET, arguments::key_word(alloc))
+    let key = arguments::key_word(alloc);
+    look_up_line(alloc, "get", help::GET, KEY_AND_VALUE, key)
 }
 
-/// `scan [--root ROOT] [--format V] FILE HEXKEY LIMIT`
+/// `scan [--text] [--root ROOT] [--format V] FILE KEY LIMIT`
 pub(crate) fn scan_line<'a>(alloc: Global) -> Result<Command<'a>, AllocError>
     ensures { IfOk result (HasLine scan_line) }
 {
-    let line = look_up_line(alloc, "scan", help::SCAN, arguments::key_word(alloc));
+    let text = "Take the key and print the pairs as text in place of hexadecimal";
+    let key = arguments::key_word(alloc);
+    let line = look_up_line(alloc, "scan", help::SCAN, text, key);
     with_argument(line, arguments::limit_word(alloc))
 }
 
-/// `nth [--root ROOT] [--format V] FILE N`
+/// `nth [--text] [--root ROOT] [--format V] FILE N`
 pub(crate) fn nth_line<'a>(alloc: Global) -> Result<Command<'a>, AllocError>
     ensures { IfOk result (HasLine nth_line) }
 {
-    look_up_line(alloc, "nth", help::NTH, arguments::n_word(alloc))
+    let text = "Print the pair as text in place of hexadecimal";
+    look_up_line(alloc, "nth", help::NTH, text, arguments::n_word(alloc))
 }
 
-/// `prove [--atomic] [--sync] FILE HEXKEY OUT`
+/// `prove [--text] [--atomic] [--sync] FILE KEY OUT`
 pub(crate) fn prove_line<'a>(alloc: Global) -> Result<Command<'a>, AllocError>
     ensures { IfOk result (HasLine prove_line) }
 {
-    let line = with_mode(alloc, Ok(described(alloc, "prove", help::PROVE)));
+    let text = arguments::text_flag(alloc, "Take the key as text in place of hexadecimal");
+    let line = with_mode(alloc, described(alloc, "prove", help::PROVE).arg(text));
     let line = with_argument(line, arguments::file_word(alloc));
     let line = with_argument(line, arguments::key_word(alloc));
     with_argument(line, arguments::out_word(alloc, "The proof to make"))
 }
 
-/// `verify [--format V] ROOT HEXKEY [PROOF]`
+/// `verify [--text] [--format V] ROOT KEY [PROOF]`
 pub(crate) fn verify_line<'a>(alloc: Global) -> Result<Command<'a>, AllocError>
     ensures { IfOk result (HasLine verify_line) }
 {
@@ -159,7 +181,9 @@ pub(crate) fn verify_line<'a>(alloc: Global) -> Result<Command<'a>, AllocError>
         alloc,
         "The version of the tree's chunks (1 or 2). It is not read off the proof, which could lie",
     );
-    let line = described(alloc, "verify", help::VERIFY).arg(format);
+    let text = arguments::text_flag(alloc, KEY_AND_VALUE);
+    let line = described(alloc, "verify", help::VERIFY).arg(text);
+    let line = with_argument(line, format);
     let line = with_argument(line, arguments::root_word(alloc));
     let line = with_argument(line, arguments::key_word(alloc));
     with_argument(line, arguments::proof_word(alloc))

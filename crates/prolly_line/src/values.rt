@@ -4,7 +4,7 @@ ghost use Rattle.std.specs.Prelude.{option_map, codes};
 ghost use Rattle.clap.specs.Words.{first_of};
 ghost use Rattle.prolly_line.specs.Given.{GivesFlag, GivesKey, GivesMode, GivesOption, GivesWord};
 ghost use Rattle.prolly_line.specs.Given.{GivesBadRoot, GivesRoot, GivesTrust, GivesWords};
-ghost use Rattle.prolly_line.specs.Given.{IsKeyText};
+ghost use Rattle.prolly_line.specs.Given.{GivesLines, GivesNotation, IsKeyText};
 ghost use Rattle.prolly_line.specs.Accepted.{HasNumber, HasWord, IsRefusedKey, ReadsNumber};
 ghost use Rattle.prolly_line.specs.Accepted.{rows_in};
 ghost use Rattle.prolly_line.specs.declared.command.ParseFault.TheVariants.{BadKey, BadRoot};
@@ -12,8 +12,8 @@ ghost use Rattle.prolly_line.specs.declared.command.ParseFault.TheVariants.{Memo
 
 use crate::command::{ParseFault, WriteMode};
 use clap::ArgMatches;
-use hex::FromHexError;
 use prolly_entry::Ref;
+use prolly_text::{Notation, TextFault};
 use std::alloc::{AllocError, Global};
 
 /// The greatest number of bytes in a key.
@@ -90,6 +90,28 @@ pub(crate) fn mode_of(given: &ArgMatches<'_>) -> WriteMode
     }
 }
 
+/// How keys and values are written.
+pub(crate) fn notation_of(given: &ArgMatches<'_>) -> Notation
+    ensures { GivesNotation (rows_in given.now) result }
+{
+    if flag_of(given, "text") {
+        Notation::Text
+    } else {
+        Notation::Hex
+    }
+}
+
+/// The notation of the lines that are dumped, or none for a record file.
+pub(crate) fn lines_of(given: &ArgMatches<'_>) -> Option<Notation>
+    ensures { GivesLines (rows_in given.now) result }
+{
+    match notation_of(given) {
+        Notation::Text => Some(Notation::Text),
+        Notation::Hex if flag_of(given, "hex") => Some(Notation::Hex),
+        Notation::Hex => None,
+    }
+}
+
 /// Copies of all the words under a name.
 pub(crate) fn texts_of(
     alloc: Global,
@@ -117,26 +139,31 @@ fn copies_of(alloc: Global, words: &[&str]) -> Result<Vec<String>, AllocError>
     Ok(copies)
 }
 
-/// The key of a subcommand that takes one.
-pub(crate) fn key_of(alloc: Global, given: &ArgMatches<'_>) -> Result<Vec<u8>, ParseFault>
-    requires { HasWord (codes "key") (rows_in given.now) }
-    ensures key { IfOk result (λ key. GivesKey (rows_in given.now) key.items) }
+/// The key of a subcommand that takes one, from its word in the notation of the words.
+pub(crate) fn key_of(
+    alloc: Global,
+    given: &ArgMatches<'_>,
+    notation: Notation,
+) -> Result<Vec<u8>, ParseFault>
+    requires word { HasWord (codes "key") (rows_in given.now) }
+    requires notation { GivesNotation (rows_in given.now) notation }
+    ensures key { IfOk result (λ key. GivesKey (rows_in given.now) notation key.items) }
     ensures refused { IfErr result (IsRefusedKey (rows_in given.now)) }
 {
-    decoded(alloc, word_of(given, "key"))
+    decoded(alloc, notation, word_of(given, "key"))
 }
 
-// The key that a text in hexadecimal writes.
-fn decoded(alloc: Global, text: &str) -> Result<Vec<u8>, ParseFault>
-    ensures key { IfOk result (λ key. IsKeyText text.now key.items) }
+// The key that a text writes in a notation.
+fn decoded(alloc: Global, notation: Notation, text: &str) -> Result<Vec<u8>, ParseFault>
+    ensures key { IfOk result (λ key. IsKeyText notation text.now key.items) }
     ensures refused { IfErr result (λ fault. (fault ≡ Memory)
-        ⊎ ((fault ≡ BadKey) × ((key : List ℕ) → IsKeyText text.now key → ⊥))) }
+        ⊎ ((fault ≡ BadKey) × ((key : List ℕ) → IsKeyText notation text.now key → ⊥))) }
 {
-    match hex::decode(alloc, text) {
+    match notation.bytes_of(alloc, text.as_bytes()) {
         Ok(key) if key.len() <= KEY_LIMIT => Ok(key),
         Ok(_) => Err(ParseFault::BadKey),
-        Err(FromHexError::OutOfMemory) => Err(ParseFault::Memory),
-        Err(_) => Err(ParseFault::BadKey),
+        Err(TextFault::Memory) => Err(ParseFault::Memory),
+        Err(TextFault::Bad) => Err(ParseFault::BadKey),
     }
 }
 

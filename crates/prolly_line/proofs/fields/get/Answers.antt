@@ -5,7 +5,11 @@ use Rattle.prolly_line.proofs.fields.get.Goals as goal
 pub trusted_key-requires : goal.trusted_key-requires
 trusted_key-requires c =
     let takes = takes_get (rows_in c.args.given.now) c.requires in
-    record { format = takes.format; key = takes.key }
+    record {
+      format = takes.format;
+      key = takes.key;
+      notation = c.notation_of-notation.ensures;
+    }
 
 pub text_of-requires : goal.text_of-requires
 text_of-requires c = (takes_get (rows_in c.args.given.now) c.requires).file

@@ -26,4 +26,5 @@ returns c =
           4294967295) (sym c.from-n.ensures) (c.number_of.ensures 0 4294967295 (omega arith)
           takes.n),
       c.in_ok-root.ensures.trust,
+      c.notation_of-notation.ensures,
     )

@@ -7,7 +7,11 @@ use Rattle.prolly_line.proofs.fields.scan.Goals as goal
 pub trusted_key-requires : goal.trusted_key-requires
 trusted_key-requires c =
     let takes = takes_scan (rows_in c.args.given.now) c.requires in
-    record { format = takes.format; key = takes.key }
+    record {
+      format = takes.format;
+      key = takes.key;
+      notation = c.notation_of-notation.ensures;
+    }
 
 pub number_of-limit-requires : goal.number_of-limit-requires
 number_of-limit-requires c =

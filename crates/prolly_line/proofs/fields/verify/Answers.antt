@@ -8,7 +8,10 @@ pub root_of-requires : goal.root_of-requires
 root_of-requires c = (takes_verify (rows_in c.args.given.now) c.requires).root
 
 pub key_of-requires : goal.key_of-requires
-key_of-requires c = (takes_verify (rows_in c.args.given.now) c.requires).key
+key_of-requires c = record {
+  word = (takes_verify (rows_in c.args.given.now) c.requires).key;
+  notation = c.notation_of-notation.ensures;
+}
 
 pub byte_of-version-requires : goal.byte_of-version-requires
 byte_of-version-requires c =
