@@ -36,10 +36,10 @@ answer is printed once the file and its name are on the disk; without it, once
 the system has taken them, which a loss of power may undo. A file that is also
 an input is not written, but refused.",
     example: "Example, from two lines of text to a look-up:
-  printf '61 31\\n62 32\\n' | prolly pack ab.rec
-  prolly build ab.prl ab.rec
-  prolly check ab.prl
-  prolly get ab.prl 61
+  printf 'apple\\t3\\npear\\t5\\n' | prolly pack --text fruit.rec
+  prolly build fruit.prl fruit.rec
+  prolly check fruit.prl
+  prolly get --text fruit.prl apple
 
 `prolly COMMAND --help` says more about a command.",
 };
@@ -55,6 +55,11 @@ Keys and values are in hexadecimal, two digits a byte, with one space between
 them. A key has at most 1,024 bytes, a value at most 65,536. Keys are to rise
 strictly from line to line, compared byte by byte; that is not tested here, but
 `scratch` and `build` refuse a record file whose keys do not rise.
+
+With --text each line is text: a key, a tab and a value, in UTF-8. A backslash
+begins an escape, as in PostgreSQL's COPY: \\b \\t \\n \\v \\f \\r and \\\\, and \\xHH
+for any byte. With --removals too, a line that is a key alone takes the key
+away.
 
 Prints the number of records.
 
@@ -125,6 +130,9 @@ pub(crate) const GET: Help<'static> = Help {
     details: "Prints the value of one key in a chunk file, in hexadecimal. Where the file does
 not have the key, nothing is printed and the exit status is 1.
 
+With --text the key is taken and the value shown as text, with the escapes of
+`pack --text`.
+
 Without --root the whole file is checked first, as by `check`: that takes time
 linear in it, no file over 1 GiB is read, and --format says nothing. With --root
 only what is needed is read: the lengths and levels of the frames, and one chunk
@@ -137,11 +145,12 @@ fit is refused.",
 
 pub(crate) const SCAN: Help<'static> = Help {
     about: "Print the pairs of a chunk file from a key on",
-    details: "Prints pairs of a chunk file in the order of their keys, from HEXKEY on: the
-first LIMIT pairs whose key is not less than HEXKEY. Keys are compared byte by
-byte, and a key comes before the longer ones that it begins.
+    details: "Prints pairs of a chunk file in the order of their keys, from KEY on: the first
+LIMIT pairs whose key is not less than KEY. Keys are compared byte by byte, and
+a key comes before the longer ones that it begins.
 
-Each pair is a line, HEXKEY HEXVALUE.
+Each pair is a line, HEXKEY HEXVALUE. With --text KEY is taken and the pairs are
+shown as text, a key, a tab and a value, with the escapes of `pack --text`.
 
 Without --root the whole file is checked first, as by `check`: that takes time
 linear in it, no file over 1 GiB is read, and --format says nothing. With --root
@@ -159,7 +168,8 @@ pub(crate) const NTH: Help<'static> = Help {
 is at place 0. The file has to be of --format 2, whose nodes count their pairs.
 
 The pair is a line, HEXKEY HEXVALUE. Where there is none, nothing is printed and
-the exit status is 1.
+the exit status is 1. With --text the pair is shown as text, a key, a tab and a
+value, with the escapes of `pack --text`.
 
 Without --root the whole file is checked first, as by `check`: that takes time
 linear in it, no file over 1 GiB is read, and --format says nothing. With --root
@@ -178,8 +188,9 @@ the same chunk file of it again, at equal --bits and --format; they take at most
 16,777,216 records from one file. The chunk file is checked first, as by
 `check`.
 
-With --text these are lines, HEXKEY HEXVALUE, one for each pair in the order of
-keys. `pack` makes the record file of them.
+With --text or --hex these are lines, one for each pair in the order of keys:
+with --text a key, a tab and a value as text, of which `pack --text` makes the
+record file, and with --hex alone HEXKEY HEXVALUE, of which `pack` makes it.
 
 What is written goes to OUT, or to standard output where OUT is not given; then
 --atomic and --sync say nothing. Nothing else is printed.
@@ -199,9 +210,11 @@ have alike, in the order of keys, what NEW has. Both chunk files are checked
 first, as by `check`.
 
 Without --out these are lines that `pack` reads, `HEXKEY HEXVALUE` or, for a key
-that NEW lacks, `HEXKEY -`; then --atomic and --sync say nothing. With --out,
-FILE is a record file of them, and nothing is printed. So `build` of OLD's pairs
-and of that file makes NEW's tree again, at equal --bits and --format.
+that NEW lacks, `HEXKEY -`; with --text they are the lines that
+`pack --text --removals` reads. Then --atomic and --sync say nothing. With
+--out, FILE is a record file of them, and nothing is printed. So `build` of
+OLD's pairs and of that file makes NEW's tree again, at equal --bits and
+--format.
 
 With --stat, one line is printed in place of the changes, with --out too:
   added A changed C removed R chunks N bytes B
@@ -226,6 +239,8 @@ proof is the chunks of FILE from the root down to the one at which the look-up
 of the key ends. Whoever knows the root of FILE can check it by `verify`,
 without FILE. The chunk file is checked first, as by `check`.
 
+With --text the key is taken as text, with the escapes of `pack --text`.
+
 Nothing is printed. The exit status is 0 also where FILE does not have the key.
 
 OUT is made once FILE is open, before it is read. After a fault it is left
@@ -244,6 +259,9 @@ printed at the key, or two different chunks have one SHA-512 prefix, which
 nobody has seen yet.
 
 The proof is read from PROOF, or from standard input where PROOF is not given.
+
+With --text the key is taken and the value shown as text, with the escapes of
+`pack --text`.
 
 The exit status is
   0  where the key has a value, which is printed in hexadecimal
