@@ -2,17 +2,18 @@
 use Rattle.std.proofs.Common.{◌≡◌, ◌∙◌, ℕ, Bool, List, [], Option, Some, None, true, refl, sym, ap}
 use Rattle.std.proofs.Common.{subst, inl, inr}
 use Rattle.std.specs.Prelude.{IfErr, IfOk, Result, Ok, Err}
-use Rattle.clap.specs.Words.{App, HasKind, HasMatchesOf, IsAmong, Row, Text, app_of, fault_of}
+use Rattle.clap.specs.Words.{App, HasKind, HasMatchesOf, Row, Text, app_of, fault_of}
 use Rattle.clap.specs.Words.{is_simple, is_simple_and_free, kind_of, subcommand_of}
 use Rattle.clap.specs.Words.{subcommand_rows_of}
 use Rattle.clap.specs.declared.builder.command.Command.{Command as ClapCommand}
 use Rattle.clap.specs.declared.error.Error.{Error}
+use Rattle.clap.specs.declared.error.kind.ErrorKind.TheVariants.{OutOfMemory}
 use Rattle.clap.specs.declared.parser.matches.ArgMatches.{ArgMatches}
 use Rattle.clap.proofs.OnLiterals.{clap_on_literals}
 use Rattle.prolly_entry.specs.declared.reference.Ref.{Ref}
 use Rattle.prolly_line.specs.Accepted.{Answers, IsRefusedAt}
-use Rattle.prolly_line.specs.Given.{GivesTrust, HasFields, IsGivenBy, IsLawfulTrust, IsRefusalOf}
-use Rattle.prolly_line.specs.Given.{IsRefusedBy, IsWithinLimits}
+use Rattle.prolly_line.specs.Given.{GivesTrust, HasFields, IsAskedFor, IsGivenBy, IsLawfulTrust}
+use Rattle.prolly_line.specs.Given.{IsRefusalOf, IsRefusedBy, IsWithinLimits}
 use Rattle.prolly_line.specs.Line.{line_faults, line_given, program_line}
 use Rattle.prolly_line.specs.declared.command.Command.{Command}
 use Rattle.prolly_line.specs.declared.command.Command.TheVariants.{Pack, Scratch, Build, Check, Get}
@@ -82,6 +83,10 @@ pub refused_by : (c : ClapCommand) (words : List Text) (e : Error) (fault : Pars
     IsRefusalOf (kind_of e) fault → IsRefusedBy words fault
 refused_by c words e fault line kinds refusal = go fault (error_at c words e line kinds) refusal
   where
+    enough : kind_of e ≡ OutOfMemory → IsAskedFor (kind_of e) → ⊥
+    enough memory (inl help) = cc
+    enough memory (inr version) = cc
+
     go : (fault : ParseFault) → HasKind (line_faults words) e → IsRefusalOf (kind_of e) fault →
         IsRefusedBy words fault
     go Memory k r = tt
@@ -91,9 +96,9 @@ refused_by c words e fault line kinds refusal = go fault (error_at c words e lin
           (kind_of e, among, r.1)
     ]
     go (Help text) k r = elim k [
-      | inl memory ↦ cc
+      | inl memory ↦ absurd (enough memory r)
       | inr among ↦
-          subst (λ kind. IsAmong kind (line_faults words)) r among
+          (kind_of e, among, r)
     ]
     go BadRoot k r = absurd r
     go BadKey k r = absurd r

@@ -5,7 +5,8 @@ use Rattle.std.specs.Prelude.{length, map, option_map, string_bytes, codes, unwr
 use Rattle.std.specs.Str.Parse.{digits_value, without_leading_plus}
 use Rattle.clap.specs.Words.{IsAmong, Row, Text, all_of, first_of, one_of}
 use Rattle.clap.specs.declared.error.kind.ErrorKind.{ErrorKind}
-use Rattle.clap.specs.declared.error.kind.ErrorKind.TheVariants.{DisplayHelp, OutOfMemory}
+use Rattle.clap.specs.declared.error.kind.ErrorKind.TheVariants.{DisplayHelp, DisplayVersion}
+use Rattle.clap.specs.declared.error.kind.ErrorKind.TheVariants.{OutOfMemory}
 use Rattle.prolly_entry.specs.Reference.{IsReference, reference_text}
 use Rattle.prolly_entry.specs.declared.reference.Ref.{Ref}
 use Rattle.prolly_text.specs.Notations.{IsWritten}
@@ -247,12 +248,17 @@ ReadsKey given =
 abbrev pub HasBadKey : Text × List Row → Type 0
 HasBadKey given = ReadsKey given × GivesBadKey given.1
 
+-- an error of clap's of this kind is what the words ask for: help, or the version
+abbrev pub IsAskedFor : ErrorKind → Type 0
+IsAskedFor kind = (kind ≡ DisplayHelp) ⊎ (kind ≡ DisplayVersion)
+
 -- the words are refused in this way; memory may run out at any words
 abbrev pub IsRefusedBy : List Text → ParseFault → Type 0
 IsRefusedBy words Memory = ⊤
-IsRefusedBy words (Usage text) = (kind : ErrorKind) × IsAmong kind (line_faults words) ×
-    (kind ≢ DisplayHelp)
-IsRefusedBy words (Help text) = IsAmong DisplayHelp (line_faults words)
+IsRefusedBy words (Usage text) =
+    (kind : ErrorKind) × IsAmong kind (line_faults words) × (IsAskedFor kind → ⊥)
+IsRefusedBy words (Help text) =
+    (kind : ErrorKind) × IsAmong kind (line_faults words) × IsAskedFor kind
 IsRefusedBy words BadRoot =
     (line_faults words ≡ [])
     × ((given : Text × List Row) × (line_given words ≡ Some given) × HasBadRoot given)
@@ -263,7 +269,7 @@ IsRefusedBy words BadKey =
 -- an error of clap's of this kind comes to this fault
 abbrev pub IsRefusalOf : ErrorKind → ParseFault → Type 0
 IsRefusalOf kind Memory = ⊤
-IsRefusalOf kind (Usage text) = (kind ≢ OutOfMemory) × (kind ≢ DisplayHelp)
-IsRefusalOf kind (Help text) = kind ≡ DisplayHelp
+IsRefusalOf kind (Usage text) = (kind ≢ OutOfMemory) × (IsAskedFor kind → ⊥)
+IsRefusalOf kind (Help text) = IsAskedFor kind
 IsRefusalOf kind BadRoot = ⊥
 IsRefusalOf kind BadKey = ⊥

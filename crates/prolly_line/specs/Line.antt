@@ -185,10 +185,14 @@ verify_line = with_rule (with_rule (with_rule (with_rule (with_rule (new_app (co
 
 -- ---- the whole line
 
--- what stands above the subcommands: one of them has to be named, by the first word
+-- what stands above the subcommands: one of them has to be named, by the first word, and there is a
+-- version to ask for
 abbrev pub bare_line : App
-bare_line = on_top (λ s. record s { no_binary_name = true; subcommand_required = true })
-    (new_app (codes "prolly"))
+bare_line = on_top (λ s. record s {
+  no_binary_name = true;
+  subcommand_required = true;
+  has_version = true;
+}) (new_app (codes "prolly"))
 
 -- the words after the program's name, in the order in which one uses the subcommands
 abbrev pub program_line : App

@@ -130,7 +130,7 @@ pub enum ParseFault {
     Memory,
     /// The words are not what the command line takes; clap's text says why.
     Usage(String),
-    /// The words ask for help, which is the text.
+    /// The words ask for help, or for the version, which is the text.
     Help(String),
     /// The word for the root is not the text of a reference: 32 figures and letters from a to v.
     BadRoot,
@@ -170,7 +170,7 @@ fn refusal(alloc: Global, error: &clap::Error) -> ParseFault
     };
     match error.kind() {
         ErrorKind::OutOfMemory => ParseFault::Memory,
-        ErrorKind::DisplayHelp => ParseFault::Help(text),
+        ErrorKind::DisplayHelp | ErrorKind::DisplayVersion => ParseFault::Help(text),
         _ => ParseFault::Usage(text),
     }
 }

@@ -11,6 +11,9 @@ pub(crate) struct Help<'a> {
     pub(crate) example: &'a str,
 }
 
+/// What `--version` prints behind the program's name: its version, and what has proved it.
+pub(crate) const VERSION: &str = "1.0.0, proved with rattle-kit-13f logic dac8208d650f15bf";
+
 pub(crate) const PROGRAM: Help<'static> = Help {
     about: "Makes, checks and reads prolly trees",
     details: "Makes, checks and reads prolly trees.

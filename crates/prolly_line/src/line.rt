@@ -13,6 +13,7 @@ fn bare_line<'a>(alloc: Global) -> Result<Command<'a>, AllocError>
     ensures { IfOk result (λ c. app_of c ≡ bare_line) }
 {
     described(alloc, "prolly", help::PROGRAM)
+        .version(help::VERSION)
         .subcommand_required(true)
         .no_binary_name(true)
         .bin_name("prolly")
