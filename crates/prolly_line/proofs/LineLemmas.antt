@@ -22,6 +22,7 @@ use Rattle.prolly_line.specs.declared.command.Command.TheVariants.{Verify}
 use Rattle.prolly_line.specs.declared.command.ParseFault.{ParseFault}
 use Rattle.prolly_line.specs.declared.command.ParseFault.TheVariants.{Memory, Usage, Help}
 use Rattle.prolly_line.specs.declared.command.ParseFault.TheVariants.{BadRoot, BadKey}
+use Rattle.prolly_line.specs.declared.command.ParseFault.TheVariants.{BadTextKey}
 
 -- ---- clap's model holds of the line
 
@@ -102,6 +103,7 @@ refused_by c words e fault line kinds refusal = go fault (error_at c words e lin
     ]
     go BadRoot k r = absurd r
     go BadKey k r = absurd r
+    go BadTextKey k r = absurd r
 
 -- the answer to the subcommand is the answer to the words
 pub answers_words : (words : List Text) (given : Text × List Row)
@@ -118,6 +120,7 @@ answers_words words given (Err fault) entered refused = (tt, go fault refused)
     go (Help text) r = absurd r
     go BadRoot r = (entered.0, (given, entered.1, r))
     go BadKey r = (entered.0, (given, entered.1, r))
+    go BadTextKey r = (entered.0, (given, entered.1, r))
 
 -- what a look-up trusts is lawful
 lawful_trust : (rows : List Row) (root : Option Ref) (version : ℕ) → GivesTrust rows root version →

@@ -11,6 +11,8 @@ use Rattle.prolly_line.specs.Given.{HasFields, MayGiveRoot}
 use Rattle.prolly_line.specs.declared.command.Command.{Command}
 use Rattle.prolly_line.specs.declared.command.ParseFault.{ParseFault}
 use Rattle.prolly_line.specs.declared.command.ParseFault.TheVariants.{Memory, BadRoot, BadKey}
+use Rattle.prolly_line.specs.declared.command.ParseFault.TheVariants.{BadTextKey}
+use Rattle.prolly_text.specs.declared.notation.Notation.TheVariants.{Hex, Text as AsText}
 
 -- the rows that the matches of a subcommand hold
 abbrev pub rows_in : ArgMatches → List Row
@@ -40,7 +42,8 @@ HasWord name rows = (text : Text) × (first_of name rows ≡ Some text)
 abbrev pub IsRefusedAt : Text × List Row → ParseFault → Type 0
 IsRefusedAt given Memory = ⊤
 IsRefusedAt given BadRoot = HasBadRoot given
-IsRefusedAt given BadKey = HasBadKey given
+IsRefusedAt given BadKey = HasBadKey given Hex
+IsRefusedAt given BadTextKey = HasBadKey given AsText
 IsRefusedAt given _ = ⊥
 
 -- the answer to an accepted subcommand
@@ -50,7 +53,8 @@ Answers given answer = MatchResult answer (λ command. HasFields command given) 
 -- the word for the key is refused in this way
 abbrev pub IsRefusedKey : List Row → ParseFault → Type 0
 IsRefusedKey rows Memory = ⊤
-IsRefusedKey rows BadKey = GivesBadKey rows
+IsRefusedKey rows BadKey = GivesBadKey rows Hex
+IsRefusedKey rows BadTextKey = GivesBadKey rows AsText
 IsRefusedKey rows _ = ⊥
 
 -- what a look-up trusts, or the word for its key, is refused in this way: the key only where the
@@ -58,5 +62,8 @@ IsRefusedKey rows _ = ⊥
 abbrev pub IsRefusedLookUp : List Row → ParseFault → Type 0
 IsRefusedLookUp rows Memory = ⊤
 IsRefusedLookUp rows BadRoot = GivesBadRoot rows
-IsRefusedLookUp rows BadKey = ((root : Option Ref) × MayGiveRoot rows root) × GivesBadKey rows
+IsRefusedLookUp rows BadKey =
+    ((root : Option Ref) × MayGiveRoot rows root) × GivesBadKey rows Hex
+IsRefusedLookUp rows BadTextKey =
+    ((root : Option Ref) × MayGiveRoot rows root) × GivesBadKey rows AsText
 IsRefusedLookUp rows _ = ⊥

@@ -21,6 +21,7 @@ use Rattle.prolly_line.specs.declared.command.Command.TheVariants.{Verify}
 use Rattle.prolly_line.specs.declared.command.ParseFault.{ParseFault}
 use Rattle.prolly_line.specs.declared.command.ParseFault.TheVariants.{Memory, Usage, Help}
 use Rattle.prolly_line.specs.declared.command.ParseFault.TheVariants.{BadRoot, BadKey}
+use Rattle.prolly_line.specs.declared.command.ParseFault.TheVariants.{BadTextKey}
 
 -- ---- what the rows of a subcommand give
 
@@ -84,12 +85,17 @@ GivesKey rows notation key =
     GivesNotation rows notation
     × ((text : Text) × (first_of (codes "key") rows ≡ Some text) × IsKeyText notation text key)
 
--- the word for the key is no text of a key in the notation that the words give
-abbrev pub GivesBadKey : List Row → Type 0
-GivesBadKey rows =
-    (notation : Notation) × GivesNotation rows notation
+-- the word for the key is no text of a key in this notation, which the words give
+abbrev pub GivesBadKey : List Row → Notation → Type 0
+GivesBadKey rows notation =
+    GivesNotation rows notation
     × ((text : Text) × (first_of (codes "key") rows ≡ Some text)
     × ((key : List ℕ) → IsKeyText notation text key → ⊥))
+
+-- how a bad word for a key is told
+abbrev pub bad_key : Notation → ParseFault
+bad_key Hex = BadKey
+bad_key AsText = BadTextKey
 
 -- the reference of which the word for the root is the text
 abbrev pub GivesRoot : List Row → List ℕ → Type 0
@@ -245,8 +251,8 @@ ReadsKey given =
     ⊎ ((given.0 ≡ codes "verify") × ((root : List ℕ) × GivesRoot given.1 root))
 
 -- the subcommand takes a key, its word for the key is no text of one, and no word before is bad
-abbrev pub HasBadKey : Text × List Row → Type 0
-HasBadKey given = ReadsKey given × GivesBadKey given.1
+abbrev pub HasBadKey : Text × List Row → Notation → Type 0
+HasBadKey given notation = ReadsKey given × GivesBadKey given.1 notation
 
 -- an error of clap's of this kind is what the words ask for: help, or the version
 abbrev pub IsAskedFor : ErrorKind → Type 0
@@ -264,7 +270,10 @@ IsRefusedBy words BadRoot =
     × ((given : Text × List Row) × (line_given words ≡ Some given) × HasBadRoot given)
 IsRefusedBy words BadKey =
     (line_faults words ≡ [])
-    × ((given : Text × List Row) × (line_given words ≡ Some given) × HasBadKey given)
+    × ((given : Text × List Row) × (line_given words ≡ Some given) × HasBadKey given Hex)
+IsRefusedBy words BadTextKey =
+    (line_faults words ≡ [])
+    × ((given : Text × List Row) × (line_given words ≡ Some given) × HasBadKey given AsText)
 
 -- an error of clap's of this kind comes to this fault
 abbrev pub IsRefusalOf : ErrorKind → ParseFault → Type 0
@@ -273,3 +282,4 @@ IsRefusalOf kind (Usage text) = (kind ≢ OutOfMemory) × (IsAskedFor kind → �
 IsRefusalOf kind (Help text) = IsAskedFor kind
 IsRefusalOf kind BadRoot = ⊥
 IsRefusalOf kind BadKey = ⊥
+IsRefusalOf kind BadTextKey = ⊥

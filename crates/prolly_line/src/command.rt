@@ -134,9 +134,12 @@ pub enum ParseFault {
     Help(String),
     /// The word for the root is not the text of a reference: 32 figures and letters from a to v.
     BadRoot,
-    /// The word for the key is not written in the notation that the words ask for, or writes more
-    /// than 1,024 bytes. It is told only where the word for the root, if there is one, is good.
+    /// The word for the key is not hexadecimal, or writes more than 1,024 bytes. It is told only
+    /// where the word for the root, if there is one, is good.
     BadKey,
+    /// With `--text`, the word for the key is no text of bytes, or of more than 1,024. It is told
+    /// only where the word for the root, if there is one, is good.
+    BadTextKey,
 }
 
 impl From<AllocError> for ParseFault {

@@ -4,10 +4,10 @@ ghost use Rattle.std.specs.Prelude.{option_map, codes};
 ghost use Rattle.clap.specs.Words.{first_of};
 ghost use Rattle.prolly_line.specs.Given.{GivesFlag, GivesKey, GivesMode, GivesOption, GivesWord};
 ghost use Rattle.prolly_line.specs.Given.{GivesBadRoot, GivesRoot, GivesTrust, GivesWords};
-ghost use Rattle.prolly_line.specs.Given.{GivesLines, GivesNotation, IsKeyText};
+ghost use Rattle.prolly_line.specs.Given.{GivesLines, GivesNotation, IsKeyText, bad_key};
 ghost use Rattle.prolly_line.specs.Accepted.{HasNumber, HasWord, IsRefusedKey, ReadsNumber};
 ghost use Rattle.prolly_line.specs.Accepted.{rows_in};
-ghost use Rattle.prolly_line.specs.declared.command.ParseFault.TheVariants.{BadKey, BadRoot};
+ghost use Rattle.prolly_line.specs.declared.command.ParseFault.TheVariants.{BadRoot};
 ghost use Rattle.prolly_line.specs.declared.command.ParseFault.TheVariants.{Memory};
 
 use crate::command::{ParseFault, WriteMode};
@@ -157,13 +157,23 @@ pub(crate) fn key_of(
 fn decoded(alloc: Global, notation: Notation, text: &str) -> Result<Vec<u8>, ParseFault>
     ensures key { IfOk result (λ key. IsKeyText notation text.now key.items) }
     ensures refused { IfErr result (λ fault. (fault ≡ Memory)
-        ⊎ ((fault ≡ BadKey) × ((key : List ℕ) → IsKeyText notation text.now key → ⊥))) }
+        ⊎ ((fault ≡ bad_key notation) × ((key : List ℕ) → IsKeyText notation text.now key → ⊥))) }
 {
     match notation.bytes_of(alloc, text.as_bytes()) {
         Ok(key) if key.len() <= KEY_LIMIT => Ok(key),
-        Ok(_) => Err(ParseFault::BadKey),
+        Ok(_) => Err(bad_key(notation)),
         Err(TextFault::Memory) => Err(ParseFault::Memory),
-        Err(TextFault::Bad) => Err(ParseFault::BadKey),
+        Err(TextFault::Bad) => Err(bad_key(notation)),
+    }
+}
+
+// How a bad word for a key is told.
+fn bad_key(notation: Notation) -> ParseFault
+    ensures { result ≡ bad_key notation }
+{
+    match notation {
+        Notation::Hex => ParseFault::BadKey,
+        Notation::Text => ParseFault::BadTextKey,
     }
 }
 
