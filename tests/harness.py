@@ -15,6 +15,9 @@ NO_THREAD = b"prolly: a thread could not be started\n"
 SCARCE = [b"prolly: out of memory\n", NO_THREAD]
 """How the program says that memory, or a thread, was not there."""
 
+BAD_KEY = b"prolly: not a key in hexadecimal\n"
+"""What it says of a word that is to be a key and is none, in either notation."""
+
 
 @dataclass
 class Case:

@@ -8,7 +8,7 @@ from functools import partial
 from pathlib import Path
 
 from damaged import Fault, read_entries
-from harness import FOLDER, Case, file_differences, lay_out, shown
+from harness import BAD_KEY, FOLDER, Case, file_differences, lay_out, shown
 from look_ups import LONG, NUMBERS, hexed, leaf
 from scratch import ABC
 from trees import Tree, chunk_file, frame, record, reference, reference_text, tree
@@ -360,7 +360,7 @@ def root_cases():
         Case(f"verify: the root {word}", ["verify", "--", word, key, "p"], status=2, err=BAD_ROOT, before={"p": proof_of(tree(ABC, 0, 1), b"a", 1)})
         for word in bad
         for key in ("61", "6")
-    ] + [Case("verify: a key that is none", ["verify", good, "6g", "p"], status=2, err=b"prolly: not a key in hexadecimal\n")]
+    ] + [Case("verify: a key that is none", ["verify", good, "6g", "p"], status=2, err=BAD_KEY)]
 
 
 def prove_cases():
@@ -383,7 +383,7 @@ def prove_cases():
         Case("prove: OUT is FILE", ["prove", "in.prl", "62", "in.prl"], status=5, err=b"prolly: OUT is also an input: in.prl\n", before=good),
         Case("prove: OUT is a full device", ["prove", "in.prl", "62", "/dev/full"], status=5, err=b"prolly: write failed\n", before=good),
         Case("prove: OUT is standard output", ["prove", "in.prl", "62", "/dev/stdout"], out=proof, before=good),
-        Case("prove: a key that is none", ["prove", "in.prl", "6", "p"], status=2, err=b"prolly: not a key in hexadecimal\n", before=good),
+        Case("prove: a key that is none", ["prove", "in.prl", "6", "p"], status=2, err=BAD_KEY, before=good),
     ]
 
 

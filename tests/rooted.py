@@ -12,7 +12,7 @@ from functools import partial
 from pathlib import Path
 
 from damaged import HEADER_SIZE, Fault, read_header
-from harness import FOLDER, Case, shown
+from harness import BAD_KEY, FOLDER, Case, shown
 from look_ups import LONG, NUMBERS, assembled, hexed, leaf
 from measured import HUNG
 from place import Place, compiled
@@ -610,16 +610,15 @@ def word_cases():
     good = reference_text(tree(ABC, 0, 1).reference)
     bad = ["", good[:-1], good + "0", good[:-1] + "w", good.upper(), good[:-1] + " ", "0x" + good[2:], "é" * 16, good * 2]
     given = {"in.prl": chunk_file(ABC, 0)}
-    no_key = b"prolly: not a key in hexadecimal\n"
     return [
         Case(f"get --root: the root {word}, {name} {key}", ["get", "--root", word, name, key], status=2, err=BAD_ROOT, before=given)
         for word in bad
         for name, key in (("in.prl", "61"), ("in.prl", "6"), ("none", "61"))
     ] + [
         Case("get --root: a dash for a root", ["get", f"--root={'-' * 32}", "in.prl", "61"], status=2, err=BAD_ROOT, before=given),
-        Case("get --root: a key that is none", ["get", "--root", good, "in.prl", "6g"], status=2, err=no_key, before=given),
-        Case("get --root: a key that is too long", ["get", "--root", good, "in.prl", "61" * 1_025], status=2, err=no_key, before=given),
-        Case("get --root: a key that is none, and no file", ["get", "--root", good, "none", "6"], status=2, err=no_key),
+        Case("get --root: a key that is none", ["get", "--root", good, "in.prl", "6g"], status=2, err=BAD_KEY, before=given),
+        Case("get --root: a key that is too long", ["get", "--root", good, "in.prl", "61" * 1_025], status=2, err=BAD_KEY, before=given),
+        Case("get --root: a key that is none, and no file", ["get", "--root", good, "none", "6"], status=2, err=BAD_KEY),
         Case("get --root: a word for a root that is no text", [b"get", b"--root", b"\xff", b"in.prl", b"61"], status=2, err=b"prolly: a word is not UTF-8\n", before=given),
     ]
 

@@ -10,7 +10,7 @@ from functools import partial
 from pathlib import Path
 
 from damaged import HEADER_SIZE, KEY_LIMIT, Fault
-from harness import FOLDER, Case
+from harness import BAD_KEY, FOLDER, Case
 from look_ups import LONG, NUMBERS, assembled, leaf, line
 from place import Place, compiled
 from proofs import BAD_ROOT, FRAME_SIZE, MORE, TRUNCATED, WRONG_VERSION, another, bad_chunk, bad_frame, out_of_order, wrong_level
@@ -528,7 +528,6 @@ def word_cases():
     good = reference_text(tree(ABC, 0, 1).reference)
     bad = ["", good[:-1], good + "0", good[:-1] + "w", good.upper(), "é" * 16, good * 2]
     given = {"in.prl": chunk_file(ABC, 0)}
-    no_key = b"prolly: not a key in hexadecimal\n"
     no_text = b"prolly: a word is not UTF-8\n"
     return [
         Case(f"{words[0]} --root: the root {word}, {' '.join(words[1:])}", [words[0], "--root", word, *words[1:]], status=2, err=BAD_ROOT, before=given)
@@ -537,9 +536,9 @@ def word_cases():
     ] + [
         Case("scan --root: a dash for a root", ["scan", f"--root={'-' * 32}", "in.prl", "61", "1"], status=2, err=BAD_ROOT, before=given),
         Case("nth --root: a dash for a root", ["nth", f"--root={'-' * 32}", "in.prl", "1"], status=2, err=BAD_ROOT, before=given),
-        Case("scan --root: a key that is none", ["scan", "--root", good, "in.prl", "6g", "1"], status=2, err=no_key, before=given),
-        Case("scan --root: a key that is too long", ["scan", "--root", good, "in.prl", "61" * 1_025, "1"], status=2, err=no_key, before=given),
-        Case("scan --root: a key that is none, and no file", ["scan", "--root", good, "none", "6", "1"], status=2, err=no_key),
+        Case("scan --root: a key that is none", ["scan", "--root", good, "in.prl", "6g", "1"], status=2, err=BAD_KEY, before=given),
+        Case("scan --root: a key that is too long", ["scan", "--root", good, "in.prl", "61" * 1_025, "1"], status=2, err=BAD_KEY, before=given),
+        Case("scan --root: a key that is none, and no file", ["scan", "--root", good, "none", "6", "1"], status=2, err=BAD_KEY),
         Case("scan --root: a word for a root that is no text", [b"scan", b"--root", b"\xff", b"in.prl", b"61", b"1"], status=2, err=no_text, before=given),
         Case("nth --root: a word for a root that is no text", [b"nth", b"--root", b"\xff", b"in.prl", b"1"], status=2, err=no_text, before=given),
     ]
