@@ -2,6 +2,7 @@
 
 from dataclasses import dataclass
 
+from escapes import unescaped
 from trees import REMOVED, overlay
 
 KEY_LIMIT, VALUE_LIMIT = 1_024, 65_536
@@ -83,16 +84,17 @@ def merged(readings):
     return overlay([[change for change in reading.changes if (1, change[0]) <= last] for reading in readings])
 
 
-def packed(text):
-    """The changes of a text's lines, or the line that tells of the first faulty one."""
+def packed(text, is_text=False, has_removals=False):
+    """The changes of a text's lines, or the line that tells of the first faulty one. The lines are in hexadecimal or, with
+    `--text`, text, and `--removals` may be given."""
     lines = text.split(b"\n")
     if lines[-1] == b"":
         lines.pop()
     changes = []
     for number, line in enumerate(lines):
-        change = change_of(line)
+        change = change_of_text(line, has_removals) if is_text else change_of(line)
         if change is None:
-            return None, f"line {number}: not a pair in hexadecimal".encode()
+            return None, f"line {number}: not a pair {'of text' if is_text else 'in hexadecimal'}".encode()
         key, value = change
         if len(key) > KEY_LIMIT:
             return None, f"line {number}: key too long".encode()
@@ -110,6 +112,14 @@ def change_of(line):
     key = unhex(parts[0])
     value = REMOVED if parts[1] == b"-" else unhex(parts[1])
     return None if key is None or (value is None and parts[1] != b"-") else (key, value)
+
+
+def change_of_text(line, has_removals):
+    """The change that a line of text stands for, or none."""
+    parts = [unescaped(part) for part in line.split(b"\t")]
+    if None in parts or len(parts) > 2 or (len(parts) == 1 and not has_removals):
+        return None
+    return parts[0], parts[1] if len(parts) == 2 else REMOVED
 
 
 def unhex(text):
