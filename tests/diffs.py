@@ -3,6 +3,7 @@
 import random
 
 from dumps import BEFORE, chained, lines
+from escapes import text_lines
 from harness import FOLDER, Case
 from look_ups import LONG, NUMBERS
 from scratch import ABC, numbered
@@ -106,6 +107,7 @@ def told(name, before, changes):
     words = ["diff", "old.prl", "new.prl"]
     return [
         Case(f"diff: {name}", words, status=status, out=lines(changes), before=before),
+        Case(f"diff --text: {name}", [*words, "--text"], status=status, out=text_lines(changes), before=before),
         Case(f"diff: {name}, to a file", [*words, "--out", "d.rec"], status=status, before=before, after={"d.rec": records(changes)}),
     ]
 
@@ -209,7 +211,7 @@ def stats_refused():
 
 
 def makes_the_new_tree(place, old, new):
-    """OLD's pairs and the difference make NEW's tree; its lines, packed, are the difference."""
+    """OLD's pairs and the difference make NEW's tree; its lines, packed, are the difference, in both notations."""
     changes = difference(old, new)
     whole = chunk_file(new, 3)
     status = DIFFERENT if changes else ALIKE
@@ -217,11 +219,11 @@ def makes_the_new_tree(place, old, new):
     place.answers(place.run("diff", "old.prl", "new.prl", "--out", "d.rec"), (status, b"", b""))
     place.answers(place.run("dump", "old.prl", "old.rec"), (0, b"", b""))
     place.answers(place.run("build", "--bits", "3", "again.prl", "old.rec", "d.rec"), (0, report(new, 3), b""))
-    told_lines = place.run("diff", "old.prl", "new.prl")[1]
-    place.answers(place.run("pack", "packed.rec", stdin=told_lines), (0, None, b""))
-    place.holds(
-        old_prl=None, new_prl=whole, again_prl=whole, old_rec=records(old), d_rec=records(changes), packed_rec=records(changes)
-    )
+    for name, flags in (("packed.rec", []), ("text.rec", ["--text"])):
+        told_lines = place.run("diff", *flags, "old.prl", "new.prl")[1]
+        place.answers(place.run("pack", *flags, "--removals", name, stdin=told_lines), (0, b"%d\n" % len(changes), b""))
+    made = records(changes)
+    place.holds(old_prl=None, new_prl=whole, again_prl=whole, old_rec=records(old), d_rec=made, packed_rec=made, text_rec=made)
 
 
 def all_runs(program, _):

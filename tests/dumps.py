@@ -3,6 +3,7 @@
 import tempfile
 from pathlib import Path
 
+from escapes import text_lines
 from harness import FOLDER, Case
 from look_ups import LONG, NUMBERS, hexed
 from place import Place
@@ -31,7 +32,7 @@ def kinds():
 
 def cases(_):
     """All cases of one run."""
-    return [case for kind in kinds() for case in written(*kind) + told(*kind)] + refused() + refused_texts()
+    return [case for kind in kinds() for case in written(*kind) + told(*kind)] + refused() + refused_lines("--hex", lines(ABC)) + refused_lines("--text", text_lines(ABC))
 
 
 def written(name, pairs, bits, version):
@@ -44,16 +45,21 @@ def written(name, pairs, bits, version):
 
 
 def told(name, pairs, bits, version):
-    """A file whose pairs are printed as lines, and written."""
+    """A file whose pairs are printed as lines, in hexadecimal and as text, and written."""
     before = {"in.prl": chunk_file(pairs, bits, version)}
+    told_lines = [("--hex", lines(pairs)), ("--text", text_lines(pairs))]
     return [
-        Case(f"dump --text: {name}", ["dump", "--text", "in.prl"], out=lines(pairs), before=before),
-        Case(f"dump --text: {name}, to a file", ["dump", "in.prl", "out.txt", "--text"], before=before, after={"out.txt": lines(pairs)}),
+        case
+        for flag, text in told_lines
+        for case in (
+            Case(f"dump {flag}: {name}", ["dump", flag, "in.prl"], out=text, before=before),
+            Case(f"dump {flag}: {name}, to a file", ["dump", "in.prl", "out.txt", flag], before=before, after={"out.txt": text}),
+        )
     ]
 
 
 def lines(changes):
-    """Records as lines that `pack` reads."""
+    """Records as lines in hexadecimal, which `pack` reads."""
     return b"".join(hexed(key) + b" " + (b"-" if value is REMOVED else hexed(value)) + b"\n" for key, value in changes)
 
 
@@ -79,21 +85,21 @@ def refused():
     ]
 
 
-def refused_texts():
-    """Runs with `--text` that have a fault, or whose flags say nothing."""
+def refused_lines(flag, text):
+    """Runs that print lines and have a fault, or whose flags say nothing. The lines are those of three pairs."""
     good, cut = {"in.prl": chunk_file(ABC, 0)}, {"in.prl": chunk_file(ABC, 0)[:-1]}
-    words = ["dump", "--text", "in.prl"]
+    words, name = ["dump", flag, "in.prl"], f"dump {flag}"
     truncated = b"prolly: chunk file: truncated\n"
     no_write = b"prolly: write failed\n"
     return [
-        Case("dump --text: a file that is cut", words, status=4, err=truncated, before=cut),
-        Case("dump --text: OUT is emptied by a fault", [*words, "out.txt"], status=4, err=truncated, before=cut | {"out.txt": BEFORE}, after={"out.txt": b""}),
-        Case("dump --text: OUT is as it was", [*words, "--atomic", "out.txt"], status=4, err=truncated, before=cut | {"out.txt": BEFORE}),
-        Case("dump --text: OUT is a full device", [*words, "/dev/full"], status=5, err=no_write, before=good),
-        Case("dump --text: nobody reads", words, status=5, err=no_write, before=good, stdout="unread"),
-        Case("dump --text: standard output is full", words, status=5, err=no_write, before=good, stdout="full"),
-        Case("dump --text: standard output is closed", words, status=5, err=no_write, before=good, stdout="closed"),
-        Case("dump --text: flags without OUT", [*words, "--atomic", "--sync"], out=lines(ABC), before=good),
+        Case(f"{name}: a file that is cut", words, status=4, err=truncated, before=cut),
+        Case(f"{name}: OUT is emptied by a fault", [*words, "out.txt"], status=4, err=truncated, before=cut | {"out.txt": BEFORE}, after={"out.txt": b""}),
+        Case(f"{name}: OUT is as it was", [*words, "--atomic", "out.txt"], status=4, err=truncated, before=cut | {"out.txt": BEFORE}),
+        Case(f"{name}: OUT is a full device", [*words, "/dev/full"], status=5, err=no_write, before=good),
+        Case(f"{name}: nobody reads", words, status=5, err=no_write, before=good, stdout="unread"),
+        Case(f"{name}: standard output is full", words, status=5, err=no_write, before=good, stdout="full"),
+        Case(f"{name}: standard output is closed", words, status=5, err=no_write, before=good, stdout="closed"),
+        Case(f"{name}: flags without OUT", [*words, "--atomic", "--sync"], out=text, before=good),
     ]
 
 
@@ -125,12 +131,13 @@ def takes_changes(place):
 
 
 def packs_to_the_record_file(place, pairs, bits, version):
-    """The lines are those of `scan`, and packed they are the record file."""
+    """The lines are those of `scan`, and packed they are the record file; so it is in both notations."""
     place.lay(in_prl=chunk_file(pairs, bits, version))
-    text = place.run("dump", "--text", "in.prl")[1]
-    place.answers(place.run("scan", "in.prl", "", "1000000"), (0, text, b""))
-    place.answers(place.run("pack", "packed.rec", stdin=text), (0, b"%d\n" % len(pairs), b""))
-    place.holds(in_prl=None, packed_rec=records(pairs))
+    for flag, notation in (("--hex", []), ("--text", ["--text"])):
+        text = place.run("dump", flag, "in.prl")[1]
+        place.answers(place.run("scan", *notation, "in.prl", "", "1000000"), (0, text, b""))
+        place.answers(place.run("pack", *notation, "packed.rec", stdin=text), (0, b"%d\n" % len(pairs), b""))
+        place.holds(in_prl=None, packed_rec=records(pairs))
 
 
 def has_no_limit(place):
@@ -138,16 +145,17 @@ def has_no_limit(place):
     pairs = [(number.to_bytes(3, "big"), b"") for number in range(1_000_001)]
     place.lay(in_rec=records(pairs))
     place.answers(place.run("build", "in.prl", "in.rec"), (0, None, b""))
-    place.answers(place.run("dump", "--text", "in.prl"), (0, lines(pairs), b""))
+    place.answers(place.run("dump", "--hex", "in.prl"), (0, lines(pairs), b""))
+    place.answers(place.run("dump", "--text", "in.prl"), (0, text_lines(pairs), b""))
 
 
 def all_runs(program, _):
     """Runs the chains, each in a folder of its own, and gives for each its name and its differences."""
     for name, *kind in kinds():
         yield f"dump, and again: {name}", chained(program, lambda place, kind=kind: makes_the_file(place, *kind))
-        yield f"dump --text, and pack: {name}", chained(program, lambda place, kind=kind: packs_to_the_record_file(place, *kind))
+        yield f"dump to lines, and pack: {name}", chained(program, lambda place, kind=kind: packs_to_the_record_file(place, *kind))
     yield "dump, and changes", chained(program, takes_changes)
-    yield "dump --text, 1,000,001 pairs", chained(program, has_no_limit)
+    yield "dump to lines, 1,000,001 pairs", chained(program, has_no_limit)
 
 
 def chained(program, test):

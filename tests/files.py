@@ -15,6 +15,7 @@ from pathlib import Path
 
 from diffs import difference, stat_line
 from dumps import lines
+from escapes import text_lines
 from place import DONE, Place, compiled
 from proofs import proof_of
 from scratch import ABC, numbered
@@ -38,7 +39,7 @@ WRITERS = {
     "scratch": (["scratch", "--bits", "0", "--out", "out"], records(ABC), TREE, (0, root_text(ABC, 0), b"")),
     "pack": (["pack", "out"], TEXT, A, (0, b"2\n", b"")),
     "dump": (["dump", "abc.prl", "out"], None, records(ABC), (0, b"", b"")),
-    "dump --text": (["dump", "--text", "abc.prl", "out"], None, lines(ABC), (0, b"", b"")),
+    "dump --hex": (["dump", "--hex", "abc.prl", "out"], None, lines(ABC), (0, b"", b"")),
     "diff": (["diff", "old.prl", "abc.prl", "--out", "out"], None, records(CHANGES), (1, b"", b"")),
     "diff --stat": (["diff", "--stat", "old.prl", "abc.prl", "--out", "out"], None, records(CHANGES), (1, COUNTED, b"")),
     "prove": (["prove", "abc.prl", "62", "out"], None, PROOF, (0, b"", b"")),
@@ -50,7 +51,7 @@ FAULTS = {
     "scratch": (["scratch", "--bits", "0", "--out", "out"], b"\0", 3, b"prolly: file 0: record 0 is cut\n"),
     "pack": (["pack", "out"], b"6\n", 3, b"prolly: line 0: not a pair in hexadecimal\n"),
     "dump": (["dump", "cut.prl", "out"], None, 4, b"prolly: chunk file: truncated\n"),
-    "dump --text": (["dump", "--text", "cut.prl", "out"], None, 4, b"prolly: chunk file: truncated\n"),
+    "dump --hex": (["dump", "--hex", "cut.prl", "out"], None, 4, b"prolly: chunk file: truncated\n"),
     "diff": (["diff", "old.prl", "cut.prl", "--out", "out"], None, 4, b"prolly: new chunk file: truncated\n"),
     "diff --stat": (["diff", "--stat", "old.prl", "cut.prl", "--out", "out"], None, 4, b"prolly: new chunk file: truncated\n"),
     "prove": (["prove", "cut.prl", "62", "out"], None, 4, b"prolly: chunk file: truncated\n"),
@@ -541,7 +542,7 @@ def inputs_written():
         pairs_of_files = [[file, "old.prl"], ["old.prl", file]]
         for words in (["dump", *flags, file, out], ["prove", *flags, file, "61", out], *(["diff", *flags, *two, "--out", out] for two in pairs_of_files)):
             yield f"OUT is a chunk file: {' '.join(words)}", partial(is_a_chunk_file, words=words, name=file.encode())
-    for words in (["dump", "in.prl"], ["diff", "in.prl", "old.prl"], ["diff", "old.prl", "in.prl"], ["dump", "--text", "in.prl"], ["diff", "--stat", "in.prl", "old.prl"]):
+    for words in (["dump", "in.prl"], ["diff", "in.prl", "old.prl"], ["diff", "old.prl", "in.prl"], ["dump", "--hex", "in.prl"], ["diff", "--stat", "in.prl", "old.prl"]):
         yield f"standard output is a chunk file: {' '.join(words)}", partial(is_printed_to_itself, words=words)
     for words in (["pack", "in.rec"], ["scratch", "--out", "in.rec"], ["scratch", "--atomic", "--out", "in.rec"], ["build", "in.rec", "/dev/stdin"]):
         yield f"OUT is standard input: {' '.join(words)}", partial(is_standard_input, words=words)
@@ -588,8 +589,10 @@ def interrupted():
         (["nth", "abc.prl", "0"], b"61 31\n", 0),
         (["nth", "--format", "2", "--root", reference_text(tree(ABC, 0, 2).reference), "abc.prl", "2"], lines(ABC[2:]), 0),
         (["dump", "abc.prl"], records(ABC), 0),
-        (["dump", "--text", "abc.prl"], lines(ABC), 0),
+        (["dump", "--hex", "abc.prl"], lines(ABC), 0),
+        (["dump", "--text", "abc.prl"], text_lines(ABC), 0),
         (["diff", "old.prl", "abc.prl"], lines(CHANGES), 1),
+        (["diff", "--text", "old.prl", "abc.prl"], text_lines(CHANGES), 1),
         (["diff", "--stat", "old.prl", "abc.prl"], COUNTED_ACROSS, 1),
         (["verify", root_text(ABC, 0).decode().strip(), "62", "b.prf"], b"31\n", 0),
     ]
@@ -612,12 +615,12 @@ def in_part():
     made, rec = chunk_file(pairs, 2), records(pairs)
     yield "no write of a build after a failed one", partial(no_write_after_a_failed_one, words=["build", "--bits", "2", "out", "a.rec"], begun=made[:-END_SIZE], whole=made)
     text = lines(pairs)
-    for words, whole in ((["dump", "a.prl", "out"], rec), (["dump", "--text", "a.prl", "out"], text), (["diff", "none.prl", "a.prl", "--out", "out"], rec)):
+    for words, whole in ((["dump", "a.prl", "out"], rec), (["dump", "--hex", "a.prl", "out"], text), (["diff", "none.prl", "a.prl", "--out", "out"], rec)):
         yield f"no write after a failed one: {' '.join(words)}", partial(no_write_after_a_failed_one, words=words, begun=whole, whole=whole)
     first = lines(pairs[:1])
-    for words, reader, taken in (("scan big.prl '' 1000000", "head -1", first), ("diff none.prl big.prl", "head -1", first), ("dump --text big.prl", "head -1", first), ("dump big.prl", "head -c 1", rec[:1])):
+    for words, reader, taken in (("scan big.prl '' 1000000", "head -1", first), ("diff none.prl big.prl", "head -1", first), ("dump --hex big.prl", "head -1", first), ("dump big.prl", "head -c 1", rec[:1])):
         yield f"nobody reads on: {words} | {reader}", partial(is_read_in_part, words=words, reader=reader, taken=taken)
-    for words in (["build", "/dev/full", "in.rec"], ["scratch", "--out", "/dev/full"], ["dump", "in.prl", "/dev/full"], ["dump", "--text", "in.prl", "/dev/full"], ["diff", "none.prl", "in.prl", "--out", "/dev/full"]):
+    for words in (["build", "/dev/full", "in.rec"], ["scratch", "--out", "/dev/full"], ["dump", "in.prl", "/dev/full"], ["dump", "--hex", "in.prl", "/dev/full"], ["diff", "none.prl", "in.prl", "--out", "/dev/full"]):
         yield f"a full device: {' '.join(words)}", partial(is_full, words=words)
 
 
