@@ -9,7 +9,8 @@ from pathlib import Path
 
 from diffs import difference, stat_line
 from dumps import lines
-from harness import NO_THREAD, SCARCE, file_differences, lay_out, shown
+from escapes import text_lines
+from harness import BAD_KEY, NO_THREAD, SCARCE, file_differences, lay_out, shown
 from proofs import proof_of, verdict
 from rooted import WRONG_VERSION, refusal, words_for
 from rooted_pairs import ALL, NO_COUNTS, number_words, scan_words
@@ -34,6 +35,9 @@ ROOT = reference_text(COUNTED_TREE.reference)
 PROOF = proof_of(COUNTED_TREE, b"b", 2)
 
 REFERENCE = tree(ABC, 0, 1).reference
+
+MIXED = [(b"\t", b"\xff\\"), ("é".encode(), b"")]
+"""Pairs whose text has escapes, and a character that has none."""
 
 MOST_GROWTHS = 2_000
 """More than any of the commands asks for."""
@@ -101,8 +105,8 @@ def commands():
         Command("nth --root without counts", number_words(REFERENCE, 2, 1, "abc.prl"), status=4, err=NO_COUNTS[2], before=reads),
         Command("nth --root of the other format", number_words(COUNTED_TREE.reference, 2, name="abc.prl"), status=4, err=refusal(WRONG_VERSION)[2], before=reads),
         Command("dump", ["dump", "abc.prl"], out=records(ABC), before=reads),
-        Command("dump --text", ["dump", "--text", "abc.prl"], out=lines(ABC), before=reads),
-        Command("dump --text to a file", ["dump", "--text", "abc.prl", "out.txt"], before=reads, made="out.txt", whole=lines(ABC)),
+        Command("dump --hex", ["dump", "--hex", "abc.prl"], out=lines(ABC), before=reads),
+        Command("dump --hex to a file", ["dump", "--hex", "abc.prl", "out.txt"], before=reads, made="out.txt", whole=lines(ABC)),
         Command("prove", ["prove", "counted.prl", "62", "p"], before=reads, made="p", whole=PROOF),
         Command("atomic prove", ["prove", "--atomic", "--sync", "counted.prl", "62", "p"], before=reads, made="p", whole=PROOF),
         Command("verify", ["verify", "--format", "2", ROOT, "62", "p"], out=b"31\n", before={"p": PROOF}),
@@ -126,6 +130,34 @@ def commands():
         Command("diff to a file", ["diff", "old.prl", "abc.prl", "--out", "out.rec"], status=1, before=both, made="out.rec", whole=records(CHANGES)),
         Command("atomic diff", ["diff", "--atomic", "--sync", "old.prl", "abc.prl", "--out", "out.rec"], status=1, before=both, made="out.rec", whole=records(CHANGES)),
         Command("atomic dump", ["dump", "--atomic", "--sync", "abc.prl", "out.rec"], before=reads, made="out.rec", whole=records(ABC)),
+        *text_commands(),
+    ]
+
+
+def text_commands():
+    """The commands with `--text`."""
+    top = tree(MIXED, 0, 2)
+    before, root, told = {"in.prl": chunk_file(MIXED, 0, 2)}, reference_text(top.reference), text_lines(MIXED)
+    by_root = ["--root", root, "--format", "2", "in.prl"]
+    proof = proof_of(top, b"\t", 2)
+    both = before | {"old.prl": chunk_file(ABC, 0)}
+    changes = difference(ABC, MIXED)
+    given = text_lines(changes)
+    return [
+        Command("pack --text", ["pack", "--text", "--removals", "out.rec"], given, out=b"%d\n" % len(changes), made="out.rec", whole=records(changes)),
+        Command("pack --text of a bad line", ["pack", "--text", "out.rec"], b"a\tb\na\\q\tb\n", status=3, err=b"prolly: line 1: not a pair of text\n", made="out.rec"),
+        Command("get --text", ["get", "--text", "in.prl", "\\t"], out=b"\\xff\\\\\n", before=before),
+        Command("get --text of a bad key", ["get", "--text", "in.prl", "\\q"], status=2, err=BAD_KEY, before=before),
+        Command("get --text --root", ["get", "--text", *by_root, "é"], out=b"\n", before=before),
+        Command("scan --text", ["scan", "--text", "in.prl", "", "5"], out=told, before=before),
+        Command("scan --text --root", ["scan", "--text", *by_root, "", "5"], out=told, before=before, is_printed_early=True),
+        Command("nth --text", ["nth", "--text", "in.prl", "0"], out=text_lines(MIXED[:1]), before=before),
+        Command("nth --text --root", ["nth", "--text", *by_root, "1"], out=text_lines(MIXED[1:]), before=before),
+        Command("dump --text", ["dump", "--text", "in.prl"], out=told, before=before),
+        Command("dump --text to a file", ["dump", "--text", "in.prl", "out.txt"], before=before, made="out.txt", whole=told),
+        Command("diff --text", ["diff", "--text", "old.prl", "in.prl"], status=1, out=given, before=both),
+        Command("prove --text", ["prove", "--text", "in.prl", "\\t", "p"], before=before, made="p", whole=proof),
+        Command("verify --text", ["verify", "--text", "--format", "2", root, "\\t", "p"], out=b"\\xff\\\\\n", before={"p": proof}),
     ]
 
 
