@@ -2,7 +2,7 @@
 
 from pathlib import Path
 
-from harness import Case
+from harness import BAD_KEY, Case
 
 TEXTS = Path(__file__).parent / "texts"
 
@@ -44,7 +44,7 @@ def missing(words, names, usage):
 
 def bad_key(*words):
     """A word for a key that is none."""
-    return Case(f"key: {' '.join(words)[:60]}", list(words), status=2, err=b"prolly: not a key in hexadecimal\n")
+    return Case(f"key: {' '.join(words)[:60]!r}", list(words), status=2, err=BAD_KEY)
 
 
 def cases(_):
@@ -82,19 +82,19 @@ def usage_cases():
         wrong(["pack", "a", "b"], "unexpected argument 'b' found", "pack [OPTIONS] <OUT>"),
         missing(["build"], ["OUT"], "build <OUT> [FILES]..."),
         missing(["check"], ["FILE"], "check <FILE>"),
-        missing(["get"], ["FILE", "HEXKEY"], "get <FILE> <HEXKEY>"),
-        missing(["get", "f"], ["HEXKEY"], "get <FILE> <HEXKEY>"),
-        wrong(["get", "f", "61", "x"], "unexpected argument 'x' found", "get [OPTIONS] <FILE> <HEXKEY>"),
+        missing(["get"], ["FILE", "KEY"], "get <FILE> <KEY>"),
+        missing(["get", "f"], ["KEY"], "get <FILE> <KEY>"),
+        wrong(["get", "f", "61", "x"], "unexpected argument 'x' found", "get [OPTIONS] <FILE> <KEY>"),
         wrong(["get", "f", "61", "--root"], "a value is required for '--root <ROOT>' but none was supplied"),
-        wrong(["get", "--root", "r", "--root", "r", "f", "61"], "the argument '--root <ROOT>' cannot be used multiple times", "get [OPTIONS] <FILE> <HEXKEY>"),
-        missing(["get", "--root", "r", "f"], ["HEXKEY"], "get --root <ROOT> <FILE> <HEXKEY>"),
-        missing(["scan"], ["FILE", "HEXKEY", "LIMIT"], "scan <FILE> <HEXKEY> <LIMIT>"),
-        missing(["scan", "f", "61"], ["LIMIT"], "scan <FILE> <HEXKEY> <LIMIT>"),
-        wrong(["scan", "f", "61", "1", "x"], "unexpected argument 'x' found", "scan [OPTIONS] <FILE> <HEXKEY> <LIMIT>"),
+        wrong(["get", "--root", "r", "--root", "r", "f", "61"], "the argument '--root <ROOT>' cannot be used multiple times", "get [OPTIONS] <FILE> <KEY>"),
+        missing(["get", "--root", "r", "f"], ["KEY"], "get --root <ROOT> <FILE> <KEY>"),
+        missing(["scan"], ["FILE", "KEY", "LIMIT"], "scan <FILE> <KEY> <LIMIT>"),
+        missing(["scan", "f", "61"], ["LIMIT"], "scan <FILE> <KEY> <LIMIT>"),
+        wrong(["scan", "f", "61", "1", "x"], "unexpected argument 'x' found", "scan [OPTIONS] <FILE> <KEY> <LIMIT>"),
         wrong(["scan", "f", "61", "1", "--root"], "a value is required for '--root <ROOT>' but none was supplied"),
         wrong(["scan", "f", "61", "1", "--format"], "a value is required for '--format <V>' but none was supplied"),
-        wrong(["scan", "--root", "r", "--root", "r", "f", "61", "1"], "the argument '--root <ROOT>' cannot be used multiple times", "scan [OPTIONS] <FILE> <HEXKEY> <LIMIT>"),
-        missing(["scan", "--root", "r", "f", "61"], ["LIMIT"], "scan --root <ROOT> <FILE> <HEXKEY> <LIMIT>"),
+        wrong(["scan", "--root", "r", "--root", "r", "f", "61", "1"], "the argument '--root <ROOT>' cannot be used multiple times", "scan [OPTIONS] <FILE> <KEY> <LIMIT>"),
+        missing(["scan", "--root", "r", "f", "61"], ["LIMIT"], "scan --root <ROOT> <FILE> <KEY> <LIMIT>"),
         missing(["nth"], ["FILE", "N"], "nth <FILE> <N>"),
         missing(["nth", "f"], ["N"], "nth <FILE> <N>"),
         wrong(["nth", "f", "1", "x"], "unexpected argument 'x' found", "nth [OPTIONS] <FILE> <N>"),
@@ -108,16 +108,21 @@ def usage_cases():
         missing(["diff"], ["OLD", "NEW"], "diff <OLD> <NEW>"),
         missing(["diff", "f"], ["NEW"], "diff <OLD> <NEW>"),
         wrong(["diff", "f", "g", "x"], "unexpected argument 'x' found", "diff [OPTIONS] <OLD> <NEW>"),
-        unknown(["diff", "f", "g", "--text"], "--text", "diff <OLD> <NEW>"),
+        unknown(["check", "f", "--text"], "--text", "check <FILE>"),
+        unknown(["diff", "f", "g", "--removals"], "--removals", "diff <OLD> <NEW>"),
         unknown(["dump", "f", "--stat"], "--stat", "dump <FILE> [OUT]"),
         wrong(["dump", "f", "--text", "--text"], "the argument '--text' cannot be used multiple times", "dump [OPTIONS] <FILE> [OUT]"),
-        missing(["prove"], ["FILE", "HEXKEY", "OUT"], "prove <FILE> <HEXKEY> <OUT>"),
-        missing(["prove", "f", "61"], ["OUT"], "prove <FILE> <HEXKEY> <OUT>"),
-        wrong(["prove", "f", "61", "o", "x"], "unexpected argument 'x' found", "prove [OPTIONS] <FILE> <HEXKEY> <OUT>"),
-        missing(["verify"], ["ROOT", "HEXKEY"], "verify <ROOT> <HEXKEY> [PROOF]"),
-        missing(["verify", "r"], ["HEXKEY"], "verify <ROOT> <HEXKEY> [PROOF]"),
-        wrong(["verify", "r", "61", "p", "x"], "unexpected argument 'x' found", "verify [OPTIONS] <ROOT> <HEXKEY> [PROOF]"),
-        unknown(["verify", "r", "61", "--atomic"], "--atomic", "verify <ROOT> <HEXKEY> [PROOF]"),
+        wrong(["dump", "f", "--hex", "--hex"], "the argument '--hex' cannot be used multiple times", "dump [OPTIONS] <FILE> [OUT]"),
+        wrong(["pack", "--removals", "o", "--removals"], "the argument '--removals' cannot be used multiple times", "pack [OPTIONS] <OUT>"),
+        wrong(["get", "--text", "--text", "f", "a"], "the argument '--text' cannot be used multiple times", "get [OPTIONS] <FILE> <KEY>"),
+        missing(["get", "--text", "f"], ["KEY"], "get --text <FILE> <KEY>"),
+        missing(["prove"], ["FILE", "KEY", "OUT"], "prove <FILE> <KEY> <OUT>"),
+        missing(["prove", "f", "61"], ["OUT"], "prove <FILE> <KEY> <OUT>"),
+        wrong(["prove", "f", "61", "o", "x"], "unexpected argument 'x' found", "prove [OPTIONS] <FILE> <KEY> <OUT>"),
+        missing(["verify"], ["ROOT", "KEY"], "verify <ROOT> <KEY> [PROOF]"),
+        missing(["verify", "r"], ["KEY"], "verify <ROOT> <KEY> [PROOF]"),
+        wrong(["verify", "r", "61", "p", "x"], "unexpected argument 'x' found", "verify [OPTIONS] <ROOT> <KEY> [PROOF]"),
+        unknown(["verify", "r", "61", "--atomic"], "--atomic", "verify <ROOT> <KEY> [PROOF]"),
         wrong(["diff", "f", "g", "--out"], "a value is required for '--out <FILE>' but none was supplied"),
         Case("usage: a word that is no text", [b"check", b"\xff"], status=2, err=b"prolly: a word is not UTF-8\n"),
     ]
@@ -165,6 +170,10 @@ def key_cases():
         bad_key("scan", "f", "6", "1"),
         bad_key("prove", "f", "6", "o"),
         bad_key("prove", "f", "61" * 1025, "o"),
+        bad_key("get", "--text", "f", "\\q"),
+        bad_key("scan", "--text", "f", "a\tb", "1"),
+        bad_key("prove", "--text", "f", "a" * 1025, "o"),
         # What else is wrong with the words is told first.
         bad_number(["scan", "f", "6", "x"], "x", "<LIMIT>", "invalid digit found in string"),
+        bad_number(["scan", "--text", "f", "\\", "x"], "x", "<LIMIT>", "invalid digit found in string"),
     ]

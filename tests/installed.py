@@ -19,11 +19,13 @@ INSTALLED = [
 
 COMPLETED = [
     (["b"], ["build"]),
+    (["pack", "--"], ["--text", "--removals", "--atomic", "--sync", "--help"]),
     (["p"], ["pack", "prove"]),
     (["build", "--ba"], ["--batch"]),
     (["get", "--r"], ["--root"]),
     (["scan", "--r"], ["--root"]),
-    (["nth", "--"], ["--root", "--format", "--help"]),
+    (["nth", "--"], ["--text", "--root", "--format", "--help"]),
+    (["dump", "--"], ["--text", "--hex", "--atomic", "--sync", "--help"]),
     (["check", "fi"], []),
     (["diff", "old", "--s"], ["--stat", "--sync"]),
 ]
