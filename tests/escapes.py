@@ -63,6 +63,22 @@ def text_lines(changes):
     return b"".join(map(text_line, changes))
 
 
+def as_word(data):
+    """A text for bytes that no command takes for a flag."""
+    text = escaped(data)
+    return by_digits(text[0]) + text[1:] if text.startswith(b"-") else text
+
+
+def as_text(told):
+    """Lines in hexadecimal, of values, of pairs or of changes, as the same lines of text."""
+    return b"".join(map(as_text_line, told.split(b"\n")[:-1]))
+
+
+def as_text_line(line):
+    """A value, a pair or, with a dash behind the key, a removal in hexadecimal as a line of text."""
+    return b"\t".join(escaped(bytes.fromhex(part.decode())) for part in line.split(b" ") if part != b"-") + b"\n"
+
+
 def respelled(chance, data, chance_of_digits=0.2):
     """A text for bytes in which some are digits that need not be, in both cases, and which is UTF-8 throughout."""
     found = b""
