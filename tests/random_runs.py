@@ -2,12 +2,15 @@
 
 import random
 import sys
+from dataclasses import dataclass
+from functools import partial
 
 import rooted
 import rooted_pairs
 from damaged import lawful_or_fault
 from diffs import difference, stat_line
 from dumps import lines
+from escapes import as_text, escaped, respelled, text_lines
 from harness import Case
 from proofs import proof_of, verdict
 from readings import merged, packed, read, stop_of
@@ -103,6 +106,33 @@ def options(chance, names):
     return given, [word for name, number in given.items() for word in (f"--{name}", str(number))]
 
 
+# ---- hexadecimal and text
+
+
+@dataclass
+class Notation:
+    """How a run is told keys, and what it prints."""
+
+    flags: list
+    word: object
+    """The word for a key."""
+    told: object
+    """What is printed, out of what is printed in hexadecimal."""
+
+
+def notation(chance):
+    """Hexadecimal or text."""
+    if chance.random() < 0.6:
+        return Notation([], bytes.hex, lambda out: out)
+    return Notation(["--text"], partial(word_of_text, chance), as_text)
+
+
+def word_of_text(chance, data):
+    """A word of text for a key, which no command takes for a flag."""
+    text = respelled(chance, data, chance.choice([0, 0.2, 1]))
+    return b"\\x2d" + text[1:] if text.startswith(b"-") else text
+
+
 # ---- the commands
 
 
@@ -173,15 +203,18 @@ def scratch(chance):
 
 
 def pack(chance):
-    """Lines of text, some of them at fault."""
-    text = b"\n".join(text_line(chance) for _ in range(chance.randrange(12))) + chance.choice([b"", b"\n"])
-    found, fault = packed(text)
+    """Lines in hexadecimal or of text, some of them at fault."""
+    is_text, has_removals = chance.random() < 0.5, chance.random() < 0.5
+    line_of = partial(text_line, has_removals=has_removals) if is_text else hex_line
+    text = b"\n".join(line_of(chance) for _ in range(chance.randrange(12))) + chance.choice([b"", b"\n"])
+    found, fault = packed(text, is_text, has_removals)
+    words = [*(["--text"] if is_text else []), *(["--removals"] if has_removals else [])]
     status = 0 if fault is None else 3
     whole = b"".join(record(*change) for change in found) if fault is None else b""
     before, after, flags = written(chance, "out.rec", whole, status)
     return Case(
         "",
-        ["pack", *flags, "out.rec"],
+        ["pack", *words, *flags, "out.rec"],
         text,
         status=status,
         out=b"%d\n" % len(found) if fault is None else b"",
@@ -191,8 +224,8 @@ def pack(chance):
     )
 
 
-def text_line(chance):
-    """A line for `pack`."""
+def hex_line(chance):
+    """A line in hexadecimal for `pack`."""
     found, put = key(chance), value(chance)
     line = found.hex().encode() + b" " + (b"-" if put is REMOVED else put.hex().encode())
     kind = chance.random()
@@ -203,6 +236,22 @@ def text_line(chance):
     if kind < 0.05:
         return b"61 " + b"31" * 65_537
     return line.upper() if kind < 0.1 else line
+
+
+def text_line(chance, has_removals):
+    """A line of text for `pack`."""
+    found, put = key(chance), value(chance)
+    kind = chance.random()
+    if kind < 0.03:
+        return chance.choice([b"", b"\t", b"a", b"a\tb\tc", b"a\tb\r", b"a\\\tb", b"a\t\\", b"\\x4\tb", b"\\101\tb", b"a\t\\N", b"61 31", b"\xff\t\xff"])
+    if kind < 0.04:
+        return respelled(chance, b"a" * 1_025) + b"\t1"
+    if kind < 0.05:
+        return b"a\t" + escaped(chance.choice([b"1", b"\0", b"\\"]) * 65_537)
+    if put is REMOVED and not has_removals and chance.random() < 0.95:
+        put = b"-"
+    text = respelled(chance, found, chance.choice([0, 0.2, 1]))
+    return text if put is REMOVED else text + b"\t" + respelled(chance, put, chance.choice([0, 0.2]))
 
 
 def look_up(chance):
@@ -245,7 +294,7 @@ def dump(chance):
     pairs = some_pairs(chance)
     content, fault = a_chunk_file(chance, pairs)
     status = 0 if fault is None else 4
-    words, form = chance.choice([([], records), (["--text"], lines)])
+    words, form = chance.choice([([], records), (["--hex"], lines), (["--text"], text_lines), (["--hex", "--text"], text_lines)])
     before, after, flags = written(chance, "out", b"" if fault else form(pairs), status)
     return Case(
         "",
@@ -268,7 +317,8 @@ def diff(chance):
         if fault is not None:
             status, error, found = 4, b"prolly: " + which + b" chunk file: " + fault + b"\n", []
     is_written, is_counted = chance.random() < 0.5, chance.random() < 0.3
-    printed = b"" if is_written else lines(found)
+    written_in = notation(chance)
+    printed = b"" if is_written else written_in.told(lines(found))
     if is_counted:
         printed = b"" if error else stat_line(old, new, kind_of(old_content), kind_of(new_content))
     words = [*(["--stat"] if is_counted else []), *(["--out", "out.rec"] if is_written else [])]
@@ -276,7 +326,7 @@ def diff(chance):
     before, after, flags = written(chance, "out.rec", records(found) if is_written else None, status if error else 0)
     return Case(
         "",
-        ["diff", *words, *flags, "old.prl", "new.prl"],
+        ["diff", *written_in.flags, *words, *flags, "old.prl", "new.prl"],
         status=status,
         out=printed,
         err=error,
@@ -298,9 +348,10 @@ def prove(chance):
     proof = b"" if fault else proof_of(tree(pairs, *kind_of(content)), wanted, content[4])
     status = 4 if fault else 0
     before, after, flags = written(chance, "out", proof, status)
+    given_in = notation(chance)
     return Case(
         "",
-        ["prove", *flags, "in.prl", wanted.hex(), "out"],
+        ["prove", *given_in.flags, *flags, "in.prl", given_in.word(wanted), "out"],
         status=status,
         err=b"prolly: chunk file: " + fault + b"\n" if fault else b"",
         before={"in.prl": content} | before,
@@ -324,13 +375,13 @@ def verify(chance):
     believed = version if chance.random() < 0.9 else 3 - version
     status, out, err = verdict(proof, root, wanted, believed)
     words = ["--format", str(believed)] if believed == 2 or chance.random() < 0.5 else []
-    is_file = chance.random() < 0.5
+    is_file, written_in = chance.random() < 0.5, notation(chance)
     return Case(
         "",
-        ["verify", *words, reference_text(root), wanted.hex(), *(["p"] if is_file else [])],
+        ["verify", *written_in.flags, *words, reference_text(root), written_in.word(wanted), *(["p"] if is_file else [])],
         b"" if is_file else proof,
         status=status,
-        out=out,
+        out=written_in.told(out),
         err=err,
         before={"p": proof} if is_file else {},
     )
@@ -356,16 +407,21 @@ def by_root(chance):
 
 def sought_by_root(chance, content, root, wanted, believed, count):
     """The words of a look-up by a root, and what the second reader answers."""
-    command = chance.choice(["get", "nth", "scan"])
+    command, written_in = chance.choice(["get", "nth", "scan"]), notation(chance)
+    words = [command, *written_in.flags, "--root", reference_text(root), *(["--format", "2"] if believed == 2 else []), "in.prl"]
     if command == "get":
-        return rooted.words_for(root, wanted, believed), rooted.verdict(content, root, wanted, believed)
-    if command == "nth":
+        words.append(written_in.word(wanted))
+        status, out, err = rooted.verdict(content, root, wanted, believed)
+    elif command == "nth":
         number = chance.randrange(count + 2)
-        return rooted_pairs.number_words(root, number, believed), rooted_pairs.number_verdict(content, root, number, believed)
-    # A scan of no pair need not look at the file.
-    limit = chance.choice([1, 2, 5, rooted_pairs.ALL])
-    words = rooted_pairs.scan_words(root, wanted, limit, believed)
-    return words, rooted_pairs.scan_verdict(content, root, wanted, limit, believed)
+        words.append(str(number))
+        status, out, err = rooted_pairs.number_verdict(content, root, number, believed)
+    else:
+        # A scan of no pair need not look at the file.
+        limit = chance.choice([1, 2, 5, rooted_pairs.ALL])
+        words += [written_in.word(wanted), str(limit)]
+        status, out, err = rooted_pairs.scan_verdict(content, root, wanted, limit, believed)
+    return words, (status, written_in.told(out), err)
 
 
 def some_key(chance, pairs):
@@ -375,8 +431,6 @@ def some_key(chance, pairs):
 
 def asked(chance, pairs, bits, version):
     """A question, and what a lawful file of these pairs answers: the words, the status, the output and the fault."""
-    lines = [found.hex().encode() + b" " + put.hex().encode() + b"\n" for found, put in pairs]
-    wanted = some_key(chance, pairs)
     kind = chance.choice(["check", "get", "scan", "nth", "dump"])
     if kind == "check":
         top = tree(pairs, bits, version)
@@ -384,18 +438,31 @@ def asked(chance, pairs, bits, version):
         return ["check", "in.prl"], 0, text.encode(), b""
     if kind == "dump":
         return ["dump", "in.prl"], 0, b"".join(record(*pair) for pair in pairs), b""
-    if kind == "get":
-        put = dict(pairs).get(wanted)
-        return ["get", "in.prl", wanted.hex()], *((1, b"", b"") if put is None else (0, put.hex().encode() + b"\n", b""))
-    if kind == "scan":
-        limit = chance.choice([0, 1, 5, 1_000_000])
-        from_key = [line for line, (found, _) in zip(lines, pairs, strict=True) if found >= wanted]
-        return ["scan", "in.prl", wanted.hex(), str(limit)], 0, b"".join(from_key[:limit]), b""
+    written_in = notation(chance)
+    words, status, out, error = {"get": value_asked, "scan": pairs_asked, "nth": pair_asked}[kind](chance, pairs, version, written_in)
+    return [kind, *written_in.flags, "in.prl", *words], status, written_in.told(out), error
+
+
+def value_asked(chance, pairs, _, written_in):
+    """A key, and its value in hexadecimal."""
+    wanted = some_key(chance, pairs)
+    put = dict(pairs).get(wanted)
+    return [written_in.word(wanted)], *((1, b"", b"") if put is None else (0, put.hex().encode() + b"\n", b""))
+
+
+def pairs_asked(chance, pairs, _, written_in):
+    """A key, and the pairs from there on."""
+    wanted, limit = some_key(chance, pairs), chance.choice([0, 1, 5, 1_000_000])
+    found = [pair for pair in pairs if pair[0] >= wanted][:limit]
+    return [written_in.word(wanted), str(limit)], 0, lines(found), b""
+
+
+def pair_asked(chance, pairs, version, _):
+    """A number, and its pair, which a file of format 1 can't tell."""
     number = chance.randrange(len(pairs) + 2)
-    words = ["nth", "in.prl", str(number)]
     if version == 1:
-        return words, 4, b"", b"chunk file: no counts"
-    return words, *((0, lines[number], b"") if number < len(lines) else (1, b"", b""))
+        return [str(number)], 4, b"", b"chunk file: no counts"
+    return [str(number)], *((0, lines(pairs[number:][:1]), b"") if number < len(pairs) else (1, b"", b""))
 
 
 def by_hand(words):
