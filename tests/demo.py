@@ -3,7 +3,8 @@
 import subprocess
 from pathlib import Path
 
-from diffs import stat_line
+from diffs import difference, stat_line
+from escapes import text_line
 from harness import shown
 from proofs import another, proof_of
 from trees import begun_file, chunk_file, records, report, root_text, tree
@@ -39,7 +40,7 @@ def printed():
     cut = len(records(words)[:40])
     return [
         *lines[:3],
-        *(f"{word.hex()} {count.hex()}" for word, count in words[:3]),
+        *map(told, words[:3]),
         str(len(words)),
         root(words),
         f"{len(records(words))} words.rec",
@@ -53,21 +54,29 @@ def printed():
         root(both),
         "the two chunk files are the same",
         f"ok {root(both)} {BITS} {len(list(tree(both, BITS, 1).trees()))}",
-        b"571".hex(),
         "571",
-        *(f"{word.decode()} {count.decode()}" for word, count in from_p),
+        b"571".hex(),
+        *map(told, from_p),
         report(both, BITS, 2).decode().strip(),
-        f"{both[0][0].decode()} {both[0][1].decode()}",
+        told(both[0]),
         report(both, BITS).decode().strip(),
         "the two chunk files are the same",
+        str(len(both)),
+        "the two record files are the same",
+        *map(told, difference(words, both)),
         stat_line(words, both, (BITS, 1), (BITS, 1)).decode().strip(),
         f"{len(proof_of(tree(both, BITS, 1), b'week', 1))} week.prf",
         "571",
         "571",
-        *(f"{word.decode()} {count.decode()}" for word, count in from_p),
+        *map(told, from_p),
         f"prolly: proof: {another(0)}",
         *cut_short(words, cut),
     ]
+
+
+def told(change):
+    """The line of a word and its count, or of a word alone that is taken away."""
+    return text_line(change).decode().rstrip("\n")
 
 
 def changed_words(words, counts):
