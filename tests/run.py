@@ -3,16 +3,18 @@
 `tests/run.py PROGRAM --random SEED COUNT`, or to look for builds that hang `tests/run.py PROGRAM --links COUNT`.
 
 Each case is a run with its words, input, output, error, status and files. What is wanted comes from
-docs/format.md, from a second builder written after it (trees.py), or, for texts of help, from texts/. Beside the
-cases there are runs in which files may be lost, runs whose workers wait for one another, runs in which each growth of
-memory is refused in turn, the reader in Python beside the program, the examples of the README, what is
-installed, a sort on a cluster, the demonstration, code that must not compile, and random command lines over random files.
+docs/format.md, from a second builder and a second writer of text written after it (trees.py, escapes.py), or, for texts
+of help, from texts/. Beside the cases there are runs in which files may be lost, runs whose workers wait for one another,
+runs in which each growth of memory is refused in turn, the reader in Python beside the program, the examples of the
+README, what is installed, a sort on a cluster, the demonstration, code that must not compile, and random command lines
+over random files.
 """
 
 import sys
 import tempfile
 from pathlib import Path
 
+import as_text
 import build
 import command_line
 import damaged
@@ -67,10 +69,10 @@ def all_runs(program, folder):
     if sys.argv[2:3] == ["--links"]:
         yield from links.by_hand(program, int(sys.argv[3]))
         return
-    for part in (command_line, pack, scratch, build, look_ups, dumps, diffs, proofs, rooted, rooted_pairs, damaged, random_runs):
+    for part in (command_line, pack, scratch, build, look_ups, dumps, diffs, as_text, proofs, rooted, rooted_pairs, damaged, random_runs):
         for case in part.cases(folder):
             yield case.name, run(program, case)
-    for part in (dumps, diffs, proofs, rooted, rooted_pairs, readers, files, links, growths, examples, installed, scale, demo, misuse):
+    for part in (dumps, diffs, as_text, proofs, rooted, rooted_pairs, readers, files, links, growths, examples, installed, scale, demo, misuse):
         yield from part.all_runs(program, folder)
 
 
