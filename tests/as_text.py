@@ -10,7 +10,7 @@ from pathlib import Path
 from diffs import DIFFERENT, difference, stat_line
 from dumps import BEFORE, chained, lines
 from escapes import as_word, escaped, respelled, text_line, text_lines
-from harness import BAD_KEY, FOLDER, Case
+from harness import BAD_KEY, BAD_TEXT_KEY, FOLDER, Case
 from look_ups import LONG
 from proofs import BAD_ROOT, another, proof_of
 from rooted import Kind, refusal, turned
@@ -420,7 +420,7 @@ def bad_key_words():
     """Words that are no text of a key. They are told before a file that is not there, and a bad root before them."""
     root = reference_text(tree(ABC, 0, 1).reference)
     before = {"in.prl": chunk_file(ABC, 0), "p": proof_of(tree(ABC, 0, 1), b"a", 1)}
-    wrong = {"status": 2, "err": BAD_KEY, "before": before}
+    wrong = {"status": 2, "err": BAD_TEXT_KEY, "before": before}
     found = []
     for name, word in BAD_KEYS.items():
         found += [
@@ -434,7 +434,7 @@ def bad_key_words():
     no_text = {"status": 2, "err": b"prolly: a word is not UTF-8\n", "before": before}
     return [
         *found,
-        Case("get --text: a bad key, and no file", ["get", "--text", "none", "\\"], status=2, err=BAD_KEY),
+        Case("get --text: a bad key, and no file", ["get", "--text", "none", "\\"], status=2, err=BAD_TEXT_KEY),
         Case("get --text: a bad root and a bad key", ["get", "--text", "--root", "r", "in.prl", "\\"], status=2, err=BAD_ROOT, before=before),
         Case("verify --text: a bad root and a bad key", ["verify", "--text", "r", "\\", "p"], status=2, err=BAD_ROOT, before=before),
         Case("get --text: a key that is no UTF-8", ["get", "--text", "in.prl", b"\xff"], **no_text),

@@ -2,7 +2,7 @@
 
 from pathlib import Path
 
-from harness import BAD_KEY, Case
+from harness import BAD_KEY, BAD_TEXT_KEY, Case
 
 TEXTS = Path(__file__).parent / "texts"
 
@@ -44,7 +44,8 @@ def missing(words, names, usage):
 
 def bad_key(*words):
     """A word for a key that is none."""
-    return Case(f"key: {' '.join(words)[:60]!r}", list(words), status=2, err=BAD_KEY)
+    err = BAD_TEXT_KEY if "--text" in words else BAD_KEY
+    return Case(f"key: {' '.join(words)[:60]!r}", list(words), status=2, err=err)
 
 
 def cases(_):

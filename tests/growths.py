@@ -10,7 +10,7 @@ from pathlib import Path
 from diffs import difference, stat_line
 from dumps import lines
 from escapes import text_lines
-from harness import BAD_KEY, NO_THREAD, SCARCE, file_differences, lay_out, shown
+from harness import BAD_TEXT_KEY, NO_THREAD, SCARCE, file_differences, lay_out, shown
 from proofs import proof_of, verdict
 from rooted import WRONG_VERSION, refusal, words_for
 from rooted_pairs import ALL, NO_COUNTS, number_words, scan_words
@@ -147,7 +147,7 @@ def text_commands():
         Command("pack --text", ["pack", "--text", "--removals", "out.rec"], given, out=b"%d\n" % len(changes), made="out.rec", whole=records(changes)),
         Command("pack --text of a bad line", ["pack", "--text", "out.rec"], b"a\tb\na\\q\tb\n", status=3, err=b"prolly: line 1: not a pair of text\n", made="out.rec"),
         Command("get --text", ["get", "--text", "in.prl", "\\t"], out=b"\\xff\\\\\n", before=before),
-        Command("get --text of a bad key", ["get", "--text", "in.prl", "\\q"], status=2, err=BAD_KEY, before=before),
+        Command("get --text of a bad key", ["get", "--text", "in.prl", "\\q"], status=2, err=BAD_TEXT_KEY, before=before),
         Command("get --text --root", ["get", "--text", *by_root, "é"], out=b"\n", before=before),
         Command("scan --text", ["scan", "--text", "in.prl", "", "5"], out=told, before=before),
         Command("scan --text --root", ["scan", "--text", *by_root, "", "5"], out=told, before=before, is_printed_early=True),

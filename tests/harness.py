@@ -16,7 +16,10 @@ SCARCE = [b"prolly: out of memory\n", NO_THREAD]
 """How the program says that memory, or a thread, was not there."""
 
 BAD_KEY = b"prolly: not a key in hexadecimal\n"
-"""What it says of a word that is to be a key and is none, in either notation."""
+"""What it says of a word that is to be a key in hexadecimal, and is none."""
+
+BAD_TEXT_KEY = b"prolly: not a key of text\n"
+"""The same of a word that is to be text."""
 
 
 @dataclass
