@@ -1,5 +1,6 @@
 """The words of the command line: help, usage, and what becomes of each subcommand."""
 
+import re
 from pathlib import Path
 
 from harness import BAD_KEY, BAD_TEXT_KEY, Case
@@ -50,7 +51,7 @@ def bad_key(*words):
 
 def cases(_):
     """All cases."""
-    return help_cases() + usage_cases() + number_cases() + key_cases()
+    return help_cases() + version_cases() + usage_cases() + number_cases() + key_cases()
 
 
 def help_cases():
@@ -64,6 +65,14 @@ def help_cases():
     )
 
 
+def version_cases():
+    """The program's version, and what has proved it, as the README names it."""
+    readme = (Path(__file__).parent.parent / "README.md").read_text()
+    proved = re.search(r"Proved with `([^`]+)`", readme)[1]
+    told = f"prolly 1.0.0, proved with {proved}\n".encode()
+    return [Case(f"version: {word}", [word], out=told) for word in ("--version", "-V")]
+
+
 def usage_cases():
     """Words that are missing, unknown or too many."""
     none = (
@@ -74,7 +83,8 @@ def usage_cases():
     return [
         misused([], none),
         wrong(["plant"], "unrecognized subcommand 'plant'", "<COMMAND>"),
-        wrong(["--version"], "unexpected argument '--version' found", "<COMMAND>"),
+        wrong(["--deep"], "unexpected argument '--deep' found", "<COMMAND>"),
+        wrong(["scratch", "--version"], "unexpected argument '--version' found", "scratch [OPTIONS]"),
         wrong(["scratch", "--deep"], "unexpected argument '--deep' found", "scratch [OPTIONS]"),
         wrong(["scratch", "file"], "unexpected argument 'file' found", "scratch [OPTIONS]"),
         wrong(["scratch", "--bits"], "a value is required for '--bits <Q>' but none was supplied"),

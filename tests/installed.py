@@ -101,7 +101,7 @@ def missing(program, manual):
     for text in helps(program):
         words = text.replace("Usage:", "").replace("Arguments:", "").replace("Options:", "").replace("Commands:", "")
         for word in set(re.sub(r"<([A-Z]+)>", r"\1", words).split()) - {word.strip("<>") for word in found} - found:
-            if word not in ("-h,",):
+            if word not in ("-h,", "-V,"):
                 yield f"{word!r} is missing"
 
 
