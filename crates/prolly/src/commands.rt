@@ -14,10 +14,10 @@ use prolly_file::{Buffered, FromRead, FromSeek, Sink, ToWrite};
 use prolly_proof::{get_by_root, nth_by_root};
 use prolly_stage::OpenGate;
 use prolly_tool::{
-    Answer, Command, Config, Fault, NameFault, RecordForm, RootScan, WriteMode, answer_build,
-    answer_check, answer_diff, answer_dump, answer_found, answer_found_pair, answer_get,
-    answer_nth, answer_pack, answer_prove, answer_scan, answer_scan_by_root, answer_scratch,
-    answer_verify,
+    Answer, Command, Config, Fault, LineForm, NameFault, Notation, RecordForm, RootScan, WriteMode,
+    answer_build, answer_check, answer_diff, answer_dump, answer_found, answer_found_pair,
+    answer_get_as, answer_nth_as, answer_pack_as, answer_prove, answer_scan_as,
+    answer_scan_by_root, answer_scratch, answer_verify,
 };
 use std::alloc::AllocError;
 use std::fs;
@@ -49,7 +49,12 @@ fn answer_or_refusal<T: Wait + Threads + Sync>(
     requires { IsWithinLimits command }
 {
     match command {
-        Command::Pack { out, mode } => pack(rt, &out, mode),
+        Command::Pack {
+            out,
+            notation,
+            removals,
+            mode,
+        } => pack(rt, LineForm { notation, removals }, &out, mode),
         Command::Scratch {
             bits,
             version,
@@ -87,57 +92,65 @@ fn answer_or_refusal<T: Wait + Threads + Sync>(
             key,
             root,
             version,
-        } => {
-            let version = Version::of(version).unwrap();
-            match root {
-                None => get(rt, &file, &key),
-                Some(root) => get_from_root(rt, RootedFile::of(&file, version, &root), &key),
+            notation,
+        } => match root {
+            None => get(rt, &file, notation, &key),
+            Some(root) => {
+                let version = Version::of(version).unwrap();
+                get_from_root(rt, RootedFile::of(&file, version, &root, notation), &key)
             }
-        }
+        },
         Command::Scan {
             file,
             from,
             limit,
             root,
             version,
-        } => {
-            let version = Version::of(version).unwrap();
-            match root {
-                None => scan(rt, &file, &from, limit),
-                Some(root) => {
-                    scan_from_root(rt, RootedFile::of(&file, version, &root), &from, limit)
-                }
+            notation,
+        } => match root {
+            None => scan(rt, &file, notation, &from, limit),
+            Some(root) => {
+                let scan = RootScan {
+                    version: Version::of(version).unwrap(),
+                    root: &root,
+                    from: &from,
+                    limit,
+                    notation,
+                };
+                scan_from_root(rt, &file, &scan)
             }
-        }
+        },
         Command::Nth {
             file,
             n,
             root,
             version,
-        } => {
-            let version = Version::of(version).unwrap();
-            match root {
-                None => nth(rt, &file, n),
-                Some(root) => nth_from_root(rt, RootedFile::of(&file, version, &root), n),
+            notation,
+        } => match root {
+            None => nth(rt, &file, notation, n),
+            Some(root) => {
+                let version = Version::of(version).unwrap();
+                nth_from_root(rt, RootedFile::of(&file, version, &root, notation), n)
             }
-        }
+        },
         Command::Dump {
             file,
             out,
-            text,
+            lines,
             mode,
         } => match out {
-            None => dump(rt, &file, dump_form(text)),
-            Some(out) => dump_to(rt, &file, dump_form(text), &out, mode),
+            None => dump(rt, &file, dump_form(lines)),
+            Some(out) => dump_to(rt, &file, dump_form(lines), &out, mode),
         },
         Command::Diff {
             old,
             new,
             out,
             stat,
+            notation,
             mode,
         } => match out {
-            None => diff(rt, &old, &new, stat),
+            None => diff(rt, &old, &new, notation, stat),
             Some(out) => diff_to(rt, &old, &new, stat, &out, mode),
         },
         Command::Prove {
@@ -151,20 +164,22 @@ fn answer_or_refusal<T: Wait + Threads + Sync>(
             key,
             version,
             proof,
+            notation,
         } => {
             let version = Version::of(version).unwrap();
-            verify(rt, version, &root, &key, proof)
+            verify(rt, notation, version, &root, &key, proof)
         }
     }
 }
 
-/// `pack [--atomic] [--sync] OUT`
-fn pack(rt: &HostRuntime, out: &str, mode: WriteMode) -> Result<Answer, Refusal> {
+/// `pack [--text] [--removals] [--atomic] [--sync] OUT`
+fn pack(rt: &HostRuntime, form: LineForm, out: &str, mode: WriteMode) -> Result<Answer, Refusal> {
     let output = output_beside_streams(rt, out, mode)?;
-    let answer = answer_pack(
+    let answer = answer_pack_as(
         rt.alloc(),
         &mut FromRead::new(rt.stdin()),
         &mut ToWrite::new(output.file()),
+        form,
     );
     Ok(output.finish(rt, out, answer)?)
 }
@@ -204,100 +219,97 @@ fn scratch_to(
     Ok(output.finish(rt, out, answer)?)
 }
 
-/// A file of which nothing is believed but what the root of its tree vouches for.
+/// A file of which nothing is believed but what the root of its tree vouches for, and how what is
+/// found in it is shown.
 #[derive(Clone, Copy)]
 struct RootedFile<'a> {
     file: &'a str,
     version: Version,
     root: &'a Ref,
+    notation: Notation,
 }
 
 impl<'a> RootedFile<'a> {
-    /// The file of this name, with the root, and the version of the tree's chunks.
-    fn of(file: &'a str, version: Version, root: &'a Ref) -> RootedFile<'a> {
+    /// The file of this name, with the root, the version of the tree's chunks, and the notation.
+    fn of(file: &'a str, version: Version, root: &'a Ref, notation: Notation) -> RootedFile<'a> {
         RootedFile {
             file,
             version,
             root,
+            notation,
         }
     }
 
-    /// The file as a device, where it is not the one that is to be written.
-    fn device(self, rt: &HostRuntime, target: Option<FileId>) -> Result<FromSeek<File>, Refusal> {
-        Ok(FromSeek::new(file_beside(rt, self.file, target)?))
+    /// The file as a device.
+    fn device(self, rt: &HostRuntime) -> Result<FromSeek<File>, Refusal> {
+        Ok(FromSeek::new(file_beside(rt, self.file, None)?))
     }
 }
 
-/// `get FILE HEXKEY`
-fn get(rt: &HostRuntime, file: &str, key: &[u8]) -> Result<Answer, Refusal> {
+/// `get [--text] FILE KEY`
+fn get(rt: &HostRuntime, file: &str, notation: Notation, key: &[u8]) -> Result<Answer, Refusal> {
     let mut source = opened(rt, file)?;
-    Ok(answer_get(rt.alloc(), &mut source, key)?)
+    Ok(answer_get_as(rt.alloc(), &mut source, key, notation)?)
 }
 
-/// `get --root ROOT [--format V] FILE HEXKEY`, which reads no more of the file than it needs.
+/// `get [--text] --root ROOT [--format V] FILE KEY`, which reads no more of the file than it needs.
 fn get_from_root(rt: &HostRuntime, tree: RootedFile<'_>, key: &[u8]) -> Result<Answer, Refusal> {
-    let mut device = tree.device(rt, None)?;
+    let mut device = tree.device(rt)?;
     let found = get_by_root(rt.alloc(), &mut device, tree.version, tree.root, key);
-    Ok(answer_found(rt.alloc(), &found)?)
+    Ok(answer_found(rt.alloc(), tree.notation, &found)?)
 }
 
-/// `scan FILE HEXKEY LIMIT`
-fn scan(rt: &HostRuntime, file: &str, from: &[u8], limit: u32) -> Result<Answer, Refusal> {
-    let mut source = opened(rt, file)?;
-    Ok(answer_scan(rt.alloc(), &mut source, from, limit)?)
-}
-
-/// `scan --root ROOT [--format V] FILE HEXKEY LIMIT`, which prints the pairs of a leaf before it
-/// looks for the next one.
-fn scan_from_root(
+/// `scan [--text] FILE KEY LIMIT`
+fn scan(
     rt: &HostRuntime,
-    tree: RootedFile<'_>,
+    file: &str,
+    notation: Notation,
     from: &[u8],
     limit: u32,
 ) -> Result<Answer, Refusal> {
-    let mut device = tree.device(rt, FileId::at(rt, STDOUT))?;
-    let mut sink = ToWrite::new(rt.stdout());
-    let scan = RootScan {
-        version: tree.version,
-        root: tree.root,
-        from,
-        limit,
-    };
-    Ok(answer_scan_by_root(rt.alloc(), &mut device, &scan, &mut sink)?)
-}
-
-/// `nth FILE N`
-fn nth(rt: &HostRuntime, file: &str, n: u64) -> Result<Answer, Refusal> {
     let mut source = opened(rt, file)?;
-    Ok(answer_nth(rt.alloc(), &mut source, n)?)
+    Ok(answer_scan_as(rt.alloc(), &mut source, from, limit, notation)?)
 }
 
-/// `nth --root ROOT --format 2 FILE N`. Chunks of version One have no counts to go by.
+/// `scan [--text] --root ROOT [--format V] FILE KEY LIMIT`, which prints the pairs of a leaf before
+/// it looks for the next one.
+fn scan_from_root(rt: &HostRuntime, file: &str, scan: &RootScan<'_>) -> Result<Answer, Refusal> {
+    let mut device = FromSeek::new(file_beside(rt, file, FileId::at(rt, STDOUT))?);
+    let mut sink = ToWrite::new(rt.stdout());
+    Ok(answer_scan_by_root(rt.alloc(), &mut device, scan, &mut sink)?)
+}
+
+/// `nth [--text] FILE N`
+fn nth(rt: &HostRuntime, file: &str, notation: Notation, n: u64) -> Result<Answer, Refusal> {
+    let mut source = opened(rt, file)?;
+    Ok(answer_nth_as(rt.alloc(), &mut source, n, notation)?)
+}
+
+/// `nth [--text] --root ROOT --format 2 FILE N`. Chunks of version One have no counts to go by.
 fn nth_from_root(rt: &HostRuntime, tree: RootedFile<'_>, n: u64) -> Result<Answer, Refusal> {
     if tree.version == Version::One {
         return Err(Refusal::of_fault(rt, Fault::NoCounts));
     }
-    let mut device = tree.device(rt, None)?;
+    let mut device = tree.device(rt)?;
     let found = nth_by_root(rt.alloc(), &mut device, tree.root, n);
-    Ok(answer_found_pair(rt.alloc(), &found)?)
+    Ok(answer_found_pair(rt.alloc(), tree.notation, &found)?)
 }
 
-/// How `dump` writes pairs, with `--text` or without it.
-fn dump_form(text: bool) -> RecordForm {
-    if text {
-        RecordForm::Lines
-    } else {
-        RecordForm::Records
+/// How `dump` writes pairs: as lines in this notation, or where there is none as a record file.
+fn dump_form(lines: Option<Notation>) -> RecordForm {
+    match lines {
+        Some(notation) => RecordForm::Lines(notation),
+        None => RecordForm::Records,
     }
 }
 
-/// `dump [--text] FILE`
+/// `dump [--text] [--hex] FILE`
 fn dump(rt: &HostRuntime, file: &str, form: RecordForm) -> Result<Answer, Refusal> {
     let source = opened_beside(rt, file, FileId::at(rt, STDOUT))?;
     Ok(dump_into(rt, source, form, rt.stdout())?)
 }
 
-/// `dump [--text] FILE OUT [--atomic] [--sync]`
+/// `dump [--text] [--hex] FILE OUT [--atomic] [--sync]`
 fn dump_to(
     rt: &HostRuntime,
     file: &str,
@@ -321,10 +333,20 @@ fn dump_into<W: Write + Drop>(
     answer_dump(rt.alloc(), &mut source, form, &mut sink)
 }
 
-/// `diff [--stat] OLD NEW`
-fn diff(rt: &HostRuntime, old: &str, new: &str, stat: bool) -> Result<Answer, Refusal> {
+/// `diff [--text] [--stat] OLD NEW`
+fn diff(
+    rt: &HostRuntime,
+    old: &str,
+    new: &str,
+    notation: Notation,
+    stat: bool,
+) -> Result<Answer, Refusal> {
     let (old, new) = opened_both(rt, old, new, FileId::at(rt, STDOUT))?;
-    let form = if stat { None } else { Some(RecordForm::Lines) };
+    let form = if stat {
+        None
+    } else {
+        Some(RecordForm::Lines(notation))
+    };
     Ok(diff_into(rt, old, new, form, stat, rt.stdout())?)
 }
 
@@ -359,7 +381,7 @@ fn diff_into<W: Write + Drop>(
     answer_diff(rt.alloc(), &mut old, &mut new, form, stat, &mut sink)
 }
 
-/// `prove FILE HEXKEY OUT [--atomic] [--sync]`
+/// `prove [--text] FILE KEY OUT [--atomic] [--sync]`
 fn prove(
     rt: &HostRuntime,
     file: &str,
@@ -377,9 +399,10 @@ fn prove(
     Ok(output.finish(rt, out, answer)?)
 }
 
-/// `verify [--format V] ROOT HEXKEY [PROOF]`
+/// `verify [--text] [--format V] ROOT KEY [PROOF]`
 fn verify(
     rt: &HostRuntime,
+    notation: Notation,
     version: Version,
     root: &Ref,
     key: &[u8],
@@ -389,13 +412,14 @@ fn verify(
         None => answer_verify(
             rt.alloc(),
             &mut FromRead::new(rt.stdin()),
+            notation,
             version,
             root,
             key,
         ),
         Some(proof) => {
             let mut source = opened(rt, &proof)?;
-            answer_verify(rt.alloc(), &mut source, version, root, key)
+            answer_verify(rt.alloc(), &mut source, notation, version, root, key)
         }
     };
     Ok(answer?)

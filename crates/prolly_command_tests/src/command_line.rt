@@ -22,6 +22,7 @@ fn outcome(alloc: Global, line: &str) -> Result<&'static str, AllocError> {
         Err(ParseFault::Help(_)) => "help",
         Err(ParseFault::BadRoot) => "bad root",
         Err(ParseFault::BadKey) => "bad key",
+        Err(ParseFault::BadTextKey) => "bad key of text",
     })
 }
 
@@ -39,11 +40,13 @@ fn commands_have_their_fields(rt: HostRuntime) -> Result<(), Fail> {
     let cases = [
         (
             "pack a.rec",
-            "Pack { out: \"a.rec\", mode: WriteMode { atomic: false, sync: false } }",
+            "Pack { out: \"a.rec\", notation: Hex, removals: false, \
+             mode: WriteMode { atomic: false, sync: false } }",
         ),
         (
             "pack --sync a.rec --atomic",
-            "Pack { out: \"a.rec\", mode: WriteMode { atomic: true, sync: true } }",
+            "Pack { out: \"a.rec\", notation: Hex, removals: false, \
+             mode: WriteMode { atomic: true, sync: true } }",
         ),
         (
             "scratch",
@@ -58,22 +61,23 @@ fn commands_have_their_fields(rt: HostRuntime) -> Result<(), Fail> {
         ("check a.prl", "Check { file: \"a.prl\" }"),
         (
             "get a.prl 61fF",
-            "Get { file: \"a.prl\", key: [97, 255], root: None, version: 1 }",
+            "Get { file: \"a.prl\", key: [97, 255], root: None, version: 1, notation: Hex }",
         ),
         (
             "get --root 00000000000000000000000000000000 a.prl 61",
             "Get { file: \"a.prl\", key: [97], root: Some(Ref([0, 0, 0, 0, 0, 0, 0, 0, 0, 0, 0, \
-             0, 0, 0, 0, 0, 0, 0, 0, 0])), version: 1 }",
+             0, 0, 0, 0, 0, 0, 0, 0, 0])), version: 1, notation: Hex }",
         ),
         (
             "get a.prl --format 2 61 --root vvvvvvvvvvvvvvvvvvvvvvvvvvvvvvvv",
             "Get { file: \"a.prl\", key: [97], root: Some(Ref([255, 255, 255, 255, 255, 255, 255, \
-             255, 255, 255, 255, 255, 255, 255, 255, 255, 255, 255, 255, 255])), version: 2 }",
+             255, 255, 255, 255, 255, 255, 255, 255, 255, 255, 255, 255, 255])), version: 2, \
+             notation: Hex }",
         ),
         // Without a root the version is taken too, and is of no use.
         (
             "get --format 2 a.prl 61",
-            "Get { file: \"a.prl\", key: [97], root: None, version: 2 }",
+            "Get { file: \"a.prl\", key: [97], root: None, version: 2, notation: Hex }",
         ),
         (
             "build --atomic out.prl",
@@ -99,43 +103,44 @@ fn commands_have_their_fields(rt: HostRuntime) -> Result<(), Fail> {
         ),
         (
             "scan a.prl 00 1000000",
-            "Scan { file: \"a.prl\", from: [0], limit: 1000000, root: None, version: 1 }",
+            "Scan { file: \"a.prl\", from: [0], limit: 1000000, root: None, version: 1, \
+             notation: Hex }",
         ),
         (
             "scan --format 2 --root 00000000000000000000000000000000 a.prl 00 1",
             "Scan { file: \"a.prl\", from: [0], limit: 1, \
              root: Some(Ref([0, 0, 0, 0, 0, 0, 0, 0, 0, 0, 0, 0, 0, 0, 0, 0, 0, 0, 0, 0])), \
-             version: 2 }",
+             version: 2, notation: Hex }",
         ),
         (
             "nth a.prl 4294967295",
-            "Nth { file: \"a.prl\", n: 4294967295, root: None, version: 1 }",
+            "Nth { file: \"a.prl\", n: 4294967295, root: None, version: 1, notation: Hex }",
         ),
         (
             "nth --root 00000000000000000000000000000000 --format 2 a.prl 0",
             "Nth { file: \"a.prl\", n: 0, \
              root: Some(Ref([0, 0, 0, 0, 0, 0, 0, 0, 0, 0, 0, 0, 0, 0, 0, 0, 0, 0, 0, 0])), \
-             version: 2 }",
+             version: 2, notation: Hex }",
         ),
         (
             "dump a.prl",
-            "Dump { file: \"a.prl\", out: None, text: false, \
+            "Dump { file: \"a.prl\", out: None, lines: None, \
              mode: WriteMode { atomic: false, sync: false } }",
         ),
         (
             "dump --sync a.prl --text --atomic a.txt",
-            "Dump { file: \"a.prl\", out: Some(\"a.txt\"), text: true, \
+            "Dump { file: \"a.prl\", out: Some(\"a.txt\"), lines: Some(Text), \
              mode: WriteMode { atomic: true, sync: true } }",
         ),
         (
             "diff a.prl b.prl",
             "Diff { old: \"a.prl\", new: \"b.prl\", out: None, stat: false, \
-             mode: WriteMode { atomic: false, sync: false } }",
+             notation: Hex, mode: WriteMode { atomic: false, sync: false } }",
         ),
         (
             "diff a.prl --atomic --stat --out a.rec b.prl",
             "Diff { old: \"a.prl\", new: \"b.prl\", out: Some(\"a.rec\"), stat: true, \
-             mode: WriteMode { atomic: true, sync: false } }",
+             notation: Hex, mode: WriteMode { atomic: true, sync: false } }",
         ),
         (
             "prove a.prl 6B --sync a.prf",
@@ -145,12 +150,52 @@ fn commands_have_their_fields(rt: HostRuntime) -> Result<(), Fail> {
         (
             "verify 00000000000000000000000000000000 00",
             "Verify { root: Ref([0, 0, 0, 0, 0, 0, 0, 0, 0, 0, 0, 0, 0, 0, 0, 0, 0, 0, 0, 0]), \
-             key: [0], version: 1, proof: None }",
+             key: [0], version: 1, proof: None, notation: Hex }",
         ),
         (
             "verify vvvvvvvvvvvvvvvvvvvvvvvvvvvvvvvv 00 a.prf --format 2",
             "Verify { root: Ref([255, 255, 255, 255, 255, 255, 255, 255, 255, 255, 255, 255, 255, \
-             255, 255, 255, 255, 255, 255, 255]), key: [0], version: 2, proof: Some(\"a.prf\") }",
+             255, 255, 255, 255, 255, 255, 255]), key: [0], version: 2, proof: Some(\"a.prf\"), \
+             notation: Hex }",
+        ),
+        (
+            "pack --removals --text a.rec",
+            "Pack { out: \"a.rec\", notation: Text, removals: true, \
+             mode: WriteMode { atomic: false, sync: false } }",
+        ),
+        (
+            "get --text a.prl a\\x6cl",
+            "Get { file: \"a.prl\", key: [97, 108, 108], root: None, version: 1, \
+             notation: Text }",
+        ),
+        (
+            "nth a.prl 3 --text",
+            "Nth { file: \"a.prl\", n: 3, root: None, version: 1, notation: Text }",
+        ),
+        (
+            "dump --hex a.prl",
+            "Dump { file: \"a.prl\", out: None, lines: Some(Hex), \
+             mode: WriteMode { atomic: false, sync: false } }",
+        ),
+        (
+            "dump --hex --text a.prl",
+            "Dump { file: \"a.prl\", out: None, lines: Some(Text), \
+             mode: WriteMode { atomic: false, sync: false } }",
+        ),
+        (
+            "diff --text a.prl b.prl",
+            "Diff { old: \"a.prl\", new: \"b.prl\", out: None, stat: false, \
+             notation: Text, mode: WriteMode { atomic: false, sync: false } }",
+        ),
+        (
+            "prove --text a.prl a b",
+            "Prove { file: \"a.prl\", key: [97], out: \"b\", \
+             mode: WriteMode { atomic: false, sync: false } }",
+        ),
+        (
+            "verify --text 00000000000000000000000000000000 a",
+            "Verify { root: Ref([0, 0, 0, 0, 0, 0, 0, 0, 0, 0, 0, 0, 0, 0, 0, 0, 0, 0, 0, 0]), \
+             key: [97], version: 1, proof: None, notation: Text }",
         ),
     ];
     for (line, expected) in cases {
@@ -204,6 +249,11 @@ fn a_text_is_shown_where_there_is_no_command(rt: HostRuntime) -> Result<(), Fail
     for (line, kind, part) in [
         ("--help", "help: ", "  pack "),
         ("help build", "help: ", "[default: 16777216]"),
+        (
+            "--version",
+            "help: ",
+            "prolly 1.0.0, proved with rattle-kit-",
+        ),
         ("", "usage: error: ", "requires a subcommand"),
         ("scratch --bits 25", "usage: error: ", "25 is not in 0..=24"),
         ("forget a.prl", "usage: error: ", "'forget'"),
@@ -248,6 +298,12 @@ fn keys_are_hexadecimal_of_1024_bytes_at_most(rt: HostRuntime) -> Result<(), Fai
         ("verify 0 6", "bad root"),
         ("verify w0000000000000000000000000000000 00", "bad root"),
         ("verify 00000000000000000000000000000000 6", "bad key"),
+        ("get --text a.prl a\\q", "bad key of text"),
+        (
+            "verify --text 00000000000000000000000000000000 \\x6",
+            "bad key of text",
+        ),
+        ("get --text --root 0 a.prl \\q", "bad root"),
         // What clap refuses is no bad key.
         ("scan a.prl 6x", "usage"),
         (too_long.as_str(), "bad key"),

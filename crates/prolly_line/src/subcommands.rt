@@ -13,6 +13,9 @@ use crate::{arguments, help};
 use clap::{Arg, Command};
 use std::alloc::{AllocError, Global};
 
+// What `--text` says of a dump.
+const DUMPED_TEXT: &str = "Write lines KEY, tab, VALUE of text in place of a record file";
+
 // What `--format` says where a chunk file is made.
 const WRITTEN_FORMAT: &str = "Write version V of the chunk file (1 or 2)";
 
@@ -105,10 +108,7 @@ pub(crate) fn check_line<'a>(alloc: Global) -> Result<Command<'a>, AllocError>
 pub(crate) fn dump_line<'a>(alloc: Global) -> Result<Command<'a>, AllocError>
     ensures { IfOk result (HasLine dump_line) }
 {
-    let text = arguments::text_flag(
-        alloc,
-        "Write lines KEY, tab, VALUE of text in place of a record file",
-    );
+    let text = arguments::text_flag(alloc, DUMPED_TEXT);
     let line = described(alloc, "dump", help::DUMP).arg(text);
     let line = with_mode(alloc, with_argument(line, arguments::hex_flag(alloc)));
     with_argument(

@@ -1,21 +1,13 @@
 -- What is written, chunk by chunk and byte by byte.
-use Rattle.std.proofs.Common.{◌≡◌, ◌⊎◌, inl, inr, ℕ, zero, suc, ◌+◌, ◌<◌, ◌≤◌, Bool, true, false}
-use Rattle.std.proofs.Common.{cond, List, [], ◌∷◌, ◌++◌, Option, Some, None, Ok, length, take, drop}
-use Rattle.std.proofs.Common.{refl, sym, ap, ◌∙◌, subst, arith, append_assoc, append-nil}
-use Rattle.std.proofs.Common.{length-append, length-drop}
-use Rattle.std.proofs.Math.Seq.{take-nil, drop-nil}
-use Rattle.std.proofs.lemmas.List.{take_at, drop_at, take-append-drop, drop-drop, nil_from_length}
-use Rattle.std.specs.List.{flat_map, AllByRecursion}
+use Rattle.std.proofs.Common.{◌≡◌, ℕ, zero, suc, ◌<◌, ◌≤◌}
+use Rattle.std.proofs.Common.{List, [], ◌∷◌, ◌++◌, length, take, drop}
+use Rattle.std.proofs.Common.{sym, ap, ◌∙◌, arith}
+use Rattle.std.proofs.lemmas.List.{take_at, drop_at, drop-drop, nil_from_length}
+use Rattle.std.specs.List.{flat_map}
 use Rattle.std.specs.Str.Lossy.{utf8_valid_len, utf8_invalid_len, after_first_chunk}
-use Rattle.hex.specs.Hex.{decode_of, encode_lower, IsBytes}
-use Rattle.hex.proofs.HexLemmas.{decode_of-encode_lower}
-use Rattle.prolly_entry.specs.Byte.{IsByte}
-use Rattle.prolly_entry.specs.lemmas.Lists.{all_front, all_back}
-use Rattle.prolly_text.specs.Escapes.{hex_escape, letter_of, shown_by, shown_byte, shown_plain}
+use Rattle.prolly_text.specs.Escapes.{hex_escape, shown_byte}
 use Rattle.prolly_text.specs.Escapes.{text_of, text_within}
-use Rattle.prolly_text.specs.Pieces.{is_plain, named_byte, IsPiece, BeginsWithAll, IsTextOf}
 use Rattle.prolly_text.specs.lemmas.Chunks.{less_behind, text_nil}
-use Rattle.prolly_text.specs.lemmas.Sequences.{all_both}
 
 -- Any number of chunks that is enough gives the same text.
 text_any : (j k : ℕ) (bytes : List ℕ) → length bytes ≤ j → length bytes ≤ k →
@@ -51,12 +43,14 @@ text_chunk bytes valid invalid rest whole n m less =
     shown n in
     let middle : take (utf8_invalid_len behind) behind ≡ invalid =
     ap (take (utf8_invalid_len behind)) back ∙ take_at invalid rest (utf8_invalid_len behind) m in
-    let left : after_first_chunk bytes ≡ rest = sym (drop-drop (utf8_invalid_len behind) shown bytes)
+    let left : after_first_chunk bytes ≡ rest = sym (drop-drop (utf8_invalid_len behind) shown
+    bytes)
     ∙ ap (drop (utf8_invalid_len behind)) back ∙ drop_at invalid rest (utf8_invalid_len behind) m in
     let enough = length bytes in
     let parts : text_within (suc enough) bytes ≡
     flat_map shown_byte valid ++ (flat_map hex_escape invalid ++ text_within enough rest) =
-    ap (λ t. flat_map shown_byte t ++ (flat_map hex_escape (take (utf8_invalid_len behind) behind) ++
+    ap (λ t. flat_map shown_byte t ++ (flat_map hex_escape
+    (take (utf8_invalid_len behind) behind) ++
     text_within enough (after_first_chunk bytes))) front ∙
     ap (λ t. flat_map shown_byte valid ++ (flat_map hex_escape t ++
     text_within enough (after_first_chunk bytes))) middle ∙

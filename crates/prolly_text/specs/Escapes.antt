@@ -1,5 +1,5 @@
--- How bytes are written as text: characters as they are, and backslash escapes, as PostgreSQL's COPY
--- reads them.
+-- How bytes are written as text: characters as they are, and backslash escapes. (They are those of
+-- PostgreSQL's COPY.)
 use Rattle.std.specs.Prelude.{ℕ, zero, suc, List, [], ◌∷◌, ◌++◌, Option, Some, None, length, take}
 use Rattle.std.specs.Prelude.{drop, ◌==◌, ◌||◌, nat_lt, if◌then◌else◌}
 use Rattle.std.specs.List.{flat_map}

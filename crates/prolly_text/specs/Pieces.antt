@@ -1,10 +1,10 @@
--- What a text stands for, piece by piece: what PostgreSQL's COPY reads of it.
+-- What a text stands for, piece by piece. (The escapes are those of PostgreSQL's COPY.)
 use Rattle.std.specs.Prelude.{◌≡◌, ◌⊎◌, ℕ, Bool, true, List, [], ◌∷◌, ◌++◌, Option, Some, None}
 use Rattle.std.specs.Prelude.{Ok, not, ◌==◌, ◌||◌, if◌then◌else◌}
 use Rattle.hex.specs.Hex.{decode_of}
 
--- The byte stands for itself: it is no backslash, and neither a tab, a newline nor a carriage return,
--- which end a column or a line.
+-- The byte stands for itself: it is no backslash, and no tab, newline or carriage return, which end
+-- a column or a line.
 abbrev pub is_plain : ℕ → Bool
 is_plain byte = not (byte == 0x5C || byte == 0x09 || byte == 0x0A || byte == 0x0D)
 

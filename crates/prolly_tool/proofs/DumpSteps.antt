@@ -8,6 +8,7 @@ use Rattle.prolly_file.specs.Failures.{after_failure}
 use Rattle.prolly_file.specs.Sink.{SinkView}
 use Rattle.prolly_file.specs.Writes.{Writes}
 use Rattle.prolly_fault.specs.declared.fault.RunFault.TheVariants.{Write}
+use Rattle.prolly_text.specs.declared.notation.Notation.{Notation}
 use Rattle.prolly_tree.specs.Difference.{puts}
 use Rattle.prolly_tree.specs.RecordFile.{record_file}
 use Rattle.prolly_tool.specs.declared.record_form.RecordForm.{RecordForm}
@@ -51,69 +52,78 @@ module _ {W : Type 0} (seen : W → SinkView) (form : RecordForm) (is : form ≡
 -- ---- lines
 
 -- A line for each pair.
-abbrev pub lines_file : List Pair → List ℕ
-lines_file ps = written_records Lines (puts ps)
+abbrev pub lines_file : Notation → List Pair → List ℕ
+lines_file notation ps = written_records (Lines notation) (puts ps)
 
-lines_append : (ps qs : List Pair) → lines_file (ps ++ qs) ≡ lines_file ps ++ lines_file qs
-lines_append [] qs = refl
-lines_append (p ∷ ps) qs =
-    ap (λ bytes. record_line (put_of p) ++ bytes) (lines_append ps qs) ∙
-    sym (append_assoc (record_line (put_of p)) (lines_file ps) (lines_file qs))
+lines_append : (notation : Notation) (ps qs : List Pair) →
+    lines_file notation (ps ++ qs) ≡ lines_file notation ps ++ lines_file notation qs
+lines_append notation [] qs = refl
+lines_append notation (p ∷ ps) qs =
+    ap (λ bytes. record_line notation (put_of p) ++ bytes) (lines_append notation ps qs) ∙ sym
+    (append_assoc (record_line notation (put_of p)) (lines_file notation ps)
+    (lines_file notation qs))
 
 -- ---- leaf by leaf
 
 -- Of all pairs these are left, and a line was written for each of those before them.
-pub record AreListed {W : Type 0} (seen : W → SinkView) (pairs left : List Pair) (old new : W)
-    : Type 0 where
+pub record AreListed {W : Type 0} (seen : W → SinkView) (notation : Notation)
+    (pairs left : List Pair) (old new : W) : Type 0 where
   pub done : List Pair
   pub all : pairs ≡ done ++ left
-  pub took : TookSoFar seen (lines_file done) old new
+  pub took : TookSoFar seen (lines_file notation done) old new
 
-module _ {W : Type 0} (seen : W → SinkView) where
-  pub none_listed : (pairs : List Pair) (old : W) → AreListed seen pairs pairs old old
+module _ {W : Type 0} (seen : W → SinkView) (notation : Notation) where
+  pub none_listed : (pairs : List Pair) (old : W) → AreListed seen notation pairs pairs old old
   none_listed pairs old = record { done = []; all = refl; took = took_none seen old }
 
-  module _ (pairs left : List Pair) (old mid : W) (l : AreListed seen pairs left old mid) where
-    all_lines : lines_file pairs ≡ lines_file l.done ++ lines_file left
-    all_lines = ap lines_file l.all ∙ lines_append l.done left
+  module _ (pairs left : List Pair) (old mid : W) (l : AreListed seen notation pairs left old mid)
+    where
+      all_lines : lines_file notation pairs ≡ lines_file notation l.done ++ lines_file notation left
+      all_lines = ap (lines_file notation) l.all ∙ lines_append notation l.done left
 
-    pub leaf_stopped : TookPrefix seen (lines_file pairs) old mid
-    leaf_stopped = took_front seen (lines_file l.done) old mid l.took (lines_file pairs)
-        (lines_file left) all_lines
+      pub leaf_stopped : TookPrefix seen (lines_file notation pairs) old mid
+      leaf_stopped = took_front seen (lines_file notation l.done) old mid l.took
+          (lines_file notation pairs)
+          (lines_file notation left) all_lines
 
-    -- One leaf more.
-    module _ (leaf rest : List Pair) (split : left ≡ leaf ++ rest) (new : W) where
-      pub one_listed : {T E : Type 0} (x : T) →
-          Writes {T = T} {E = E} (lines_file leaf) (seen mid) (seen new) (Ok x) →
-          AreListed seen pairs rest old new
-      one_listed x w = record {
-        done = l.done ++ leaf;
-        all = l.all ∙ ap (λ ps. l.done ++ ps) split ∙ sym (append_assoc l.done leaf rest);
-        took = subst (λ bytes. TookSoFar seen bytes old new) (sym (lines_append l.done leaf))
-            (took_more seen (lines_file l.done) old mid l.took x (lines_file leaf) new w);
-      }
+      -- One leaf more.
+      module _ (leaf rest : List Pair) (split : left ≡ leaf ++ rest) (new : W) where
+        pub one_listed : {T E : Type 0} (x : T) →
+            Writes {T = T} {E = E} (lines_file notation leaf) (seen mid) (seen new) (Ok x) →
+            AreListed seen notation pairs rest old new
+        one_listed x w = record {
+          done = l.done ++ leaf;
+          all = l.all ∙ ap (λ ps. l.done ++ ps) split ∙ sym (append_assoc l.done leaf rest);
+          took = subst (λ bytes. TookSoFar seen bytes old new)
+              (sym (lines_append notation l.done leaf))
+              (took_more seen (lines_file notation l.done) old mid l.took x
+              (lines_file notation leaf)
+              new w);
+        }
 
-      pub leaf_failed : {T E : Type 0} (x : E) →
-          Writes {T = T} {E = E} (lines_file leaf) (seen mid) (seen new) (Err x) →
-          TookPart seen (lines_file pairs) old new
-      leaf_failed x w = took_until seen (lines_file l.done) old mid l.took x (lines_file pairs)
-          (lines_file leaf) (lines_file rest) new
-          (all_lines ∙ ap (λ bytes. lines_file l.done ++ bytes)
-          (ap lines_file split ∙ lines_append leaf rest)) w
+        pub leaf_failed : {T E : Type 0} (x : E) →
+            Writes {T = T} {E = E} (lines_file notation leaf) (seen mid) (seen new) (Err x) →
+            TookPart seen (lines_file notation pairs) old new
+        leaf_failed x w = took_until seen (lines_file notation l.done) old mid l.took x
+            (lines_file notation pairs)
+            (lines_file notation leaf) (lines_file notation rest) new
+            (all_lines ∙ ap (λ bytes. lines_file notation l.done ++ bytes)
+            (ap (lines_file notation) split ∙ lines_append notation leaf rest)) w
 
-    -- The end.
-    module _ (none : left ≡ []) (new : W) (same : (seen mid).is_keeping ≡ true →
-        (seen new).taken ≡ (seen mid).taken) where
-      done_all : lines_file l.done ≡ lines_file pairs
-      done_all = ap lines_file (sym (append-nil l.done) ∙ ap (λ ps. l.done ++ ps) (sym none) ∙
-          sym l.all)
+      -- The end.
+      module _ (none : left ≡ []) (new : W) (same : (seen mid).is_keeping ≡ true →
+          (seen new).taken ≡ (seen mid).taken) where
+        done_all : lines_file notation l.done ≡ lines_file notation pairs
+        done_all = ap (lines_file notation) (sym (append-nil l.done) ∙ ap (λ ps. l.done ++ ps)
+            (sym none) ∙
+            sym l.all)
 
-      pub all_listed : (seen new).failures ≡ (seen mid).failures →
-          TookAll seen (lines_file pairs) old new
-      all_listed counted = subst (λ bytes. TookAll seen bytes old new) done_all
-          (flushed seen (lines_file l.done) old mid l.took new same counted)
+        pub all_listed : (seen new).failures ≡ (seen mid).failures →
+            TookAll seen (lines_file notation pairs) old new
+        all_listed counted = subst (λ bytes. TookAll seen bytes old new) done_all
+            (flushed seen (lines_file notation l.done) old mid l.took new same counted)
 
-      pub list_unflushed : (seen new).failures ≡ after_failure (seen mid).failures →
-          TookPart seen (lines_file pairs) old new
-      list_unflushed counted = subst (λ bytes. TookPart seen bytes old new) done_all
-          (unflushed seen (lines_file l.done) old mid l.took new same counted)
+        pub list_unflushed : (seen new).failures ≡ after_failure (seen mid).failures →
+            TookPart seen (lines_file notation pairs) old new
+        list_unflushed counted = subst (λ bytes. TookPart seen bytes old new) done_all
+            (unflushed seen (lines_file notation l.done) old mid l.took new same counted)

@@ -1,24 +1,29 @@
--- Lines of text, and the split of a line at its first space.
-use Rattle.std.proofs.Common.{◌≡◌, ◌≢◌, ◌↔◌, ℕ, ◌+◌, ◌-◌, ◌<◌, ◌≤◌, true, false, List, [], ◌∷◌}
-use Rattle.std.proofs.Common.{◌++◌, length, take, drop, Option, Some, None, Result, Ok, Err, All}
+-- Lines, and the split of a line at its first separator.
+use Rattle.std.proofs.Common.{◌≡◌, ◌≢◌, inl, inr, ℕ, ◌+◌, ◌-◌, ◌<◌, ◌≤◌, Bool, true, false}
+use Rattle.std.proofs.Common.{List, [], ◌∷◌, ◌++◌, length, take, drop, Option, Some, None, All}
 use Rattle.std.proofs.Common.{get_or, unwrap_or, add-one, drop-cons, length-drop, refl, sym, ap}
-use Rattle.std.proofs.Common.{◌∙◌, subst, arith}
+use Rattle.std.proofs.Common.{◌∙◌, subst, arith, Result, Ok, Err, IfOk, IfErr}
 use Rattle.std.specs.Prelude.{◌==◌, slice_get}
 use Rattle.std.specs.List.{AllByRecursion}
 use Rattle.std.proofs.lemmas.List.Elements.{recursion_from_All}
 use Rattle.std.proofs.lemmas.List.{drop-drop, nil_from_length, take-append-drop, take_all}
 use Rattle.std.proofs.lemmas.Option.{slice_get_within, unwrap_or-slice_get}
 use Rattle.std.proofs.lemmas.Bool.Decides.{nat_tests}
-use Rattle.hex.specs.Hex.{decode_of, is_hex_digit}
-use Rattle.hex.proofs.HexLemmas.{decode_of-ok}
+use Rattle.prolly_entry.specs.Record.{Record}
 use Rattle.prolly_entry.specs.lemmas.Lists.{rest_is}
+use Rattle.prolly_text.specs.Notations.{IsWritten, StandsWithin, separator}
+use Rattle.prolly_text.specs.declared.notation.Notation.{Notation}
+use Rattle.prolly_text.specs.declared.notation.Notation.TheVariants.{Hex, Text}
+use Rattle.prolly_text.specs.lemmas.Notations.{texts_stand_apart}
+use Rattle.prolly_text.specs.lemmas.Writing.{all_so}
 use Rattle.prolly_tree.specs.Split.{in_front}
-use Rattle.prolly_tool.specs.Lines.{lines_of, CutsAtSpace, IsLineOf, IsChangeText, IsBadLine}
+use Rattle.prolly_tool.specs.Lines.{lines_of, reads_bare_keys, CutsAt, IsBadLine, IsDashLine}
+use Rattle.prolly_tool.specs.Lines.{IsLineOf, IsPairLine, IsRemovalLine}
 use Rattle.prolly_tool.specs.declared.line.LineFlaw.{LineFlaw}
 use Rattle.prolly_tool.specs.declared.line.LineFlaw.TheVariants as flaws
-use Rattle.prolly_tool.specs.Pack.{IsWrongLine, IsNoHex, flaw_of}
-use Rattle.prolly_entry.specs.declared.pair.EntryFault.{EntryFault}
-use Rattle.prolly_entry.specs.declared.pair.EntryFault.TheVariants as entries
+use Rattle.prolly_tool.specs.declared.line_form.LineForm.{LineForm}
+use Rattle.prolly_tool.specs.Pack.{IsChangeOf, IsLongKey, IsLongPair, IsNotWritten, IsWrongLine}
+use Rattle.prolly_tool.specs.Pack.{MarksRemoval, StandsFor}
 
 -- no place of the list has the byte
 abbrev pub Lacks : ℕ → List ℕ → Type 0
@@ -60,7 +65,7 @@ cut_there xs n byte h =
     sym (take-append-drop n xs) ∙ ap (λ (t : List ℕ). take n xs ++ t)
     (rest ∙ ap (λ b. b ∷ drop (n + 1) xs) here)
 
--- ---- one space
+-- ---- one separator
 
 pub one_place : (byte : ℕ) (a b c d : List ℕ) → Lacks byte a → Lacks byte c →
     a ++ byte ∷ b ≡ c ++ byte ∷ d → (a ≡ c) × (b ≡ d)
@@ -73,139 +78,238 @@ one_place byte (x ∷ a) b (y ∷ c) d h k e =
     let more = one_place byte a b c d h.1 k.1 rest in
     (cc (first, more.0), more.1)
 
-digits_lack : (byte : ℕ) → is_hex_digit byte ≡ false → (xs : List ℕ) →
-    AllByRecursion (λ b. is_hex_digit b ≡ true) xs → Lacks byte xs
-digits_lack byte h [] k = tt
-digits_lack byte h (x ∷ xs) k = (
-  λ e. apart (sym h ∙ (ap is_hex_digit (sym e) ∙ k.0)),
-  digits_lack byte h xs k.1,
-)
-  where
-    apart : false ≡ true → ⊥
-    apart e = cc
+-- A list that lacks a byte is not cut at it.
+pub has_byte : (byte : ℕ) (line a b : List ℕ) → Lacks byte line → line ≡ a ++ byte ∷ b → ⊥
+has_byte byte [] [] b h e = cc
+has_byte byte (x ∷ xs) [] b h e = h.0 cc
+has_byte byte [] (y ∷ a) b h e = cc
+has_byte byte (x ∷ xs) (y ∷ a) b h e =
+    let rest : xs ≡ a ++ byte ∷ b = cc in has_byte byte xs a b h.1 rest
 
-pub hex_lacks : (byte : ℕ) → is_hex_digit byte ≡ false → (text bytes : List ℕ) →
-    decode_of text ≡ Ok bytes → Lacks byte text
-hex_lacks byte h text bytes e = digits_lack byte h text
-    (recursion_from_All (λ b. is_hex_digit b ≡ true) text (decode_of-ok text bytes e).1)
+pub lacks_newline : (notation : Notation) (text bytes : List ℕ) →
+    IsWritten notation text bytes → Lacks 0x0A text
+lacks_newline notation text bytes h = all_so (StandsWithin notation) (λ b. b ≢ 0x0A) (λ b w. w.0)
+    text (texts_stand_apart notation text bytes h)
 
-hex_lacks_space : (text bytes : List ℕ) → decode_of text ≡ Ok bytes → Lacks 0x20 text
-hex_lacks_space text bytes h = hex_lacks 0x20 refl text bytes h
+pub lacks_separator : (notation : Notation) (text bytes : List ℕ) →
+    IsWritten notation text bytes → Lacks (separator notation) text
+lacks_separator notation text bytes h = all_so (StandsWithin notation)
+    (λ b. b ≢ separator notation) (λ b w. w.1) text (texts_stand_apart notation text bytes h)
 
-pub cuts_there : (line key change : List ℕ) (space : ℕ) → All (λ b. b ≢ 0x20) (take space line) →
-    slice_get line space ≡ Some 0x20 →
-    key ≡ take space line → change ≡ drop (space + 1) line → CutsAtSpace line key change
-cuts_there line key change space h k e f = record {
-  is = cut_there line space 0x20 k ∙ (ap (λ (t : List ℕ). t ++ 0x20 ∷ drop (space + 1) line)
-      (sym e) ∙ ap (λ (t : List ℕ). key ++ 0x20 ∷ t) (sym f));
-  none = subst (λ (t : List ℕ). Lacks 0x20 t) (sym e) (lacks 0x20 (take space line) h);
+pub cuts_there : (byte : ℕ) (line key change : List ℕ) (place : ℕ) →
+    All (λ b. b ≢ byte) (take place line) → slice_get line place ≡ Some byte →
+    key ≡ take place line → change ≡ drop (place + 1) line → CutsAt byte line key change
+cuts_there byte line key change place h k e f = record {
+  is = cut_there line place byte k ∙ (ap (λ (t : List ℕ). t ++ byte ∷ drop (place + 1) line)
+      (sym e) ∙ ap (λ (t : List ℕ). key ++ byte ∷ t) (sym f));
+  none = subst (λ (t : List ℕ). Lacks byte t) (sym e) (lacks byte (take place line) h);
 }
 
--- Whatever the line stands for, its two texts lie before and behind the first space.
-pub texts_are : (line key_text change_text key : List ℕ) (change : Option (List ℕ)) →
-    CutsAtSpace line key_text change_text → (h : IsLineOf line key change) →
-    (h.key_text ≡ key_text) × (h.change_text ≡ change_text)
-texts_are line key_text change_text key change c h =
-    one_place 0x20 h.key_text h.change_text key_text change_text
-    (hex_lacks_space h.key_text key h.key_is) c.none (sym h.is ∙ c.is)
+pub no_cut : (byte : ℕ) (line : List ℕ) (n : ℕ) → All (λ b. b ≢ byte) (take n line) →
+    length line ≤ n → Lacks byte line
+no_cut byte line n h e =
+    lacks byte line (subst (λ (t : List ℕ). All (λ b. b ≢ byte) t) (take_all n line e) h)
 
-has_space : (line key : List ℕ) (change : Option (List ℕ)) → Lacks 0x20 line →
-    IsLineOf line key change → ⊥
-has_space line key change h k = go k.key_text k.change_text line k.is h
-  where
-    go : (a b line : List ℕ) → line ≡ a ++ 0x20 ∷ b → Lacks 0x20 line → ⊥
-    go [] b [] e h = cc
-    go [] b (x ∷ xs) e h = h.0 cc
-    go (y ∷ a) b [] e h = cc
-    go (y ∷ a) b (x ∷ xs) e h = let rest : xs ≡ a ++ 0x20 ∷ b = cc in go a b xs rest h.1
+-- Whatever the line stands for, its texts lie before and behind the first separator.
+pub pair_texts : (notation : Notation) (line key_text change_text key value : List ℕ) →
+    CutsAt (separator notation) line key_text change_text →
+    (h : IsPairLine notation line key value) →
+    (h.key_text ≡ key_text) × (h.value_text ≡ change_text)
+pair_texts notation line key_text change_text key value c h =
+    one_place (separator notation) h.key_text h.value_text key_text change_text
+    (lacks_separator notation h.key_text key h.key_is) c.none (sym h.is ∙ c.is)
 
--- No space: the line is bad.
-pub no_space : (line : List ℕ) (n : ℕ) → All (λ b. b ≢ 0x20) (take n line) → length line ≤ n →
-    IsBadLine line
-no_space line n h e key change k = has_space line key change
-    (lacks 0x20 line (subst (λ (t : List ℕ). All (λ b. b ≢ 0x20) t) (take_all n line e) h)) k
+pub dash_texts : (line key_text change_text key : List ℕ) →
+    CutsAt 0x20 line key_text change_text → (h : IsDashLine line key) →
+    (h.key_text ≡ key_text) × (0x2D ∷ [] ≡ change_text)
+dash_texts line key_text change_text key c h =
+    one_place 0x20 h.key_text (0x2D ∷ []) key_text change_text
+    (lacks_separator Hex h.key_text key h.key_is) c.none (sym h.is ∙ c.is)
 
--- No key before the space: the line is bad.
-pub no_key : (line key_text change_text : List ℕ) → CutsAtSpace line key_text change_text →
-    ((key : List ℕ) → decode_of key_text ≡ Ok key → ⊥) → IsBadLine line
-no_key line key_text change_text c none key change h =
-    none key (sym (ap decode_of (texts_are line key_text change_text key change c h).0) ∙ h.key_is)
+-- ---- a line without a separator
 
--- Neither a dash nor a value behind it: the line is bad.
-pub no_change : (line key_text change_text : List ℕ) → CutsAtSpace line key_text change_text →
-    (change_text ≡ 0x2D ∷ [] → ⊥) →
-    ((value : List ℕ) → decode_of change_text ≡ Ok value → ⊥) → IsBadLine line
-no_change line key_text change_text c dash none key None h =
-    dash (sym (texts_are line key_text change_text key None c h).1 ∙ h.change_is)
-no_change line key_text change_text c dash none key (Some value) h =
-    none value (sym (ap decode_of (texts_are line key_text change_text key (Some value) c h).1) ∙
-    h.change_is)
+bare_removes : (notation : Notation) (removals : Bool) (line key : List ℕ) →
+    Lacks (separator notation) line → reads_bare_keys notation removals ≡ false →
+    IsRemovalLine notation removals line key → ⊥
+bare_removes Hex removals line key lacks e h =
+    has_byte 0x20 line h.key_text (0x2D ∷ []) lacks h.is
+bare_removes Text true line key lacks e h = cc
+bare_removes Text false line key lacks e h = h
 
-pub line_is : (line key_text change_text key : List ℕ) (change : Option (List ℕ)) →
-    CutsAtSpace line key_text change_text → decode_of key_text ≡ Ok key →
-    IsChangeText change_text change → IsLineOf line key change
-line_is line key_text change_text key change c h k =
-    record { key_text = key_text; change_text = change_text; is = c.is; key_is = h; change_is = k }
+bare_unread : (notation : Notation) (removals : Bool) (line key : List ℕ) →
+    reads_bare_keys notation removals ≡ true →
+    ((bytes : List ℕ) → IsWritten notation line bytes → ⊥) →
+    IsRemovalLine notation removals line key → ⊥
+bare_unread Hex removals line key e none h = cc
+bare_unread Text true line key e none h = none key h
+bare_unread Text false line key e none h = h
 
--- ---- what is wrong with a text in hexadecimal
+bare_is : (notation : Notation) (removals : Bool) (line key : List ℕ) →
+    reads_bare_keys notation removals ≡ true → IsWritten notation line key →
+    IsRemovalLine notation removals line key
+bare_is Hex removals line key e h = absurd (let none : false ≡ true = e in cc)
+bare_is Text true line key e h = h
+bare_is Text false line key e h = absurd (let none : false ≡ true = e in cc)
 
-pub wrong_key : (line key_text change_text : List ℕ) (flaw : LineFlaw) →
-    CutsAtSpace line key_text change_text → IsNoHex key_text flaw → IsWrongLine line flaw
-wrong_key line key_text change_text flaws.Memory c h = tt
-wrong_key line key_text change_text flaws.Bad c h = no_key line key_text change_text c h
-wrong_key line key_text change_text flaws.KeyTooLong c h = absurd h
-wrong_key line key_text change_text flaws.ValueTooLong c h = absurd h
+bad_bare : (form : LineForm) (line : List ℕ) → Lacks (separator form.notation) line →
+    ((key : List ℕ) → IsRemovalLine form.notation form.removals line key → ⊥) → IsBadLine form line
+bad_bare form line lacks none key None h = none key h
+bad_bare form line lacks none key (Some value) h =
+    has_byte (separator form.notation) line h.key_text h.value_text lacks h.is
 
-pub wrong_change : (line key_text change_text : List ℕ) (flaw : LineFlaw) →
-    CutsAtSpace line key_text change_text → (change_text ≡ 0x2D ∷ [] → ⊥) →
-    IsNoHex change_text flaw → IsWrongLine line flaw
-wrong_change line key_text change_text flaws.Memory c dash h = tt
-wrong_change line key_text change_text flaws.Bad c dash h =
-    no_change line key_text change_text c dash h
-wrong_change line key_text change_text flaws.KeyTooLong c dash h = absurd h
-wrong_change line key_text change_text flaws.ValueTooLong c dash h = absurd h
+-- No removal is read of it.
+pub bare_refused : (form : LineForm) (line : List ℕ) → Lacks (separator form.notation) line →
+    reads_bare_keys form.notation form.removals ≡ false → IsBadLine form line
+bare_refused form line lacks e = bad_bare form line lacks
+    (λ key h. bare_removes form.notation form.removals line key lacks e h)
 
--- ---- what is too long
+-- It is not written as a key is.
+pub wrong_bare : (form : LineForm) (line : List ℕ) (flaw : LineFlaw) →
+    Lacks (separator form.notation) line → reads_bare_keys form.notation form.removals ≡ true →
+    IsNotWritten form.notation line flaw → IsWrongLine form line flaw
+wrong_bare form line flaws.Memory lacks e h = tt
+wrong_bare form line flaws.Bad lacks e h = bad_bare form line lacks
+    (λ key k. bare_unread form.notation form.removals line key e h k)
+wrong_bare form line flaws.KeyTooLong lacks e h = absurd h
+wrong_bare form line flaws.ValueTooLong lacks e h = absurd h
 
-pub long_removal : {A : Type 0} (line key_text change_text key : List ℕ) (fault : EntryFault)
-    (n : ℕ) → CutsAtSpace line key_text change_text →
-    decode_of key_text ≡ Ok key → change_text ≡ 0x2D ∷ [] → n ≡ length key →
-    ((◌≡◌ {A = Result A EntryFault} (Err fault) (Err entries.KeyTooLong)) ↔ (1024 < n)) →
-    (◌≡◌ {A = Result A EntryFault} (Err fault) (Err entries.ValueTooLong) → ⊥) →
-    IsWrongLine line (flaw_of fault)
-long_removal line key_text change_text key entries.KeyTooLong n c h k e long other =
-    record {
-      key = key;
-      change = None;
-      is = line_is line key_text change_text key None c h k;
-      over = omega (arith, long.0 refl);
-    }
-long_removal line key_text change_text key entries.ValueTooLong n c h k e long other =
-    absurd (other refl)
+pub bare_line : (form : LineForm) (line key : List ℕ) →
+    reads_bare_keys form.notation form.removals ≡ true → IsWritten form.notation line key →
+    IsLineOf form line key None
+bare_line form line key e h = bare_is form.notation form.removals line key e h
 
-pub long_pair : {A : Type 0} (line key_text change_text key value : List ℕ) (fault : EntryFault)
-    (n m : ℕ) → CutsAtSpace line key_text change_text →
-    decode_of key_text ≡ Ok key → decode_of change_text ≡ Ok value → n ≡ length key →
-    m ≡ length value →
-    ((◌≡◌ {A = Result A EntryFault} (Err fault) (Err entries.KeyTooLong)) ↔ (1024 < n)) →
-    ((◌≡◌ {A = Result A EntryFault} (Err fault) (Err entries.ValueTooLong)) ↔
-    ((n ≤ 1024) × (65536 < m))) → IsWrongLine line (flaw_of fault)
-long_pair line key_text change_text key value entries.KeyTooLong n m c h k e f long longer =
-    record {
-      key = key;
-      change = Some value;
-      is = line_is line key_text change_text key (Some value)
-          c h k;
-      over = omega (arith, long.0 refl);
-    }
-long_pair line key_text change_text key value entries.ValueTooLong n m c h k e f long longer =
-    let over = longer.0 refl in record {
-      key = key;
-      value = value;
-      is = line_is line key_text change_text key (Some value) c h k;
-      within = omega (arith, over.0);
-      over = omega (arith, over.1);
-    }
+-- ---- a line that is cut at its separator
+
+key_removed : (notation : Notation) (removals : Bool) (line key_text change_text key : List ℕ) →
+    CutsAt (separator notation) line key_text change_text →
+    ((bytes : List ℕ) → IsWritten notation key_text bytes → ⊥) →
+    IsRemovalLine notation removals line key → ⊥
+key_removed Hex removals line key_text change_text key c none h =
+    none key (subst (λ t. IsWritten Hex t key)
+    (dash_texts line key_text change_text key c h).0 h.key_is)
+key_removed Text true line key_text change_text key c none h =
+    has_byte 0x09 line key_text change_text (lacks_separator Text line key h) c.is
+key_removed Text false line key_text change_text key c none h = h
+
+change_removed : (notation : Notation) (removals : Bool) (line key_text change_text key : List ℕ) →
+    CutsAt (separator notation) line key_text change_text →
+    (MarksRemoval notation change_text → ⊥) → IsRemovalLine notation removals line key → ⊥
+change_removed Hex removals line key_text change_text key c other h =
+    other (sym (dash_texts line key_text change_text key c h).1)
+change_removed Text true line key_text change_text key c other h =
+    has_byte 0x09 line key_text change_text (lacks_separator Text line key h) c.is
+change_removed Text false line key_text change_text key c other h = h
+
+-- There is no key before the separator.
+no_key : (form : LineForm) (line key_text change_text : List ℕ) →
+    CutsAt (separator form.notation) line key_text change_text →
+    ((bytes : List ℕ) → IsWritten form.notation key_text bytes → ⊥) → IsBadLine form line
+no_key form line key_text change_text c none key None h =
+    key_removed form.notation form.removals line key_text change_text key c none h
+no_key form line key_text change_text c none key (Some value) h =
+    none key (subst (λ t. IsWritten form.notation t key)
+    (pair_texts form.notation line key_text change_text key value c h).0 h.key_is)
+
+-- Neither a mark of a removal nor a value is behind it.
+no_change : (form : LineForm) (line key_text change_text : List ℕ) →
+    CutsAt (separator form.notation) line key_text change_text →
+    (MarksRemoval form.notation change_text → ⊥) →
+    ((bytes : List ℕ) → IsWritten form.notation change_text bytes → ⊥) → IsBadLine form line
+no_change form line key_text change_text c other none key None h =
+    change_removed form.notation form.removals line key_text change_text key c other h
+no_change form line key_text change_text c other none key (Some value) h =
+    none value (subst (λ t. IsWritten form.notation t value)
+    (pair_texts form.notation line key_text change_text key value c h).1 h.value_is)
+
+pub wrong_key : (form : LineForm) (line key_text change_text : List ℕ) (flaw : LineFlaw) →
+    CutsAt (separator form.notation) line key_text change_text →
+    IsNotWritten form.notation key_text flaw → IsWrongLine form line flaw
+wrong_key form line key_text change_text flaws.Memory c h = tt
+wrong_key form line key_text change_text flaws.Bad c h = no_key form line key_text change_text c h
+wrong_key form line key_text change_text flaws.KeyTooLong c h = absurd h
+wrong_key form line key_text change_text flaws.ValueTooLong c h = absurd h
+
+pub wrong_change : (form : LineForm) (line key_text change_text : List ℕ) (flaw : LineFlaw) →
+    CutsAt (separator form.notation) line key_text change_text →
+    (MarksRemoval form.notation change_text → ⊥) →
+    IsNotWritten form.notation change_text flaw → IsWrongLine form line flaw
+wrong_change form line key_text change_text flaws.Memory c other h = tt
+wrong_change form line key_text change_text flaws.Bad c other h =
+    no_change form line key_text change_text c other h
+wrong_change form line key_text change_text flaws.KeyTooLong c other h = absurd h
+wrong_change form line key_text change_text flaws.ValueTooLong c other h = absurd h
+
+removed_is : (notation : Notation) (removals : Bool) (line key_text change_text key : List ℕ) →
+    CutsAt (separator notation) line key_text change_text → IsWritten notation key_text key →
+    MarksRemoval notation change_text → IsRemovalLine notation removals line key
+removed_is Hex removals line key_text change_text key c h mark = record {
+  key_text = key_text;
+  is = c.is ∙ ap (λ (t : List ℕ). key_text ++ 0x20 ∷ t) mark;
+  key_is = h;
+}
+removed_is Text removals line key_text change_text key c h mark = absurd mark
+
+pub line_removed : (form : LineForm) (line key_text change_text key : List ℕ) →
+    CutsAt (separator form.notation) line key_text change_text →
+    IsWritten form.notation key_text key → MarksRemoval form.notation change_text →
+    IsLineOf form line key None
+line_removed form line key_text change_text key c h mark =
+    removed_is form.notation form.removals line key_text change_text key c h mark
+
+pub line_put : (form : LineForm) (line key_text change_text key value : List ℕ) →
+    CutsAt (separator form.notation) line key_text change_text →
+    IsWritten form.notation key_text key → IsWritten form.notation change_text value →
+    IsLineOf form line key (Some value)
+line_put form line key_text change_text key value c h k = record {
+  key_text = key_text;
+  value_text = change_text;
+  is = c.is;
+  key_is = h;
+  value_is = k;
+}
+
+-- ---- the record of a line
+
+stands : (form : LineForm) (line key : List ℕ) (change : Option (List ℕ)) (r : Record) →
+    IsLineOf form line key change → IsChangeOf key change r → StandsFor form line r
+stands form line key change r h k = (
+  subst (λ x. IsLineOf form line x r.value) (sym k.0)
+      (subst (λ v. IsLineOf form line key v) (sym k.1) h),
+  k.2,
+)
+
+long_pair : (form : LineForm) (line key value : List ℕ) (flaw : LineFlaw) →
+    IsLineOf form line key (Some value) → IsLongPair key value flaw → IsWrongLine form line flaw
+long_pair form line key value flaw h (inl k) = subst (IsWrongLine form line) (sym k.0)
+    (record { key = key; change = Some value; is = h; over = k.1 })
+long_pair form line key value flaw h (inr k) = subst (IsWrongLine form line) (sym k.0)
+    (record { key = key; value = value; is = h; within = k.1; over = k.2 })
+
+pub record_stands : (form : LineForm) (line key : List ℕ) (change : Option (List ℕ))
+    (result : Result Record LineFlaw) → IsLineOf form line key change →
+    IfOk result (λ r. IsChangeOf key change r) → IfOk result (λ r. StandsFor form line r)
+record_stands form line key change (Ok r) h k = stands form line key change r h k
+record_stands form line key change (Err flaw) h k = tt
+
+-- What is wrong with a part of a line is wrong with the line.
+pub part_wrong : (form : LineForm) (line : List ℕ) (P : LineFlaw → Type 0)
+    (result : Result Record LineFlaw) → ((flaw : LineFlaw) → P flaw → IsWrongLine form line flaw) →
+    IfErr result P → IfErr result (λ flaw. IsWrongLine form line flaw)
+part_wrong form line P (Ok r) so h = tt
+part_wrong form line P (Err flaw) so h = so flaw h
+
+pub removal_wrong : (form : LineForm) (line key : List ℕ) (result : Result Record LineFlaw) →
+    IsLineOf form line key None → IfErr result (λ flaw. IsLongKey key flaw) →
+    IfErr result (λ flaw. IsWrongLine form line flaw)
+removal_wrong form line key (Ok r) h k = tt
+removal_wrong form line key (Err flaw) h k = subst (IsWrongLine form line) (sym k.0)
+    (record { key = key; change = None; is = h; over = k.1 })
+
+pub put_wrong : (form : LineForm) (line key value : List ℕ) (result : Result Record LineFlaw) →
+    IsLineOf form line key (Some value) → IfErr result (λ flaw. IsLongPair key value flaw) →
+    IfErr result (λ flaw. IsWrongLine form line flaw)
+put_wrong form line key value (Ok r) h k = tt
+put_wrong form line key value (Err flaw) h k = long_pair form line key value flaw h k
 
 -- ---- slices behind a place
 

@@ -6,25 +6,28 @@ use Rattle.std.proofs.lemmas.List.Concat.{flat_map-append}
 use Rattle.std.specs.List.{flat_map, AllZip}
 use Rattle.prolly_entry.specs.Record.{Record}
 use Rattle.prolly_entry.specs.Spelling.{record_spelling}
+use Rattle.prolly_text.specs.declared.notation.Notation.{Notation}
+use Rattle.prolly_text.specs.declared.notation.Notation.TheVariants.{Hex, Text}
+use Rattle.prolly_tool.specs.declared.line_form.LineForm.{LineForm}
 use Rattle.prolly_tool.specs.declared.line.LineFlaw.{LineFlaw}
 use Rattle.prolly_tool.specs.declared.line.LineFlaw.TheVariants as flaws
 use Rattle.prolly_tool.specs.declared.pack.PackFault.{PackFault}
 use Rattle.prolly_tool.specs.Lines.{lines_of}
 use Rattle.prolly_tool.specs.Pack.{StandsFor, IsWrongLine, IsFirstWrong, IsPackFault, IsLineFault}
-use Rattle.prolly_tool.specs.Pack.{Packs, PacksLine, fault_at}
+use Rattle.prolly_tool.specs.Pack.{Packs, PacksLine, bad_line, fault_at}
 
 -- Some lines are packed, and the rest follows.
-pub record IsUnderWay (text old out rest : List ℕ) (count : ℕ) : Type 0 where
+pub record IsUnderWay (form : LineForm) (text old out rest : List ℕ) (count : ℕ) : Type 0 where
   pub before : List (List ℕ)
   pub records : List Record
   pub whole : lines_of text ≡ before ++ lines_of rest
-  pub stand : AllZip StandsFor before records
+  pub stand : AllZip (StandsFor form) before records
   pub appended : out ≡ old ++ flat_map record_spelling records
   pub count_is : count ≡ length before
   pub few : count + length rest ≤ length text
 
-pub none_packed : (text old : List ℕ) → IsUnderWay text old old text 0
-none_packed text old = record {
+pub none_packed : (form : LineForm) (text old : List ℕ) → IsUnderWay form text old old text 0
+none_packed form text old = record {
   before = [];
   records = [];
   whole = refl;
@@ -37,21 +40,23 @@ none_packed text old = record {
 snoc_same : {A : Type 0} (xs ys : List A) (x : A) → (xs ++ x ∷ []) ++ ys ≡ xs ++ x ∷ ys
 snoc_same xs ys x = append_assoc xs (x ∷ []) ys
 
-zip_snoc : (ls : List (List ℕ)) (rs : List Record) (line : List ℕ) (r : Record) →
-    AllZip StandsFor ls rs → StandsFor line r → AllZip StandsFor (ls ++ line ∷ []) (rs ++ r ∷ [])
-zip_snoc [] [] line r h k = (k, tt)
-zip_snoc [] (s ∷ rs) line r h k = absurd h
-zip_snoc (l ∷ ls) [] line r h k = absurd h
-zip_snoc (l ∷ ls) (s ∷ rs) line r h k = (h.0, zip_snoc ls rs line r h.1 k)
+zip_snoc : (form : LineForm) (ls : List (List ℕ)) (rs : List Record) (line : List ℕ) (r : Record) →
+    AllZip (StandsFor form) ls rs → StandsFor form line r → AllZip (StandsFor form)
+    (ls ++ line ∷ []) (rs ++ r ∷ [])
+zip_snoc form [] [] line r h k = (k, tt)
+zip_snoc form [] (s ∷ rs) line r h k = absurd h
+zip_snoc form (l ∷ ls) [] line r h k = absurd h
+zip_snoc form (l ∷ ls) (s ∷ rs) line r h k = (h.0, zip_snoc form ls rs line r h.1 k)
 
-pub one_packed : (text old out out' rest line next : List ℕ) (count : ℕ) →
-    IsUnderWay text old out rest count → lines_of rest ≡ line ∷ lines_of next →
-    length next < length rest → PacksLine line out out' → IsUnderWay text old out' next (count + 1)
-one_packed text old out out' rest line next count h e less k = record {
+pub one_packed : (form : LineForm) (text old out out' rest line next : List ℕ) (count : ℕ) →
+    IsUnderWay form text old out rest count → lines_of rest ≡ line ∷ lines_of next →
+    length next < length rest → PacksLine form line out out' → IsUnderWay form text old out' next
+    (count + 1)
+one_packed form text old out out' rest line next count h e less k = record {
   before = h.before ++ line ∷ [];
   records = h.records ++ k.one ∷ [];
   whole = h.whole ∙ (ap (λ ls. h.before ++ ls) e ∙ sym (snoc_same h.before (lines_of next) line));
-  stand = zip_snoc h.before h.records line k.one h.stand k.stands;
+  stand = zip_snoc form h.before h.records line k.one h.stand k.stands;
   appended = k.appended ∙ (ap (λ (t : List ℕ). t ++ record_spelling k.one) h.appended
       ∙ (append_assoc old (flat_map record_spelling h.records) (record_spelling k.one)
       ∙ ap (λ (t : List ℕ). old ++ t) (sym (flat_map-append record_spelling h.records (k.one ∷ [])
@@ -61,31 +66,34 @@ one_packed text old out out' rest line next count h e less k = record {
   few = let f = h.few in omega arith;
 }
 
-zip_length : (ls : List (List ℕ)) (rs : List Record) → AllZip StandsFor ls rs →
+zip_length : (form : LineForm) (ls : List (List ℕ)) (rs : List Record) → AllZip (StandsFor form) ls
+    rs →
     length ls ≡ length rs
-zip_length [] [] h = refl
-zip_length [] (r ∷ rs) h = absurd h
-zip_length (l ∷ ls) [] h = absurd h
-zip_length (l ∷ ls) (r ∷ rs) h = let more = zip_length ls rs h.1 in omega arith
+zip_length form [] [] h = refl
+zip_length form [] (r ∷ rs) h = absurd h
+zip_length form (l ∷ ls) [] h = absurd h
+zip_length form (l ∷ ls) (r ∷ rs) h = let more = zip_length form ls rs h.1 in omega arith
 
-pub all_packed : (text old out rest : List ℕ) (count : ℕ) → IsUnderWay text old out rest count →
-    rest ≡ [] → Packs text old out count
-all_packed text old out rest count h e =
+pub all_packed : (form : LineForm) (text old out rest : List ℕ) (count : ℕ) → IsUnderWay form text
+    old out rest count →
+    rest ≡ [] → Packs form text old out count
+all_packed form text old out rest count h e =
     let all : lines_of text ≡ h.before = h.whole ∙
     (ap (λ (t : List ℕ). h.before ++ lines_of t) e ∙ append-nil h.before) in record {
       records = h.records;
-      stand = subst (λ ls. AllZip StandsFor ls h.records) (sym all) h.stand;
+      stand = subst (λ ls. AllZip (StandsFor form) ls h.records) (sym all) h.stand;
       appended = h.appended;
-      count_is = h.count_is ∙ zip_length h.before h.records h.stand;
+      count_is = h.count_is ∙ zip_length form h.before h.records h.stand;
     }
 
-pub line_refused : (text old out rest line next : List ℕ) (count : ℕ) (fault : PackFault) →
-    IsUnderWay text old out rest count → lines_of rest ≡ line ∷ lines_of next →
-    IsLineFault line count fault → IsPackFault text fault
-line_refused text old out rest line next count fault h e k =
-    subst (IsPackFault text) (sym k.is) (go k.flaw k.wrong)
+pub line_refused : (form : LineForm) (text old out rest line next : List ℕ) (count : ℕ)
+    (fault : PackFault) → IsUnderWay form text old out rest count →
+    lines_of rest ≡ line ∷ lines_of next → IsLineFault form line count fault →
+    IsPackFault form text fault
+line_refused form text old out rest line next count fault h e k =
+    subst (IsPackFault form text) (sym k.is) (go k.flaw k.wrong)
   where
-    first : (flaw : LineFlaw) → IsWrongLine line flaw → IsFirstWrong text count flaw
+    first : (flaw : LineFlaw) → IsWrongLine form line flaw → IsFirstWrong form text count flaw
     first flaw wrong = record {
       before = h.before;
       line = line;
@@ -97,8 +105,14 @@ line_refused text old out rest line next count fault h e k =
       wrong = wrong;
     }
 
-    go : (flaw : LineFlaw) → IsWrongLine line flaw → IsPackFault text (fault_at flaw count)
+    bad : (notation : Notation) → form.notation ≡ notation → IsWrongLine form line flaws.Bad →
+        IsPackFault form text (bad_line notation count)
+    bad Hex is wrong = (is, first flaws.Bad wrong)
+    bad Text is wrong = (is, first flaws.Bad wrong)
+
+    go : (flaw : LineFlaw) → IsWrongLine form line flaw →
+        IsPackFault form text (fault_at form.notation flaw count)
     go flaws.Memory wrong = tt
-    go flaws.Bad wrong = first flaws.Bad wrong
+    go flaws.Bad wrong = bad form.notation refl wrong
     go flaws.KeyTooLong wrong = first flaws.KeyTooLong wrong
     go flaws.ValueTooLong wrong = first flaws.ValueTooLong wrong

@@ -28,6 +28,7 @@ use Rattle.prolly_proof.specs.declared.root_fault.RootFault.{RootFault}
 use Rattle.prolly_proof.specs.declared.root_fault.RootFault.TheVariants as roots
 use Rattle.prolly_tree.specs.File.{root_reference}
 use Rattle.prolly_tree.specs.Tree.{last_key}
+use Rattle.prolly_text.specs.declared.notation.Notation.{Notation}
 use Rattle.prolly_tool.specs.LookUps.{pair_lines, pair_text}
 use Rattle.prolly_tool.specs.Outputs.{TookAll, TookPart, TookPrefix, TookUntil}
 use Rattle.prolly_tool.specs.RootScans.{AreTooFew, IsDoneScan, IsFlushed, IsOpened, IsStoppedScan}
@@ -103,29 +104,29 @@ ends_full (one ∷ two ∷ lists) found some ends = ends_full (two ∷ lists) fo
 
 -- ---- lines
 
-few_lines : (limit : ℕ) (lists : List (List Pair)) → AreTooFew limit lists →
-    pair_lines (joined lists) ≡ limited_lines limit lists
-few_lines limit lists few =
-    ap pair_lines (sym (take_all limit (joined lists) (omega (arith, few.0))))
+few_lines : (notation : Notation) (limit : ℕ) (lists : List (List Pair)) → AreTooFew limit lists →
+    pair_lines notation (joined lists) ≡ limited_lines notation limit lists
+few_lines notation limit lists few =
+    ap (pair_lines notation) (sym (take_all limit (joined lists) (omega (arith, few.0))))
 
 -- The lines of what one more look-up found stand behind the others.
-lines_more : (limit left : ℕ) (lists : List (List Pair)) (found : List Pair) →
+lines_more : (notation : Notation) (limit left : ℕ) (lists : List (List Pair)) (found : List Pair) →
     left ≡ limit - length (joined lists) → 0 < left →
-    limited_lines limit (lists ++ found ∷ []) ≡
-    limited_lines limit lists ++ pair_lines (take left found)
-lines_more limit left lists found is some =
+    limited_lines notation limit (lists ++ found ∷ []) ≡
+    limited_lines notation limit lists ++ pair_lines notation (take left found)
+lines_more notation limit left lists found is some =
     let all = joined lists in
     let room : limit ≡ length all + left = omega (arith, is) in
     let whole : take limit all ≡ all = take_all limit all (omega (arith, is)) in
-    ap (λ ps. pair_lines (take limit ps)) (joined_more lists found) ∙
-    ap (λ n. pair_lines (take n (all ++ found))) room ∙
-    ap pair_lines (take-append-add all found left) ∙
-    flat_map-append (λ p. pair_text p ++ 0x0A ∷ []) all (take left found) ∙
-    ap (λ ps. pair_lines ps ++ pair_lines (take left found)) (sym whole)
+    ap (λ ps. pair_lines notation (take limit ps)) (joined_more lists found) ∙
+    ap (λ n. pair_lines notation (take n (all ++ found))) room ∙
+    ap (pair_lines notation) (take-append-add all found left) ∙
+    flat_map-append (λ p. pair_text notation p ++ 0x0A ∷ []) all (take left found) ∙
+    ap (λ ps. pair_lines notation ps ++ pair_lines notation (take left found)) (sym whole)
 
-take_none : (n : ℕ) → pair_lines (take n []) ≡ []
-take_none zero = refl
-take_none (suc n) = refl
+take_none : (notation : Notation) (n : ℕ) → pair_lines notation (take n []) ≡ []
+take_none notation zero = refl
+take_none notation (suc n) = refl
 
 -- ---- the sink
 
@@ -206,6 +207,7 @@ module _ {W : Type 0} (seen : W → SinkView) where
 -- ---- a scan on its way
 
 module _ {W : Type 0} (seen : W → SinkView) (version : Version) (root from : List ℕ) (limit : ℕ)
+    (notation : Notation)
   where
     -- So much is left of the limit, and the next look-up is that of this key.
     pub record IsScanning (left : ℕ) (next : List ℕ) (old new : W) : Type 0 where
@@ -215,7 +217,7 @@ module _ {W : Type 0} (seen : W → SinkView) (version : Version) (root from : L
       pub full : ¬ (EndsEmpty lists)
       pub next_is : next ≡ behind from lists
       pub left_is : left ≡ limit - length (joined lists)
-      pub took : TookSoFar seen (limited_lines limit lists) old new
+      pub took : TookSoFar seen (limited_lines notation limit lists) old new
 
     pub scan_begins : (left : ℕ) (next : List ℕ) (old : W) → left ≡ limit → next ≡ from →
         IsScanning left next old old
@@ -226,7 +228,7 @@ module _ {W : Type 0} (seen : W → SinkView) (version : Version) (root from : L
       full = λ ends. ends;
       next_is = is;
       left_is = omega (arith, all);
-      took = subst (λ bytes. TookSoFar seen bytes old old) (sym (take_none limit))
+      took = subst (λ bytes. TookSoFar seen bytes old old) (sym (take_none notation limit))
           (took_none seen old);
     }
 
@@ -235,18 +237,19 @@ module _ {W : Type 0} (seen : W → SinkView) (version : Version) (root from : L
       so_far = record { lists = s.lists; ways = s.ways; are = s.are }
 
       -- The limit is reached.
-      pub scan_full : left ≡ 0 → IsDoneScan version root from limit
+      pub scan_full : left ≡ 0 → IsDoneScan version root from limit notation
           (λ bytes. TookAll seen bytes old mid)
       scan_full none = (so_far, inl (omega (arith, none, s.left_is)), s.took.all)
 
       -- Memory is wanted before more is sought.
-      pub scan_wants : (device : DeviceView) → IsStoppedScan device version root from limit
+      pub scan_wants : (device : DeviceView) → IsStoppedScan device version root from limit notation
           (λ bytes. TookAll seen bytes old mid)
           (λ fault bytes. TookUntil seen fault bytes old mid) (Run Memory)
       scan_wants device = (
         so_far,
-        took_front seen (limited_lines limit s.lists) old mid s.took (limited_lines limit s.lists)
-            [] (sym (append-nil (limited_lines limit s.lists))),
+        took_front seen (limited_lines notation limit s.lists) old mid s.took
+            (limited_lines notation limit s.lists)
+            [] (sym (append-nil (limited_lines notation limit s.lists))),
       )
 
       module _ (some : 0 < left) where
@@ -256,13 +259,15 @@ module _ {W : Type 0} (seen : W → SinkView) (version : Version) (root from : L
         -- A look-up has a fault.
         pub scan_fails : (device : DeviceView) (fault : RootFault) →
             AnswersLawful {T = Unit {0}} device version root (Err fault) →
-            IsStoppedScan device version root from limit (λ bytes. TookAll seen bytes old mid)
+            IsStoppedScan device version root from limit notation
+            (λ bytes. TookAll seen bytes old mid)
             (λ fault bytes. TookUntil seen fault bytes old mid) (Root fault)
         scan_fails device fault lawful = (
           so_far,
           (
             too_few,
-            subst (λ bytes. TookAll seen bytes old mid) (sym (few_lines limit s.lists too_few))
+            subst (λ bytes. TookAll seen bytes old mid) (sym
+                (few_lines notation limit s.lists too_few))
                 s.took.all,
             lawful,
           ),
@@ -278,18 +283,21 @@ module _ {W : Type 0} (seen : W → SinkView) (version : Version) (root from : L
                 (subst (λ key. IsScanWay version root key way found) s.next_is more);
           }
 
-          text : limited_lines limit (s.lists ++ found ∷ []) ≡
-              limited_lines limit s.lists ++ pair_lines (take left found)
-          text = lines_more limit left s.lists found s.left_is some
+          text : limited_lines notation limit (s.lists ++ found ∷ []) ≡
+              limited_lines notation limit s.lists ++ pair_lines notation (take left found)
+          text = lines_more notation limit left s.lists found s.left_is some
 
           -- It finds that there are no more.
-          pub scan_ends : found ≡ [] → IsDoneScan version root from limit
+          pub scan_ends : found ≡ [] → IsDoneScan version root from limit notation
               (λ bytes. TookAll seen bytes old mid)
           scan_ends none =
-              let same : limited_lines limit s.lists ≡ limited_lines limit with_more.lists =
-              sym (text ∙ ap (λ ps. limited_lines limit s.lists ++ pair_lines (take left ps))
-              none ∙ ap (λ bytes. limited_lines limit s.lists ++ bytes) (take_none left) ∙
-              append-nil (limited_lines limit s.lists)) in (
+              let same : limited_lines notation limit s.lists ≡ limited_lines notation limit
+              with_more.lists =
+              sym (text ∙ ap (λ ps. limited_lines notation limit s.lists ++ pair_lines notation
+              (take left ps))
+              none ∙ ap (λ bytes. limited_lines notation limit s.lists ++ bytes)
+              (take_none notation left) ∙
+              append-nil (limited_lines notation limit s.lists)) in (
                 with_more,
                 inr (subst (λ ps. EndsEmpty (s.lists ++ ps ∷ [])) (sym none) (ends_empty s.lists)),
                 subst (λ bytes. TookAll seen bytes old mid) same s.took.all,
@@ -298,7 +306,7 @@ module _ {W : Type 0} (seen : W → SinkView) (version : Version) (root from : L
           module _ (new : W) where
             -- Its lines are written.
             pub scan_goes_on : (p : Pair) (rest : ℕ) (key : List ℕ) →
-                TookAll seen (pair_lines (take left found)) mid new →
+                TookAll seen (pair_lines notation (take left found)) mid new →
                 ((seen mid).is_keeping ≡ true → (seen new).is_keeping ≡ true) →
                 slice_get found (length found - 1) ≡ Some p → key ≡ next_key p.key →
                 rest ≡ left - length found → IsScanning rest key old new
@@ -317,19 +325,22 @@ module _ {W : Type 0} (seen : W → SinkView) (version : Version) (root from : L
                 length-append (joined s.lists) found,
               );
               took = subst (λ bytes. TookSoFar seen bytes old new) (sym text)
-                  (took_also seen (limited_lines limit s.lists) (pair_lines (take left found)) old
+                  (took_also seen (limited_lines notation limit s.lists)
+                  (pair_lines notation (take left found)) old
                   mid new s.took t keeping);
             }
 
             -- A part of them is.
             pub scan_unwritten : (device : DeviceView) (fault : RunFault) →
-                TookUntil seen fault (pair_lines (take left found)) mid new →
-                IsStoppedScan device version root from limit (λ bytes. TookAll seen bytes old new)
+                TookUntil seen fault (pair_lines notation (take left found)) mid new →
+                IsStoppedScan device version root from limit notation
+                (λ bytes. TookAll seen bytes old new)
                 (λ fault bytes. TookUntil seen fault bytes old new) (Run fault)
             scan_unwritten device fault t = (
               with_more,
               subst (λ bytes. TookUntil seen fault bytes old new) (sym text)
-                  (until_also seen (limited_lines limit s.lists) (pair_lines (take left found)) old
+                  (until_also seen (limited_lines notation limit s.lists)
+                  (pair_lines notation (take left found)) old
                   mid new s.took fault t),
             )
 
@@ -337,31 +348,36 @@ module _ {W : Type 0} (seen : W → SinkView) (version : Version) (root from : L
 
 -- A scan stops at a fault of a look-up, or at one of writing.
 stop_cases : (device : DeviceView) (version : Version) (root : List ℕ) (limit : ℕ)
+    (notation : Notation)
     (took_all : List ℕ → Type 0) (took_until : RunFault → List ℕ → Type 0) (fault : Fault)
     (lists : List (List Pair)) (goal : Fault → Type 0) →
-    ((of_root : RootFault) → AreTooFew limit lists × took_all (pair_lines (joined lists)) ×
+    ((of_root : RootFault) → AreTooFew limit lists × took_all (pair_lines notation (joined lists)) ×
     AnswersLawful {T = Unit {0}} device version root (Err of_root) → goal (Root of_root)) →
-    ((of_run : RunFault) → took_until of_run (limited_lines limit lists) → goal (Run of_run)) →
-    StoppedScan device version root limit took_all took_until fault lists → goal fault
-stop_cases device version root limit took_all took_until (faults.Run f) lists goal a b t = b f t
-stop_cases device version root limit took_all took_until (faults.Pack f) lists goal a b t = absurd t
-stop_cases device version root limit took_all took_until (faults.Check f) lists goal a b t =
+    ((of_run : RunFault) → took_until of_run (limited_lines notation limit lists) → goal
+    (Run of_run)) →
+    StoppedScan device version root limit notation took_all took_until fault lists → goal fault
+stop_cases d v r l n took until (faults.Run f) lists goal a b t = b f t
+stop_cases d v r l n took until (faults.Pack f) lists goal a b t = absurd t
+stop_cases d v r l n took until (faults.Check f) lists goal a b t =
     absurd t
-stop_cases device version root limit took_all took_until (faults.CheckOld f) lists goal a b t =
+stop_cases d v r l n took until (faults.CheckOld f) lists goal a b t =
     absurd t
-stop_cases device version root limit took_all took_until (faults.CheckNew f) lists goal a b t =
+stop_cases d v r l n took until (faults.CheckNew f) lists goal a b t =
     absurd t
-stop_cases device version root limit took_all took_until (faults.Proof f) lists goal a b t =
+stop_cases d v r l n took until (faults.Proof f) lists goal a b t =
     absurd t
-stop_cases device version root limit took_all took_until (faults.Root f) lists goal a b t = a f t
-stop_cases device version root limit took_all took_until faults.NoCounts lists goal a b t = absurd t
-stop_cases device version root limit took_all took_until faults.InputTooLong lists goal a b t =
+stop_cases d v r l n took until (faults.Root f) lists goal a b t = a f t
+stop_cases d v r l n took until faults.NoCounts lists goal a b t = absurd t
+stop_cases d v r l n took until faults.InputTooLong lists goal a b t =
     absurd t
-stop_cases device version root limit took_all took_until faults.BadKey lists goal a b t = absurd t
-stop_cases device version root limit took_all took_until faults.BadRoot lists goal a b t = absurd t
-stop_cases device version root limit took_all took_until faults.NotUnicode lists goal a b t =
+stop_cases d v r l n took until faults.BadKey lists goal a b t =
     absurd t
-stop_cases device version root limit took_all took_until faults.OutIsStdout lists goal a b t =
+stop_cases d v r l n took until faults.BadTextKey lists goal a b t =
+    absurd t
+stop_cases d v r l n took until faults.BadRoot lists goal a b t = absurd t
+stop_cases d v r l n took until faults.NotUnicode lists goal a b t =
+    absurd t
+stop_cases d v r l n took until faults.OutIsStdout lists goal a b t =
     absurd t
 
 -- The sink is flushed, which takes no more bytes.
@@ -393,27 +409,35 @@ module _ {W : Type 0} (seen : W → SinkView) (old mid new : W)
         subst (λ f. TookUntil seen f bytes old new) (sym m.0) (prefix_flushed bytes m.1)
     until_flushed fault bytes other (inr w) = absurd (other w.0)
 
-    module _ (device : DeviceView) (version : Version) (root from : List ℕ) (limit : ℕ) where
-      pub done_flushed : IsDoneScan version root from limit (λ bytes. TookAll seen bytes old mid) →
-          IsDoneScan version root from limit (λ bytes. TookAll seen bytes old new)
-      done_flushed d = (d.0, d.1, all_flushed (limited_lines limit d.0.lists) d.2)
+    module _ (device : DeviceView) (version : Version) (root from : List ℕ) (limit : ℕ)
+        (notation : Notation) where
+      pub done_flushed : IsDoneScan version root from limit notation
+          (λ bytes. TookAll seen bytes old mid) →
+          IsDoneScan version root from limit notation (λ bytes. TookAll seen bytes old new)
+      done_flushed d = (d.0, d.1, all_flushed (limited_lines notation limit d.0.lists) d.2)
 
       pub stopped_flushed : (fault : Fault) → fault ≢ Run Write →
-          IsStoppedScan device version root from limit (λ bytes. TookAll seen bytes old mid)
+          IsStoppedScan device version root from limit notation
+          (λ bytes. TookAll seen bytes old mid)
           (λ fault bytes. TookUntil seen fault bytes old mid) fault →
-          IsStoppedScan device version root from limit (λ bytes. TookAll seen bytes old new)
+          IsStoppedScan device version root from limit notation
+          (λ bytes. TookAll seen bytes old new)
           (λ fault bytes. TookUntil seen fault bytes old new) fault
       stopped_flushed fault other d = (
         d.0,
-        stop_cases device version root limit (λ bytes. TookAll seen bytes old mid)
+        stop_cases device version root limit notation (λ bytes. TookAll seen bytes old mid)
             (λ fault bytes. TookUntil seen fault bytes old mid) fault d.0.lists
-            (λ f. f ≢ Run Write → StoppedScan device version root limit
+            (λ f. f ≢ Run Write → StoppedScan device version root limit notation
             (λ bytes. TookAll seen bytes old new)
             (λ fault bytes. TookUntil seen fault bytes old new) f d.0.lists)
-            (λ of_root t other. (t.0, all_flushed (pair_lines (joined d.0.lists)) t.1, t.2))
-            (λ of_run t other. until_flushed of_run (limited_lines limit d.0.lists)
+            (λ of_root t other. (
+              t.0,
+              all_flushed (pair_lines notation (joined d.0.lists)) t.1,
+              t.2,
+            ))
+            (λ of_run t other. until_flushed of_run (limited_lines notation limit d.0.lists)
             (λ e. other (ap Run e))
-            (until_cases seen of_run (limited_lines limit d.0.lists) old mid t))
+            (until_cases seen of_run (limited_lines notation limit d.0.lists) old mid t))
             d.1 other,
       )
 
@@ -439,29 +463,33 @@ module _ {W : Type 0} (seen : W → SinkView) (old mid new : W)
     until_unflushed fault bytes other (inl m) = prefix_unflushed bytes m.1
     until_unflushed fault bytes other (inr w) = absurd (other w.0)
 
-    module _ (device : DeviceView) (version : Version) (root from : List ℕ) (limit : ℕ) where
+    module _ (device : DeviceView) (version : Version) (root from : List ℕ) (limit : ℕ)
+        (notation : Notation) where
       pub done_unflushed :
-          IsDoneScan version root from limit (λ bytes. TookAll seen bytes old mid) →
-          IsStoppedScan device version root from limit (λ bytes. TookAll seen bytes old new)
+          IsDoneScan version root from limit notation (λ bytes. TookAll seen bytes old mid) →
+          IsStoppedScan device version root from limit notation
+          (λ bytes. TookAll seen bytes old new)
           (λ fault bytes. TookUntil seen fault bytes old new) (Run Write)
-      done_unflushed d = (d.0, all_unflushed (limited_lines limit d.0.lists) d.2)
+      done_unflushed d = (d.0, all_unflushed (limited_lines notation limit d.0.lists) d.2)
 
       pub stopped_unflushed : (fault : Fault) → fault ≢ Run Write →
-          IsStoppedScan device version root from limit (λ bytes. TookAll seen bytes old mid)
+          IsStoppedScan device version root from limit notation
+          (λ bytes. TookAll seen bytes old mid)
           (λ fault bytes. TookUntil seen fault bytes old mid) fault →
-          IsStoppedScan device version root from limit (λ bytes. TookAll seen bytes old new)
+          IsStoppedScan device version root from limit notation
+          (λ bytes. TookAll seen bytes old new)
           (λ fault bytes. TookUntil seen fault bytes old new) (Run Write)
       stopped_unflushed fault other d = (
         d.0,
-        stop_cases device version root limit (λ bytes. TookAll seen bytes old mid)
+        stop_cases device version root limit notation (λ bytes. TookAll seen bytes old mid)
             (λ fault bytes. TookUntil seen fault bytes old mid) fault d.0.lists
-            (λ f. f ≢ Run Write → TookPart seen (limited_lines limit d.0.lists) old new)
+            (λ f. f ≢ Run Write → TookPart seen (limited_lines notation limit d.0.lists) old new)
             (λ of_root t other. subst (λ bytes. TookPart seen bytes old new)
-            (few_lines limit d.0.lists t.0)
-            (all_unflushed (pair_lines (joined d.0.lists)) t.1))
-            (λ of_run t other. until_unflushed of_run (limited_lines limit d.0.lists)
+            (few_lines notation limit d.0.lists t.0)
+            (all_unflushed (pair_lines notation (joined d.0.lists)) t.1))
+            (λ of_run t other. until_unflushed of_run (limited_lines notation limit d.0.lists)
             (λ e. other (ap Run e))
-            (until_cases seen of_run (limited_lines limit d.0.lists) old mid t))
+            (until_cases seen of_run (limited_lines notation limit d.0.lists) old mid t))
             d.1 other,
       )
 
@@ -470,24 +498,27 @@ module _ {W : Type 0} (seen : W → SinkView) (old mid new : W)
     (keeping : (seen old).is_keeping ≡ true → (seen mid).is_keeping ≡ true)
     (same : (seen mid).is_keeping ≡ true → (seen new).taken ≡ (seen mid).taken)
     (device : DeviceView) (version : Version) (root from : List ℕ) (limit : ℕ)
-    (d : IsDoneScan version root from limit (λ bytes. TookAll seen bytes old mid)) where
+    (notation : Notation)
+    (d : IsDoneScan version root from limit notation (λ bytes. TookAll seen bytes old mid)) where
   pub done_ended : (result : Result (Unit {0}) Fault) →
       CountsFailure (seen mid).failures (seen new).failures result →
-      OnOk result (IsDoneScan version root from limit (λ bytes. TookAll seen bytes old new))
+      OnOk result (IsDoneScan version root from limit notation
+      (λ bytes. TookAll seen bytes old new))
   done_ended (Ok x) counted =
-      done_flushed seen old mid new keeping same counted device version root from limit d
+      done_flushed seen old mid new keeping same counted device version root from limit notation d
   done_ended (Err fault) counted = tt
 
   pub done_failed : (result : Result (Unit {0}) Fault) →
       CountsFailure (seen mid).failures (seen new).failures result →
       IfErr result (λ fault. fault ≡ Run Write) → IfErr result
-      (IsStoppedScan device version root from limit (λ bytes. TookAll seen bytes old new)
+      (IsStoppedScan device version root from limit notation (λ bytes. TookAll seen bytes old new)
       (λ fault bytes. TookUntil seen fault bytes old new))
   done_failed (Ok x) counted is = tt
   done_failed (Err fault) counted is = subst
-      (IsStoppedScan device version root from limit (λ bytes. TookAll seen bytes old new)
+      (IsStoppedScan device version root from limit notation (λ bytes. TookAll seen bytes old new)
       (λ fault bytes. TookUntil seen fault bytes old new)) (sym is)
-      (done_unflushed seen old mid new keeping same counted device version root from limit d)
+      (done_unflushed seen old mid new keeping same counted device version root from limit notation
+      d)
 
 -- ---- the device
 

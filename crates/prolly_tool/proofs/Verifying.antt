@@ -5,18 +5,20 @@ use Rattle.prolly_entry.specs.declared.version.Version.{Version}
 use Rattle.prolly_proof.specs.Faults.{IsFault}
 use Rattle.prolly_proof.specs.ProofFile.{IsProof}
 use Rattle.prolly_proof.specs.declared.fault.ProofFault.{ProofFault}
+use Rattle.prolly_text.specs.declared.notation.Notation.{Notation}
 use Rattle.prolly_tool.specs.Answers.{ShowsFault}
 use Rattle.prolly_tool.specs.Input.{IsReadWhole}
 use Rattle.prolly_tool.specs.Proofs.{IsVerify}
 use Rattle.prolly_tool.specs.declared.answer.Answer.{Answer}
 use Rattle.prolly_tool.specs.declared.fault.Fault.TheVariants.{Proof}
 
-pub proof_refused : {E : Type 0} (version : Version) (root key bytes : List ℕ) (failed : Type 0)
-    (fault : ProofFault) (result : Result Answer E) → IsReadWhole bytes failed →
+pub proof_refused : {E : Type 0} (notation : Notation) (version : Version)
+    (root key bytes : List ℕ) (failed : Type 0) (fault : ProofFault) (result : Result Answer E) →
+    IsReadWhole bytes failed →
     IsFault version root key bytes fault →
     ((value : Option (List ℕ)) → IsProof version root key bytes value → ⊥) →
     IfOk result (λ answer. ShowsFault answer (Proof fault)) →
-    IfOk result (IsVerify version root key bytes failed)
-proof_refused version root key bytes failed fault (Ok answer) whole is none shows =
+    IfOk result (IsVerify notation version root key bytes failed)
+proof_refused notation version root key bytes failed fault (Ok answer) whole is none shows =
     inr (record { fault = Proof fault; is = (whole, is, none); shows = shows })
-proof_refused version root key bytes failed fault (Err e) whole is none shows = tt
+proof_refused notation version root key bytes failed fault (Err e) whole is none shows = tt

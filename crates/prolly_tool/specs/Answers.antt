@@ -3,12 +3,13 @@ use Rattle.std.specs.Prelude.{◌≡◌, ℕ, List, [], ◌∷◌, ◌++◌, str
 use Rattle.prolly_line.specs.declared.command.ParseFault.{ParseFault}
 use Rattle.prolly_line.specs.declared.command.ParseFault.TheVariants.{Memory, Usage, Help}
 use Rattle.prolly_line.specs.declared.command.ParseFault.TheVariants.{BadKey as BadKeyWord}
+use Rattle.prolly_line.specs.declared.command.ParseFault.TheVariants.{BadTextKey as BadTextKeyWord}
 use Rattle.prolly_line.specs.declared.command.ParseFault.TheVariants.{BadRoot as BadRootWord}
 use Rattle.prolly_fault.specs.declared.fault.RunFault.TheVariants.{Memory as OutOfMemory}
 use Rattle.prolly_tool.specs.declared.answer.Answer.{Answer}
 use Rattle.prolly_tool.specs.declared.fault.Fault.{Fault}
 use Rattle.prolly_tool.specs.declared.name_fault.NameFault.{NameFault}
-use Rattle.prolly_tool.specs.declared.fault.Fault.TheVariants.{Run, BadKey, BadRoot}
+use Rattle.prolly_tool.specs.declared.fault.Fault.TheVariants.{Run, BadKey, BadTextKey, BadRoot}
 use Rattle.prolly_tool.specs.Faults.{fault_text, fault_status, fault_line}
 use Rattle.prolly_tool.specs.Names.{name_fault_text, shown_name}
 
@@ -45,6 +46,7 @@ ShowsName answer fault name = Shows answer 5 []
 abbrev pub ShowsRefusal : Answer → ParseFault → Type 0
 ShowsRefusal answer Memory = ShowsFault answer (Run OutOfMemory)
 ShowsRefusal answer BadKeyWord = ShowsFault answer BadKey
+ShowsRefusal answer BadTextKeyWord = ShowsFault answer BadTextKey
 ShowsRefusal answer BadRootWord = ShowsFault answer BadRoot
 ShowsRefusal answer (Usage text) = Shows answer 2 [] (string_bytes text)
 ShowsRefusal answer (Help text) = Shows answer 0 (string_bytes text) []

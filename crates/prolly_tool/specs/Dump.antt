@@ -22,7 +22,7 @@ IsDumped bytes failed holds = IsLookedUp bytes failed (λ content. holds (puts c
 -- The fault may stop a dump in this form: a record file is written from where it lies, and takes no
 -- memory that may be refused.
 abbrev pub MayStop : RecordForm → RunFault → Type 0
-MayStop Lines fault = Unit {0}
+MayStop (Lines notation) fault = Unit {0}
 MayStop Records fault = fault ≡ Write
 
 -- The records were written in this form until the fault, which may stop that.

@@ -13,7 +13,8 @@ use Rattle.prolly_tool.specs.declared.pack.PackFault.{PackFault}
 use Rattle.prolly_tool.specs.declared.pack.PackFault.TheVariants as packs
 use Rattle.prolly_tool.specs.declared.fault.Fault.{Fault}
 use Rattle.prolly_tool.specs.declared.fault.Fault.TheVariants.{Run, Pack, Check, NoCounts}
-use Rattle.prolly_tool.specs.declared.fault.Fault.TheVariants.{InputTooLong, BadKey, NotUnicode}
+use Rattle.prolly_tool.specs.declared.fault.Fault.TheVariants.{InputTooLong, BadKey, BadTextKey}
+use Rattle.prolly_tool.specs.declared.fault.Fault.TheVariants.{NotUnicode}
 use Rattle.prolly_tool.specs.declared.fault.Fault.TheVariants.{OutIsStdout, CheckOld, CheckNew}
 use Rattle.prolly_tool.specs.declared.fault.Fault.TheVariants.{Proof, Root, BadRoot}
 
@@ -40,6 +41,7 @@ abbrev pub pack_text : PackFault → List ℕ
 pack_text packs.Memory = codes "out of memory"
 pack_text (packs.BadLine line) = codes "line " ++ decimal line ++
     codes ": not a pair in hexadecimal"
+pack_text (packs.BadText line) = codes "line " ++ decimal line ++ codes ": not a pair of text"
 pack_text (packs.KeyTooLong line) = codes "line " ++ decimal line ++ codes ": key too long"
 pack_text (packs.ValueTooLong line) = codes "line " ++ decimal line ++ codes ": value too long"
 
@@ -108,6 +110,7 @@ fault_text (Root fault) = root_fault_text fault
 fault_text NoCounts = codes "chunk file: no counts"
 fault_text InputTooLong = codes "input too long"
 fault_text BadKey = codes "not a key in hexadecimal"
+fault_text BadTextKey = codes "not a key of text"
 fault_text BadRoot = codes "not the text of a root"
 fault_text NotUnicode = codes "a word is not UTF-8"
 fault_text OutIsStdout = codes "OUT is also standard output"
@@ -160,6 +163,7 @@ abbrev pub fault_status : Fault → ℕ
 fault_status (Run fault) = run_status fault
 fault_status (Pack packs.Memory) = 6
 fault_status (Pack (packs.BadLine line)) = 3
+fault_status (Pack (packs.BadText line)) = 3
 fault_status (Pack (packs.KeyTooLong line)) = 3
 fault_status (Pack (packs.ValueTooLong line)) = 3
 fault_status (Check fault) = check_status fault
@@ -170,6 +174,7 @@ fault_status (Root fault) = root_status fault
 fault_status NoCounts = 4
 fault_status InputTooLong = 5
 fault_status BadKey = 2
+fault_status BadTextKey = 2
 fault_status BadRoot = 2
 fault_status NotUnicode = 2
 fault_status OutIsStdout = 5

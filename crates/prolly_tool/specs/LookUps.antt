@@ -1,9 +1,9 @@
 -- What the commands that read a chunk file print.
 use Rattle.std.specs.Prelude.{◌≡◌, ◌↔◌, ◌⊎◌, ℕ, List, [], ◌∷◌, ◌++◌, length, Option, Some, None}
-use Rattle.std.specs.Prelude.{codes, option_map, Result, Ok, Err}
+use Rattle.std.specs.Prelude.{codes, option_map, Result, Ok, Err, IfOk, ◌≢◌, true}
+use Rattle.std.specs.declared.alloc.AllocError.{AllocError}
 use Rattle.std.specs.Fmt.{decimal}
 use Rattle.std.specs.List.{flat_map}
-use Rattle.hex.specs.Hex.{encode_lower}
 use Rattle.prolly_check.specs.Check.{IsRefusal}
 use Rattle.prolly_check.specs.Content.{Content}
 use Rattle.prolly_check.specs.Verdict.{IsFileOf}
@@ -11,9 +11,12 @@ use Rattle.prolly_check.specs.declared.fault.CheckFault.{CheckFault}
 use Rattle.prolly_check.specs.declared.fault.CheckFault.TheVariants.{Read}
 use Rattle.prolly_entry.specs.declared.version.Version.{Version}
 use Rattle.prolly_entry.specs.declared.version.Version.TheVariants.{One, Two}
+use Rattle.prolly_file.specs.Source.{SourceView}
 use Rattle.prolly_proof.specs.declared.by_root.Found.{Found}
 use Rattle.prolly_proof.specs.declared.by_root.FoundPair.{FoundPair}
 use Rattle.prolly_proof.specs.declared.root_fault.RootFault.{RootFault}
+use Rattle.prolly_text.specs.Notations.{separator, written}
+use Rattle.prolly_text.specs.declared.notation.Notation.{Notation}
 use Rattle.prolly_tree.specs.Chunk.{chunks}
 use Rattle.prolly_entry.specs.Cut.{sha512_cut}
 use Rattle.prolly_tree.specs.File.{root_reference}
@@ -38,42 +41,44 @@ check_text content =
     ++ 0x20 ∷ decimal content.bits ++ 0x20 ∷ decimal
     (length (chunks (sha512_cut content.bits) content.version content.pairs))
 
--- A key and its value in hexadecimal.
-abbrev pub pair_text : Pair → List ℕ
-pair_text p = encode_lower p.key ++ 0x20 ∷ encode_lower p.value
+-- A key and its value in this notation.
+abbrev pub pair_text : Notation → Pair → List ℕ
+pair_text notation p = written notation p.key ++ separator notation ∷ written notation p.value
 
-abbrev pub ShowsValue : Answer → Option (List ℕ) → Type 0
-ShowsValue answer None = ShowsNothing answer
-ShowsValue answer (Some value) = ShowsLine answer (encode_lower value)
+abbrev pub ShowsValue : Notation → Answer → Option (List ℕ) → Type 0
+ShowsValue notation answer None = ShowsNothing answer
+ShowsValue notation answer (Some value) = ShowsLine answer (written notation value)
 
-abbrev pub ShowsPair : Answer → Option Pair → Type 0
-ShowsPair answer None = ShowsNothing answer
-ShowsPair answer (Some p) = ShowsLine answer (pair_text p)
+abbrev pub ShowsPair : Notation → Answer → Option Pair → Type 0
+ShowsPair notation answer None = ShowsNothing answer
+ShowsPair notation answer (Some p) = ShowsLine answer (pair_text notation p)
 
 -- A line for each pair.
-abbrev pub pair_lines : List Pair → List ℕ
-pair_lines pairs = flat_map (λ p. pair_text p ++ 0x0A ∷ []) pairs
+abbrev pub pair_lines : Notation → List Pair → List ℕ
+pair_lines notation pairs = flat_map (λ p. pair_text notation p ++ 0x0A ∷ []) pairs
 
-abbrev pub ShowsPairs : Answer → List Pair → Type 0
-ShowsPairs answer pairs = Shows answer 0 (pair_lines pairs) []
+abbrev pub ShowsPairs : Notation → Answer → List Pair → Type 0
+ShowsPairs notation answer pairs = Shows answer 0 (pair_lines notation pairs) []
 
 -- The files of version One have no counts.
-abbrev pub ShowsNth : Answer → Version → Option Pair → Type 0
-ShowsNth answer One found = ShowsFault answer NoCounts
-ShowsNth answer Two found = ShowsPair answer found
+abbrev pub ShowsNth : Notation → Answer → Version → Option Pair → Type 0
+ShowsNth notation answer One found = ShowsFault answer NoCounts
+ShowsNth notation answer Two found = ShowsPair notation answer found
 
 -- What is shown of a lawful file's content, by the command.
 abbrev pub ShowsCheck : Answer → Content → Type 0
 ShowsCheck answer content = ShowsLine answer (check_text content)
 
-abbrev pub ShowsGet : List ℕ → Answer → Content → Type 0
-ShowsGet key answer content = ShowsValue answer (find content.pairs key)
+abbrev pub ShowsGet : Notation → List ℕ → Answer → Content → Type 0
+ShowsGet notation key answer content = ShowsValue notation answer (find content.pairs key)
 
-abbrev pub ShowsScan : List ℕ → ℕ → Answer → Content → Type 0
-ShowsScan from limit answer content = ShowsPairs answer (scan content.pairs from limit)
+abbrev pub ShowsScan : Notation → List ℕ → ℕ → Answer → Content → Type 0
+ShowsScan notation from limit answer content =
+    ShowsPairs notation answer (scan content.pairs from limit)
 
-abbrev pub ShowsPlace : ℕ → Answer → Content → Type 0
-ShowsPlace n answer content = ShowsNth answer content.version (nth content.pairs n)
+abbrev pub ShowsPlace : Notation → ℕ → Answer → Content → Type 0
+ShowsPlace notation n answer content =
+    ShowsNth notation answer content.version (nth content.pairs n)
 
 -- The bytes were read whole and are the file of this content, of which this is shown.
 pub record IsLookedUp (bytes : List ℕ) (failed : Type 0) (shows : Content → Type 0) : Type 0 where
@@ -104,12 +109,25 @@ IsLookUp bytes failed shows answer = IsLookedUp bytes failed (shows answer) ⊎
 abbrev pub ShowsFailedRead : Answer → Type 0
 ShowsFailedRead answer = ShowsFault answer (Check Read)
 
+-- What a look-up answers to an honest source, of what that has left; and that a failed read of any
+-- source is told as one.
+abbrev pub AnswersLookUp : {S : Type 0} → (S → SourceView) → S → S → (Answer → Content → Type 0) →
+    Result Answer AllocError → Type 0
+AnswersLookUp seen old new shows result = (seen old).is_honest ≡ true →
+    IfOk result (IsLookUp (seen old).left ((seen new).failures ≢ (seen old).failures) shows)
+
+abbrev pub AnswersFailedRead : {S : Type 0} → (S → SourceView) → S → S → Result Answer AllocError →
+    Type 0
+AnswersFailedRead seen old new result = (seen new).failures ≢ (seen old).failures →
+    IfOk result ShowsFailedRead
+
 -- What a look-up by a root came to is shown: the value that it found, or none; or its fault.
-abbrev pub ShowsFound : Answer → Result Found RootFault → Type 0
-ShowsFound answer (Ok found) = ShowsValue answer (option_map (λ value. value.items) found.value)
-ShowsFound answer (Err fault) = ShowsFault answer (Root fault)
+abbrev pub ShowsFound : Notation → Answer → Result Found RootFault → Type 0
+ShowsFound notation answer (Ok found) =
+    ShowsValue notation answer (option_map (λ value. value.items) found.value)
+ShowsFound notation answer (Err fault) = ShowsFault answer (Root fault)
 
 -- The same of the pair that it found, or none.
-abbrev pub ShowsFoundPair : Answer → Result FoundPair RootFault → Type 0
-ShowsFoundPair answer (Ok found) = ShowsPair answer found.pair
-ShowsFoundPair answer (Err fault) = ShowsFault answer (Root fault)
+abbrev pub ShowsFoundPair : Notation → Answer → Result FoundPair RootFault → Type 0
+ShowsFoundPair notation answer (Ok found) = ShowsPair notation answer found.pair
+ShowsFoundPair notation answer (Err fault) = ShowsFault answer (Root fault)

@@ -1,50 +1,80 @@
 -- What packing a text comes to.
-use Rattle.std.specs.Prelude.{◌≡◌, ◌↔◌, ℕ, Ok, List, [], ◌∷◌, ◌++◌, length, IfSome}
+use Rattle.std.specs.Prelude.{◌≡◌, ◌↔◌, ◌⊎◌, ℕ, ◌<◌, ◌≤◌, Bool, true, List, []}
+use Rattle.std.specs.Prelude.{◌∷◌, ◌++◌, length, Option, IfSome, IfNone}
+use Rattle.std.specs.Prelude.{◌≢◌, Result, IfOk, OnErr}
+use Rattle.std.specs.declared.alloc.AllocError.{AllocError}
 use Rattle.std.specs.Fmt.{decimal}
 use Rattle.std.specs.List.{flat_map, AllByRecursion, AllZip}
-use Rattle.hex.specs.Hex.{decode_of, IsBytes}
+use Rattle.prolly_entry.specs.Byte.{IsByte}
 use Rattle.prolly_entry.specs.declared.pair.EntryFault.{EntryFault}
 use Rattle.prolly_entry.specs.declared.pair.EntryFault.TheVariants as entries
 use Rattle.prolly_entry.specs.Record.{Record, IsRecord}
 use Rattle.prolly_entry.specs.Spelling.{record_spelling}
 use Rattle.prolly_tool.specs.declared.pack.PackFault.{PackFault}
-use Rattle.prolly_tool.specs.declared.pack.PackFault.TheVariants.{Memory, BadLine, KeyTooLong}
-use Rattle.prolly_tool.specs.declared.pack.PackFault.TheVariants.{ValueTooLong}
+use Rattle.prolly_tool.specs.declared.pack.PackFault.TheVariants.{Memory, BadLine, BadText}
+use Rattle.prolly_tool.specs.declared.pack.PackFault.TheVariants.{KeyTooLong, ValueTooLong}
+use Rattle.prolly_text.specs.Notations.{IsWritten}
+use Rattle.prolly_text.specs.declared.notation.Notation.{Notation}
+use Rattle.prolly_text.specs.declared.notation.Notation.TheVariants.{Hex, Text}
+use Rattle.prolly_tool.specs.declared.line_form.LineForm.{LineForm}
 use Rattle.prolly_tool.specs.declared.line.LineFlaw.{LineFlaw}
 use Rattle.prolly_tool.specs.declared.line.LineFlaw.TheVariants as flaws
 use Rattle.prolly_tool.specs.declared.fault.Fault.{Fault}
-use Rattle.prolly_tool.specs.declared.fault.Fault.TheVariants.{Pack}
+use Rattle.prolly_tool.specs.declared.fault.Fault.TheVariants.{Pack, Run}
+use Rattle.prolly_fault.specs.declared.fault.RunFault.TheVariants.{Read}
+use Rattle.prolly_file.specs.Sink.{SinkView}
+use Rattle.prolly_file.specs.Source.{SourceView}
+use Rattle.prolly_tool.specs.Answers.{ShowsFault}
+use Rattle.prolly_tool.specs.Outputs.{IsAnswer, IsCutShort, TookAll, TookPart}
+use Rattle.prolly_tool.specs.declared.answer.Answer.{Answer}
 use Rattle.prolly_tool.specs.Input.{IsReadWhole, IsInputFault}
 use Rattle.prolly_tool.specs.declared.record_form.RecordForm.TheVariants.{Lines, Records}
 use Rattle.prolly_tool.specs.Lines.{lines_of, IsLineOf, IsBadLine, HasLongKey, HasLongValue}
 use Rattle.prolly_tool.specs.RecordForms.{written_records}
 
 -- The line stands for the lawful record.
-abbrev pub StandsFor : List ℕ → Record → Type 0
-StandsFor line r = IsLineOf line r.key r.value × IsRecord r
+abbrev pub StandsFor : LineForm → List ℕ → Record → Type 0
+StandsFor form line r = IsLineOf form line r.key r.value × IsRecord r
 
 -- Each line of the text stands for a record, and so many spellings are appended, in the order of
 -- the lines.
-pub record Packs (text old new : List ℕ) (count : ℕ) : Type 0 where
+pub record Packs (form : LineForm) (text old new : List ℕ) (count : ℕ) : Type 0 where
   pub records : List Record
-  pub stand : AllZip StandsFor (lines_of text) records
+  pub stand : AllZip (StandsFor form) (lines_of text) records
   pub appended : new ≡ old ++ flat_map record_spelling records
   pub count_is : count ≡ length records
 
 -- The line stands for no lawful record, and this is what is wrong with it; want of memory may come
 -- at any line.
-abbrev pub IsWrongLine : List ℕ → LineFlaw → Type 0
-IsWrongLine line flaws.Memory = Unit {0}
-IsWrongLine line flaws.Bad = IsBadLine line
-IsWrongLine line flaws.KeyTooLong = HasLongKey line
-IsWrongLine line flaws.ValueTooLong = HasLongValue line
+abbrev pub IsWrongLine : LineForm → List ℕ → LineFlaw → Type 0
+IsWrongLine form line flaws.Memory = Unit {0}
+IsWrongLine form line flaws.Bad = IsBadLine form line
+IsWrongLine form line flaws.KeyTooLong = HasLongKey form line
+IsWrongLine form line flaws.ValueTooLong = HasLongValue form line
 
--- The text is not in hexadecimal.
-abbrev pub IsNoHex : List ℕ → LineFlaw → Type 0
-IsNoHex text flaws.Memory = Unit {0}
-IsNoHex text flaws.Bad = (bytes : List ℕ) → decode_of text ≡ Ok bytes → ⊥
-IsNoHex text flaws.KeyTooLong = ⊥
-IsNoHex text flaws.ValueTooLong = ⊥
+-- The text is not written in this notation.
+abbrev pub IsNotWritten : Notation → List ℕ → LineFlaw → Type 0
+IsNotWritten notation text flaws.Memory = Unit {0}
+IsNotWritten notation text flaws.Bad = (bytes : List ℕ) → IsWritten notation text bytes → ⊥
+IsNotWritten notation text flaws.KeyTooLong = ⊥
+IsNotWritten notation text flaws.ValueTooLong = ⊥
+
+-- What is behind the separator marks a removal: in hexadecimal a dash does, and in text nothing.
+abbrev pub MarksRemoval : Notation → List ℕ → Type 0
+MarksRemoval Hex change = change ≡ 0x2D ∷ []
+MarksRemoval Text change = ⊥
+
+-- The record puts a value at a key, or removes the key; and it is lawful.
+abbrev pub IsChangeOf : List ℕ → Option (List ℕ) → Record → Type 0
+IsChangeOf key change r = (r.key ≡ key) × (r.value ≡ change) × IsRecord r
+
+-- The key is too long; or it is not, and the value is.
+abbrev pub IsLongKey : List ℕ → LineFlaw → Type 0
+IsLongKey key flaw = (flaw ≡ flaws.KeyTooLong) × (1024 < length key)
+
+abbrev pub IsLongPair : List ℕ → List ℕ → LineFlaw → Type 0
+IsLongPair key value flaw = IsLongKey key flaw
+    ⊎ ((flaw ≡ flaws.ValueTooLong) × (length key ≤ 1024) × (65536 < length value))
 
 -- What is too long of a pair is too long of its line.
 abbrev pub flaw_of : EntryFault → LineFlaw
@@ -53,67 +83,113 @@ flaw_of entries.ValueTooLong = flaws.ValueTooLong
 
 -- The line of this number is the first that stands for no lawful record, and this is what is wrong
 -- with it.
-pub record IsFirstWrong (text : List ℕ) (number : ℕ) (flaw : LineFlaw) : Type 0 where
+pub record IsFirstWrong (form : LineForm) (text : List ℕ) (number : ℕ) (flaw : LineFlaw)
+    : Type 0 where
   pub before : List (List ℕ)
   pub line : List ℕ
   pub after : List (List ℕ)
   pub whole : lines_of text ≡ before ++ line ∷ after
   pub number_is : number ≡ length before
   pub records : List Record
-  pub stand : AllZip StandsFor before records
-  pub wrong : IsWrongLine line flaw
+  pub stand : AllZip (StandsFor form) before records
+  pub wrong : IsWrongLine form line flaw
 
 -- The fault names the first line that stands for no lawful record.
-abbrev pub IsPackFault : List ℕ → PackFault → Type 0
-IsPackFault text Memory = Unit {0}
-IsPackFault text (BadLine line) = IsFirstWrong text line flaws.Bad
-IsPackFault text (KeyTooLong line) = IsFirstWrong text line flaws.KeyTooLong
-IsPackFault text (ValueTooLong line) = IsFirstWrong text line flaws.ValueTooLong
+abbrev pub IsPackFault : LineForm → List ℕ → PackFault → Type 0
+IsPackFault form text Memory = Unit {0}
+IsPackFault form text (BadLine line) =
+    (form.notation ≡ Hex) × IsFirstWrong form text line flaws.Bad
+IsPackFault form text (BadText line) =
+    (form.notation ≡ Text) × IsFirstWrong form text line flaws.Bad
+IsPackFault form text (KeyTooLong line) = IsFirstWrong form text line flaws.KeyTooLong
+IsPackFault form text (ValueTooLong line) = IsFirstWrong form text line flaws.ValueTooLong
+
+-- A bad line, in this notation.
+abbrev pub bad_line : Notation → ℕ → PackFault
+bad_line Hex line = BadLine line
+bad_line Text line = BadText line
 
 -- A flaw at a line.
-abbrev pub fault_at : LineFlaw → ℕ → PackFault
-fault_at flaws.Memory line = Memory
-fault_at flaws.Bad line = BadLine line
-fault_at flaws.KeyTooLong line = KeyTooLong line
-fault_at flaws.ValueTooLong line = ValueTooLong line
+abbrev pub fault_at : Notation → LineFlaw → ℕ → PackFault
+fault_at notation flaws.Memory line = Memory
+fault_at notation flaws.Bad line = bad_line notation line
+fault_at notation flaws.KeyTooLong line = KeyTooLong line
+fault_at notation flaws.ValueTooLong line = ValueTooLong line
 
 -- The line stands for a record, and its spelling is appended.
-pub record PacksLine (line old new : List ℕ) : Type 0 where
+pub record PacksLine (form : LineForm) (line old new : List ℕ) : Type 0 where
   pub one : Record
-  pub stands : StandsFor line one
+  pub stands : StandsFor form line one
   pub appended : new ≡ old ++ record_spelling one
 
 -- What is wrong with the line, with its number.
-pub record IsLineFault (line : List ℕ) (number : ℕ) (fault : PackFault) : Type 0 where
+pub record IsLineFault (form : LineForm) (line : List ℕ) (number : ℕ) (fault : PackFault)
+    : Type 0 where
   pub flaw : LineFlaw
-  pub wrong : IsWrongLine line flaw
-  pub is : fault ≡ fault_at flaw number
+  pub wrong : IsWrongLine form line flaw
+  pub is : fault ≡ fault_at form.notation flaw number
 
 -- ---- lines that are written
 
 -- The key of the record is bytes, and so is a value that it puts.
 pub record IsOfBytes (r : Record) : Type 0 where
-  pub key : IsBytes r.key
-  pub value : IfSome r.value IsBytes
+  pub key : AllByRecursion IsByte r.key
+  pub value : IfSome r.value (AllByRecursion IsByte)
+
+-- Removals are read: in text, where they are looked for.
+abbrev pub ReadsRemovals : Notation → Bool → Type 0
+ReadsRemovals Hex removals = Unit {0}
+ReadsRemovals Text removals = removals ≡ true
+
+-- The record has a line in this form: it is a put, or removals are read.
+abbrev pub HasLine : LineForm → Record → Type 0
+HasLine form r = IfNone r.value (ReadsRemovals form.notation form.removals)
 
 -- Law: packing the lines of lawful records gives their record file, and nothing else.
 abbrev pub LinesArePacked : Type 0
-LinesArePacked = (records : List Record) (old new : List ℕ) (count : ℕ) →
+LinesArePacked = (form : LineForm) (records : List Record) (old new : List ℕ) (count : ℕ) →
     AllByRecursion IsRecord records → AllByRecursion IsOfBytes records →
-    Packs (written_records Lines records) old new count ↔
+    AllByRecursion (HasLine form) records →
+    Packs form (written_records (Lines form.notation) records) old new count ↔
     ((new ≡ old ++ written_records Records records) × (count ≡ length records))
 
 -- ---- the command
 
 -- The text was read whole, it is packed into this record file, and the line is the number of its
 -- records.
-pub record PacksTo (text : List ℕ) (has_failed : Type 0) (file line : List ℕ) : Type 0 where
+pub record PacksTo (form : LineForm) (text : List ℕ) (has_failed : Type 0) (file line : List ℕ)
+    : Type 0 where
   pub whole : IsReadWhole text has_failed
   pub count : ℕ
-  pub packs : Packs text [] file count
+  pub packs : Packs form text [] file count
   pub line_is : line ≡ decimal count
 
 -- The text is not packed: it can't be read, or it was read whole and one of its lines is at fault.
-abbrev pub IsPackingFault : List ℕ → Type 0 → Fault → Type 0
-IsPackingFault text has_failed (Pack fault) = IsReadWhole text has_failed × IsPackFault text fault
-IsPackingFault text has_failed fault = IsInputFault text has_failed fault
+abbrev pub IsPackingFault : LineForm → List ℕ → Type 0 → Fault → Type 0
+IsPackingFault form text has_failed (Pack fault) =
+    IsReadWhole text has_failed × IsPackFault form text fault
+IsPackingFault form text has_failed fault = IsInputFault text has_failed fault
+
+-- What `pack` answers to an honest source, of what that has left, and what it does to its sink;
+-- what was done where memory was refused for the answer's own text; and that a failed read of any
+-- source is told as one.
+abbrev pub AnswersPack : {S W : Type 0} → (S → SourceView) → (W → SinkView) → LineForm → S → S → W →
+    W → Result Answer AllocError → Type 0
+AnswersPack seen sunk form old new before after result = (seen old).is_honest ≡ true →
+    IfOk result (IsAnswer
+    (PacksTo form (seen old).left ((seen new).failures ≢ (seen old).failures))
+    (IsPackingFault form (seen old).left ((seen new).failures ≢ (seen old).failures))
+    (λ file. TookAll sunk file before after) (λ file. TookPart sunk file before after)
+    (after ≡ before))
+
+abbrev pub LeavesPack : {S W : Type 0} → (S → SourceView) → (W → SinkView) → LineForm → S → S → W →
+    W → Result Answer AllocError → Type 0
+LeavesPack seen sunk form old new before after result = (seen old).is_honest ≡ true →
+    OnErr result ((after ≡ before) ⊎ IsCutShort
+    (PacksTo form (seen old).left ((seen new).failures ≢ (seen old).failures))
+    (λ file. TookPart sunk file before after))
+
+abbrev pub TellsPackRead : {S W : Type 0} → (S → SourceView) → S → S → W → W →
+    Result Answer AllocError → Type 0
+TellsPackRead seen old new before after result = (seen new).failures ≢ (seen old).failures →
+    (after ≡ before) × IfOk result (λ answer. ShowsFault answer (Run (Read 0)))

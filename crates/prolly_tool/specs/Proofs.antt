@@ -5,6 +5,7 @@ use Rattle.prolly_entry.specs.declared.version.Version.{Version}
 use Rattle.prolly_fault.specs.declared.fault.RunFault.TheVariants.{Write}
 use Rattle.prolly_proof.specs.Faults.{IsFault}
 use Rattle.prolly_proof.specs.ProofFile.{IsProof, IsProofOf}
+use Rattle.prolly_text.specs.declared.notation.Notation.{Notation}
 use Rattle.prolly_tool.specs.Answers.{ShowsDone, ShowsFault}
 use Rattle.prolly_tool.specs.Input.{IsInputFault, IsReadWhole}
 use Rattle.prolly_tool.specs.LookUps.{IsLookedUp, IsNoFile, ShowsValue}
@@ -39,12 +40,12 @@ IsProve key bytes failed took_all took_part untouched answer =
 -- ---- proofs that are verified
 
 -- The bytes were read whole and prove this value or none of the key, which is shown.
-pub record IsProved (version : Version) (root key bytes : List ℕ) (failed : Type 0)
-    (answer : Answer) : Type 0 where
+pub record IsProved (notation : Notation) (version : Version) (root key bytes : List ℕ)
+    (failed : Type 0) (answer : Answer) : Type 0 where
   pub whole : IsReadWhole bytes failed
   pub value : Option (List ℕ)
   pub proves : IsProof version root key bytes value
-  pub shows : ShowsValue answer value
+  pub shows : ShowsValue notation answer value
 
 -- The bytes were read whole and prove nothing of the key, for this first fault; or they can't be
 -- read.
@@ -55,6 +56,7 @@ IsProofFault version root key bytes failed (Proof fault) = IsReadWhole bytes fai
 IsProofFault version root key bytes failed fault = IsInputFault bytes failed fault
 
 -- The answer of `verify`: what the bytes prove is shown, or why they prove nothing.
-abbrev pub IsVerify : Version → List ℕ → List ℕ → List ℕ → Type 0 → Answer → Type 0
-IsVerify version root key bytes failed answer = IsProved version root key bytes failed answer ⊎
-    IsRefused (IsProofFault version root key bytes failed) answer
+abbrev pub IsVerify : Notation → Version → List ℕ → List ℕ → List ℕ → Type 0 → Answer → Type 0
+IsVerify notation version root key bytes failed answer =
+    IsProved notation version root key bytes failed answer
+    ⊎ IsRefused (IsProofFault version root key bytes failed) answer

@@ -1,24 +1,32 @@
 -- How records are written: as lines of text, as `pack` reads them, or as a record file.
 use Rattle.std.specs.Prelude.{ℕ, List, [], ◌∷◌, ◌++◌, Option, Some, None}
 use Rattle.std.specs.List.{flat_map}
-use Rattle.hex.specs.Hex.{encode_lower}
 use Rattle.prolly_entry.specs.Record.{Record}
 use Rattle.prolly_entry.specs.Spelling.{record_spelling}
+use Rattle.prolly_text.specs.Notations.{separator, written}
+use Rattle.prolly_text.specs.declared.notation.Notation.{Notation}
+use Rattle.prolly_text.specs.declared.notation.Notation.TheVariants.{Hex, Text}
 use Rattle.prolly_tool.specs.declared.record_form.RecordForm.{RecordForm}
 use Rattle.prolly_tool.specs.declared.record_form.RecordForm.TheVariants.{Lines, Records}
 
--- What a line says of its key: a value in hexadecimal, or a dash for a removal.
-abbrev pub change_text : Option (List ℕ) → List ℕ
-change_text (Some value) = encode_lower value
-change_text None = 0x2D ∷ []
+-- What a line has behind its key for a removal: in hexadecimal a space and a dash, and in text
+-- nothing.
+abbrev pub removal_mark : Notation → List ℕ
+removal_mark Hex = 0x20 ∷ 0x2D ∷ []
+removal_mark Text = []
 
--- The line of a record: its key in hexadecimal, a space, what it says of it, a newline.
-abbrev pub record_line : Record → List ℕ
-record_line r = encode_lower r.key ++ 0x20 ∷ change_text r.value ++ 0x0A ∷ []
+-- What a line has behind its key: the value behind a separator, or what marks a removal.
+abbrev pub change_text : Notation → Option (List ℕ) → List ℕ
+change_text notation (Some value) = separator notation ∷ written notation value
+change_text notation None = removal_mark notation
 
--- A record as a line of text, or as a record file spells it.
+-- The line of a record: its key, what it says of it, a newline.
+abbrev pub record_line : Notation → Record → List ℕ
+record_line notation r = written notation r.key ++ (change_text notation r.value ++ 0x0A ∷ [])
+
+-- A record as a line, or as a record file spells it.
 abbrev pub spelled : RecordForm → Record → List ℕ
-spelled Lines r = record_line r
+spelled (Lines notation) r = record_line notation r
 spelled Records r = record_spelling r
 
 -- The same, where a form is given, and nothing where none is.

@@ -15,6 +15,7 @@ use Rattle.prolly_proof.specs.Descents.{AnswersLawful}
 use Rattle.prolly_proof.specs.Readers.{IsReaderOf, ReaderView}
 use Rattle.prolly_proof.specs.Walks.{HoldsFile}
 use Rattle.prolly_proof.specs.declared.root_fault.RootFault.TheVariants.{Read}
+use Rattle.prolly_text.specs.declared.notation.Notation.{Notation}
 use Rattle.prolly_tree.specs.File.{root_reference}
 use Rattle.prolly_tool.specs.Answers.{ShowsDone, ShowsFault}
 use Rattle.prolly_tool.specs.LookUps.{pair_lines}
@@ -48,36 +49,36 @@ abbrev pub AreTooFew : ℕ → List (List Pair) → Type 0
 AreTooFew limit lists = (length (joined lists) < limit) × ¬ (EndsEmpty lists)
 
 -- A line for each of the pairs that were found, up to the limit.
-abbrev pub limited_lines : ℕ → List (List Pair) → List ℕ
-limited_lines limit lists = pair_lines (take limit (joined lists))
+abbrev pub limited_lines : Notation → ℕ → List (List Pair) → List ℕ
+limited_lines notation limit lists = pair_lines notation (take limit (joined lists))
 
 -- ---- what comes of it
 
 -- The scan found enough, and the lines were written. Of the sink, `took_all` says that it took all
 -- of these bytes.
-abbrev pub IsDoneScan : Version → List ℕ → List ℕ → ℕ → (List ℕ → Type 0) → Type 0
-IsDoneScan version root from limit took_all = (s : Scanned version root from) ×
-    AreEnough limit s.lists × took_all (limited_lines limit s.lists)
+abbrev pub IsDoneScan : Version → List ℕ → List ℕ → ℕ → Notation → (List ℕ → Type 0) → Type 0
+IsDoneScan version root from limit notation took_all = (s : Scanned version root from) ×
+    AreEnough limit s.lists × took_all (limited_lines notation limit s.lists)
 
 -- This fault stopped the scan when it had found these lists. It is that of a look-up, once all
 -- lines of what was found before were written, and where the device is honest and has a lawful file
 -- of this version and root it is only want of memory or a failed read; or it is that of writing
 -- the lines, of which the sink took a part until then.
-abbrev pub StoppedScan : DeviceView → Version → List ℕ → ℕ → (List ℕ → Type 0) →
+abbrev pub StoppedScan : DeviceView → Version → List ℕ → ℕ → Notation → (List ℕ → Type 0) →
     (RunFault → List ℕ → Type 0) → Fault → List (List Pair) → Type 0
-StoppedScan device version root limit took_all took_until (Root fault) lists =
-    AreTooFew limit lists × took_all (pair_lines (joined lists)) ×
+StoppedScan device version root limit notation took_all took_until (Root fault) lists =
+    AreTooFew limit lists × took_all (pair_lines notation (joined lists)) ×
     AnswersLawful {T = Unit {0}} device version root (Err fault)
-StoppedScan device version root limit took_all took_until (Run fault) lists =
-    took_until fault (limited_lines limit lists)
-StoppedScan device version root limit took_all took_until _ lists = ⊥
+StoppedScan device version root limit notation took_all took_until (Run fault) lists =
+    took_until fault (limited_lines notation limit lists)
+StoppedScan device version root limit notation took_all took_until _ lists = ⊥
 
 -- The same of lists that look-ups found.
-abbrev pub IsStoppedScan : DeviceView → Version → List ℕ → List ℕ → ℕ → (List ℕ → Type 0) →
-    (RunFault → List ℕ → Type 0) → Fault → Type 0
-IsStoppedScan device version root from limit took_all took_until fault =
+abbrev pub IsStoppedScan : DeviceView → Version → List ℕ → List ℕ → ℕ → Notation →
+    (List ℕ → Type 0) → (RunFault → List ℕ → Type 0) → Fault → Type 0
+IsStoppedScan device version root from limit notation took_all took_until fault =
     (s : Scanned version root from) ×
-    StoppedScan device version root limit took_all took_until fault s.lists
+    StoppedScan device version root limit notation took_all took_until fault s.lists
 
 -- What is told of the calls of the device, whose failures were so many before and after: where none
 -- failed, no failed read is told, and where one did, that is told, or that writing failed behind
@@ -90,11 +91,13 @@ TellsScanReads old new (Err fault) =
 
 -- The answer: the scan is done, or the fault that stopped it is shown; and of this it is said what
 -- is told of the device.
-abbrev pub IsRootScan : DeviceView → Version → List ℕ → List ℕ → ℕ → (List ℕ → Type 0) →
-    (RunFault → List ℕ → Type 0) → (Result (Unit {0}) Fault → Type 0) → Answer → Type 0
-IsRootScan device version root from limit took_all took_until tells answer =
-    (IsDoneScan version root from limit took_all × tells (Ok tt) × ShowsDone answer)
-    ⊎ ((fault : Fault) × IsStoppedScan device version root from limit took_all took_until fault ×
+abbrev pub IsRootScan : DeviceView → Version → List ℕ → List ℕ → ℕ → Notation →
+    (List ℕ → Type 0) → (RunFault → List ℕ → Type 0) → (Result (Unit {0}) Fault → Type 0) →
+    Answer → Type 0
+IsRootScan device version root from limit notation took_all took_until tells answer =
+    (IsDoneScan version root from limit notation took_all × tells (Ok tt) × ShowsDone answer)
+    ⊎ ((fault : Fault) ×
+    IsStoppedScan device version root from limit notation took_all took_until fault ×
     tells (Err fault) × ShowsFault answer fault)
 
 -- The sink was flushed before the fault is told, and that is told, or that the flush failed.

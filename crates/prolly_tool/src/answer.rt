@@ -10,6 +10,7 @@ use crate::line_parts::append_name;
 use crate::name_fault::NameFault;
 use prolly_fault::RunFault;
 use prolly_line::ParseFault;
+use prolly_text::Notation;
 use std::alloc::{AllocError, Global};
 
 /// What the program prints, and the status with which it ends.
@@ -61,14 +62,20 @@ impl Answer {
         }
     }
 
-    /// The answer of a look-up of a key: its value in hexadecimal, or that there is none.
-    pub fn of_value(alloc: Global, value: Option<&[u8]>) -> Result<Answer, AllocError>
-        ensures { IfOk result (λ answer. ShowsValue answer (option_copied value.entry)) }
+    /// The answer of a look-up of a key: its value in this notation, or that there is none.
+    pub fn of_value(
+        alloc: Global,
+        notation: Notation,
+        value: Option<&[u8]>,
+    ) -> Result<Answer, AllocError>
+        ensures { IfOk result (λ answer. ShowsValue notation answer (option_copied value.entry)) }
     {
-        match value {
-            Some(value) => Answer::of_line(alloc, hex::encode(alloc, value)?.as_bytes()),
-            None => Ok(Answer::of_nothing(alloc)),
-        }
+        let Some(value) = value else {
+            return Ok(Answer::of_nothing(alloc));
+        };
+        let mut line = Vec::new(alloc);
+        notation.append(alloc, &mut line, value)?;
+        Answer::of_line(alloc, &line)
     }
 
     /// The answer of a command that is not done: the fault's line on standard error.
@@ -109,6 +116,7 @@ impl Answer {
         match refusal {
             ParseFault::Memory => Answer::of_fault(alloc, Fault::Run(RunFault::Memory)),
             ParseFault::BadKey => Answer::of_fault(alloc, Fault::BadKey),
+            ParseFault::BadTextKey => Answer::of_fault(alloc, Fault::BadTextKey),
             ParseFault::BadRoot => Answer::of_fault(alloc, Fault::BadRoot),
             ParseFault::Usage(text) => Ok(Answer {
                 status: 2,

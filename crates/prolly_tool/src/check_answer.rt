@@ -1,8 +1,9 @@
 //! The command `check`: whether a file is a lawful chunk file.
-ghost use Rattle.std.specs.Prelude.{◌≡◌, ◌≢◌, true, IfOk};
+ghost use Rattle.std.specs.Prelude.{◌≡◌, IfOk};
 ghost use Rattle.prolly_check.specs.Content.{Content};
 ghost use Rattle.prolly_check.specs.Verdict.{IsFileOf};
-ghost use Rattle.prolly_tool.specs.LookUps.{IsLookUp, ShowsCheck, ShowsFailedRead, check_text};
+ghost use Rattle.prolly_tool.specs.LookUps.{AnswersFailedRead, AnswersLookUp, ShowsCheck};
+ghost use Rattle.prolly_tool.specs.LookUps.{check_text};
 
 use crate::answer::Answer;
 use crate::fault::Fault;
@@ -19,11 +20,8 @@ use std::alloc::{AllocError, Global};
 /// Takes time linear in the file, but for an index of the references. The file and its chunks'
 /// places are held in memory.
 pub fn answer_check<S: Source>(alloc: Global, source: &mut S) -> Result<Answer, AllocError>
-    ensures shown { (S.seen source.old).is_honest ≡ true →
-        IfOk result (IsLookUp (S.seen source.old).left
-        ((S.seen source.new).failures ≢ (S.seen source.old).failures) ShowsCheck) }
-    ensures read { (S.seen source.new).failures ≢ (S.seen source.old).failures →
-        IfOk result ShowsFailedRead }
+    ensures shown { AnswersLookUp S.seen source.old source.new ShowsCheck result }
+    ensures read { AnswersFailedRead S.seen source.old source.new result }
 {
     let tree = match check(alloc, source, INPUT_LIMIT) {
         Ok(tree) => tree,

@@ -70,7 +70,7 @@ fn write_pairs<W: Sink>(
         (puts content.pairs)) }
 {
     match form {
-        RecordForm::Lines => write_lines(alloc, tree.leaves(), sink),
+        RecordForm::Lines(notation) => write_lines(alloc, notation, tree.leaves(), sink),
         RecordForm::Records => match tree.write_records(sink) {
             Ok(()) => Ok(()),
             Err(WriteFault) => Err(RunFault::Write),

@@ -1,4 +1,4 @@
-//! Writing the pairs of a chunk file as lines of text.
+//! Writing the pairs of a chunk file as lines.
 ghost use Rattle.std.specs.Prelude.{◌≡◌, ◌++◌, OnOk, IfErr};
 ghost use Rattle.prolly_tree.specs.Difference.{puts};
 ghost use Rattle.prolly_tool.specs.Outputs.{TookAll, TookUntil};
@@ -9,6 +9,7 @@ use crate::record_form::append_line;
 use prolly_check::{Leaves, Pairs};
 use prolly_fault::RunFault;
 use prolly_file::{Sink, write_all};
+use prolly_text::Notation;
 use std::alloc::{AllocError, Global};
 
 /// Writes a line for each pair of the leaves to a sink, and flushes it.
@@ -16,18 +17,19 @@ use std::alloc::{AllocError, Global};
 /// The lines of a leaf are put together in memory, and written in a call of the sink.
 pub(crate) fn write_lines<W: Sink>(
     alloc: Global,
+    notation: Notation,
     mut leaves: Leaves,
     sink: &mut W,
 ) -> Result<(), RunFault>
-    ensures ok { OnOk result (TookAll W.seen (written_records Lines (puts leaves.entry))
+    ensures ok { OnOk result (TookAll W.seen (written_records (Lines notation) (puts leaves.entry))
         sink.old sink.new) }
     ensures err { IfErr result (λ fault. TookUntil W.seen fault
-        (written_records Lines (puts leaves.entry)) sink.old sink.new) }
+        (written_records (Lines notation) (puts leaves.entry)) sink.old sink.new) }
 {
     let mut lines = Vec::new(alloc);
     while let Some(leaf) = leaves.next() {
         lines.clear();
-        let Ok(()) = append_lines(alloc, &mut lines, leaf) else {
+        let Ok(()) = append_lines(alloc, &mut lines, notation, leaf) else {
             return Err(RunFault::Memory);
         };
         let Ok(()) = write_all(sink, &lines) else {
@@ -41,12 +43,17 @@ pub(crate) fn write_lines<W: Sink>(
 }
 
 /// Appends a line for each of the pairs.
-fn append_lines(alloc: Global, lines: &mut Vec<u8>, mut pairs: Pairs) -> Result<(), AllocError>
+fn append_lines(
+    alloc: Global,
+    lines: &mut Vec<u8>,
+    notation: Notation,
+    mut pairs: Pairs,
+) -> Result<(), AllocError>
     ensures { OnOk result (lines.new.items ≡ lines.old.items ++
-        written_records Lines (puts pairs.entry)) }
+        written_records (Lines notation) (puts pairs.entry)) }
 {
     while let Some((key, value)) = pairs.next() {
-        append_line(alloc, lines, key, Some(value))?;
+        append_line(alloc, lines, notation, key, Some(value))?;
     }
     Ok(())
 }

@@ -35,6 +35,8 @@ pub enum Fault {
     InputTooLong,
     /// The word for a key is no key in hexadecimal.
     BadKey,
+    /// The word for a key is no key of text.
+    BadTextKey,
     /// The word for a root is not the text of a reference.
     BadRoot,
     /// A word of the command line is not UTF-8.
@@ -58,7 +60,7 @@ impl Fault {
             Fault::Root(fault) => root_status(fault),
             Fault::Proof(_) | Fault::NoCounts => 4,
             Fault::InputTooLong | Fault::OutIsStdout => 5,
-            Fault::BadKey | Fault::BadRoot | Fault::NotUnicode => 2,
+            Fault::BadKey | Fault::BadTextKey | Fault::BadRoot | Fault::NotUnicode => 2,
         }
     }
 }
@@ -114,6 +116,7 @@ impl Display for Fault {
             Fault::NoCounts => f.write_str("chunk file: no counts"),
             Fault::InputTooLong => f.write_str("input too long"),
             Fault::BadKey => f.write_str("not a key in hexadecimal"),
+            Fault::BadTextKey => f.write_str("not a key of text"),
             Fault::BadRoot => f.write_str("not the text of a root"),
             Fault::NotUnicode => f.write_str("a word is not UTF-8"),
             Fault::OutIsStdout => f.write_str("OUT is also standard output"),

@@ -5,19 +5,24 @@ ghost use Rattle.prolly_tool.specs.LookUps.{ShowsFound};
 use crate::answer::Answer;
 use crate::fault::Fault;
 use prolly_proof::{Found, RootFault};
+use prolly_text::Notation;
 use std::alloc::{AllocError, Global};
 
-/// What `get` answers to who names the root: the value that was found, in hexadecimal; nothing,
+/// What `get` answers to who names the root: the value that was found, in this notation; nothing,
 /// with status 1, where it was found that there is none; or the line of the fault for which nothing
 /// was found out. An `Err` is want of memory for that text.
 ///
 /// What a value or none says of the map with the root is said where the look-up is made: see
 /// [`get_by_root`](prolly_proof::get_by_root).
-pub fn answer_found(alloc: Global, found: &Result<Found, RootFault>) -> Result<Answer, AllocError>
-    ensures { IfOk result (λ answer. ShowsFound answer found.now) }
+pub fn answer_found(
+    alloc: Global,
+    notation: Notation,
+    found: &Result<Found, RootFault>,
+) -> Result<Answer, AllocError>
+    ensures { IfOk result (λ answer. ShowsFound notation answer found.now) }
 {
     match found {
-        Ok(found) => Answer::of_value(alloc, found.value.as_deref()),
+        Ok(found) => Answer::of_value(alloc, notation, found.value.as_deref()),
         Err(fault) => Answer::of_fault(alloc, Fault::Root(*fault)),
     }
 }

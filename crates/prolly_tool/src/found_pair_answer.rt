@@ -7,34 +7,36 @@ use crate::fault::Fault;
 use crate::line_parts::append_pair;
 use prolly_entry::Pair;
 use prolly_proof::{FoundPair, RootFault};
+use prolly_text::Notation;
 use std::alloc::{AllocError, Global};
 
-/// What `nth` answers to who names the root: the pair that was found, as key and value in
-/// hexadecimal; nothing, with status 1, where it was found that there is none; or the line of the
+/// What `nth` answers to who names the root: the pair that was found, as key and value in this
+/// notation; nothing, with status 1, where it was found that there is none; or the line of the
 /// fault for which nothing was found out. An `Err` is want of memory for that text.
 ///
 /// What a pair or none says of the map with the root is said where the look-up is made: see
 /// [`nth_by_root`](prolly_proof::nth_by_root).
 pub fn answer_found_pair(
     alloc: Global,
+    notation: Notation,
     found: &Result<FoundPair, RootFault>,
 ) -> Result<Answer, AllocError>
-    ensures { IfOk result (λ answer. ShowsFoundPair answer found.now) }
+    ensures shown { IfOk result (λ answer. ShowsFoundPair notation answer found.now) }
 {
     match found {
-        Ok(found) => pair_shown(alloc, &found.pair),
+        Ok(found) => pair_shown(alloc, notation, &found.pair),
         Err(fault) => Answer::of_fault(alloc, Fault::Root(*fault)),
     }
 }
 
 /// The answer of a look-up by a number: the line of its pair, or that there is none.
-fn pair_shown(alloc: Global, pair: &Option<Pair>) -> Result<Answer, AllocError>
-    ensures { IfOk result (λ answer. ShowsPair answer pair.now) }
+fn pair_shown(alloc: Global, notation: Notation, pair: &Option<Pair>) -> Result<Answer, AllocError>
+    ensures { IfOk result (λ answer. ShowsPair notation answer pair.now) }
 {
     let Some(pair) = pair else {
         return Ok(Answer::of_nothing(alloc));
     };
     let mut line = Vec::new(alloc);
-    append_pair(alloc, &mut line, pair.key(), pair.value())?;
+    append_pair(alloc, &mut line, notation, pair.key(), pair.value())?;
     Answer::of_line(alloc, &line)
 }

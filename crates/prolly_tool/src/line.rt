@@ -1,12 +1,16 @@
 //! One line of text, and the record that it stands for.
 ghost use Rattle.std.specs.Prelude.{◌≡◌, ◌≢◌, ◌<◌, ◌≤◌, ◌∷◌, ◌++◌, [], ℕ, List, All, length, take};
-ghost use Rattle.std.specs.Prelude.{Some, None, Ok, slice_get, IfOk, IfErr, IfSome, IfNone, Option};
-ghost use Rattle.hex.specs.Hex.{decode_of};
-ghost use Rattle.prolly_tool.specs.Lines.{lines_of, CutsAtSpace, IsBadLine};
-ghost use Rattle.prolly_tool.specs.Pack.{StandsFor, IsWrongLine, IsNoHex, flaw_of};
+ghost use Rattle.std.specs.Prelude.{Some, None, slice_get, IfOk, IfErr, IfSome, IfNone, IsTrue};
+ghost use Rattle.std.specs.Prelude.{◌↔◌};
+ghost use Rattle.std.specs.List.{AllByRecursion};
+ghost use Rattle.prolly_text.specs.Notations.{IsWritten, separator};
+ghost use Rattle.prolly_tool.specs.Lines.{CutsAt, lines_of};
+ghost use Rattle.prolly_tool.specs.Pack.{IsChangeOf, IsLongKey, IsLongPair, IsNotWritten};
+ghost use Rattle.prolly_tool.specs.Pack.{IsWrongLine, MarksRemoval, StandsFor, flaw_of};
 
-use hex::FromHexError;
+use crate::line_form::LineForm;
 use prolly_entry::{EntryFault, Pair, Record};
+use prolly_text::{Notation, TextFault};
 use std::alloc::Global;
 
 /// What is wrong with a line.
@@ -33,44 +37,65 @@ pub(crate) fn split_line(text: &[u8]) -> (&[u8], &[u8])
 }
 
 /// The record that a line stands for.
-pub(crate) fn record_of(alloc: Global, line: &[u8]) -> Result<Record, LineFlaw>
-    ensures ok { IfOk result (λ r. StandsFor line.now r) }
-    ensures err { IfErr result (λ flaw. IsWrongLine line.now flaw) }
+pub(crate) fn record_of(alloc: Global, form: LineForm, line: &[u8]) -> Result<Record, LineFlaw>
+    ensures ok { IfOk result (λ r. StandsFor form line.now r) }
+    ensures err { IfErr result (λ flaw. IsWrongLine form line.now flaw) }
 {
-    let Some((key, change)) = split_at_space(line) else {
-        return Err(LineFlaw::Bad);
+    let notation = form.notation;
+    let Some((key, change)) = split_at(line, notation.separator()) else {
+        return bare_record(alloc, form, line);
     };
-    let key = match bytes_of(alloc, key) {
-        Ok(key) => key,
-        Err(flaw) => return Err(flaw),
-    };
-    if change == b"-".as_slice() {
-        return match Record::remove(key) {
-            Ok(removal) => Ok(removal),
-            Err(fault) => Err(flaw_of(fault)),
-        };
+    let key = bytes_of(alloc, notation, key)?;
+    if is_removal(notation, change) {
+        return removal(key);
     }
-    let value = match bytes_of(alloc, change) {
-        Ok(value) => value,
-        Err(flaw) => return Err(flaw),
-    };
-    match Pair::new(key, value) {
-        Ok(pair) => Ok(Record::put(pair)),
+    let value = bytes_of(alloc, notation, change)?;
+    put(key, value)
+}
+
+/// The record of a line without a separator: in text a removal, where removals are looked for.
+fn bare_record(alloc: Global, form: LineForm, line: &[u8]) -> Result<Record, LineFlaw>
+    requires { AllByRecursion (λ b. b ≢ separator form.notation) line.now }
+    ensures ok { IfOk result (λ r. StandsFor form line.now r) }
+    ensures err { IfErr result (λ flaw. IsWrongLine form line.now flaw) }
+{
+    if !form.reads_bare_keys() {
+        return Err(LineFlaw::Bad);
+    }
+    let key = bytes_of(alloc, form.notation, line)?;
+    removal(key)
+}
+
+/// Whether what is behind the separator marks a removal.
+fn is_removal(notation: Notation, change: &[u8]) -> bool
+    ensures { IsTrue result ↔ MarksRemoval notation change.now }
+{
+    match notation {
+        Notation::Hex => change == b"-".as_slice(),
+        Notation::Text => false,
+    }
+}
+
+/// The removal of a key.
+fn removal(key: Vec<u8>) -> Result<Record, LineFlaw>
+    ensures ok { IfOk result (λ r. IsChangeOf key.items None r) }
+    ensures err { IfErr result (λ flaw. IsLongKey key.items flaw) }
+{
+    match Record::remove(key) {
+        Ok(removal) => Ok(removal),
         Err(fault) => Err(flaw_of(fault)),
     }
 }
 
-/// The text before the first space, and the text behind it.
-fn split_at_space(line: &[u8]) -> Option<(&[u8], &[u8])>
-    ensures some { IfSome result (λ texts. CutsAtSpace line.now texts.0.now texts.1.now) }
-    ensures none { IfNone result (IsBadLine line.now) }
+/// The record that puts a value at a key.
+fn put(key: Vec<u8>, value: Vec<u8>) -> Result<Record, LineFlaw>
+    ensures ok { IfOk result (λ r. IsChangeOf key.items (Some value.items) r) }
+    ensures err { IfErr result (λ flaw. IsLongPair key.items value.items flaw) }
 {
-    let space = first_place(line, b' ');
-    let (key, rest) = line.split_at(space);
-    if rest.is_empty() {
-        return None;
+    match Pair::new(key, value) {
+        Ok(pair) => Ok(Record::put(pair)),
+        Err(fault) => Err(flaw_of(fault)),
     }
-    Some((key, &rest[1..]))
 }
 
 fn flaw_of(fault: EntryFault) -> LineFlaw
@@ -82,15 +107,28 @@ fn flaw_of(fault: EntryFault) -> LineFlaw
     }
 }
 
-/// The bytes that a text in hexadecimal is.
-fn bytes_of(alloc: Global, text: &[u8]) -> Result<Vec<u8>, LineFlaw>
-    ensures ok { IfOk result (λ bytes. decode_of text.now ≡ Ok bytes.items) }
-    ensures err { IfErr result (λ flaw. IsNoHex text.now flaw) }
+/// The text before the first byte of this value, and the text behind it.
+fn split_at(line: &[u8], byte: u8) -> Option<(&[u8], &[u8])>
+    ensures some { IfSome result (λ texts. CutsAt byte line.now texts.0.now texts.1.now) }
+    ensures none { IfNone result (AllByRecursion (λ b. b ≢ byte) line.now) }
 {
-    match hex::decode(alloc, text) {
+    let place = first_place(line, byte);
+    let (key, rest) = line.split_at(place);
+    if rest.is_empty() {
+        return None;
+    }
+    Some((key, &rest[1..]))
+}
+
+/// The bytes that a text stands for.
+fn bytes_of(alloc: Global, notation: Notation, text: &[u8]) -> Result<Vec<u8>, LineFlaw>
+    ensures ok { IfOk result (λ bytes. IsWritten notation text.now bytes.items) }
+    ensures err { IfErr result (λ flaw. IsNotWritten notation text.now flaw) }
+{
+    match notation.bytes_of(alloc, text) {
         Ok(bytes) => Ok(bytes),
-        Err(FromHexError::OutOfMemory) => Err(LineFlaw::Memory),
-        Err(_) => Err(LineFlaw::Bad),
+        Err(TextFault::Memory) => Err(LineFlaw::Memory),
+        Err(TextFault::Bad) => Err(LineFlaw::Bad),
     }
 }
 

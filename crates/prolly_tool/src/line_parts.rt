@@ -1,9 +1,10 @@
 //! Parts of the lines that commands print.
 ghost use Rattle.std.specs.Prelude.{◌≡◌, ◌++◌, ◌∷◌, OnOk};
 ghost use Rattle.std.specs.Fmt.{decimal};
-ghost use Rattle.hex.specs.Hex.{encode_lower};
+ghost use Rattle.prolly_text.specs.Notations.{separator, written};
 ghost use Rattle.prolly_tool.specs.Names.{shown_byte, shown_name};
 
+use prolly_text::{Notation, append_hex};
 use std::alloc::{AllocError, Global};
 
 /// Appends a space, and the number in decimal.
@@ -19,28 +20,20 @@ pub(crate) fn append_number(
     Ok(())
 }
 
-/// Appends the bytes in hexadecimal, in lower case.
-pub(crate) fn append_hex(alloc: Global, line: &mut Vec<u8>, bytes: &[u8]) -> Result<(), AllocError>
-    ensures { OnOk result (line.new.items ≡ line.old.items ++ encode_lower bytes.now) }
-{
-    let text = hex::encode(alloc, bytes)?;
-    line.extend_from_slice(text.as_bytes())?;
-    Ok(())
-}
-
-/// Appends a key and its value, with a space between them.
+/// Appends a key and its value, with a separator between them.
 pub(crate) fn append_pair(
     alloc: Global,
     line: &mut Vec<u8>,
+    notation: Notation,
     key: &[u8],
     value: &[u8],
 ) -> Result<(), AllocError>
-    ensures { OnOk result (line.new.items ≡ line.old.items ++ encode_lower
-        key.now ++ 0x20 ∷ encode_lower value.now) }
+    ensures { OnOk result (line.new.items ≡ line.old.items ++ written notation
+        key.now ++ separator notation ∷ written notation value.now) }
 {
-    append_hex(alloc, line, key)?;
-    line.extend_from_slice(b" ")?;
-    append_hex(alloc, line, value)
+    notation.append(alloc, line, key)?;
+    line.push(notation.separator())?;
+    notation.append(alloc, line, value)
 }
 
 /// Appends a file's name, as a line shows it.

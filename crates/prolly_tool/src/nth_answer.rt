@@ -1,6 +1,6 @@
 //! The command `nth`: a pair by its number.
-ghost use Rattle.std.specs.Prelude.{◌≡◌, ◌≢◌, true, IfOk};
-ghost use Rattle.prolly_tool.specs.LookUps.{IsLookUp, ShowsPlace, ShowsFailedRead};
+ghost use Rattle.prolly_text.specs.declared.notation.Notation.TheVariants.{Hex};
+ghost use Rattle.prolly_tool.specs.LookUps.{AnswersFailedRead, AnswersLookUp, ShowsPlace};
 
 use crate::answer::Answer;
 use crate::fault::Fault;
@@ -8,21 +8,24 @@ use crate::input::INPUT_LIMIT;
 use crate::line_parts::append_pair;
 use prolly_check::{NoCounts, check};
 use prolly_file::Source;
+use prolly_text::Notation;
 use std::alloc::{AllocError, Global};
 
 /// What `nth` answers: the pair of this number, counted from 0 in the order of keys, as key and
-/// value in hexadecimal; nothing, with status 1, where there is none; a fault's line where the file
-/// is of version One, which has no counts, or is one that `check` refuses. An `Err` is want of
+/// value in this notation; nothing, with status 1, where there is none; a fault's line where the
+/// file is of version One, which has no counts, or is one that `check` refuses. An `Err` is want of
 /// memory for the answer's own text.
 ///
 /// The file is checked first, as by `check`; the look-up itself skips by the counts of the pairs
 /// below.
-pub fn answer_nth<S: Source>(alloc: Global, source: &mut S, n: u64) -> Result<Answer, AllocError>
-    ensures shown { (S.seen source.old).is_honest ≡ true →
-        IfOk result (IsLookUp (S.seen source.old).left
-        ((S.seen source.new).failures ≢ (S.seen source.old).failures) (ShowsPlace n)) }
-    ensures read { (S.seen source.new).failures ≢ (S.seen source.old).failures →
-        IfOk result ShowsFailedRead }
+pub fn answer_nth_as<S: Source>(
+    alloc: Global,
+    source: &mut S,
+    n: u64,
+    notation: Notation,
+) -> Result<Answer, AllocError>
+    ensures shown { AnswersLookUp S.seen source.old source.new (ShowsPlace notation n) result }
+    ensures read { AnswersFailedRead S.seen source.old source.new result }
 {
     let tree = match check(alloc, source, INPUT_LIMIT) {
         Ok(tree) => tree,
@@ -31,10 +34,18 @@ pub fn answer_nth<S: Source>(alloc: Global, source: &mut S, n: u64) -> Result<An
     match tree.nth(n) {
         Ok(Some((key, value))) => {
             let mut line = Vec::new(alloc);
-            append_pair(alloc, &mut line, key, value)?;
+            append_pair(alloc, &mut line, notation, key, value)?;
             Answer::of_line(alloc, &line)
         }
         Ok(None) => Ok(Answer::of_nothing(alloc)),
         Err(NoCounts) => Answer::of_fault(alloc, Fault::NoCounts),
     }
+}
+
+/// What `nth` answers in hexadecimal: see [`answer_nth_as`].
+pub fn answer_nth<S: Source>(alloc: Global, source: &mut S, n: u64) -> Result<Answer, AllocError>
+    ensures shown { AnswersLookUp S.seen source.old source.new (ShowsPlace Hex n) result }
+    ensures read { AnswersFailedRead S.seen source.old source.new result }
+{
+    answer_nth_as(alloc, source, n, Notation::Hex)
 }

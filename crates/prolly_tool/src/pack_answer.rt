@@ -1,14 +1,15 @@
 //! The command `pack`: a record file out of text.
-ghost use Rattle.std.specs.Prelude.{◌≡◌, ◌≢◌, ◌⊎◌, true, [], IfOk, IfErr, OnOk, OnErr, IsErrOf};
-ghost use Rattle.prolly_tool.specs.Answers.{ShowsFault};
+ghost use Rattle.std.specs.Prelude.{◌≡◌, ◌≢◌, true, [], IfOk, IfErr, OnOk, IsErrOf};
 ghost use Rattle.prolly_tool.specs.Input.{IsReadWhole};
-ghost use Rattle.prolly_tool.specs.Outputs.{TookAll, TookPart, IsAnswer, IsCutShort};
-ghost use Rattle.prolly_tool.specs.Pack.{Packs, PacksTo, IsPackingFault};
+ghost use Rattle.prolly_tool.specs.Lines.{hex_lines};
+ghost use Rattle.prolly_tool.specs.Pack.{AnswersPack, IsPackingFault, LeavesPack, Packs};
+ghost use Rattle.prolly_tool.specs.Pack.{TellsPackRead};
 
 use crate::answer::Answer;
 use crate::fault::Fault;
 use crate::input::input_of;
-use crate::pack::pack_lines;
+use crate::line_form::LineForm;
+use crate::pack::pack_lines_as;
 use prolly_fault::RunFault;
 use prolly_file::{Sink, Source, WriteFault, write_whole};
 use std::alloc::{AllocError, Global};
@@ -20,36 +21,24 @@ struct Packed {
     count: u64,
 }
 
-/// What `pack` answers: it reads lines of text from the source, writes the records that they stand
-/// for to the sink, and shows their number. Whether keys rise is not tested.
+/// What `pack` answers: it reads lines in this form from the source, writes the records that they
+/// stand for to the sink, and shows their number. Whether keys rise is not tested.
 ///
 /// The sink is written to only once all else is done. An `Err` is want of memory for the answer's
 /// own text; the sink is then as it was, or it failed.
 ///
 /// Takes time linear in the text, and holds the text and the record file in memory.
-pub fn answer_pack<S: Source, W: Sink>(
+pub fn answer_pack_as<S: Source, W: Sink>(
     alloc: Global,
     source: &mut S,
     sink: &mut W,
+    form: LineForm,
 ) -> Result<Answer, AllocError>
-    ensures ok { (S.seen source.old).is_honest ≡ true → IfOk result (IsAnswer
-        (PacksTo (S.seen source.old).left
-        ((S.seen source.new).failures ≢ (S.seen source.old).failures))
-        (IsPackingFault (S.seen source.old).left
-        ((S.seen source.new).failures ≢ (S.seen source.old).failures))
-        (λ file. TookAll W.seen file sink.old sink.new)
-        (λ file. TookPart W.seen file sink.old sink.new)
-        (sink.new ≡ sink.old)) }
-    ensures err { (S.seen source.old).is_honest ≡ true →
-        OnErr result ((sink.new ≡ sink.old) ⊎ IsCutShort
-        (PacksTo (S.seen source.old).left
-        ((S.seen source.new).failures ≢ (S.seen source.old).failures))
-        (λ file. TookPart W.seen file sink.old sink.new)) }
-    ensures read { (S.seen source.new).failures ≢ (S.seen source.old).failures →
-        (sink.new ≡ sink.old) × IfOk result (λ answer. ShowsFault answer
-        (Fault.Run (RunFault.Read 0))) }
+    ensures ok { AnswersPack S.seen W.seen form source.old source.new sink.old sink.new result }
+    ensures err { LeavesPack S.seen W.seen form source.old source.new sink.old sink.new result }
+    ensures read { TellsPackRead S.seen source.old source.new sink.old sink.new result }
 {
-    let packed = match packed_of(alloc, source) {
+    let packed = match packed_of(alloc, source, form) {
         Ok(packed) => packed,
         Err(fault) => return Answer::of_fault(alloc, fault),
     };
@@ -62,22 +51,38 @@ pub fn answer_pack<S: Source, W: Sink>(
     }
 }
 
+/// What `pack` answers to lines in hexadecimal: see [`answer_pack_as`].
+pub fn answer_pack<S: Source, W: Sink>(
+    alloc: Global,
+    source: &mut S,
+    sink: &mut W,
+) -> Result<Answer, AllocError>
+    ensures ok { AnswersPack S.seen W.seen hex_lines source.old source.new sink.old sink.new
+        result }
+    ensures err { LeavesPack S.seen W.seen hex_lines source.old source.new sink.old sink.new
+        result }
+    ensures read { TellsPackRead S.seen source.old source.new sink.old sink.new result }
+{
+    answer_pack_as(alloc, source, sink, LineForm::hex())
+}
+
 /// The record file of the lines that a source has left.
-fn packed_of<S: Source>(alloc: Global, source: &mut S) -> Result<Packed, Fault>
+fn packed_of<S: Source>(alloc: Global, source: &mut S, form: LineForm) -> Result<Packed, Fault>
     ensures whole { (S.seen source.old).is_honest ≡ true →
         OnOk result (IsReadWhole (S.seen source.old).left
         ((S.seen source.new).failures ≢ (S.seen source.old).failures)) }
     ensures ok { (S.seen source.old).is_honest ≡ true →
-        IfOk result (λ packed. Packs (S.seen source.old).left [] packed.file.items packed.count) }
+        IfOk result (λ packed.
+        Packs form (S.seen source.old).left [] packed.file.items packed.count) }
     ensures err { (S.seen source.old).is_honest ≡ true →
-        IfErr result (λ fault. IsPackingFault (S.seen source.old).left
+        IfErr result (λ fault. IsPackingFault form (S.seen source.old).left
         ((S.seen source.new).failures ≢ (S.seen source.old).failures) fault) }
     ensures read { (S.seen source.new).failures ≢ (S.seen source.old).failures →
         IsErrOf result (Fault.Run (RunFault.Read 0)) }
 {
     let text = input_of(alloc, source)?;
     let mut file = Vec::new(alloc);
-    match pack_lines(alloc, &text, &mut file) {
+    match pack_lines_as(alloc, form, &text, &mut file) {
         Ok(count) => Ok(Packed { file, count }),
         Err(fault) => Err(Fault::Pack(fault)),
     }

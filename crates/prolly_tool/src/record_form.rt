@@ -3,18 +3,18 @@ ghost use Rattle.std.specs.Prelude.{◌≡◌, ◌≢◌, ◌++◌, None, OnOk, 
 ghost use Rattle.std.specs.Option.{option_copied};
 ghost use Rattle.prolly_entry.specs.Record.{IsRecord};
 ghost use Rattle.prolly_entry.specs.Spelling.{record_spelling};
-ghost use Rattle.prolly_tool.specs.RecordForms.{record_line, spelled_in};
+ghost use Rattle.prolly_tool.specs.RecordForms.{change_text, record_line, removal_mark, spelled_in};
 
-use crate::line_parts::append_hex;
 use prolly_entry::{Pair, Record, append_record};
+use prolly_text::Notation;
 use std::alloc::{AllocError, Global};
 
 /// How records are written: the value that is put at a key, or that the key is removed.
 #[derive(Clone, Copy, Debug, PartialEq, Eq)]
 pub enum RecordForm {
-    /// A line of text, as `pack` reads it: the key in hexadecimal, a space, and the value in
-    /// hexadecimal or a dash.
-    Lines,
+    /// A line, as `pack` reads it: in hexadecimal a key, a space, and a value or a dash; in text a
+    /// key, a tab and a value, or a key alone.
+    Lines(Notation),
     /// A record, as in a record file.
     Records,
 }
@@ -34,7 +34,7 @@ pub(crate) fn append_change(
 {
     match form {
         None => Ok(()),
-        Some(RecordForm::Lines) => append_line(alloc, out, key, value),
+        Some(RecordForm::Lines(notation)) => append_line(alloc, out, notation, key, value),
         Some(RecordForm::Records) => append_record(out, &record_of(alloc, key, value)?),
     }
 }
@@ -43,19 +43,45 @@ pub(crate) fn append_change(
 pub(crate) fn append_line(
     alloc: Global,
     out: &mut Vec<u8>,
+    notation: Notation,
     key: &[u8],
     value: Option<&[u8]>,
 ) -> Result<(), AllocError>
-    ensures { OnOk result (out.new.items ≡ out.old.items ++ record_line
+    ensures { OnOk result (out.new.items ≡ out.old.items ++ record_line notation
         (record { key = key.now; value = option_copied value.entry })) }
 {
-    append_hex(alloc, out, key)?;
-    out.extend_from_slice(b" ")?;
-    match value {
-        Some(value) => append_hex(alloc, out, value)?,
-        None => out.extend_from_slice(b"-")?,
-    }
+    notation.append(alloc, out, key)?;
+    append_change_text(alloc, out, notation, value)?;
     out.extend_from_slice(b"\n")
+}
+
+/// Appends what a line has behind its key.
+fn append_change_text(
+    alloc: Global,
+    out: &mut Vec<u8>,
+    notation: Notation,
+    value: Option<&[u8]>,
+) -> Result<(), AllocError>
+    ensures { OnOk result (out.new.items ≡
+        out.old.items ++ change_text notation (option_copied value.entry)) }
+{
+    match value {
+        Some(value) => {
+            out.push(notation.separator())?;
+            notation.append(alloc, out, value)
+        }
+        None => out.extend_from_slice(removal_mark(notation)),
+    }
+}
+
+/// What marks a removal behind its key.
+fn removal_mark(notation: Notation) -> &'static [u8]
+    ensures { result.now ≡ removal_mark notation }
+{
+    match notation {
+        Notation::Hex => b" -",
+        Notation::Text => b"",
+    }
 }
 
 /// The record of a change.

@@ -19,6 +19,7 @@ use prolly_entry::{Pair, Ref, Version};
 use prolly_fault::RunFault;
 use prolly_file::{Device, Sink, write_all};
 use prolly_proof::Reader;
+use prolly_text::Notation;
 use std::alloc::{AllocError, Global};
 
 /// What a scan by the root asks for.
@@ -32,12 +33,14 @@ pub struct RootScan<'a> {
     pub from: &'a [u8],
     /// How many pairs are wanted at most.
     pub limit: u32,
+    /// How keys and values are shown.
+    pub notation: Notation,
 }
 
-/// What `scan` answers to who names the root: it writes a line of key and value in hexadecimal to
-/// the sink for each of the pairs that are asked for, and shows nothing; or it shows the line of
-/// the fault that stopped it, and what was found before that was written. An `Err` is want of
-/// memory for that line; the sink then has what was found before.
+/// What `scan` answers to who names the root: it writes a line of key and value to the sink for
+/// each of the pairs that are asked for, and shows nothing; or it shows the line of the fault that
+/// stopped it, and what was found before that was written. An `Err` is want of memory for that
+/// line; the sink then has what was found before.
 ///
 /// It goes on leaf by leaf, and looks each up from the root with one [`Reader`], which goes over
 /// the frames below a chunk once and reads no chunk twice. It takes memory for one look-up, and for
@@ -52,11 +55,12 @@ pub fn answer_scan_by_root<D: Device, W: Sink>(
     sink: &mut W,
 ) -> Result<Answer, AllocError>
     ensures ok { IfOk result (IsRootScan (D.seen device.old) scan.now.version scan.now.root.now.0
-        scan.now.from.now scan.now.limit (λ bytes. TookAll W.seen bytes sink.old sink.new)
+        scan.now.from.now scan.now.limit scan.now.notation
+        (λ bytes. TookAll W.seen bytes sink.old sink.new)
         (λ fault bytes. TookUntil W.seen fault bytes sink.old sink.new)
         (TellsScanReads (D.seen device.old).failures (D.seen device.new).failures)) }
     ensures err { OnErr result ((fault : FaultValue) × IsStoppedScan (D.seen device.old)
-        scan.now.version scan.now.root.now.0 scan.now.from.now scan.now.limit
+        scan.now.version scan.now.root.now.0 scan.now.from.now scan.now.limit scan.now.notation
         (λ bytes. TookAll W.seen bytes sink.old sink.new)
         (λ fault bytes. TookUntil W.seen fault bytes sink.old sink.new) fault ×
         TellsScanReads (D.seen device.old).failures (D.seen device.new).failures (Err fault)) }
@@ -75,9 +79,10 @@ fn write_scan<D: Device, W: Sink>(
     sink: &mut W,
 ) -> Result<(), Fault>
     ensures ok { OnOk result (IsDoneScan scan.now.version scan.now.root.now.0
-        scan.now.from.now scan.now.limit (λ bytes. TookAll W.seen bytes sink.old sink.new)) }
+        scan.now.from.now scan.now.limit scan.now.notation
+        (λ bytes. TookAll W.seen bytes sink.old sink.new)) }
     ensures err { IfErr result (IsStoppedScan (D.seen device.old) scan.now.version
-        scan.now.root.now.0 scan.now.from.now scan.now.limit
+        scan.now.root.now.0 scan.now.from.now scan.now.limit scan.now.notation
         (λ bytes. TookAll W.seen bytes sink.old sink.new)
         (λ fault bytes. TookUntil W.seen fault bytes sink.old sink.new)) }
     ensures reads { TellsScanReads (D.seen device.old).failures (D.seen device.new).failures
@@ -90,7 +95,7 @@ fn write_scan<D: Device, W: Sink>(
         Ok(reader) => reader,
         Err(fault) => return Err(Fault::Root(fault)),
     };
-    match write_leaves(alloc, device, reader, scan.from, scan.limit, sink) {
+    match write_leaves(alloc, device, reader, scan, sink) {
         Ok(()) => flush(sink),
         Err(fault) => Err(fault_flushed(sink, fault)),
     }
@@ -101,24 +106,24 @@ fn write_leaves<D: Device, W: Sink>(
     alloc: Global,
     device: &mut D,
     mut reader: Reader,
-    from: &[u8],
-    limit: u32,
+    scan: &RootScan<'_>,
     sink: &mut W,
 ) -> Result<(), Fault>
-    ensures ok { OnOk result (IsDoneScan reader.version reader.root from.now limit
-        (λ bytes. TookAll W.seen bytes sink.old sink.new)) }
+    ensures ok { OnOk result (IsDoneScan reader.version reader.root scan.now.from.now
+        scan.now.limit scan.now.notation (λ bytes. TookAll W.seen bytes sink.old sink.new)) }
     ensures err { (first : DeviceView) → StaysSame first (D.seen device.old) →
         IsOpened first reader → IfErr result (IsStoppedScan first reader.version reader.root
-        from.now limit (λ bytes. TookAll W.seen bytes sink.old sink.new)
+        scan.now.from.now scan.now.limit scan.now.notation
+        (λ bytes. TookAll W.seen bytes sink.old sink.new)
         (λ fault bytes. TookUntil W.seen fault bytes sink.old sink.new)) }
     ensures keeping { (W.seen sink.old).is_keeping ≡ true → (W.seen sink.new).is_keeping ≡ true }
     ensures reads { TellsScanReads (D.seen device.old).failures (D.seen device.new).failures
         result }
 {
-    let Ok(mut next) = Vec::from_slice(alloc, from) else {
+    let Ok(mut next) = Vec::from_slice(alloc, scan.from) else {
         return Err(Fault::Run(RunFault::Memory));
     };
-    let mut left = limit as usize;
+    let mut left = scan.limit as usize;
     while left > 0 {
         let pairs = match reader.pairs_from(alloc, device, &next) {
             Ok(pairs) => pairs,
@@ -127,7 +132,7 @@ fn write_leaves<D: Device, W: Sink>(
         let Some(last) = pairs.last() else {
             return Ok(());
         };
-        if let Err(fault) = write_first(alloc, &pairs, left, sink) {
+        if let Err(fault) = write_first(alloc, scan.notation, &pairs, left, sink) {
             return Err(Fault::Run(fault));
         }
         left = left.saturating_sub(pairs.len());
@@ -142,16 +147,18 @@ fn write_leaves<D: Device, W: Sink>(
 /// Writes the lines of the first of the pairs of a leaf, at most so many.
 fn write_first<W: Sink>(
     alloc: Global,
+    notation: Notation,
     pairs: &[Pair],
     most: usize,
     sink: &mut W,
 ) -> Result<(), RunFault>
-    ensures ok { OnOk result (TookAll W.seen (pair_lines (take most pairs.now)) sink.old sink.new) }
+    ensures ok { OnOk result
+        (TookAll W.seen (pair_lines notation (take most pairs.now)) sink.old sink.new) }
     ensures err { IfErr result (λ fault. TookUntil W.seen fault
-        (pair_lines (take most pairs.now)) sink.old sink.new) }
+        (pair_lines notation (take most pairs.now)) sink.old sink.new) }
     ensures keeping { (W.seen sink.old).is_keeping ≡ true → (W.seen sink.new).is_keeping ≡ true }
 {
-    let Ok(lines) = lines_of(alloc, first_of(pairs, most)) else {
+    let Ok(lines) = lines_of(alloc, notation, first_of(pairs, most)) else {
         return Err(RunFault::Memory);
     };
     match write_all(sink, &lines) {

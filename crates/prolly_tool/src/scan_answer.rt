@@ -1,6 +1,8 @@
 //! The command `scan`: pairs from a key on.
-ghost use Rattle.std.specs.Prelude.{◌≡◌, ◌≢◌, true, IfOk, OnOk};
-ghost use Rattle.prolly_tool.specs.LookUps.{IsLookUp, ShowsScan, ShowsFailedRead, pair_lines};
+ghost use Rattle.std.specs.Prelude.{◌≡◌, IfOk, OnOk};
+ghost use Rattle.prolly_text.specs.declared.notation.Notation.TheVariants.{Hex};
+ghost use Rattle.prolly_tool.specs.LookUps.{AnswersFailedRead, AnswersLookUp, ShowsScan};
+ghost use Rattle.prolly_tool.specs.LookUps.{pair_lines};
 
 use crate::answer::Answer;
 use crate::fault::Fault;
@@ -9,31 +11,31 @@ use crate::line_parts::append_pair;
 use prolly_check::check;
 use prolly_entry::Pair;
 use prolly_file::Source;
+use prolly_text::Notation;
 use std::alloc::{AllocError, Global};
 
-/// What `scan` answers: a line of key and value in hexadecimal for each of the first `limit` pairs
-/// whose key is not less than `from`; or the line of the fault of a file that `check` refuses. An
-/// `Err` is want of memory for the pairs or for the answer's own text.
+/// What `scan` answers: a line of key and value in this notation for each of the first `limit`
+/// pairs whose key is not less than `from`; or the line of the fault of a file that `check`
+/// refuses. An `Err` is want of memory for the pairs or for the answer's own text.
 ///
 /// The file is checked first, as by `check`; the look-up itself stops at its limit.
-pub fn answer_scan<S: Source>(
+pub fn answer_scan_as<S: Source>(
     alloc: Global,
     source: &mut S,
     from: &[u8],
     limit: u32,
+    notation: Notation,
 ) -> Result<Answer, AllocError>
-    ensures shown { (S.seen source.old).is_honest ≡ true →
-        IfOk result (IsLookUp (S.seen source.old).left
-        ((S.seen source.new).failures ≢ (S.seen source.old).failures) (ShowsScan from.now limit)) }
-    ensures read { (S.seen source.new).failures ≢ (S.seen source.old).failures →
-        IfOk result ShowsFailedRead }
+    ensures shown { AnswersLookUp S.seen source.old source.new
+        (ShowsScan notation from.now limit) result }
+    ensures read { AnswersFailedRead S.seen source.old source.new result }
 {
     let tree = match check(alloc, source, INPUT_LIMIT) {
         Ok(tree) => tree,
         Err(fault) => return Answer::of_fault(alloc, Fault::Check(fault)),
     };
     let pairs = tree.scan(alloc, from, limit)?;
-    let out = lines_of(alloc, &pairs)?;
+    let out = lines_of(alloc, notation, &pairs)?;
     Ok(Answer {
         status: 0,
         out,
@@ -41,13 +43,31 @@ pub fn answer_scan<S: Source>(
     })
 }
 
+/// What `scan` answers in hexadecimal: see [`answer_scan_as`].
+pub fn answer_scan<S: Source>(
+    alloc: Global,
+    source: &mut S,
+    from: &[u8],
+    limit: u32,
+) -> Result<Answer, AllocError>
+    ensures shown { AnswersLookUp S.seen source.old source.new
+        (ShowsScan Hex from.now limit) result }
+    ensures read { AnswersFailedRead S.seen source.old source.new result }
+{
+    answer_scan_as(alloc, source, from, limit, Notation::Hex)
+}
+
 /// A line for each pair.
-pub(crate) fn lines_of(alloc: Global, pairs: &[Pair]) -> Result<Vec<u8>, AllocError>
-    ensures { IfOk result (λ lines. lines.items ≡ pair_lines pairs.now) }
+pub(crate) fn lines_of(
+    alloc: Global,
+    notation: Notation,
+    pairs: &[Pair],
+) -> Result<Vec<u8>, AllocError>
+    ensures { IfOk result (λ lines. lines.items ≡ pair_lines notation pairs.now) }
 {
     let mut lines = Vec::new(alloc);
     for pair in pairs {
-        append_pair(alloc, &mut lines, pair.key(), pair.value())?;
+        append_pair(alloc, &mut lines, notation, pair.key(), pair.value())?;
         lines.extend_from_slice(b"\n")?;
     }
     Ok(lines)

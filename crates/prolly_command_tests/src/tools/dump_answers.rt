@@ -3,8 +3,11 @@ use super::expect_answer;
 use crate::expect::expect_bytes;
 use prolly_file::{FromRead, ScriptSink, ScriptSource};
 use prolly_test_parts::chunk_file;
-use prolly_tool::{RecordForm, answer_dump};
+use prolly_tool::{Notation, RecordForm, answer_dump};
 use std::test::Fail;
+
+/// Lines in hexadecimal.
+const HEX_LINES: RecordForm = RecordForm::Lines(Notation::Hex);
 
 /// A leaf of a=1 and b=2.
 const LEAF: &[u8] = b"\0\0\x01a\0\0\0\x011\0\x01b\0\0\0\x012";
@@ -39,7 +42,7 @@ fn writes_a_line_for_each_pair(rt: HostRuntime) -> Result<(), Fail> {
     let file = chunk_file(alloc, [1, 24], &[LEAF])?;
     let mut source = FromRead::new(file.as_slice());
     let mut sink = ScriptSink::new(alloc, 5, None);
-    let answer = answer_dump(alloc, &mut source, RecordForm::Lines, &mut sink)?;
+    let answer = answer_dump(alloc, &mut source, HEX_LINES, &mut sink)?;
     expect_answer(&rt, &answer, 0, b"", b"");
     expect_bytes(&rt, sink.taken(), b"61 31\n62 32\n");
     Ok(())
@@ -61,7 +64,7 @@ fn tells_the_fault_and_writes_nothing(rt: HostRuntime) -> Result<(), Fail> {
             b"prolly: chunk file: read failed\n",
         ),
     ] {
-        let answer = answer_dump(alloc, &mut source, RecordForm::Lines, &mut sink)?;
+        let answer = answer_dump(alloc, &mut source, HEX_LINES, &mut sink)?;
         expect_answer(&rt, &answer, status, b"", line);
     }
     expect_bytes(&rt, sink.taken(), b"");

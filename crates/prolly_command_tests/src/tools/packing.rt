@@ -1,7 +1,7 @@
 //! Lines of text, as they are packed.
 use crate::expect::expect_bytes;
 use prolly_test_parts::joined;
-use prolly_tool::{PackFault, pack_lines};
+use prolly_tool::{LineForm, Notation, PackFault, pack_lines, pack_lines_as};
 use std::alloc::Global;
 use std::test::Fail;
 
@@ -50,6 +50,71 @@ fn names_the_first_faulty_line(rt: HostRuntime) -> Result<(), Fail> {
         assert_eq!(rt;
             pack_lines(rt.alloc(), text, &mut out),
             Err(PackFault::BadLine { line })
+        );
+        expect_bytes(&rt, &out, b"kept");
+    }
+    Ok(())
+}
+
+/// Lines of text, of which a key alone is a removal where that is asked for.
+fn text_lines(removals: bool) -> LineForm {
+    LineForm {
+        notation: Notation::Text,
+        removals,
+    }
+}
+
+#[test]
+fn lines_of_text_are_packed(rt: HostRuntime) -> Result<(), Fail> {
+    for (text, removals, count, bytes) in [
+        (
+            b"a\t1\n".as_slice(),
+            false,
+            1,
+            b"\0\x01a\0\0\0\x011".as_slice(),
+        ),
+        // The escapes as the manual of PostgreSQL's COPY lists them.
+        (
+            b"\\b\\f\\n\\r\\t\\v\\x41\t\\\\",
+            false,
+            1,
+            b"\0\x07\x08\x0c\x0a\x0d\x09\x0b\x41\0\0\0\x01\\",
+        ),
+        (b"\t\n", false, 1, b"\0\0\0\0\0\0"),
+        (
+            b"a\n\n",
+            true,
+            2,
+            b"\0\x01a\xff\xff\xff\xff\0\0\xff\xff\xff\xff",
+        ),
+        (b"\xff\t", true, 1, b"\0\x01\xff\0\0\0\0"),
+    ] {
+        let mut out = b"kept".to_vec(rt.alloc())?;
+        let packed = pack_lines_as(rt.alloc(), text_lines(removals), text, &mut out);
+        assert_eq!(rt; packed, Ok(count));
+        expect_bytes(&rt, &out, &joined(rt.alloc(), &[b"kept", bytes])?);
+    }
+    Ok(())
+}
+
+#[test]
+fn names_the_first_faulty_line_of_text(rt: HostRuntime) -> Result<(), Fail> {
+    for (text, removals, line) in [
+        (b"a\n".as_slice(), false, 0),
+        (b"a\t1\n\n", false, 1),
+        (b"a\t1\t2\n", true, 0),
+        (b"a\t1\r\n", true, 0),
+        (b"\\q\t1\n", true, 0),
+        (b"\\q\n", true, 0),
+        (b"a\t1\nb\t\\\n", true, 1),
+        (b"\\x4\t1\n", true, 0),
+        (b"\\x4g\t1\n", true, 0),
+        (b"\\101\t1\n", true, 0),
+    ] {
+        let mut out = b"kept".to_vec(rt.alloc())?;
+        assert_eq!(rt;
+            pack_lines_as(rt.alloc(), text_lines(removals), text, &mut out),
+            Err(PackFault::BadText { line })
         );
         expect_bytes(&rt, &out, b"kept");
     }

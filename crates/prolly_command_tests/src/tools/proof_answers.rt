@@ -4,7 +4,7 @@ use crate::expect::expect_bytes;
 use prolly_entry::{Ref, Version};
 use prolly_file::{FromRead, ScriptSink};
 use prolly_test_parts::{chunk_file, joined};
-use prolly_tool::{answer_prove, answer_verify};
+use prolly_tool::{Notation, answer_prove, answer_verify};
 use std::test::Fail;
 
 /// A leaf of a=1 and b=2.
@@ -24,7 +24,7 @@ fn proves_a_value_and_that_there_is_none(rt: HostRuntime) -> Result<(), Fail> {
         expect_answer(&rt, &made, 0, b"", b"");
         expect_bytes(&rt, sink.taken(), &joined(alloc, &[START, LEAF])?);
         let mut proof = FromRead::new(sink.taken());
-        let answer = answer_verify(alloc, &mut proof, Version::Two, &root, key)?;
+        let answer = answer_verify(alloc, &mut proof, Notation::Hex, Version::Two, &root, key)?;
         expect_answer(&rt, &answer, status, out, b"");
     }
     Ok(())
@@ -50,7 +50,8 @@ fn tells_why_bytes_prove_nothing(rt: HostRuntime) -> Result<(), Fail> {
             b"prolly: proof: bytes after the end\n",
         ),
     ] {
-        let answer = answer_verify(alloc, &mut FromRead::new(bytes), version, &root, b"b")?;
+        let mut proof = FromRead::new(bytes);
+        let answer = answer_verify(alloc, &mut proof, Notation::Hex, version, &root, b"b")?;
         expect_answer(&rt, &answer, 4, b"", line);
     }
     Ok(())

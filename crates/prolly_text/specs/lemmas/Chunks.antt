@@ -1,5 +1,6 @@
 -- A chunk of bytes that are not all UTF-8 has an invalid part, and no bytes have no text.
-use Rattle.std.proofs.Common.{◌≡◌, ℕ, suc, ◌+◌, ◌<◌, ◌≤◌, Bool, true, false, cond, ◌==◌, Option, Some}
+use Rattle.std.proofs.Common.{◌≡◌, ℕ, suc, ◌+◌, ◌<◌, ◌≤◌, Bool, true, false, cond, ◌==◌, Option}
+use Rattle.std.proofs.Common.{Some}
 use Rattle.std.proofs.Common.{None, List, [], length, drop, unwrap_or, inl, inr, arith, refl}
 use Rattle.std.proofs.Common.{length-drop, zero}
 use Rattle.std.proofs.Math.Seq.{take-nil, drop-nil}
@@ -25,9 +26,11 @@ invalid_some bytes some =
     let three : Holds (Some 3) = omega arith in
     let first = slice_index bytes 0 in
     let third = is_in_range 0x80 0xBF (slice_index bytes 2) in
-    let second = is_in_range (second_byte_min first) (second_byte_max first) (slice_index bytes 1) in
+    let second = is_in_range (second_byte_min first) (second_byte_max first) (slice_index bytes 1)
+    in
     let of_three = cond (nat_lt (length bytes) 4) None (Some 3) in
-    let after_three : Holds of_three = either Holds (nat_lt (length bytes) 4) None (Some 3) some three
+    let after_three : Holds of_three = either Holds (nat_lt (length bytes) 4) None (Some 3) some
+    three
     in
     let after_two : Holds (error_len_after_two bytes) = either Holds (nat_lt (length bytes) 3) None
     (cond third of_three (Some 2)) some (either Holds third of_three (Some 2) after_three two) in

@@ -1,10 +1,9 @@
 -- What holds of both notations.
-use Rattle.std.proofs.Common.{◌≡◌, ◌≢◌, ◌⊎◌, inl, inr, ℕ, ◌<◌, Bool, true, false, List, [], ◌∷◌, ◌++◌}
+use Rattle.std.proofs.Common.{◌≡◌, inl, inr, ℕ, ◌<◌, true, false, List, [], ◌∷◌}
 use Rattle.std.proofs.Common.{Ok, Some, None, refl, sym, ap, ◌∙◌, subst, arith}
 use Rattle.std.specs.List.{AllByRecursion}
 use Rattle.hex.specs.Hex.{decode_of, encode_lower, is_hex_digit}
 use Rattle.hex.proofs.HexLemmas.{decode_of-same}
-use Rattle.prolly_entry.specs.Byte.{IsByte}
 use Rattle.prolly_entry.specs.lemmas.Lists.{all_append}
 use Rattle.prolly_text.specs.declared.notation.Notation.{Notation}
 use Rattle.prolly_text.specs.declared.notation.Notation.TheVariants.{Hex, Text}
@@ -34,7 +33,11 @@ written_shows Text bytes h = text_shows bytes h
 
 digit_within : (notation : Notation) (digit : ℕ) → is_hex_digit digit ≡ true →
     StandsWithin notation digit
-digit_within notation digit h = (λ e. unlike 0x0A refl e, λ e. unlike (separator notation) (none notation) e)
+digit_within notation digit h = (
+  λ e. unlike 0x0A refl e,
+  λ e. unlike (separator notation)
+      (none notation) e,
+)
   where
     unlike : (other : ℕ) → is_hex_digit other ≡ false → digit ≡ other → ⊥
     unlike other k e = let apart : true ≡ false = sym h ∙ ap is_hex_digit e ∙ k in cc

@@ -1,8 +1,8 @@
 -- Pieces one after another.
-use Rattle.std.proofs.Common.{◌≡◌, ◌⊎◌, inl, inr, ℕ, ◌<◌, List, [], ◌∷◌, ◌++◌, length, refl, sym, ap}
+use Rattle.std.proofs.Common.{◌≡◌, inl, inr, ℕ, ◌<◌, List, [], ◌∷◌, ◌++◌, length, refl, sym, ap}
 use Rattle.std.proofs.Common.{◌∙◌, subst, append-nil, arith, length-append}
 use Rattle.prolly_text.specs.Pieces.{BeginsWith, BeginsWithNone, BeginsWithAll, IsPiece, IsTextOf}
-use Rattle.prolly_text.specs.lemmas.Fronts.{IsSame, none_of_nothing, one_piece}
+use Rattle.prolly_text.specs.lemmas.Fronts.{none_of_nothing, one_piece}
 
 -- Pieces behind pieces.
 pub all_both : (xs ys text mid behind : List ℕ) → BeginsWithAll text xs mid →

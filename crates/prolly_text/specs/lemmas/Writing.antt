@@ -1,10 +1,9 @@
 -- What is written as text: it stands for its bytes, and shows.
-use Rattle.std.proofs.Common.{◌≡◌, ◌≢◌, inl, inr, ℕ, zero, suc, ◌+◌, ◌≤◌, Bool, true, false, cond}
-use Rattle.std.proofs.Common.{List, [], ◌∷◌, ◌++◌, Option, Some, None, Ok, All, length, take, drop}
-use Rattle.std.proofs.Common.{refl, sym, ap, ◌∙◌, subst, arith, append_assoc, append-nil}
-use Rattle.std.proofs.Common.{slice_index}
+use Rattle.std.proofs.Common.{◌≡◌, inl, inr, ℕ, zero, suc, ◌≤◌, Bool, true, false, cond}
+use Rattle.std.proofs.Common.{List, [], ◌∷◌, ◌++◌, Option, Some, None, Ok, length, take, drop}
+use Rattle.std.proofs.Common.{refl, sym, ap, ◌∙◌, subst, arith, append_assoc}
 use Rattle.std.proofs.lemmas.Bool.Decides.{nat_tests}
-use Rattle.std.proofs.lemmas.List.{take-append-drop, drop-drop, nil_from_length}
+use Rattle.std.proofs.lemmas.List.{take-append-drop, drop-drop}
 use Rattle.std.proofs.lemmas.List.Elements.{recursion_from_All}
 use Rattle.std.specs.Prelude.{nat_lt, ◌||◌, ◌==◌}
 use Rattle.std.specs.List.{flat_map, AllByRecursion}
@@ -13,10 +12,10 @@ use Rattle.hex.specs.Hex.{decode_of, encode_lower, is_hex_digit, IsBytes}
 use Rattle.hex.proofs.HexLemmas.{decode_of-encode_lower, decode_of-ok}
 use Rattle.prolly_entry.specs.Byte.{IsByte}
 use Rattle.prolly_entry.specs.lemmas.Lists.{all_append, all_back, all_front}
-use Rattle.prolly_text.specs.Escapes.{hex_escape, letter_of, shown_by, shown_byte, shown_plain}
+use Rattle.prolly_text.specs.Escapes.{hex_escape, letter_of, shown_by, shown_byte}
 use Rattle.prolly_text.specs.Escapes.{text_of, text_within}
 use Rattle.prolly_text.specs.Notations.{IsShown}
-use Rattle.prolly_text.specs.Pieces.{is_plain, named_byte, IsPiece, BeginsWithAll, IsTextOf}
+use Rattle.prolly_text.specs.Pieces.{is_plain, IsPiece, BeginsWithAll, IsTextOf}
 use Rattle.prolly_text.specs.lemmas.Chunks.{less_behind, text_nil}
 use Rattle.prolly_text.specs.lemmas.Letters.{letter_names, letter_shows, plain_without, digit_shows}
 use Rattle.prolly_text.specs.lemmas.Sequences.{all_both}
@@ -53,7 +52,8 @@ escape_is byte h = inr (inr (encode_lower (byte ∷ []), refl, hex_read (byte �
 
 escape_shows : (byte : ℕ) → IsByte byte → AllByRecursion IsShown (hex_escape byte)
 escape_shows byte h =
-    let digits = digits_show (encode_lower (byte ∷ [])) (byte ∷ []) (hex_read (byte ∷ []) (h, tt)) in
+    let digits = digits_show (encode_lower (byte ∷ [])) (byte ∷ []) (hex_read (byte ∷ []) (h, tt))
+    in
     ((omega arith, λ e. omega arith), ((omega arith, λ e. omega arith), digits))
 
 shown_is : (byte : ℕ) → IsByte byte → IsPiece (shown_byte byte) byte
@@ -130,14 +130,16 @@ within_is (suc k) (b ∷ bytes) n h =
     let rest = after_first_chunk all in
     let parts = subst (AllByRecursion IsByte) (chunk_parts all) h in
     let more = all_back IsByte valid (invalid ++ rest) parts in
-    let last = within_is k rest (less_behind k all n (omega arith)) (all_back IsByte invalid rest more)
+    let last = within_is k rest (less_behind k all n (omega arith))
+    (all_back IsByte invalid rest more)
     in
     let text = text_within k rest in
     let second = flat_is hex_escape escape_is invalid text (all_front IsByte invalid rest more) in
     let first = flat_is shown_byte shown_is valid (flat_map hex_escape invalid ++ text)
     (all_front IsByte valid (invalid ++ rest) parts) in
     subst (IsTextOf (text_within (suc k) all)) (sym (chunk_parts all))
-    (all_both valid (invalid ++ rest) (text_within (suc k) all) (flat_map hex_escape invalid ++ text)
+    (all_both valid (invalid ++ rest) (text_within (suc k) all)
+    (flat_map hex_escape invalid ++ text)
     [] first (all_both invalid rest (flat_map hex_escape invalid ++ text) text [] second last))
 
 pub text_is : (bytes : List ℕ) → AllByRecursion IsByte bytes → IsTextOf (text_of bytes) bytes
@@ -155,7 +157,8 @@ within_shows (suc k) bytes h =
     let rest = after_first_chunk bytes in
     let parts = subst (AllByRecursion IsByte) (chunk_parts bytes) h in
     let more = all_back IsByte valid (invalid ++ rest) parts in
-    all_append IsShown (flat_map shown_byte valid) (flat_map hex_escape invalid ++ text_within k rest)
+    all_append IsShown (flat_map shown_byte valid) (flat_map hex_escape invalid ++ text_within k
+    rest)
     (flat_shows shown_byte shown_shows valid (all_front IsByte valid (invalid ++ rest) parts))
     (all_append IsShown (flat_map hex_escape invalid) (text_within k rest)
     (flat_shows hex_escape escape_shows invalid (all_front IsByte invalid rest more))

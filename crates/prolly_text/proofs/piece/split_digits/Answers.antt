@@ -15,5 +15,6 @@ returns-in-Ok-clause-some c =
 pub returns-in-Err-clause-none : goal.returns-in-Err-clause-none
 returns-in-Err-clause-none c =
     none_here c.args.text.now c.split_at.result.0.now c.split_at.result.1.now
-    c.decode_to_slice.new.out c.decode_to_slice.result c.in-Err.field-0 c.split_at.ensures.by_index.0
+    c.decode_to_slice.new.out c.decode_to_slice.result c.in-Err.field-0
+    c.split_at.ensures.by_index.0
     c.split_at.ensures.front_len c.decode_to_slice.ensures.value c.in-Err.is

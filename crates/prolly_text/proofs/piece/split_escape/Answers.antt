@@ -15,4 +15,5 @@ pub returns-clause-some : goal.returns-clause-some
 returns-clause-some c =
     subst (λ t. BeginsWith (0x5C ∷ t) c.in_ok-byte.byte c.in_ok-letter.behind.now)
     (sym c.in_ok-letter.ensures.cases.0)
-    (begins_named c.in_ok-letter.letter.now c.in_ok-byte.byte c.in_ok-letter.behind.now (search rules))
+    (begins_named c.in_ok-letter.letter.now c.in_ok-byte.byte c.in_ok-letter.behind.now
+    (search rules))

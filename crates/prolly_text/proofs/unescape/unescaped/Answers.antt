@@ -12,13 +12,16 @@ returns-in_default-clause-err c bytes h =
 
 pub loop-rest-preserved : goal.loop-rest-preserved
 loop-rest-preserved c =
-    let first : BeginsWith c.loop-rest.rest.now c.in-Some.byte c.in-Some.behind.now = search rules in
+    let first : BeginsWith c.loop-rest.rest.now c.in-Some.byte c.in-Some.behind.now = search rules
+    in
     let more = all_more c.loop-rest.bytes.items c.args.text.now
     c.loop-rest.rest.now c.in-Some.behind.now c.in-Some.byte c.loop-rest.invariant first in
-    let items : c.push.new.self.items ≡ c.loop-rest.bytes.items ++ c.in-Some.byte ∷ [] = search rules
+    let items : c.push.new.self.items ≡ c.loop-rest.bytes.items ++ c.in-Some.byte ∷ [] =
+    search rules
     in subst (λ t. BeginsWithAll c.args.text.now t c.in-Some.behind.now) (sym items) more
 
 pub loop-rest-smaller : goal.loop-rest-smaller
 loop-rest-smaller c =
-    let first : BeginsWith c.loop-rest.rest.now c.in-Some.byte c.in-Some.behind.now = search rules in
+    let first : BeginsWith c.loop-rest.rest.now c.in-Some.byte c.in-Some.behind.now = search rules
+    in
     piece_shortens c.loop-rest.rest.now c.in-Some.byte c.in-Some.behind.now first

@@ -3,8 +3,8 @@ use Rattle.prolly_tool.proofs.DumpSteps.{lines_file}
 use Rattle.prolly_tool.proofs.dump_lines.append_lines.Given as goal
 
 abbrev pub invariant-loop-key : goal.invariant-loop-key
-invariant-loop-key l = l.lines.items ++ lines_file l.pairs ≡
-    l.initial.lines.items ++ lines_file l.fn.pairs
+invariant-loop-key l = l.lines.items ++ lines_file l.notation l.pairs ≡
+    l.initial.lines.items ++ lines_file l.notation l.fn.pairs
 
 abbrev pub decreases-loop-key : goal.decreases-loop-key
 decreases-loop-key l = length l.pairs

@@ -1,28 +1,39 @@
-use Rattle.std.proofs.Common.{rules, vec_len}
-use Rattle.prolly_tool.proofs.LineLemmas.{wrong_key, wrong_change, long_removal, long_pair}
+use Rattle.std.proofs.Common.{rules}
+use Rattle.std.specs.Prelude.{IfErr}
+use Rattle.prolly_text.specs.Notations.{IsWritten, separator}
+use Rattle.prolly_tool.specs.Lines.{CutsAt}
+use Rattle.prolly_tool.specs.Pack.{IsNotWritten, MarksRemoval}
+use Rattle.prolly_tool.proofs.LineLemmas.{line_put, part_wrong, put_wrong, wrong_change, wrong_key}
 use Rattle.prolly_tool.proofs.line.record_of.Goals as goal
 
-pub returns-in-Err-clause-err : goal.returns-in-Err-clause-err
-returns-in-Err-clause-err c =
-    wrong_key c.args.line.now c.in-Some.key.now c.in-Some.change.now c.in-Err.flaw
-    c.in-Some.ensures.some c.in-Err.ensures.err
+pub returns-in_err-key-clause-err : goal.returns-in_err-key-clause-err
+returns-in_err-key-clause-err c =
+    let key = c.in-Some.key.now in
+    let change = c.in-Some.change.now in
+    let cut : CutsAt (separator c.args.form.notation) c.args.line.now key change = search rules in
+    let bad : IfErr c.from_residual.result (IsNotWritten c.args.form.notation key) = search rules in
+    part_wrong c.args.form c.args.line.now (IsNotWritten c.args.form.notation key)
+    c.from_residual.result (λ flaw h. wrong_key c.args.form c.args.line.now key change flaw cut h)
+    bad
 
-pub returns-in-Err-remove-clause-err : goal.returns-in-Err-remove-clause-err
-returns-in-Err-remove-clause-err c =
-    rw c.flaw_of.ensures (long_removal c.args.line.now c.in-Some.key.now c.in-Some.change.now
-    c.in-Ok.key.items c.in-Err-remove.fault (vec_len c.in-Ok.key)
-    c.in-Some.ensures.some c.in-Ok.ensures.ok (search rules) (search rules)
-    c.in-Err-remove.ensures.key c.in-Err-remove.ensures.no_other)
+pub returns-in_err-value-clause-err : goal.returns-in_err-value-clause-err
+returns-in_err-value-clause-err c =
+    let key = c.in-Some.key.now in
+    let change = c.in-Some.change.now in
+    let result = c.from_residual-in_err-value.result in
+    let cut : CutsAt (separator c.args.form.notation) c.args.line.now key change = search rules in
+    let none : MarksRemoval c.args.form.notation change → ⊥ = search rules in
+    let bad : IfErr result (IsNotWritten c.args.form.notation change) = search rules in
+    part_wrong c.args.form c.args.line.now (IsNotWritten c.args.form.notation change) result
+    (λ flaw h. wrong_change c.args.form c.args.line.now key change flaw cut none h) bad
 
-pub returns-in-Err-bytes_of-clause-err : goal.returns-in-Err-bytes_of-clause-err
-returns-in-Err-bytes_of-clause-err c =
-    wrong_change c.args.line.now c.in-Some.key.now c.in-Some.change.now c.in-Err-bytes_of.flaw
-    c.in-Some.ensures.some (search rules) c.in-Err-bytes_of.ensures.err
-
-pub returns-in-Err-new-clause-err : goal.returns-in-Err-new-clause-err
-returns-in-Err-new-clause-err c =
-    rw c.flaw_of-in-Err-new.ensures (long_pair c.args.line.now c.in-Some.key.now
-    c.in-Some.change.now c.in-Ok.key.items c.in-Ok-bytes_of.value.items
-    c.in-Err-new.fault (vec_len c.in-Ok.key) (vec_len c.in-Ok-bytes_of.value) c.in-Some.ensures.some
-    c.in-Ok.ensures.ok c.in-Ok-bytes_of.ensures.ok
-    (search rules) (search rules) c.in-Err-new.ensures.key c.in-Err-new.ensures.value)
+pub returns-clause-err : goal.returns-clause-err
+returns-clause-err c =
+    let key = c.in-Some.key.now in
+    let change = c.in-Some.change.now in
+    let cut : CutsAt (separator c.args.form.notation) c.args.line.now key change = search rules in
+    let left : IsWritten c.args.form.notation key c.in_ok-key.key.items = search rules in
+    let right : IsWritten c.args.form.notation change c.in_ok-value.value.items = search rules in
+    put_wrong c.args.form c.args.line.now c.in_ok-key.key.items c.in_ok-value.value.items
+    c.put.result (line_put c.args.form c.args.line.now key change c.in_ok-key.key.items
+    c.in_ok-value.value.items cut left right) c.put.ensures.err

@@ -16,9 +16,11 @@ use Rattle.prolly_tool.proofs.root_scan_answer.write_leaves.Goals as goal
 pub returns-in_default-clause-err : goal.returns-in_default-clause-err
 returns-in_default-clause-err g c first same opened = scan_wants g.W.Sink.seen c.args.reader.version
     c.args.reader.root
-    c.args.from.now c.args.limit c.args.limit c.args.from.now c.args.sink.now c.args.sink.now
-    (scan_begins g.W.Sink.seen c.args.reader.version c.args.reader.root c.args.from.now c.args.limit
-    c.args.limit c.args.from.now c.args.sink.now refl refl) first
+    c.args.scan.now.from.now c.args.scan.now.limit c.args.scan.now.notation c.args.scan.now.limit
+    c.args.scan.now.from.now c.args.sink.now c.args.sink.now
+    (scan_begins g.W.Sink.seen c.args.reader.version c.args.reader.root c.args.scan.now.from.now
+    c.args.scan.now.limit c.args.scan.now.notation
+    c.args.scan.now.limit c.args.scan.now.from.now c.args.sink.now refl refl) first
 
 pub loop-left-init : goal.loop-left-init
 loop-left-init g c = record {
@@ -26,22 +28,24 @@ loop-left-init g c = record {
   version = refl;
   root = refl;
   opened = λ first same opened. opened;
-  scan = scan_begins g.W.Sink.seen c.args.reader.version c.args.reader.root c.args.from.now
-      c.args.limit
-      c.args.limit c.in-Ok.next.items c.args.sink.now refl c.in-Ok.ensures.items;
+  scan = scan_begins g.W.Sink.seen c.args.reader.version c.args.reader.root c.args.scan.now.from.now
+      c.args.scan.now.limit c.args.scan.now.notation
+      c.args.scan.now.limit c.in-Ok.next.items c.args.sink.now refl c.in-Ok.ensures.items;
   same = λ honest. (honest, refl);
 }
 
 pub returns-clause-ok : goal.returns-clause-ok
 returns-clause-ok g c = scan_full g.W.Sink.seen c.args.reader.version c.args.reader.root
-    c.args.from.now
-    c.args.limit c.loop-left.left c.loop-left.next.items c.args.sink.now c.loop-left.sink
+    c.args.scan.now.from.now
+    c.args.scan.now.limit c.args.scan.now.notation c.loop-left.left c.loop-left.next.items
+    c.args.sink.now c.loop-left.sink
     c.loop-left.invariant.scan (omega arith)
 
 pub returns-in-Err-clause-err : goal.returns-in-Err-clause-err
 returns-in-Err-clause-err g c first same opened = scan_fails g.W.Sink.seen c.args.reader.version
     c.args.reader.root
-    c.args.from.now c.args.limit c.loop-left.left c.loop-left.next.items c.args.sink.now
+    c.args.scan.now.from.now c.args.scan.now.limit c.args.scan.now.notation c.loop-left.left
+    c.loop-left.next.items c.args.sink.now
     c.loop-left.sink c.loop-left.invariant.scan (omega arith) first c.in-Err.fault
     (opened_lawful first (g.D.Device.seen c.loop-left.device) (stays_same first
     (g.D.Device.seen c.args.device.now) (g.D.Device.seen c.loop-left.device) same
@@ -53,7 +57,8 @@ pub returns-in_default-last-clause-ok : goal.returns-in_default-last-clause-ok
 returns-in_default-last-clause-ok g c =
     let found = c.in-Ok-pairs_from.pairs.items in
     let way = way_of c.pairs_from.new.self in
-    scan_ends g.W.Sink.seen c.args.reader.version c.args.reader.root c.args.from.now c.args.limit
+    scan_ends g.W.Sink.seen c.args.reader.version c.args.reader.root c.args.scan.now.from.now
+    c.args.scan.now.limit c.args.scan.now.notation
     c.loop-left.left c.loop-left.next.items c.args.sink.now c.loop-left.sink
     c.loop-left.invariant.scan (omega arith) found way
     (way_from c.args.reader c.loop-left.reader c.deref.result.now c.loop-left.next.items way found
@@ -66,8 +71,8 @@ pub returns-in-Err-write_first-clause-err : goal.returns-in-Err-write_first-clau
 returns-in-Err-write_first-clause-err g c first same opened =
     let found = c.in-Ok-pairs_from.pairs.items in
     let way = way_of c.pairs_from.new.self in
-    scan_unwritten g.W.Sink.seen c.args.reader.version c.args.reader.root c.args.from.now
-    c.args.limit
+    scan_unwritten g.W.Sink.seen c.args.reader.version c.args.reader.root c.args.scan.now.from.now
+    c.args.scan.now.limit c.args.scan.now.notation
     c.loop-left.left c.loop-left.next.items c.args.sink.now c.loop-left.sink
     c.loop-left.invariant.scan (omega arith) found way
     (way_from c.args.reader c.loop-left.reader c.deref.result.now c.loop-left.next.items way found
@@ -75,7 +80,8 @@ returns-in-Err-write_first-clause-err g c first same opened =
     c.in-Ok-pairs_from.ensures.found) c.write_first.new.sink
     first c.in-Err-write_first.fault
     (subst (λ ps. TookUntil g.W.Sink.seen c.in-Err-write_first.fault
-    (pair_lines (take c.loop-left.left ps)) c.loop-left.sink c.write_first.new.sink)
+    (pair_lines c.args.scan.now.notation (take c.loop-left.left ps)) c.loop-left.sink
+    c.write_first.new.sink)
     c.deref-in-loop-left-2.ensures.value c.in-Err-write_first.ensures.err)
 
 pub returns-in-Err-key_behind-clause-err : goal.returns-in-Err-key_behind-clause-err
@@ -83,17 +89,19 @@ returns-in-Err-key_behind-clause-err g c first same opened =
     let found = c.in-Ok-pairs_from.pairs.items in
     let way = way_of c.pairs_from.new.self in
     let last = c.in-Some.last.now in
-    scan_wants g.W.Sink.seen c.args.reader.version c.args.reader.root c.args.from.now c.args.limit
+    scan_wants g.W.Sink.seen c.args.reader.version c.args.reader.root c.args.scan.now.from.now
+    c.args.scan.now.limit c.args.scan.now.notation
     (c.loop-left.left - length found) (next_key last.key) c.args.sink.now c.write_first.new.sink
-    (scan_goes_on g.W.Sink.seen c.args.reader.version c.args.reader.root c.args.from.now
-    c.args.limit
+    (scan_goes_on g.W.Sink.seen c.args.reader.version c.args.reader.root c.args.scan.now.from.now
+    c.args.scan.now.limit c.args.scan.now.notation
     c.loop-left.left c.loop-left.next.items c.args.sink.now c.loop-left.sink
     c.loop-left.invariant.scan (omega arith) found way
     (way_from c.args.reader c.loop-left.reader c.deref.result.now c.loop-left.next.items way found
     c.loop-left.invariant.version c.loop-left.invariant.root c.deref.ensures.value
     c.in-Ok-pairs_from.ensures.found) c.write_first.new.sink last
     (c.loop-left.left - length found) (next_key last.key)
-    (subst (λ ps. TookAll g.W.Sink.seen (pair_lines (take c.loop-left.left ps)) c.loop-left.sink
+    (subst (λ ps. TookAll g.W.Sink.seen (pair_lines c.args.scan.now.notation
+    (take c.loop-left.left ps)) c.loop-left.sink
     c.write_first.new.sink) c.deref-in-loop-left-2.ensures.value
     c.in_default-write_first.ensures.ok)
     c.in_default-write_first.ensures.keeping
@@ -115,14 +123,17 @@ loop-left-preserved g c =
           (c.loop-left.invariant.opened first same opened) c.pairs_from.new.self
           c.in-Ok-pairs_from.ensures.of.0 c.in-Ok-pairs_from.ensures.of.1
           c.in-Ok-pairs_from.ensures.keeps;
-      scan = scan_goes_on g.W.Sink.seen c.args.reader.version c.args.reader.root c.args.from.now
-          c.args.limit c.loop-left.left c.loop-left.next.items c.args.sink.now c.loop-left.sink
+      scan = scan_goes_on g.W.Sink.seen c.args.reader.version c.args.reader.root
+          c.args.scan.now.from.now
+          c.args.scan.now.limit c.args.scan.now.notation c.loop-left.left c.loop-left.next.items
+          c.args.sink.now c.loop-left.sink
           c.loop-left.invariant.scan (omega arith) found way
           (way_from c.args.reader c.loop-left.reader c.deref.result.now c.loop-left.next.items way
           found c.loop-left.invariant.version c.loop-left.invariant.root c.deref.ensures.value
           c.in-Ok-pairs_from.ensures.found) c.write_first.new.sink last
           c.saturating_sub-left.result c.in-Ok-key_behind.next.items
-          (subst (λ ps. TookAll g.W.Sink.seen (pair_lines (take c.loop-left.left ps))
+          (subst (λ ps. TookAll g.W.Sink.seen (pair_lines c.args.scan.now.notation
+          (take c.loop-left.left ps))
           c.loop-left.sink c.write_first.new.sink) c.deref-in-loop-left-2.ensures.value
           c.in_default-write_first.ensures.ok)
           c.in_default-write_first.ensures.keeping

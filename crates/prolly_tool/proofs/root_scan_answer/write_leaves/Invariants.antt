@@ -9,7 +9,9 @@ abbrev pub invariant-loop-left : goal.invariant-loop-left
 invariant-loop-left g l = record {
   version : l.reader.version ≡ l.fn.reader.version;
   root : l.reader.root ≡ l.fn.reader.root;
-  scan : IsScanning g.W.Sink.seen l.fn.reader.version l.fn.reader.root l.fn.from l.limit l.left
+  scan : IsScanning g.W.Sink.seen l.fn.reader.version l.fn.reader.root l.fn.scan.from.now
+      l.fn.scan.limit
+      l.fn.scan.notation l.left
       l.next.items l.initial.sink l.sink;
   reads : (g.D.Device.seen l.device).failures ≡ (g.D.Device.seen l.initial.device).failures;
   same : StaysSame (g.D.Device.seen l.initial.device) (g.D.Device.seen l.device);

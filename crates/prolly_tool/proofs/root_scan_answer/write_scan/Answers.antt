@@ -6,6 +6,7 @@ use Rattle.prolly_file.specs.Device.{DeviceView}
 use Rattle.prolly_file.specs.Failures.{after_failure}
 use Rattle.prolly_file.specs.Sink.{SinkView}
 use Rattle.prolly_proof.specs.Readers.{ReaderView}
+use Rattle.prolly_text.specs.declared.notation.Notation.{Notation}
 use Rattle.prolly_tool.specs.Outputs.{TookAll, TookUntil}
 use Rattle.prolly_tool.specs.RootScans.{IsDoneScan, IsFlushed, IsStoppedScan, TellsScanReads}
 use Rattle.prolly_tool.specs.declared.fault.Fault.{Fault}
@@ -19,34 +20,37 @@ use Rattle.prolly_tool.proofs.root_scan_answer.write_scan.Goals as goal
 module _ {W : Type 0} (seen : W → SinkView) (old mid new : W)
     (keeping : (seen old).is_keeping ≡ true → (seen mid).is_keeping ≡ true)
     (device : DeviceView) (version : Version) (root from : List ℕ) (limit : ℕ)
+    (notation : Notation)
     (fault told : Fault)
-    (d : IsStoppedScan device version root from limit (λ bytes. TookAll seen bytes old mid)
+    (d : IsStoppedScan device version root from limit notation (λ bytes. TookAll seen bytes old mid)
     (λ fault bytes. TookUntil seen fault bytes old mid) fault) where
   told_flushed : fault ≢ Run Write →
       ((seen mid).is_keeping ≡ true → (seen new).taken ≡ (seen mid).taken) →
       ((told ≡ fault) × ((seen new).failures ≡ (seen mid).failures))
       ⊎ ((told ≡ Run Write) × ((seen new).failures ≡ after_failure (seen mid).failures)) →
-      IsStoppedScan device version root from limit (λ bytes. TookAll seen bytes old new)
+      IsStoppedScan device version root from limit notation (λ bytes. TookAll seen bytes old new)
       (λ fault bytes. TookUntil seen fault bytes old new) told
   told_flushed other same (inl is) = subst
-      (IsStoppedScan device version root from limit (λ bytes. TookAll seen bytes old new)
+      (IsStoppedScan device version root from limit notation (λ bytes. TookAll seen bytes old new)
       (λ fault bytes. TookUntil seen fault bytes old new)) (sym is.0)
-      (stopped_flushed seen old mid new keeping same is.1 device version root from limit fault
+      (stopped_flushed seen old mid new keeping same is.1 device version root from limit notation
+      fault
       other d)
   told_flushed other same (inr is) = subst
-      (IsStoppedScan device version root from limit (λ bytes. TookAll seen bytes old new)
+      (IsStoppedScan device version root from limit notation (λ bytes. TookAll seen bytes old new)
       (λ fault bytes. TookUntil seen fault bytes old new)) (sym is.0)
-      (stopped_unflushed seen old mid new keeping same is.1 device version root from limit fault
+      (stopped_unflushed seen old mid new keeping same is.1 device version root from limit notation
+      fault
       other d)
 
   stopped_ended : ((fault ≡ Run Write) × (told ≡ fault) × (new ≡ mid))
       ⊎ ((fault ≢ Run Write) × IsFlushed seen mid new fault told) →
-      IsStoppedScan device version root from limit (λ bytes. TookAll seen bytes old new)
+      IsStoppedScan device version root from limit notation (λ bytes. TookAll seen bytes old new)
       (λ fault bytes. TookUntil seen fault bytes old new) told
   stopped_ended (inl is) = subst
-      (IsStoppedScan device version root from limit (λ bytes. TookAll seen bytes old new)
+      (IsStoppedScan device version root from limit notation (λ bytes. TookAll seen bytes old new)
       (λ fault bytes. TookUntil seen fault bytes old new)) (sym is.1)
-      (subst (λ last. IsStoppedScan device version root from limit
+      (subst (λ last. IsStoppedScan device version root from limit notation
       (λ bytes. TookAll seen bytes old last) (λ fault bytes. TookUntil seen fault bytes old last)
       fault) (sym is.2) d)
   stopped_ended (inr is) = told_flushed is.0 is.1.same is.1.tells
@@ -62,16 +66,16 @@ pub returns-then-scan-eq0-clause-ok : goal.returns-then-scan-eq0-clause-ok
 returns-then-scan-eq0-clause-ok g c =
     let scan = c.args.scan.now in
     scan_full g.W.Sink.seen scan.version scan.root.now.0
-    scan.from.now scan.limit scan.limit scan.from.now c.args.sink.now c.args.sink.now
-    (scan_begins g.W.Sink.seen scan.version scan.root.now.0 scan.from.now scan.limit
+    scan.from.now scan.limit scan.notation scan.limit scan.from.now c.args.sink.now c.args.sink.now
+    (scan_begins g.W.Sink.seen scan.version scan.root.now.0 scan.from.now scan.limit scan.notation
     scan.limit scan.from.now c.args.sink.now refl refl) c.if-scan-eq0.true
 
 pub returns-in-Err-clause-err : goal.returns-in-Err-clause-err
 returns-in-Err-clause-err g c =
     let scan = c.args.scan.now in
     scan_fails g.W.Sink.seen scan.version scan.root.now.0
-    scan.from.now scan.limit scan.limit scan.from.now c.args.sink.now c.args.sink.now
-    (scan_begins g.W.Sink.seen scan.version scan.root.now.0 scan.from.now scan.limit
+    scan.from.now scan.limit scan.notation scan.limit scan.from.now c.args.sink.now c.args.sink.now
+    (scan_begins g.W.Sink.seen scan.version scan.root.now.0 scan.from.now scan.limit scan.notation
     scan.limit scan.from.now c.args.sink.now refl refl) (omega (arith, c.if-scan-eq0.false))
     (g.D.Device.seen c.args.device.now) c.in-Err.fault c.in-Err.ensures.lawful
 
@@ -81,8 +85,8 @@ returns-in-Ok-write_leaves-clause-ok g c =
     done_ended g.W.Sink.seen c.args.sink.now
     c.write_leaves.new.sink c.flush.new.sink c.write_leaves.ensures.keeping c.flush.ensures.bytes
     (g.D.Device.seen c.args.device.now) scan.version scan.root.now.0 scan.from.now
-    scan.limit (by_args scan.version scan.root.now.0 c.in-Ok.reader c.in-Ok.ensures.of
-    (λ v r. IsDoneScan v r scan.from.now scan.limit
+    scan.limit scan.notation (by_args scan.version scan.root.now.0 c.in-Ok.reader c.in-Ok.ensures.of
+    (λ v r. IsDoneScan v r scan.from.now scan.limit scan.notation
     (λ bytes. TookAll g.W.Sink.seen bytes c.args.sink.now c.write_leaves.new.sink))
     c.in-Ok-write_leaves.ensures.ok) c.flush.result c.flush.ensures.failures
 
@@ -92,8 +96,8 @@ returns-in-Ok-write_leaves-clause-err g c =
     done_failed g.W.Sink.seen c.args.sink.now
     c.write_leaves.new.sink c.flush.new.sink c.write_leaves.ensures.keeping c.flush.ensures.bytes
     (g.D.Device.seen c.args.device.now) scan.version scan.root.now.0 scan.from.now
-    scan.limit (by_args scan.version scan.root.now.0 c.in-Ok.reader c.in-Ok.ensures.of
-    (λ v r. IsDoneScan v r scan.from.now scan.limit
+    scan.limit scan.notation (by_args scan.version scan.root.now.0 c.in-Ok.reader c.in-Ok.ensures.of
+    (λ v r. IsDoneScan v r scan.from.now scan.limit scan.notation
     (λ bytes. TookAll g.W.Sink.seen bytes c.args.sink.now c.write_leaves.new.sink))
     c.in-Ok-write_leaves.ensures.ok) c.flush.result c.flush.ensures.failures c.flush.ensures.fault
 
@@ -104,9 +108,9 @@ returns-in-Err-write_leaves-clause-err g c =
     let of = c.in-Ok.ensures.of in
     stopped_ended g.W.Sink.seen c.args.sink.now c.write_leaves.new.sink c.fault_flushed.new.sink
     c.write_leaves.ensures.keeping first scan.version scan.root.now.0 scan.from.now
-    scan.limit c.in-Err-write_leaves.fault c.fault_flushed.result
+    scan.limit scan.notation c.in-Err-write_leaves.fault c.fault_flushed.result
     (by_args scan.version scan.root.now.0 c.in-Ok.reader of
-    (λ v r. IsStoppedScan first v r scan.from.now scan.limit
+    (λ v r. IsStoppedScan first v r scan.from.now scan.limit scan.notation
     (λ bytes. TookAll g.W.Sink.seen bytes c.args.sink.now c.write_leaves.new.sink)
     (λ fault bytes. TookUntil g.W.Sink.seen fault bytes c.args.sink.now c.write_leaves.new.sink)
     c.in-Err-write_leaves.fault)

@@ -1,7 +1,7 @@
 use Rattle.std.proofs.Common.{◌∙◌, ap, refl, inl}
 use Rattle.prolly_tool.specs.LookUps.{pair_lines}
 use Rattle.prolly_tool.proofs.Answering.{looked_up}
-use Rattle.prolly_tool.proofs.scan_answer.answer_scan.Goals as goal
+use Rattle.prolly_tool.proofs.scan_answer.answer_scan_as.Goals as goal
 
 pub returns-clause-shown : goal.returns-clause-shown
 returns-clause-shown g c = λ honest. inl (
@@ -9,7 +9,7 @@ returns-clause-shown g c = λ honest. inl (
     (λ failed. failed c.in-Ok.ensures.unfailed)
     (λ content is. record {
       status_is = refl;
-      out_is = c.in_ok-out.ensures ∙ ap pair_lines
+      out_is = c.in_ok-out.ensures ∙ ap (pair_lines c.args.notation)
           (c.deref.ensures.value ∙ c.in_ok-pairs.ensures content is);
       err_is = c.new.ensures.items;
     })

@@ -2,21 +2,23 @@ use Rattle.std.proofs.lemmas.Grind.{common_steps}
 use Rattle.std.proofs.Common.{rules, arith}
 use Rattle.std.proofs.lemmas.List.{nil_from_length}
 use Rattle.prolly_tool.proofs.PackSteps.{none_packed, one_packed, all_packed}
-use Rattle.prolly_tool.proofs.pack.pack_lines.Goals as goal
+use Rattle.prolly_tool.proofs.pack.pack_lines_as.Goals as goal
 
 pub loop-rest-init : goal.loop-rest-init
-loop-rest-init c = none_packed c.args.text.now c.args.out.now.items
+loop-rest-init c = none_packed c.args.form c.args.text.now c.args.out.now.items
 
 pub loop-rest-preserved : goal.loop-rest-preserved
 loop-rest-preserved c =
-    one_packed c.args.text.now c.args.out.now.items c.loop-rest.out.items c.pack_line.new.out.items
+    one_packed c.args.form c.args.text.now c.args.out.now.items c.loop-rest.out.items
+    c.pack_line.new.out.items
     c.loop-rest.rest.now c.split_line.result.0.now
     c.split_line.result.1.now c.loop-rest.count c.loop-rest.invariant c.split_line.ensures.lines
     c.split_line.ensures.shorter (search rules)
 
 pub returns-clause-ok : goal.returns-clause-ok
 returns-clause-ok c =
-    all_packed c.args.text.now c.args.out.now.items c.loop-rest.out.items c.loop-rest.rest.now
+    all_packed c.args.form c.args.text.now c.args.out.now.items c.loop-rest.out.items
+    c.loop-rest.rest.now
     c.loop-rest.count c.loop-rest.invariant
     (nil_from_length c.loop-rest.rest.now (search rules))
 
