@@ -16,7 +16,7 @@ TITLES = ("Commands:", "Arguments:", "Options:")
 TEXT_INDENT = " " * 10
 """How deep the lines stand that say something of a term."""
 
-OPTION = re.compile(r"(?:-h, )?--([a-z-]+)(?: <([A-Z_]+)>)?")
+OPTION = re.compile(r"(?:-[hV], )?--([a-z-]+)(?: <([A-Z_]+)>)?")
 
 
 @dataclass
@@ -49,7 +49,7 @@ def main():
     commands = {term.name: help_of(program, term.name) for term in top.terms["Commands:"] if term.name != "help"}
     (folder / "man1").mkdir(parents=True, exist_ok=True)
     (folder / "man1" / "prolly.1").write_text(manual(top, commands))
-    (folder / "prolly.bash").write_text(bash(commands))
+    (folder / "prolly.bash").write_text(bash(top, commands))
     (folder / "_prolly").write_text(zsh(top, commands))
     (folder / "prolly.fish").write_text(fish(top, commands))
 
@@ -109,6 +109,7 @@ def manual(top, commands):
     lines += [f".B {escaped(help_.usage)}\n.br" for help_ in commands.values()]
     lines += [".SH DESCRIPTION", *paragraphs(top.about)]
     lines += [line for term in top.terms["Commands:"] for line in tagged(term)]
+    lines += [".SH OPTIONS", *(line for term in options_of(top) for line in tagged(term))]
     for name, help_ in commands.items():
         lines += [f".SH {name.upper()}", f".B {escaped(help_.usage)}", *paragraphs(help_.about)]
         for title in ("Arguments:", "Options:"):
@@ -152,8 +153,8 @@ def options_of(help_):
     return help_.terms.get("Options:", [])
 
 
-def bash(commands):
-    """The completions of bash: commands, then options, and else the names of files."""
+def bash(top, commands):
+    """The completions of bash: commands, or the program's own options, then options, and else the names of files."""
     cases = "\n".join(
         f"        {name}) words='{' '.join(term.name for term in options_of(help_))}' ;;"
         for name, help_ in commands.items()
@@ -165,7 +166,7 @@ _prolly() {{
 {cases}
     esac
     if [ "$COMP_CWORD" -eq 1 ]; then
-        words='{' '.join(commands)} help'
+        words='{' '.join([*commands, "help", *(term.name for term in options_of(top))])}'
     elif [ "${{word#-}}" = "$word" ]; then
         words=
     fi
@@ -190,6 +191,7 @@ _prolly() {{
     )
     if (( CURRENT == 2 )); then
         _describe command commands
+        _arguments {' '.join(zsh_option(term) for term in options_of(top))}
         return
     fi
     shift words
@@ -213,6 +215,8 @@ def fish(top, commands):
     lines = ["# Completions of prolly for fish."]
     for term in top.terms["Commands:"]:
         lines.append(f"complete -c prolly -n __fish_use_subcommand -f -a {term.name} -d {quoted(term.text)}")
+    for term in options_of(top):
+        lines.append(f"complete -c prolly -n __fish_use_subcommand -l {term.name[2:]} -d {quoted(term.text)}")
     for name, help_ in commands.items():
         given = f"complete -c prolly -n '__fish_seen_subcommand_from {name}'"
         for term in options_of(help_):

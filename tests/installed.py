@@ -19,6 +19,7 @@ INSTALLED = [
 
 COMPLETED = [
     (["b"], ["build"]),
+    (["--v"], ["--version"]),
     (["pack", "--"], ["--text", "--removals", "--atomic", "--sync", "--help"]),
     (["p"], ["pack", "prove"]),
     (["build", "--ba"], ["--batch"]),
