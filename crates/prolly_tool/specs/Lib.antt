@@ -18,7 +18,7 @@ pub mod Answers
 pub mod Build
 -- What the commands that read a chunk file print.
 pub mod LookUps
--- How records are written: as lines of text, as `pack` reads them, or as a record file.
+-- How records are written: as lines, as `pack` reads them, or as a record file.
 pub mod RecordForms
 -- What the command `dump` answers.
 pub mod Dump

@@ -109,13 +109,13 @@ IsLookUp bytes failed shows answer = IsLookedUp bytes failed (shows answer) ⊎
 abbrev pub ShowsFailedRead : Answer → Type 0
 ShowsFailedRead answer = ShowsFault answer (Check Read)
 
--- What a look-up answers to an honest source, of what that has left; and that a failed read of any
--- source is told as one.
+-- What a look-up answers to an honest source, of what that has left.
 abbrev pub AnswersLookUp : {S : Type 0} → (S → SourceView) → S → S → (Answer → Content → Type 0) →
     Result Answer AllocError → Type 0
 AnswersLookUp seen old new shows result = (seen old).is_honest ≡ true →
     IfOk result (IsLookUp (seen old).left ((seen new).failures ≢ (seen old).failures) shows)
 
+-- A failed read of any source is told as one.
 abbrev pub AnswersFailedRead : {S : Type 0} → (S → SourceView) → S → S → Result Answer AllocError →
     Type 0
 AnswersFailedRead seen old new result = (seen new).failures ≢ (seen old).failures →

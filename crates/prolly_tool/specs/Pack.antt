@@ -170,9 +170,7 @@ IsPackingFault form text has_failed (Pack fault) =
     IsReadWhole text has_failed × IsPackFault form text fault
 IsPackingFault form text has_failed fault = IsInputFault text has_failed fault
 
--- What `pack` answers to an honest source, of what that has left, and what it does to its sink;
--- what was done where memory was refused for the answer's own text; and that a failed read of any
--- source is told as one.
+-- What `pack` answers to an honest source, of what that has left, and what it does to its sink.
 abbrev pub AnswersPack : {S W : Type 0} → (S → SourceView) → (W → SinkView) → LineForm → S → S → W →
     W → Result Answer AllocError → Type 0
 AnswersPack seen sunk form old new before after result = (seen old).is_honest ≡ true →
@@ -182,6 +180,7 @@ AnswersPack seen sunk form old new before after result = (seen old).is_honest �
     (λ file. TookAll sunk file before after) (λ file. TookPart sunk file before after)
     (after ≡ before))
 
+-- What it has done to its sink where memory was refused for the answer's own text.
 abbrev pub LeavesPack : {S W : Type 0} → (S → SourceView) → (W → SinkView) → LineForm → S → S → W →
     W → Result Answer AllocError → Type 0
 LeavesPack seen sunk form old new before after result = (seen old).is_honest ≡ true →
@@ -189,6 +188,7 @@ LeavesPack seen sunk form old new before after result = (seen old).is_honest ≡
     (PacksTo form (seen old).left ((seen new).failures ≢ (seen old).failures))
     (λ file. TookPart sunk file before after))
 
+-- A failed read of any source is told as one, and the sink is as it was.
 abbrev pub TellsPackRead : {S W : Type 0} → (S → SourceView) → S → S → W → W →
     Result Answer AllocError → Type 0
 TellsPackRead seen old new before after result = (seen new).failures ≢ (seen old).failures →

@@ -1,4 +1,4 @@
--- How records are written: as lines of text, as `pack` reads them, or as a record file.
+-- How records are written: as lines, as `pack` reads them, or as a record file.
 use Rattle.std.specs.Prelude.{ℕ, List, [], ◌∷◌, ◌++◌, Option, Some, None}
 use Rattle.std.specs.List.{flat_map}
 use Rattle.prolly_entry.specs.Record.{Record}

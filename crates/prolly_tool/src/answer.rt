@@ -1,12 +1,12 @@
 //! What the program prints.
-ghost use Rattle.std.specs.Prelude.{IfOk};
+ghost use Rattle.std.specs.Prelude.{IfOk, Some};
 ghost use Rattle.std.specs.Option.{option_copied};
 ghost use Rattle.prolly_tool.specs.Answers.{ShowsNothing, ShowsLine, ShowsDone, ShowsFault};
 ghost use Rattle.prolly_tool.specs.Answers.{ShowsName, ShowsRefusal};
-ghost use Rattle.prolly_tool.specs.LookUps.{ShowsValue};
+ghost use Rattle.prolly_tool.specs.LookUps.{ShowsPair, ShowsValue};
 
 use crate::fault::Fault;
-use crate::line_parts::append_name;
+use crate::line_parts::{append_name, append_pair};
 use crate::name_fault::NameFault;
 use prolly_fault::RunFault;
 use prolly_line::ParseFault;
@@ -75,6 +75,21 @@ impl Answer {
         };
         let mut line = Vec::new(alloc);
         notation.append(alloc, &mut line, value)?;
+        Answer::of_line(alloc, &line)
+    }
+
+    /// The answer of a look-up of a pair: its key and value in this notation.
+    pub fn of_pair(
+        alloc: Global,
+        notation: Notation,
+        key: &[u8],
+        value: &[u8],
+    ) -> Result<Answer, AllocError>
+        ensures { IfOk result (λ answer. ShowsPair notation answer
+            (Some (record { key = key.now; value = value.now }))) }
+    {
+        let mut line = Vec::new(alloc);
+        append_pair(alloc, &mut line, notation, key, value)?;
         Answer::of_line(alloc, &line)
     }
 

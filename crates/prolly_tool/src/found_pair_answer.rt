@@ -4,7 +4,6 @@ ghost use Rattle.prolly_tool.specs.LookUps.{ShowsFoundPair, ShowsPair};
 
 use crate::answer::Answer;
 use crate::fault::Fault;
-use crate::line_parts::append_pair;
 use prolly_entry::Pair;
 use prolly_proof::{FoundPair, RootFault};
 use prolly_text::Notation;
@@ -33,10 +32,8 @@ pub fn answer_found_pair(
 fn pair_shown(alloc: Global, notation: Notation, pair: &Option<Pair>) -> Result<Answer, AllocError>
     ensures { IfOk result (λ answer. ShowsPair notation answer pair.now) }
 {
-    let Some(pair) = pair else {
-        return Ok(Answer::of_nothing(alloc));
-    };
-    let mut line = Vec::new(alloc);
-    append_pair(alloc, &mut line, notation, pair.key(), pair.value())?;
-    Answer::of_line(alloc, &line)
+    match pair {
+        Some(pair) => Answer::of_pair(alloc, notation, pair.key(), pair.value()),
+        None => Ok(Answer::of_nothing(alloc)),
+    }
 }

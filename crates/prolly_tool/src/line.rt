@@ -1,4 +1,4 @@
-//! One line of text, and the record that it stands for.
+//! One line, and the record that it stands for.
 ghost use Rattle.std.specs.Prelude.{◌≡◌, ◌≢◌, ◌<◌, ◌≤◌, ◌∷◌, ◌++◌, [], ℕ, List, All, length, take};
 ghost use Rattle.std.specs.Prelude.{Some, None, slice_get, IfOk, IfErr, IfSome, IfNone, IsTrue};
 ghost use Rattle.std.specs.Prelude.{◌↔◌};

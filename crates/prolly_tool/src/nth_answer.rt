@@ -5,7 +5,6 @@ ghost use Rattle.prolly_tool.specs.LookUps.{AnswersFailedRead, AnswersLookUp, Sh
 use crate::answer::Answer;
 use crate::fault::Fault;
 use crate::input::INPUT_LIMIT;
-use crate::line_parts::append_pair;
 use prolly_check::{NoCounts, check};
 use prolly_file::Source;
 use prolly_text::Notation;
@@ -32,11 +31,7 @@ pub fn answer_nth_as<S: Source>(
         Err(fault) => return Answer::of_fault(alloc, Fault::Check(fault)),
     };
     match tree.nth(n) {
-        Ok(Some((key, value))) => {
-            let mut line = Vec::new(alloc);
-            append_pair(alloc, &mut line, notation, key, value)?;
-            Answer::of_line(alloc, &line)
-        }
+        Ok(Some((key, value))) => Answer::of_pair(alloc, notation, key, value),
         Ok(None) => Ok(Answer::of_nothing(alloc)),
         Err(NoCounts) => Answer::of_fault(alloc, Fault::NoCounts),
     }
