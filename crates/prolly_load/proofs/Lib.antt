@@ -7,3 +7,9 @@ pub mod FillLemmas
 pub mod UnderWay
 -- The ends of a loading.
 pub mod LoadEnds
+-- What was counted of the records that were passed.
+pub mod Tallies
+-- The key of a flawed record, where the flaw lies behind it.
+pub mod ToldKeys
+-- A survey under way, and the ends of one.
+pub mod Surveys

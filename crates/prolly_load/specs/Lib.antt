@@ -10,3 +10,9 @@ pub mod Taking
 pub mod Fault
 -- What a loader sends of a record file, and how it ends.
 pub mod Loading
+-- What a survey of a record file says.
+pub mod Survey
+-- What is passed in the unparsed bytes.
+pub mod Passing
+-- How a survey is told of what was passed.
+pub mod Telling

@@ -1,0 +1,117 @@
+use Rattle.std.proofs.Common.{rules, ◌≡◌, ◌∙◌, Some, refl, sym, ap, subst, arith}
+use Rattle.std.specs.Option.{option_or}
+use Rattle.prolly_load.specs.Buffered.{Buffered}
+use Rattle.prolly_load.specs.Survey.{bytes_of}
+use Rattle.prolly_load.specs.Telling.{HasToldKey, Tells}
+use Rattle.prolly_load.proofs.Surveys.{none_passed, one_passed, more_came, has_room, flaw_told}
+use Rattle.prolly_load.proofs.Surveys.{end_told}
+use Rattle.prolly_load.proofs.ToldKeys.{has_told_key}
+use Rattle.prolly_load.proofs.UnderWay.{gains_none, still_undecided}
+use Rattle.prolly_load.proofs.surveying.survey.Goals as goal
+
+pub loop-removes-init : goal.loop-removes-init
+loop-removes-init g c = record {
+  surveying = none_passed (g.S.Source.seen c.args.source.now).is_honest c.args.limit
+      c.in_ok-buffer.buffer (g.S.Source.seen c.args.source.now).left
+      c.in_ok-buffer.ensures.last_key c.in_ok-buffer.ensures.unparsed;
+  honest = λ o. o;
+  steady = λ o. o;
+  failures = refl;
+}
+
+-- ---- a record
+
+pub count-requires-clause-removals : goal.count-requires-clause-removals
+count-requires-clause-removals g c =
+    let l = c.loop-removes in
+    let room = has_room (g.S.Source.seen c.args.source.now).is_honest c.args.limit l.tally l.buffer
+    (g.S.Source.seen c.args.source.now).left (g.S.Source.seen l.source).left
+    c.pass_record.new.buffer c.in-Record.removes c.in-Record.len l.invariant.surveying
+    c.in-Record.ensures in
+    omega arith
+
+pub count-requires-clause-bytes : goal.count-requires-clause-bytes
+count-requires-clause-bytes g c =
+    let l = c.loop-removes in
+    let room = has_room (g.S.Source.seen c.args.source.now).is_honest c.args.limit l.tally l.buffer
+    (g.S.Source.seen c.args.source.now).left (g.S.Source.seen l.source).left
+    c.pass_record.new.buffer c.in-Record.removes c.in-Record.len l.invariant.surveying
+    c.in-Record.ensures in
+    omega arith
+
+pub loop-removes-preserved-in_ok-count-in-Record : goal.loop-removes-preserved-in_ok-count-in-Record
+loop-removes-preserved-in_ok-count-in-Record g c =
+    let l = c.loop-removes in
+    let counted = c.in_ok-count-in-Record.ensures in record {
+      surveying = one_passed (g.S.Source.seen c.args.source.now).is_honest c.args.limit
+          c.in-Record.len c.in-Record.removes l.tally c.count.new.self l.buffer
+          c.pass_record.new.buffer (g.S.Source.seen c.args.source.now).left
+          (g.S.Source.seen l.source).left l.invariant.surveying c.in-Record.ensures
+          (record {
+            records = counted.records;
+            removals = counted.removals;
+            bytes = counted.bytes;
+            first_key = counted.first_key ∙
+                ap (option_or (bytes_of l.tally.first_key)) c.last_key.ensures;
+          });
+      honest = l.invariant.honest;
+      steady = l.invariant.steady;
+      failures = l.invariant.failures;
+    }
+
+-- ---- a read
+
+pub loop-removes-preserved : goal.loop-removes-preserved
+loop-removes-preserved g c =
+    let l = c.loop-removes in record {
+      surveying = more_came (g.S.Source.seen c.args.source.now).is_honest
+          (g.S.Source.seen l.source).is_honest c.args.limit c.in-Ok.field-0 l.tally l.buffer
+          c.pass_record.new.buffer c.fill.new.self (g.S.Source.seen c.args.source.now).left
+          (g.S.Source.seen l.source).left (g.S.Source.seen c.fill.new.source).left
+          l.invariant.surveying c.in-Nothing.ensures.1 c.in-Ok.ensures.fills
+          c.fill.ensures.last_key l.invariant.honest;
+      honest = λ o. c.fill.ensures.honest (l.invariant.honest o);
+      steady = λ o. c.fill.ensures.steady (l.invariant.steady o);
+      failures = c.in-Ok.ensures.failures ∙ l.invariant.failures;
+    }
+
+pub returns-in-Ok-eq0-clause-ok : goal.returns-in-Ok-eq0-clause-ok
+returns-in-Ok-eq0-clause-ok g c =
+    let l = c.loop-removes in
+    let none : c.in-Ok-eq0.field-0 ≡ 0 = search rules in
+    let same = gains_none c.in-Ok-eq0.field-0 (g.S.Source.seen l.source).is_honest
+    (g.S.Source.seen l.source).left (g.S.Source.seen c.fill.new.source).left
+    c.pass_record.new.buffer.unparsed c.fill.new.self.unparsed c.in-Ok-eq0.ensures.fills none in
+    end_told (g.S.Source.seen c.args.source.now).is_honest c.args.limit l.tally c.fill.new.self
+    (g.S.Source.seen c.args.source.now).left (g.S.Source.seen c.fill.new.source).left
+    c.in_ok-told-in-Ok-eq0.field-0
+    (more_came (g.S.Source.seen c.args.source.now).is_honest
+    (g.S.Source.seen l.source).is_honest c.args.limit c.in-Ok-eq0.field-0 l.tally l.buffer
+    c.pass_record.new.buffer c.fill.new.self (g.S.Source.seen c.args.source.now).left
+    (g.S.Source.seen l.source).left (g.S.Source.seen c.fill.new.source).left
+    l.invariant.surveying c.in-Nothing.ensures.1 c.in-Ok-eq0.ensures.fills
+    c.fill.ensures.last_key l.invariant.honest)
+    (still_undecided c.args.limit l.tally.records l.buffer c.pass_record.new.buffer c.fill.new.self
+    (record { undecided = c.in-Nothing.ensures.0; same = c.in-Nothing.ensures.1 })
+    c.fill.ensures.last_key same)
+    (λ o. c.in-Ok-eq0.ensures.fills.over (l.invariant.honest o) none)
+    (subst (λ flaw. Tells l.tally c.fill.new.self flaw c.in_ok-told-in-Ok-eq0.field-0)
+    c.cut_in-cut.ensures c.in_ok-told-in-Ok-eq0.ensures)
+
+-- ---- a flaw
+
+pub told-requires-in-Flawed : goal.told-requires-in-Flawed
+told-requires-in-Flawed g c =
+    let l = c.loop-removes in
+    subst (λ (b : Buffered). HasToldKey c.in-Flawed.flaw b.unparsed) (sym c.in-Flawed.ensures.1)
+    (has_told_key c.args.limit l.tally.records l.buffer.last_key l.buffer.unparsed c.in-Flawed.flaw
+    c.in-Flawed.ensures.0)
+
+pub returns-in-Flawed-clause-ok : goal.returns-in-Flawed-clause-ok
+returns-in-Flawed-clause-ok g c =
+    let l = c.loop-removes in
+    flaw_told (g.S.Source.seen c.args.source.now).is_honest c.args.limit l.tally l.buffer
+    (g.S.Source.seen c.args.source.now).left (g.S.Source.seen l.source).left
+    c.in-Flawed.flaw c.in_ok-told-in-Flawed.field-0 l.invariant.surveying c.in-Flawed.ensures.0
+    (subst (λ (b : Buffered). Tells l.tally b (Some c.in-Flawed.flaw)
+    c.in_ok-told-in-Flawed.field-0) c.in-Flawed.ensures.1 c.in_ok-told-in-Flawed.ensures)

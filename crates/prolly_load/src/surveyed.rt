@@ -1,0 +1,52 @@
+//! What a survey says.
+ghost use Rattle.std.specs.Prelude.{◌≡◌};
+
+use prolly_entry::Flaw;
+use std::alloc::AllocError;
+
+/// What a record file holds, as far as it is good.
+#[derive(Debug, Drop)]
+pub struct Survey {
+    /// How many records are good.
+    pub records: u32,
+    /// How many of them remove a key.
+    pub removals: u32,
+    /// How many bytes they take. Where a record behind them is flawed, this is the offset at which
+    /// it begins.
+    pub bytes: u64,
+    /// The key of the first of them.
+    pub first_key: Option<Vec<u8>>,
+    /// The key of the last of them.
+    pub last_key: Option<Vec<u8>>,
+    /// The record behind them, where it is flawed.
+    pub flawed: Option<FlawedRecord>,
+}
+
+/// A record that is not good.
+#[derive(Debug, Drop)]
+pub struct FlawedRecord {
+    /// What is wrong with it.
+    pub flaw: Flaw,
+    /// Its key, where the flaw lies behind it: of a value that is too long and of a key out of
+    /// order.
+    pub key: Option<Vec<u8>>,
+}
+
+/// Why there is no survey.
+#[derive(Clone, Copy, Debug, PartialEq, Eq)]
+pub enum SurveyFault {
+    /// Memory was refused.
+    Memory,
+    /// The source failed.
+    Read,
+}
+
+impl From<AllocError> for SurveyFault {
+    ghost use Rattle.prolly_load.specs.declared.surveyed.SurveyFault.TheVariants.{Memory};
+
+    ghost from_gives = { λ _ fault. fault ≡ Memory };
+
+    fn from(_: AllocError) -> Self {
+        SurveyFault::Memory
+    }
+}

@@ -1,0 +1,96 @@
+//! Surveying a record file.
+ghost use Rattle.std.specs.Prelude.{◌≡◌, ◌≢◌, ◌↔◌, true, IfOk, IsErrOf, OnOk};
+ghost use Rattle.std.specs.Prelude.{IfSome};
+ghost use Rattle.prolly_load.specs.Survey.{IsSurvey};
+ghost use Rattle.prolly_load.specs.Telling.{HasToldKey, Tells, cut_in};
+
+use crate::buffer::Buffer;
+use crate::flawed::flawed_record;
+use crate::passing::{Passed, pass_record};
+use crate::surveyed::{FlawedRecord, Survey, SurveyFault};
+use crate::tally::{Tally, copied};
+use prolly_entry::Flaw;
+use prolly_file::Source;
+use std::alloc::{AllocError, Global};
+
+/// What the bytes that a source has left hold, as a record file of which at most `limit` records
+/// are allowed: what is good of them, and what is wrong behind that.
+///
+/// It stops where the source has no more bytes, and at the first flaw. The source is not read while
+/// the bytes at hand decide a record or a flaw, so a flaw is told even where a further read would
+/// fail. Of a source that is not honest nothing is known but its failures.
+///
+/// One pass, in time linear in the bytes. Copies three keys at most, and holds one buffer of 130
+/// KiB, however long the file is.
+pub fn survey<S: Source>(alloc: Global, source: &mut S, limit: u32) -> Result<Survey, SurveyFault>
+    ensures ok { (S.seen source.old).is_honest ≡ true →
+        IfOk result (λ survey. IsSurvey (S.seen source.old).left limit survey) }
+
+    // A failed read is told, and nothing else is told as one.
+    ensures read { IsErrOf result SurveyFault.Read ↔ ((S.seen source.new).failures ≢ (S.seen
+        source.old).failures) }
+    ensures unfailed { OnOk result ((S.seen source.new).failures ≡ (S.seen source.old).failures) }
+    ensures never { (S.seen source.old).is_steady ≡ true →
+        (S.seen source.new).failures ≡ (S.seen source.old).failures }
+    ensures honest { (S.seen source.old).is_honest ≡ true → (S.seen source.new).is_honest ≡ true }
+    ensures steady { (S.seen source.old).is_steady ≡ true → (S.seen source.new).is_steady ≡ true }
+{
+    let mut buffer = Buffer::new(alloc)?;
+    let mut tally = Tally {
+        records: 0,
+        removals: 0,
+        bytes: 0,
+        first_key: None,
+    };
+    loop {
+        match pass_record(&mut buffer, limit, tally.records) {
+            Passed::Record { removes, len } => {
+                tally.count(alloc, removes, len, buffer.last_key())?;
+            }
+            Passed::Nothing => match buffer.fill(source) {
+                Ok(0) => {
+                    let cut = cut_in(&buffer);
+                    return Ok(told(alloc, tally, &buffer, cut)?);
+                }
+                Ok(_) => {}
+                Err(_) => return Err(SurveyFault::Read),
+            },
+            Passed::Flawed(flaw) => return Ok(told(alloc, tally, &buffer, Some(flaw))?),
+        }
+    }
+}
+
+/// The flaw of what is left where no more bytes come: the file is cut, or there is none.
+fn cut_in(buffer: &Buffer) -> Option<Flaw>
+    ensures { result ≡ cut_in buffer.now.unparsed }
+{
+    if buffer.unparsed().is_empty() {
+        None
+    } else {
+        Some(Flaw::Truncated)
+    }
+}
+
+/// What was counted, where the next record in the buffer has this flaw.
+fn told(
+    alloc: Global,
+    tally: Tally,
+    buffer: &Buffer,
+    flaw: Option<Flaw>,
+) -> Result<Survey, AllocError>
+    requires { IfSome flaw (λ flaw. HasToldKey flaw buffer.now.unparsed) }
+    ensures { IfOk result (Tells tally buffer.now flaw) }
+{
+    let flawed = match flaw {
+        None => None,
+        Some(flaw) => Some(flawed_record(alloc, flaw, buffer.unparsed())?),
+    };
+    Ok(Survey {
+        records: tally.records,
+        removals: tally.removals,
+        bytes: tally.bytes,
+        first_key: tally.first_key,
+        last_key: copied(alloc, buffer.last_key())?,
+        flawed,
+    })
+}
