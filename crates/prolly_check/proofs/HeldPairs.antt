@@ -87,6 +87,11 @@ module _ (version : Version) where
       let within' : suc number < suc (length chunks) = within in
       each_whole chunks number w.1 (omega arith)
 
+  -- a whole chunk has a first byte
+  pub some_byte : (chunk : List ℕ) → IsWhole version chunk → 0 < length chunk
+  some_byte [] w = absurd w.holds
+  some_byte (b ∷ entries) w = omega arith
+
 -- ---- the chunks of a tree
 
 -- the chunks are whole, and hold these pairs

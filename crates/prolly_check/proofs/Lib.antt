@@ -72,3 +72,7 @@ pub mod StepLemmas
 pub mod WaySteps
 -- The chunks of the tops of trees can be read.
 pub mod TreeTops
+-- Sizes in their order, and the numbers of chunks that have these sizes.
+pub mod SizeSteps
+-- The levels of the chunks of a tree.
+pub mod TreeLevels

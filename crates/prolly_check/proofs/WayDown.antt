@@ -199,7 +199,7 @@ module _ (content : Content) (P : (level : ℕ) → Tree level → Type 0) (numb
 abbrev pub height : Content → ℕ → ℕ
 height content number = slice_index (get_or (chunks_of content) number []) 0
 
-height_is : (version : Version) (level : ℕ) (t : Tree level) →
+pub height_is : (version : Version) (level : ℕ) (t : Tree level) →
     slice_index (bytes_of version level t) 0 ≡ level
 height_is version zero t = refl
 height_is version (suc level) t = refl

@@ -32,6 +32,8 @@ pub mod Index
 pub mod Missing
 -- What is kept of a file that was accepted.
 pub mod Checked
+-- The levels of a tree, in numbers.
+pub mod Levels
 -- What a refusal says of the bytes that were to be checked.
 pub mod Check
 -- The chunk of the root.

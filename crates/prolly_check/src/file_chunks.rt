@@ -4,6 +4,7 @@ ghost use Rattle.std.specs.List.{AllByRecursion};
 ghost use Rattle.prolly_entry.specs.Reference.{reference_of};
 ghost use Rattle.prolly_check.specs.Held.{pairs_held};
 ghost use Rattle.prolly_check.specs.Index.{AreReferences};
+ghost use Rattle.prolly_check.specs.Levels.{level_of};
 ghost use Rattle.prolly_check.specs.Spans.{IsWithin, chunks_in};
 ghost use Rattle.prolly_check.specs.Whole.{AreWhole};
 
@@ -93,6 +94,14 @@ impl<'a> FileChunks<'a> {
         ensures { result.now ≡ get_or self.now number [] }
     {
         chunk_at(self.bytes, self.spans[number])
+    }
+
+    /// The level of the chunk of this number.
+    pub(crate) fn level(&self, number: usize) -> u8
+        requires { number < length self.now }
+        ensures { result ≡ level_of (get_or self.now number []) }
+    {
+        chunk_at(self.bytes, self.spans[number])[0]
     }
 
     /// The pairs of the chunk of this number. A node has none.

@@ -3,6 +3,7 @@
 
 mod canonical;
 mod checker;
+mod count;
 mod dump;
 mod ending;
 mod entries;
@@ -17,6 +18,7 @@ mod inspect;
 pub mod laws;
 mod leaf;
 mod leaves;
+mod level;
 mod missing;
 mod node;
 mod nth;
@@ -37,6 +39,7 @@ pub use frames::front_frame;
 pub use header::{HEADER_SIZE, Header, read_header};
 pub use leaf::Pairs;
 pub use leaves::Leaves;
+pub use level::Level;
 pub use missing::Missing;
 pub use node::{Child, Children};
 pub use nth::pair_at;

@@ -11,8 +11,10 @@ ghost use Rattle.prolly_check.specs.Refusal.{UnlessMemory};
 ghost use Rattle.prolly_check.specs.Verdict.{IsVerdict, IsFileOf};
 ghost use Rattle.prolly_check.specs.Way.{IsWay};
 ghost use Rattle.prolly_check.specs.Checked.{IsChecked, IsFile, HasFile, chunks_of};
+ghost use Rattle.prolly_check.specs.Levels.{AreLevels, AreOfMap};
 ghost use Rattle.prolly_check.specs.Missing.{AreSo, lacking, size_of};
 
+use crate::count::count_pairs;
 use crate::dump::write_records;
 use crate::fault::CheckFault;
 use crate::file::CheckedFile;
@@ -22,6 +24,7 @@ use crate::frames::Span;
 use crate::index::Index;
 use crate::inspect::{Layout, inspect};
 use crate::leaves::Leaves;
+use crate::level::{Level, levels_in};
 use crate::missing::{Missing, missing_in};
 use crate::nth::find_nth;
 use crate::scan::scan_pairs;
@@ -112,6 +115,25 @@ impl Tree {
             result ≡ length (chunks (sha512_cut content.bits) content.version content.pairs) }
     {
         self.file().len() as u64
+    }
+
+    /// How many pairs the map has. Takes no memory, and goes over all pairs, leaf by leaf.
+    pub fn pairs(&self) -> u64
+        ensures { (content : Content) → IsFileOf self.now content →
+            result ≡ length content.pairs }
+    {
+        count_pairs(Leaves::new(self.file()))
+    }
+
+    /// The levels of the tree, from the leaves (level 0) to the root's.
+    ///
+    /// Takes memory for the sizes of one level's chunks at a time, and time O(n log n) for n
+    /// chunks: it goes over them once for each level, and sorts their sizes.
+    pub fn levels(&self, alloc: Global) -> Result<Vec<Level>, AllocError>
+        ensures { IfOk result (λ levels. (content : Content) → IsFileOf self.now content →
+            AreLevels (chunks_of content) levels.items) }
+    {
+        levels_in(alloc, &self.file_chunks())
     }
 
     /// The value of the key, or none, found by references from the root. Takes no memory, and reads
@@ -215,6 +237,7 @@ impl Tree {
     fn file_chunks(&self) -> FileChunks<'_>
         ensures chunks { (content : Content) → IsFileOf self.now content →
             result ≡ chunks_of content }
+        ensures tree { AreOfMap result }
         ensures small { size_of result < 2 ^ 64 }
     {
         FileChunks::new(self.version, &self.bytes, &self.spans, &self.references)

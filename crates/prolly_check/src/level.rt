@@ -1,0 +1,72 @@
+//! The levels of a tree, in numbers.
+ghost use Rattle.std.specs.Prelude.{◌≡◌, ◌<◌, ◌^◌, ℕ, List, length, map, sum, IfOk};
+ghost use Rattle.prolly_check.specs.Levels.{AreLevels, AreOfMap, IsLevel, at_level};
+ghost use Rattle.prolly_check.specs.Missing.{size_of};
+
+use crate::file_chunks::FileChunks;
+use std::alloc::{AllocError, Global};
+
+/// The chunks of one level of a tree, in numbers. The bytes are those of the chunks, without the
+/// frames that stand around them in a file.
+#[derive(Clone, Copy, Debug, PartialEq, Eq)]
+pub struct Level {
+    /// How many chunks the level has.
+    pub chunks: u64,
+    /// How many bytes they have together.
+    pub bytes: u64,
+    /// How many bytes the smallest chunk has.
+    pub least: u64,
+    /// How many bytes the chunk in the middle has, in the order of their sizes: of an even number
+    /// of chunks the upper one of the two.
+    pub middle: u64,
+    /// How many bytes the greatest chunk has.
+    pub greatest: u64,
+}
+
+/// The levels of the chunks of a file, from the leaves to the root, which is the last chunk.
+/// Takes memory for the sizes of one level's chunks at a time, and goes over the chunks for each.
+pub(crate) fn levels_in(alloc: Global, chunks: &FileChunks) -> Result<Vec<Level>, AllocError>
+    requires tree { AreOfMap chunks.now }
+    requires small { size_of chunks.now < 2 ^ 64 }
+    ensures { IfOk result (λ levels. AreLevels chunks.now levels.items) }
+{
+    let root = chunks.len() - 1;
+    let mut levels = Vec::new(alloc);
+    for number in 0..=chunks.level(root) {
+        let sizes = sizes_at(alloc, number, chunks)?;
+        levels.push(numbers_of(sizes))?;
+    }
+    Ok(levels)
+}
+
+/// The sizes of the chunks of a level, in their order. Takes memory for the sizes, and reads one
+/// byte of each chunk.
+fn sizes_at(alloc: Global, level: u8, chunks: &FileChunks) -> Result<Vec<u64>, AllocError>
+    ensures { IfOk result (λ sizes. sizes.items ≡ map length (at_level level chunks.now)) }
+{
+    let mut sizes = Vec::new(alloc);
+    for number in 0..chunks.len() {
+        if chunks.level(number) == level {
+            sizes.push(chunks.chunk(number).len() as u64)?;
+        }
+    }
+    Ok(sizes)
+}
+
+/// The numbers of chunks that have these sizes. Takes time O(n log n).
+fn numbers_of(mut sizes: Vec<u64>) -> Level
+    requires some { 0 < length sizes.items }
+    requires small { sum sizes.items < 2 ^ 64 }
+    ensures { (chunks : List (List ℕ)) → map length chunks ≡ sizes.items → IsLevel chunks result }
+{
+    let bytes = sizes.iter().sum();
+    sizes.sort_unstable();
+    let count = sizes.len();
+    Level {
+        chunks: count as u64,
+        bytes,
+        least: sizes[0],
+        middle: sizes[count / 2],
+        greatest: sizes[count - 1],
+    }
+}
