@@ -1,6 +1,8 @@
-//! Counting the pairs of a file.
+//! Counting what a file has: its pairs, and the bytes of its chunks.
 ghost use Rattle.std.specs.Prelude.{◌≡◌, ◌<◌, ◌^◌, length};
+ghost use Rattle.prolly_check.specs.Missing.{size_of};
 
+use crate::file_chunks::FileChunks;
 use crate::leaf::Pairs;
 use crate::leaves::Leaves;
 
@@ -26,4 +28,16 @@ fn count_in(mut leaf: Pairs) -> u64
         count += 1;
     }
     count
+}
+
+/// How many bytes the chunks have together. Takes no memory.
+pub(crate) fn size_in(chunks: &FileChunks) -> u64
+    requires { size_of chunks.now < 2 ^ 64 }
+    ensures { result ≡ size_of chunks.now }
+{
+    let mut size = 0;
+    for number in 0..chunks.len() {
+        size += chunks.chunk(number).len() as u64;
+    }
+    size
 }

@@ -14,7 +14,7 @@ ghost use Rattle.prolly_check.specs.Checked.{IsChecked, IsFile, HasFile, chunks_
 ghost use Rattle.prolly_check.specs.Levels.{AreLevels, AreOfMap};
 ghost use Rattle.prolly_check.specs.Missing.{AreSo, lacking, size_of};
 
-use crate::count::count_pairs;
+use crate::count::{count_pairs, size_in};
 use crate::dump::write_records;
 use crate::fault::CheckFault;
 use crate::file::CheckedFile;
@@ -115,6 +115,15 @@ impl Tree {
             result ≡ length (chunks (sha512_cut content.bits) content.version content.pairs) }
     {
         self.file().len() as u64
+    }
+
+    /// How many bytes the chunks have together, without the frames that stand around them in the
+    /// file.
+    pub fn size(&self) -> u64
+        ensures { (content : Content) → IsFileOf self.now content →
+            result ≡ size_of (chunks_of content) }
+    {
+        size_in(&self.file_chunks())
     }
 
     /// How many pairs the map has. Takes no memory, and goes over all pairs, leaf by leaf.
