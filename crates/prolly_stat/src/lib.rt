@@ -1,0 +1,19 @@
+//! The numbers of files as text for standard output: tables, lines, and JSON.
+#![tactic(auto)]
+
+mod flawed;
+mod json;
+mod line;
+mod records;
+mod records_json;
+mod row;
+mod table;
+mod tree;
+mod tree_json;
+
+pub use flawed::{FlawedNumbers, append_flaw};
+pub use records::{RecordNumbers, append_records};
+pub use records_json::append_records_json;
+pub use table::append_table;
+pub use tree::{Level, TreeNumbers};
+pub use tree_json::append_json;

@@ -1,0 +1,77 @@
+//! The table of a tree.
+ghost use Rattle.std.specs.Prelude.{◌≡◌, ◌++◌, OnOk};
+ghost use Rattle.prolly_stat.specs.Table.{bar, head_of, row_line, table_of};
+
+use crate::line::append_number_line;
+use crate::row::{Row, row_at};
+use crate::tree::{Level, TreeNumbers};
+use std::alloc::{AllocError, Global};
+
+/// The names of the columns, each above the end of its numbers.
+const HEADING: &[u8] =
+    b"level      chunks     entries         bytes       least      middle    greatest\n";
+
+/// Appends the table of a tree: its numbers, a line each, and then a line for each level, from the
+/// root's to the leaves'. An `Err` may leave a part of it behind.
+pub fn append_table(alloc: Global, out: &mut Vec<u8>, tree: &TreeNumbers) -> Result<(), AllocError>
+    ensures { OnOk result (out.new.items ≡ out.old.items ++ table_of tree.now) }
+{
+    append_head(alloc, out, tree)?;
+    out.extend_from_slice(HEADING)?;
+    for number in (0..tree.levels.len()).rev() {
+        append_row(alloc, out, &row_at(tree, number))?;
+    }
+    Ok(())
+}
+
+/// Appends the lines of the tree's numbers.
+#[tactic(auto, unfolding(crate::specs::Table::head_of))]
+fn append_head(alloc: Global, out: &mut Vec<u8>, tree: &TreeNumbers) -> Result<(), AllocError>
+    ensures { OnOk result (out.new.items ≡ out.old.items ++ head_of tree.now) }
+{
+    out.extend_from_slice(b"root ")?;
+    out.extend_from_slice(tree.root)?;
+    out.push(b'\n')?;
+    append_number_line(alloc, out, b"format", u64::from(tree.version.to_byte()))?;
+    append_number_line(alloc, out, b"bits", u64::from(tree.bits))?;
+    append_number_line(alloc, out, b"pairs", tree.pairs)?;
+    append_number_line(alloc, out, b"chunks", tree.chunks)?;
+    append_number_line(alloc, out, b"bytes", tree.bytes)
+}
+
+/// Appends the line of a level.
+fn append_row(alloc: Global, out: &mut Vec<u8>, row: &Row) -> Result<(), AllocError>
+    ensures { OnOk result (out.new.items ≡ out.old.items ++ row_line row.now) }
+{
+    let Row {
+        number,
+        entries,
+        level,
+    } = *row;
+    let Level {
+        chunks,
+        bytes,
+        least,
+        middle,
+        greatest,
+    } = level;
+    let columns = format!(in alloc;
+        "{number:>5}{chunks:>12}{entries:>12}{bytes:>14}{least:>12}{middle:>12}{greatest:>12}  "
+    )?;
+    out.extend_from_slice(columns.as_bytes())?;
+    append_bar(alloc, out, chunks)?;
+    out.push(b'\n')?;
+    Ok(())
+}
+
+/// Appends a bar as long as the number has binary digits, so that it grows by one where the number
+/// doubles.
+fn append_bar(alloc: Global, out: &mut Vec<u8>, number: u64) -> Result<(), AllocError>
+    ensures { OnOk result (out.new.items ≡ out.old.items ++ bar number) }
+{
+    let digits = format!(in alloc; "{number:b}")?;
+    for _digit in digits.as_bytes() {
+        out.push(b'#')?;
+    }
+    Ok(())
+}
