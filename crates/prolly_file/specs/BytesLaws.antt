@@ -1,9 +1,9 @@
 -- What the test of bytes tells.
 use Rattle.std.proofs.Common.{◌≡◌, ℕ, Bool, true, false, List, [], Option, Some, None, All, refl}
-use Rattle.std.proofs.Common.{if◌then◌else◌}
+use Rattle.std.proofs.Common.{if◌then◌else◌, ◌&&◌, ◌++◌}
 use Rattle.std.proofs.lemmas.Bool.{false≢true}
 use Rattle.std.proofs.lemmas.Bool.Decides.{Decides-by_and, Decides-ltb}
-use Rattle.std.proofs.lemmas.List.Elements.{All-nil}
+use Rattle.std.proofs.lemmas.List.Elements.{All-nil, All-append}
 use Rattle.std.specs.Bool.{Decides}
 use Rattle.std.specs.Prelude.{nat_lt}
 use Rattle.prolly_entry.specs.Byte.{IsByte}
@@ -30,3 +30,16 @@ pub bytes_left_are_bytes : (has_ended : Bool) (known : Option (List ℕ)) →
 bytes_left_are_bytes true known told = All-nil IsByte
 bytes_left_are_bytes false None told = absurd (false≢true told)
 bytes_left_are_bytes false (Some numbers) told = bytes_from_test numbers told
+
+-- Two tests pass where both pass.
+pub both_true : (a b : Bool) → (a && b) ≡ true → (a ≡ true) × (b ≡ true)
+both_true true b h = (refl, h)
+both_true false b h = absurd (false≢true h)
+
+-- Tested bytes, and behind them the bytes of an honest source, are bytes.
+pub joined_are_bytes : (front rest : List ℕ) (is_honest : Bool) →
+    (are_bytes front && is_honest) ≡ true → (is_honest ≡ true → All IsByte rest) →
+    All IsByte (front ++ rest)
+joined_are_bytes front rest is_honest told law =
+    let both = both_true (are_bytes front) is_honest told in
+    All-append IsByte front rest (bytes_from_test front both.0) (law both.1)
