@@ -47,7 +47,7 @@ pub fn survey<S: Source>(alloc: Global, source: &mut S, limit: u32) -> Result<Su
             Passed::Record { removes, len } => {
                 tally.count(alloc, removes, len, buffer.last_key())?;
             }
-            Passed::Nothing => match buffer.fill(source) {
+            Passed::Nothing => match buffer.fill(source, tally.records) {
                 Ok(0) => {
                     let cut = cut_in(&buffer);
                     return Ok(told(alloc, tally, &buffer, cut)?);
