@@ -15,5 +15,5 @@ pub use flawed::{FlawedNumbers, append_flaw};
 pub use records::{RecordNumbers, append_records};
 pub use records_json::append_records_json;
 pub use table::append_table;
-pub use tree::{Level, TreeNumbers};
+pub use tree::TreeNumbers;
 pub use tree_json::append_json;

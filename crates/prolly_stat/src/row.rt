@@ -2,7 +2,8 @@
 ghost use Rattle.std.specs.Prelude.{◌≡◌, ◌<◌, Some, length, slice_get};
 ghost use Rattle.prolly_stat.specs.Rows.{rows_of};
 
-use crate::tree::{Level, TreeNumbers};
+use crate::tree::TreeNumbers;
+use prolly_check::Level;
 
 /// A level with its number, which is 0 for the leaves, and its entries.
 #[derive(Clone, Copy, Debug, PartialEq, Eq)]

@@ -4,7 +4,8 @@ ghost use Rattle.prolly_stat.specs.Table.{bar, head_of, row_line, table_of};
 
 use crate::line::append_number_line;
 use crate::row::{Row, row_at};
-use crate::tree::{Level, TreeNumbers};
+use crate::tree::TreeNumbers;
+use prolly_check::Level;
 use std::alloc::{AllocError, Global};
 
 /// The names of the columns, each above the end of its numbers.

@@ -1,21 +1,7 @@
 //! A chunk file, in numbers.
 
+use prolly_check::Level;
 use prolly_entry::Version;
-
-/// One level of a tree, in numbers. A size is the bytes of a chunk, without its frame.
-#[derive(Clone, Copy, Debug, PartialEq, Eq)]
-pub struct Level {
-    /// How many chunks the level has.
-    pub chunks: u64,
-    /// The sizes of its chunks, together.
-    pub bytes: u64,
-    /// The size of its smallest chunk.
-    pub least: u64,
-    /// The size of the chunk in the middle, where the chunks stand by size.
-    pub middle: u64,
-    /// The size of its greatest chunk.
-    pub greatest: u64,
-}
 
 /// A chunk file, in numbers.
 #[derive(Clone, Copy, Debug, PartialEq, Eq)]
