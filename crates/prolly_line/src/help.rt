@@ -59,9 +59,11 @@ them. A key has at most 1,024 bytes, a value at most 65,536. Keys are to rise
 strictly from line to line, compared byte by byte; that is not tested here, but
 `scratch` and `build` refuse a record file whose keys do not rise.
 
-With --text each line is text: a key, a tab and a value, in UTF-8. A backslash
-begins an escape, as in PostgreSQL's COPY: \\b \\t \\n \\v \\f \\r and \\\\, and \\xHH
-for any byte. With --removals too, a line that is a key alone takes the key
+With --text each line is text: a key, a tab and a value. A backslash begins an
+escape, as in PostgreSQL's COPY: \\b \\t \\n \\v \\f \\r and \\\\, and \\xHH for any
+byte. A tab, a newline, a carriage return and a backslash within a key or a
+value have to be escaped; all other bytes may stand as they are, also those that
+are no UTF-8. With --removals too, a line that is a key alone takes the key
 away.
 
 Prints the number of records.
