@@ -7,7 +7,9 @@ from harness import BAD_KEY, BAD_TEXT_KEY, Case
 
 TEXTS = Path(__file__).parent / "texts"
 
-COMMANDS = ["pack", "scratch", "build", "check", "get", "scan", "nth", "dump", "diff", "prove", "verify"]
+COMMANDS = [
+    "pack", "scratch", "build", "explain", "check", "stat", "get", "scan", "nth", "dump", "diff", "prove", "verify",
+]
 
 
 def helped(words, text):
@@ -77,7 +79,7 @@ def usage_cases():
     """Words that are missing, unknown or too many."""
     none = (
         "error: 'prolly' requires a subcommand but one was not provided\n"
-        "  [subcommands: pack, scratch, build, check, get, scan, nth, dump, diff, prove, verify, help]\n\n"
+        f"  [subcommands: {', '.join(COMMANDS)}, help]\n\n"
         "Usage: prolly <COMMAND>\n\nFor more information, try '--help'.\n"
     )
     return [
@@ -92,7 +94,19 @@ def usage_cases():
         missing(["pack"], ["OUT"], "pack <OUT>"),
         wrong(["pack", "a", "b"], "unexpected argument 'b' found", "pack [OPTIONS] <OUT>"),
         missing(["build"], ["OUT"], "build <OUT> [FILES]..."),
+        wrong(["build", "--quiet", "o", "--quiet"], "the argument '--quiet' cannot be used multiple times", "build [OPTIONS] <OUT> [FILES]..."),
+        wrong(["scratch", "--quiet"], "unexpected argument '--quiet' found", "scratch [OPTIONS]"),
+        missing(["explain"], ["FILE"], "explain <FILE>"),
+        missing(["explain", "--text"], ["FILE"], "explain --text <FILE>"),
+        wrong(["explain", "f", "x"], "unexpected argument 'x' found", "explain [OPTIONS] <FILE>"),
+        unknown(["explain", "f", "--max-records", "1"], "--max-records", "explain <FILE>"),
+        wrong(["explain", "--text", "--text", "f"], "the argument '--text' cannot be used multiple times", "explain [OPTIONS] <FILE>"),
         missing(["check"], ["FILE"], "check <FILE>"),
+        missing(["stat"], ["FILE"], "stat <FILE>"),
+        missing(["stat", "--json"], ["FILE"], "stat --json <FILE>"),
+        wrong(["stat", "f", "x"], "unexpected argument 'x' found", "stat [OPTIONS] <FILE>"),
+        unknown(["stat", "f", "--bits", "1"], "--bits", "stat <FILE>"),
+        wrong(["stat", "--json", "--json", "f"], "the argument '--json' cannot be used multiple times", "stat [OPTIONS] <FILE>"),
         missing(["get"], ["FILE", "KEY"], "get <FILE> <KEY>"),
         missing(["get", "f"], ["KEY"], "get <FILE> <KEY>"),
         wrong(["get", "f", "61", "x"], "unexpected argument 'x' found", "get [OPTIONS] <FILE> <KEY>"),

@@ -16,9 +16,9 @@ use Rattle.prolly_line.specs.Given.{GivesTrust, HasFields, IsAskedFor, IsGivenBy
 use Rattle.prolly_line.specs.Given.{IsRefusalOf, IsRefusedBy, IsWithinLimits}
 use Rattle.prolly_line.specs.Line.{line_faults, line_given, program_line}
 use Rattle.prolly_line.specs.declared.command.Command.{Command}
-use Rattle.prolly_line.specs.declared.command.Command.TheVariants.{Pack, Scratch, Build, Check, Get}
-use Rattle.prolly_line.specs.declared.command.Command.TheVariants.{Scan, Nth, Dump, Diff, Prove}
-use Rattle.prolly_line.specs.declared.command.Command.TheVariants.{Verify}
+use Rattle.prolly_line.specs.declared.command.Command.TheVariants.{Pack, Scratch, Build, Explain}
+use Rattle.prolly_line.specs.declared.command.Command.TheVariants.{Check, Stat, Get, Scan, Nth}
+use Rattle.prolly_line.specs.declared.command.Command.TheVariants.{Dump, Diff, Prove, Verify}
 use Rattle.prolly_line.specs.declared.command.ParseFault.{ParseFault}
 use Rattle.prolly_line.specs.declared.command.ParseFault.TheVariants.{Memory, Usage, Help}
 use Rattle.prolly_line.specs.declared.command.ParseFault.TheVariants.{BadRoot, BadKey}
@@ -136,9 +136,11 @@ limits_kept given (Ok command) fields = go command fields
     go : (command : Command) → HasFields command given → IsWithinLimits command
     go (Pack out notation removals mode) h = tt
     go (Scratch bits version out mode) h = (h.1.2, h.2.1, h.2.2)
-    go (Build bits stages capacity max_records batch version out files mode) h =
+    go (Build bits stages capacity max_records batch version out files quiet mode) h =
         (h.1.2, h.2.1, h.2.2, h.3.1, h.3.2, h.4.1, h.4.2, h.5.1, h.5.2, h.6.1, h.6.2)
+    go (Explain file notation) h = tt
     go (Check file) h = tt
+    go (Stat file json notation) h = tt
     go (Get file key root version notation) h =
         (h.2.1.2.1, lawful_trust given.1 root version h.3)
     go (Scan file from limit root version notation) h =

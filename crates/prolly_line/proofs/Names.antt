@@ -1,4 +1,4 @@
--- An accepted subcommand is one of the eleven.
+-- An accepted subcommand is one of the thirteen.
 use Rattle.std.proofs.Common.{◌≡◌, ◌∙◌, List, false, true, refl, sym, subst, codes}
 use Rattle.std.specs.Str.{bytes_eq}
 use Rattle.std.proofs.lemmas.Slice.Eq.{bytes_eq-Decides}
@@ -16,7 +16,9 @@ pub record IsStrange (name : Text) : Type 0 where
   pub pack : name ≡ codes "pack" → ⊥
   pub scratch : name ≡ codes "scratch" → ⊥
   pub build : name ≡ codes "build" → ⊥
+  pub explain : name ≡ codes "explain" → ⊥
   pub check : name ≡ codes "check" → ⊥
+  pub stat : name ≡ codes "stat" → ⊥
   pub get : name ≡ codes "get" → ⊥
   pub scan : name ≡ codes "scan" → ⊥
   pub nth : name ≡ codes "nth" → ⊥
@@ -36,22 +38,28 @@ none_strange = (
     (
       (λ strange. strange.build refl),
       (
-        (λ strange. strange.check refl),
+        (λ strange. strange.explain refl),
         (
-          (λ strange. strange.get refl),
+          (λ strange. strange.check refl),
           (
-            (λ strange. strange.scan refl),
+            (λ strange. strange.stat refl),
             (
-              (λ strange. strange.nth refl),
+              (λ strange. strange.get refl),
               (
-                (λ strange. strange.dump refl),
+                (λ strange. strange.scan refl),
                 (
-                  (λ strange. strange.diff refl),
+                  (λ strange. strange.nth refl),
                   (
-                    (λ strange. strange.prove refl),
+                    (λ strange. strange.dump refl),
                     (
-                      (λ strange. strange.verify refl),
-                      ((λ strange. strange.help refl), tt),
+                      (λ strange. strange.diff refl),
+                      (
+                        (λ strange. strange.prove refl),
+                        (
+                          (λ strange. strange.verify refl),
+                          ((λ strange. strange.help refl), tt),
+                        ),
+                      ),
                     ),
                   ),
                 ),
@@ -76,14 +84,15 @@ not_help given accepted is =
     let bad : true ≡ false = sym same ∙ past in
     cc
 
--- and so an accepted subcommand has the name of one of the eleven
+-- and so an accepted subcommand has the name of one of the thirteen
 pub not_strange : (name : Text) (rows : List Row) → IsAccepted (name, rows)
     → (name ≡ codes "pack" → ⊥) → (name ≡ codes "scratch" → ⊥) → (name ≡ codes "build" → ⊥) →
-    (name ≡ codes "check" → ⊥)
+    (name ≡ codes "explain" → ⊥) → (name ≡ codes "check" → ⊥) → (name ≡ codes "stat" → ⊥)
     → (name ≡ codes "get" → ⊥) → (name ≡ codes "scan" → ⊥) → (name ≡ codes "nth" → ⊥)
     → (name ≡ codes "dump" → ⊥) → (name ≡ codes "diff" → ⊥) → (name ≡ codes "prove" → ⊥) →
     (name ≡ codes "verify" → ⊥) → ⊥
-not_strange name rows accepted pack scratch build check get scan nth dump diff prove verify =
+not_strange name rows accepted pack scratch build explain check stat get scan nth dump diff prove
+    verify =
     let level = accepted_level accepted.0 (name, rows) accepted.1 accepted.2 in
     let is : level.0.name ≡ name = found_name name (built program_line).subs level.0 no_aliases
     level.1 in
@@ -94,7 +103,9 @@ not_strange name rows accepted pack scratch build check get scan nth dump diff p
       pack = pack;
       scratch = scratch;
       build = build;
+      explain = explain;
       check = check;
+      stat = stat;
       get = get;
       scan = scan;
       nth = nth;

@@ -7,9 +7,9 @@ use Rattle.clap.proofs.OnLiterals.{clap_on_literals}
 use Rattle.prolly_line.proofs.Levels.{level_at, number_at, shape_at, word_at}
 use Rattle.prolly_line.proofs.Passes.{Each, IsSound}
 use Rattle.prolly_line.specs.Accepted.{HasNumber, HasWord, IsAccepted}
-use Rattle.prolly_line.specs.Line.{build_line, check_line, diff_line, dump_line, get_line}
-use Rattle.prolly_line.specs.Line.{nth_line, pack_line, program_line, prove_line, scan_line}
-use Rattle.prolly_line.specs.Line.{scratch_line, verify_line}
+use Rattle.prolly_line.specs.Line.{build_line, check_line, diff_line, dump_line, explain_line}
+use Rattle.prolly_line.specs.Line.{get_line, nth_line, pack_line, program_line, prove_line}
+use Rattle.prolly_line.specs.Line.{scan_line, scratch_line, stat_line, verify_line}
 
 -- a subcommand as it is built under the program's line
 abbrev built_of : App → Shape
@@ -109,13 +109,7 @@ build_sound = (
               (refl, refl),
               (
                 (refl, refl),
-                (
-                  (refl, refl),
-                  (
-                    (refl, refl),
-                    ((refl, refl), tt),
-                  ),
-                ),
+                ((refl, refl), ((refl, refl), ((refl, refl), ((refl, refl), tt)))),
               ),
             ),
           ),
@@ -149,6 +143,30 @@ takes_build rows accepted =
       out = word_at build_shape rows (codes "out") build_sound level refl refl;
     }
 
+-- ---- explain
+
+unfoldable explain_shape : Shape
+explain_shape = built_of explain_line
+
+explain_found : shape_at (codes "explain") ≡ Some explain_shape
+unfolding clap_on_literals explain_shape
+explain_found = refl
+
+explain_sound : IsSoundShape explain_shape
+unfolding clap_on_literals explain_shape
+explain_sound = ((refl, refl), ((refl, refl), ((refl, refl), tt)))
+
+pub record TakesExplain (rows : List Row) : Type 0 where
+  pub file : HasWord (codes "file") rows
+
+pub takes_explain : (rows : List Row) → IsAccepted (codes "explain", rows) → TakesExplain rows
+unfolding clap_on_literals explain_shape
+takes_explain rows accepted =
+    let level = level_at (codes "explain") explain_shape rows explain_found accepted in
+    record {
+      file = word_at explain_shape rows (codes "file") explain_sound level refl refl;
+    }
+
 -- ---- check
 
 unfoldable check_shape : Shape
@@ -171,6 +189,30 @@ takes_check rows accepted =
     let level = level_at (codes "check") check_shape rows check_found accepted in
     record {
       file = word_at check_shape rows (codes "file") check_sound level refl refl;
+    }
+
+-- ---- stat
+
+unfoldable stat_shape : Shape
+stat_shape = built_of stat_line
+
+stat_found : shape_at (codes "stat") ≡ Some stat_shape
+unfolding clap_on_literals stat_shape
+stat_found = refl
+
+stat_sound : IsSoundShape stat_shape
+unfolding clap_on_literals stat_shape
+stat_sound = ((refl, refl), ((refl, refl), ((refl, refl), ((refl, refl), tt))))
+
+pub record TakesStat (rows : List Row) : Type 0 where
+  pub file : HasWord (codes "file") rows
+
+pub takes_stat : (rows : List Row) → IsAccepted (codes "stat", rows) → TakesStat rows
+unfolding clap_on_literals stat_shape
+takes_stat rows accepted =
+    let level = level_at (codes "stat") stat_shape rows stat_found accepted in
+    record {
+      file = word_at stat_shape rows (codes "file") stat_sound level refl refl;
     }
 
 -- ---- get

@@ -15,9 +15,9 @@ use Rattle.prolly_text.specs.declared.notation.Notation.TheVariants.{Hex, Text a
 use Rattle.prolly_line.specs.Line.{line_faults, line_given}
 use Rattle.prolly_line.specs.declared.command.Command.{Command}
 use Rattle.prolly_line.specs.declared.command.WriteMode.{WriteMode}
-use Rattle.prolly_line.specs.declared.command.Command.TheVariants.{Pack, Scratch, Build, Check, Get}
-use Rattle.prolly_line.specs.declared.command.Command.TheVariants.{Scan, Nth, Dump, Diff, Prove}
-use Rattle.prolly_line.specs.declared.command.Command.TheVariants.{Verify}
+use Rattle.prolly_line.specs.declared.command.Command.TheVariants.{Pack, Scratch, Build, Explain}
+use Rattle.prolly_line.specs.declared.command.Command.TheVariants.{Check, Stat, Get, Scan, Nth}
+use Rattle.prolly_line.specs.declared.command.Command.TheVariants.{Dump, Diff, Prove, Verify}
 use Rattle.prolly_line.specs.declared.command.ParseFault.{ParseFault}
 use Rattle.prolly_line.specs.declared.command.ParseFault.TheVariants.{Memory, Usage, Help}
 use Rattle.prolly_line.specs.declared.command.ParseFault.TheVariants.{BadRoot, BadKey}
@@ -135,7 +135,7 @@ HasFields (Scratch bits version out mode) given =
     × GivesNumber given.1 (codes "format") 1 2 version
     × GivesOption given.1 (codes "out") (option_map string_bytes out)
     × GivesMode given.1 mode
-HasFields (Build bits stages capacity max_records batch version out files mode) given =
+HasFields (Build bits stages capacity max_records batch version out files quiet mode) given =
     (given.0 ≡ codes "build")
     × GivesNumber given.1 (codes "bits") 0 24 bits
     × GivesNumber given.1 (codes "stages") 1 12 stages
@@ -145,9 +145,19 @@ HasFields (Build bits stages capacity max_records batch version out files mode) 
     × GivesNumber given.1 (codes "format") 1 2 version
     × GivesWord given.1 (codes "out") (string_bytes out)
     × GivesWords given.1 (codes "files") (map string_bytes files.items)
+    × GivesFlag given.1 (codes "quiet") quiet
     × GivesMode given.1 mode
+HasFields (Explain file notation) given =
+    (given.0 ≡ codes "explain")
+    × GivesWord given.1 (codes "file") (string_bytes file)
+    × GivesNotation given.1 notation
 HasFields (Check file) given =
     (given.0 ≡ codes "check") × GivesWord given.1 (codes "file") (string_bytes file)
+HasFields (Stat file json notation) given =
+    (given.0 ≡ codes "stat")
+    × GivesWord given.1 (codes "file") (string_bytes file)
+    × GivesFlag given.1 (codes "json") json
+    × GivesNotation given.1 notation
 HasFields (Get file key root version notation) given =
     (given.0 ≡ codes "get")
     × GivesWord given.1 (codes "file") (string_bytes file)
@@ -208,14 +218,16 @@ IsLawfulTrust root version =
 abbrev pub IsWithinLimits : Command → Type 0
 IsWithinLimits (Pack out notation removals mode) = ⊤
 IsWithinLimits (Scratch bits version out mode) = (bits ≤ 24) × (1 ≤ version) × (version ≤ 2)
-IsWithinLimits (Build bits stages capacity max_records batch version out files mode) =
+IsWithinLimits (Build bits stages capacity max_records batch version out files quiet mode) =
     (bits ≤ 24)
     × (1 ≤ stages) × (stages ≤ 12)
     × (1 ≤ capacity) × (capacity ≤ 4096)
     × (1 ≤ max_records) × (max_records ≤ 16777216)
     × (1 ≤ batch) × (batch ≤ 1024)
     × (1 ≤ version) × (version ≤ 2)
+IsWithinLimits (Explain file notation) = ⊤
 IsWithinLimits (Check file) = ⊤
+IsWithinLimits (Stat file json notation) = ⊤
 IsWithinLimits (Get file key root version notation) =
     (length key.items ≤ 1024) × IsLawfulTrust root version
 IsWithinLimits (Scan file from limit root version notation) =

@@ -86,6 +86,12 @@ hex_flag = flag (codes "hex")
 abbrev pub stat_flag : Rule
 stat_flag = flag (codes "stat")
 
+abbrev pub json_flag : Rule
+json_flag = flag (codes "json")
+
+abbrev pub quiet_flag : Rule
+quiet_flag = flag (codes "quiet")
+
 abbrev pub out_word : Rule
 out_word = word_rule (codes "out")
 
@@ -137,17 +143,26 @@ scratch_line = with_rule (with_rule (with_rule (with_rule (with_rule (new_app (c
     bits_option) format_option) out_option) atomic_flag) sync_flag
 
 -- `build [--bits Q] [--stages S] [--capacity C] [--max-records M] [--batch B] [--format V]
--- [--atomic] [--sync] OUT [FILES...]`
+-- [--quiet] [--atomic] [--sync] OUT [FILES...]`
 abbrev pub build_line : App
-build_line = with_rule (with_rule (with_rule (with_rule
+build_line = with_rule (with_rule (with_rule (with_rule (with_rule
     (with_rule (with_rule (with_rule (with_rule (with_rule (with_rule
     (new_app (codes "build")) bits_option) stages_option) capacity_option) max_records_option)
     batch_option)
-    format_option) atomic_flag) sync_flag) out_word) files_words
+    format_option) quiet_flag) atomic_flag) sync_flag) out_word) files_words
+
+-- `explain [--text] FILE`
+abbrev pub explain_line : App
+explain_line = with_rule (with_rule (new_app (codes "explain")) text_flag) file_word
 
 -- `check FILE`
 abbrev pub check_line : App
 check_line = with_rule (new_app (codes "check")) file_word
+
+-- `stat [--text] [--json] FILE`
+abbrev pub stat_line : App
+stat_line = with_rule (with_rule (with_rule (new_app (codes "stat")) text_flag) json_flag)
+    file_word
 
 -- `get [--text] [--root ROOT] [--format V] FILE KEY`
 abbrev pub get_line : App
@@ -196,11 +211,11 @@ bare_line = on_top (λ s. record s {
 
 -- the words after the program's name, in the order in which one uses the subcommands
 abbrev pub program_line : App
-program_line = with_subcommand (with_subcommand (with_subcommand
+program_line = with_subcommand (with_subcommand (with_subcommand (with_subcommand
     (with_subcommand (with_subcommand (with_subcommand (with_subcommand
-    (with_subcommand (with_subcommand (with_subcommand (with_subcommand
-    bare_line pack_line.top) scratch_line.top) build_line.top) check_line.top)
-    get_line.top) scan_line.top) nth_line.top) dump_line.top)
+    (with_subcommand (with_subcommand (with_subcommand (with_subcommand (with_subcommand
+    bare_line pack_line.top) scratch_line.top) build_line.top) explain_line.top) check_line.top)
+    stat_line.top) get_line.top) scan_line.top) nth_line.top) dump_line.top)
     diff_line.top) prove_line.top) verify_line.top
 
 -- the kinds of error that clap may give at the words; none where it takes them

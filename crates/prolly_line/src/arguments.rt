@@ -1,7 +1,8 @@
 //! The options and words of the subcommands, each with the rule that clap reads it by.
 ghost use Rattle.prolly_line.specs.Line.{atomic_flag, batch_option, bits_option, capacity_option};
 ghost use Rattle.prolly_line.specs.Line.{file_word, files_words, flag, format_option, key_word};
-ghost use Rattle.prolly_line.specs.Line.{hex_flag, limit_word, removals_flag};
+ghost use Rattle.prolly_line.specs.Line.{hex_flag, json_flag, limit_word, quiet_flag};
+ghost use Rattle.prolly_line.specs.Line.{removals_flag};
 ghost use Rattle.prolly_line.specs.Line.{max_records_option, n_word, number_option, number_word};
 ghost use Rattle.prolly_line.specs.Line.{option_rule, optional_out_word, out_option, out_word};
 ghost use Rattle.prolly_line.specs.Line.{proof_word, root_option};
@@ -178,6 +179,20 @@ pub(crate) fn stat_flag<'a>(alloc: Global) -> Arg<'a>
     flag(alloc, "stat").help("Print how much has changed in place of the changes")
 }
 
+/// `--json`
+pub(crate) fn json_flag<'a>(alloc: Global) -> Arg<'a>
+    ensures { IsReadBy json_flag result }
+{
+    flag(alloc, "json").help("Print one line of JSON, in which keys are in hexadecimal")
+}
+
+/// `--quiet`
+pub(crate) fn quiet_flag<'a>(alloc: Global) -> Arg<'a>
+    ensures { IsReadBy quiet_flag result }
+{
+    flag(alloc, "quiet").help("Show no progress on standard error")
+}
+
 /// `OUT`, the file that a subcommand makes; `what` says for its help what that is.
 pub(crate) fn out_word<'a>(alloc: Global, what: &'a str) -> Arg<'a>
     ensures { IsReadBy out_word result }
@@ -206,11 +221,11 @@ pub(crate) fn tree_word<'a>(
     required_word(alloc, name, value_name).help(what)
 }
 
-/// `FILE`, the chunk file of a subcommand that reads one.
-pub(crate) fn file_word<'a>(alloc: Global) -> Arg<'a>
+/// `FILE`, the file that a subcommand reads; `what` says for its help what that is.
+pub(crate) fn file_word<'a>(alloc: Global, what: &'a str) -> Arg<'a>
     ensures { IsReadBy file_word result }
 {
-    tree_word(alloc, "file", "FILE", "The chunk file")
+    required_word(alloc, "file", "FILE").help(what)
 }
 
 /// `[PROOF]`, the proof that a subcommand reads.

@@ -42,7 +42,7 @@ pub enum Command {
         out: Option<String>,
         mode: WriteMode,
     },
-    /// Make the tree of record files, in threads.
+    /// Make the tree of record files, in threads. Where `quiet` is set, no progress is shown.
     Build {
         bits: u8,
         stages: u8,
@@ -52,11 +52,24 @@ pub enum Command {
         version: u8,
         out: String,
         files: Vec<String>,
+        quiet: bool,
         mode: WriteMode,
+    },
+    /// Say where and why a file is not a good record file.
+    Explain {
+        file: String,
+        notation: Notation,
     },
     /// Say whether a file is a lawful chunk file.
     Check {
         file: String,
+    },
+    /// Print the numbers of a chunk file or of a record file: where `json` is set, in a line of
+    /// JSON, in which keys are in hexadecimal, and then the notation says nothing.
+    Stat {
+        file: String,
+        json: bool,
+        notation: Notation,
     },
     /// Print the value of a key: with a root, what the tree of it has in chunks of the version,
     /// and without one, what the file has, whose own version counts then.
@@ -195,7 +208,9 @@ fn command_of(alloc: Global, name: &str, given: &ArgMatches<'_>) -> Result<Comma
         "pack" => fields::pack(alloc, given),
         "scratch" => fields::scratch(alloc, given),
         "build" => fields::build(alloc, given),
+        "explain" => fields::explain(alloc, given),
         "check" => fields::check(alloc, given),
+        "stat" => fields::stat(alloc, given),
         "get" => fields::get(alloc, given),
         "scan" => fields::scan(alloc, given),
         "nth" => fields::nth(alloc, given),

@@ -50,7 +50,7 @@ pub(crate) fn scratch(alloc: Global, given: &ArgMatches<'_>) -> Result<Command, 
 }
 
 /// `build [--bits Q] [--stages S] [--capacity C] [--max-records M] [--batch B] [--format V]
-/// [--atomic] [--sync] OUT [FILES...]`
+/// [--quiet] [--atomic] [--sync] OUT [FILES...]`
 pub(crate) fn build(alloc: Global, given: &ArgMatches<'_>) -> Result<Command, ParseFault>
     requires { IsAccepted (codes "build", rows_in given.now) }
     ensures { Answers (codes "build", rows_in given.now) result }
@@ -63,6 +63,7 @@ pub(crate) fn build(alloc: Global, given: &ArgMatches<'_>) -> Result<Command, Pa
     let version = byte_of(given, "format");
     let out = text_of(alloc, given, "out")?;
     let files = texts_of(alloc, given, "files")?;
+    let quiet = flag_of(given, "quiet");
     let mode = mode_of(given);
     Ok(Command::Build {
         bits,
@@ -73,8 +74,19 @@ pub(crate) fn build(alloc: Global, given: &ArgMatches<'_>) -> Result<Command, Pa
         version,
         out,
         files,
+        quiet,
         mode,
     })
+}
+
+/// `explain [--text] FILE`
+pub(crate) fn explain(alloc: Global, given: &ArgMatches<'_>) -> Result<Command, ParseFault>
+    requires { IsAccepted (codes "explain", rows_in given.now) }
+    ensures { Answers (codes "explain", rows_in given.now) result }
+{
+    let file = text_of(alloc, given, "file")?;
+    let notation = notation_of(given);
+    Ok(Command::Explain { file, notation })
 }
 
 /// `check FILE`
@@ -84,6 +96,21 @@ pub(crate) fn check(alloc: Global, given: &ArgMatches<'_>) -> Result<Command, Pa
 {
     let file = text_of(alloc, given, "file")?;
     Ok(Command::Check { file })
+}
+
+/// `stat [--text] [--json] FILE`
+pub(crate) fn stat(alloc: Global, given: &ArgMatches<'_>) -> Result<Command, ParseFault>
+    requires { IsAccepted (codes "stat", rows_in given.now) }
+    ensures { Answers (codes "stat", rows_in given.now) result }
+{
+    let file = text_of(alloc, given, "file")?;
+    let json = flag_of(given, "json");
+    let notation = notation_of(given);
+    Ok(Command::Stat {
+        file,
+        json,
+        notation,
+    })
 }
 
 // What a look-up of a key trusts, and the key. A bad root is told before a bad key.

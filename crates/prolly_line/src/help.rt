@@ -115,9 +115,31 @@ about 28,200,000 records of 38 bytes make.
 --bits and --format decide what the chunk file holds. --stages and --max-records
 are limits: a tree of more levels, or a file of more records, is refused.
 --capacity and --batch change only how much memory the threads use and how often
-they wait for one another, never the chunk file.",
+they wait for one another, never the chunk file.
+
+Where standard error is a terminal, a build that takes longer than a second
+shows its progress there. With --quiet it does not.",
     example: "Example: the records of a day over those of the day before
   prolly build tuesday.prl monday.rec tuesday.rec",
+};
+
+pub(crate) const EXPLAIN: Help<'static> = Help {
+    about: "Say where and why a record file is not good",
+    details: "Reads a record file as `build` does, and says where and why it is not good. It
+is good where it is at most 16,777,216 whole records, keys and values are not
+longer than they may be, and the keys rise strictly.
+
+Where it is good, prints `ok` and the number of its records.
+
+Where it is not, prints of the first flawed record its place, counted from 0,
+the offset of its first byte, what is wrong with it, its key, and the key before
+it, where there are such; of a key of more than 64 bytes the first 64. The exit
+status is 1 then.
+
+Keys are shown in hexadecimal, or with --text as text, with the escapes of
+`pack --text`.",
+    example: "Example: what is wrong with a record file that `build` refuses
+  prolly explain monday.rec",
 };
 
 pub(crate) const CHECK: Help<'static> = Help {
@@ -128,6 +150,28 @@ the one chunk file of its contents, to the byte.
 Prints `ok`, the text of the root, the number of --bits and that of chunks.",
     example: "Example:
   prolly check ab.prl",
+};
+
+pub(crate) const STAT: Help<'static> = Help {
+    about: "Print the numbers of a chunk file or of a record file",
+    details: "Prints the numbers of a chunk file or of a record file. Which of the two FILE is
+its first four bytes tell: a chunk file begins with `PRLY`, and no good record
+file does.
+
+Of a chunk file these are the text of its root, its --format and --bits, and its
+numbers of pairs, chunks and bytes; and of each level its numbers of chunks,
+entries and bytes, and how many bytes its least, its middle and its greatest
+chunk have, with a bar that grows by one `#` where the number of chunks doubles.
+The chunk file is checked first, as by `check`.
+
+Of a record file these are its numbers of records, removals and bytes, and its
+first and its last key.
+
+Keys are shown in hexadecimal, or with --text as text, with the escapes of
+`pack --text`. With --json all this is one line of JSON; keys are in hexadecimal
+there, and --text says nothing.",
+    example: "Example: the numbers of a tree, level by level
+  prolly stat ab.prl",
 };
 
 pub(crate) const GET: Help<'static> = Help {

@@ -27,7 +27,9 @@ pub(crate) fn program_line<'a>(alloc: Global) -> Result<Command<'a>, AllocError>
     let line = with_subcommand(line, subcommands::pack_line(alloc));
     let line = with_subcommand(line, subcommands::scratch_line(alloc));
     let line = with_subcommand(line, subcommands::build_line(alloc));
+    let line = with_subcommand(line, subcommands::explain_line(alloc));
     let line = with_subcommand(line, subcommands::check_line(alloc));
+    let line = with_subcommand(line, subcommands::stat_line(alloc));
     let line = with_subcommand(line, subcommands::get_line(alloc));
     let line = with_subcommand(line, subcommands::scan_line(alloc));
     let line = with_subcommand(line, subcommands::nth_line(alloc));

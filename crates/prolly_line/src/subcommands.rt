@@ -2,9 +2,10 @@
 ghost use Rattle.std.specs.Prelude.{IfOk};
 ghost use Rattle.clap.specs.Words.{App, Rule, with_rule};
 ghost use Rattle.prolly_line.specs.Line.{atomic_flag, sync_flag};
-ghost use Rattle.prolly_line.specs.Line.{build_line, check_line, diff_line, dump_line, get_line};
-ghost use Rattle.prolly_line.specs.Line.{nth_line, pack_line, prove_line, scan_line, scratch_line};
-ghost use Rattle.prolly_line.specs.Line.{look_up_line, verify_line};
+ghost use Rattle.prolly_line.specs.Line.{build_line, check_line, diff_line, dump_line};
+ghost use Rattle.prolly_line.specs.Line.{explain_line, get_line, look_up_line, nth_line, pack_line};
+ghost use Rattle.prolly_line.specs.Line.{prove_line, scan_line, scratch_line, stat_line};
+ghost use Rattle.prolly_line.specs.Line.{verify_line};
 ghost use Rattle.prolly_line.specs.Local.{HasLine, IsReadBy};
 
 use crate::assembly::{described, with_argument};
@@ -12,6 +13,9 @@ use crate::help::Help;
 use crate::{arguments, help};
 use clap::{Arg, Command};
 use std::alloc::{AllocError, Global};
+
+// What FILE says where it is to be a chunk file.
+const CHUNK_FILE: &str = "The chunk file";
 
 // What `--text` says of a dump.
 const DUMPED_TEXT: &str = "Write lines KEY, tab, VALUE of text in place of a record file";
@@ -21,6 +25,9 @@ const WRITTEN_FORMAT: &str = "Write version V of the chunk file (1 or 2)";
 
 // What `--text` says where a key is taken and its value is printed.
 const KEY_AND_VALUE: &str = "Take the key and print the value as text in place of hexadecimal";
+
+// What `--text` says where keys are printed.
+const SHOWN_KEYS: &str = "Print keys as text in place of hexadecimal";
 
 // Adds the flags that say how the output is written.
 fn with_mode<'a>(
@@ -53,7 +60,7 @@ fn look_up_line<'a>(
     let line = described(alloc, name, help).arg(arguments::text_flag(alloc, text));
     let line = with_argument(line, arguments::root_option(alloc));
     let line = with_argument(line, format);
-    let line = with_argument(line, arguments::file_word(alloc));
+    let line = with_argument(line, arguments::file_word(alloc, CHUNK_FILE));
     with_argument(line, sought)
 }
 
@@ -82,7 +89,7 @@ pub(crate) fn scratch_line<'a>(alloc: Global) -> Result<Command<'a>, AllocError>
 }
 
 /// `build [--bits Q] [--stages S] [--capacity C] [--max-records M] [--batch B] [--format V]
-/// [--atomic] [--sync] OUT [FILES...]`
+/// [--quiet] [--atomic] [--sync] OUT [FILES...]`
 pub(crate) fn build_line<'a>(alloc: Global) -> Result<Command<'a>, AllocError>
     ensures { IfOk result (HasLine build_line) }
 {
@@ -92,16 +99,39 @@ pub(crate) fn build_line<'a>(alloc: Global) -> Result<Command<'a>, AllocError>
     let line = with_argument(line, arguments::max_records_option(alloc));
     let line = with_argument(line, arguments::batch_option(alloc));
     let line = with_argument(line, arguments::format_option(alloc, WRITTEN_FORMAT));
+    let line = with_argument(line, arguments::quiet_flag(alloc));
     let line = with_mode(alloc, line);
     let line = with_argument(line, arguments::out_word(alloc, "The chunk file to make"));
     with_argument(line, arguments::files_words(alloc))
+}
+
+/// `explain [--text] FILE`
+pub(crate) fn explain_line<'a>(alloc: Global) -> Result<Command<'a>, AllocError>
+    ensures { IfOk result (HasLine explain_line) }
+{
+    let text = arguments::text_flag(alloc, SHOWN_KEYS);
+    let line = described(alloc, "explain", help::EXPLAIN).arg(text);
+    with_argument(line, arguments::file_word(alloc, "The record file"))
 }
 
 /// `check FILE`
 pub(crate) fn check_line<'a>(alloc: Global) -> Result<Command<'a>, AllocError>
     ensures { IfOk result (HasLine check_line) }
 {
-    described(alloc, "check", help::CHECK).arg(arguments::file_word(alloc))
+    described(alloc, "check", help::CHECK).arg(arguments::file_word(alloc, CHUNK_FILE))
+}
+
+/// `stat [--text] [--json] FILE`
+pub(crate) fn stat_line<'a>(alloc: Global) -> Result<Command<'a>, AllocError>
+    ensures { IfOk result (HasLine stat_line) }
+{
+    let text = arguments::text_flag(alloc, SHOWN_KEYS);
+    let line = described(alloc, "stat", help::STAT).arg(text);
+    let line = with_argument(line, arguments::json_flag(alloc));
+    with_argument(
+        line,
+        arguments::file_word(alloc, "The chunk file or the record file"),
+    )
 }
 
 /// `dump [--text] [--hex] [--atomic] [--sync] FILE [OUT]`
@@ -112,7 +142,7 @@ pub(crate) fn dump_line<'a>(alloc: Global) -> Result<Command<'a>, AllocError>
     let line = described(alloc, "dump", help::DUMP).arg(text);
     let line = with_mode(alloc, with_argument(line, arguments::hex_flag(alloc)));
     with_argument(
-        with_argument(line, arguments::file_word(alloc)),
+        with_argument(line, arguments::file_word(alloc, CHUNK_FILE)),
         arguments::optional_out_word(alloc),
     )
 }
@@ -168,7 +198,7 @@ pub(crate) fn prove_line<'a>(alloc: Global) -> Result<Command<'a>, AllocError>
 {
     let text = arguments::text_flag(alloc, "Take the key as text in place of hexadecimal");
     let line = with_mode(alloc, described(alloc, "prove", help::PROVE).arg(text));
-    let line = with_argument(line, arguments::file_word(alloc));
+    let line = with_argument(line, arguments::file_word(alloc, CHUNK_FILE));
     let line = with_argument(line, arguments::key_word(alloc));
     with_argument(line, arguments::out_word(alloc, "The proof to make"))
 }

@@ -54,5 +54,6 @@ returns c =
       c.byte_of-version.ensures 1 2 (omega arith) takes.format,
       c.in_ok-out.ensures,
       c.in_ok-files.ensures,
+      c.flag_of-quiet.ensures,
       c.mode_of-mode.ensures,
     )

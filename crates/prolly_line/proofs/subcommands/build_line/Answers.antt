@@ -14,6 +14,7 @@ returns c =
     c.max_records_option.ensures in
     let with_batch = c.with_argument-line-4.ensures _ _ with_max_records c.batch_option.ensures in
     let with_format = c.with_argument-line-5.ensures _ _ with_batch c.format_option.ensures in
-    let with_mode = c.with_mode-line.ensures _ with_format in
-    let with_out = c.with_argument-line-6.ensures _ _ with_mode c.out_word.ensures in
+    let with_quiet = c.with_argument-line-6.ensures _ _ with_format c.quiet_flag.ensures in
+    let with_mode = c.with_mode-line.ensures _ with_quiet in
+    let with_out = c.with_argument-line-7.ensures _ _ with_mode c.out_word.ensures in
     c.with_argument.ensures _ _ with_out c.files_words.ensures
