@@ -1,0 +1,2 @@
+-- What is said of a run under way.
+pub mod Lines

@@ -1,0 +1,19 @@
+//! How far a long run has come, shown on a terminal while it is under way.
+#![tactic(auto)]
+
+mod counted_sink;
+mod counted_source;
+mod counter;
+mod counts;
+mod progress;
+mod stop;
+#[cfg(test)]
+mod tests;
+mod watch;
+
+pub use counted_sink::CountedSink;
+pub use counted_source::CountedSource;
+pub use counter::Counter;
+pub use counts::Counts;
+pub use progress::Progress;
+pub use watch::watched;

@@ -1,0 +1,192 @@
+//! What no contract says: that bytes are counted, and that something is shown, or nothing.
+use crate::stop::Stop;
+use crate::watch::watch;
+use crate::{CountedSink, CountedSource, Counts, Progress, watched};
+use prolly_file::{ScriptSink, ScriptSource, Sink, SinkFault, Source, SourceFault};
+use std::fmt::Display;
+use std::io::{Eprint, IsTerminal};
+use std::sync::atomic::{AtomicU64, Ordering};
+use std::test::Fail;
+use std::time::{Clock, Duration};
+use std::{io, thread};
+
+/// A screen that counts what is printed on it, and fails from the first time on where it is broken.
+#[derive(Drop)]
+struct Screen {
+    is_terminal: bool,
+    is_broken: bool,
+    printed: AtomicU64,
+}
+
+impl Screen {
+    fn new(is_terminal: bool, is_broken: bool) -> Screen {
+        Screen {
+            is_terminal,
+            is_broken,
+            printed: AtomicU64::new(0),
+        }
+    }
+
+    fn printed(&self) -> u64 {
+        self.printed.load(Ordering::SeqCst)
+    }
+}
+
+impl IsTerminal for Screen {
+    fn is_terminal(&self) -> bool {
+        self.is_terminal
+    }
+}
+
+impl Eprint for Screen {
+    fn eprint<D: Display + Drop>(&self, _value: D) -> io::Result<()> {
+        self.printed.fetch_add(1, Ordering::SeqCst);
+        if self.is_broken {
+            return Err(io::Error::from(io::ErrorKind::BrokenPipe));
+        }
+        Ok(())
+    }
+
+    fn eprintln<D: Display + Drop>(&self, value: D) -> io::Result<()> {
+        self.eprint(value)
+    }
+}
+
+#[test]
+fn lines_are_as_worked_out_by_hand(rt: HostRuntime) -> Result<(), Fail> {
+    let under_way = Progress {
+        records: 32_000_000,
+        read: 1_234_567_890,
+        total: Some(3_800_000_000),
+        written: 901_500_000,
+        millis: 3_980,
+    };
+    let of_unknown = Progress {
+        total: None,
+        ..under_way
+    };
+    let all_read = Progress {
+        total: Some(1_234_567_890),
+        ..under_way
+    };
+    let begun = Progress {
+        records: 0,
+        read: 0,
+        total: Some(5_999_999),
+        written: 0,
+        millis: 0,
+    };
+    for (progress, line) in [
+        (
+            under_way,
+            "read 32000000 records, 1234 of 3800 MB, wrote 901 MB, 310 MB/s, 9 s left",
+        ),
+        (of_unknown, "read 32000000 records, 1234 MB, wrote 901 MB, 310 MB/s"),
+        (
+            all_read,
+            "read 32000000 records, 1234 of 1234 MB, wrote 901 MB, 310 MB/s, 0 s left",
+        ),
+        (begun, "read 0 records, 0 of 5 MB, wrote 0 MB, 0 MB/s"),
+    ] {
+        let shown = format!(in rt.alloc(); "{progress}")?;
+        assert_eq!(&rt; shown.as_str(), line);
+    }
+    Ok(())
+}
+
+#[test]
+fn bytes_are_counted_where_they_are_read(rt: HostRuntime) -> Result<(), Fail> {
+    let counts = Counts::new();
+    let bytes = Vec::from_slice(rt.alloc(), b"ten bytes.")?;
+    let mut source = CountedSource::new(ScriptSource::new(bytes, 4, Some(2)), &counts);
+    let mut buf = [0; 8];
+    for (given, counted) in [
+        (Ok(4), 4),
+        (Err(SourceFault), 4),
+        (Ok(4), 8),
+        (Ok(2), 10),
+        (Ok(0), 10),
+    ] {
+        assert_eq!(&rt; source.read(&mut buf), given);
+        assert_eq!(&rt; counts.read.count(), counted);
+    }
+    Ok(())
+}
+
+#[test]
+fn records_are_counted_once(rt: HostRuntime) -> Result<(), Fail> {
+    let counts = Counts::new();
+    let first = ScriptSource::new(Vec::new(rt.alloc()), 4, None);
+    let second = ScriptSource::new(Vec::new(rt.alloc()), 4, None);
+    let mut first = CountedSource::new(first, &counts);
+    let mut second = CountedSource::new(second, &counts);
+    first.note_records(3);
+    second.note_records(10);
+    first.note_records(3);
+    first.note_records(5);
+    assert_eq!(&rt; counts.records.count(), 15);
+    Ok(())
+}
+
+#[test]
+fn bytes_are_counted_where_they_are_written(rt: HostRuntime) -> Result<(), Fail> {
+    let counts = Counts::new();
+    let script = ScriptSink::new(rt.alloc(), 3, Some(2));
+    let mut sink = CountedSink::new(script, &counts);
+    for (given, counted) in [(Ok(3), 3), (Err(SinkFault), 3), (Ok(3), 6)] {
+        assert_eq!(&rt; sink.write(b"bytes"), given);
+        assert_eq!(&rt; counts.written.count(), counted);
+    }
+    Ok(())
+}
+
+#[test]
+fn a_flush_that_fails_is_told(rt: HostRuntime) -> Result<(), Fail> {
+    let counts = Counts::new();
+    let mut sink = CountedSink::new(ScriptSink::new(rt.alloc(), 3, Some(1)), &counts);
+    assert_eq!(&rt; sink.flush(), Err(SinkFault));
+    assert_eq!(&rt; sink.flush(), Ok(()));
+    Ok(())
+}
+
+/// Work that is long enough to be shown.
+fn work_long<R: Clock>(rt: &R) -> u32 {
+    let _ = thread::sleep(rt, Duration::from_millis(1_300));
+    7
+}
+
+#[test]
+fn long_work_is_shown_on_a_terminal(rt: HostRuntime) {
+    let screen = Screen::new(true, false);
+    let counts = Counts::new();
+    let given = watched(&rt, &screen, &counts, None, || work_long(&rt));
+    assert_eq!(&rt; given, 7);
+    // A line, and its end.
+    assert!(&rt; screen.printed() >= 2);
+}
+
+#[test]
+fn a_screen_that_fails_is_no_fault(rt: HostRuntime) {
+    let screen = Screen::new(true, true);
+    let counts = Counts::new();
+    let given = watched(&rt, &screen, &counts, Some(9), || work_long(&rt));
+    assert_eq!(&rt; given, 7);
+}
+
+#[test]
+fn nothing_is_shown_where_there_is_no_terminal(rt: HostRuntime) {
+    let screen = Screen::new(false, false);
+    let counts = Counts::new();
+    let given = watched(&rt, &screen, &counts, None, || work_long(&rt));
+    assert_eq!(&rt; given, 7);
+    assert_eq!(&rt; screen.printed(), 0);
+}
+
+#[test]
+fn nothing_is_shown_of_a_run_that_is_over(rt: HostRuntime) {
+    let screen = Screen::new(true, false);
+    let stop = Stop::new();
+    stop.tell(&rt);
+    watch(&rt, &screen, &Counts::new(), None, &stop);
+    assert_eq!(&rt; screen.printed(), 0);
+}
