@@ -14,6 +14,7 @@ mod surveying;
 mod taking;
 mod tally;
 
+pub use fault::fault_of;
 pub use loader::{Loaded, load};
 pub use surveyed::{FlawedRecord, Survey, SurveyFault};
 pub use surveying::survey;

@@ -30,3 +30,7 @@ pub mod Diff
 pub mod Proofs
 -- What `scan` answers to who names the root.
 pub mod RootScans
+-- What `explain` answers, and what a command says of a record file that it goes over once.
+pub mod Surveys
+-- What the command `stat` answers.
+pub mod Stat

@@ -1,7 +1,7 @@
 //! What the program prints.
-ghost use Rattle.std.specs.Prelude.{IfOk, Some};
+ghost use Rattle.std.specs.Prelude.{[], IfOk, Some};
 ghost use Rattle.std.specs.Option.{option_copied};
-ghost use Rattle.prolly_tool.specs.Answers.{ShowsNothing, ShowsLine, ShowsDone, ShowsFault};
+ghost use Rattle.prolly_tool.specs.Answers.{Shows, ShowsNothing, ShowsLine, ShowsDone, ShowsFault};
 ghost use Rattle.prolly_tool.specs.Answers.{ShowsName, ShowsRefusal};
 ghost use Rattle.prolly_tool.specs.LookUps.{ShowsPair, ShowsValue};
 
@@ -38,6 +38,17 @@ impl Answer {
             out,
             err: Vec::new(alloc),
         })
+    }
+
+    /// The answer of a command that is done: these lines.
+    pub fn of_lines(alloc: Global, lines: Vec<u8>) -> Answer
+        ensures { Shows result 0 lines.items [] }
+    {
+        Answer {
+            status: 0,
+            out: lines,
+            err: Vec::new(alloc),
+        }
     }
 
     /// The answer of a command that is done, and has nothing to show.

@@ -1,4 +1,4 @@
-//! Standard input, which commands read whole.
+//! Inputs: how much of them commands read, and standard input, which they read whole.
 ghost use Rattle.std.specs.Prelude.{◌≡◌, ◌≢◌, ◌≤◌, true, length, IfOk, OnOk, IfErr, IsErrOf};
 ghost use Rattle.prolly_tool.specs.Input.{IsReadWhole, IsInputFault};
 
@@ -9,6 +9,9 @@ use std::alloc::Global;
 
 /// How many bytes a command reads at most.
 pub(crate) const INPUT_LIMIT: u32 = 1_073_741_824;
+
+/// How many records a record file has at most.
+pub(crate) const RECORD_LIMIT: u32 = 16_777_216;
 
 /// All bytes that a source has left.
 pub(crate) fn input_of<S: Source>(alloc: Global, source: &mut S) -> Result<Vec<u8>, Fault>

@@ -35,12 +35,8 @@ pub fn answer_scan_as<S: Source>(
         Err(fault) => return Answer::of_fault(alloc, Fault::Check(fault)),
     };
     let pairs = tree.scan(alloc, from, limit)?;
-    let out = lines_of(alloc, notation, &pairs)?;
-    Ok(Answer {
-        status: 0,
-        out,
-        err: Vec::new(alloc),
-    })
+    let lines = lines_of(alloc, notation, &pairs)?;
+    Ok(Answer::of_lines(alloc, lines))
 }
 
 /// What `scan` answers in hexadecimal: see [`answer_scan_as`].

@@ -10,14 +10,11 @@ ghost use Rattle.prolly_tool.specs.Scratch.{IsScratchFault, run_fault};
 
 use crate::answer::Answer;
 use crate::fault::Fault;
-use crate::input::input_of;
+use crate::input::{RECORD_LIMIT, input_of};
 use prolly_entry::{Pair, RecordFault, Ref, Sha512Cut, Version, records};
 use prolly_fault::RunFault;
 use prolly_file::{ScratchFault, Sink, Source, WriteFault, scratch_as, write_whole};
 use std::alloc::{AllocError, Global};
-
-/// How many records a record file has at most.
-const RECORD_LIMIT: u32 = 16_777_216;
 
 /// How many levels a tree has at most. No map that fits into memory has as many.
 const LEVEL_LIMIT: u8 = 255;

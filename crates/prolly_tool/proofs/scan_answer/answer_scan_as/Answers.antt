@@ -1,4 +1,4 @@
-use Rattle.std.proofs.Common.{◌∙◌, ap, refl, inl}
+use Rattle.std.proofs.Common.{◌∙◌, ap, inl}
 use Rattle.prolly_tool.specs.LookUps.{pair_lines}
 use Rattle.prolly_tool.proofs.Answering.{looked_up}
 use Rattle.prolly_tool.proofs.scan_answer.answer_scan_as.Goals as goal
@@ -8,9 +8,10 @@ returns-clause-shown g c = λ honest. inl (
     looked_up _ _ _ _ (c.in-Ok.ensures.same honest) c.in-Ok.ensures.accepted c.in-Ok.ensures.within
     (λ failed. failed c.in-Ok.ensures.unfailed)
     (λ content is. record {
-      status_is = refl;
-      out_is = c.in_ok-out.ensures ∙ ap (pair_lines c.args.notation)
+      status_is = c.of_lines.ensures.status_is;
+      out_is = c.of_lines.ensures.out_is ∙ c.in_ok-lines.ensures ∙
+          ap (pair_lines c.args.notation)
           (c.deref.ensures.value ∙ c.in_ok-pairs.ensures content is);
-      err_is = c.new.ensures.items;
+      err_is = c.of_lines.ensures.err_is;
     })
     )

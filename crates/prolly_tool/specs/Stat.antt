@@ -1,0 +1,128 @@
+-- What the command `stat` answers.
+use Rattle.std.specs.Prelude.{◌≡◌, ◌≢◌, ℕ, ◌⊎◌, Bool, true, false, List, [], take, length, codes}
+use Rattle.std.specs.Prelude.{Option, Some, None, Result, IfOk}
+use Rattle.std.specs.Option.{option_copied}
+use Rattle.std.specs.Str.{bytes_eq}
+use Rattle.std.specs.declared.alloc.AllocError.{AllocError}
+use Rattle.prolly_check.specs.Checked.{chunks_of}
+use Rattle.prolly_check.specs.Content.{Content}
+use Rattle.prolly_check.specs.Levels.{AreLevels}
+use Rattle.prolly_check.specs.Missing.{size_of}
+use Rattle.prolly_entry.specs.Cut.{sha512_cut}
+use Rattle.prolly_entry.specs.Reference.{reference_text}
+use Rattle.prolly_fault.specs.declared.fault.RunFault.{RunFault}
+use Rattle.prolly_fault.specs.declared.fault.RunFault.TheVariants as runs
+use Rattle.prolly_file.specs.Source.{SourceView}
+use Rattle.prolly_file.specs.declared.front.FrontFault.{FrontFault}
+use Rattle.prolly_file.specs.declared.front.FrontFault.TheVariants as fronts
+use Rattle.prolly_load.specs.Fault.{fault_of}
+use Rattle.prolly_load.specs.Survey.{bytes_of}
+use Rattle.prolly_load.specs.declared.surveyed.FlawedRecord.{FlawedRecord}
+use Rattle.prolly_load.specs.declared.surveyed.Survey.{Survey}
+use Rattle.prolly_stat.specs.Json.{json_of, records_json_of}
+use Rattle.prolly_stat.specs.Records.{records_of}
+use Rattle.prolly_stat.specs.Table.{table_of}
+use Rattle.prolly_stat.specs.declared.records.RecordNumbers.{RecordNumbers}
+use Rattle.prolly_stat.specs.declared.tree.TreeNumbers.{TreeNumbers}
+use Rattle.prolly_tree.specs.File.{root_reference}
+use Rattle.prolly_tool.specs.Answers.{Shows, ShowsFault}
+use Rattle.prolly_tool.specs.LookUps.{IsLookUp, ShowsFailedRead}
+use Rattle.prolly_tool.specs.Surveys.{IsSurveyAnswer, IsUnsurveyed}
+use Rattle.prolly_tool.specs.declared.answer.Answer.{Answer}
+use Rattle.prolly_tool.specs.declared.fault.Fault.TheVariants.{Run}
+use Rattle.prolly_tool.specs.declared.stat_form.StatForm.{StatForm}
+use Rattle.prolly_tool.specs.declared.stat_form.StatForm.TheVariants.{Lines, Json}
+
+-- ---- a chunk file
+
+-- The numbers are those of the file of this content.
+pub record AreOfTree (content : Content) (numbers : TreeNumbers) : Type 0 where
+  pub root_is : numbers.root.now ≡
+      reference_text (root_reference (sha512_cut content.bits) content.version content.pairs)
+  pub version_is : numbers.version ≡ content.version
+  pub bits_are : numbers.bits ≡ content.bits
+  pub pairs_are : numbers.pairs ≡ length content.pairs
+  pub chunks_are : numbers.chunks ≡ length (chunks_of content)
+  pub bytes_are : numbers.bytes ≡ size_of (chunks_of content)
+  pub levels_are : AreLevels (chunks_of content) numbers.levels.now
+
+-- Their text.
+abbrev pub tree_text : StatForm → TreeNumbers → List ℕ
+tree_text (Lines notation) numbers = table_of numbers
+tree_text Json numbers = json_of numbers
+
+-- They are shown.
+pub record ShowsTree (form : StatForm) (answer : Answer) (content : Content) : Type 0 where
+  pub numbers : TreeNumbers
+  pub are : AreOfTree content numbers
+  pub shows : Shows answer 0 (tree_text form numbers) []
+
+-- ---- a record file
+
+-- The numbers are those of a survey.
+pub record AreOfSurvey (survey : Survey) (numbers : RecordNumbers) : Type 0 where
+  pub records_are : numbers.records ≡ survey.records
+  pub removals_are : numbers.removals ≡ survey.removals
+  pub bytes_are : numbers.bytes ≡ survey.bytes
+  pub first_is : option_copied numbers.first_key ≡ bytes_of survey.first_key
+  pub last_is : option_copied numbers.last_key ≡ bytes_of survey.last_key
+
+-- Their text.
+abbrev pub records_text : StatForm → RecordNumbers → List ℕ
+records_text (Lines notation) numbers = records_of notation numbers
+records_text Json numbers = records_json_of numbers
+
+-- They are shown.
+pub record ShowsSurvey (form : StatForm) (answer : Answer) (survey : Survey) : Type 0 where
+  pub numbers : RecordNumbers
+  pub are : AreOfSurvey survey numbers
+  pub shows : Shows answer 0 (records_text form numbers) []
+
+-- The numbers of a file that is good, and else the line of its flaw, as that of file 0.
+abbrev pub ShowsGood : StatForm → Answer → Survey → Option FlawedRecord → Type 0
+ShowsGood form answer survey None = ShowsSurvey form answer survey
+ShowsGood form answer survey (Some flawed) =
+    ShowsFault answer (Run (fault_of 0 survey.records flawed.flaw))
+
+abbrev pub ShowsRecords : StatForm → Answer → Survey → Type 0
+ShowsRecords form answer survey = ShowsGood form answer survey survey.flawed
+
+-- ---- either
+
+-- Whether bytes are taken for a chunk file: where they begin with the letters PRLY.
+abbrev pub is_chunk_file : List ℕ → Bool
+is_chunk_file bytes = bytes_eq (take 4 bytes) (codes "PRLY")
+
+-- What is answered of a chunk file, and of any other file.
+abbrev pub IsStatOf : Bool → StatForm → List ℕ → Type 0 → Answer → Type 0
+IsStatOf true form bytes failed answer = IsLookUp bytes failed (ShowsTree form) answer
+IsStatOf false form bytes failed answer = IsSurveyAnswer bytes failed (ShowsRecords form) answer
+
+-- The answer is of the kind of file that it is; or what kind that is could not be read.
+abbrev pub IsStat : StatForm → List ℕ → Type 0 → Answer → Type 0
+IsStat form bytes failed answer =
+    IsStatOf (is_chunk_file bytes) form bytes failed answer ⊎ IsUnsurveyed failed answer
+
+-- The fault of file 0 whose first bytes were not taken.
+abbrev pub untaken : FrontFault → RunFault
+untaken fronts.Memory = runs.Memory
+untaken fronts.Read = runs.Read 0
+
+-- What `stat` answers to an honest source of a file of this kind, of what that has left.
+abbrev pub AnswersOf : {S : Type 0} → Bool → (S → SourceView) → S → S → StatForm →
+    Result Answer AllocError → Type 0
+AnswersOf is_chunk_file seen old new form result = (seen old).is_honest ≡ true →
+    IfOk result (IsStatOf is_chunk_file form (seen old).left
+    ((seen new).failures ≢ (seen old).failures))
+
+-- And to any honest source.
+abbrev pub AnswersStat : {S : Type 0} → (S → SourceView) → S → S → StatForm →
+    Result Answer AllocError → Type 0
+AnswersStat seen old new form result = (seen old).is_honest ≡ true →
+    IfOk result (IsStat form (seen old).left ((seen new).failures ≢ (seen old).failures))
+
+-- A failed read of any source is told as one of a chunk file or of file 0.
+abbrev pub AnswersBadRead : {S : Type 0} → (S → SourceView) → S → S → Result Answer AllocError →
+    Type 0
+AnswersBadRead seen old new result = (seen new).failures ≢ (seen old).failures →
+    IfOk result (λ answer. ShowsFailedRead answer ⊎ ShowsFault answer (Run (runs.Read 0)))

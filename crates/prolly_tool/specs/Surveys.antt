@@ -1,0 +1,84 @@
+-- What `explain` answers, and what a command says of a record file that it goes over once.
+use Rattle.std.specs.Prelude.{◌≡◌, ◌≢◌, ℕ, ◌⊎◌, true, List, [], ◌++◌, codes, Option, Some, None}
+use Rattle.std.specs.Prelude.{Result, IfOk}
+use Rattle.std.specs.Fmt.{decimal}
+use Rattle.std.specs.Option.{option_copied}
+use Rattle.std.specs.declared.alloc.AllocError.{AllocError}
+use Rattle.prolly_fault.specs.declared.fault.RunFault.{RunFault}
+use Rattle.prolly_fault.specs.declared.fault.RunFault.TheVariants as runs
+use Rattle.prolly_file.specs.Source.{SourceView}
+use Rattle.prolly_load.specs.Survey.{IsSurvey, bytes_of}
+use Rattle.prolly_load.specs.declared.surveyed.FlawedRecord.{FlawedRecord}
+use Rattle.prolly_load.specs.declared.surveyed.Survey.{Survey}
+use Rattle.prolly_load.specs.declared.surveyed.SurveyFault.{SurveyFault}
+use Rattle.prolly_load.specs.declared.surveyed.SurveyFault.TheVariants as surveys
+use Rattle.prolly_stat.specs.Flawed.{flawed_text}
+use Rattle.prolly_stat.specs.declared.flawed.FlawedNumbers.{FlawedNumbers}
+use Rattle.prolly_text.specs.declared.notation.Notation.{Notation}
+use Rattle.prolly_tool.specs.Answers.{Shows, ShowsLine, ShowsFault}
+use Rattle.prolly_tool.specs.declared.answer.Answer.{Answer}
+use Rattle.prolly_tool.specs.declared.fault.Fault.TheVariants.{Run}
+
+-- No read of the bytes failed, and of the survey of them as a record file this is shown.
+pub record IsSurveyed (bytes : List ℕ) (failed : Type 0) (shows : Survey → Type 0) : Type 0 where
+  pub unfailed : ¬ failed
+  pub survey : Survey
+  pub is : IsSurvey bytes 16777216 survey
+  pub shown : shows survey
+
+-- A read failed, and this is told; or none did, and memory was refused, as it may be at any bytes.
+abbrev pub IsUnsurveyed : Type 0 → Answer → Type 0
+IsUnsurveyed failed answer =
+    (failed × ShowsFault answer (Run (runs.Read 0))) ⊎ (¬ failed × ShowsFault answer (Run runs.Memory))
+
+-- The fault of file 0 that has no survey.
+abbrev pub unsurveyed : SurveyFault → RunFault
+unsurveyed surveys.Memory = runs.Memory
+unsurveyed surveys.Read = runs.Read 0
+
+-- The answer of a command of which `shows` says what it shows of a survey.
+abbrev pub IsSurveyAnswer : List ℕ → Type 0 → (Answer → Survey → Type 0) → Answer → Type 0
+IsSurveyAnswer bytes failed shows answer =
+    IsSurveyed bytes failed (shows answer) ⊎ IsUnsurveyed failed answer
+
+-- What such a command answers to an honest source, of what that has left.
+abbrev pub AnswersSurvey : {S : Type 0} → (S → SourceView) → S → S → (Answer → Survey → Type 0) →
+    Result Answer AllocError → Type 0
+AnswersSurvey seen old new shows result = (seen old).is_honest ≡ true →
+    IfOk result (IsSurveyAnswer (seen old).left ((seen new).failures ≢ (seen old).failures) shows)
+
+-- A failed read of any source is told as one.
+abbrev pub AnswersUnread : {S : Type 0} → (S → SourceView) → S → S → Result Answer AllocError →
+    Type 0
+AnswersUnread seen old new result = (seen new).failures ≢ (seen old).failures →
+    IfOk result (λ answer. ShowsFault answer (Run (runs.Read 0)))
+
+-- ---- explain
+
+-- The numbers are those of the flawed record behind the good ones of a survey.
+pub record AreOfFlawed (survey : Survey) (flawed : FlawedRecord) (numbers : FlawedNumbers) : Type 0
+  where
+    pub place_is : numbers.place ≡ survey.records
+    pub offset_is : numbers.offset ≡ survey.bytes
+    pub flaw_is : numbers.flaw ≡ flawed.flaw
+    pub key_is : option_copied numbers.key ≡ bytes_of flawed.key
+    pub key_before_is : option_copied numbers.key_before ≡ bytes_of survey.last_key
+
+-- The flawed record is explained, with status 1.
+pub record ShowsFlaw (notation : Notation) (answer : Answer) (survey : Survey)
+    (flawed : FlawedRecord) : Type 0 where
+  pub numbers : FlawedNumbers
+  pub are : AreOfFlawed survey flawed numbers
+  pub shows : Shows answer 1 (flawed_text notation numbers) []
+
+-- `ok`, and how many records there are.
+abbrev pub good_text : Survey → List ℕ
+good_text survey = codes "ok " ++ decimal survey.records
+
+-- That the file is good, or else its flaw.
+abbrev pub ShowsReason : Notation → Answer → Survey → Option FlawedRecord → Type 0
+ShowsReason notation answer survey None = ShowsLine answer (good_text survey)
+ShowsReason notation answer survey (Some flawed) = ShowsFlaw notation answer survey flawed
+
+abbrev pub ShowsExplanation : Notation → Answer → Survey → Type 0
+ShowsExplanation notation answer survey = ShowsReason notation answer survey survey.flawed
