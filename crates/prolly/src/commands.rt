@@ -7,17 +7,18 @@ ghost use Rattle.prolly_line.specs.Given.{IsWithinLimits};
 use crate::file_id::{FileId, STDIN, STDOUT};
 use crate::output::{MakeFault, Output};
 use crate::refusal::Refusal;
-use prolly_build::{FILES_LIMIT, build};
+use prolly_build::{FILES_LIMIT, Report, build};
 use prolly_entry::{Ref, Version};
 use prolly_fault::RunFault;
 use prolly_file::{Buffered, FromRead, FromSeek, Sink, ToWrite};
+use prolly_progress::{CountedSink, CountedSource, Counts, watched};
 use prolly_proof::{get_by_root, nth_by_root};
 use prolly_stage::OpenGate;
 use prolly_tool::{
-    Answer, Command, Config, Fault, LineForm, NameFault, Notation, RecordForm, RootScan, WriteMode,
-    answer_build, answer_check, answer_diff, answer_dump, answer_found, answer_found_pair,
-    answer_get_as, answer_nth_as, answer_pack_as, answer_prove, answer_scan_as,
-    answer_scan_by_root, answer_scratch, answer_verify,
+    Answer, Command, Config, Fault, LineForm, NameFault, Notation, RecordForm, RootScan, StatForm,
+    WriteMode, answer_build, answer_check, answer_diff, answer_dump, answer_explain, answer_found,
+    answer_found_pair, answer_get_as, answer_nth_as, answer_pack_as, answer_prove, answer_scan_as,
+    answer_scan_by_root, answer_scratch, answer_stat, answer_verify,
 };
 use std::alloc::AllocError;
 use std::fs;
@@ -25,9 +26,10 @@ use std::fs::File;
 use std::io::Write;
 use std::sync::Wait;
 use std::thread::Threads;
+use std::time::Clock;
 
 /// Does a command. Threads are started, and waited for, by `threads`.
-pub fn answer_of<T: Wait + Threads + Sync>(
+pub fn answer_of<T: Wait + Threads + Clock + Sync>(
     rt: &HostRuntime,
     threads: &T,
     command: Command,
@@ -41,7 +43,7 @@ pub fn answer_of<T: Wait + Threads + Sync>(
 }
 
 /// The answer of a command that has its files.
-fn answer_or_refusal<T: Wait + Threads + Sync>(
+fn answer_or_refusal<T: Wait + Threads + Clock + Sync>(
     rt: &HostRuntime,
     threads: &T,
     command: Command,
@@ -76,16 +78,29 @@ fn answer_or_refusal<T: Wait + Threads + Sync>(
             version,
             out,
             files,
+            quiet,
             mode,
         } => {
             let config = Config::new(bits, stages, capacity, max_records).unwrap();
             let config = config.with_batch(batch).unwrap();
             let config = config.with_version(version).unwrap();
-            build_from(rt, threads, &config, &out, &files, mode)
+            build_from(rt, threads, &config, &out, &files, quiet, mode)
+        }
+        Command::Explain { file, notation } => {
+            let mut source = opened(rt, &file)?;
+            Ok(answer_explain(rt.alloc(), &mut source, notation)?)
         }
         Command::Check { file } => {
             let mut source = opened(rt, &file)?;
             Ok(answer_check(rt.alloc(), &mut source)?)
+        }
+        Command::Stat {
+            file,
+            json,
+            notation,
+        } => {
+            let source = opened(rt, &file)?;
+            Ok(answer_stat(rt.alloc(), source, stat_form(json, notation)).answer?)
         }
         Command::Get {
             file,
@@ -293,6 +308,15 @@ fn nth_from_root(rt: &HostRuntime, tree: RootedFile<'_>, n: u64) -> Result<Answe
     let mut device = tree.device(rt)?;
     let found = nth_by_root(rt.alloc(), &mut device, tree.root, n);
     Ok(answer_found_pair(rt.alloc(), tree.notation, &found)?)
+}
+
+/// How `stat` shows numbers: as JSON, or as lines with keys in this notation.
+fn stat_form(json: bool, notation: Notation) -> StatForm {
+    if json {
+        StatForm::Json
+    } else {
+        StatForm::Lines(notation)
+    }
 }
 
 /// How `dump` writes pairs: as lines in this notation, or where there is none as a record file.
@@ -503,43 +527,79 @@ fn output_of(
 }
 
 /// `build [--bits Q] [--stages S] [--capacity C] [--max-records M] [--batch B] [--format V]
-/// [--atomic] [--sync] OUT [FILES...]`
-fn build_from<T: Wait + Threads + Sync>(
+/// [--quiet] [--atomic] [--sync] OUT [FILES...]`
+fn build_from<T: Wait + Threads + Clock + Sync>(
     rt: &HostRuntime,
     threads: &T,
     config: &Config,
     out: &str,
     files: &[String],
+    quiet: bool,
     mode: WriteMode,
 ) -> Result<Answer, Refusal> {
     if files.len() > FILES_LIMIT {
         return Err(Refusal::of_fault(rt, Fault::Run(RunFault::TooManyFiles)));
     }
     let target = FileId::at(rt, out);
+    let counts = Counts::new();
+    let mut total = Some(0);
     let mut sources = Vec::with_capacity(rt.alloc(), files.len())?;
     for name in files {
-        if sources.push(opened_beside(rt, name, target)?).is_err() {
+        let file = file_beside(rt, name, target)?;
+        total = sum_of(total, size_of(&file));
+        let source = CountedSource::new(FromRead::new(file), &counts);
+        if sources.push(source).is_err() {
             return Err(Refusal::Memory);
         }
     }
     let output = output_of(rt, out, target, mode)?;
-    let answer = build_into(rt, threads, config, &mut sources, output.file());
+    let run = Run {
+        config,
+        counts: &counts,
+        total,
+        quiet,
+    };
+    let answer = build_into(rt, threads, run, &mut sources, output.file());
     Ok(output.finish(rt, out, answer)?)
+}
+
+/// How many bytes a file has, where it is one that keeps them, and no pipe or terminal.
+fn size_of(file: &File) -> Option<u64> {
+    match file.metadata() {
+        Ok(metadata) if metadata.is_file() => Some(metadata.len()),
+        _ => None,
+    }
+}
+
+/// The sum of two sizes, where both are known.
+fn sum_of(first: Option<u64>, second: Option<u64>) -> Option<u64> {
+    first?.checked_add(second?)
 }
 
 /// How many bytes are written to an output at once.
 const OUTPUT_BYTES: usize = 65_536;
 
+/// The settings of a build, what it counts, how many bytes its sources have, where that is known,
+/// and whether it is to show nothing while it is under way.
+#[derive(Clone, Copy)]
+struct Run<'a> {
+    config: &'a Config,
+    counts: &'a Counts,
+    total: Option<u64>,
+    quiet: bool,
+}
+
 /// Builds the tree of the sources into the file.
-fn build_into<T: Wait + Threads + Sync>(
+fn build_into<T: Wait + Threads + Clock + Sync>(
     rt: &HostRuntime,
     threads: &T,
-    config: &Config,
-    sources: &mut Vec<FromRead<File>>,
+    run: Run<'_>,
+    sources: &mut Vec<CountedSource<'_, FromRead<File>>>,
     file: &File,
 ) -> Result<Answer, AllocError> {
-    let mut sink = Buffered::with_capacity(rt.alloc(), OUTPUT_BYTES, ToWrite::new(file))?;
-    let built = build(threads, rt.alloc(), config, sources, &mut sink, &OpenGate);
+    let file = CountedSink::new(ToWrite::new(file), run.counts);
+    let mut sink = Buffered::with_capacity(rt.alloc(), OUTPUT_BYTES, file)?;
+    let built = shown_build(rt, threads, run, sources, &mut sink);
     // What was taken is in the file also after a fault. That a tree was made is told only once all
     // of it is there.
     let built = match (built, sink.flush()) {
@@ -547,4 +607,21 @@ fn build_into<T: Wait + Threads + Sync>(
         (built, _) => built,
     };
     answer_build(rt.alloc(), &built)
+}
+
+/// Builds the tree, and shows meanwhile how far that is, unless it is to show nothing.
+fn shown_build<T: Wait + Threads + Clock + Sync, W: Sink>(
+    rt: &HostRuntime,
+    threads: &T,
+    run: Run<'_>,
+    sources: &mut Vec<CountedSource<'_, FromRead<File>>>,
+    sink: &mut W,
+) -> Result<Report, RunFault> {
+    let alloc = rt.alloc();
+    if run.quiet {
+        return build(threads, alloc, run.config, sources, sink, &OpenGate);
+    }
+    watched(threads, &rt.stderr(), run.counts, run.total, || {
+        build(threads, alloc, run.config, sources, sink, &OpenGate)
+    })
 }

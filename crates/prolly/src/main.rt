@@ -17,6 +17,7 @@ use std::io::Write;
 use std::process::ExitCode;
 use std::sync::Wait;
 use std::thread::Threads;
+use std::time::Clock;
 
 fn main(rt: HostRuntime) -> ExitCode {
     match answer(&rt, &rt) {
@@ -26,7 +27,10 @@ fn main(rt: HostRuntime) -> ExitCode {
 }
 
 /// Does what the words say. Threads are started, and waited for, by `threads`.
-fn answer<T: Wait + Threads + Sync>(rt: &HostRuntime, threads: &T) -> Result<Answer, AllocError> {
+fn answer<T: Wait + Threads + Clock + Sync>(
+    rt: &HostRuntime,
+    threads: &T,
+) -> Result<Answer, AllocError> {
     let words = match read_words(rt) {
         Ok(words) => words,
         Err(fault) => return Answer::of_fault(rt.alloc(), fault),
