@@ -9,12 +9,14 @@ from pathlib import Path
 
 from diffs import difference, stat_line
 from dumps import lines
-from escapes import text_lines
+from escapes import escaped, text_lines
 from harness import BAD_TEXT_KEY, NO_THREAD, SCARCE, file_differences, lay_out, shown
+from look_ups import hexed
 from proofs import proof_of, verdict
 from rooted import WRONG_VERSION, refusal, words_for
 from rooted_pairs import ALL, NO_COUNTS, number_words, scan_words
 from scratch import ABC
+from surveys import as_json, explained, record_lines, record_numbers, table, tree_json
 from trees import END_SIZE, begun_file, chunk_file, overlay, record, records, reference_text, report, root_text, tree
 
 FIVE_IN_THREE = [[(b"a", b"1"), (b"d", b"1")], [(b"b", b"1")], [(b"c", b"1"), (b"e", b"1")]]
@@ -87,6 +89,9 @@ def commands():
         kept("atomic build of three files", FIVE_IN_THREE),
         stopped(),
         Command("check", ["check", "abc.prl"], out=b"ok " + root_text(ABC, 0).strip() + b" 0 6\n", before=reads),
+        *surveyed(),
+        Command("stat", ["stat", "counted.prl"], out=table(ABC, 0, 2), before=reads),
+        Command("stat --json", ["stat", "--json", "abc.prl"], out=tree_json(ABC, 0, 1), before=reads),
         Command("get", ["get", "abc.prl", "62"], out=b"31\n", before=reads),
         Command("get of no pair", ["get", "abc.prl", "7a"], status=1, before=reads),
         Command("get --root", words_for(REFERENCE, b"b", 1, "abc.prl"), out=b"31\n", before=reads),
@@ -131,6 +136,18 @@ def commands():
         Command("atomic diff", ["diff", "--atomic", "--sync", "old.prl", "abc.prl", "--out", "out.rec"], status=1, before=both, made="out.rec", whole=records(CHANGES)),
         Command("atomic dump", ["dump", "--atomic", "--sync", "abc.prl", "out.rec"], before=reads, made="out.rec", whole=records(ABC)),
         *text_commands(),
+    ]
+
+
+def surveyed():
+    """The commands over a record file, which is good or not."""
+    good, flawed = {"in.rec": records(ABC)}, {"in.rec": records(OUT_OF_ORDER)}
+    return [
+        Command("explain", ["explain", "in.rec"], out=b"ok 3\n", before=good),
+        Command("explain of a file out of order", ["explain", "--text", "in.rec"], status=1, out=explained(records(OUT_OF_ORDER), escaped), before=flawed),
+        Command("stat of a record file", ["stat", "--text", "in.rec"], out=record_lines(ABC, escaped), before=good),
+        Command("stat --json of a record file", ["stat", "--json", "in.rec"], out=as_json(record_numbers(ABC, hexed)), before=good),
+        Command("stat of a file out of order", ["stat", "in.rec"], status=3, err=b"prolly: file 0: record 1: key out of order\n", before=flawed),
     ]
 
 

@@ -12,8 +12,10 @@ from diffs import difference, stat_line
 from dumps import lines
 from escapes import as_text, escaped, respelled, text_lines
 from harness import Case
+from look_ups import hexed
 from proofs import proof_of, verdict
 from readings import merged, packed, read, stop_of
+from surveys import as_json, explained, record_lines, record_numbers, table, tree_json
 from trees import REMOVED, begun_file, chunk_file, overlay, record, records, reference_text, report, root_text, tall_file, tree
 
 SEED, COUNT = 20_240_601, 800
@@ -31,7 +33,7 @@ def cases(_):
 
 def runs(seed, count):
     """So many runs; a difference is named with the seed that brings it back."""
-    kinds = [build, build, build, scratch, pack, look_up, look_up, dump, diff, prove, verify, by_root]
+    kinds = [build, build, build, scratch, pack, look_up, look_up, dump, diff, prove, verify, by_root, in_numbers]
     for number in range(count):
         chance = random.Random(f"{seed} {number}")
         case = chance.choice(kinds)(chance)
@@ -338,6 +340,36 @@ def diff(chance):
 def kind_of(content):
     """The bits and the version of a lawful chunk file."""
     return content[5], content[4]
+
+
+def in_numbers(chance):
+    """A record file, which may be at fault, explained or in numbers, or a chunk file in numbers, which may be damaged."""
+    notation_flags, told = chance.choice([([], hexed), (["--text"], escaped)])
+    flags, is_json = chance.choice([(notation_flags, False), ([*notation_flags, "--json"], True)])
+    kind = chance.choice(["explain", "record file", "chunk file"])
+    if kind == "chunk file":
+        pairs = some_pairs(chance)
+        content, fault = a_chunk_file(chance, pairs)
+        if content.startswith(b"PRLY"):
+            status, out, error = tree_told(pairs, content, fault, is_json)
+            return Case("", ["stat", *flags, "in"], status=status, out=out, err=error, before={"in": content})
+    else:
+        content = record_file(chance)
+    reading = read(content)
+    if kind == "explain":
+        status = 0 if reading.flaw is None else 1
+        return Case("", ["explain", *notation_flags, "in"], status=status, out=explained(content, told), before={"in": content})
+    if reading.flaw is not None:
+        return Case("", ["stat", *flags, "in"], status=3, err=b"prolly: " + reading.line(0) + b"\n", before={"in": content})
+    out = as_json(record_numbers(reading.changes, hexed)) if is_json else record_lines(reading.changes, told)
+    return Case("", ["stat", *flags, "in"], out=out, before={"in": content})
+
+
+def tree_told(pairs, content, fault, is_json):
+    """What `stat` answers of a chunk file of these pairs, which may have a fault."""
+    if fault is not None:
+        return 4, b"", b"prolly: chunk file: " + fault + b"\n"
+    return 0, (tree_json if is_json else table)(pairs, *kind_of(content)), b""
 
 
 def prove(chance):

@@ -29,6 +29,7 @@ import links
 import look_ups
 import misuse
 import pack
+import progress
 import proofs
 import random_runs
 import readers
@@ -36,6 +37,7 @@ import rooted
 import rooted_pairs
 import scale
 import scratch
+import surveys
 from harness import run
 from trees import chunk_file
 
@@ -69,10 +71,10 @@ def all_runs(program, folder):
     if sys.argv[2:3] == ["--links"]:
         yield from links.by_hand(program, int(sys.argv[3]))
         return
-    for part in (command_line, pack, scratch, build, look_ups, dumps, diffs, as_text, proofs, rooted, rooted_pairs, damaged, random_runs):
+    for part in (command_line, pack, scratch, build, look_ups, dumps, diffs, as_text, proofs, rooted, rooted_pairs, damaged, random_runs, surveys):
         for case in part.cases(folder):
             yield case.name, run(program, case)
-    for part in (dumps, diffs, as_text, proofs, rooted, rooted_pairs, readers, files, links, growths, examples, installed, scale, demo, misuse):
+    for part in (dumps, diffs, as_text, proofs, rooted, rooted_pairs, readers, files, links, progress, growths, examples, installed, scale, demo, misuse):
         yield from part.all_runs(program, folder)
 
 

@@ -83,7 +83,7 @@ fn commands_have_their_fields(rt: HostRuntime) -> Result<(), Fail> {
             "build --atomic out.prl",
             "Build { bits: 12, stages: 12, capacity: 64, max_records: 16777216, \
              batch: 16, version: 1, out: \"out.prl\", files: [], \
-             mode: WriteMode { atomic: true, sync: false } }",
+             quiet: false, mode: WriteMode { atomic: true, sync: false } }",
         ),
         (
             "scratch --bits 24 --format 2 --out a.prl",
@@ -94,12 +94,27 @@ fn commands_have_their_fields(rt: HostRuntime) -> Result<(), Fail> {
             "build out.prl x.rec y.rec",
             "Build { bits: 12, stages: 12, capacity: 64, max_records: 16777216, \
              batch: 16, version: 1, out: \"out.prl\", files: [\"x.rec\", \"y.rec\"], \
-             mode: WriteMode { atomic: false, sync: false } }",
+             quiet: false, mode: WriteMode { atomic: false, sync: false } }",
         ),
         (
             "build --bits 1 --stages 2 --capacity 3 --max-records 4 --batch 5 --format 2 out.prl",
             "Build { bits: 1, stages: 2, capacity: 3, max_records: 4, batch: 5, version: 2, \
-             out: \"out.prl\", files: [], mode: WriteMode { atomic: false, sync: false } }",
+             out: \"out.prl\", files: [], quiet: false, \
+             mode: WriteMode { atomic: false, sync: false } }",
+        ),
+        (
+            "build --quiet out.prl",
+            "Build { bits: 12, stages: 12, capacity: 64, max_records: 16777216, \
+             batch: 16, version: 1, out: \"out.prl\", files: [], \
+             quiet: true, mode: WriteMode { atomic: false, sync: false } }",
+        ),
+        (
+            "explain a.rec",
+            "Explain { file: \"a.rec\", notation: Hex }",
+        ),
+        (
+            "stat --json --text a.prl",
+            "Stat { file: \"a.prl\", json: true, notation: Text }",
         ),
         (
             "scan a.prl 00 1000000",
