@@ -8,3 +8,5 @@ pub mod Written
 pub mod Rises
 -- The levels of a tree, and its file.
 pub mod TreeChunks
+-- Bytes that are read behind the first ones of a buffer.
+pub mod Fronts

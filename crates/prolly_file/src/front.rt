@@ -1,67 +1,35 @@
 //! The first bytes of a source.
-ghost use Rattle.std.specs.Prelude.{◌≡◌, ◌≢◌, ◌↔◌, ◌<◌, ◌≤◌, ◌++◌, true, [], take, vec_len, IfOk};
-ghost use Rattle.std.specs.Prelude.{OnOk, IsErrOf};
+ghost use Rattle.std.specs.Prelude.{◌≡◌, ◌≤◌, ◌++◌, true, length, take, IfOk, IsOk};
+ghost use Rattle.prolly_file.specs.Failures.{CountsFailure};
 
-use crate::source::Source;
-use std::alloc::{AllocError, Global};
+use crate::source::{Source, SourceFault};
 
-/// Why the first bytes of a source were not taken.
-#[derive(Clone, Copy, Debug, PartialEq, Eq)]
-pub enum FrontFault {
-    /// Memory was refused.
-    Memory,
-    /// The source failed.
-    Read,
-}
-
-impl From<AllocError> for FrontFault {
-    ghost use Rattle.prolly_file.specs.declared.front.FrontFault.TheVariants.{Memory};
-
-    ghost from_gives = { λ _ fault. fault ≡ Memory };
-
-    fn from(_: AllocError) -> Self {
-        FrontFault::Memory
-    }
-}
-
-/// The first bytes that a source has left: `count` of them, or all where there are fewer. So it can
-/// be told what a file is before it is read by whoever reads such files, over a
-/// [`Rejoined`](crate::Rejoined).
+/// Takes the first bytes that a source has left off it, into `front`: as many as that has room for,
+/// or all where there are fewer. Answers how many these are. So it can be told what a file is
+/// before it is read by whoever reads such files, over a [`Rejoined`](crate::Rejoined).
 ///
-/// At a fault what was read before it is gone. Takes memory for `count` bytes twice, even where
-/// there are fewer.
-pub fn take_front<S: Source>(
-    alloc: Global,
-    source: &mut S,
-    count: usize,
-) -> Result<Vec<u8>, FrontFault>
-    ensures joined { (S.seen source.old).is_honest ≡ true →
-        IfOk result (λ front. front.items ++ (S.seen source.new).left ≡ (S.seen source.old).left) }
-    ensures first { (S.seen source.old).is_honest ≡ true →
-        IfOk result (λ front. front.items ≡ take count (S.seen source.old).left) }
-    ensures within { IfOk result (λ front. vec_len front ≤ count) }
-    ensures over { (S.seen source.old).is_honest ≡ true →
-        IfOk result (λ front. vec_len front < count → (S.seen source.new).left ≡ []) }
-    ensures read { IsErrOf result FrontFault.Read ↔ ((S.seen source.new).failures ≢ (S.seen
-        source.old).failures) }
-    ensures unfailed { OnOk result ((S.seen source.new).failures ≡ (S.seen source.old).failures) }
-    ensures never { (S.seen source.old).is_steady ≡ true →
-        (S.seen source.new).failures ≡ (S.seen source.old).failures }
+/// At a `SourceFault` what was read before it is gone. What is left in `front` behind the bytes
+/// that were taken is not said.
+pub fn take_front<S: Source>(source: &mut S, front: &mut [u8]) -> Result<usize, SourceFault>
+    ensures size { length front.new ≡ length front.old }
+    ensures bound { IfOk result (λ count. count ≤ length front.new) }
+    ensures joined { (S.seen source.old).is_honest ≡ true → IfOk result (λ count.
+        take count front.new ++ (S.seen source.new).left ≡ (S.seen source.old).left) }
+    ensures first { (S.seen source.old).is_honest ≡ true → IfOk result (λ count.
+        take count front.new ≡ take (length front.old) (S.seen source.old).left) }
+    ensures failures { CountsFailure (S.seen source.old).failures
+        (S.seen source.new).failures result }
     ensures honest { (S.seen source.old).is_honest ≡ true → (S.seen source.new).is_honest ≡ true }
     ensures steady { (S.seen source.old).is_steady ≡ true → (S.seen source.new).is_steady ≡ true }
+    ensures succeeds { (S.seen source.old).is_steady ≡ true → IsOk result }
 {
-    let mut front = Vec::new(alloc);
-    let mut buffer = vec![in alloc; 0; count]?;
-    while front.len() < count {
-        let part = &mut buffer[..count - front.len()];
-        let given = match source.read(part) {
-            Ok(given) => given,
-            Err(_) => return Err(FrontFault::Read),
-        };
+    let mut count = 0;
+    while count < front.len() {
+        let given = source.read(&mut front[count..])?;
         if given == 0 {
-            return Ok(front);
+            return Ok(count);
         }
-        front.extend_from_slice(&part[..given])?;
+        count += given;
     }
-    Ok(front)
+    Ok(count)
 }

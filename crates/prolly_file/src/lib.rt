@@ -28,7 +28,7 @@ pub use device::Device;
 pub use frame::{end_record, frame_start};
 pub use from_read::FromRead;
 pub use from_seek::FromSeek;
-pub use front::{FrontFault, take_front};
+pub use front::take_front;
 pub use plain::{ScratchFault, scratch, scratch_as};
 pub use rejoined::Rejoined;
 pub use script_device::ScriptDevice;

@@ -16,5 +16,5 @@ mod tally;
 
 pub use fault::fault_of;
 pub use loader::{Loaded, load};
-pub use surveyed::{FlawedRecord, Survey, SurveyFault};
+pub use surveyed::{FlawedRecord, Survey};
 pub use surveying::survey;

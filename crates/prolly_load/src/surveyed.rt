@@ -1,8 +1,6 @@
 //! What a survey says.
-ghost use Rattle.std.specs.Prelude.{◌≡◌};
 
 use prolly_entry::Flaw;
-use std::alloc::AllocError;
 
 /// What a record file holds, as far as it is good.
 #[derive(Debug, Drop)]
@@ -30,23 +28,4 @@ pub struct FlawedRecord {
     /// Its key, where the flaw lies behind it: of a value that is too long and of a key out of
     /// order.
     pub key: Option<Vec<u8>>,
-}
-
-/// Why there is no survey.
-#[derive(Clone, Copy, Debug, PartialEq, Eq)]
-pub enum SurveyFault {
-    /// Memory was refused.
-    Memory,
-    /// The source failed.
-    Read,
-}
-
-impl From<AllocError> for SurveyFault {
-    ghost use Rattle.prolly_load.specs.declared.surveyed.SurveyFault.TheVariants.{Memory};
-
-    ghost from_gives = { λ _ fault. fault ≡ Memory };
-
-    fn from(_: AllocError) -> Self {
-        SurveyFault::Memory
-    }
 }

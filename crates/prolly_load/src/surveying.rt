@@ -1,16 +1,15 @@
 //! Surveying a record file.
-ghost use Rattle.std.specs.Prelude.{◌≡◌, ◌≢◌, ◌↔◌, true, IfOk, IsErrOf, OnOk};
-ghost use Rattle.std.specs.Prelude.{IfSome};
+ghost use Rattle.std.specs.Prelude.{◌≡◌, ◌≢◌, true, IfErr, IfOk, IfSome, OnErr, OnOk};
 ghost use Rattle.prolly_load.specs.Survey.{IsSurvey};
 ghost use Rattle.prolly_load.specs.Telling.{HasToldKey, Tells, cut_in};
 
 use crate::buffer::Buffer;
 use crate::flawed::flawed_record;
 use crate::passing::{Passed, pass_record};
-use crate::surveyed::{FlawedRecord, Survey, SurveyFault};
+use crate::surveyed::Survey;
 use crate::tally::{Tally, copied};
 use prolly_entry::Flaw;
-use prolly_file::Source;
+use prolly_file::{Source, SourceFault};
 use std::alloc::{AllocError, Global};
 
 /// What the bytes that a source has left hold, as a record file of which at most `limit` records
@@ -18,22 +17,30 @@ use std::alloc::{AllocError, Global};
 ///
 /// It stops where the source has no more bytes, and at the first flaw. The source is not read while
 /// the bytes at hand decide a record or a flaw, so a flaw is told even where a further read would
-/// fail. Of a source that is not honest nothing is known but its failures.
+/// fail. Of a source that is not honest nothing is known but its failures. An `AllocError` is want
+/// of memory for the buffer or for a key.
 ///
 /// One pass, in time linear in the bytes. Copies three keys at most, and holds one buffer of 130
 /// KiB, however long the file is.
-pub fn survey<S: Source>(alloc: Global, source: &mut S, limit: u32) -> Result<Survey, SurveyFault>
-    ensures ok { (S.seen source.old).is_honest ≡ true →
-        IfOk result (λ survey. IsSurvey (S.seen source.old).left limit survey) }
+pub fn survey<S: Source>(
+    alloc: Global,
+    source: &mut S,
+    limit: u32,
+) -> Result<Result<Survey, SourceFault>, AllocError>
+    ensures ok { (S.seen source.old).is_honest ≡ true → IfOk result (λ read. IfOk read
+        (λ survey. IsSurvey (S.seen source.old).left limit survey)) }
 
     // A failed read is told, and nothing else is told as one.
-    ensures read { IsErrOf result SurveyFault.Read ↔ ((S.seen source.new).failures ≢ (S.seen
-        source.old).failures) }
-    ensures unfailed { OnOk result ((S.seen source.new).failures ≡ (S.seen source.old).failures) }
-    ensures never { (S.seen source.old).is_steady ≡ true →
-        (S.seen source.new).failures ≡ (S.seen source.old).failures }
+    ensures failed { IfOk result (λ read. IfErr read (λ _.
+        (S.seen source.new).failures ≢ (S.seen source.old).failures)) }
+    ensures unfailed { IfOk result (λ read. OnOk read
+        ((S.seen source.new).failures ≡ (S.seen source.old).failures)) }
+    ensures refused { OnErr result
+        ((S.seen source.new).failures ≡ (S.seen source.old).failures) }
     ensures honest { (S.seen source.old).is_honest ≡ true → (S.seen source.new).is_honest ≡ true }
     ensures steady { (S.seen source.old).is_steady ≡ true → (S.seen source.new).is_steady ≡ true }
+    ensures never { (S.seen source.old).is_steady ≡ true →
+        (S.seen source.new).failures ≡ (S.seen source.old).failures }
 {
     let mut buffer = Buffer::new(alloc)?;
     let mut tally = Tally {
@@ -50,12 +57,12 @@ pub fn survey<S: Source>(alloc: Global, source: &mut S, limit: u32) -> Result<Su
             Passed::Nothing => match buffer.fill(source, tally.records) {
                 Ok(0) => {
                     let cut = cut_in(&buffer);
-                    return Ok(told(alloc, tally, &buffer, cut)?);
+                    return Ok(Ok(told(alloc, tally, &buffer, cut)?));
                 }
                 Ok(_) => {}
-                Err(_) => return Err(SurveyFault::Read),
+                Err(fault) => return Ok(Err(fault)),
             },
-            Passed::Flawed(flaw) => return Ok(told(alloc, tally, &buffer, Some(flaw))?),
+            Passed::Flawed(flaw) => return Ok(Ok(told(alloc, tally, &buffer, Some(flaw))?)),
         }
     }
 }

@@ -10,11 +10,8 @@ use Rattle.prolly_check.specs.Levels.{AreLevels}
 use Rattle.prolly_check.specs.Missing.{size_of}
 use Rattle.prolly_entry.specs.Cut.{sha512_cut}
 use Rattle.prolly_entry.specs.Reference.{reference_text}
-use Rattle.prolly_fault.specs.declared.fault.RunFault.{RunFault}
 use Rattle.prolly_fault.specs.declared.fault.RunFault.TheVariants as runs
 use Rattle.prolly_file.specs.Source.{SourceView}
-use Rattle.prolly_file.specs.declared.front.FrontFault.{FrontFault}
-use Rattle.prolly_file.specs.declared.front.FrontFault.TheVariants as fronts
 use Rattle.prolly_load.specs.Fault.{fault_of}
 use Rattle.prolly_load.specs.Survey.{bytes_of}
 use Rattle.prolly_load.specs.declared.surveyed.FlawedRecord.{FlawedRecord}
@@ -27,7 +24,7 @@ use Rattle.prolly_stat.specs.declared.tree.TreeNumbers.{TreeNumbers}
 use Rattle.prolly_tree.specs.File.{root_reference}
 use Rattle.prolly_tool.specs.Answers.{Shows, ShowsFault}
 use Rattle.prolly_tool.specs.LookUps.{IsLookUp, ShowsFailedRead}
-use Rattle.prolly_tool.specs.Surveys.{IsSurveyAnswer, IsUnsurveyed}
+use Rattle.prolly_tool.specs.Surveys.{IsSurveyAnswer, IsUnread}
 use Rattle.prolly_tool.specs.declared.answer.Answer.{Answer}
 use Rattle.prolly_tool.specs.declared.fault.Fault.TheVariants.{Run}
 use Rattle.prolly_tool.specs.declared.stat_form.StatForm.{StatForm}
@@ -101,12 +98,7 @@ IsStatOf false form bytes failed answer = IsSurveyAnswer bytes failed (ShowsReco
 -- The answer is of the kind of file that it is; or what kind that is could not be read.
 abbrev pub IsStat : StatForm → List ℕ → Type 0 → Answer → Type 0
 IsStat form bytes failed answer =
-    IsStatOf (is_chunk_file bytes) form bytes failed answer ⊎ IsUnsurveyed failed answer
-
--- The fault of file 0 whose first bytes were not taken.
-abbrev pub untaken : FrontFault → RunFault
-untaken fronts.Memory = runs.Memory
-untaken fronts.Read = runs.Read 0
+    IsStatOf (is_chunk_file bytes) form bytes failed answer ⊎ IsUnread failed answer
 
 -- What `stat` answers to an honest source of a file of this kind, of what that has left.
 abbrev pub AnswersOf : {S : Type 0} → Bool → (S → SourceView) → S → S → StatForm →

@@ -4,14 +4,11 @@ use Rattle.std.specs.Prelude.{Result, IfOk}
 use Rattle.std.specs.Fmt.{decimal}
 use Rattle.std.specs.Option.{option_copied}
 use Rattle.std.specs.declared.alloc.AllocError.{AllocError}
-use Rattle.prolly_fault.specs.declared.fault.RunFault.{RunFault}
 use Rattle.prolly_fault.specs.declared.fault.RunFault.TheVariants as runs
 use Rattle.prolly_file.specs.Source.{SourceView}
 use Rattle.prolly_load.specs.Survey.{IsSurvey, bytes_of}
 use Rattle.prolly_load.specs.declared.surveyed.FlawedRecord.{FlawedRecord}
 use Rattle.prolly_load.specs.declared.surveyed.Survey.{Survey}
-use Rattle.prolly_load.specs.declared.surveyed.SurveyFault.{SurveyFault}
-use Rattle.prolly_load.specs.declared.surveyed.SurveyFault.TheVariants as surveys
 use Rattle.prolly_stat.specs.Flawed.{flawed_text}
 use Rattle.prolly_stat.specs.declared.flawed.FlawedNumbers.{FlawedNumbers}
 use Rattle.prolly_text.specs.declared.notation.Notation.{Notation}
@@ -26,20 +23,15 @@ pub record IsSurveyed (bytes : List ℕ) (failed : Type 0) (shows : Survey → T
   pub is : IsSurvey bytes 16777216 survey
   pub shown : shows survey
 
--- A read failed, and this is told; or none did, and memory was refused, as it may be at any bytes.
-abbrev pub IsUnsurveyed : Type 0 → Answer → Type 0
-IsUnsurveyed failed answer =
-    (failed × ShowsFault answer (Run (runs.Read 0))) ⊎ (¬ failed × ShowsFault answer (Run runs.Memory))
-
--- The fault of file 0 that has no survey.
-abbrev pub unsurveyed : SurveyFault → RunFault
-unsurveyed surveys.Memory = runs.Memory
-unsurveyed surveys.Read = runs.Read 0
+-- A read failed, and this is told.
+pub record IsUnread (failed : Type 0) (answer : Answer) : Type 0 where
+  pub failed_is : failed
+  pub shows : ShowsFault answer (Run (runs.Read 0))
 
 -- The answer of a command of which `shows` says what it shows of a survey.
 abbrev pub IsSurveyAnswer : List ℕ → Type 0 → (Answer → Survey → Type 0) → Answer → Type 0
 IsSurveyAnswer bytes failed shows answer =
-    IsSurveyed bytes failed (shows answer) ⊎ IsUnsurveyed failed answer
+    IsSurveyed bytes failed (shows answer) ⊎ IsUnread failed answer
 
 -- What such a command answers to an honest source, of what that has left.
 abbrev pub AnswersSurvey : {S : Type 0} → (S → SourceView) → S → S → (Answer → Survey → Type 0) →

@@ -7,8 +7,9 @@ use crate::answer::Answer;
 use crate::fault::Fault;
 use crate::input::RECORD_LIMIT;
 use crate::line_parts::append_number;
-use crate::survey_parts::{key_in, unsurveyed};
-use prolly_file::Source;
+use crate::survey_parts::key_in;
+use prolly_fault::RunFault;
+use prolly_file::{Source, SourceFault};
 use prolly_load::{FlawedRecord, Survey, survey};
 use prolly_stat::{FlawedNumbers, append_flaw};
 use prolly_text::Notation;
@@ -17,7 +18,7 @@ use std::alloc::{AllocError, Global};
 /// What `explain` answers: `ok` and the number of records of a record file that is good, and else,
 /// with status 1, the place and the offset of the first flawed record, its flaw, its key, where the
 /// flaw lies behind that, and the key before it, in this notation; or the line of a failed read. An
-/// `Err` is want of memory for the answer's own text.
+/// `Err` is want of memory, for the survey or for the answer's own text.
 ///
 /// One pass, in time linear in the file, and in memory that does not grow with it.
 pub fn answer_explain<S: Source>(
@@ -28,11 +29,10 @@ pub fn answer_explain<S: Source>(
     ensures shown { AnswersSurvey S.seen source.old source.new (ShowsExplanation notation) result }
     ensures read { AnswersUnread S.seen source.old source.new result }
 {
-    let survey = match survey(alloc, source, RECORD_LIMIT) {
-        Ok(survey) => survey,
-        Err(fault) => return Answer::of_fault(alloc, Fault::Run(unsurveyed(fault))),
-    };
-    reason(alloc, notation, &survey)
+    match survey(alloc, source, RECORD_LIMIT)? {
+        Ok(survey) => reason(alloc, notation, &survey),
+        Err(SourceFault) => Answer::of_fault(alloc, Fault::Run(RunFault::Read { file: 0 })),
+    }
 }
 
 fn reason(alloc: Global, notation: Notation, survey: &Survey) -> Result<Answer, AllocError>

@@ -1,35 +1,17 @@
 //! What `stat` shows of a record file.
 ghost use Rattle.std.specs.Prelude.{◌≡◌, ◌++◌, IfOk, OnOk};
 ghost use Rattle.prolly_tool.specs.Stat.{ShowsRecords, ShowsSurvey, records_text};
-ghost use Rattle.prolly_tool.specs.Surveys.{AnswersSurvey, AnswersUnread};
 
 use crate::answer::Answer;
 use crate::fault::Fault;
-use crate::input::RECORD_LIMIT;
 use crate::stat_form::StatForm;
-use crate::survey_parts::{key_in, unsurveyed};
-use prolly_file::Source;
-use prolly_load::{Survey, fault_of, survey};
+use crate::survey_parts::key_in;
+use prolly_load::{Survey, fault_of};
 use prolly_stat::{RecordNumbers, append_records, append_records_json};
 use std::alloc::{AllocError, Global};
 
-/// The numbers of a record file.
-pub(crate) fn record_answer<S: Source>(
-    alloc: Global,
-    source: &mut S,
-    form: StatForm,
-) -> Result<Answer, AllocError>
-    ensures shown { AnswersSurvey S.seen source.old source.new (ShowsRecords form) result }
-    ensures read { AnswersUnread S.seen source.old source.new result }
-{
-    let survey = match survey(alloc, source, RECORD_LIMIT) {
-        Ok(survey) => survey,
-        Err(fault) => return Answer::of_fault(alloc, Fault::Run(unsurveyed(fault))),
-    };
-    of_survey(alloc, &survey, form)
-}
-
-fn of_survey(alloc: Global, survey: &Survey, form: StatForm) -> Result<Answer, AllocError>
+/// The numbers of a record file, or else its flaw.
+pub(crate) fn survey_answer(alloc: Global, survey: &Survey, form: StatForm) -> Result<Answer, AllocError>
     ensures { IfOk result (λ answer. ShowsRecords form answer survey.now) }
 {
     match &survey.flawed {
@@ -51,11 +33,11 @@ fn of_records(alloc: Global, survey: &Survey, form: StatForm) -> Result<Answer, 
         last_key: key_in(&survey.last_key),
     };
     let mut out = Vec::new(alloc);
-    append_good(alloc, &mut out, form, &numbers)?;
+    append_numbers(alloc, &mut out, form, &numbers)?;
     Ok(Answer::of_lines(alloc, out))
 }
 
-fn append_good(
+fn append_numbers(
     alloc: Global,
     out: &mut Vec<u8>,
     form: StatForm,

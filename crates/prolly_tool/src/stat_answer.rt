@@ -3,11 +3,14 @@ ghost use Rattle.prolly_tool.specs.Stat.{AnswersBadRead, AnswersOf, AnswersStat}
 
 use crate::answer::Answer;
 use crate::fault::Fault;
-use crate::record_stat::record_answer;
+use crate::input::{INPUT_LIMIT, RECORD_LIMIT};
+use crate::record_stat::survey_answer;
 use crate::stat_form::StatForm;
-use crate::survey_parts::untaken;
 use crate::tree_stat::tree_answer;
-use prolly_file::{Rejoined, Source, take_front};
+use prolly_check::check;
+use prolly_fault::RunFault;
+use prolly_file::{Rejoined, Source, SourceFault, take_front};
+use prolly_load::survey;
 use std::alloc::{AllocError, Global};
 
 /// The letters with which each chunk file begins. A record file that began so would have a key of
@@ -33,15 +36,14 @@ pub fn answer_stat<S: Source>(alloc: Global, mut source: S, form: StatForm) -> S
     ensures shown { AnswersStat S.seen source result.source form result.answer }
     ensures read { AnswersBadRead S.seen source result.source result.answer }
 {
-    let front = match take_front(alloc, &mut source, LETTERS.len()) {
-        Ok(front) => front,
-        Err(fault) => {
-            let answer = Answer::of_fault(alloc, Fault::Run(untaken(fault)));
-            return Stated { source, answer };
-        }
+    let mut front = [0; 4];
+    let Ok(count) = take_front(&mut source, &mut front) else {
+        let answer = Answer::of_fault(alloc, Fault::Run(RunFault::Read { file: 0 }));
+        return Stated { source, answer };
     };
-    let mut whole = Rejoined::new(&front, source);
-    let answer = whole_answer(alloc, front.as_slice() == LETTERS, &mut whole, form);
+    let front = &front[..count];
+    let mut whole = Rejoined::new(front, source);
+    let answer = whole_answer(alloc, front == LETTERS, &mut whole, form);
     Stated {
         source: whole.into_rest(),
         answer,
@@ -59,8 +61,13 @@ fn whole_answer<S: Source>(
     ensures read { AnswersBadRead S.seen source.old source.new result }
 {
     if is_chunk_file {
-        tree_answer(alloc, source, form)
-    } else {
-        record_answer(alloc, source, form)
+        return match check(alloc, source, INPUT_LIMIT) {
+            Ok(tree) => tree_answer(alloc, &tree, form),
+            Err(fault) => Answer::of_fault(alloc, Fault::Check(fault)),
+        };
+    }
+    match survey(alloc, source, RECORD_LIMIT)? {
+        Ok(survey) => survey_answer(alloc, &survey, form),
+        Err(SourceFault) => Answer::of_fault(alloc, Fault::Run(RunFault::Read { file: 0 })),
     }
 }

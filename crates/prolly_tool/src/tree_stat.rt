@@ -2,35 +2,16 @@
 ghost use Rattle.std.specs.Prelude.{◌≡◌, ◌++◌, IfOk, OnOk};
 ghost use Rattle.prolly_check.specs.Content.{Content};
 ghost use Rattle.prolly_check.specs.Verdict.{IsFileOf};
-ghost use Rattle.prolly_tool.specs.LookUps.{AnswersFailedRead, AnswersLookUp};
 ghost use Rattle.prolly_tool.specs.Stat.{ShowsTree, tree_text};
 
 use crate::answer::Answer;
-use crate::fault::Fault;
-use crate::input::INPUT_LIMIT;
 use crate::stat_form::StatForm;
-use prolly_check::{Tree, check};
-use prolly_file::Source;
+use prolly_check::Tree;
 use prolly_stat::{TreeNumbers, append_json, append_table};
 use std::alloc::{AllocError, Global};
 
 /// The numbers of a chunk file.
-pub(crate) fn tree_answer<S: Source>(
-    alloc: Global,
-    source: &mut S,
-    form: StatForm,
-) -> Result<Answer, AllocError>
-    ensures shown { AnswersLookUp S.seen source.old source.new (ShowsTree form) result }
-    ensures read { AnswersFailedRead S.seen source.old source.new result }
-{
-    let tree = match check(alloc, source, INPUT_LIMIT) {
-        Ok(tree) => tree,
-        Err(fault) => return Answer::of_fault(alloc, Fault::Check(fault)),
-    };
-    of_tree(alloc, &tree, form)
-}
-
-fn of_tree(alloc: Global, tree: &Tree, form: StatForm) -> Result<Answer, AllocError>
+pub(crate) fn tree_answer(alloc: Global, tree: &Tree, form: StatForm) -> Result<Answer, AllocError>
     ensures { IfOk result (λ answer. (content : Content) → IsFileOf tree.now content →
         ShowsTree form answer content) }
 {
