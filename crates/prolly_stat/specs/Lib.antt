@@ -10,3 +10,5 @@ pub mod Json
 pub mod Records
 -- A flawed record file, explained.
 pub mod Flawed
+-- How keys are shown.
+pub mod KeyForms

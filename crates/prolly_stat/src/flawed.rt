@@ -1,15 +1,11 @@
 //! A flawed record file, explained.
-ghost use Rattle.std.specs.Prelude.{◌≡◌, ◌++◌, OnOk, option_map};
-ghost use Rattle.std.specs.Option.{option_copied};
-ghost use Rattle.prolly_stat.specs.Flawed.{flaw_text, flawed_text, shortened};
-ghost use Rattle.prolly_stat.specs.Lines.{optional_line};
+ghost use Rattle.std.specs.Prelude.{◌≡◌, ◌++◌, OnOk};
+ghost use Rattle.prolly_stat.specs.Flawed.{flaw_text, flawed_text};
 
+use crate::key_form::KeyForm;
 use prolly_entry::Flaw;
 use prolly_text::Notation;
 use std::alloc::{AllocError, Global};
-
-/// How many bytes of a key are shown at most.
-const SHOWN_BYTES: usize = 64;
 
 /// The record of a file that is flawed, where it lies, and its neighbour.
 #[derive(Clone, Copy, Debug, PartialEq, Eq)]
@@ -41,8 +37,9 @@ pub fn append_flaw(
     out.extend_from_slice(place.as_bytes())?;
     out.extend_from_slice(flaw_text(flawed.flaw).as_bytes())?;
     out.push(b'\n')?;
-    append_key_line(alloc, out, notation, b"its key:", flawed.key)?;
-    append_key_line(alloc, out, notation, b"the key before:", flawed.key_before)
+    let form = KeyForm::Shortened(notation);
+    form.append_line(alloc, out, b"its key:", flawed.key)?;
+    form.append_line(alloc, out, b"the key before:", flawed.key_before)
 }
 
 /// What is said of a record with this flaw.
@@ -56,44 +53,4 @@ fn flaw_text(flaw: Flaw) -> &'static str
         Flaw::OutOfOrder => ": key out of order",
         Flaw::TooManyRecords => ": too many records",
     }
-}
-
-/// Appends the line of a key, if there is one.
-fn append_key_line(
-    alloc: Global,
-    out: &mut Vec<u8>,
-    notation: Notation,
-    name: &[u8],
-    key: Option<&[u8]>,
-) -> Result<(), AllocError>
-    ensures { OnOk result (out.new.items ≡ out.old.items ++ optional_line name.now
-        (option_map (shortened notation) (option_copied key.entry))) }
-{
-    let Some(key) = key else {
-        return Ok(());
-    };
-    out.extend_from_slice(name)?;
-    out.push(b' ')?;
-    append_shortened(alloc, out, notation, key)?;
-    out.push(b'\n')?;
-    Ok(())
-}
-
-/// Appends a key, or its front and how many bytes it has.
-fn append_shortened(
-    alloc: Global,
-    out: &mut Vec<u8>,
-    notation: Notation,
-    key: &[u8],
-) -> Result<(), AllocError>
-    ensures { OnOk result (out.new.items ≡ out.old.items ++ shortened notation key.now) }
-{
-    if key.len() <= SHOWN_BYTES {
-        return notation.append(alloc, out, key);
-    }
-    let (front, _) = key.split_at(SHOWN_BYTES);
-    notation.append(alloc, out, front)?;
-    let length = format!(in alloc; "... ({} bytes)", key.len())?;
-    out.extend_from_slice(length.as_bytes())?;
-    Ok(())
 }

@@ -3,6 +3,7 @@
 
 mod flawed;
 mod json;
+mod key_form;
 mod line;
 mod records;
 mod records_json;

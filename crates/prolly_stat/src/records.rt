@@ -1,10 +1,8 @@
 //! A record file, in numbers.
-ghost use Rattle.std.specs.Prelude.{◌≡◌, ◌++◌, OnOk, option_map};
-ghost use Rattle.std.specs.Option.{option_copied};
-ghost use Rattle.prolly_stat.specs.Lines.{optional_line};
+ghost use Rattle.std.specs.Prelude.{◌≡◌, ◌++◌, OnOk};
 ghost use Rattle.prolly_stat.specs.Records.{records_of};
-ghost use Rattle.prolly_text.specs.Notations.{written};
 
+use crate::key_form::KeyForm;
 use crate::line::append_number_line;
 use prolly_text::Notation;
 use std::alloc::{AllocError, Global};
@@ -38,27 +36,7 @@ pub fn append_records(
     append_number_line(alloc, out, b"records", u64::from(numbers.records))?;
     append_number_line(alloc, out, b"removals", u64::from(numbers.removals))?;
     append_number_line(alloc, out, b"bytes", numbers.bytes)?;
-    append_key_line(alloc, out, notation, b"first", numbers.first_key)?;
-    append_key_line(alloc, out, notation, b"last", numbers.last_key)
-}
-
-/// Appends the line of a key, if there is one.
-fn append_key_line(
-    alloc: Global,
-    out: &mut Vec<u8>,
-    notation: Notation,
-    name: &[u8],
-    key: Option<&[u8]>,
-) -> Result<(), AllocError>
-    ensures { OnOk result (out.new.items ≡ out.old.items ++ optional_line name.now
-        (option_map (written notation) (option_copied key.entry))) }
-{
-    let Some(key) = key else {
-        return Ok(());
-    };
-    out.extend_from_slice(name)?;
-    out.push(b' ')?;
-    notation.append(alloc, out, key)?;
-    out.push(b'\n')?;
-    Ok(())
+    let form = KeyForm::Whole(notation);
+    form.append_line(alloc, out, b"first", numbers.first_key)?;
+    form.append_line(alloc, out, b"last", numbers.last_key)
 }

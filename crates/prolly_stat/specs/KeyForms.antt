@@ -1,0 +1,11 @@
+-- How keys are shown.
+use Rattle.std.specs.Prelude.{ℕ, List}
+use Rattle.prolly_stat.specs.Flawed.{shortened}
+use Rattle.prolly_stat.specs.declared.key_form.KeyForm.{KeyForm}
+use Rattle.prolly_stat.specs.declared.key_form.KeyForm.TheVariants.{Whole, Shortened}
+use Rattle.prolly_text.specs.Notations.{written}
+
+-- A key in this form: as its notation writes it, or shortened.
+abbrev pub shown_in : KeyForm → List ℕ → List ℕ
+shown_in (Whole notation) = written notation
+shown_in (Shortened notation) = shortened notation
