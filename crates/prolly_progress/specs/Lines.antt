@@ -1,6 +1,6 @@
 -- What is said of a run under way.
 use Rattle.std.specs.Prelude.{ℕ, ◌*◌, ◌-◌, ◌/◌, Option, Some, None, List, [], ◌++◌, codes}
-use Rattle.std.specs.Prelude.{max, if◌then◌else◌, ◌==◌}
+use Rattle.std.specs.Prelude.{max, if◌then◌else◌, ◌==◌, option_map}
 use Rattle.std.specs.Fmt.{decimal}
 use Rattle.std.specs.Int.{div_ceil}
 use Rattle.prolly_progress.specs.declared.progress.Progress.{Progress}
@@ -25,15 +25,18 @@ seconds_to progress (Some total) = if progress.read == 0 then None
 abbrev pub seconds_left : Progress → Option ℕ
 seconds_left progress = seconds_to progress progress.total
 
+-- A number between two texts where the number is known, and nothing where it is not.
+abbrev pub known_text : List ℕ → Option ℕ → List ℕ → List ℕ
+known_text before None behind = []
+known_text before (Some number) behind = before ++ decimal number ++ behind
+
 -- What is said of how many bytes there are to read.
 abbrev pub total_text : Option ℕ → List ℕ
-total_text None = []
-total_text (Some total) = codes " of " ++ decimal (megabytes total)
+total_text total = known_text (codes " of ") (option_map megabytes total) []
 
 -- What is said of how many seconds are left.
 abbrev pub rest_text : Option ℕ → List ℕ
-rest_text None = []
-rest_text (Some seconds) = codes ", " ++ decimal seconds ++ codes " s left"
+rest_text seconds = known_text (codes ", ") seconds (codes " s left")
 
 -- What is said of what was read.
 abbrev pub read_text : Progress → List ℕ

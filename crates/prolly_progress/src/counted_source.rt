@@ -40,7 +40,9 @@ impl<'a, S: Source> Source for CountedSource<'a, S> {
 
     fn note_records(&mut self, records: u32) {
         self.source.note_records(records);
-        self.counts.records.add(u64::from(records.saturating_sub(self.records)));
+        self.counts
+            .records
+            .add(u64::from(records.saturating_sub(self.records)));
         self.records = records;
     }
 }

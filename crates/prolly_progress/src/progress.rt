@@ -59,7 +59,11 @@ impl Display for Progress {
         let read = ReadText(*self);
         let written = self.written / MEGABYTE;
         let rate = self.rate();
-        let rest = Rest(self.seconds_left());
+        let rest = Known {
+            before: ", ",
+            number: self.seconds_left(),
+            behind: " s left",
+        };
         write!(f, "{read}, wrote {written} MB, {rate} MB/s{rest}")
     }
 }
@@ -76,41 +80,32 @@ impl Display for ReadText {
     fn fmt<W: fmt::Write>(&self, f: &mut Formatter<W>) -> fmt::Result {
         let records = self.0.records;
         let read = self.0.read / MEGABYTE;
-        let total = Total(self.0.total);
+        let total = Known {
+            before: " of ",
+            number: self.0.total.map(|total| u128::from(total / MEGABYTE)),
+            behind: "",
+        };
         write!(f, "read {records} records, {read}{total} MB")
     }
 }
 
-/// How many bytes there are to read, to be shown behind how many were read.
+/// A number between two texts, to be shown where the number is known.
 #[derive(Clone, Copy)]
-struct Total(Option<u64>);
-
-impl Display for Total {
-    ghost use Rattle.prolly_progress.specs.Lines.{total_text};
-
-    ghost output = { λ shown. Some (total_text shown.0) };
-
-    fn fmt<W: fmt::Write>(&self, f: &mut Formatter<W>) -> fmt::Result {
-        match self.0 {
-            None => Ok(()),
-            Some(total) => write!(f, " of {}", total / MEGABYTE),
-        }
-    }
+struct Known<'a> {
+    before: &'a str,
+    number: Option<u128>,
+    behind: &'a str,
 }
 
-/// How many seconds are left, to be shown at the end of the line.
-#[derive(Clone, Copy)]
-struct Rest(Option<u128>);
+impl Display for Known<'_> {
+    ghost use Rattle.prolly_progress.specs.Lines.{known_text};
 
-impl Display for Rest {
-    ghost use Rattle.prolly_progress.specs.Lines.{rest_text};
-
-    ghost output = { λ shown. Some (rest_text shown.0) };
+    ghost output = { λ shown. Some (known_text shown.before.now shown.number shown.behind.now) };
 
     fn fmt<W: fmt::Write>(&self, f: &mut Formatter<W>) -> fmt::Result {
-        match self.0 {
+        match self.number {
             None => Ok(()),
-            Some(seconds) => write!(f, ", {seconds} s left"),
+            Some(number) => write!(f, "{}{number}{}", self.before, self.behind),
         }
     }
 }

@@ -5,8 +5,10 @@ use crate::{CountedSink, CountedSource, Counts, Progress, watched};
 use prolly_file::{ScriptSink, ScriptSource, Sink, SinkFault, Source, SourceFault};
 use std::fmt::Display;
 use std::io::{Eprint, IsTerminal};
+use std::sync::Wait;
 use std::sync::atomic::{AtomicU64, Ordering};
 use std::test::Fail;
+use std::thread::Threads;
 use std::time::{Clock, Duration};
 use std::{io, thread};
 
@@ -81,7 +83,10 @@ fn lines_are_as_worked_out_by_hand(rt: HostRuntime) -> Result<(), Fail> {
             under_way,
             "read 32000000 records, 1234 of 3800 MB, wrote 901 MB, 310 MB/s, 9 s left",
         ),
-        (of_unknown, "read 32000000 records, 1234 MB, wrote 901 MB, 310 MB/s"),
+        (
+            of_unknown,
+            "read 32000000 records, 1234 MB, wrote 901 MB, 310 MB/s",
+        ),
         (
             all_read,
             "read 32000000 records, 1234 of 1234 MB, wrote 901 MB, 310 MB/s, 0 s left",
@@ -149,18 +154,22 @@ fn a_flush_that_fails_is_told(rt: HostRuntime) -> Result<(), Fail> {
     Ok(())
 }
 
-/// Work that is long enough to be shown.
-fn work_long<R: Clock>(rt: &R) -> u32 {
-    let _ = thread::sleep(rt, Duration::from_millis(1_300));
-    7
+/// Watches work that is long enough to be shown, and gives what it gives, which is 7.
+fn watched_long<R: Threads + Wait + Clock + Sync>(
+    rt: &R,
+    screen: &Screen,
+    total: Option<u64>,
+) -> u32 {
+    watched(rt, screen, &Counts::new(), total, || {
+        let _ = thread::sleep(rt, Duration::from_millis(1_300));
+        7
+    })
 }
 
 #[test]
 fn long_work_is_shown_on_a_terminal(rt: HostRuntime) {
     let screen = Screen::new(true, false);
-    let counts = Counts::new();
-    let given = watched(&rt, &screen, &counts, None, || work_long(&rt));
-    assert_eq!(&rt; given, 7);
+    assert_eq!(&rt; watched_long(&rt, &screen, None), 7);
     // A line, and its end.
     assert!(&rt; screen.printed() >= 2);
 }
@@ -168,17 +177,13 @@ fn long_work_is_shown_on_a_terminal(rt: HostRuntime) {
 #[test]
 fn a_screen_that_fails_is_no_fault(rt: HostRuntime) {
     let screen = Screen::new(true, true);
-    let counts = Counts::new();
-    let given = watched(&rt, &screen, &counts, Some(9), || work_long(&rt));
-    assert_eq!(&rt; given, 7);
+    assert_eq!(&rt; watched_long(&rt, &screen, Some(9)), 7);
 }
 
 #[test]
 fn nothing_is_shown_where_there_is_no_terminal(rt: HostRuntime) {
     let screen = Screen::new(false, false);
-    let counts = Counts::new();
-    let given = watched(&rt, &screen, &counts, None, || work_long(&rt));
-    assert_eq!(&rt; given, 7);
+    assert_eq!(&rt; watched_long(&rt, &screen, None), 7);
     assert_eq!(&rt; screen.printed(), 0);
 }
 
