@@ -42,6 +42,23 @@ pub(crate) fn with_subcommand<'a>(
     joined(line, subcommand, Command::subcommand)
 }
 
+/// Adds three subcommands to a line, in their order, where there was memory for all of them.
+pub(crate) fn with_three<'a>(
+    line: Result<Command<'a>, AllocError>,
+    first: Result<Command<'a>, AllocError>,
+    second: Result<Command<'a>, AllocError>,
+    third: Result<Command<'a>, AllocError>,
+) -> Result<Command<'a>, AllocError>
+    ensures { (app one two three : App) → IfOk line.entry (λ c. app_of c ≡ app)
+        → IfOk first.entry (HasLine one) → IfOk second.entry (HasLine two)
+        → IfOk third.entry (HasLine three) → IfOk result (λ c. app_of c
+        ≡ with_subcommand (with_subcommand (with_subcommand app one.top) two.top) three.top) }
+{
+    let line = with_subcommand(line, first);
+    let line = with_subcommand(line, second);
+    with_subcommand(line, third)
+}
+
 // A part joined to a whole, where there was memory for both. What a failure drops is one step of
 // the proof here, while in a function of commands each of their fields is a few.
 fn joined<W: Drop, P: Drop, F: FnOnce(W, P) -> Result<W, AllocError>>(

@@ -3,8 +3,12 @@ ghost use Rattle.std.specs.Prelude.{◌≡◌, IfOk};
 ghost use Rattle.clap.specs.Words.{app_of};
 ghost use Rattle.prolly_line.specs.Line.{bare_line, program_line};
 
-use crate::assembly::{described, with_subcommand};
-use crate::{help, subcommands};
+use crate::assembly::{described, with_subcommand, with_three};
+use crate::help;
+use crate::subcommands::{
+    build_line, check_line, diff_line, dump_line, explain_line, get_line, nth_line, pack_line,
+    prove_line, scan_line, scratch_line, stat_line, verify_line,
+};
 use clap::Command;
 use std::alloc::{AllocError, Global};
 
@@ -23,18 +27,19 @@ fn bare_line<'a>(alloc: Global) -> Result<Command<'a>, AllocError>
 pub(crate) fn program_line<'a>(alloc: Global) -> Result<Command<'a>, AllocError>
     ensures { IfOk result (λ c. app_of c ≡ program_line) }
 {
-    let line = bare_line(alloc);
-    let line = with_subcommand(line, subcommands::pack_line(alloc));
-    let line = with_subcommand(line, subcommands::scratch_line(alloc));
-    let line = with_subcommand(line, subcommands::build_line(alloc));
-    let line = with_subcommand(line, subcommands::explain_line(alloc));
-    let line = with_subcommand(line, subcommands::check_line(alloc));
-    let line = with_subcommand(line, subcommands::stat_line(alloc));
-    let line = with_subcommand(line, subcommands::get_line(alloc));
-    let line = with_subcommand(line, subcommands::scan_line(alloc));
-    let line = with_subcommand(line, subcommands::nth_line(alloc));
-    let line = with_subcommand(line, subcommands::dump_line(alloc));
-    let line = with_subcommand(line, subcommands::diff_line(alloc));
-    let line = with_subcommand(line, subcommands::prove_line(alloc));
-    with_subcommand(line, subcommands::verify_line(alloc))
+    let line = with_three(
+        bare_line(alloc),
+        pack_line(alloc),
+        scratch_line(alloc),
+        build_line(alloc),
+    );
+    let line = with_three(
+        line,
+        explain_line(alloc),
+        check_line(alloc),
+        stat_line(alloc),
+    );
+    let line = with_three(line, get_line(alloc), scan_line(alloc), nth_line(alloc));
+    let line = with_three(line, dump_line(alloc), diff_line(alloc), prove_line(alloc));
+    with_subcommand(line, verify_line(alloc))
 }
