@@ -4,7 +4,6 @@ ghost use Rattle.std.specs.List.{AllByRecursion};
 ghost use Rattle.prolly_entry.specs.Reference.{reference_of};
 ghost use Rattle.prolly_check.specs.Held.{pairs_held};
 ghost use Rattle.prolly_check.specs.Index.{AreReferences};
-ghost use Rattle.prolly_check.specs.Levels.{level_of};
 ghost use Rattle.prolly_check.specs.Spans.{IsWithin, chunks_in};
 ghost use Rattle.prolly_check.specs.Whole.{AreWhole};
 
@@ -60,6 +59,8 @@ impl<'a> Model for FileChunks<'a> {
 }
 
 impl<'a> FileChunks<'a> {
+    ghost use Rattle.prolly_check.specs.Levels.{level_of};
+
     /// The chunks that lie there, with the references that were made of them. Takes no memory, and
     /// no hash.
     pub(crate) fn new(

@@ -1,13 +1,13 @@
 -- A flawed record file, explained.
 use Rattle.std.specs.Prelude.{ℕ, List, [], ◌∷◌, ◌++◌, codes, length, take, nat_lt, if◌then◌else◌}
-use Rattle.std.specs.Prelude.{option_map}
+use Rattle.std.specs.Prelude.{Option, option_map}
 use Rattle.std.specs.Fmt.{decimal}
 use Rattle.std.specs.Option.{option_copied}
 use Rattle.prolly_entry.specs.declared.flaw.Flaw.{Flaw}
 use Rattle.prolly_entry.specs.declared.flaw.Flaw.TheVariants.{Truncated, KeyTooLong, ValueTooLong}
 use Rattle.prolly_entry.specs.declared.flaw.Flaw.TheVariants.{OutOfOrder, TooManyRecords}
 use Rattle.prolly_stat.specs.Lines.{optional_line}
-use Rattle.prolly_stat.specs.declared.flawed.FlawedNumbers.{FlawedNumbers}
+use Rattle.prolly_stat.specs.declared.records.RecordNumbers.{RecordNumbers}
 use Rattle.prolly_text.specs.Notations.{written}
 use Rattle.prolly_text.specs.declared.notation.Notation.{Notation}
 
@@ -28,13 +28,13 @@ shortened notation key =
     codes " bytes)"
     else written notation key
 
--- The line of the flawed record, which tells its place, its offset and its flaw; and lines for its
--- key and the key before it, where there are some.
-unfoldable pub flawed_text : Notation → FlawedNumbers → List ℕ
-flawed_text notation flawed =
-    codes "record " ++ decimal flawed.place ++ codes " at byte " ++ decimal flawed.offset ++
-    flaw_text flawed.flaw ++ 0x0A ∷ [] ++
-    optional_line (codes "its key:")
-    (option_map (shortened notation) (option_copied flawed.key)) ++
+-- The line of the record with this flaw behind the good ones of a file: its place, which is how many
+-- these are, the offset of its first byte, which is how many bytes they take, and the flaw; and
+-- lines for its key and the key before it, where there are some.
+unfoldable pub flawed_text : Notation → RecordNumbers → Flaw → Option (List ℕ) → List ℕ
+flawed_text notation good flaw key =
+    codes "record " ++ decimal good.records ++ codes " at byte " ++ decimal good.bytes ++
+    flaw_text flaw ++ 0x0A ∷ [] ++
+    optional_line (codes "its key:") (option_map (shortened notation) key) ++
     optional_line (codes "the key before:")
-    (option_map (shortened notation) (option_copied flawed.key_before))
+    (option_map (shortened notation) (option_copied good.last_key))

@@ -12,7 +12,7 @@ mod table;
 mod tree;
 mod tree_json;
 
-pub use flawed::{FlawedNumbers, append_flaw};
+pub use flawed::append_flaw;
 pub use records::{RecordNumbers, append_records};
 pub use records_json::append_records_json;
 pub use table::append_table;

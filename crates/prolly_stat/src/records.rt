@@ -7,18 +7,18 @@ use crate::line::append_number_line;
 use prolly_text::Notation;
 use std::alloc::{AllocError, Global};
 
-/// A record file, in numbers.
+/// A record file, in numbers, as far as it is good.
 #[derive(Clone, Copy, Debug, PartialEq, Eq)]
 pub struct RecordNumbers<'a> {
-    /// How many records it has.
+    /// How many records are good.
     pub records: u32,
     /// How many of them are removals.
     pub removals: u32,
-    /// How many bytes the file has.
+    /// How many bytes they take. A flawed record behind them begins there.
     pub bytes: u64,
-    /// The key of the first record, if there is one.
+    /// The key of the first of them, if there is one.
     pub first_key: Option<&'a [u8]>,
-    /// The key of the last record, if there is one.
+    /// The key of the last of them, if there is one.
     pub last_key: Option<&'a [u8]>,
 }
 

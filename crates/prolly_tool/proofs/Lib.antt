@@ -20,5 +20,5 @@ pub mod DiffSteps
 pub mod Verifying
 -- Scans by a root, leaf by leaf.
 pub mod ScanSteps
--- What is answered of a record file that was surveyed, and by `stat` of a file of either kind.
-pub mod Surveying
+-- What `stat` answers of a file of either kind.
+pub mod Stating

@@ -1,7 +1,6 @@
 -- What the command `stat` answers.
 use Rattle.std.specs.Prelude.{◌≡◌, ◌≢◌, ℕ, ◌⊎◌, Bool, true, false, List, [], take, length, codes}
 use Rattle.std.specs.Prelude.{Option, Some, None, Result, IfOk}
-use Rattle.std.specs.Option.{option_copied}
 use Rattle.std.specs.Str.{bytes_eq}
 use Rattle.std.specs.declared.alloc.AllocError.{AllocError}
 use Rattle.prolly_check.specs.Checked.{chunks_of}
@@ -13,7 +12,6 @@ use Rattle.prolly_entry.specs.Reference.{reference_text}
 use Rattle.prolly_fault.specs.declared.fault.RunFault.TheVariants as runs
 use Rattle.prolly_file.specs.Source.{SourceView}
 use Rattle.prolly_load.specs.Fault.{fault_of}
-use Rattle.prolly_load.specs.Survey.{bytes_of}
 use Rattle.prolly_load.specs.declared.surveyed.FlawedRecord.{FlawedRecord}
 use Rattle.prolly_load.specs.declared.surveyed.Survey.{Survey}
 use Rattle.prolly_stat.specs.Json.{json_of, records_json_of}
@@ -24,7 +22,7 @@ use Rattle.prolly_stat.specs.declared.tree.TreeNumbers.{TreeNumbers}
 use Rattle.prolly_tree.specs.File.{root_reference}
 use Rattle.prolly_tool.specs.Answers.{Shows, ShowsFault}
 use Rattle.prolly_tool.specs.LookUps.{IsLookUp, ShowsFailedRead}
-use Rattle.prolly_tool.specs.Surveys.{IsSurveyAnswer, IsUnread}
+use Rattle.prolly_tool.specs.Surveys.{AreOfSurvey, IsSurveyAnswer, IsUnread}
 use Rattle.prolly_tool.specs.declared.answer.Answer.{Answer}
 use Rattle.prolly_tool.specs.declared.fault.Fault.TheVariants.{Run}
 use Rattle.prolly_tool.specs.declared.stat_form.StatForm.{StatForm}
@@ -56,15 +54,7 @@ pub record ShowsTree (form : StatForm) (answer : Answer) (content : Content) : T
 
 -- ---- a record file
 
--- The numbers are those of a survey.
-pub record AreOfSurvey (survey : Survey) (numbers : RecordNumbers) : Type 0 where
-  pub records_are : numbers.records ≡ survey.records
-  pub removals_are : numbers.removals ≡ survey.removals
-  pub bytes_are : numbers.bytes ≡ survey.bytes
-  pub first_is : option_copied numbers.first_key ≡ bytes_of survey.first_key
-  pub last_is : option_copied numbers.last_key ≡ bytes_of survey.last_key
-
--- Their text.
+-- The text of the numbers.
 abbrev pub records_text : StatForm → RecordNumbers → List ℕ
 records_text (Lines notation) numbers = records_of notation numbers
 records_text Json numbers = records_json_of numbers

@@ -10,7 +10,7 @@ use Rattle.prolly_load.specs.Survey.{IsSurvey, bytes_of}
 use Rattle.prolly_load.specs.declared.surveyed.FlawedRecord.{FlawedRecord}
 use Rattle.prolly_load.specs.declared.surveyed.Survey.{Survey}
 use Rattle.prolly_stat.specs.Flawed.{flawed_text}
-use Rattle.prolly_stat.specs.declared.flawed.FlawedNumbers.{FlawedNumbers}
+use Rattle.prolly_stat.specs.declared.records.RecordNumbers.{RecordNumbers}
 use Rattle.prolly_text.specs.declared.notation.Notation.{Notation}
 use Rattle.prolly_tool.specs.Answers.{Shows, ShowsLine, ShowsFault}
 use Rattle.prolly_tool.specs.declared.answer.Answer.{Answer}
@@ -45,23 +45,22 @@ abbrev pub AnswersUnread : {S : Type 0} → (S → SourceView) → S → S → R
 AnswersUnread seen old new result = (seen new).failures ≢ (seen old).failures →
     IfOk result (λ answer. ShowsFault answer (Run (runs.Read 0)))
 
+-- The numbers are those of a survey.
+pub record AreOfSurvey (survey : Survey) (numbers : RecordNumbers) : Type 0 where
+  pub records_are : numbers.records ≡ survey.records
+  pub removals_are : numbers.removals ≡ survey.removals
+  pub bytes_are : numbers.bytes ≡ survey.bytes
+  pub first_is : option_copied numbers.first_key ≡ bytes_of survey.first_key
+  pub last_is : option_copied numbers.last_key ≡ bytes_of survey.last_key
+
 -- ---- explain
 
--- The numbers are those of the flawed record behind the good ones of a survey.
-pub record AreOfFlawed (survey : Survey) (flawed : FlawedRecord) (numbers : FlawedNumbers) : Type 0
-  where
-    pub place_is : numbers.place ≡ survey.records
-    pub offset_is : numbers.offset ≡ survey.bytes
-    pub flaw_is : numbers.flaw ≡ flawed.flaw
-    pub key_is : option_copied numbers.key ≡ bytes_of flawed.key
-    pub key_before_is : option_copied numbers.key_before ≡ bytes_of survey.last_key
-
--- The flawed record is explained, with status 1.
+-- The flawed record behind the good ones of a survey is explained, with status 1.
 pub record ShowsFlaw (notation : Notation) (answer : Answer) (survey : Survey)
     (flawed : FlawedRecord) : Type 0 where
-  pub numbers : FlawedNumbers
-  pub are : AreOfFlawed survey flawed numbers
-  pub shows : Shows answer 1 (flawed_text notation numbers) []
+  pub good : RecordNumbers
+  pub are : AreOfSurvey survey good
+  pub shows : Shows answer 1 (flawed_text notation good flawed.flaw (bytes_of flawed.key)) []
 
 -- `ok`, and how many records there are.
 abbrev pub good_text : Survey → List ℕ

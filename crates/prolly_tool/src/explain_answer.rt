@@ -7,11 +7,11 @@ use crate::answer::Answer;
 use crate::fault::Fault;
 use crate::input::RECORD_LIMIT;
 use crate::line_parts::append_number;
-use crate::survey_parts::key_in;
+use crate::survey_parts::{key_in, numbers_of};
 use prolly_fault::RunFault;
 use prolly_file::{Source, SourceFault};
 use prolly_load::{FlawedRecord, Survey, survey};
-use prolly_stat::{FlawedNumbers, append_flaw};
+use prolly_stat::append_flaw;
 use prolly_text::Notation;
 use std::alloc::{AllocError, Global};
 
@@ -65,14 +65,9 @@ fn flaw_answer(
     ensures { IfOk result (λ answer. ShowsFlaw notation answer survey.now flawed.now) }
 {
     let mut out = Vec::new(alloc);
-    let numbers = FlawedNumbers {
-        place: survey.records,
-        offset: survey.bytes,
-        flaw: flawed.flaw,
-        key: key_in(&flawed.key),
-        key_before: key_in(&survey.last_key),
-    };
-    append_flaw(alloc, &mut out, notation, &numbers)?;
+    let good = numbers_of(survey);
+    let key = key_in(&flawed.key);
+    append_flaw(alloc, &mut out, notation, &good, flawed.flaw, key)?;
     Ok(Answer {
         status: 1,
         out,

@@ -1,17 +1,21 @@
 //! What `stat` shows of a record file.
-ghost use Rattle.std.specs.Prelude.{◌≡◌, ◌++◌, IfOk, OnOk};
+ghost use Rattle.std.specs.Prelude.{◌≡◌, IfOk};
 ghost use Rattle.prolly_tool.specs.Stat.{ShowsRecords, ShowsSurvey, records_text};
 
 use crate::answer::Answer;
 use crate::fault::Fault;
 use crate::stat_form::StatForm;
-use crate::survey_parts::key_in;
+use crate::survey_parts::numbers_of;
 use prolly_load::{Survey, fault_of};
 use prolly_stat::{RecordNumbers, append_records, append_records_json};
 use std::alloc::{AllocError, Global};
 
 /// The numbers of a record file, or else its flaw.
-pub(crate) fn survey_answer(alloc: Global, survey: &Survey, form: StatForm) -> Result<Answer, AllocError>
+pub(crate) fn survey_answer(
+    alloc: Global,
+    survey: &Survey,
+    form: StatForm,
+) -> Result<Answer, AllocError>
     ensures { IfOk result (λ answer. ShowsRecords form answer survey.now) }
 {
     match &survey.flawed {
@@ -25,28 +29,22 @@ pub(crate) fn survey_answer(alloc: Global, survey: &Survey, form: StatForm) -> R
 fn of_records(alloc: Global, survey: &Survey, form: StatForm) -> Result<Answer, AllocError>
     ensures { IfOk result (λ answer. ShowsSurvey form answer survey.now) }
 {
-    let numbers = RecordNumbers {
-        records: survey.records,
-        removals: survey.removals,
-        bytes: survey.bytes,
-        first_key: key_in(&survey.first_key),
-        last_key: key_in(&survey.last_key),
-    };
-    let mut out = Vec::new(alloc);
-    append_numbers(alloc, &mut out, form, &numbers)?;
-    Ok(Answer::of_lines(alloc, out))
+    let lines = lines_of(alloc, form, &numbers_of(survey))?;
+    Ok(Answer::of_lines(alloc, lines))
 }
 
-fn append_numbers(
-    alloc: Global,
-    out: &mut Vec<u8>,
-    form: StatForm,
-    numbers: &RecordNumbers<'_>,
-) -> Result<(), AllocError>
-    ensures { OnOk result (out.new.items ≡ out.old.items ++ records_text form numbers.now) }
+fn lines_of(alloc: Global, form: StatForm, numbers: &RecordNumbers) -> Result<Vec<u8>, AllocError>
+    ensures { IfOk result (λ lines. lines.items ≡ records_text form numbers.now) }
 {
+    let mut lines = Vec::new(alloc);
     match form {
-        StatForm::Lines(notation) => append_records(alloc, out, notation, numbers),
-        StatForm::Json => append_records_json(alloc, out, numbers),
+        StatForm::Lines(notation) => {
+            append_records(alloc, &mut lines, notation, numbers)?;
+            Ok(lines)
+        }
+        StatForm::Json => {
+            append_records_json(alloc, &mut lines, numbers)?;
+            Ok(lines)
+        }
     }
 }

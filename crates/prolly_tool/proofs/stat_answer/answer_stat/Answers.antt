@@ -1,6 +1,6 @@
 use Rattle.std.proofs.Common.{rules, ◌≡◌, ◌∙◌, ap, sym, codes, take}
 use Rattle.std.specs.Str.{bytes_eq}
-use Rattle.prolly_tool.proofs.Surveying.{stated}
+use Rattle.prolly_tool.proofs.Stating.{stated}
 use Rattle.prolly_tool.proofs.stat_answer.answer_stat.Goals as goal
 
 pub returns-clause-shown : goal.returns-clause-shown

@@ -1,24 +1,9 @@
--- What is answered of a record file that was surveyed, and by `stat` of a file of either kind.
+-- What `stat` answers of a file of either kind.
 use Rattle.std.proofs.Common.{◌≡◌, ℕ, List, Bool, inl, subst, Result, Ok, Err}
 use Rattle.std.specs.Prelude.{IfOk, ◌≢◌}
-use Rattle.prolly_load.specs.Survey.{IsSurvey}
-use Rattle.prolly_load.specs.declared.surveyed.Survey.{Survey}
 use Rattle.prolly_tool.specs.Stat.{IsStat, IsStatOf, is_chunk_file}
-use Rattle.prolly_tool.specs.Surveys.{IsSurveyAnswer}
 use Rattle.prolly_tool.specs.declared.answer.Answer.{Answer}
 use Rattle.prolly_tool.specs.declared.stat_form.StatForm.{StatForm}
-
--- of a survey that is right, this is shown
-pub surveyed : {E : Type 0} (bytes : List ℕ) (failed : Type 0) (shows : Answer → Survey → Type 0)
-    (survey : Survey) (result : Result Answer E) → ¬ failed → IsSurvey bytes 16777216 survey →
-    IfOk result (λ answer. shows answer survey) → IfOk result (IsSurveyAnswer bytes failed shows)
-surveyed bytes failed shows survey (Ok answer) unfailed is shown = inl (record {
-  unfailed = unfailed;
-  survey = survey;
-  is = is;
-  shown = shown;
-})
-surveyed bytes failed shows survey (Err e) unfailed is shown = tt
 
 -- what is answered of bytes of a kind, and of failures from one number to another, is answered of
 -- what they are
