@@ -33,8 +33,7 @@ pub trait Source {
     /// shows how far a run has come keeps the number; any other one does nothing.
     fn note_records(&mut self, records: u32)
         ensures { seen self.new ≡ seen self.old }
-    {
-    }
+    {}
 
     /// What an honest source has left are bytes, which contracts see as numbers.
     ghost left_are_bytes: { (s : Self) → (seen s).is_honest ≡ true → All IsByte (seen s).left };
