@@ -8,7 +8,6 @@ mod frame;
 mod from_read;
 mod from_seek;
 mod front;
-mod lent;
 mod levels;
 mod plain;
 mod rejoined;
