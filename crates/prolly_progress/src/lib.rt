@@ -7,8 +7,6 @@ mod counter;
 mod counts;
 mod progress;
 mod stop;
-#[cfg(test)]
-mod tests;
 mod watch;
 
 pub use counted_sink::CountedSink;

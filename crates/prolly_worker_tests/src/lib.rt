@@ -1,6 +1,6 @@
-//! What no contract says of links and workers: that their calls succeed where memory is at hand,
-//! that threads run and messages arrive, and what they give for examples that were worked out
-//! elsewhere.
+//! What no contract says of links, workers and progress: that their calls succeed where memory is
+//! at hand, that threads run and messages arrive, and what they give for examples that were worked
+//! out elsewhere.
 #![tactic(auto)]
 
 #[cfg(test)]
@@ -9,5 +9,7 @@ mod links;
 mod loading;
 #[cfg(test)]
 mod merging;
+#[cfg(test)]
+mod progress;
 #[cfg(test)]
 mod stages;

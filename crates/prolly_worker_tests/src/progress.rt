@@ -1,8 +1,6 @@
-//! What no contract says: that bytes are counted, and that something is shown, or nothing.
-use crate::stop::Stop;
-use crate::watch::watch;
-use crate::{CountedSink, CountedSource, Counts, Progress, watched};
+//! Progress: that bytes are counted, and that something is shown, or nothing.
 use prolly_file::{ScriptSink, ScriptSource, Sink, SinkFault, Source, SourceFault};
+use prolly_progress::{CountedSink, CountedSource, Counts, Progress, watched};
 use std::fmt::Display;
 use std::io::{Eprint, IsTerminal};
 use std::sync::Wait;
@@ -188,10 +186,8 @@ fn nothing_is_shown_where_there_is_no_terminal(rt: HostRuntime) {
 }
 
 #[test]
-fn nothing_is_shown_of_a_run_that_is_over(rt: HostRuntime) {
+fn nothing_is_shown_of_short_work(rt: HostRuntime) {
     let screen = Screen::new(true, false);
-    let stop = Stop::new();
-    stop.tell(&rt);
-    watch(&rt, &screen, &Counts::new(), None, &stop);
+    assert_eq!(&rt; watched(&rt, &screen, &Counts::new(), None, || 7), 7);
     assert_eq!(&rt; screen.printed(), 0);
 }
