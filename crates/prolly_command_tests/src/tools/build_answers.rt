@@ -20,7 +20,7 @@ fn shows_the_report(rt: HostRuntime) -> Result<(), Fail> {
 }
 
 /// Each fault of a run, the status, and the line on standard error.
-const FAULTS: [(RunFault, u8, &[u8]); 12] = [
+const FAULTS: &[(RunFault, u8, &[u8])] = &[
     (RunFault::Memory, 6, b"prolly: out of memory\n"),
     (
         RunFault::Read { file: 10 },
@@ -68,7 +68,7 @@ const FAULTS: [(RunFault, u8, &[u8]); 12] = [
 
 #[test]
 fn tells_each_fault(rt: HostRuntime) -> Result<(), Fail> {
-    for (fault, status, line) in FAULTS {
+    for &(fault, status, line) in FAULTS {
         let answer = answer_build(rt.alloc(), &Err(fault))?;
         expect_answer(&rt, &answer, status, b"", line);
     }
