@@ -1,9 +1,10 @@
 //! The build, as its tests call it.
-use crate::expect::expect_bytes;
+use crate::expect::{expect_bytes, expect_numbers, expect_outcome};
 use prolly_build::{Config, Permit, Report, build, build_with};
 use prolly_entry::{Pair, Sha512Cut, Version};
+use prolly_fault::RunFault;
 use prolly_file::{ScriptSink, ScriptSource, scratch_as};
-use prolly_stage::Gate;
+use prolly_stage::{Gate, OpenGate};
 use std::alloc::Global;
 use std::process::Abort;
 use std::sync::Wait;
@@ -26,10 +27,7 @@ fn settings(stages: u8) -> Result<Config, Fail> {
 /// sign takes the key away.
 fn records(alloc: Global, spelled: &[u8]) -> Result<Vec<u8>, Fail> {
     let mut file = Vec::new(alloc);
-    for record in spelled.chunks_exact(2) {
-        let [key, value] = record else {
-            continue;
-        };
+    for [key, value] in spelled.as_chunks::<2>().0 {
         file.extend_from_slice(&[0, 1, *key])?;
         if *value == b'-' {
             file.extend_from_slice(&[0xFF; 4])?;
@@ -49,6 +47,20 @@ fn sources_of(alloc: Global, files: &[&[u8]]) -> Result<Vec<ScriptSource>, Fail>
     Ok(sources)
 }
 
+/// A sink that takes all.
+fn open_sink(alloc: Global) -> ScriptSink {
+    ScriptSink::new(alloc, 65_536, None)
+}
+
+/// The pairs of a map, spelled like that.
+fn pairs_of(alloc: Global, map: &[u8]) -> Result<Vec<Pair>, Fail> {
+    let mut pairs = Vec::new(alloc);
+    for [key, value] in map.as_chunks::<2>().0 {
+        pairs.push(Pair::copy_of(alloc, &[*key], &[*value])?)?;
+    }
+    Ok(pairs)
+}
+
 /// The chunk file of a map, spelled like that, where each entry closes its chunk.
 fn file_of(alloc: Global, map: &[u8]) -> Result<Vec<u8>, Fail> {
     file_cut(alloc, 0, Version::One, map)
@@ -56,16 +68,45 @@ fn file_of(alloc: Global, map: &[u8]) -> Result<Vec<u8>, Fail> {
 
 /// The chunk file of a map, by the builder that works in one thread.
 fn file_cut(alloc: Global, bits: u8, version: Version, map: &[u8]) -> Result<Vec<u8>, Fail> {
-    let cut = Sha512Cut::new(bits).ok_or("bits")?;
-    let mut pairs = Vec::new(alloc);
-    for pair in map.chunks_exact(2) {
-        let (key, value) = pair.split_at(1);
-        pairs.push(Pair::new(Vec::from_slice(alloc, key)?, Vec::from_slice(alloc, value)?)?)?;
-    }
+    let Some(cut) = Sha512Cut::new(bits) else {
+        return Err("bits".into());
+    };
+    let pairs = pairs_of(alloc, map)?;
     let mut file = Vec::new(alloc);
-    let built = scratch_as(alloc, cut, version, &pairs, 12, &mut file);
-    built.ok().ok_or("no file")?;
+    scratch_as(alloc, cut, version, &pairs, 12, &mut file)?;
     Ok(file)
+}
+
+/// Builds from these sources, and fails unless there is this fault, or none, the sources are still
+/// there, and the sink has taken these bytes. Answers the report, which there is without a fault.
+fn expect_build<R: Wait + Threads + Sync + Abort, G: Gate>(
+    rt: &R,
+    alloc: Global,
+    config: &Config,
+    gate: &G,
+    mut sources: Vec<ScriptSource>,
+    mut sink: ScriptSink,
+    fault: Option<RunFault>,
+    bytes: &[u8],
+) -> Option<Report> {
+    let count = sources.len();
+    let built = build(rt, alloc, config, &mut sources, &mut sink, gate);
+    let outcome = (built.err(), sources.len(), sink.taken());
+    expect_outcome(rt, outcome, (fault, count, bytes));
+    built.ok()
+}
+
+/// The same where all workers go on, and nothing is asked of the report.
+fn expect_taken<R: Wait + Threads + Sync + Abort>(
+    rt: &R,
+    alloc: Global,
+    config: &Config,
+    sources: Vec<ScriptSource>,
+    sink: ScriptSink,
+    fault: Option<RunFault>,
+    bytes: &[u8],
+) {
+    expect_build(rt, alloc, config, &OpenGate, sources, sink, fault, bytes);
 }
 
 /// Builds from record files, and compares the chunk file with this one.
@@ -77,10 +118,8 @@ fn expect_file<R: Wait + Threads + Sync + Abort, G: Gate>(
     files: &[&[u8]],
     file: &[u8],
 ) -> Result<Report, Fail> {
-    let mut sources = sources_of(alloc, files)?;
-    let mut sink = ScriptSink::new(alloc, 65_536, None);
-    let built = build(rt, alloc, config, &mut sources, &mut sink, gate);
-    assert_eq!(rt; (built.err(), sources.len()), (None, files.len()));
-    expect_bytes(rt, sink.taken(), file);
-    Ok(built.ok().ok_or("no report")?)
+    let sources = sources_of(alloc, files)?;
+    let sink = open_sink(alloc);
+    let report = expect_build(rt, alloc, config, gate, sources, sink, None, file);
+    Ok(report.ok_or("no report")?)
 }

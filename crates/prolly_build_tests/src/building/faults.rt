@@ -2,54 +2,49 @@
 ghost use Rattle.std.specs.Prelude.{◌<◌};
 
 use super::*;
-use prolly_fault::RunFault;
-use prolly_stage::OpenGate;
 
 /// Builds from these sources, and fails unless there is this fault, or none, and the sink has taken
-/// these bytes.
-pub(super) fn expect_taken<R: Wait + Threads + Sync + Abort>(
+/// this many first bytes of the chunk file of a map, or all.
+pub(super) fn expect_begun<R: Wait + Threads + Sync + Abort>(
     rt: &R,
     alloc: Global,
     config: &Config,
-    mut sources: Vec<ScriptSource>,
-    mut sink: ScriptSink,
+    sources: Vec<ScriptSource>,
+    sink: ScriptSink,
     fault: Option<RunFault>,
-    bytes: &[u8],
-) {
-    let built = build(rt, alloc, config, &mut sources, &mut sink, &OpenGate);
-    assert_eq!(rt; (built.err(), sink.taken()), (fault, bytes));
+    map: &[u8],
+    taken: usize,
+) -> Result<(), Fail> {
+    let mut begun = file_of(alloc, map)?;
+    begun.truncate(taken);
+    expect_taken(rt, alloc, config, sources, sink, fault, &begun);
+    Ok(())
 }
 
-/// The same with a fault, over a sink that takes all.
+/// The same over a sink that takes all.
 fn expect_fault<R: Wait + Threads + Sync + Abort>(
     rt: &R,
     alloc: Global,
     config: &Config,
     sources: Vec<ScriptSource>,
-    fault: RunFault,
-    bytes: &[u8],
-) {
-    let sink = ScriptSink::new(alloc, 65_536, None);
-    expect_taken(rt, alloc, config, sources, sink, Some(fault), bytes);
+    fault: Option<RunFault>,
+    map: &[u8],
+    taken: usize,
+) -> Result<(), Fail> {
+    let sink = open_sink(alloc);
+    expect_begun(rt, alloc, config, sources, sink, fault, map, taken)
 }
 
-/// This many first bytes of the chunk file of a map, or all.
-pub(super) fn begun_file(alloc: Global, map: &[u8], taken: usize) -> Result<Vec<u8>, Fail> {
-    let mut file = file_of(alloc, map)?;
-    file.truncate(taken);
-    Ok(file)
-}
+pub(super) const OUT_OF_ORDER: Option<RunFault> = Some(RunFault::OutOfOrder { file: 0, place: 1 });
 
-pub(super) const OUT_OF_ORDER: RunFault = RunFault::OutOfOrder { file: 0, place: 1 };
-
-const READ_FAILED: RunFault = RunFault::Read { file: 0 };
+const TOO_TALL: Option<RunFault> = Some(RunFault::TooTall);
 
 pub(super) const WRITE_FAILED: Option<RunFault> = Some(RunFault::Write);
 
 /// Record files, the stages and the limit of records they are built with, the fault, the map of the
 /// file that is begun, and how many bytes of it are written. None has an end record, which has 29
 /// bytes.
-const FAULTY_FILES: [(&[&[u8]], u8, u32, RunFault, &[u8], usize); 10] = [
+const FAULTY_FILES: [(&[&[u8]], u8, u32, Option<RunFault>, &[u8], usize); 10] = [
     (&[b"a1a2", b""], 12, 1_000, OUT_OF_ORDER, b"a1", 24),
     (
         &[b"5131", b"112171"],
@@ -66,7 +61,7 @@ const FAULTY_FILES: [(&[&[u8]], u8, u32, RunFault, &[u8], usize); 10] = [
         &[b"a1b1", b"c1c2"],
         12,
         1_000,
-        RunFault::OutOfOrder { file: 1, place: 1 },
+        Some(RunFault::OutOfOrder { file: 1, place: 1 }),
         b"a1b1c1",
         116,
     ),
@@ -74,17 +69,17 @@ const FAULTY_FILES: [(&[&[u8]], u8, u32, RunFault, &[u8], usize); 10] = [
         &[b"", b"a1b1c1"],
         12,
         2,
-        RunFault::TooManyRecords { file: 1 },
+        Some(RunFault::TooManyRecords { file: 1 }),
         b"a1b1",
         98,
     ),
-    (&[b"a1b1c1", b""], 2, 3, RunFault::TooTall, b"a1b1c1", 116),
-    (&[b"a1", b"b1"], 1, 1, RunFault::TooTall, b"a1b1", 24),
+    (&[b"a1b1c1", b""], 2, 3, TOO_TALL, b"a1b1c1", 116),
+    (&[b"a1", b"b1"], 1, 1, TOO_TALL, b"a1b1", 24),
     (
         &[b"a1b1c1d1d1", b""],
         2,
         5,
-        RunFault::OutOfOrder { file: 0, place: 4 },
+        Some(RunFault::OutOfOrder { file: 0, place: 4 }),
         b"a1b1c1d1",
         134,
     ),
@@ -92,11 +87,11 @@ const FAULTY_FILES: [(&[&[u8]], u8, u32, RunFault, &[u8], usize); 10] = [
 
 #[test]
 fn inputs_have_faults(rt: HostRuntime) -> Result<(), Fail> {
-    for (files, stages, limit, fault, map, taken) in FAULTY_FILES {
+    let alloc = rt.alloc();
+    for &(files, stages, limit, fault, map, taken) in &FAULTY_FILES {
         let config = Config::new(0, stages, 4, limit)?;
-        let sources = sources_of(rt.alloc(), files)?;
-        let begun = begun_file(rt.alloc(), map, taken)?;
-        expect_fault(&rt, rt.alloc(), &config, sources, fault, &begun);
+        let sources = sources_of(alloc, files)?;
+        expect_fault(&rt, alloc, &config, sources, fault, map, taken)?;
     }
     Ok(())
 }
@@ -115,88 +110,100 @@ pub(super) fn source_of(
     Ok(sources)
 }
 
-// Where a read would fail, it is the second one.
+const CUT: Option<RunFault> = Some(RunFault::Truncated { file: 0, place: 0 });
+
+const LONG_KEY: Option<RunFault> = Some(RunFault::KeyTooLong { file: 0, place: 0 });
+
+const LONG_VALUE: Option<RunFault> = Some(RunFault::ValueTooLong { file: 0, place: 0 });
+
+const MANY: Option<RunFault> = Some(RunFault::TooManyRecords { file: 0 });
+
+/// Record files, the limit of records they are built with, the fault, and how many bytes of the
+/// chunk file of a=1 and b=1 are written.
+const CUT_FILES: [(&[u8], u32, Option<RunFault>, usize); 9] = [
+    (b"\0", 1_000, CUT, 6),
+    (b"\0\x01", 1_000, CUT, 6),
+    (b"\0\x01a\0\0", 1_000, CUT, 6),
+    (b"\0\x01a\0\0\0\x021", 1_000, CUT, 6),
+    (b"\0\x01a\xFF\xFF\xFF", 1_000, CUT, 6),
+    (b"\x04\x01", 1_000, LONG_KEY, 6),
+    (b"\0\0\0\x01\0\x01", 1_000, LONG_VALUE, 6),
+    (b"\0\x01a\xFF\xFF\xFF\xFE", 1_000, LONG_VALUE, 6),
+    (b"\0\x01a\xFF\xFF\xFF\xFF\0", 1, MANY, 6),
+];
+
 #[test]
-fn files_are_cut_and_second_reads_fail(rt: HostRuntime) -> Result<(), Fail> {
-    let cut = RunFault::Truncated { file: 0, place: 0 };
-    let long_key = RunFault::KeyTooLong { file: 0, place: 0 };
-    let long_value = RunFault::ValueTooLong { file: 0, place: 0 };
-    let many = RunFault::TooManyRecords { file: 0 };
-    let long = RunFault::KeyTooLong { file: 0, place: 1 };
-    for (file, limit, step, fail_at, fault, taken) in [
-        (b"\0".as_slice(), 1_000, 4_096, None, cut, 6),
-        (b"\0\x01", 1_000, 4_096, None, cut, 6),
-        (b"\0\x01a\0\0", 1_000, 4_096, None, cut, 6),
-        (b"\0\x01a\0\0\0\x021", 1_000, 4_096, None, cut, 6),
-        (b"\0\x01a\xFF\xFF\xFF", 1_000, 4_096, None, cut, 6),
-        (b"\x04\x01", 1_000, 4_096, None, long_key, 6),
-        (b"\0\0\0\x01\0\x01", 1_000, 4_096, None, long_value, 6),
-        (
-            b"\0\x01a\xFF\xFF\xFF\xFE",
-            1_000,
-            4_096,
-            None,
-            long_value,
-            6,
-        ),
-        (b"\0\x01a\xFF\xFF\xFF\xFF\0", 1, 4_096, None, many, 6),
-        (
-            b"\0\x01a\0\0\0\x011\0\x01b\0\0\0\x011",
-            1_000,
-            8,
-            Some(2),
-            READ_FAILED,
-            24,
-        ),
-        (b"\0\x01a\0\0\0\x011\x04\x01", 1_000, 10, Some(2), long, 24),
-    ] {
+fn files_are_cut(rt: HostRuntime) -> Result<(), Fail> {
+    let alloc = rt.alloc();
+    for &(file, limit, fault, taken) in &CUT_FILES {
         let config = Config::new(0, 12, 4, limit)?;
-        let sources = source_of(rt.alloc(), file, step, fail_at)?;
-        let begun = begun_file(rt.alloc(), b"a1b1", taken)?;
-        expect_fault(&rt, rt.alloc(), &config, sources, fault, &begun);
+        let sources = source_of(alloc, file, 4_096, None)?;
+        expect_fault(&rt, alloc, &config, sources, fault, b"a1b1", taken)?;
     }
     Ok(())
+}
+
+const READ_FAILED: Option<RunFault> = Some(RunFault::Read { file: 0 });
+
+// A key that is too long is found before the second read, which would fail.
+#[test]
+fn second_reads_fail(rt: HostRuntime) -> Result<(), Fail> {
+    let alloc = rt.alloc();
+    let config = settings(12)?;
+    let sources = source_of(alloc, b"\0\x01a\0\0\0\x011\0\x01b\0\0\0\x011", 8, Some(2))?;
+    expect_fault(&rt, alloc, &config, sources, READ_FAILED, b"a1b1", 24)?;
+    let sources = source_of(alloc, b"\0\x01a\0\0\0\x011\x04\x01", 10, Some(2))?;
+    let sink = open_sink(alloc);
+    let long_key = Some(RunFault::KeyTooLong { file: 0, place: 1 });
+    expect_begun(&rt, alloc, &config, sources, sink, long_key, b"a1b1", 24)
 }
 
 /// The record file of a=1, b=1 and c=1.
 pub(super) const THREE_PUTS: &[u8] = b"\0\x01a\0\0\0\x011\0\x01b\0\0\0\x011\0\x01c\0\0\0\x011";
 
+/// The first and the last of the reads of which one fails, the fault, and how many bytes are
+/// written.
+const FAILED_READS: [(u64, u64, Option<RunFault>, usize); 5] = [
+    (1, 8, READ_FAILED, 6),
+    (9, 16, READ_FAILED, 24),
+    (17, 24, READ_FAILED, 98),
+    (25, 25, READ_FAILED, 116),
+    (26, 26, None, 234),
+];
+
 // A read gives a byte, so the reads before the failed one gave a record for eight of them. The 26th
 // would come after the end of the file.
 #[test]
 fn reads_fail(rt: HostRuntime) -> Result<(), Fail> {
+    let alloc = rt.alloc();
     let config = settings(12)?;
-    for (first, last, taken) in [(1, 8, 6), (9, 16, 24), (17, 24, 98), (25, 25, 116)] {
-        let begun = begun_file(rt.alloc(), b"a1b1c1", taken)?;
+    for &(first, last, fault, taken) in &FAILED_READS {
         for fail_at in first..=last {
-            let sources = source_of(rt.alloc(), THREE_PUTS, 1, Some(fail_at))?;
-            expect_fault(&rt, rt.alloc(), &config, sources, READ_FAILED, &begun);
+            let sources = source_of(alloc, THREE_PUTS, 1, Some(fail_at))?;
+            expect_fault(&rt, alloc, &config, sources, fault, b"a1b1c1", taken)?;
         }
     }
-    let sources = source_of(rt.alloc(), THREE_PUTS, 1, Some(26))?;
-    let sink = ScriptSink::new(rt.alloc(), 65_536, None);
-    let file = file_of(rt.alloc(), b"a1b1c1")?;
-    expect_taken(&rt, rt.alloc(), &config, sources, sink, None, &file);
     Ok(())
 }
 
 // A write takes a byte. The last call is the flush, before which the file is whole.
 #[test]
 fn writes_fail(rt: HostRuntime) -> Result<(), Fail> {
+    let alloc = rt.alloc();
     let config = settings(3)?;
     for taken in 0..=234 {
-        let sources = sources_of(rt.alloc(), &[b"a1b1c1"])?;
-        let sink = ScriptSink::new(rt.alloc(), 1, Some(taken as u64 + 1));
-        let begun = begun_file(rt.alloc(), b"a1b1c1", taken)?;
-        expect_taken(
+        let sources = sources_of(alloc, &[b"a1b1c1"])?;
+        let sink = ScriptSink::new(alloc, 1, Some(taken as u64 + 1));
+        expect_begun(
             &rt,
-            rt.alloc(),
+            alloc,
             &config,
             sources,
             sink,
             WRITE_FAILED,
-            &begun,
-        );
+            b"a1b1c1",
+            taken,
+        )?;
     }
     Ok(())
 }

@@ -80,18 +80,36 @@ impl Gate for Meeting {
     }
 }
 
+/// Builds a map from record files behind this gate, and fails unless so many of its two workers
+/// have met.
+fn expect_met<R: Wait + Threads + Sync + Abort>(
+    rt: &R,
+    alloc: Global,
+    config: &Config,
+    gate: &Meeting,
+    files: &[&[u8]],
+    map: &[u8],
+    met: u64,
+) -> Result<Report, Fail> {
+    let report = expect_file(rt, alloc, config, gate, files, &file_of(alloc, map)?)?;
+    let Meeting { one, other, .. } = gate;
+    assert_eq!(rt;
+        gate.met(),
+        met,
+        "{:?} before item {}, {:?} before item {}",
+        one.worker,
+        one.nth,
+        other.worker,
+        other.nth
+    );
+    Ok(report)
+}
+
 #[test]
 fn two_loaders_are_at_work_at_once(rt: HostRuntime) -> Result<(), Fail> {
     let gate = Meeting::at_first_items(Worker::Loader(0), Worker::Loader(1));
-    expect_file(
-        &rt,
-        rt.alloc(),
-        &settings(12)?,
-        &gate,
-        &[b"a1", b"b1"],
-        &file_of(rt.alloc(), b"a1b1")?,
-    )?;
-    assert_eq!(rt; gate.met(), 2);
+    let files = [b"a1".as_slice(), b"b1"];
+    expect_met(&rt, rt.alloc(), &settings(12)?, &gate, &files, b"a1b1", 2)?;
     Ok(())
 }
 
@@ -100,10 +118,9 @@ fn two_loaders_are_at_work_at_once(rt: HostRuntime) -> Result<(), Fail> {
 fn two_mergers_of_two_are_at_work_at_once(rt: HostRuntime) -> Result<(), Fail> {
     let gate = Meeting::at_first_items(Worker::Merger(0), Worker::Merger(1));
     let files = [b"a1".as_slice(), b"b1", b"c1", b"d1"];
-    let file = file_of(rt.alloc(), b"a1b1c1d1")?;
-    let report = expect_file(&rt, rt.alloc(), &settings(12)?, &gate, &files, &file)?;
-    assert_eq!(rt; gate.met(), 2);
-    assert_eq!(rt; (report.chunks, report.pairs, report.levels), (7, 4, 3));
+    let config = settings(12)?;
+    let report = expect_met(&rt, rt.alloc(), &config, &gate, &files, b"a1b1c1d1", 2)?;
+    expect_numbers(&rt, &report, (7, 4, 3));
     Ok(())
 }
 
@@ -111,15 +128,10 @@ fn two_mergers_of_two_are_at_work_at_once(rt: HostRuntime) -> Result<(), Fail> {
 #[test]
 fn two_stages_are_at_work_at_once(rt: HostRuntime) -> Result<(), Fail> {
     for (batch, turns, met) in [(1, MANY_TURNS, 2), (2, 100_000, 1)] {
-        let gate = Meeting::new(
-            Stop::new(Worker::Stage(0), 1),
-            Stop::new(Worker::Stage(1), 0),
-            turns,
-        );
+        let leaf_stage = Stop::new(Worker::Stage(0), 1);
+        let gate = Meeting::new(leaf_stage, Stop::new(Worker::Stage(1), 0), turns);
         let config = settings(2)?.with_batch(batch)?;
-        let file = file_of(rt.alloc(), b"a1b1")?;
-        expect_file(&rt, rt.alloc(), &config, &gate, &[b"a1b1"], &file)?;
-        assert_eq!(rt; gate.met(), met);
+        expect_met(&rt, rt.alloc(), &config, &gate, &[b"a1b1"], b"a1b1", met)?;
     }
     Ok(())
 }
@@ -133,23 +145,33 @@ const NEIGHBOURS: [(Worker, Worker, u64); 4] = [
     (Worker::Stage(1), Worker::Stage(0), 1),
 ];
 
+/// The capacity of the links, an item behind those that were taken, for how many turns the worker
+/// that is ahead is waited for there, and how many of the two then meet.
+const ITEMS_AHEAD: [(u32, u64, u64, u64); 4] = [
+    (1, 1, MANY_TURNS, 2),
+    (1, 2, FEW_TURNS, 1),
+    (4, 4, MANY_TURNS, 2),
+    (4, 5, FEW_TURNS, 1),
+];
+
 // The sender fills the link behind what was taken and comes to the item that has no room, and no
 // further.
 #[test]
 fn workers_are_ahead_by_the_capacity(rt: HostRuntime) -> Result<(), Fail> {
     let pairs = b"a1b1c1d1e1f1g1h1";
-    let file = file_of(rt.alloc(), pairs)?;
-    for (held, ahead, taken) in NEIGHBOURS {
-        for (capacity, more, turns, met) in [
-            (1, 1, MANY_TURNS, 2),
-            (1, 2, FEW_TURNS, 1),
-            (4, 4, MANY_TURNS, 2),
-            (4, 5, FEW_TURNS, 1),
-        ] {
+    for &(held, ahead, taken) in &NEIGHBOURS {
+        for &(capacity, more, turns, met) in &ITEMS_AHEAD {
             let gate = Meeting::new(Stop::new(held, 0), Stop::new(ahead, taken + more), turns);
             let config = Config::new(0, 12, capacity, 1_000)?;
-            expect_file(&rt, rt.alloc(), &config, &gate, &[pairs, b"", b""], &file)?;
-            assert_eq!(rt; gate.met(), met, "{ahead:?} before {held:?}, {more} ahead");
+            expect_met(
+                &rt,
+                rt.alloc(),
+                &config,
+                &gate,
+                &[pairs, b"", b""],
+                pairs,
+                met,
+            )?;
         }
     }
     Ok(())

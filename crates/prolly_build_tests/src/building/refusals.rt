@@ -1,8 +1,7 @@
 //! Builds that do not start.
 use super::*;
-use prolly_fault::RunFault;
 use prolly_file::{Source, SourceFault};
-use prolly_stage::{OpenGate, Worker};
+use prolly_stage::Worker;
 
 /// A permit that refuses one worker.
 #[derive(Drop)]
@@ -16,6 +15,18 @@ impl Permit for AllBut {
 
 const THREE_FILES: [&[u8]; 3] = [b"a1d1", b"b1", b"c1e1"];
 
+const WORKERS: [Worker; 9] = [
+    Worker::Loader(0),
+    Worker::Loader(1),
+    Worker::Loader(2),
+    Worker::Merger(0),
+    Worker::Merger(1),
+    Worker::Stage(0),
+    Worker::Stage(1),
+    Worker::Stage(2),
+    Worker::Stage(3),
+];
+
 /// Fails unless a build to which this worker is refused ends in that fault, and nothing is written.
 fn expect_refusal<R: Wait + Threads + Sync + Abort>(
     rt: &R,
@@ -24,7 +35,7 @@ fn expect_refusal<R: Wait + Threads + Sync + Abort>(
 ) -> Result<(), Fail> {
     let config = settings(4)?;
     let mut sources = sources_of(alloc, &THREE_FILES)?;
-    let mut sink = ScriptSink::new(alloc, 65_536, None);
+    let mut sink = open_sink(alloc);
     let permit = AllBut(worker);
     let built = build_with(
         rt,
@@ -42,28 +53,13 @@ fn expect_refusal<R: Wait + Threads + Sync + Abort>(
 
 #[test]
 fn each_worker_may_be_refused(rt: HostRuntime) -> Result<(), Fail> {
-    for worker in [
-        Worker::Loader(0),
-        Worker::Loader(1),
-        Worker::Loader(2),
-        Worker::Merger(0),
-        Worker::Merger(1),
-        Worker::Stage(0),
-        Worker::Stage(1),
-        Worker::Stage(2),
-        Worker::Stage(3),
-    ] {
+    for &worker in &WORKERS {
         expect_refusal(&rt, rt.alloc(), worker)?;
     }
-    let report = expect_file(
-        &rt,
-        rt.alloc(),
-        &settings(4)?,
-        &OpenGate,
-        &THREE_FILES,
-        &file_of(rt.alloc(), b"a1b1c1d1e1")?,
-    )?;
-    assert_eq!(rt; (report.chunks, report.pairs, report.levels), (11, 5, 4));
+    let config = settings(4)?;
+    let file = file_of(rt.alloc(), b"a1b1c1d1e1")?;
+    let report = expect_file(&rt, rt.alloc(), &config, &OpenGate, &THREE_FILES, &file)?;
+    expect_numbers(&rt, &report, (11, 5, 4));
     Ok(())
 }
 
@@ -74,20 +70,11 @@ fn seventeen_files_are_not_read(rt: HostRuntime) -> Result<(), Fail> {
     for _ in 0..17 {
         sources.push(ScriptSource::new(Vec::new(rt.alloc()), 1, Some(1)))?;
     }
-    let mut sink = ScriptSink::new(rt.alloc(), 65_536, None);
-    let built = build(
-        &rt,
-        rt.alloc(),
-        &settings(12)?,
-        &mut sources,
-        &mut sink,
-        &OpenGate,
-    );
-    assert_eq!(rt;
-        (built.err(), sources.len()),
-        (Some(RunFault::TooManyFiles), 17)
-    );
-    expect_bytes(&rt, sink.taken(), b"");
+    let mut sink = open_sink(rt.alloc());
+    let config = settings(12)?;
+    let built = build(&rt, rt.alloc(), &config, &mut sources, &mut sink, &OpenGate);
+    let outcome = (built.err(), sources.len(), sink.taken());
+    expect_outcome(&rt, outcome, (Some(RunFault::TooManyFiles), 17, b""));
     for source in &mut sources {
         assert_eq!(rt; source.read(&mut [0]), Err(SourceFault));
     }

@@ -1,11 +1,9 @@
 //! Builds whose chunk file has a length and a report that were worked out from the format.
 ghost use Rattle.std.specs.Prelude.{◌<◌};
 
-use super::faults::{OUT_OF_ORDER, THREE_PUTS, WRITE_FAILED, begun_file, expect_taken, source_of};
+use super::faults::{OUT_OF_ORDER, THREE_PUTS, WRITE_FAILED, expect_begun, source_of};
 use super::*;
-use prolly_fault::RunFault;
 use prolly_file::{FromRead, ToWrite};
-use prolly_stage::OpenGate;
 use prolly_test_parts::{chunk_file, joined};
 
 const FIVE: &[u8] = b"a1b1c1d1e1";
@@ -27,21 +25,18 @@ const WHOLE_FILES: [(&[&[u8]], &[u8], usize, (u64, u64, u8)); 12] = [
     (&[b"a0c0e0", FIVE], FIVE, 415, (11, 5, 4)),
 ];
 
+/// The capacity of the links, and the size of a batch.
+const LINKS: [(u32, u32); 5] = [(4, 1), (1, 1), (1, 2), (1, 3), (1, 1_024)];
+
 #[test]
 fn links_of_any_size_give_the_same(rt: HostRuntime) -> Result<(), Fail> {
-    for (files, map, length, numbers) in WHOLE_FILES {
+    for &(files, map, length, numbers) in &WHOLE_FILES {
         let file = file_of(rt.alloc(), map)?;
         assert!(rt; file.len() == length);
-        for (capacity, batch) in [(4, 1), (1, 1), (1, 2), (1, 3), (1, 1_024)] {
+        for &(capacity, batch) in &LINKS {
             let config = Config::new(0, 12, capacity, 1_000)?.with_batch(batch)?;
             let report = expect_file(&rt, rt.alloc(), &config, &OpenGate, files, &file)?;
-            let Report {
-                chunks,
-                pairs,
-                levels,
-                ..
-            } = report;
-            assert_eq!(rt; (chunks, pairs, levels), numbers);
+            expect_numbers(&rt, &report, numbers);
         }
     }
     Ok(())
@@ -58,14 +53,14 @@ const VERSION_TWO: [(&[u8], u8, Option<RunFault>, usize); 4] = [
 
 #[test]
 fn version_two_is_longer(rt: HostRuntime) -> Result<(), Fail> {
-    for (map, stages, fault, taken) in VERSION_TWO {
+    for &(map, stages, fault, taken) in &VERSION_TWO {
         let mut begun = file_cut(rt.alloc(), 0, Version::Two, map)?;
         begun.truncate(taken);
         assert!(rt; begun.len() == taken);
-        assert_eq!(rt; begun.get(4), Some(&2));
+        assert!(rt; begun.starts_with(b"PRLY\x02"));
         let config = settings(stages)?.with_version(2)?;
         let sources = sources_of(rt.alloc(), &[map])?;
-        let sink = ScriptSink::new(rt.alloc(), 65_536, None);
+        let sink = open_sink(rt.alloc());
         expect_taken(&rt, rt.alloc(), &config, sources, sink, fault, &begun);
     }
     Ok(())
@@ -74,23 +69,35 @@ fn version_two_is_longer(rt: HostRuntime) -> Result<(), Fail> {
 /// The record file of a=1 and a=2.
 const KEY_TWICE: &[u8] = b"\0\x01a\0\0\0\x011\0\x01a\0\0\0\x012";
 
+/// A record file, the capacity of the links, how many bytes a source gives and a sink takes at a
+/// time, the call of the sink that fails, the fault, and how many bytes are written.
+const SMALL_STEPS: [(
+    &[u8],
+    u32,
+    usize,
+    usize,
+    Option<u64>,
+    Option<RunFault>,
+    usize,
+); 6] = [
+    (THREE_PUTS, 1, 1, 65_536, None, None, 234),
+    (THREE_PUTS, 4, 4_096, 1, None, None, 234),
+    (THREE_PUTS, 4, 4_096, 1, Some(3), WRITE_FAILED, 2),
+    (THREE_PUTS, 4, 4_096, 1, Some(235), WRITE_FAILED, 234),
+    (THREE_PUTS, 4, 4_096, 0, None, WRITE_FAILED, 0),
+    (KEY_TWICE, 4, 4_096, 1, Some(10), OUT_OF_ORDER, 9),
+];
+
 // A source gives a byte at a read, and a sink takes a byte at a write, or none. A fault of a file
 // is told also where the sink has failed.
 #[test]
 fn devices_go_in_small_steps(rt: HostRuntime) -> Result<(), Fail> {
-    for (file, capacity, step, sink_step, fail_at, fault, taken) in [
-        (THREE_PUTS, 1, 1, 65_536, None, None, 234),
-        (THREE_PUTS, 4, 4_096, 1, None, None, 234),
-        (THREE_PUTS, 4, 4_096, 1, Some(3), WRITE_FAILED, 2),
-        (THREE_PUTS, 4, 4_096, 1, Some(235), WRITE_FAILED, 234),
-        (THREE_PUTS, 4, 4_096, 0, None, WRITE_FAILED, 0),
-        (KEY_TWICE, 4, 4_096, 1, Some(10), Some(OUT_OF_ORDER), 9),
-    ] {
+    let alloc = rt.alloc();
+    for &(file, capacity, step, sink_step, fail_at, fault, taken) in &SMALL_STEPS {
         let config = Config::new(0, 12, capacity, 1_000)?;
-        let sources = source_of(rt.alloc(), file, step, None)?;
-        let sink = ScriptSink::new(rt.alloc(), sink_step, fail_at);
-        let begun = begun_file(rt.alloc(), b"a1b1c1", taken)?;
-        expect_taken(&rt, rt.alloc(), &config, sources, sink, fault, &begun);
+        let sources = source_of(alloc, file, step, None)?;
+        let sink = ScriptSink::new(alloc, sink_step, fail_at);
+        expect_begun(&rt, alloc, &config, sources, sink, fault, b"a1b1c1", taken)?;
     }
     Ok(())
 }
@@ -102,11 +109,23 @@ fn readers_and_writers_of_std_serve(rt: HostRuntime) -> Result<(), Fail> {
     let mut out = Vec::new(rt.alloc());
     let mut sink = ToWrite::new(&mut out);
     let config = settings(12)?;
-    let built = build(&rt, rt.alloc(), &config, &mut sources, &mut sink, &OpenGate);
-    assert_eq!(rt; built.err(), None);
+    build(&rt, rt.alloc(), &config, &mut sources, &mut sink, &OpenGate)?;
     assert!(rt; out.len() == 234);
     expect_bytes(&rt, &out, &file_of(rt.alloc(), b"a1b1c1")?);
     Ok(())
+}
+
+/// The record of a key and a value of these lengths.
+fn record_of_lengths(alloc: Global, key: u16, value: u32) -> Result<Vec<u8>, Fail> {
+    Ok(joined(
+        alloc,
+        &[
+            &key.to_be_bytes(),
+            &vec![in alloc; b'k'; key as usize]?,
+            &value.to_be_bytes(),
+            &vec![in alloc; b'v'; value as usize]?,
+        ],
+    )?)
 }
 
 // Of one record, its leaf is a zero and the record.
@@ -114,21 +133,20 @@ fn readers_and_writers_of_std_serve(rt: HostRuntime) -> Result<(), Fail> {
 fn the_longest_keys_and_values_are_built(rt: HostRuntime) -> Result<(), Fail> {
     let alloc = rt.alloc();
     for (key, value, length) in [(1_024, 0, 1_075), (0, 65_536, 65_587)] {
-        let record = joined(
-            alloc,
-            &[
-                &(key as u16).to_be_bytes(),
-                &vec![in alloc; b'k'; key]?,
-                &(value as u32).to_be_bytes(),
-                &vec![in alloc; b'v'; value]?,
-            ],
-        )?;
+        let record = record_of_lengths(alloc, key, value)?;
         let leaf = joined(alloc, &[b"\0", &record])?;
         let file = chunk_file(alloc, [1, 0], &[&leaf])?;
         assert!(rt; file.len() == length);
         let sources = source_of(alloc, &record, 4_096, None)?;
-        let sink = ScriptSink::new(alloc, 65_536, None);
-        expect_taken(&rt, alloc, &settings(12)?, sources, sink, None, &file);
+        expect_taken(
+            &rt,
+            alloc,
+            &settings(12)?,
+            sources,
+            open_sink(alloc),
+            None,
+            &file,
+        );
     }
     Ok(())
 }
