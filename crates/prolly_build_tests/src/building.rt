@@ -1,6 +1,6 @@
 //! The build, as its tests call it.
 use crate::expect::{expect_bytes, expect_numbers, expect_outcome};
-use prolly_build::{Config, Permit, Report, build, build_with};
+use prolly_build::{Config, ConfigFault, Permit, Report, build, build_with};
 use prolly_entry::{Pair, Sha512Cut, Version};
 use prolly_fault::RunFault;
 use prolly_file::{ScriptSink, ScriptSource, scratch_as};
@@ -21,6 +21,18 @@ mod whole;
 /// The settings of most tests: each entry closes its chunk.
 fn settings(stages: u8) -> Result<Config, Fail> {
     Ok(Config::new(0, stages, 4, 1_000)?)
+}
+
+/// Settings of twelve stages: the bits of a boundary, the capacity of the links, how many items a
+/// message has, and the version.
+fn settings_of(
+    bits: u8,
+    capacity: u32,
+    batch: u32,
+    version: Version,
+) -> Result<Config, ConfigFault> {
+    let config = Config::new(bits, 12, capacity, 1_000)?;
+    config.with_batch(batch)?.with_version(version.to_byte())
 }
 
 /// The record file of records that are spelled as two bytes each, the key and its value; a minus
@@ -84,13 +96,13 @@ fn expect_build<R: Wait + Threads + Sync + Abort, G: Gate>(
     alloc: Global,
     config: &Config,
     gate: &G,
-    mut sources: Vec<ScriptSource>,
+    sources: &mut Vec<ScriptSource>,
     mut sink: ScriptSink,
     fault: Option<RunFault>,
     bytes: &[u8],
 ) -> Option<Report> {
     let count = sources.len();
-    let built = build(rt, alloc, config, &mut sources, &mut sink, gate);
+    let built = build(rt, alloc, config, sources, &mut sink, gate);
     let outcome = (built.err(), sources.len(), sink.taken());
     expect_outcome(rt, outcome, (fault, count, bytes));
     built.ok()
@@ -101,12 +113,21 @@ fn expect_taken<R: Wait + Threads + Sync + Abort>(
     rt: &R,
     alloc: Global,
     config: &Config,
-    sources: Vec<ScriptSource>,
+    mut sources: Vec<ScriptSource>,
     sink: ScriptSink,
     fault: Option<RunFault>,
     bytes: &[u8],
 ) {
-    expect_build(rt, alloc, config, &OpenGate, sources, sink, fault, bytes);
+    expect_build(
+        rt,
+        alloc,
+        config,
+        &OpenGate,
+        &mut sources,
+        sink,
+        fault,
+        bytes,
+    );
 }
 
 /// Builds from record files, and compares the chunk file with this one.
@@ -118,8 +139,8 @@ fn expect_file<R: Wait + Threads + Sync + Abort, G: Gate>(
     files: &[&[u8]],
     file: &[u8],
 ) -> Result<Report, Fail> {
-    let sources = sources_of(alloc, files)?;
+    let mut sources = sources_of(alloc, files)?;
     let sink = open_sink(alloc);
-    let report = expect_build(rt, alloc, config, gate, sources, sink, None, file);
+    let report = expect_build(rt, alloc, config, gate, &mut sources, sink, None, file);
     Ok(report.ok_or("no report")?)
 }

@@ -153,9 +153,8 @@ fn second_reads_fail(rt: HostRuntime) -> Result<(), Fail> {
     let sources = source_of(alloc, b"\0\x01a\0\0\0\x011\0\x01b\0\0\0\x011", 8, Some(2))?;
     expect_fault(&rt, alloc, &config, sources, READ_FAILED, b"a1b1", 24)?;
     let sources = source_of(alloc, b"\0\x01a\0\0\0\x011\x04\x01", 10, Some(2))?;
-    let sink = open_sink(alloc);
     let long_key = Some(RunFault::KeyTooLong { file: 0, place: 1 });
-    expect_begun(&rt, alloc, &config, sources, sink, long_key, b"a1b1", 24)
+    expect_fault(&rt, alloc, &config, sources, long_key, b"a1b1", 24)
 }
 
 /// The record file of a=1, b=1 and c=1.

@@ -52,9 +52,16 @@ impl Meeting {
         Meeting::new(Stop::new(one, 0), Stop::new(other, 0), MANY_TURNS)
     }
 
-    /// How many of the two have seen the other.
-    fn met(&self) -> u64 {
-        self.met.load(Ordering::SeqCst)
+    /// Fails unless so many of the two have seen the other.
+    fn expect_met(&self, rt: &impl Abort, expected: u64) {
+        let met = self.met.load(Ordering::SeqCst);
+        let Stop { worker, nth, .. } = &self.other;
+        assert_eq!(rt;
+            met,
+            expected,
+            "{:?} before {worker:?} {nth}",
+            self.one.worker
+        );
     }
 
     fn hold(&self, here: &Stop, there: &Stop) {
@@ -92,16 +99,7 @@ fn expect_met<R: Wait + Threads + Sync + Abort>(
     met: u64,
 ) -> Result<Report, Fail> {
     let report = expect_file(rt, alloc, config, gate, files, &file_of(alloc, map)?)?;
-    let Meeting { one, other, .. } = gate;
-    assert_eq!(rt;
-        gate.met(),
-        met,
-        "{:?} before item {}, {:?} before item {}",
-        one.worker,
-        one.nth,
-        other.worker,
-        other.nth
-    );
+    gate.expect_met(rt, met);
     Ok(report)
 }
 

@@ -27,6 +27,12 @@ const WORKERS: [Worker; 9] = [
     Worker::Stage(3),
 ];
 
+/// Fails unless a build to which this worker was refused ended in that fault, and took no bytes.
+fn expect_no_thread(rt: &impl Abort, worker: Worker, fault: Option<RunFault>, taken: &[u8]) {
+    let expected = (Some(RunFault::NoThread), b"".as_slice());
+    assert_eq!(rt; (fault, taken), expected, "{worker:?}");
+}
+
 /// Fails unless a build to which this worker is refused ends in that fault, and nothing is written.
 fn expect_refusal<R: Wait + Threads + Sync + Abort>(
     rt: &R,
@@ -46,8 +52,7 @@ fn expect_refusal<R: Wait + Threads + Sync + Abort>(
         &OpenGate,
         &permit,
     );
-    assert_eq!(rt; built.err(), Some(RunFault::NoThread), "{worker:?}");
-    expect_bytes(rt, sink.taken(), b"");
+    expect_no_thread(rt, worker, built.err(), sink.taken());
     Ok(())
 }
 
@@ -63,20 +68,40 @@ fn each_worker_may_be_refused(rt: HostRuntime) -> Result<(), Fail> {
     Ok(())
 }
 
-// The first read of each source would fail, and is still to come.
+/// So many sources, of which each fails at its first read.
+fn failing_sources(alloc: Global, count: usize) -> Result<Vec<ScriptSource>, Fail> {
+    let mut sources = Vec::new(alloc);
+    for _ in 0..count {
+        sources.push(ScriptSource::new(Vec::new(alloc), 1, Some(1)))?;
+    }
+    Ok(sources)
+}
+
+/// Fails unless a read of the source does.
+fn expect_failing(rt: &impl Abort, source: &mut ScriptSource) {
+    assert_eq!(rt; source.read(&mut [0]), Err(SourceFault));
+}
+
+// The first read of each source is still to come.
 #[test]
 fn seventeen_files_are_not_read(rt: HostRuntime) -> Result<(), Fail> {
-    let mut sources = Vec::new(rt.alloc());
-    for _ in 0..17 {
-        sources.push(ScriptSource::new(Vec::new(rt.alloc()), 1, Some(1)))?;
-    }
-    let mut sink = open_sink(rt.alloc());
+    let alloc = rt.alloc();
     let config = settings(12)?;
-    let built = build(&rt, rt.alloc(), &config, &mut sources, &mut sink, &OpenGate);
-    let outcome = (built.err(), sources.len(), sink.taken());
-    expect_outcome(&rt, outcome, (Some(RunFault::TooManyFiles), 17, b""));
+    let mut sources = failing_sources(alloc, 17)?;
+    let sink = open_sink(alloc);
+    let fault = Some(RunFault::TooManyFiles);
+    expect_build(
+        &rt,
+        alloc,
+        &config,
+        &OpenGate,
+        &mut sources,
+        sink,
+        fault,
+        b"",
+    );
     for source in &mut sources {
-        assert_eq!(rt; source.read(&mut [0]), Err(SourceFault));
+        expect_failing(&rt, source);
     }
     Ok(())
 }

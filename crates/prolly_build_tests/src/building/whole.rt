@@ -28,16 +28,28 @@ const WHOLE_FILES: [(&[&[u8]], &[u8], usize, (u64, u64, u8)); 12] = [
 /// The capacity of the links, and the size of a batch.
 const LINKS: [(u32, u32); 5] = [(4, 1), (1, 1), (1, 2), (1, 3), (1, 1_024)];
 
+/// Builds from these files over links of each size, and compares the chunk file and the numbers.
+fn expect_over_links<R: Wait + Threads + Sync + Abort>(
+    rt: &R,
+    alloc: Global,
+    files: &[&[u8]],
+    file: &[u8],
+    numbers: (u64, u64, u8),
+) -> Result<(), Fail> {
+    for &(capacity, batch) in &LINKS {
+        let config = settings_of(0, capacity, batch, Version::One)?;
+        let report = expect_file(rt, alloc, &config, &OpenGate, files, file)?;
+        expect_numbers(rt, &report, numbers);
+    }
+    Ok(())
+}
+
 #[test]
 fn links_of_any_size_give_the_same(rt: HostRuntime) -> Result<(), Fail> {
     for &(files, map, length, numbers) in &WHOLE_FILES {
         let file = file_of(rt.alloc(), map)?;
         assert!(rt; file.len() == length);
-        for &(capacity, batch) in &LINKS {
-            let config = Config::new(0, 12, capacity, 1_000)?.with_batch(batch)?;
-            let report = expect_file(&rt, rt.alloc(), &config, &OpenGate, files, &file)?;
-            expect_numbers(&rt, &report, numbers);
-        }
+        expect_over_links(&rt, rt.alloc(), files, &file, numbers)?;
     }
     Ok(())
 }
@@ -51,13 +63,24 @@ const VERSION_TWO: [(&[u8], u8, Option<RunFault>, usize); 4] = [
     (b"a1b1c1", 2, Some(RunFault::TooTall), 132),
 ];
 
+/// So many first bytes of the chunk file of a map in version Two, which has at least as many.
+fn begun_in_version_two(
+    rt: &impl Abort,
+    alloc: Global,
+    map: &[u8],
+    taken: usize,
+) -> Result<Vec<u8>, Fail> {
+    let mut begun = file_cut(alloc, 0, Version::Two, map)?;
+    begun.truncate(taken);
+    assert!(rt; begun.len() == taken);
+    assert!(rt; begun.starts_with(b"PRLY\x02"));
+    Ok(begun)
+}
+
 #[test]
 fn version_two_is_longer(rt: HostRuntime) -> Result<(), Fail> {
     for &(map, stages, fault, taken) in &VERSION_TWO {
-        let mut begun = file_cut(rt.alloc(), 0, Version::Two, map)?;
-        begun.truncate(taken);
-        assert!(rt; begun.len() == taken);
-        assert!(rt; begun.starts_with(b"PRLY\x02"));
+        let begun = begun_in_version_two(&rt, rt.alloc(), map, taken)?;
         let config = settings(stages)?.with_version(2)?;
         let sources = sources_of(rt.alloc(), &[map])?;
         let sink = open_sink(rt.alloc());
@@ -102,14 +125,20 @@ fn devices_go_in_small_steps(rt: HostRuntime) -> Result<(), Fail> {
     Ok(())
 }
 
+/// The chunk file of three puts, from a reader of std to a writer of std.
+fn file_by_std<R: Wait + Threads + Sync>(rt: &R, alloc: Global) -> Result<Vec<u8>, Fail> {
+    let config = settings(12)?;
+    let mut sources = Vec::new(alloc);
+    sources.push(FromRead::new(THREE_PUTS))?;
+    let mut out = Vec::new(alloc);
+    let mut sink = ToWrite::new(&mut out);
+    build(rt, alloc, &config, &mut sources, &mut sink, &OpenGate)?;
+    Ok(out)
+}
+
 #[test]
 fn readers_and_writers_of_std_serve(rt: HostRuntime) -> Result<(), Fail> {
-    let mut sources = Vec::new(rt.alloc());
-    sources.push(FromRead::new(THREE_PUTS))?;
-    let mut out = Vec::new(rt.alloc());
-    let mut sink = ToWrite::new(&mut out);
-    let config = settings(12)?;
-    build(&rt, rt.alloc(), &config, &mut sources, &mut sink, &OpenGate)?;
+    let out = file_by_std(&rt, rt.alloc())?;
     assert!(rt; out.len() == 234);
     expect_bytes(&rt, &out, &file_of(rt.alloc(), b"a1b1c1")?);
     Ok(())
@@ -128,25 +157,22 @@ fn record_of_lengths(alloc: Global, key: u16, value: u32) -> Result<Vec<u8>, Fai
     )?)
 }
 
-// Of one record, its leaf is a zero and the record.
+/// The chunk file of this one record: its leaf is a zero and the record.
+fn file_of_record(alloc: Global, record: &[u8]) -> Result<Vec<u8>, Fail> {
+    let leaf = joined(alloc, &[b"\0", record])?;
+    Ok(chunk_file(alloc, [1, 0], &[&leaf])?)
+}
+
 #[test]
 fn the_longest_keys_and_values_are_built(rt: HostRuntime) -> Result<(), Fail> {
     let alloc = rt.alloc();
+    let config = settings(12)?;
     for (key, value, length) in [(1_024, 0, 1_075), (0, 65_536, 65_587)] {
         let record = record_of_lengths(alloc, key, value)?;
-        let leaf = joined(alloc, &[b"\0", &record])?;
-        let file = chunk_file(alloc, [1, 0], &[&leaf])?;
+        let file = file_of_record(alloc, &record)?;
         assert!(rt; file.len() == length);
         let sources = source_of(alloc, &record, 4_096, None)?;
-        expect_taken(
-            &rt,
-            alloc,
-            &settings(12)?,
-            sources,
-            open_sink(alloc),
-            None,
-            &file,
-        );
+        expect_taken(&rt, alloc, &config, sources, open_sink(alloc), None, &file);
     }
     Ok(())
 }
