@@ -6,9 +6,10 @@ use prolly_fault::{
     BatchReceiver, ClosedBatch, ClosedSender, End, ListIn, Next, Receiver, RunFault,
 };
 use prolly_link::{
-    BatchDrained, Drained, In, ListOut, Out, batch_link, compare, compare_batches, compare_closed,
-    compare_closed_batches, link, meet, meet_batches, receive_rest,
+    BatchDrained, Drained, In, LinkFault, ListOut, Out, batch_link, compare, compare_batches,
+    compare_closed, compare_closed_batches, link, meet, meet_batches, receive_rest,
 };
+use std::alloc::Global;
 use std::process::Abort;
 use std::sync::Wait;
 use std::test::Fail;
@@ -23,12 +24,22 @@ mod waiting;
 
 const CLEAN: Next<u32> = Next::End(End::Clean);
 
+// Fails unless an item was taken.
+fn expect_taken(rt: &impl Abort, sent: Result<(), u32>) {
+    assert_eq!(rt; sent, Ok(()));
+}
+
+// Fails unless this is what was received.
+fn expect_next(rt: &impl Abort, next: &Next<u32>, expected: &Next<u32>) {
+    assert_eq!(rt; *next, *expected);
+}
+
 // Fails unless each of these items is taken.
 fn sends<O: Out<u32, RunFault>>(rt: &(impl Abort + Wait), out: &mut O, items: &[u32])
     ensures { O.link out.new ≡ O.link out.old }
 {
     for &item in items {
-        assert_eq!(rt; out.send(rt, item), Ok(()));
+        expect_taken(rt, out.send(rt, item));
     }
 }
 
@@ -37,8 +48,22 @@ fn receives<I: In<u32, RunFault>>(rt: &(impl Abort + Wait), input: &mut I, expec
     ensures { I.link input.new ≡ I.link input.old }
 {
     for next in expected {
-        assert_eq!(rt; input.recv(rt), *next);
+        expect_next(rt, &input.recv(rt), next);
     }
+}
+
+// The same of a link, for tests whose proofs then have no trait in them.
+fn link_gives(rt: &(impl Abort + Wait), receiver: &mut Receiver<u32>, expected: &[Next<u32>])
+    ensures { receiver.new.link ≡ receiver.old.link }
+{
+    receives(rt, receiver, expected);
+}
+
+// The same of a link of batches.
+fn batches_give(rt: &(impl Abort + Wait), receiver: &mut BatchReceiver<u32>, expected: &[Next<u32>])
+    ensures { receiver.new.link ≡ receiver.old.link }
+{
+    receives(rt, receiver, expected);
 }
 
 // Sends these, each of which must be taken, and then a clean end.
@@ -78,7 +103,7 @@ fn an_end_is_given_again(rt: HostRuntime) -> Result<(), Fail> {
     let (sender, mut receiver) = link(rt.alloc(), 4)?;
     let closed = send_all(&rt, sender, &[1, 2]);
     let expected = [Next::Item(1), Next::Item(2), CLEAN, CLEAN];
-    receives(&rt, &mut receiver, &expected);
+    link_gives(&rt, &mut receiver, &expected);
     expect_meeting(&rt, closed, receiver);
     Ok(())
 }
@@ -88,7 +113,7 @@ fn a_dropped_sender_is_lost(rt: HostRuntime) -> Result<(), Fail> {
     let (mut sender, mut receiver) = link(rt.alloc(), 4)?;
     sends(&rt, &mut sender, &[1]);
     drop(sender);
-    receives(&rt, &mut receiver, &[Next::Item(1), Next::Lost, Next::Lost]);
+    link_gives(&rt, &mut receiver, &[Next::Item(1), Next::Lost, Next::Lost]);
     assert!(rt; matches!(receiver.drain(&rt), Drained::Lost(_)));
     Ok(())
 }
@@ -98,7 +123,7 @@ fn batches_keep_the_order(rt: HostRuntime) -> Result<(), Fail> {
     let (sender, mut receiver) = batch_link(rt.alloc(), 4, 2)?;
     let closed = send_all(&rt, sender, &[1, 2, 3]);
     let expected = [Next::Item(1), Next::Item(2), Next::Item(3), CLEAN, CLEAN];
-    receives(&rt, &mut receiver, &expected);
+    batches_give(&rt, &mut receiver, &expected);
     expect_batch_meeting(&rt, closed, receiver);
     Ok(())
 }
@@ -109,7 +134,7 @@ fn a_dropped_batch_sender_is_lost(rt: HostRuntime) -> Result<(), Fail> {
     let (mut sender, mut receiver) = batch_link(rt.alloc(), 4, 2)?;
     sends(&rt, &mut sender, &[1, 2, 3]);
     drop(sender);
-    receives(
+    batches_give(
         &rt,
         &mut receiver,
         &[Next::Item(1), Next::Item(2), Next::Lost, Next::Lost],
@@ -124,14 +149,14 @@ fn ends_are_compared_at_any_time(rt: HostRuntime) -> Result<(), Fail> {
     let (mut sender, mut receiver) = link(rt.alloc(), 4)?;
     compare(&mut sender, &mut receiver);
     sends(&rt, &mut sender, &[1, 2]);
-    receives(&rt, &mut receiver, &[Next::Item(1)]);
+    link_gives(&rt, &mut receiver, &[Next::Item(1)]);
     compare(&mut sender, &mut receiver);
     let fault = End::Fault(RunFault::Write);
     let mut closed = sender.close(&rt, fault);
     compare_closed(&mut closed, &mut receiver);
-    receives(&rt, &mut receiver, &[Next::Item(2), Next::End(fault)]);
+    link_gives(&rt, &mut receiver, &[Next::Item(2), Next::End(fault)]);
     compare_closed(&mut closed, &mut receiver);
-    receives(&rt, &mut receiver, &[Next::End(fault)]);
+    link_gives(&rt, &mut receiver, &[Next::End(fault)]);
     expect_meeting(&rt, closed, receiver);
     Ok(())
 }
@@ -143,26 +168,31 @@ fn ends_of_batches_are_compared_at_any_time(rt: HostRuntime) -> Result<(), Fail>
     let (mut sender, mut receiver) = batch_link(rt.alloc(), 4, 2)?;
     compare_batches(&mut sender, &mut receiver);
     sends(&rt, &mut sender, &[1, 2, 3]);
-    receives(&rt, &mut receiver, &[Next::Item(1)]);
+    batches_give(&rt, &mut receiver, &[Next::Item(1)]);
     compare_batches(&mut sender, &mut receiver);
     let mut closed = sender.close(&rt, fault);
     compare_closed_batches(&mut closed, &mut receiver);
-    receives(
+    batches_give(
         &rt,
         &mut receiver,
         &[Next::Item(2), Next::Item(3), Next::End(fault)],
     );
     compare_closed_batches(&mut closed, &mut receiver);
-    receives(&rt, &mut receiver, &[Next::End(fault)]);
+    batches_give(&rt, &mut receiver, &[Next::End(fault)]);
     expect_batch_meeting(&rt, closed, receiver);
     Ok(())
+}
+
+// Fails unless there is this number.
+fn expect_number(rt: &impl Abort, number: Option<&u32>, expected: u32) {
+    assert_eq!(rt; number, Some(&expected));
 }
 
 // Fails unless these are the numbers below `count`, in their order.
 fn expect_numbers(rt: &impl Abort, numbers: &[u32], count: u32) {
     assert_eq!(rt; numbers.len(), count as usize);
     for i in 0..count {
-        assert_eq!(rt; numbers.get(i as usize).copied(), Some(i));
+        expect_number(rt, numbers.get(i as usize), i);
     }
 }
 
@@ -208,29 +238,56 @@ fn a_long_wait_ends(rt: HostRuntime) -> Result<(), Fail> {
         drop(sender.send(&rt, 7u32));
         drop(sender.close(&rt, End::Clean));
     })?;
-    receives(&rt, &mut receiver, &[Next::Item(7), CLEAN]);
+    link_gives(&rt, &mut receiver, &[Next::Item(7), CLEAN]);
     late.join(&rt);
     Ok(())
+}
+
+// The receiver of a new link to which all of this input was copied.
+fn copied_to_link<I: In<u32, RunFault> + Drop>(
+    rt: &impl Wait,
+    alloc: Global,
+    input: I,
+) -> Result<Receiver<u32>, LinkFault> {
+    let (sender, receiver) = link(alloc, 4)?;
+    drop(copy_all(rt, input, sender));
+    Ok(receiver)
+}
+
+// The same over batches.
+fn copied_to_batches<I: In<u32, RunFault> + Drop>(
+    rt: &impl Wait,
+    alloc: Global,
+    input: I,
+) -> Result<BatchReceiver<u32>, LinkFault> {
+    let (sender, receiver) = batch_link(alloc, 4, 2)?;
+    drop(copy_all(rt, input, sender));
+    Ok(receiver)
+}
+
+// Fails unless these items and this end are copied from the receiver to a list.
+fn expect_copied(
+    rt: &(impl Abort + Wait),
+    alloc: Global,
+    input: Receiver<u32>,
+    items: &[u32],
+    last: End,
+) {
+    let Copies { input, out } = copy_all(rt, input, ListOut::new(alloc));
+    drop(input);
+    assert_eq!(rt; (out.items.as_slice(), out.last), (items, last));
 }
 
 // From a list to a ring, from there over batches to another ring, and back to a list.
 #[test]
 fn a_worker_copies_between_all_ends(rt: HostRuntime) -> Result<(), Fail> {
+    let alloc = rt.alloc();
     let fault = End::Fault(RunFault::Read { file: 3 });
-    let items = [7u32, 8, 9].to_vec(rt.alloc())?;
-    let list = copy_list(&rt, rt.alloc(), items, fault);
-    let (first, from_first) = link(rt.alloc(), 4)?;
-    drop(copy_all(&rt, ListIn::new(list.items, list.last), first));
-    let (second, from_second) = batch_link(rt.alloc(), 4, 2)?;
-    drop(copy_all(&rt, from_first, second));
-    let (third, from_third) = link(rt.alloc(), 4)?;
-    drop(copy_all(&rt, from_second, third));
-    let Copies { input, out } = copy_all(&rt, from_third, ListOut::new(rt.alloc()));
-    assert_eq!(rt;
-        (out.items.as_slice(), out.last),
-        ([7u32, 8, 9].as_slice(), fault)
-    );
-    drop(input);
+    let list = copy_list(&rt, alloc, [7u32, 8, 9].to_vec(alloc)?, fault);
+    let ring = copied_to_link(&rt, alloc, ListIn::new(list.items, list.last))?;
+    let batches = copied_to_batches(&rt, alloc, ring)?;
+    let ring = copied_to_link(&rt, alloc, batches)?;
+    expect_copied(&rt, alloc, ring, &[7, 8, 9], fault);
     Ok(())
 }
 

@@ -1,7 +1,8 @@
 //! The mergers, over lists and over links.
+use crate::expect::{expect_all_taken, expect_bytes, expect_sent};
 use prolly_entry::{Pair, Record};
-use prolly_fault::{ClosedList, End, ListIn, Receiver, RunFault};
-use prolly_link::{ListOut, Out, link};
+use prolly_fault::{End, ListIn, Receiver, RunFault};
+use prolly_link::{In, ListOut, link};
 use prolly_merge::{merge, merge_two};
 use std::alloc::{AllocError, Global};
 use std::process::Abort;
@@ -59,81 +60,97 @@ const MANY_INPUTS: [(&[(&[u8], End)], &[u8], End); 13] = [
     (&[(b"", FIRST_FAULT), (b"a1", CLEAN)], b"", FIRST_FAULT),
 ];
 
-#[test]
-fn merges_many_inputs(rt: HostRuntime) -> Result<(), Fail> {
-    for (inputs, sent, last) in MANY_INPUTS {
-        let lists = lists_of(rt.alloc(), inputs)?;
-        let merged = merge(&rt, rt.alloc(), lists, ListOut::new(rt.alloc()));
-        let pairs = sent.len() as u64 / 2;
-        assert_eq!(rt; (merged.inputs.len(), merged.pairs), (inputs.len(), pairs));
-        expect_pairs(&rt, rt.alloc(), &merged.out, sent, last)?;
-    }
-    Ok(())
-}
-
-#[test]
-fn merges_two_inputs_with_their_removals(rt: HostRuntime) -> Result<(), Fail> {
-    for (left, right, sent, last) in [
-        (
-            (b"a1c1".as_slice(), CLEAN),
-            (b"a2b2".as_slice(), CLEAN),
-            b"a2b2c1".as_slice(),
-            CLEAN,
-        ),
-        (
-            (b"51", FIRST_FAULT),
-            (b"52", SECOND_FAULT),
-            b"52",
-            FIRST_FAULT,
-        ),
-        (
-            (b"5161", FIRST_FAULT),
-            (b"52", SECOND_FAULT),
-            b"52",
-            SECOND_FAULT,
-        ),
-        ((b"a1b1", CLEAN), (b"a-", CLEAN), b"a-b1", CLEAN),
-        ((b"a-", CLEAN), (b"", FIRST_FAULT), b"", FIRST_FAULT),
-    ] {
-        expect_merged(&rt, rt.alloc(), left, right, sent, last)?;
-    }
-    Ok(())
-}
-
-/// Merges two inputs, each with its end, and compares the records and the end.
-fn expect_merged(
-    rt: &(impl Abort + Wait),
+/// Merges these inputs, and fails unless they are given back, and these pairs, spelled as in
+/// `records_of`, are sent, and then this end.
+fn expect_merged<I: In<Record, RunFault> + Drop, R: Abort + Wait>(
+    rt: &R,
     alloc: Global,
-    left: (&[u8], End),
-    right: (&[u8], End),
+    inputs: Vec<I>,
     sent: &[u8],
     last: End,
 ) -> Result<(), Fail> {
-    let left = list_of(alloc, left.0, left.1)?;
-    let right = list_of(alloc, right.0, right.1)?;
-    let merged = merge_two(rt, left, right, ListOut::new(alloc));
-    assert_eq!(rt;
-        (merged.items, merged.out.last),
-        (sent.len() as u64 / 2, last)
+    let count = inputs.len();
+    let merged = merge(rt, alloc, inputs, ListOut::new(alloc));
+    assert_eq!(rt; merged.inputs.len(), count);
+    expect_sent(
+        rt,
+        (merged.pairs, merged.out.last),
+        (sent.len() as u64 / 2, last),
     );
-    assert!(rt; bytes_of_records(alloc, &merged.out.items)?.as_slice() == sent);
+    expect_bytes(rt, &bytes_of_pairs(alloc, &merged.out.items)?, sent);
     Ok(())
 }
 
-// Each input has a key of its own, and one that all of them have.
+#[test]
+fn merges_many_inputs(rt: HostRuntime) -> Result<(), Fail> {
+    for &(inputs, sent, last) in &MANY_INPUTS {
+        expect_merged(&rt, rt.alloc(), lists_of(rt.alloc(), inputs)?, sent, last)?;
+    }
+    Ok(())
+}
+
+/// The same as `MANY_INPUTS`, for two inputs whose removals are sent too.
+const TWO_INPUTS: [((&[u8], End), (&[u8], End), &[u8], End); 5] = [
+    ((b"a1c1", CLEAN), (b"a2b2", CLEAN), b"a2b2c1", CLEAN),
+    (
+        (b"51", FIRST_FAULT),
+        (b"52", SECOND_FAULT),
+        b"52",
+        FIRST_FAULT,
+    ),
+    (
+        (b"5161", FIRST_FAULT),
+        (b"52", SECOND_FAULT),
+        b"52",
+        SECOND_FAULT,
+    ),
+    ((b"a1b1", CLEAN), (b"a-", CLEAN), b"a-b1", CLEAN),
+    ((b"a-", CLEAN), (b"", FIRST_FAULT), b"", FIRST_FAULT),
+];
+
+#[test]
+fn merges_two_inputs_with_their_removals(rt: HostRuntime) -> Result<(), Fail> {
+    for &((left, left_end), (right, right_end), sent, last) in &TWO_INPUTS {
+        let left = list_of(rt.alloc(), left, left_end)?;
+        let right = list_of(rt.alloc(), right, right_end)?;
+        expect_two_merged(&rt, rt.alloc(), left, right, sent, last)?;
+    }
+    Ok(())
+}
+
+/// Merges two inputs, and compares the records and the end.
+fn expect_two_merged<R: Abort + Wait>(
+    rt: &R,
+    alloc: Global,
+    left: ListIn<Record>,
+    right: ListIn<Record>,
+    sent: &[u8],
+    last: End,
+) -> Result<(), Fail> {
+    let merged = merge_two(rt, left, right, ListOut::new(alloc));
+    expect_sent(
+        rt,
+        (merged.items, merged.out.last),
+        (sent.len() as u64 / 2, last),
+    );
+    expect_bytes(rt, &bytes_of_records(alloc, &merged.out.items)?, sent);
+    Ok(())
+}
+
+// Each has a key of its own, and one that all of them have.
+fn sixteen_lists(alloc: Global) -> Result<Vec<ListIn<Record>>, AllocError> {
+    let mut lists = Vec::new(alloc);
+    for i in 0..16u8 {
+        lists.push(list_of(alloc, &[b'a' + i, i, b'z', i], CLEAN)?)?;
+    }
+    Ok(lists)
+}
+
 #[test]
 fn merges_sixteen_inputs(rt: HostRuntime) -> Result<(), Fail> {
-    let mut lists = Vec::new(rt.alloc());
-    for i in 0..16u8 {
-        lists.push(list_of(rt.alloc(), &[b'a' + i, i, b'z', i], CLEAN)?)?;
-    }
-    let merged = merge(&rt, rt.alloc(), lists, ListOut::new(rt.alloc()));
-    let sent = bytes_of_pairs(rt.alloc(), &merged.out.items)?;
-    let expected: &[u8] =
+    let sent =
         b"a\x00b\x01c\x02d\x03e\x04f\x05g\x06h\x07i\x08j\x09k\x0Al\x0Bm\x0Cn\x0Do\x0Ep\x0Fz\x0F";
-    assert!(rt; sent.as_slice() == expected);
-    assert_eq!(rt; merged.pairs, 17);
-    Ok(())
+    expect_merged(&rt, rt.alloc(), sixteen_lists(rt.alloc())?, sent, CLEAN)
 }
 
 // The sender of the first input is dropped behind its first record.
@@ -142,9 +159,8 @@ fn a_lost_input_ends_with_a_fault(rt: HostRuntime) -> Result<(), Fail> {
     let mut inputs = Vec::new(rt.alloc());
     inputs.push(input_of(&rt, rt.alloc(), b"b1", false)?)?;
     inputs.push(input_of(&rt, rt.alloc(), b"a1c1", true)?)?;
-    let merged = merge(&rt, rt.alloc(), inputs, ListOut::new(rt.alloc()));
     let lost = End::Fault(RunFault::Lost);
-    expect_pairs(&rt, rt.alloc(), &merged.out, b"a1b1", lost)
+    expect_merged(&rt, rt.alloc(), inputs, b"a1b1", lost)
 }
 
 /// The receiver of these records, spelled as in `records_of`, behind which the sender is closed or
@@ -155,27 +171,13 @@ fn input_of<R: Abort + Wait>(
     bytes: &[u8],
     is_closed: bool,
 ) -> Result<Receiver<Record>, Fail> {
-    let (mut sender, receiver) = link(alloc, 4).ok().ok_or("no memory")?;
-    for record in records_of(alloc, bytes)? {
-        assert!(rt; sender.send(rt, record).is_ok());
-    }
+    let records = records_of(alloc, bytes)?;
+    let (mut sender, receiver) = link(alloc, 4)?;
+    expect_all_taken(rt, &mut sender, records);
     if is_closed {
         drop(sender.close(rt, CLEAN));
     }
     Ok(receiver)
-}
-
-/// Fails unless these pairs were sent, and then this end.
-fn expect_pairs(
-    rt: &impl Abort,
-    alloc: Global,
-    out: &ClosedList<Pair>,
-    sent: &[u8],
-    last: End,
-) -> Result<(), Fail> {
-    assert!(rt; bytes_of_pairs(alloc, &out.items)?.as_slice() == sent);
-    assert_eq!(rt; out.last, last);
-    Ok(())
 }
 
 // The lists of these inputs, each with its end.
@@ -195,8 +197,8 @@ fn list_of(alloc: Global, bytes: &[u8], last: End) -> Result<ListIn<Record>, All
 // The records whose keys and values these bytes are, in turn. A value `-` is a removal.
 fn records_of(alloc: Global, bytes: &[u8]) -> Result<Vec<Record>, AllocError> {
     let mut records = Vec::new(alloc);
-    for record in bytes.chunks_exact(2) {
-        records.push(record_of(alloc, record[0], record[1])?)?;
+    for [key, value] in bytes.as_chunks::<2>().0 {
+        records.push(record_of(alloc, *key, *value)?)?;
     }
     Ok(records)
 }

@@ -1,14 +1,15 @@
 //! The stages, over lists and over links.
 ghost use Rattle.std.specs.Prelude.{◌≡◌, []};
 
+use crate::expect::{expect_all_taken, expect_bytes, expect_sent};
 use links::leaves_over_links;
 use lists::{leaves_of, two_stages};
 use prolly_entry::{KeyCut, Pair, Sha512Cut, Version};
-use prolly_fault::{BatchReceiver, BatchSender, ClosedList, End, ListIn, Next, RunFault};
+use prolly_fault::{BatchReceiver, BatchSender, End, ListIn, Next, RunFault};
 use prolly_link::{ListOut, batch_link, link, receive_rest};
 use prolly_stage::{ChunkEvent, Gated, OpenGate, Staged, Worker, inner_stage, leaf_stage};
 use prolly_test_parts::pairs_of;
-use std::alloc::Global;
+use std::alloc::{AllocError, Global};
 use std::process::Abort;
 use std::sync::Wait;
 use std::test::Fail;
@@ -29,11 +30,6 @@ const SECOND_LEAF: &[u8] = b"\0\0\x01c\0\0\0\x011\0\x02d!\0\0\0\x011";
 
 const LAST_LEAF: &[u8] = b"\0\0\x01e\0\0\0\x011";
 
-/// Fails unless so many events were sent, and then this end.
-fn expect_sent(rt: &impl Abort, sent: &ClosedList<ChunkEvent>, count: usize, last: End) {
-    assert_eq!(rt; (sent.items.len(), sent.last), (count, last));
-}
-
 /// Runs the leaf stage over these keys and this end, and compares the bytes of the leaves.
 fn expect_leaves<R: Abort + Wait>(
     rt: &R,
@@ -43,11 +39,24 @@ fn expect_leaves<R: Abort + Wait>(
     leaves: &[&[u8]],
 ) -> Result<(), Fail> {
     let sent = leaves_of(rt, alloc, KeyCut, pairs_of(alloc, keys)?, last);
-    expect_sent(rt, &sent, leaves.len(), last);
+    expect_sent(
+        rt,
+        (sent.items.len() as u64, sent.last),
+        (leaves.len() as u64, last),
+    );
     for (event, leaf) in sent.items.iter().zip(leaves) {
-        assert!(rt; event.bytes() == *leaf);
+        expect_bytes(rt, event.bytes(), leaf);
     }
     Ok(())
+}
+
+/// The levels of these events.
+fn levels_of(alloc: Global, events: &[ChunkEvent]) -> Result<Vec<u8>, AllocError> {
+    let mut levels = Vec::new(alloc);
+    for event in events {
+        levels.push(event.level())?;
+    }
+    Ok(levels)
 }
 
 /// Runs the leaf stage and that of level 1 over these keys and this end, and compares the levels of
@@ -61,88 +70,69 @@ fn expect_levels<R: Abort + Wait>(
 ) -> Result<(), Fail> {
     let pairs = pairs_of(alloc, keys)?;
     let sent = two_stages(rt, alloc, KeyCut, Version::One, pairs, last);
-    expect_sent(rt, &sent, levels.len(), last);
-    for (event, level) in sent.items.iter().zip(levels) {
-        assert_eq!(rt; event.level(), *level);
-    }
+    expect_sent(
+        rt,
+        (sent.items.len() as u64, sent.last),
+        (levels.len() as u64, last),
+    );
+    expect_bytes(rt, &levels_of(alloc, &sent.items)?, levels);
     Ok(())
 }
 
+const FAULT: End = End::Fault(RunFault::Write);
+
 #[test]
 fn leaves_are_sent(rt: HostRuntime) -> Result<(), Fail> {
-    let fault = End::Fault(RunFault::Write);
-    for (keys, last, leaves) in [
-        (
-            &KEYS[..5],
-            End::Clean,
-            [FIRST_LEAF, SECOND_LEAF, LAST_LEAF].as_slice(),
-        ),
-        (&KEYS[..3], fault, [FIRST_LEAF].as_slice()),
-        (&KEYS[..0], End::Clean, [b"\0".as_slice()].as_slice()),
-        (&KEYS[..0], fault, [].as_slice()),
-    ] {
-        expect_leaves(&rt, rt.alloc(), keys, last, leaves)?;
-    }
-    Ok(())
+    let alloc = rt.alloc();
+    let all = [FIRST_LEAF, SECOND_LEAF, LAST_LEAF];
+    expect_leaves(&rt, alloc, &KEYS[..5], End::Clean, &all)?;
+    expect_leaves(&rt, alloc, &KEYS[..3], FAULT, &[FIRST_LEAF])?;
+    expect_leaves(&rt, alloc, &[], End::Clean, &[b"\0"])?;
+    expect_leaves(&rt, alloc, &[], FAULT, &[])
 }
 
 #[test]
 fn nodes_follow_their_last_child(rt: HostRuntime) -> Result<(), Fail> {
-    for (keys, last, levels) in [
-        (&KEYS[..5], End::Clean, [0, 0, 1, 0, 1].as_slice()),
-        (&KEYS[..1], End::Clean, [0].as_slice()),
-        (
-            &KEYS[..6],
-            End::Fault(RunFault::Write),
-            [0, 0, 1, 0].as_slice(),
-        ),
-    ] {
-        expect_levels(&rt, rt.alloc(), keys, last, levels)?;
-    }
-    Ok(())
+    let alloc = rt.alloc();
+    expect_levels(&rt, alloc, &KEYS[..5], End::Clean, &[0, 0, 1, 0, 1])?;
+    expect_levels(&rt, alloc, &KEYS[..1], End::Clean, &[0])?;
+    expect_levels(&rt, alloc, &KEYS, FAULT, &[0, 0, 1, 0])
+}
+
+/// Fails unless the event is a node of this level over so many pairs.
+fn expect_node(rt: &impl Abort, event: &ChunkEvent, level: u8, count: u64) {
+    assert_eq!(rt; (event.level(), event.count()), (level, count));
 }
 
 #[test]
 fn version_two_counts(rt: HostRuntime) -> Result<(), Fail> {
-    let cut = Sha512Cut::new(0).ok_or("bits")?;
+    let Some(cut) = Sha512Cut::new(0) else {
+        return Err("bits".into());
+    };
     let pairs = pairs_of(rt.alloc(), &[b"a", b"b"])?;
     let sent = two_stages(&rt, rt.alloc(), cut, Version::Two, pairs, End::Clean);
-    expect_sent(&rt, &sent, 3, End::Clean);
-    let node = sent.items.get(2).ok_or("no node")?;
-    assert_eq!(rt; (node.level(), node.count()), (1, 2));
+    expect_sent(&rt, (sent.items.len() as u64, sent.last), (3, End::Clean));
+    let Some(node) = sent.items.get(2) else {
+        return Err("no node".into());
+    };
+    expect_node(&rt, node, 1, 2);
     Ok(())
 }
 
 #[test]
 fn gates_are_asked_before_each_item(rt: HostRuntime) -> Result<(), Fail> {
+    let pairs = pairs_of(rt.alloc(), &KEYS)?;
     let turns = Turns::new();
     let out = Counted {
         out: ListOut::new(rt.alloc()),
         turns: &turns,
     };
-    let input = ListIn::new(pairs_of(rt.alloc(), &KEYS)?, End::Clean);
+    let input = ListIn::new(pairs, End::Clean);
     let gated = Gated::new(out, Worker::Stage(3), &turns);
     let Staged { input, out } = leaf_stage(&rt, rt.alloc(), KeyCut, input, gated);
     drop(input);
-    assert_eq!(rt;
-        (out.items.len(), turns.asked(), turns.out_of_turn()),
-        (3, 3, 0)
-    );
-    Ok(())
-}
-
-/// Sends the pairs of these keys, each of which must be taken, and then a clean end.
-fn send_pairs<R: Abort + Wait>(
-    rt: &R,
-    alloc: Global,
-    out: BatchSender<Pair>,
-    keys: &[&[u8]],
-) -> Result<(), Fail> {
-    let mut out = out;
-    for pair in pairs_of(alloc, keys)? {
-        assert!(rt; out.send(rt, pair).is_ok());
-    }
-    drop(out.close(rt, End::Clean));
+    expect_sent(&rt, (out.items.len() as u64, out.last), (3, End::Clean));
+    turns.expect_in_turn(&rt, 3);
     Ok(())
 }
 
@@ -156,41 +146,48 @@ fn receive_leaves<R: Abort + Wait>(
         let Next::Item(event) = input.recv(rt) else {
             return Err("no event".into());
         };
-        assert!(rt; event.bytes() == *leaf);
+        expect_bytes(rt, event.bytes(), leaf);
     }
+    Ok(())
+}
+
+/// Sends pairs to a stage, and fails unless it takes them and sends their leaves.
+fn expect_stage_at_work<R: Abort + Wait>(
+    rt: &R,
+    alloc: Global,
+    mut pairs: BatchSender<Pair>,
+    events: &mut BatchReceiver<ChunkEvent>,
+) -> Result<(), Fail> {
+    expect_all_taken(rt, &mut pairs, pairs_of(alloc, &KEYS)?);
+    drop(pairs.close(rt, End::Clean));
+    receive_leaves(rt, events, &[FIRST_LEAF, SECOND_LEAF])?;
+    receive_rest(rt, events);
     Ok(())
 }
 
 #[test]
 fn a_stage_runs_between_threads(rt: HostRuntime) -> Result<(), Fail> {
-    let (Ok((pairs, input)), Ok((out, mut events))) = (
-        batch_link(rt.alloc(), 2, 2),
-        batch_link(rt.alloc(), 1, 2),
-    ) else {
-        return Err("no memory".into());
-    };
+    let (pairs, input) = batch_link(rt.alloc(), 2, 2)?;
+    let (out, mut events) = batch_link(rt.alloc(), 1, 2)?;
     let stage = thread::spawn(
         &rt,
         move ||
             requires { (input.items ≡ []) × (out.items ≡ []) }
         { leaves_over_links(&rt, rt.alloc(), &OpenGate, input, out) },
     )?;
-    send_pairs(&rt, rt.alloc(), pairs, &KEYS)?;
-    receive_leaves(&rt, &mut events, &[FIRST_LEAF, SECOND_LEAF])?;
-    receive_rest(&rt, &mut events);
+    expect_stage_at_work(&rt, rt.alloc(), pairs, &mut events)?;
     drop(stage.join(&rt));
     Ok(())
 }
 
 #[test]
 fn a_lost_input_is_a_fault(rt: HostRuntime) -> Result<(), Fail> {
-    let Ok((sender, input)) = link(rt.alloc(), 1) else {
-        return Err("no memory".into());
-    };
+    let (sender, input) = link(rt.alloc(), 1)?;
     drop(sender);
     let out = ListOut::new(rt.alloc());
     let Staged { input, out } = inner_stage(&rt, rt.alloc(), 1, KeyCut, input, out);
     drop(input);
-    expect_sent(&rt, &out, 0, End::Fault(RunFault::Lost));
+    let lost = End::Fault(RunFault::Lost);
+    expect_sent(&rt, (out.items.len() as u64, out.last), (0, lost));
     Ok(())
 }

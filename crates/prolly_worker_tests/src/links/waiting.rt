@@ -1,7 +1,7 @@
 //! What ends the wait of an end that sleeps, and what a sender of large items waits for.
 ghost use Rattle.std.specs.Prelude.{◌≤◌};
 
-use super::{CLEAN, receives, send_all};
+use super::{CLEAN, batches_give, expect_taken, link_gives, send_all};
 use prolly_fault::{BatchSender, End, Next, RunFault};
 use prolly_link::{BatchDrained, batch_link, link};
 use std::alloc::Global;
@@ -23,7 +23,7 @@ const LARGE_ITEMS: u32 = 20;
 
 // Fails unless an item of so many bytes is taken.
 fn sends_sized(rt: &(impl Abort + Wait), sender: &mut BatchSender<u32>, item: u32, bytes: usize) {
-    assert_eq!(rt; sender.send_sized(rt, item, bytes), Ok(()));
+    expect_taken(rt, sender.send_sized(rt, item, bytes));
 }
 
 // Lets the other thread wait.
@@ -51,7 +51,7 @@ fn ends_a_wait<R: Threads + Wait + Clock + Abort + Copy + Send + 'static>(
         }
     })?;
     let last = if is_closed { CLEAN } else { Next::Lost };
-    receives(&rt, &mut receiver, &[last]);
+    link_gives(&rt, &mut receiver, &[last]);
     late.join(&rt);
     Ok(())
 }
@@ -75,7 +75,7 @@ fn a_sender_that_sleeps_is_woken_once_there_is_room(rt: HostRuntime) -> Result<(
     let sending = thread::spawn(&rt, move || drop(send_all(&rt, sender, &[7, 8, 9])))?;
     keep_waiting(&rt);
     let expected = [Next::Item(7), Next::Item(8), Next::Item(9), CLEAN];
-    receives(&rt, &mut receiver, &expected);
+    link_gives(&rt, &mut receiver, &expected);
     sending.join(&rt);
     Ok(())
 }
@@ -86,10 +86,10 @@ fn a_large_item_does_not_wait_for_its_batch(rt: HostRuntime) -> Result<(), Fail>
     let (mut sender, mut receiver) = batch_link(rt.alloc(), 4, 2)?;
     for item in 0..6 {
         sends_sized(&rt, &mut sender, item, LARGE);
-        receives(&rt, &mut receiver, &[Next::Item(item)]);
+        batches_give(&rt, &mut receiver, &[Next::Item(item)]);
     }
     drop(sender);
-    receives(&rt, &mut receiver, &[Next::Lost]);
+    batches_give(&rt, &mut receiver, &[Next::Lost]);
     Ok(())
 }
 
@@ -99,7 +99,7 @@ fn items_that_are_large_together_do_not_wait_for_their_batch(rt: HostRuntime) ->
     let (mut sender, mut receiver) = batch_link(rt.alloc(), 4, 3)?;
     sends_sized(&rt, &mut sender, 7, LARGE - 1);
     sends_sized(&rt, &mut sender, 8, 1);
-    receives(&rt, &mut receiver, &[Next::Item(7), Next::Item(8)]);
+    batches_give(&rt, &mut receiver, &[Next::Item(7), Next::Item(8)]);
     Ok(())
 }
 
@@ -109,7 +109,7 @@ fn a_small_item_waits_for_its_batch(rt: HostRuntime) -> Result<(), Fail> {
     let (mut sender, mut receiver) = batch_link(rt.alloc(), 4, 2)?;
     sends_sized(&rt, &mut sender, 7, LARGE - 1);
     drop(sender);
-    receives(&rt, &mut receiver, &[Next::Lost]);
+    batches_give(&rt, &mut receiver, &[Next::Lost]);
     Ok(())
 }
 
@@ -129,9 +129,9 @@ fn large_items_go_across_a_link_with_room_for_one(rt: HostRuntime) -> Result<(),
     let sending = thread::spawn(&rt, move || send_large(&rt, sender))?;
     keep_waiting(&rt);
     for item in 0..LARGE_ITEMS {
-        receives(&rt, &mut receiver, &[Next::Item(item)]);
+        batches_give(&rt, &mut receiver, &[Next::Item(item)]);
     }
-    receives(&rt, &mut receiver, &[CLEAN]);
+    batches_give(&rt, &mut receiver, &[CLEAN]);
     sending.join(&rt);
     Ok(())
 }

@@ -3,6 +3,7 @@ ghost use Rattle.std.specs.Prelude.{◌≡◌};
 
 use prolly_link::{End, Out};
 use prolly_stage::{Gate, Worker};
+use std::process::Abort;
 use std::sync::Wait;
 use std::sync::atomic::{AtomicU64, Ordering};
 
@@ -24,13 +25,11 @@ impl Turns {
         }
     }
 
-    /// How often it was asked, in turn or not.
-    pub(super) fn asked(&self) -> u64 {
-        self.asked.load(Ordering::SeqCst)
-    }
-
-    pub(super) fn out_of_turn(&self) -> u64 {
-        self.out_of_turn.load(Ordering::SeqCst)
+    /// Fails unless it was asked so often, and each time in turn.
+    pub(super) fn expect_in_turn(&self, rt: &impl Abort, count: u64) {
+        let asked = self.asked.load(Ordering::SeqCst);
+        let out_of_turn = self.out_of_turn.load(Ordering::SeqCst);
+        assert_eq!(rt; (asked, out_of_turn), (count, 0));
     }
 }
 
