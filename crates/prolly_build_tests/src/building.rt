@@ -23,15 +23,16 @@ fn settings(stages: u8) -> Result<Config, Fail> {
     Ok(Config::new(0, stages, 4, 1_000)?)
 }
 
-/// Settings of twelve stages: the bits of a boundary, the capacity of the links, how many items a
-/// message has, and the version.
+/// Settings: the bits of a boundary, the stages, the capacity of the links, how many items a message
+/// has, and the version.
 fn settings_of(
     bits: u8,
+    stages: u8,
     capacity: u32,
     batch: u32,
     version: Version,
 ) -> Result<Config, ConfigFault> {
-    let config = Config::new(bits, 12, capacity, 1_000)?;
+    let config = Config::new(bits, stages, capacity, 1_000)?;
     config.with_batch(batch)?.with_version(version.to_byte())
 }
 
@@ -141,6 +142,8 @@ fn expect_file<R: Wait + Threads + Sync + Abort, G: Gate>(
 ) -> Result<Report, Fail> {
     let mut sources = sources_of(alloc, files)?;
     let sink = open_sink(alloc);
-    let report = expect_build(rt, alloc, config, gate, &mut sources, sink, None, file);
-    Ok(report.ok_or("no report")?)
+    let Some(report) = expect_build(rt, alloc, config, gate, &mut sources, sink, None, file) else {
+        return Err("no report".into());
+    };
+    Ok(report)
 }

@@ -118,43 +118,57 @@ const LONG_VALUE: Option<RunFault> = Some(RunFault::ValueTooLong { file: 0, plac
 
 const MANY: Option<RunFault> = Some(RunFault::TooManyRecords { file: 0 });
 
-/// Record files, the limit of records they are built with, the fault, and how many bytes of the
-/// chunk file of a=1 and b=1 are written.
-const CUT_FILES: [(&[u8], u32, Option<RunFault>, usize); 9] = [
-    (b"\0", 1_000, CUT, 6),
-    (b"\0\x01", 1_000, CUT, 6),
-    (b"\0\x01a\0\0", 1_000, CUT, 6),
-    (b"\0\x01a\0\0\0\x021", 1_000, CUT, 6),
-    (b"\0\x01a\xFF\xFF\xFF", 1_000, CUT, 6),
-    (b"\x04\x01", 1_000, LONG_KEY, 6),
-    (b"\0\0\0\x01\0\x01", 1_000, LONG_VALUE, 6),
-    (b"\0\x01a\xFF\xFF\xFF\xFE", 1_000, LONG_VALUE, 6),
-    (b"\0\x01a\xFF\xFF\xFF\xFF\0", 1, MANY, 6),
+const READ_FAILED: Option<RunFault> = Some(RunFault::Read { file: 0 });
+
+const SECOND_LONG_KEY: Option<RunFault> = Some(RunFault::KeyTooLong { file: 0, place: 1 });
+
+/// Record files, the limit of records they are built with, how many bytes a read gives, the read
+/// that would fail, the fault, and how many bytes of the chunk file of a=1 and b=1 are written.
+const CUT_FILES: [(&[u8], u32, usize, Option<u64>, Option<RunFault>, usize); 11] = [
+    (b"\0", 1_000, 4_096, None, CUT, 6),
+    (b"\0\x01", 1_000, 4_096, None, CUT, 6),
+    (b"\0\x01a\0\0", 1_000, 4_096, None, CUT, 6),
+    (b"\0\x01a\0\0\0\x021", 1_000, 4_096, None, CUT, 6),
+    (b"\0\x01a\xFF\xFF\xFF", 1_000, 4_096, None, CUT, 6),
+    (b"\x04\x01", 1_000, 4_096, None, LONG_KEY, 6),
+    (b"\0\0\0\x01\0\x01", 1_000, 4_096, None, LONG_VALUE, 6),
+    (
+        b"\0\x01a\xFF\xFF\xFF\xFE",
+        1_000,
+        4_096,
+        None,
+        LONG_VALUE,
+        6,
+    ),
+    (b"\0\x01a\xFF\xFF\xFF\xFF\0", 1, 4_096, None, MANY, 6),
+    (
+        b"\0\x01a\0\0\0\x011\0\x01b\0\0\0\x011",
+        1_000,
+        8,
+        Some(2),
+        READ_FAILED,
+        24,
+    ),
+    (
+        b"\0\x01a\0\0\0\x011\x04\x01",
+        1_000,
+        10,
+        Some(2),
+        SECOND_LONG_KEY,
+        24,
+    ),
 ];
 
+// Where a read would fail, it is the second one.
 #[test]
-fn files_are_cut(rt: HostRuntime) -> Result<(), Fail> {
+fn files_are_cut_and_second_reads_fail(rt: HostRuntime) -> Result<(), Fail> {
     let alloc = rt.alloc();
-    for &(file, limit, fault, taken) in &CUT_FILES {
+    for &(file, limit, step, fail_at, fault, taken) in &CUT_FILES {
         let config = Config::new(0, 12, 4, limit)?;
-        let sources = source_of(alloc, file, 4_096, None)?;
+        let sources = source_of(alloc, file, step, fail_at)?;
         expect_fault(&rt, alloc, &config, sources, fault, b"a1b1", taken)?;
     }
     Ok(())
-}
-
-const READ_FAILED: Option<RunFault> = Some(RunFault::Read { file: 0 });
-
-// A key that is too long is found before the second read, which would fail.
-#[test]
-fn second_reads_fail(rt: HostRuntime) -> Result<(), Fail> {
-    let alloc = rt.alloc();
-    let config = settings(12)?;
-    let sources = source_of(alloc, b"\0\x01a\0\0\0\x011\0\x01b\0\0\0\x011", 8, Some(2))?;
-    expect_fault(&rt, alloc, &config, sources, READ_FAILED, b"a1b1", 24)?;
-    let sources = source_of(alloc, b"\0\x01a\0\0\0\x011\x04\x01", 10, Some(2))?;
-    let long_key = Some(RunFault::KeyTooLong { file: 0, place: 1 });
-    expect_fault(&rt, alloc, &config, sources, long_key, b"a1b1", 24)
 }
 
 /// The record file of a=1, b=1 and c=1.

@@ -103,22 +103,33 @@ fn expect_met<R: Wait + Threads + Sync + Abort>(
     Ok(report)
 }
 
-#[test]
-fn two_loaders_are_at_work_at_once(rt: HostRuntime) -> Result<(), Fail> {
-    let gate = Meeting::at_first_items(Worker::Loader(0), Worker::Loader(1));
-    let files = [b"a1".as_slice(), b"b1"];
-    expect_met(&rt, rt.alloc(), &settings(12)?, &gate, &files, b"a1b1", 2)?;
-    Ok(())
-}
+/// Two workers beside each other, record files, the map that they come to, and the numbers of
+/// chunks, pairs and levels. Two mergers of two stand above files 0 and 1, and above files 2 and 3.
+const NEIGHBOURS_OF_ONE_KIND: [(Worker, Worker, &[&[u8]], &[u8], (u64, u64, u8)); 2] = [
+    (
+        Worker::Loader(0),
+        Worker::Loader(1),
+        &[b"a1", b"b1"],
+        b"a1b1",
+        (3, 2, 2),
+    ),
+    (
+        Worker::Merger(0),
+        Worker::Merger(1),
+        &[b"a1", b"b1", b"c1", b"d1"],
+        b"a1b1c1d1",
+        (7, 4, 3),
+    ),
+];
 
-// They stand beside each other, above files 0 and 1, and above files 2 and 3.
 #[test]
-fn two_mergers_of_two_are_at_work_at_once(rt: HostRuntime) -> Result<(), Fail> {
-    let gate = Meeting::at_first_items(Worker::Merger(0), Worker::Merger(1));
-    let files = [b"a1".as_slice(), b"b1", b"c1", b"d1"];
+fn two_loaders_and_two_mergers_are_at_work_at_once(rt: HostRuntime) -> Result<(), Fail> {
     let config = settings(12)?;
-    let report = expect_met(&rt, rt.alloc(), &config, &gate, &files, b"a1b1c1d1", 2)?;
-    expect_numbers(&rt, &report, (7, 4, 3));
+    for &(one, other, files, map, numbers) in &NEIGHBOURS_OF_ONE_KIND {
+        let gate = Meeting::at_first_items(one, other);
+        let report = expect_met(&rt, rt.alloc(), &config, &gate, files, map, 2)?;
+        expect_numbers(&rt, &report, numbers);
+    }
     Ok(())
 }
 
@@ -128,7 +139,7 @@ fn two_stages_are_at_work_at_once(rt: HostRuntime) -> Result<(), Fail> {
     for (batch, turns, met) in [(1, MANY_TURNS, 2), (2, 100_000, 1)] {
         let leaf_stage = Stop::new(Worker::Stage(0), 1);
         let gate = Meeting::new(leaf_stage, Stop::new(Worker::Stage(1), 0), turns);
-        let config = settings(2)?.with_batch(batch)?;
+        let config = settings_of(0, 2, 4, batch, Version::One)?;
         expect_met(&rt, rt.alloc(), &config, &gate, &[b"a1b1"], b"a1b1", met)?;
     }
     Ok(())

@@ -29,7 +29,7 @@ const SETTINGS: [(u8, u32, u32, Version); 4] = [
 fn later_files_win_and_removals_take_away(rt: HostRuntime) -> Result<(), Fail> {
     for &(files, map) in &MERGED_FILES {
         for &(bits, capacity, batch, version) in &SETTINGS {
-            let config = settings_of(bits, capacity, batch, version)?;
+            let config = settings_of(bits, 12, capacity, batch, version)?;
             let file = file_cut(rt.alloc(), bits, version, map)?;
             expect_file(&rt, rt.alloc(), &config, &OpenGate, files, &file)?;
         }

@@ -37,7 +37,7 @@ fn expect_over_links<R: Wait + Threads + Sync + Abort>(
     numbers: (u64, u64, u8),
 ) -> Result<(), Fail> {
     for &(capacity, batch) in &LINKS {
-        let config = settings_of(0, capacity, batch, Version::One)?;
+        let config = settings_of(0, 12, capacity, batch, Version::One)?;
         let report = expect_file(rt, alloc, &config, &OpenGate, files, file)?;
         expect_numbers(rt, &report, numbers);
     }
@@ -81,7 +81,7 @@ fn begun_in_version_two(
 fn version_two_is_longer(rt: HostRuntime) -> Result<(), Fail> {
     for &(map, stages, fault, taken) in &VERSION_TWO {
         let begun = begun_in_version_two(&rt, rt.alloc(), map, taken)?;
-        let config = settings(stages)?.with_version(2)?;
+        let config = settings_of(0, stages, 4, 1, Version::Two)?;
         let sources = sources_of(rt.alloc(), &[map])?;
         let sink = open_sink(rt.alloc());
         expect_taken(&rt, rt.alloc(), &config, sources, sink, fault, &begun);
