@@ -16,7 +16,7 @@ const FIRST_FAULT: End = End::Fault(RunFault::OutOfOrder { file: 0, place: 1 });
 const SECOND_FAULT: End = End::Fault(RunFault::OutOfOrder { file: 1, place: 1 });
 
 /// Each is spelled as in `records_of`, with its end: inputs, what comes of them, and the end.
-const MANY_INPUTS: [(&[(&[u8], End)], &[u8], End); 13] = [
+static MANY_INPUTS: [(&[(&[u8], End)], &[u8], End); 13] = [
     (&[], b"", CLEAN),
     (&[(b"a1", CLEAN), (b"a2", CLEAN)], b"a2", CLEAN),
     (
@@ -89,28 +89,25 @@ fn merges_many_inputs(rt: HostRuntime) -> Result<(), Fail> {
     Ok(())
 }
 
-/// The same as `MANY_INPUTS`, for two inputs whose removals are sent too.
-const TWO_INPUTS: [((&[u8], End), (&[u8], End), &[u8], End); 5] = [
-    ((b"a1c1", CLEAN), (b"a2b2", CLEAN), b"a2b2c1", CLEAN),
+/// Two inputs, each with its end, what comes of them where removals are sent too, and the end.
+const TWO_INPUTS: [(&[u8], End, &[u8], End, &[u8], End); 5] = [
+    (b"a1c1", CLEAN, b"a2b2", CLEAN, b"a2b2c1", CLEAN),
+    (b"51", FIRST_FAULT, b"52", SECOND_FAULT, b"52", FIRST_FAULT),
     (
-        (b"51", FIRST_FAULT),
-        (b"52", SECOND_FAULT),
-        b"52",
+        b"5161",
         FIRST_FAULT,
-    ),
-    (
-        (b"5161", FIRST_FAULT),
-        (b"52", SECOND_FAULT),
+        b"52",
+        SECOND_FAULT,
         b"52",
         SECOND_FAULT,
     ),
-    ((b"a1b1", CLEAN), (b"a-", CLEAN), b"a-b1", CLEAN),
-    ((b"a-", CLEAN), (b"", FIRST_FAULT), b"", FIRST_FAULT),
+    (b"a1b1", CLEAN, b"a-", CLEAN, b"a-b1", CLEAN),
+    (b"a-", CLEAN, b"", FIRST_FAULT, b"", FIRST_FAULT),
 ];
 
 #[test]
 fn merges_two_inputs_with_their_removals(rt: HostRuntime) -> Result<(), Fail> {
-    for &((left, left_end), (right, right_end), sent, last) in &TWO_INPUTS {
+    for &(left, left_end, right, right_end, sent, last) in &TWO_INPUTS {
         let left = list_of(rt.alloc(), left, left_end)?;
         let right = list_of(rt.alloc(), right, right_end)?;
         expect_two_merged(&rt, rt.alloc(), left, right, sent, last)?;

@@ -175,9 +175,9 @@ fn a_stage_runs_between_threads(rt: HostRuntime) -> Result<(), Fail> {
             requires { (input.items ≡ []) × (out.items ≡ []) }
         { leaves_over_links(&rt, rt.alloc(), &OpenGate, input, out) },
     )?;
-    expect_stage_at_work(&rt, rt.alloc(), pairs, &mut events)?;
+    let worked = expect_stage_at_work(&rt, rt.alloc(), pairs, &mut events);
     drop(stage.join(&rt));
-    Ok(())
+    worked
 }
 
 #[test]
