@@ -23,8 +23,8 @@ fn settings(stages: u8) -> Result<Config, Fail> {
     Ok(Config::new(0, stages, 4, 1_000)?)
 }
 
-/// Settings: the bits of a boundary, the stages, the capacity of the links, how many items a message
-/// has, and the version.
+/// Settings: the bits of a boundary, the stages, the capacity of the links, how many items a
+/// message has, and the version.
 fn settings_of(
     bits: u8,
     stages: u8,
