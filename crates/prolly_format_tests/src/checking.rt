@@ -1,5 +1,6 @@
 //! The checker and look-ups on small files.
 
+use crate::expect::expect_eq;
 use prolly_check::{CheckFault, Tree, check};
 use prolly_entry::{Pair, Sha512Cut, Version};
 use prolly_file::{FromRead, scratch_as};
@@ -44,6 +45,11 @@ fn file_of_three(alloc: Global, version: Version) -> Result<Vec<u8>, Fail> {
     file_of(alloc, version, &pairs_of(alloc, &[b"a", b"b", b"c"])?)
 }
 
+/// The tree of a=1, b=1 and c=1, of 0 bits.
+fn tree_of_three(alloc: Global, version: Version) -> Result<Tree, Fail> {
+    Ok(checked(alloc, &file_of_three(alloc, version)?)?)
+}
+
 /// The bytes of a file of version One and 0 bits with these chunks, of which the last is the root.
 fn file_with(alloc: Global, chunks: &[&[u8]]) -> Result<Vec<u8>, Fail> {
     Ok(chunk_file(alloc, [1, 0], chunks)?)
@@ -55,12 +61,8 @@ fn checked(alloc: Global, bytes: &[u8]) -> Result<Tree, CheckFault> {
 
 /// Fails unless these bytes are refused for this fault.
 fn expect_fault(rt: &impl Abort, alloc: Global, bytes: &[u8], fault: CheckFault) {
-    assert_eq!(rt;
-        checked(alloc, bytes).err(),
-        Some(fault),
-        "{} bytes",
-        bytes.len()
-    );
+    let answer = (bytes.len(), checked(alloc, bytes).err());
+    expect_eq(rt, &answer, &(bytes.len(), Some(fault)));
 }
 
 /// Puts a byte in the place of another.

@@ -1,4 +1,5 @@
 //! Chunk files, and the sources and sinks of bytes.
+use crate::expect::expect_eq;
 use prolly_file::{Sink, SinkFault, Source, SourceFault};
 use std::process::Abort;
 
@@ -19,7 +20,7 @@ fn reads<S: Source>(
     answers: &[Result<usize, SourceFault>],
 ) {
     for answer in answers {
-        assert_eq!(rt; source.read(buf), *answer);
+        expect_eq(rt, &source.read(buf), answer);
     }
 }
 
@@ -31,13 +32,13 @@ fn writes<S: Sink>(
     answers: &[Result<usize, SinkFault>],
 ) {
     for answer in answers {
-        assert_eq!(rt; sink.write(bytes), *answer);
+        expect_eq(rt, &sink.write(bytes), answer);
     }
 }
 
 /// Flushes as often as there are answers, which must be these.
 fn flushes<S: Sink>(rt: &impl Abort, sink: &mut S, answers: &[Result<(), SinkFault>]) {
     for answer in answers {
-        assert_eq!(rt; sink.flush(), *answer);
+        expect_eq(rt, &sink.flush(), answer);
     }
 }

@@ -1,9 +1,9 @@
 //! The levels of leaves and of nodes, entry by entry.
 ghost use Rattle.std.specs.Prelude.{◌≤◌};
 
-use crate::expect::expect_bytes;
+use crate::expect::{expect_bytes, expect_eq};
 use prolly_chunk::{ChunkEvent, LeafLevel, NodeLevel};
-use prolly_entry::{KeyCut, Ref, Version};
+use prolly_entry::{KeyCut, Pair, Ref, Version};
 use prolly_test_parts::{joined, pairs_of};
 use std::alloc::Global;
 use std::process::Abort;
@@ -34,15 +34,41 @@ const LAST_REFERENCE: Ref = Ref([
     0xcf, 0x45, 0x43, 0x95,
 ]);
 
+/// Adds what a level of leaves answers to these pairs.
+fn push_leaf_answers(
+    alloc: Global,
+    leaves: &mut LeafLevel<KeyCut>,
+    pairs: &[Pair],
+    answers: &mut Vec<Option<ChunkEvent>>,
+) -> Result<(), Fail> {
+    for pair in pairs {
+        answers.push(leaves.push(alloc, pair)?)?;
+    }
+    Ok(())
+}
+
 /// What a level of leaves answers to keys, each with the value 1, and then at the end.
 fn leaf_answers(alloc: Global, keys: &[&[u8]]) -> Result<Vec<Option<ChunkEvent>>, Fail> {
     let mut leaves = LeafLevel::new(alloc, KeyCut)?;
     let mut answers = Vec::new(alloc);
-    for pair in &pairs_of(alloc, keys)? {
-        answers.push(leaves.push(alloc, pair)?)?;
-    }
+    push_leaf_answers(alloc, &mut leaves, &pairs_of(alloc, keys)?, &mut answers)?;
     answers.push(leaves.finish())?;
     Ok(answers)
+}
+
+/// Adds what a level of nodes answers to the events among these answers.
+fn push_node_answers(
+    alloc: Global,
+    nodes: &mut NodeLevel<KeyCut>,
+    below: &[Option<ChunkEvent>],
+    answers: &mut Vec<Option<ChunkEvent>>,
+) -> Result<(), Fail> {
+    for answer in below {
+        if let Some(event) = answer {
+            answers.push(nodes.push(alloc, event)?)?;
+        }
+    }
+    Ok(())
 }
 
 /// What a level of nodes answers to the events among those answers, and then at the end.
@@ -56,27 +82,35 @@ fn node_answers(
 {
     let mut nodes = NodeLevel::new(alloc, version, level, KeyCut)?;
     let mut answers = Vec::new(alloc);
-    for answer in below {
-        if let Some(event) = answer {
-            answers.push(nodes.push(alloc, event)?)?;
-        }
-    }
+    push_node_answers(alloc, &mut nodes, below, &mut answers)?;
     answers.push(nodes.finish())?;
     Ok(answers)
 }
 
-/// The bytes of an answer's chunk, and none where it has no chunk.
-fn bytes_of(answer: &Option<ChunkEvent>) -> &[u8] {
-    match answer {
-        Some(event) => event.bytes(),
-        None => b"",
+/// What a level of nodes answers to what a level of leaves answers to keys.
+fn node_answers_to(
+    alloc: Global,
+    version: Version,
+    level: u8,
+    keys: &[&[u8]],
+) -> Result<Vec<Option<ChunkEvent>>, Fail>
+    requires { 1 ≤ level }
+{
+    node_answers(alloc, version, level, &leaf_answers(alloc, keys)?)
+}
+
+/// The bytes of the chunk of the answer at a place, and none where there is no chunk.
+fn bytes_at(answers: &[Option<ChunkEvent>], place: usize) -> &[u8] {
+    match answers.get(place) {
+        Some(Some(event)) => event.bytes(),
+        _ => b"",
     }
 }
 
 fn expect_chunks(rt: &impl Abort, answers: &[Option<ChunkEvent>], want: &[&[u8]]) {
-    assert_eq!(rt; answers.len(), want.len());
-    for (answer, want) in answers.iter().zip(want) {
-        expect_bytes(rt, bytes_of(answer), want);
+    expect_eq(rt, &answers.len(), &want.len());
+    for (place, want) in want.iter().enumerate() {
+        expect_bytes(rt, bytes_at(answers, place), want);
     }
 }
 
@@ -105,10 +139,8 @@ fn events_tell_of_their_chunk(rt: HostRuntime) -> Result<(), Fail> {
         return Err("open".into());
     };
     expect_bytes(&rt, event.key(), b"b!");
-    assert_eq!(rt;
-        (event.level(), event.count(), event.reference()),
-        (0, 2, FIRST_REFERENCE)
-    );
+    let answer = (event.level(), event.count(), event.reference());
+    expect_eq(&rt, &answer, &(0, 2, FIRST_REFERENCE));
     Ok(())
 }
 
@@ -126,7 +158,7 @@ fn second_boundaries_close_nodes(rt: HostRuntime) -> Result<(), Fail> {
     )?;
     let last = joined(alloc, &[b"\x01\0\x01e", &LAST_REFERENCE.0])?;
 
-    let answers = node_answers(alloc, Version::One, 1, &leaf_answers(alloc, &KEYS)?)?;
+    let answers = node_answers_to(alloc, Version::One, 1, &KEYS)?;
     expect_chunks(&rt, &answers, &[b"", &node, b"", &last]);
     Ok(())
 }
@@ -137,26 +169,21 @@ fn version_two_counts_in_its_entries(rt: HostRuntime) -> Result<(), Fail> {
     let count = b"\0\0\0\0\0\0\0\x01";
     let last = joined(alloc, &[b"\x01\0\x01e", &LAST_REFERENCE.0, count])?;
 
-    let answers = node_answers(alloc, Version::Two, 1, &leaf_answers(alloc, &KEYS)?)?;
-    let Some(Some(event)) = answers.get(3) else {
-        return Err("nothing left".into());
-    };
-    expect_bytes(&rt, event.bytes(), &last);
+    let answers = node_answers_to(alloc, Version::Two, 1, &KEYS)?;
+    expect_bytes(&rt, bytes_at(&answers, 3), &last);
     Ok(())
 }
 
 #[test]
 fn a_single_event_needs_no_node(rt: HostRuntime) -> Result<(), Fail> {
-    let alloc = rt.alloc();
-    let answers = node_answers(alloc, Version::One, 1, &leaf_answers(alloc, &[b"a"])?)?;
+    let answers = node_answers_to(rt.alloc(), Version::One, 1, &[b"a"])?;
     expect_chunks(&rt, &answers, &[b"", b""]);
     Ok(())
 }
 
 #[test]
 fn events_of_other_levels_pass_by(rt: HostRuntime) -> Result<(), Fail> {
-    let alloc = rt.alloc();
-    let answers = node_answers(alloc, Version::One, 2, &leaf_answers(alloc, &KEYS)?)?;
+    let answers = node_answers_to(rt.alloc(), Version::One, 2, &KEYS)?;
     expect_chunks(&rt, &answers, &[b"", b"", b"", b""]);
     Ok(())
 }

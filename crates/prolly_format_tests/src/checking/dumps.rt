@@ -1,10 +1,11 @@
 //! The pairs of a file, written as a record file.
 
-use super::{FILE_OF_NONE, checked, file_of, file_of_three};
-use crate::expect::expect_bytes;
+use super::{FILE_OF_NONE, checked, file_of, file_of_three, tree_of_three};
+use crate::expect::{expect_bytes, expect_eq};
 use prolly_check::Tree;
 use prolly_entry::{Version, records};
 use prolly_file::{ScriptSink, ToWrite, WriteFault};
+use std::alloc::Global;
 use std::process::Abort;
 use std::test::Fail;
 
@@ -19,7 +20,7 @@ fn expect_records(
     answer: Result<(), WriteFault>,
     taken: &[u8],
 ) {
-    assert_eq!(rt; tree.write_records(&mut sink), answer);
+    expect_eq(rt, &tree.write_records(&mut sink), &answer);
     expect_bytes(rt, sink.taken(), taken);
 }
 
@@ -27,7 +28,7 @@ fn expect_records(
 fn writes_the_spellings_of_the_pairs(rt: HostRuntime) -> Result<(), Fail> {
     let alloc = rt.alloc();
     for version in [Version::One, Version::Two] {
-        let tree = checked(alloc, &file_of_three(alloc, version)?)?;
+        let tree = tree_of_three(alloc, version)?;
         let sink = ScriptSink::new(alloc, 5, None);
         expect_records(&rt, &tree, sink, Ok(()), RECORDS_OF_THREE);
     }
@@ -37,18 +38,35 @@ fn writes_the_spellings_of_the_pairs(rt: HostRuntime) -> Result<(), Fail> {
     Ok(())
 }
 
+/// Fails unless a failure of this call leaves these bytes written.
+fn expect_stop(rt: &impl Abort, alloc: Global, tree: &Tree, fail_at: u64, taken: &[u8]) {
+    let sink = ScriptSink::new(alloc, 8, Some(fail_at));
+    expect_records(rt, tree, sink, Err(WriteFault), taken);
+}
+
 #[test]
 fn stops_at_a_failed_call(rt: HostRuntime) -> Result<(), Fail> {
     let alloc = rt.alloc();
-    let tree = checked(alloc, &file_of_three(alloc, Version::One)?)?;
-
+    let tree = tree_of_three(alloc, Version::One)?;
     // Each write takes a leaf, of eight bytes, so the call after three is the flush.
-    for (fail_at, count) in [(1, 0), (3, 16), (4, 24)] {
-        let sink = ScriptSink::new(alloc, 8, Some(fail_at));
-        let taken = &RECORDS_OF_THREE[..count];
-        expect_records(&rt, &tree, sink, Err(WriteFault), taken);
-    }
+    expect_stop(&rt, alloc, &tree, 1, b"");
+    expect_stop(&rt, alloc, &tree, 3, &RECORDS_OF_THREE[..16]);
+    expect_stop(&rt, alloc, &tree, 4, RECORDS_OF_THREE);
     Ok(())
+}
+
+/// The records of a file.
+fn records_of(alloc: Global, file: &[u8]) -> Result<Vec<u8>, Fail> {
+    let mut written = Vec::new(alloc);
+    checked(alloc, file)?.write_records(&mut ToWrite::new(&mut written))?;
+    Ok(written)
+}
+
+/// The file of the records of a file.
+fn made_again(alloc: Global, version: Version, file: &[u8]) -> Result<Vec<u8>, Fail> {
+    let written = records_of(alloc, file)?;
+    let pairs = records(alloc, &written, 3).ok().ok_or("a fault")?;
+    file_of(alloc, version, &pairs)
 }
 
 #[test]
@@ -56,11 +74,7 @@ fn makes_the_same_file_again(rt: HostRuntime) -> Result<(), Fail> {
     let alloc = rt.alloc();
     for version in [Version::One, Version::Two] {
         let file = file_of_three(alloc, version)?;
-        let mut written = Vec::new(alloc);
-        let answer = checked(alloc, &file)?.write_records(&mut ToWrite::new(&mut written));
-        assert_eq!(rt; answer, Ok(()));
-        let pairs = records(alloc, &written, 3).ok().ok_or("a fault")?;
-        expect_bytes(&rt, &file_of(alloc, version, &pairs)?, &file);
+        expect_bytes(&rt, &made_again(alloc, version, &file)?, &file);
     }
     Ok(())
 }

@@ -1,10 +1,11 @@
 //! The leaves of a map, one after another.
 
-use super::{FILE_OF_NONE, checked, file_of, file_of_three};
-use crate::expect::expect_bytes;
+use super::{FILE_OF_NONE, checked, file_of, tree_of_three};
+use crate::expect::{expect_bytes, expect_eq};
 use prolly_check::{Pairs, Tree};
 use prolly_entry::Version;
 use prolly_test_parts::pairs_of;
+use std::alloc::Global;
 use std::process::Abort;
 use std::test::Fail;
 
@@ -29,11 +30,9 @@ fn expect_leaves(rt: &impl Abort, tree: &Tree, expected: &[&[u8]]) {
 fn gives_each_leaf_by_itself(rt: HostRuntime) -> Result<(), Fail> {
     let alloc = rt.alloc();
     for version in [Version::One, Version::Two] {
-        let tree = checked(alloc, &file_of_three(alloc, version)?)?;
-        expect_leaves(&rt, &tree, &LEAVES_OF_THREE);
+        expect_leaves(&rt, &tree_of_three(alloc, version)?, &LEAVES_OF_THREE);
     }
-    let empty = checked(alloc, &FILE_OF_NONE)?;
-    expect_leaves(&rt, &empty, &[]);
+    expect_leaves(&rt, &checked(alloc, &FILE_OF_NONE)?, &[]);
     Ok(())
 }
 
@@ -42,26 +41,44 @@ fn first_leaf(tree: &Tree) -> Result<Pairs<'_>, Fail> {
     Ok(tree.leaves().next().ok_or("no leaf")?)
 }
 
-#[test]
-fn tells_whether_leaves_are_the_same(rt: HostRuntime) -> Result<(), Fail> {
-    let alloc = rt.alloc();
-    let three = checked(alloc, &file_of_three(alloc, Version::One)?)?;
-    for (key, same) in [(b"a", true), (b"b", false)] {
-        let pairs = pairs_of(alloc, &[key])?;
-        let one = checked(alloc, &file_of(alloc, Version::Two, &pairs)?)?;
-        assert_eq!(rt; first_leaf(&three)?.is_same(&first_leaf(&one)?), same);
-    }
+/// The tree of a key alone, with the value 1, of version Two and 0 bits.
+fn tree_of_one(alloc: Global, key: &[u8]) -> Result<Tree, Fail> {
+    let pairs = pairs_of(alloc, &[key])?;
+    Ok(checked(alloc, &file_of(alloc, Version::Two, &pairs)?)?)
+}
+
+/// Fails unless the first leaf of the map is the same as that of a key alone, or is another.
+fn expect_same(
+    rt: &impl Abort,
+    alloc: Global,
+    tree: &Tree,
+    key: &[u8],
+    same: bool,
+) -> Result<(), Fail> {
+    let one = tree_of_one(alloc, key)?;
+    let answer = first_leaf(tree)?.is_same(&first_leaf(&one)?);
+    expect_eq(rt, &(key, answer), &(key, same));
     Ok(())
 }
 
 #[test]
-fn gives_the_pairs_of_a_leaf(rt: HostRuntime) -> Result<(), Fail> {
-    let alloc = rt.alloc();
-    let tree = checked(alloc, &file_of_three(alloc, Version::One)?)?;
-    let mut leaf = first_leaf(&tree)?;
+fn tells_whether_leaves_are_the_same(rt: HostRuntime) -> Result<(), Fail> {
+    let three = tree_of_three(rt.alloc(), Version::One)?;
+    expect_same(&rt, rt.alloc(), &three, b"a", true)?;
+    expect_same(&rt, rt.alloc(), &three, b"b", false)
+}
+
+/// Fails unless a leaf has this pair, and then no more.
+fn expect_single_pair(rt: &impl Abort, mut leaf: Pairs<'_>, pair: (&[u8], &[u8])) {
     assert!(rt; !leaf.is_empty());
-    assert_eq!(rt; leaf.next(), Some((b"a".as_slice(), b"1".as_slice())));
+    expect_eq(rt, &leaf.next(), &Some(pair));
     assert!(rt; leaf.is_empty());
-    assert_eq!(rt; leaf.next(), None);
+    expect_eq(rt, &leaf.next(), &None);
+}
+
+#[test]
+fn gives_the_pairs_of_a_leaf(rt: HostRuntime) -> Result<(), Fail> {
+    let tree = tree_of_three(rt.alloc(), Version::One)?;
+    expect_single_pair(&rt, first_leaf(&tree)?, (b"a", b"1"));
     Ok(())
 }

@@ -1,31 +1,33 @@
 //! Values by their keys, and ranges of pairs.
 
-use super::{checked, file_of_three};
-use crate::expect::expect_bytes;
+use super::tree_of_three;
+use crate::expect::{expect_bytes, expect_eq};
 use prolly_check::Tree;
 use prolly_entry::Version;
 use std::alloc::Global;
 use std::process::Abort;
 use std::test::Fail;
 
-/// Fails unless these keys have these values in the map of a=1, b=1 and c=1.
+/// Keys, and their values in the map of a=1, b=1 and c=1.
+const VALUES: [(&[u8], Option<&[u8]>); 5] = [
+    (b"a", Some(b"1")),
+    (b"c", Some(b"1")),
+    (b"", None),
+    (b"b\0", None),
+    (b"z", None),
+];
+
+/// Fails unless the keys have their values.
 fn expect_values(rt: &impl Abort, tree: &Tree) {
-    for (key, value) in [
-        (b"a".as_slice(), Some(b"1".as_slice())),
-        (b"c".as_slice(), Some(b"1".as_slice())),
-        (b"".as_slice(), None),
-        (b"b\0".as_slice(), None),
-        (b"z".as_slice(), None),
-    ] {
-        assert_eq!(rt; tree.get(key), value);
+    for (key, value) in &VALUES {
+        expect_eq(rt, &tree.get(key), value);
     }
 }
 
 #[test]
 fn finds_values(rt: HostRuntime) -> Result<(), Fail> {
     for version in [Version::One, Version::Two] {
-        let tree = checked(rt.alloc(), &file_of_three(rt.alloc(), version)?)?;
-        expect_values(&rt, &tree);
+        expect_values(&rt, &tree_of_three(rt.alloc(), version)?);
     }
     Ok(())
 }
@@ -49,20 +51,28 @@ fn expect_scan(
     Ok(())
 }
 
+/// Scans of the map of a=1, b=1 and c=1: from which key, how many pairs at most, and what they give.
+const SCANS: [(&[u8], u32, &[u8]); 6] = [
+    (b"b", 1, b"b"),
+    (b"b", 5, b"bc"),
+    (b"b\0", 5, b"c"),
+    (b"", 0, b""),
+    (b"", 10, b"abc"),
+    (b"z", 10, b""),
+];
+
+/// Fails unless the scans give what they are to.
+fn expect_scans(rt: &impl Abort, alloc: Global, tree: &Tree) -> Result<(), Fail> {
+    for (from, limit, keys) in &SCANS {
+        expect_scan(rt, alloc, tree, from, *limit, keys)?;
+    }
+    Ok(())
+}
+
 #[test]
 fn scans_from_a_key(rt: HostRuntime) -> Result<(), Fail> {
     for version in [Version::One, Version::Two] {
-        let tree = checked(rt.alloc(), &file_of_three(rt.alloc(), version)?)?;
-        for (from, limit, keys) in [
-            (b"b".as_slice(), 1, b"b".as_slice()),
-            (b"b".as_slice(), 5, b"bc".as_slice()),
-            (b"b\0".as_slice(), 5, b"c".as_slice()),
-            (b"".as_slice(), 0, b"".as_slice()),
-            (b"".as_slice(), 10, b"abc".as_slice()),
-            (b"z".as_slice(), 10, b"".as_slice()),
-        ] {
-            expect_scan(&rt, rt.alloc(), &tree, from, limit, keys)?;
-        }
+        expect_scans(&rt, rt.alloc(), &tree_of_three(rt.alloc(), version)?)?;
     }
     Ok(())
 }

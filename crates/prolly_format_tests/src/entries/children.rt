@@ -1,4 +1,5 @@
 //! Child entries, as they are spelled.
+use crate::expect::expect_eq;
 use prolly_entry::{ChildAt, Version, front_child, front_child_as};
 
 /// A child whose greatest key is `a` and whose reference begins the SHA-512 of `abc`, with a count
@@ -14,9 +15,9 @@ fn finds_an_entry_once_it_is_whole(rt: HostRuntime) {
         key_end: 3,
         len: 23,
     });
-    assert_eq!(rt; front_child(&ENTRY[..22]), None);
-    assert_eq!(rt; front_child(&ENTRY[..23]), without_count);
-    assert_eq!(rt; front_child(&ENTRY), without_count);
+    expect_eq(&rt, &front_child(&ENTRY[..22]), &None);
+    expect_eq(&rt, &front_child(&ENTRY[..23]), &without_count);
+    expect_eq(&rt, &front_child(&ENTRY), &without_count);
 }
 
 #[test]
@@ -25,8 +26,8 @@ fn wants_a_count_in_version_two(rt: HostRuntime) {
         key_end: 3,
         len: 31,
     });
-    assert_eq!(rt; front_child_as(Version::Two, &ENTRY[..23]), None);
-    assert_eq!(rt; front_child_as(Version::Two, &ENTRY), with_count);
+    expect_eq(&rt, &front_child_as(Version::Two, &ENTRY[..23]), &None);
+    expect_eq(&rt, &front_child_as(Version::Two, &ENTRY), &with_count);
 }
 
 #[test]
@@ -37,7 +38,7 @@ fn refuses_a_key_over_the_limit(rt: HostRuntime) {
         key_end: 1_026,
         len: 1_046,
     });
-    assert_eq!(rt; front_child(&bytes), longest);
+    expect_eq(&rt, &front_child(&bytes), &longest);
     bytes[1] = 0x01;
-    assert_eq!(rt; front_child(&bytes), None);
+    expect_eq(&rt, &front_child(&bytes), &None);
 }

@@ -1,6 +1,9 @@
 //! Boundaries, as they follow from printed digests.
+use crate::expect::expect_eq;
 use prolly_entry::{Cut, KeyCut, Sha512Cut};
 use sha2::{Digest, Sha512};
+use std::alloc::{AllocError, Global};
+use std::process::Abort;
 use std::test::Fail;
 
 /// Messages with their digests, as FIPS 180-4's examples and other tools print them.
@@ -22,34 +25,49 @@ const DIGESTS: [(&[u8], &str); 3] = [
     ),
 ];
 
-#[test]
-fn sha512_is_the_standard(rt: HostRuntime) -> Result<(), Fail> {
-    for (message, digest) in DIGESTS {
-        let text = hex::encode(rt.alloc(), Sha512::digest(message).as_slice())?;
-        assert!(rt; text.as_str() == digest, "{text}");
-    }
+/// Fails unless a message has this digest.
+fn expect_digest(
+    rt: &impl Abort,
+    alloc: Global,
+    message: &[u8],
+    digest: &str,
+) -> Result<(), AllocError> {
+    let text = hex::encode(alloc, Sha512::digest(message).as_slice())?;
+    expect_eq(rt, &text.as_str(), &digest);
     Ok(())
 }
 
 #[test]
-fn boundaries_are_multiples(rt: HostRuntime) -> Result<(), Fail> {
-    for (entry, bits, boundary) in [
-        (b"abc".as_slice(), 0, true),
-        (b"abc".as_slice(), 1, true),
-        (b"abc".as_slice(), 2, false),
-        (b"".as_slice(), 2, true),
-        (b"".as_slice(), 3, false),
-    ] {
-        let cut = Sha512Cut::new(bits).ok_or("bits")?;
-        assert_eq!(rt; (cut.bits(), cut.is_boundary(entry)), (bits, boundary));
+fn sha512_is_the_standard(rt: HostRuntime) -> Result<(), Fail> {
+    for (message, digest) in &DIGESTS {
+        expect_digest(&rt, rt.alloc(), message, digest)?;
     }
-    assert_eq!(rt; Sha512Cut::new(25), None);
+    Ok(())
+}
+
+/// Entries, and whether they are boundaries at so many bits.
+const BOUNDARIES: [(&[u8], u8, bool); 5] = [
+    (b"abc", 0, true),
+    (b"abc", 1, true),
+    (b"abc", 2, false),
+    (b"", 2, true),
+    (b"", 3, false),
+];
+
+#[test]
+fn boundaries_are_multiples(rt: HostRuntime) -> Result<(), Fail> {
+    for case in &BOUNDARIES {
+        let (entry, bits, _) = *case;
+        let cut = Sha512Cut::new(bits).ok_or("bits")?;
+        expect_eq(&rt, &(entry, cut.bits(), cut.is_boundary(entry)), case);
+    }
+    expect_eq(&rt, &Sha512Cut::new(25), &None);
     Ok(())
 }
 
 #[test]
 fn key_cut_looks_at_the_keys_last_byte(rt: HostRuntime) {
-    assert_eq!(rt; KeyCut.bits(), 255);
+    expect_eq(&rt, &KeyCut.bits(), &255);
     assert!(rt; KeyCut.is_boundary(b"\0\x02b!\0\0\0\x011"));
     assert!(rt; !KeyCut.is_boundary(b"\0\x01a\0\0\0\x01!"));
     assert!(rt; !KeyCut.is_boundary(b"\0\x00!"));

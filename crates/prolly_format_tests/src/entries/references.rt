@@ -1,4 +1,5 @@
 //! References and their texts.
+use crate::expect::expect_eq;
 use prolly_entry::Ref;
 
 /// What a message hashes to, by another program, and the text of that.
@@ -7,28 +8,31 @@ const ABC: [u8; 20] = [
     0x12, 0xe6, 0xfa, 0x4e,
 ];
 
-const ABC_TEXT: [u8; 32] = *b"rmnjb8cjc5tblj21ed4qs821649eduie";
+const ABC_TEXT: &[u8; 32] = b"rmnjb8cjc5tblj21ed4qs821649eduie";
+
+/// Messages, and the texts of what they hash to.
+const TEXTS: [(&[u8], &[u8; 32]); 3] = [
+    (b"abc", ABC_TEXT),
+    (b"", b"pu1u2dbutusbrsak518dcrc00vb21p05"),
+    (b"\0", b"n0i4q0k9g7b97brr8llfhrt4pbb3qa1e"),
+];
 
 #[test]
 fn references_have_their_text(rt: HostRuntime) {
-    assert_eq!(rt; Ref::of(b"abc"), Ref(ABC));
-    for (message, text) in [
-        (b"abc".as_slice(), ABC_TEXT),
-        (b"", *b"pu1u2dbutusbrsak518dcrc00vb21p05"),
-        (b"\0", *b"n0i4q0k9g7b97brr8llfhrt4pbb3qa1e"),
-    ] {
-        assert_eq!(rt; Ref::of(message).to_text(), text);
+    expect_eq(&rt, &Ref::of(b"abc"), &Ref(ABC));
+    for (message, text) in &TEXTS {
+        expect_eq(&rt, &Ref::of(message).to_text(), *text);
     }
 }
 
 #[test]
 fn only_the_text_of_a_reference_is_read(rt: HostRuntime) {
-    for (text, reference) in [
-        (ABC_TEXT.as_slice(), Some(Ref(ABC))),
-        (&ABC_TEXT[..31], None),
-        (b"wmnjb8cjc5tblj21ed4qs821649eduie", None),
-        (b"Rmnjb8cjc5tblj21ed4qs821649eduie", None),
+    expect_eq(&rt, &Ref::from_text(ABC_TEXT), &Some(Ref(ABC)));
+    for text in [
+        &ABC_TEXT[..31],
+        b"wmnjb8cjc5tblj21ed4qs821649eduie",
+        b"Rmnjb8cjc5tblj21ed4qs821649eduie",
     ] {
-        assert_eq!(rt; Ref::from_text(text), reference);
+        expect_eq(&rt, &Ref::from_text(text), &None);
     }
 }

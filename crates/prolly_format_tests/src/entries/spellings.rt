@@ -3,6 +3,8 @@ use crate::expect::expect_bytes;
 use prolly_entry::{
     Pair, Record, Ref, Version, append_child, append_child_as, append_pair, append_record,
 };
+use std::alloc::AllocError;
+use std::process::Abort;
 use std::test::Fail;
 
 const REFERENCE: Ref = Ref([
@@ -18,18 +20,27 @@ fn appends_a_pair(rt: HostRuntime) -> Result<(), Fail> {
     Ok(())
 }
 
+/// Fails unless the bytes are these once a record is appended to them.
+fn expect_appended(
+    rt: &impl Abort,
+    out: &mut Vec<u8>,
+    record: Record,
+    bytes: &[u8],
+) -> Result<(), AllocError> {
+    append_record(out, &record)?;
+    expect_bytes(rt, out, bytes);
+    Ok(())
+}
+
 #[test]
 fn appends_records(rt: HostRuntime) -> Result<(), Fail> {
-    let removal = Record::removal_of(rt.alloc(), b"a")?;
-    let put = Record::put(Pair::copy_of(rt.alloc(), b"", b"")?);
-    let mut out = Vec::new(rt.alloc());
-    for (record, bytes) in [
-        (&removal, b"\0\x01a\xFF\xFF\xFF\xFF".as_slice()),
-        (&put, b"\0\x01a\xFF\xFF\xFF\xFF\0\0\0\0\0\0"),
-    ] {
-        append_record(&mut out, record)?;
-        expect_bytes(&rt, &out, bytes);
-    }
+    let alloc = rt.alloc();
+    let mut out = Vec::new(alloc);
+    let removal = Record::removal_of(alloc, b"a")?;
+    expect_appended(&rt, &mut out, removal, b"\0\x01a\xFF\xFF\xFF\xFF")?;
+    let put = Record::put(Pair::copy_of(alloc, b"", b"")?);
+    let both = b"\0\x01a\xFF\xFF\xFF\xFF\0\0\0\0\0\0";
+    expect_appended(&rt, &mut out, put, both)?;
     Ok(())
 }
 

@@ -1,5 +1,5 @@
 //! The writer of chunk files.
-use crate::expect::expect_bytes;
+use crate::expect::{expect_bytes, expect_eq};
 use prolly_entry::Ref;
 use prolly_file::{FileWriter, ScriptSink, Sink, ToWrite, WriteFault};
 use prolly_test_parts::joined;
@@ -96,7 +96,7 @@ fn expect_written(
     answer: Result<u64, WriteFault>,
     taken: &[u8],
 ) {
-    assert_eq!(rt; write(sample, &mut sink), answer);
+    expect_eq(rt, &write(sample, &mut sink), &answer);
     expect_bytes(rt, sink.taken(), taken);
 }
 
@@ -110,7 +110,7 @@ fn writes_a_file(rt: HostRuntime) -> Result<(), Fail> {
     expect_written(&rt, &sample, sink, Ok(6), &sample.file);
 
     let mut out = Vec::new(alloc);
-    assert_eq!(rt; write(&sample, &mut ToWrite::new(&mut out)), Ok(6));
+    expect_eq(&rt, &write(&sample, &mut ToWrite::new(&mut out)), &Ok(6));
     expect_bytes(&rt, &out, &sample.file);
     Ok(())
 }

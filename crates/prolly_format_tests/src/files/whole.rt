@@ -1,4 +1,5 @@
 //! Sources that are read to their end.
+use crate::expect::expect_eq;
 use prolly_file::{FromRead, ScriptSource, Source, WholeFault, read_whole};
 use std::alloc::Global;
 use std::process::Abort;
@@ -12,7 +13,7 @@ fn expect_whole<S: Source>(
     limit: u32,
     whole: Result<&[u8], &WholeFault>,
 ) {
-    assert_eq!(rt; read_whole(alloc, source, limit).as_deref(), whole);
+    expect_eq(rt, &read_whole(alloc, source, limit).as_deref(), &whole);
 }
 
 #[test]

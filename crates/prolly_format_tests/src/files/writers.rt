@@ -1,6 +1,6 @@
 //! A writer of std as a sink.
 use super::{flushes, writes};
-use crate::expect::expect_bytes;
+use crate::expect::{expect_bytes, expect_eq};
 use prolly_file::{SinkFault, ToWrite};
 use std::io;
 use std::io::{ErrorKind, Write};
@@ -57,5 +57,5 @@ fn flushes_the_writer_and_errors_are_faults_but_interruptions(rt: HostRuntime) {
         &[Ok(3), Ok(3), Err(SinkFault), Ok(3)],
     );
     flushes(&rt, &mut sink, &[Ok(()), Err(SinkFault), Ok(())]);
-    assert_eq!(rt; (writer.writes, writer.flushes), (5, 3));
+    expect_eq(&rt, &(writer.writes, writer.flushes), &(5, 3));
 }
