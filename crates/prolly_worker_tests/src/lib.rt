@@ -1,17 +1,13 @@
-//! What no contract says of links, workers and progress: that their calls succeed where memory is
-//! at hand, that threads run and messages arrive, and what they give for examples that were worked
-//! out elsewhere.
+//! What no contract says of links and workers: that their calls succeed where memory is at hand,
+//! that threads run and messages arrive, and what they give for examples that were worked out
+//! elsewhere.
 #![tactic(auto)]
 
-#[cfg(test)]
-mod expect;
 #[cfg(test)]
 mod links;
 #[cfg(test)]
 mod loading;
 #[cfg(test)]
 mod merging;
-#[cfg(test)]
-mod progress;
 #[cfg(test)]
 mod stages;

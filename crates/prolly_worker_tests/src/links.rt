@@ -17,6 +17,7 @@ use std::thread;
 use std::time::Duration;
 
 mod across;
+pub(crate) mod comparing;
 mod copies;
 mod gather;
 mod numbers;

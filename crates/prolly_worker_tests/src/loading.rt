@@ -1,7 +1,7 @@
 //! The loader, over sources that end and fail in many ways.
 ghost use Rattle.std.specs.Prelude.{◌<◌};
 
-use crate::expect::expect_sent;
+use crate::links::comparing::expect_sent;
 use prolly_entry::{Record, append_record};
 use prolly_fault::{ClosedList, End, RunFault};
 use prolly_file::{FromRead, ScriptSource, Source};

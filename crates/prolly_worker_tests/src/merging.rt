@@ -1,5 +1,5 @@
 //! The mergers, over lists and over links.
-use crate::expect::{expect_all_taken, expect_bytes, expect_sent};
+use crate::links::comparing::{expect_all_taken, expect_bytes, expect_sent};
 use prolly_entry::{Pair, Record};
 use prolly_fault::{End, ListIn, Receiver, RunFault};
 use prolly_link::{In, ListOut, link};
@@ -72,11 +72,8 @@ fn expect_merged<I: In<Record, RunFault> + Drop, R: Abort + Wait>(
     let count = inputs.len();
     let merged = merge(rt, alloc, inputs, ListOut::new(alloc));
     assert_eq!(rt; merged.inputs.len(), count);
-    expect_sent(
-        rt,
-        (merged.pairs, merged.out.last),
-        (sent.len() as u64 / 2, last),
-    );
+    let expected = (sent.len() as u64 / 2, last);
+    expect_sent(rt, (merged.pairs, merged.out.last), expected);
     expect_bytes(rt, &bytes_of_pairs(alloc, &merged.out.items)?, sent);
     Ok(())
 }
@@ -125,11 +122,8 @@ fn expect_two_merged<R: Abort + Wait>(
     last: End,
 ) -> Result<(), Fail> {
     let merged = merge_two(rt, left, right, ListOut::new(alloc));
-    expect_sent(
-        rt,
-        (merged.items, merged.out.last),
-        (sent.len() as u64 / 2, last),
-    );
+    let expected = (sent.len() as u64 / 2, last);
+    expect_sent(rt, (merged.items, merged.out.last), expected);
     expect_bytes(rt, &bytes_of_records(alloc, &merged.out.items)?, sent);
     Ok(())
 }

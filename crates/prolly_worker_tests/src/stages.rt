@@ -1,7 +1,7 @@
 //! The stages, over lists and over links.
 ghost use Rattle.std.specs.Prelude.{◌≡◌, []};
 
-use crate::expect::{expect_all_taken, expect_bytes, expect_sent};
+use crate::links::comparing::{expect_all_taken, expect_bytes, expect_sent};
 use links::leaves_over_links;
 use lists::{leaves_of, two_stages};
 use prolly_entry::{KeyCut, Pair, Sha512Cut, Version};

@@ -145,15 +145,6 @@ fn two_stages_are_at_work_at_once(rt: HostRuntime) -> Result<(), Fail> {
     Ok(())
 }
 
-/// A worker that is held before its first item, the one that sends to it, and how many items the
-/// first has taken by then: a merger takes the next record before it sends one.
-const NEIGHBOURS: [(Worker, Worker, u64); 4] = [
-    (Worker::Merger(0), Worker::Loader(0), 2),
-    (Worker::Merger(1), Worker::Merger(0), 2),
-    (Worker::Stage(0), Worker::Merger(1), 1),
-    (Worker::Stage(1), Worker::Stage(0), 1),
-];
-
 /// The capacity of the links, an item behind those that were taken, for how many turns the worker
 /// that is ahead is waited for there, and how many of the two then meet.
 const ITEMS_AHEAD: [(u32, u64, u64, u64); 4] = [
@@ -163,24 +154,26 @@ const ITEMS_AHEAD: [(u32, u64, u64, u64); 4] = [
     (4, 5, FEW_TURNS, 1),
 ];
 
+/// A worker that is held before its first item, the one that sends to it, and how many items the
+/// first has taken by then: a merger takes the next record before it sends one.
+const NEIGHBOURS: [(Worker, Worker, u64); 4] = [
+    (Worker::Merger(0), Worker::Loader(0), 2),
+    (Worker::Merger(1), Worker::Merger(0), 2),
+    (Worker::Stage(0), Worker::Merger(1), 1),
+    (Worker::Stage(1), Worker::Stage(0), 1),
+];
+
 // The sender fills the link behind what was taken and comes to the item that has no room, and no
 // further.
 #[test]
 fn workers_are_ahead_by_the_capacity(rt: HostRuntime) -> Result<(), Fail> {
-    let pairs = b"a1b1c1d1e1f1g1h1";
+    let pairs = b"a1b1c1d1e1f1g1h1".as_slice();
+    let files = [pairs, b"", b""];
     for &(held, ahead, taken) in &NEIGHBOURS {
         for &(capacity, more, turns, met) in &ITEMS_AHEAD {
             let gate = Meeting::new(Stop::new(held, 0), Stop::new(ahead, taken + more), turns);
             let config = Config::new(0, 12, capacity, 1_000)?;
-            expect_met(
-                &rt,
-                rt.alloc(),
-                &config,
-                &gate,
-                &[pairs, b"", b""],
-                pairs,
-                met,
-            )?;
+            expect_met(&rt, rt.alloc(), &config, &gate, &files, pairs, met)?;
         }
     }
     Ok(())
