@@ -1,4 +1,5 @@
 //! Progress: that bytes are counted, and that something is shown, or nothing.
+use crate::expect::expect_eq;
 use prolly_file::{ScriptSink, ScriptSource, Sink, SinkFault, Source, SourceFault};
 use prolly_progress::{CountedSink, CountedSource, Counts, Progress, watched};
 use std::fmt::Display;
@@ -92,7 +93,7 @@ fn lines_are_as_worked_out_by_hand(rt: HostRuntime) -> Result<(), Fail> {
         (begun, "read 0 records, 0 of 5 MB, wrote 0 MB, 0 MB/s"),
     ] {
         let shown = format!(in rt.alloc(); "{progress}")?;
-        assert_eq!(&rt; shown.as_str(), line);
+        expect_eq(&rt, &shown.as_str(), &line);
     }
     Ok(())
 }
@@ -110,8 +111,8 @@ fn bytes_are_counted_where_they_are_read(rt: HostRuntime) -> Result<(), Fail> {
         (Ok(2), 10),
         (Ok(0), 10),
     ] {
-        assert_eq!(&rt; source.read(&mut buf), given);
-        assert_eq!(&rt; counts.read.count(), counted);
+        expect_eq(&rt, &source.read(&mut buf), &given);
+        expect_eq(&rt, &counts.read.count(), &counted);
     }
     Ok(())
 }
@@ -127,7 +128,7 @@ fn records_are_counted_once(rt: HostRuntime) -> Result<(), Fail> {
     second.note_records(10);
     first.note_records(3);
     first.note_records(5);
-    assert_eq!(&rt; counts.records.count(), 15);
+    expect_eq(&rt, &counts.records.count(), &15);
     Ok(())
 }
 
@@ -137,8 +138,8 @@ fn bytes_are_counted_where_they_are_written(rt: HostRuntime) -> Result<(), Fail>
     let script = ScriptSink::new(rt.alloc(), 3, Some(2));
     let mut sink = CountedSink::new(script, &counts);
     for (given, counted) in [(Ok(3), 3), (Err(SinkFault), 3), (Ok(3), 6)] {
-        assert_eq!(&rt; sink.write(b"bytes"), given);
-        assert_eq!(&rt; counts.written.count(), counted);
+        expect_eq(&rt, &sink.write(b"bytes"), &given);
+        expect_eq(&rt, &counts.written.count(), &counted);
     }
     Ok(())
 }
@@ -147,8 +148,8 @@ fn bytes_are_counted_where_they_are_written(rt: HostRuntime) -> Result<(), Fail>
 fn a_flush_that_fails_is_told(rt: HostRuntime) -> Result<(), Fail> {
     let counts = Counts::new();
     let mut sink = CountedSink::new(ScriptSink::new(rt.alloc(), 3, Some(1)), &counts);
-    assert_eq!(&rt; sink.flush(), Err(SinkFault));
-    assert_eq!(&rt; sink.flush(), Ok(()));
+    expect_eq(&rt, &sink.flush(), &Err(SinkFault));
+    expect_eq(&rt, &sink.flush(), &Ok(()));
     Ok(())
 }
 
@@ -167,7 +168,7 @@ fn watched_long<R: Threads + Wait + Clock + Sync>(
 #[test]
 fn long_work_is_shown_on_a_terminal(rt: HostRuntime) {
     let screen = Screen::new(true, false);
-    assert_eq!(&rt; watched_long(&rt, &screen, None), 7);
+    expect_eq(&rt, &watched_long(&rt, &screen, None), &7);
     // A line, and its end.
     assert!(&rt; screen.printed() >= 2);
 }
@@ -175,19 +176,19 @@ fn long_work_is_shown_on_a_terminal(rt: HostRuntime) {
 #[test]
 fn a_screen_that_fails_is_no_fault(rt: HostRuntime) {
     let screen = Screen::new(true, true);
-    assert_eq!(&rt; watched_long(&rt, &screen, Some(9)), 7);
+    expect_eq(&rt, &watched_long(&rt, &screen, Some(9)), &7);
 }
 
 #[test]
 fn nothing_is_shown_where_there_is_no_terminal(rt: HostRuntime) {
     let screen = Screen::new(false, false);
-    assert_eq!(&rt; watched_long(&rt, &screen, None), 7);
-    assert_eq!(&rt; screen.printed(), 0);
+    expect_eq(&rt, &watched_long(&rt, &screen, None), &7);
+    expect_eq(&rt, &screen.printed(), &0);
 }
 
 #[test]
 fn nothing_is_shown_of_short_work(rt: HostRuntime) {
     let screen = Screen::new(true, false);
-    assert_eq!(&rt; watched(&rt, &screen, &Counts::new(), None, || 7), 7);
-    assert_eq!(&rt; screen.printed(), 0);
+    expect_eq(&rt, &watched(&rt, &screen, &Counts::new(), None, || 7), &7);
+    expect_eq(&rt, &screen.printed(), &0);
 }

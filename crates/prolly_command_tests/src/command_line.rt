@@ -1,5 +1,6 @@
 //! The command line in use: that words are taken, which no clause can promise, since memory may run
 //! out, and what they come to as a person reads them.
+use crate::expect::expect_eq;
 use prolly_line::{Command, ParseFault, parse};
 use std::alloc::{AllocError, Global};
 use std::test::Fail;
@@ -246,7 +247,7 @@ const UNUSABLE_WORDS: &[&str] = &[
 #[test]
 fn words_out_of_range_are_usage(rt: HostRuntime) -> Result<(), Fail> {
     for &line in UNUSABLE_WORDS {
-        assert_eq!(rt; outcome(rt.alloc(), line)?, "usage", "{line}");
+        expect_eq(&rt, &(line, outcome(rt.alloc(), line)?), &(line, "usage"));
     }
     Ok(())
 }
@@ -315,7 +316,7 @@ const BAD_WORDS: &[(&str, &str)] = &[
 #[test]
 fn bad_keys_and_roots_are_named(rt: HostRuntime) -> Result<(), Fail> {
     for &(line, expected) in BAD_WORDS {
-        assert_eq!(rt; outcome(rt.alloc(), line)?, expected, "{line}");
+        expect_eq(&rt, &(line, outcome(rt.alloc(), line)?), &(line, expected));
     }
     Ok(())
 }
@@ -330,7 +331,7 @@ fn outcome_of_key(alloc: Global, bytes: usize) -> Result<&'static str, AllocErro
 #[test]
 fn a_key_of_1024_bytes_is_the_longest(rt: HostRuntime) -> Result<(), Fail> {
     for (bytes, expected) in [(1_024, "taken"), (1_025, "bad key")] {
-        assert_eq!(rt; outcome_of_key(rt.alloc(), bytes)?, expected);
+        expect_eq(&rt, &outcome_of_key(rt.alloc(), bytes)?, &expected);
     }
     Ok(())
 }

@@ -1,5 +1,5 @@
 //! What the program shows and writes.
-use crate::expect::expect_bytes;
+use crate::expect::{expect_bytes, expect_eq};
 use prolly_tool::Answer;
 use std::process::Abort;
 
@@ -12,7 +12,7 @@ mod scratch_answers;
 
 /// Fails unless an answer has this status, and shows this on standard output and on standard error.
 fn expect_answer(rt: &impl Abort, answer: &Answer, status: u8, out: &[u8], err: &[u8]) {
-    assert_eq!(rt; answer.status, status);
+    expect_eq(rt, &answer.status, &status);
     expect_bytes(rt, &answer.out, out);
     expect_bytes(rt, &answer.err, err);
 }

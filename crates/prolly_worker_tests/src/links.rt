@@ -1,6 +1,7 @@
 //! Links in use: what arrives, how far a sender is ahead, and what is found where an end is gone.
 ghost use Rattle.std.specs.Prelude.{◌≡◌};
 
+use comparing::expect_eq;
 use copies::{Copies, copy_all, copy_list};
 use prolly_fault::{
     BatchReceiver, ClosedBatch, ClosedSender, End, ListIn, Next, Receiver, RunFault,
@@ -27,12 +28,7 @@ const CLEAN: Next<u32> = Next::End(End::Clean);
 
 // Fails unless an item was taken.
 fn expect_taken(rt: &impl Abort, sent: Result<(), u32>) {
-    assert_eq!(rt; sent, Ok(()));
-}
-
-// Fails unless this is what was received.
-fn expect_next(rt: &impl Abort, next: &Next<u32>, expected: &Next<u32>) {
-    assert_eq!(rt; *next, *expected);
+    expect_eq(rt, &sent, &Ok(()));
 }
 
 // Fails unless each of these items is taken.
@@ -49,7 +45,7 @@ fn receives<I: In<u32, RunFault>>(rt: &(impl Abort + Wait), input: &mut I, expec
     ensures { I.link input.new ≡ I.link input.old }
 {
     for next in expected {
-        expect_next(rt, &input.recv(rt), next);
+        expect_eq(rt, &input.recv(rt), next);
     }
 }
 
@@ -184,16 +180,11 @@ fn ends_of_batches_are_compared_at_any_time(rt: HostRuntime) -> Result<(), Fail>
     Ok(())
 }
 
-// Fails unless there is this number.
-fn expect_number(rt: &impl Abort, number: Option<&u32>, expected: u32) {
-    assert_eq!(rt; number, Some(&expected));
-}
-
 // Fails unless these are the numbers below `count`, in their order.
 fn expect_numbers(rt: &impl Abort, numbers: &[u32], count: u32) {
-    assert_eq!(rt; numbers.len(), count as usize);
+    expect_eq(rt, &numbers.len(), &(count as usize));
     for i in 0..count {
-        expect_number(rt, numbers.get(i as usize), i);
+        expect_eq(rt, &numbers.get(i as usize), &Some(&i));
     }
 }
 
@@ -212,7 +203,7 @@ fn a_thousand_numbers_go_across(rt: HostRuntime) -> Result<(), Fail> {
 fn fills_four<O: Out<u32, RunFault>>(rt: &(impl Abort + Wait), out: &mut O, message: &[u32]) {
     for is_ahead in [false, true, true, true] {
         sends(rt, out, message);
-        assert_eq!(rt; out.is_ahead(), is_ahead);
+        expect_eq(rt, &out.is_ahead(), &is_ahead);
     }
 }
 
@@ -276,7 +267,7 @@ fn expect_copied(
 ) {
     let Copies { input, out } = copy_all(rt, input, ListOut::new(alloc));
     drop(input);
-    assert_eq!(rt; (out.items.as_slice(), out.last), (items, last));
+    expect_eq(rt, &(out.items.as_slice(), out.last), &(items, last));
 }
 
 // From a list to a ring, from there over batches to another ring, and back to a list.

@@ -1,5 +1,5 @@
 //! The mergers, over lists and over links.
-use crate::links::comparing::{expect_all_taken, expect_bytes, expect_sent};
+use crate::links::comparing::{expect_all_taken, expect_bytes, expect_eq, expect_sent};
 use prolly_entry::{Pair, Record};
 use prolly_fault::{End, ListIn, Receiver, RunFault};
 use prolly_link::{In, ListOut, link};
@@ -71,7 +71,7 @@ fn expect_merged<I: In<Record, RunFault> + Drop, R: Abort + Wait>(
 ) -> Result<(), Fail> {
     let count = inputs.len();
     let merged = merge(rt, alloc, inputs, ListOut::new(alloc));
-    assert_eq!(rt; merged.inputs.len(), count);
+    expect_eq(rt, &merged.inputs.len(), &count);
     let expected = (sent.len() as u64 / 2, last);
     expect_sent(rt, (merged.pairs, merged.out.last), expected);
     expect_bytes(rt, &bytes_of_pairs(alloc, &merged.out.items)?, sent);

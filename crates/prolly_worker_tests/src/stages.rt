@@ -1,7 +1,7 @@
 //! The stages, over lists and over links.
 ghost use Rattle.std.specs.Prelude.{◌≡◌, []};
 
-use crate::links::comparing::{expect_all_taken, expect_bytes, expect_sent};
+use crate::links::comparing::{expect_all_taken, expect_bytes, expect_eq, expect_sent};
 use links::leaves_over_links;
 use lists::{leaves_of, two_stages};
 use prolly_entry::{KeyCut, Pair, Sha512Cut, Version};
@@ -101,7 +101,7 @@ fn nodes_follow_their_last_child(rt: HostRuntime) -> Result<(), Fail> {
 
 /// Fails unless the event is a node of this level over so many pairs.
 fn expect_node(rt: &impl Abort, event: &ChunkEvent, level: u8, count: u64) {
-    assert_eq!(rt; (event.level(), event.count()), (level, count));
+    expect_eq(rt, &(event.level(), event.count()), &(level, count));
 }
 
 #[test]

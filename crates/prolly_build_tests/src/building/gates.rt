@@ -1,5 +1,6 @@
 //! Gates show that workers are at work at once.
 use super::*;
+use crate::expect::expect_eq;
 use prolly_stage::Worker;
 use std::sync::atomic::{AtomicU64, Ordering};
 use std::thread;
@@ -55,13 +56,9 @@ impl Meeting {
     /// Fails unless so many of the two have seen the other.
     fn expect_met(&self, rt: &impl Abort, expected: u64) {
         let met = self.met.load(Ordering::SeqCst);
-        let Stop { worker, nth, .. } = &self.other;
-        assert_eq!(rt;
-            met,
-            expected,
-            "{:?} before {worker:?} {nth}",
-            self.one.worker
-        );
+        let Stop { worker, nth, .. } = self.other;
+        let workers = (self.one.worker, worker, nth);
+        expect_eq(rt, &(workers, met), &(workers, expected));
     }
 
     fn hold(&self, here: &Stop, there: &Stop) {

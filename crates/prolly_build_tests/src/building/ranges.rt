@@ -1,10 +1,11 @@
 //! The ranges of the settings of a build.
+use crate::expect::expect_eq;
 use prolly_build::{Config, ConfigFault};
 use std::process::Abort;
 
 /// Fails unless the settings are refused for this fault, or taken.
 fn expect_config(rt: &impl Abort, config: Result<Config, ConfigFault>, fault: Option<ConfigFault>) {
-    assert_eq!(rt; config.err(), fault);
+    expect_eq(rt, &config.err(), &fault);
 }
 
 /// The bits of a boundary, the stages, the capacity of the links, the limit of records, and the

@@ -1,5 +1,6 @@
 //! Builds that do not start.
 use super::*;
+use crate::expect::expect_eq;
 use prolly_file::{Source, SourceFault};
 use prolly_stage::Worker;
 
@@ -29,8 +30,8 @@ const WORKERS: [Worker; 9] = [
 
 /// Fails unless a build to which this worker was refused ended in that fault, and took no bytes.
 fn expect_no_thread(rt: &impl Abort, worker: Worker, fault: Option<RunFault>, taken: &[u8]) {
-    let expected = (Some(RunFault::NoThread), b"".as_slice());
-    assert_eq!(rt; (fault, taken), expected, "{worker:?}");
+    let expected = (worker, Some(RunFault::NoThread), b"".as_slice());
+    expect_eq(rt, &(worker, fault, taken), &expected);
 }
 
 /// Fails unless a build to which this worker is refused ends in that fault, and nothing is written.
@@ -79,7 +80,7 @@ fn failing_sources(alloc: Global, count: usize) -> Result<Vec<ScriptSource>, Fai
 
 /// Fails unless a read of the source does.
 fn expect_failing(rt: &impl Abort, source: &mut ScriptSource) {
-    assert_eq!(rt; source.read(&mut [0]), Err(SourceFault));
+    expect_eq(rt, &source.read(&mut [0]), &Err(SourceFault));
 }
 
 // The first read of each source is still to come.

@@ -1,5 +1,5 @@
 //! Lines of text, as they are packed.
-use crate::expect::expect_bytes;
+use crate::expect::{expect_bytes, expect_eq};
 use prolly_test_parts::joined;
 use prolly_tool::{LineForm, Notation, PackFault, pack_lines, pack_lines_as};
 use std::alloc::Global;
@@ -49,7 +49,7 @@ fn expect_packed(
     records: &[u8],
 ) -> Result<(), Fail> {
     let mut out = b"kept".to_vec(alloc)?;
-    assert_eq!(rt; pack_lines(alloc, text, &mut out), packed);
+    expect_eq(rt, &pack_lines(alloc, text, &mut out), &packed);
     expect_bytes(rt, &out, &joined(alloc, &[b"kept", records])?);
     Ok(())
 }
@@ -118,7 +118,7 @@ fn expect_text_packed(
         removals,
     };
     let mut out = b"kept".to_vec(alloc)?;
-    assert_eq!(rt; pack_lines_as(alloc, form, text, &mut out), packed);
+    expect_eq(rt, &pack_lines_as(alloc, form, text, &mut out), &packed);
     expect_bytes(rt, &out, &joined(alloc, &[b"kept", records])?);
     Ok(())
 }
@@ -165,7 +165,7 @@ fn keeps_the_limits(rt: HostRuntime) -> Result<(), Fail> {
     for &(key, value, packed) in LIMITS {
         let line = line_of(rt.alloc(), key, value)?;
         let mut out = Vec::new(rt.alloc());
-        assert_eq!(rt; pack_lines(rt.alloc(), &line, &mut out), packed);
+        expect_eq(&rt, &pack_lines(rt.alloc(), &line, &mut out), &packed);
     }
     Ok(())
 }

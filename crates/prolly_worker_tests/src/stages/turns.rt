@@ -1,6 +1,7 @@
 //! A gate and an output that see whether the gate is asked in turn.
 ghost use Rattle.std.specs.Prelude.{◌≡◌};
 
+use crate::links::comparing::expect_eq;
 use prolly_link::{End, Out};
 use prolly_stage::{Gate, Worker};
 use std::process::Abort;
@@ -29,7 +30,7 @@ impl Turns {
     pub(super) fn expect_in_turn(&self, rt: &impl Abort, count: u64) {
         let asked = self.asked.load(Ordering::SeqCst);
         let out_of_turn = self.out_of_turn.load(Ordering::SeqCst);
-        assert_eq!(rt; (asked, out_of_turn), (count, 0));
+        expect_eq(rt, &(asked, out_of_turn), &(count, 0));
     }
 }
 
