@@ -1,15 +1,26 @@
-.PHONY: test check prolly demo install uninstall bench
+.PHONY: test test-part growths check prolly demo install uninstall bench
 
 PREFIX ?= /usr/local
 PROGRAM = crates/prolly/out/prolly
+TESTS = $(foreach name,format worker build command,crates/prolly_$(name)_tests/out/prolly_$(name)_tests_tests)
 MADE = $(dir $(PROGRAM))share
 SHARE = $(DESTDIR)$(PREFIX)/share
 
-# The gate: every proof from nothing, the must-fail edits, the tests of the crates, the programs, and then the program as a
-# user runs it.
+# The gate: every proof from nothing, the must-fail edits, the tests of the crates, the programs, and then refused memory, and
+# the program as a user runs it.
 test:
 	rt ci
+	tests/growths_of_calls.py $(TESTS)
 	tests/run.py $(PROGRAM)
+
+# One part of what the gate does with the program, which has to be there: of the file tests/diffs.py `make test-part PART=diffs`.
+test-part:
+	tests/run.py $(PROGRAM) --part $(PART)
+
+# Refuses memory to calls of the libraries, each growth in turn.
+growths:
+	for tests in $(dir $(TESTS)); do (cd $$tests.. && rt test -- growths) || exit; done
+	tests/growths_of_calls.py $(TESTS)
 
 # The proofs alone, over what earlier runs kept.
 check:

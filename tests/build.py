@@ -103,9 +103,9 @@ def trees():
         ),
         Case(
             "build: a file that is there is replaced",
-            ["build", "--bits", "0", "out.prl"],
+            ["build", "--bits", "0", "out.prl", "0.rec"],
             out=report([], 0),
-            before={"out.prl": b"what was there before, and is longer than that which comes now" * 100},
+            before={"out.prl": chunk_file(FIVE, 0), "0.rec": b""},
             after={"out.prl": chunk_file([], 0)},
         ),
     ]
@@ -324,6 +324,13 @@ def devices():
         ),
         Case("build: a full device for the tree", ["build", "/dev/full", "0.rec"], status=5, err=no_write, before=three),
         Case(
+            "build: a full device before a tree that is too tall",
+            ["build", "--bits", "0", "--stages", "1", "/dev/full", "0.rec"],
+            status=5,
+            err=no_write,
+            before=three,
+        ),
+        Case(
             "build: a fault of a file before that of a full device",
             ["build", "/dev/full", "0.rec"],
             status=3,
@@ -353,7 +360,6 @@ def devices():
             status=6,
             err=b"prolly: a thread could not be started\n",
             before=three,
-            after={"out.prl": b""},
             memory=6_000_000,
         ),
         Case(
@@ -362,7 +368,6 @@ def devices():
             status=6,
             err=b"prolly: out of memory\n",
             before=named([b""] * 16),
-            after={"out.prl": b""},
             memory=8_000_000,
         ),
     ]

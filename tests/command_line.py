@@ -148,6 +148,10 @@ def usage_cases():
         missing(["verify", "r"], ["KEY"], "verify <ROOT> <KEY> [PROOF]"),
         wrong(["verify", "r", "61", "p", "x"], "unexpected argument 'x' found", "verify [OPTIONS] <ROOT> <KEY> [PROOF]"),
         unknown(["verify", "r", "61", "--atomic"], "--atomic", "verify <ROOT> <KEY> [PROOF]"),
+        unknown(["check", "f", "--force"], "--force", "check <FILE>"),
+        wrong(["build", "--force", "--force", "o"], "the argument '--force' cannot be used multiple times", "build [OPTIONS] <OUT> [FILES]..."),
+        wrong(["prove", "--force", "f", "61", "o", "x"], "unexpected argument 'x' found", "prove [OPTIONS] <FILE> <KEY> <OUT>"),
+        missing(["dump", "--force"], ["FILE"], "dump --force <FILE> [OUT]"),
         wrong(["diff", "f", "g", "--out"], "a value is required for '--out <FILE>' but none was supplied"),
         Case("usage: a word that is no text", [b"check", b"\xff"], status=2, err=b"prolly: a word is not UTF-8\n"),
     ]
@@ -183,6 +187,12 @@ def number_cases():
         bad_number(["nth", "f", "4294967296"], "4294967296", "<N>", "4294967296 is not in 0..=4294967295"),
         bad_number(["nth", "--root", "r", "f", "4294967296"], "4294967296", "<N>", "4294967296 is not in 0..=4294967295"),
         bad_number(["nth", "--root", "r", "f", "x"], "x", "<N>", "invalid digit found in string"),
+        # Of two bad words the first is told, but a word that is not known before a bad value right ahead of it.
+        bad_number(["scratch", "--bits", "25", "--format", "3"], "25", "--bits <Q>", "25 is not in 0..=24"),
+        bad_number(["scratch", "--format", "3", "--bits", "25"], "3", "--format <V>", "3 is not in 1..=2"),
+        wrong(["scratch", "--bits", "25", "--deep"], "unexpected argument '--deep' found", "scratch --bits <Q>"),
+        wrong(["scan", "f", "61", "1000001", "x"], "unexpected argument 'x' found", "scan [OPTIONS] <FILE> <KEY> <LIMIT>"),
+        bad_number(["build", "--bits", "25"], "25", "--bits <Q>", "25 is not in 0..=24"),
     ]
 
 

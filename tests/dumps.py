@@ -10,7 +10,11 @@ from place import Place
 from scratch import ABC
 from trees import REMOVED, chunk_file, overlay, record, records, report, root_text
 
-BEFORE = b"what was there before"
+BEFORE = record(b"before", b"1")
+"""A record file that was there before."""
+
+LINES_BEFORE = b"what was there before\n"
+"""Lines that were there before."""
 
 FILES = {
     "the empty map": ([], 0),
@@ -70,13 +74,12 @@ def refused():
     truncated = b"prolly: chunk file: truncated\n"
     no_write = b"prolly: write failed\n"
     return [
-        Case("dump: OUT is emptied by a fault", words, status=4, err=truncated, before=cut | {"out.rec": BEFORE}, after={"out.rec": b""}),
-        Case("dump: a record file", words, status=4, err=b"prolly: chunk file: bad header\n", before={"in.prl": records(ABC)}, after={"out.rec": b""}),
+        Case("dump: OUT is as it was after a fault", words, status=4, err=truncated, before=cut | {"out.rec": BEFORE}),
+        Case("dump: a record file", words, status=4, err=b"prolly: chunk file: bad header\n", before={"in.prl": records(ABC)}),
         Case("dump: no FILE, and OUT is as it was", words, status=5, err=b"prolly: cannot open in.prl\n", before={"out.rec": BEFORE}),
         Case("dump: OUT is a folder", ["dump", "in.prl", "out"], status=5, err=b"prolly: cannot open out\n", before=good | {"out": FOLDER}),
         Case("dump: OUT in a folder that is not there", ["dump", "in.prl", "none/out"], status=5, err=b"prolly: cannot open none/out\n", before=good),
-        Case("dump: a folder, and OUT is emptied", words, status=5, err=b"prolly: chunk file: read failed\n", before={"in.prl": FOLDER, "out.rec": BEFORE}, after={"out.rec": b""}),
-        Case("dump: a folder, and OUT is as it was", [*words, "--atomic"], status=5, err=b"prolly: chunk file: read failed\n", before={"in.prl": FOLDER, "out.rec": BEFORE}),
+        Case("dump: a folder, and OUT is as it was", words, status=5, err=b"prolly: chunk file: read failed\n", before={"in.prl": FOLDER, "out.rec": BEFORE}),
         Case("dump: OUT is a full device", ["dump", "in.prl", "/dev/full"], status=5, err=no_write, before=good),
         Case("dump: nobody reads", ["dump", "in.prl"], status=5, err=no_write, before=good, stdout="unread"),
         Case("dump: standard output is closed", ["dump", "in.prl"], status=5, err=no_write, before=good, stdout="closed"),
@@ -93,8 +96,8 @@ def refused_lines(flag, text):
     no_write = b"prolly: write failed\n"
     return [
         Case(f"{name}: a file that is cut", words, status=4, err=truncated, before=cut),
-        Case(f"{name}: OUT is emptied by a fault", [*words, "out.txt"], status=4, err=truncated, before=cut | {"out.txt": BEFORE}, after={"out.txt": b""}),
-        Case(f"{name}: OUT is as it was", [*words, "--atomic", "out.txt"], status=4, err=truncated, before=cut | {"out.txt": BEFORE}),
+        Case(f"{name}: OUT is as it was after a fault", [*words, "out.txt"], status=4, err=truncated, before=cut | {"out.txt": LINES_BEFORE}),
+        Case(f"{name}: OUT is as it was", [*words, "--atomic", "out.txt"], status=4, err=truncated, before=cut | {"out.txt": LINES_BEFORE}),
         Case(f"{name}: OUT is a full device", [*words, "/dev/full"], status=5, err=no_write, before=good),
         Case(f"{name}: nobody reads", words, status=5, err=no_write, before=good, stdout="unread"),
         Case(f"{name}: standard output is full", words, status=5, err=no_write, before=good, stdout="full"),

@@ -25,7 +25,8 @@ def shown_character(character):
         return by_digits(code - 0xDC00)
     if code in LETTERS:
         return b"\\" + LETTERS[code]
-    return by_digits(code) if code < 0x20 or code == 0x7F else character.encode()
+    own = character.encode()
+    return b"".join(map(by_digits, own)) if code < 0x20 or 0x7F <= code <= 0x9F else own
 
 
 def by_digits(byte):

@@ -32,6 +32,23 @@ COUNTED = stat_line(OLD, ABC, (0, 1), (0, 1))
 PROOF = proof_of(tree(ABC, 0, 1), b"b", 1)
 COUNTED_ACROSS = stat_line(OLD, ABC, (0, 1), (0, 2))
 BEFORE = b"what was there before"
+"""What a file holds that is written to beside the program."""
+
+BEFORES = {
+    "build": OLD_TREE,
+    "scratch": OLD_TREE,
+    "pack": B,
+    "dump": B,
+    "dump --hex": b"what was there before\n",
+    "diff": B,
+    "diff --stat": B,
+    "prove": proof_of(tree(ABC, 0, 1), b"a", 1),
+}
+"""What OUT held before: a file of the kind that each command writes."""
+
+IN_PLACE = ("build", "scratch")
+"""The commands that write OUT itself where they are not told to write a file beside it."""
+
 TEXT = b"61 31\n62 31\n"
 
 WRITERS = {
@@ -62,6 +79,10 @@ NO_WRITE = (5, b"", b"prolly: write failed\n")
 
 MANY = 4_000
 """Pairs whose files take several writes."""
+
+
+SHORT = (1, 3, 7)
+"""How many bytes each read and write moves at most."""
 
 
 def refusal(line):
@@ -150,7 +171,7 @@ def is_replaced(place, command, flags):
     """OUT is replaced by a whole file, or made."""
     words, given, made, answer = WRITERS[command]
     files = laid(place)
-    for before in (None, BEFORE):
+    for before in (None, BEFORES[command]):
         if before is not None:
             place.lay(out=before)
         place.answers(place.run(*words, *flags, stdin=given or b""), answer)
@@ -172,7 +193,7 @@ def keeps_its_mode(place, command):
     """The file that replaces OUT has its permissions."""
     words, given, made, answer = WRITERS[command]
     files = laid(place)
-    place.lay(out=BEFORE)
+    place.lay(out=BEFORES[command])
     place.path("out").chmod(0o640)
     place.answers(place.run(*words, "--atomic", stdin=given or b""), answer)
     mode = stat.S_IMODE(place.path("out").stat().st_mode)
@@ -185,13 +206,13 @@ def follows_links(place, command):
     """A symbolic link stays, and the file behind it is replaced; another name of that keeps what it held."""
     words, given, made, answer = WRITERS[command]
     files = laid(place)
-    place.lay(real=BEFORE)
+    place.lay(real=BEFORES[command])
     os.link(place.path("real"), place.path("other"))
     place.path("out").symlink_to("real")
     place.answers(place.run(*words, "--atomic", stdin=given or b""), answer)
     if not place.path("out").is_symlink():
         place.note("the link is gone")
-    place.holds(out=made, real=made, other=BEFORE, **files)
+    place.holds(out=made, real=made, other=BEFORES[command], **files)
 
 
 def passes_names(place, command):
@@ -219,7 +240,7 @@ def is_not_replaced(place, name):
 def needs_its_folder(place):
     """A folder in which no file can be made, and a file that may not be written."""
     files = laid(place)
-    place.lay(out=BEFORE)
+    place.lay(out=BEFORES["build"])
     place.path("out").chmod(0o444)
     words = WRITERS["build"][0]
     for flags in ([], ["--atomic"]):
@@ -228,11 +249,11 @@ def needs_its_folder(place):
     place.folder.chmod(0o555)
     place.answers(place.run(*words, "--atomic", is_nobody=True), refusal(b"cannot replace out"))
     place.folder.chmod(0o755)
-    place.holds(out=BEFORE, **files)
+    place.holds(out=BEFORES["build"], **files)
 
 
 def one_of_two(place):
-    """Of two builds to one OUT at a time one is whole."""
+    """Of two builds to one OUT at a time, each into a file beside it, one is whole."""
     first, second = numbered(20_000), numbered(30_000)
     place.lay(first_rec=records(first), second_rec=records(second))
     wholes = {chunk_file(pairs, 4) for pairs in (first, second)}
@@ -253,9 +274,10 @@ def fails(place, command, flags, call, number, wanted):
     """A call fails with `no space left`: after that no byte is written to OUT, which holds a first part, or what it held."""
     words, given, made, _ = WRITERS[command]
     files = laid(place)
-    is_atomic = "--atomic" in flags
-    if is_atomic:
-        place.lay(out=BEFORE)
+    is_beside = "--atomic" in flags or command not in IN_PLACE
+    before = BEFORES[command]
+    if is_beside:
+        place.lay(out=before)
     stdin = open(place.path("in"), "w+b") if given is not None else subprocess.DEVNULL
     if given is not None:
         stdin.write(given)
@@ -264,20 +286,20 @@ def fails(place, command, flags, call, number, wanted):
     answer, calls = place.meddled(*words, *flags, stdin=stdin, meddle={"fail": f"{call} {number} {errno.ENOSPC}"})
     place.answers(answer, wanted)
     left = place.path("out").read_bytes()
-    if is_atomic and left != BEFORE:
+    if is_beside and left != before:
         place.note("OUT was changed")
-    if not is_atomic and not made.startswith(left):
+    if not is_beside and not made.startswith(left):
         place.note("OUT holds no first part")
-    if not is_atomic and call == "write" and number == 1 and left:
+    if not is_beside and call == "write" and number == 1 and left:
         place.note("OUT was written after a write that failed")
-    if is_atomic and call == "write" and sum(line.startswith("write ") for line in calls) != number + 1:
+    if is_beside and call == "write" and sum(line.startswith("write ") for line in calls) != number + 1:
         place.note(f"calls {calls}")
     place.holds(out=None, **files)
 
 
 def no_write_after_a_failed_one(place, words, begun, whole):
     """Each write of a command fails in turn, and none follows it but that of the line: OUT is a first part of what may be
-    begun, or whole where only what was to be printed failed."""
+    begun, or whole where only what was to be printed failed. Where nothing may be begun, there is no OUT."""
     pairs = numbered(MANY)
     files = {"a_rec": records(pairs), "a_prl": chunk_file(pairs, 2), "none_prl": chunk_file([], 2)}
     place.lay(**files)
@@ -290,29 +312,33 @@ def no_write_after_a_failed_one(place, words, begun, whole):
             place.holds(out=whole, **files)
             break
         place.answers(answer, NO_WRITE)
-        left = place.path("out").read_bytes()
-        is_right = left == whole if writes[number - 1] == "write 1" else begun.startswith(left)
+        left = place.path("out").read_bytes() if place.path("out").exists() else None
+        if writes[number - 1] == "write 1":
+            is_right = left == whole
+        else:
+            is_right = left is None if begun is None else begun.startswith(left)
         if len(writes) != number + 1 or not is_right:
-            place.note(f"write {number}: {len(writes)} writes, {len(left)} bytes left")
+            place.note(f"write {number}: {len(writes)} writes, {left and len(left)} bytes left")
+        place.path("out").unlink(missing_ok=True)
     if number < 4:
         place.note("too few writes to tell")
 
 
-def is_interrupted(place, command, number):
-    """Calls that are interrupted are made again."""
+def is_interrupted(place, command, how):
+    """Calls that are interrupted are made again, and what a call did not move is moved by others."""
     words, given, made, wanted = WRITERS[command]
     files = laid(place)
     place.lay(given=given or b"")
     with open(place.path("given"), "rb") as stdin:
-        answer, _ = place.meddled(*words, stdin=stdin, meddle={"interrupt": str(number)})
+        answer, _ = place.meddled(*words, stdin=stdin, meddle=how)
     place.answers(answer, wanted)
     place.holds(out=made, given=None, **files)
 
 
-def look_up_is_interrupted(place, words, wanted):
+def look_up_is_interrupted(place, words, how, wanted):
     """The same, for commands that read chunk files and write no file."""
     place.lay(abc_prl=chunk_file(ABC, 0, 2), old_prl=OLD_TREE, b_prf=PROOF)
-    answer, _ = place.meddled(*words, meddle={"interrupt": "3"})
+    answer, _ = place.meddled(*words, meddle=how)
     place.answers(answer, wanted)
 
 
@@ -330,7 +356,8 @@ def is_on_the_disk(place, command, flags):
     told = wanted_answer[1]
     kinds = [line.split()[0] for line in calls if line.split()[0] in ("write", "fsync", "rename")]
     order = [kind for at, kind in enumerate(kinds) if at == 0 or kinds[at - 1] != kind or kind == "fsync"]
-    wanted = ["write", "fsync", *(["rename"] if "--atomic" in flags else []), "fsync", *(["write"] if told else [])]
+    is_beside = "--atomic" in flags or command not in IN_PLACE
+    wanted = ["write", "fsync", *(["rename"] if is_beside else []), "fsync", *(["write"] if told else [])]
     if order != wanted or (told and calls[-1] != "write 1"):
         place.note(f"calls {calls}")
     place.holds(out=made, given=None, **files)
@@ -358,18 +385,18 @@ def is_ended(place, name, flags):
     whole = place.path("out").read_bytes()
     chance = random.Random(name)
     for _ in range(4):
-        place.lay(out=BEFORE)
+        place.lay(out=OLD_TREE)
         process = place.start(words)
         time.sleep(duration * chance.random())
         process.send_signal(getattr(signal, name))
         process.communicate()
         left = place.path("out").read_bytes()
         if flags:
-            if left not in (BEFORE, whole):
+            if left not in (OLD_TREE, whole):
                 place.note(f"OUT holds {len(left)} bytes")
             for beside in place.folder.glob("out.*.tmp"):
                 beside.unlink()
-        elif left not in (BEFORE, whole):
+        elif left not in (OLD_TREE, whole):
             is_begun = len(left) >= 6
             fault = b"truncated" if is_begun else b"bad header"
             place.answers(place.run("check", "out"), (4, b"", b"prolly: chunk file: " + fault + b"\n"))
@@ -406,7 +433,7 @@ def has_few_threads(place):
     place.lay(in_rec=A)
     answer = place.run("build", "out", "in.rec", limits={resource.RLIMIT_NPROC: 1}, is_nobody=True)
     place.answers(answer, (6, b"", b"prolly: a thread could not be started\n"))
-    place.holds(out=b"", in_rec=A)
+    place.holds(in_rec=A)
 
 
 def has_little_room(place):
@@ -450,19 +477,19 @@ def is_a_link(place):
 
 def is_read_only(place):
     """A file that may not be written, and one that may not be read."""
-    place.lay(a_rec=A, out=BEFORE)
+    place.lay(a_rec=A, out=OLD_TREE)
     place.path("out").chmod(0o444)
     place.answers(place.run("build", "out", "a.rec", is_nobody=True), refusal(b"cannot open out"))
     place.path("a.rec").chmod(0)
     for words in (["build", "new", "a.rec"], ["dump", "a.rec", "new"], ["diff", "out", "a.rec", "--out", "new"]):
         place.answers(place.run(*words, is_nobody=True), refusal(b"cannot open a.rec"))
     place.path("a.rec").chmod(0o644)
-    place.holds(out=BEFORE, a_rec=A)
+    place.holds(out=OLD_TREE, a_rec=A)
 
 
 def is_shown_escaped(place):
     """A fault is one line, whatever bytes the name has."""
-    for name, shown in (("a\nb", b"a\\x0ab"), ("\x1b[31m\x7f", b"\\x1b[31m\\x7f"), ("a\\nb", b"a\\\\nb"), ("ü 漢", "ü 漢".encode())):
+    for name, shown in (("a\nb", b"a\\x0ab"), ("\x1b[31m\x7f", b"\\x1b[31m\\x7f"), ("a\\nb", b"a\\\\nb"), ("\x85\x9b31m", b"\\xc2\\x85\\xc2\\x9b31m"), ("ü\xa0漢", "ü\xa0漢".encode())):
         place.answers(place.run("check", name), refusal(b"cannot open " + shown))
     place.path("in\n.rec").write_bytes(A)
     place.answers(place.run("build", "in\n.rec", "in\n.rec"), refusal(b"OUT is also an input: in\\x0a.rec"))
@@ -471,7 +498,7 @@ def is_shown_escaped(place):
 def is_process_substitution(place):
     """Record files and a chunk file that a shell gives as pipes."""
     place.lay(a_rec=A, b_rec=B)
-    line = f"'{place.program}' build --bits 0 /dev/stdout <(cat a.rec) <(cat b.rec) | head -c {len(TREE)} > out"
+    line = f"'{place.program}' build --bits 0 /dev/fd/3 <(cat a.rec) <(cat b.rec) 3>&1 > /dev/null | head -c {len(TREE)} > out"
     subprocess.run(["bash", "-c", line], cwd=place.folder, check=True)
     place.holds(a_rec=A, b_rec=B, out=TREE)
     place.lay(old_prl=OLD_TREE)
@@ -561,25 +588,27 @@ def written(command):
     for flags in (["--atomic"], ["--sync"], ["--atomic", "--sync"]):
         yield f"{command} {' '.join(flags)}: replaced", partial(is_replaced, command=command, flags=flags)
     for flags in (["--atomic"], ["--atomic", "--sync"]):
-        for before in (None, BEFORE):
+        for before in (None, BEFORES[command]):
             yield f"{command} {' '.join(flags)}: stays after a fault", partial(stays, command=command, flags=flags, before=before)
     for test in (keeps_its_mode, follows_links, passes_names):
         yield f"{command} --atomic {test.__name__.replace('_', ' ')}", partial(test, command=command)
     for number in (2, 3, 7):
-        yield f"{command}: interrupted, but each {number}th", partial(is_interrupted, command=command, number=number)
+        yield f"{command}: interrupted, but each {number}th", partial(is_interrupted, command=command, how={"interrupt": str(number)})
+    for number in SHORT:
+        yield f"{command}: at most {number} bytes a call", partial(is_interrupted, command=command, how={"short": str(number)})
     for flags in ([], ["--atomic"]):
         yield f"{command} {' '.join(flags)} --sync: the order", partial(is_on_the_disk, command=command, flags=flags)
         yield f"{command} {' '.join(flags)}: a write fails", partial(fails, command=command, flags=flags, call="write", number=1, wanted=NO_WRITE)
         for number in (1, 2):
             flags_of = [*flags, "--sync"]
-            if number == 1 or not flags:
+            if number == 1 or (not flags and command in IN_PLACE):
                 yield f"{command} {' '.join(flags_of)}: sync {number} fails", partial(fails, command=command, flags=flags_of, call="fsync", number=number, wanted=NO_WRITE)
     for call in ("rename", "fchmod"):
         yield f"{command}: {call} fails", partial(fails, command=command, flags=["--atomic"], call=call, number=1, wanted=refusal(b"cannot replace out"))
 
 
 def interrupted():
-    """Commands that write no file, whose calls are interrupted."""
+    """Commands that write no file, whose calls are interrupted, or move only some bytes each."""
     read = [
         (["check", "abc.prl"], None, 0),
         (["get", "abc.prl", "61"], b"31\n", 0),
@@ -597,7 +626,9 @@ def interrupted():
         (["verify", root_text(ABC, 0).decode().strip(), "62", "b.prf"], b"31\n", 0),
     ]
     for words, out, status in read:
-        yield f"interrupted: {' '.join(words)}", partial(look_up_is_interrupted, words=words, wanted=(status, out, b""))
+        yield f"interrupted: {' '.join(words)}", partial(look_up_is_interrupted, words=words, how={"interrupt": "3"}, wanted=(status, out, b""))
+        for number in SHORT:
+            yield f"at most {number} bytes a call: {' '.join(words)}", partial(look_up_is_interrupted, words=words, how={"short": str(number)}, wanted=(status, out, b""))
 
 
 def ended():
@@ -616,7 +647,7 @@ def in_part():
     yield "no write of a build after a failed one", partial(no_write_after_a_failed_one, words=["build", "--bits", "2", "out", "a.rec"], begun=made[:-END_SIZE], whole=made)
     text = lines(pairs)
     for words, whole in ((["dump", "a.prl", "out"], rec), (["dump", "--hex", "a.prl", "out"], text), (["diff", "none.prl", "a.prl", "--out", "out"], rec)):
-        yield f"no write after a failed one: {' '.join(words)}", partial(no_write_after_a_failed_one, words=words, begun=whole, whole=whole)
+        yield f"no write after a failed one: {' '.join(words)}", partial(no_write_after_a_failed_one, words=words, begun=None, whole=whole)
     first = lines(pairs[:1])
     for words, reader, taken in (("scan big.prl '' 1000000", "head -1", first), ("diff none.prl big.prl", "head -1", first), ("dump --hex big.prl", "head -1", first), ("dump big.prl", "head -c 1", rec[:1])):
         yield f"nobody reads on: {words} | {reader}", partial(is_read_in_part, words=words, reader=reader, taken=taken)

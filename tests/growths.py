@@ -162,7 +162,7 @@ def text_commands():
     given = text_lines(changes)
     return [
         Command("pack --text", ["pack", "--text", "--removals", "out.rec"], given, out=b"%d\n" % len(changes), made="out.rec", whole=records(changes)),
-        Command("pack --text of a bad line", ["pack", "--text", "out.rec"], b"a\tb\na\\q\tb\n", status=3, err=b"prolly: line 1: not a pair of text\n", made="out.rec"),
+        Command("pack --text of a bad line", ["pack", "--text", "out.rec"], b"a\tb\na\\q\tb\n", status=3, err=b"prolly: line 1: not a pair of text\n"),
         Command("get --text", ["get", "--text", "in.prl", "\\t"], out=b"\\xff\\\\\n", before=before),
         Command("get --text of a bad key", ["get", "--text", "in.prl", "\\q"], status=2, err=BAD_TEXT_KEY, before=before),
         Command("get --text --root", ["get", "--text", *by_root, "é"], out=b"\n", before=before),

@@ -7,6 +7,8 @@ import tempfile
 from functools import partial
 from pathlib import Path
 
+from completed import differences, installed_shells
+
 TOP = Path(__file__).parent.parent
 
 INSTALLED = [
@@ -17,32 +19,18 @@ INSTALLED = [
     "share/zsh/site-functions/_prolly",
 ]
 
-COMPLETED = [
-    (["b"], ["build"]),
-    (["--v"], ["--version"]),
-    (["pack", "--"], ["--text", "--removals", "--atomic", "--sync", "--help"]),
-    (["p"], ["pack", "prove"]),
-    (["build", "--ba"], ["--batch"]),
-    (["build", "--q"], ["--quiet"]),
-    (["e"], ["explain"]),
-    (["explain", "--"], ["--text", "--help"]),
-    (["st"], ["stat"]),
-    (["stat", "--"], ["--text", "--json", "--help"]),
-    (["get", "--r"], ["--root"]),
-    (["scan", "--r"], ["--root"]),
-    (["nth", "--"], ["--text", "--root", "--format", "--help"]),
-    (["dump", "--"], ["--text", "--hex", "--atomic", "--sync", "--help"]),
-    (["check", "fi"], []),
-    (["diff", "old", "--s"], ["--stat", "--sync"]),
-]
-"""Words that are begun, and what bash makes of the last of them."""
+SECTIONS = ["NAME", "SYNOPSIS", "DESCRIPTION", "OPTIONS", "COMMANDS", "EXIT STATUS", "FILES", "EXAMPLES", "SEE ALSO"]
+"""The sections of the manual."""
 
-COMPLETE = """
-source "$1"; shift
-COMP_WORDS=(prolly "$@"); COMP_CWORD=$#
-_prolly
-[ ${#COMPREPLY[@]} -eq 0 ] || printf '%s\\n' "${COMPREPLY[@]}"
-"""
+CHARACTERS = {"\\-": "-", "\\(aq": "'", "\\(ga": "`", "\\(ha": "^", "\\(ti": "~", "\\|": "", "\\&": "", "\\e": "\\"}
+"""How the manual's source spells characters."""
+
+LINTS = [
+    ["mandoc", "-Tlint", "-Wall"],
+    ["groff", "-man", "-ww", "-Tutf8", "-z"],
+    ["man", "--warnings", "-E", "UTF-8", "-Tutf8", "-Z", "-l"],
+]
+"""What looks for faults in a page's source."""
 
 
 def all_runs(program, _):
@@ -52,13 +40,19 @@ def all_runs(program, _):
         made = Path(folder) / "made"
         yield "make install", make("install", program, place, made)
         yield "what is installed", differs(files_below(place), INSTALLED)
-        yield "the manual has all words of the helps", list(missing(program, (place / INSTALLED[3]).read_text()))
-        yield "completions of bash", list(completions(place / INSTALLED[1]))
-        for shell, name in (("bash", INSTALLED[1]), ("fish", INSTALLED[2]), ("zsh", INSTALLED[4])):
-            if shutil.which(shell):
-                yield f"what {shell} reads", silent([shell, "-n", str(place / name)])
-        if shutil.which("groff"):
-            yield "the manual, as groff reads it", typeset(place / INSTALLED[3])
+        page, told = (place / INSTALLED[3]).read_text(), helps(program)
+        yield "the manual has all words of the helps", list(missing(told, page))
+        yield "the manual's lists are lists", list(run_together(told, page))
+        yield "the manual's sections", differs(re.findall(r'(?m)^\.SH "?([^"\n]*)', page), SECTIONS)
+        yield "the manual's statuses", differs(statuses(page), told_statuses())
+        yield "the manual has no usage's brackets", re.findall(r"<[A-Z]+>", page)
+        for lint in LINTS:
+            if shutil.which(lint[0]):
+                yield f"the manual, as {lint[0]} reads it", linted([*lint, str(place / INSTALLED[3])])
+        scripts = {"bash": place / INSTALLED[1], "fish": place / INSTALLED[2], "zsh": place / INSTALLED[4]}
+        for shell, script in installed_shells(scripts):
+            yield f"what {shell} reads", silent([shell, "-n", str(script)])
+            yield f"completions of {shell}", list(differences(shell, script, told[1], Path(folder) / shell))
         yield "make uninstall", make("uninstall", program, place, made)
         yield "what is left", differs(files_below(place), [])
 
@@ -76,10 +70,11 @@ def silent(words):
     return [] if (done.returncode, said) == (0, "") else [f"status {done.returncode}: {said[-300:]!r}"]
 
 
-def typeset(manual):
-    """What groff warns of."""
-    done = subprocess.run(["groff", "-man", "-ww", "-Tutf8", str(manual)], capture_output=True, text=True, check=False)
-    return [done.stderr[-300:]] if done.stderr or done.returncode else []
+def linted(words):
+    """What a reader of manuals warns of."""
+    done = subprocess.run(words, capture_output=True, text=True, check=False)
+    said = (done.stdout if "-Tlint" in words else "") + done.stderr
+    return [said[-300:]] if said or done.returncode else []
 
 
 def differs(found, wanted):
@@ -93,27 +88,49 @@ def files_below(place):
 
 
 def helps(program):
-    """The help of the program, and those of its commands."""
+    """The help of the program, and those of its commands by their names."""
     show = partial(subprocess.run, capture_output=True, text=True, check=True)
     top = show([program, "--help"]).stdout
     commands = re.findall(r"(?m)^  ([a-z]+)  ", top.split("Commands:")[1].split("Options:")[0])
-    return [top, *(show([program, name, "--help"]).stdout for name in commands if name != "help")]
+    return top, {name: show([program, name, "--help"]).stdout for name in commands if name != "help"}
 
 
-def missing(program, manual):
+def plain(page):
+    """A manual's source without its fonts, with its characters as they are read."""
+    page = re.sub(r"\\f[A-Z]", "", page)
+    for spelling, character in CHARACTERS.items():
+        page = page.replace(spelling, character)
+    return page
+
+
+def missing(told, page):
     """Words of the helps that the manual has not."""
-    found = set(manual.replace("\\-", "-").replace("\\e", "\\").replace("\\&", "").split())
-    found |= {re.sub(r"\\f.", "", word) for word in found}
-    for text in helps(program):
+    found = set(plain(page).replace("`", "").replace('"', "").split())
+    top, commands = told
+    for text in [top, *commands.values()]:
         words = text.replace("Usage:", "").replace("Arguments:", "").replace("Options:", "").replace("Commands:", "")
-        for word in set(re.sub(r"<([A-Z]+)>", r"\1", words).split()) - {word.strip("<>") for word in found} - found:
-            if word not in ("-h,", "-V,"):
-                yield f"{word!r} is missing"
+        words = re.sub(r"<([A-Z]+)>", r"\1", words).replace("`", "")
+        yield from (f"{word!r} is missing" for word in sorted(set(words.split()) - found))
 
 
-def completions(script):
-    """What is wrong with what bash makes of begun words."""
-    for words, wanted in COMPLETED:
-        done = subprocess.run(["bash", "-c", COMPLETE, "bash", str(script), *words], capture_output=True, text=True, check=False)
-        if (done.stdout.split(), done.stderr) != (wanted, ""):
-            yield f"{words}: {done.stdout.split()}, wanted {wanted}; {done.stderr!r}"
+def run_together(told, page):
+    """Lines of the helps that stand by themselves, as those of a list do, and that the manual runs into others."""
+    found = set(plain(page).splitlines())
+    top, commands = told
+    for text in [top, *commands.values()]:
+        for line in re.findall(r"(?m)^  (\S.*)", text.split("\nUsage:")[0]):
+            begin = re.split("  +", line)[0]
+            if begin not in found:
+                yield f"{begin!r} has no line of its own"
+
+
+def statuses(page):
+    """The exit statuses that the manual tells."""
+    part = plain(page).split(".SH EXIT STATUS")[1].split(".SH ")[0]
+    return sorted(set(re.findall(r"(?m)^\.TP\n(\d)$", part)))
+
+
+def told_statuses():
+    """Those that the commands' documents tell: 0, 1, and those of faults."""
+    faults = (TOP / "docs" / "faults.md").read_text()
+    return sorted({"0", "1", *re.findall(r"(?m)^\| [`.].*? \| (\d) \|", faults)})

@@ -3,18 +3,22 @@
  * FAIL="CALL NUMBER ERROR"  the call of this name whose number, counted from 1, is NUMBER fails with the error, which is
  *                           a number, and is not made. Calls are counted by their name.
  * INTERRUPT=N               every read and write but each Nth fails with EINTR, and is not made; N is at least 2.
+ * SHORT=N                   each read and write moves at most N bytes.
  * TURN="NUMBER PLACE BITS"  of what the read whose number, counted from 1, is NUMBER gives, the byte at PLACE, if there is
  *                           one, is another: these bits of it, a number, are turned.
  * TELL=DESCRIPTOR           each call that is made or made to fail is written there, a line: its name, and for one on a
- *                           descriptor the number of that.
+ *                           descriptor the number of that, and for one that may make a file the file's mode.
  */
 #define _GNU_SOURCE
+#include <dlfcn.h>
 #include <errno.h>
+#include <fcntl.h>
 #include <stdarg.h>
 #include <stdatomic.h>
 #include <stdio.h>
 #include <stdlib.h>
 #include <string.h>
+#include <sys/file.h>
 #include <sys/stat.h>
 #include <sys/syscall.h>
 #include <sys/types.h>
@@ -22,13 +26,16 @@
 
 static char call_to_fail[16];
 static long number_to_fail, error_to_give, interrupt_but, number_to_turn, place_to_turn, bits_to_turn;
+static size_t most_to_move;
 static int told = -1;
 static atomic_long count_of_named, count_of_moves, count_of_reads;
 
 __attribute__((constructor)) static void begin(void) {
     const char *fail = getenv("FAIL"), *interrupt = getenv("INTERRUPT"), *tell = getenv("TELL"), *turn = getenv("TURN");
+    const char *most = getenv("SHORT");
     if (fail && sscanf(fail, "%15s %ld %ld", call_to_fail, &number_to_fail, &error_to_give) != 3) abort();
     if (interrupt) interrupt_but = atol(interrupt);
+    if (most) most_to_move = atol(most);
     if (tell) told = atoi(tell);
     if (turn && sscanf(turn, "%ld %ld %ld", &number_to_turn, &place_to_turn, &bits_to_turn) != 3) abort();
 }
@@ -53,9 +60,11 @@ static int is_interrupted(void) {
     return 1;
 }
 
+static size_t moved(size_t count) { return most_to_move != 0 && count > most_to_move ? most_to_move : count; }
+
 ssize_t read(int descriptor, void *bytes, size_t count) {
     if (is_interrupted() || is_to_fail("read", descriptor)) return -1;
-    ssize_t given = syscall(SYS_read, descriptor, bytes, count);
+    ssize_t given = syscall(SYS_read, descriptor, bytes, moved(count));
     if (atomic_fetch_add(&count_of_reads, 1) + 1 == number_to_turn && place_to_turn < given)
         ((unsigned char *)bytes)[place_to_turn] ^= bits_to_turn;
     return given;
@@ -63,7 +72,7 @@ ssize_t read(int descriptor, void *bytes, size_t count) {
 
 ssize_t write(int descriptor, const void *bytes, size_t count) {
     if (is_interrupted() || is_to_fail("write", descriptor)) return -1;
-    return syscall(SYS_write, descriptor, bytes, count);
+    return syscall(SYS_write, descriptor, bytes, moved(count));
 }
 
 /* The kit's standard library calls the second name, which means the same here. */
@@ -81,4 +90,43 @@ int fchmod(int descriptor, mode_t mode) {
 
 int rename(const char *from, const char *to) {
     return is_to_fail("rename", -1) ? -1 : (int)syscall(SYS_rename, from, to);
+}
+
+int unlink(const char *path) { return is_to_fail("unlink", -1) ? -1 : (int)syscall(SYS_unlink, path); }
+
+int ftruncate(int descriptor, off_t length) {
+    return is_to_fail("ftruncate", descriptor) ? -1 : (int)syscall(SYS_ftruncate, descriptor, length);
+}
+
+int flock(int descriptor, int operation) {
+    return is_to_fail("flock", descriptor) ? -1 : (int)syscall(SYS_flock, descriptor, operation);
+}
+
+int statx(int folder, const char *restrict path, int flags, unsigned mask, struct statx *restrict found) {
+    return is_to_fail("statx", -1) ? -1 : (int)syscall(SYS_statx, folder, path, flags, mask, found);
+}
+
+ssize_t readlink(const char *restrict path, char *restrict named, size_t size) {
+    return is_to_fail("readlink", -1) ? -1 : syscall(SYS_readlink, path, named, size);
+}
+
+ssize_t pread(int descriptor, void *bytes, size_t count, off_t offset) {
+    return is_to_fail("pread", descriptor) ? -1 : syscall(SYS_pread64, descriptor, bytes, count, offset);
+}
+
+ssize_t pread64(int descriptor, void *bytes, size_t count, off_t offset) { return pread(descriptor, bytes, count, offset); }
+
+int open(const char *path, int flags, ...) {
+    va_list rest;
+    va_start(rest, flags);
+    mode_t mode = flags & O_CREAT ? va_arg(rest, mode_t) : 0;
+    va_end(rest);
+    return is_to_fail("open", flags & O_CREAT ? (int)mode : -1) ? -1 : (int)syscall(SYS_open, path, flags, mode);
+}
+
+/* It makes several calls of the system, of which each may fail. */
+char *realpath(const char *restrict path, char *restrict resolved) {
+    if (is_to_fail("realpath", -1)) return NULL;
+    char *(*real)(const char *, char *) = (char *(*)(const char *, char *))dlsym(RTLD_NEXT, "realpath");
+    return real(path, resolved);
 }

@@ -17,12 +17,30 @@ SEND_AFTER_CLOSE = """        let closed = BatchSender::close(self, rt, end);
         closed
 """
 
+SENDS = """impl<T: Drop, F: Copy> BatchSender<T, F> {
+"""
+
+SEND_BEHIND_CLOSE = """impl<T: Drop, F: Copy> BatchSender<T, F> {
+    pub fn close_and_send<R: Wait>(mut self, rt: &R, end: End<F>, item: T) {
+        let _ = self.close(rt, end);
+        let _ = self.send(rt, item);
+    }
+
+"""
+
 MISUSES = [
     (
         "a sender is used after its close",
         "prolly_link",
         "src/batch/sender.rt",
         (CLOSE, SEND_AFTER_CLOSE),
+        "error[borrow-e0382]: borrow of moved value: `self`",
+    ),
+    (
+        "an item is sent behind the close",
+        "prolly_link",
+        "src/batch/sender.rt",
+        (SENDS, SEND_BEHIND_CLOSE),
         "error[borrow-e0382]: borrow of moved value: `self`",
     ),
 ]

@@ -18,14 +18,13 @@ def done(name, text, changes):
 
 
 def refused(name, text, line, status=3, **more):
-    """A text that is not, after which OUT is empty."""
+    """A text that is not, after which no OUT is there."""
     return Case(
         f"pack: {name}",
         ["pack", "out.rec"],
         text,
         status=status,
         err=b"prolly: " + line + b"\n",
-        after={"out.rec": b""},
         **more,
     )
 
@@ -65,6 +64,8 @@ def cases(scratch_folder):
         refused("a key of 1,025 bytes", b"61" * 1025 + b" 31\n", b"line 0: key too long"),
         refused("a removal of a key of 1,025 bytes", b"61 31\n" + b"61" * 1025 + b" -\n", b"line 1: key too long"),
         refused("a value of 65,537 bytes", b"61 " + b"31" * 65537, b"line 0: value too long"),
+        refused("a key that is too long, and a value that is none", b"61" * 1025 + b" zz\n", BAD),
+        refused("a key that is too long, in a line before a bad one", b"61" * 1025 + b" 31\nzz\n", b"line 0: key too long"),
         refused("both too long", b"61" * 1025 + b" " + b"31" * 65537, b"line 0: key too long"),
         refused("an input that can't be read", Path("."), b"file 0: read failed", status=5),
         refused("a closed input", None, b"file 0: read failed", status=5),
@@ -75,17 +76,16 @@ def cases(scratch_folder):
             ["pack", "out.rec"],
             b"61 31\n",
             out=b"1\n",
-            before={"out.rec": b"what was there before"},
+            before={"out.rec": record(b"before", b"1")},
             after={"out.rec": record(b"a", b"1")},
         ),
         Case(
-            "pack: a file that is there is emptied by a fault",
+            "pack: OUT is as it was after a fault",
             ["pack", "out.rec"],
             b"61\n",
             status=3,
             err=b"prolly: " + BAD + b"\n",
-            before={"out.rec": b"what was there before"},
-            after={"out.rec": b""},
+            before={"out.rec": record(b"before", b"1")},
         ),
         Case(
             "pack: OUT in a folder that is not there",
@@ -130,7 +130,6 @@ def cases(scratch_folder):
             ["pack", "out.rec"],
             b"61\n",
             status=3,
-            after={"out.rec": b""},
             stderr="closed",
         ),
     ]

@@ -4,6 +4,7 @@ import os
 import resource
 import shutil
 import subprocess
+from concurrent.futures import ThreadPoolExecutor
 from pathlib import Path
 
 from harness import shown
@@ -60,12 +61,13 @@ class Place:
         reader, writer = os.pipe()
         variables = {name.upper(): value for name, value in how.pop("meddle", {}).items()}
         env = {"LD_PRELOAD": str(self.meddler), "TELL": str(writer), **variables}
-        with os.fdopen(reader, "rb") as told:
+        # Both are read at once, since the program may write much to either.
+        with os.fdopen(reader, "rb") as told, ThreadPoolExecutor(1) as beside:
             process = self.start(words, env=env, pass_fds=[writer], **how)
             os.close(writer)
-            calls = told.read().decode().splitlines()
+            calls = beside.submit(told.read)
             out, err = process.communicate(timeout=300)
-        return (process.returncode, out or b"", err), calls
+            return (process.returncode, out or b"", err), calls.result().decode().splitlines()
 
     def nobodys_program(self):
         """The program where nobody may run it, in a folder that is nobody's."""

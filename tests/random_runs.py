@@ -144,7 +144,7 @@ def build(chance):
     given, words = options(chance, ["bits", "format", "stages", "capacity", "batch", "max-records"])
     files = {f"{number}.rec": record_file(chance) for number in range(count)}
     out, status, error, left = built(list(files.values()), given)
-    before, after, flags = written(chance, "out.prl", left, status)
+    before, after, flags = written(chance, "out.prl", left, status, is_begun=True)
     return Case(
         "",
         ["build", *words, *flags, "out.prl", *files],
@@ -156,12 +156,15 @@ def build(chance):
     )
 
 
-def written(chance, name, left, status):
-    """What a file holds before a run that writes it, if it is there, and after it, and flags: with one of them the file is
-    after a fault as it was."""
+def written(chance, name, left, status, is_begun=False):
+    """What a file holds before a run that writes it, if it is there, and after it, and flags. After a fault it is as it was,
+    unless the run had begun to write and no flag had it write a file beside this one."""
     flags = [flag for flag in ("--atomic", "--sync") if chance.random() < 0.2]
     before = {name: chance.randbytes(20)} if chance.random() < 0.3 else {}
-    is_changed = left is not None and not ("--atomic" in flags and status)
+    # What it holds is of no kind, so it has to be given up by a word.
+    if before or chance.random() < 0.2:
+        flags.append("--force")
+    is_changed = left is not None and (not status or (is_begun and "--atomic" not in flags))
     return before, {name: left} if is_changed else {}, flags
 
 

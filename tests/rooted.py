@@ -56,6 +56,9 @@ SMALL_MEMORY = 8_000_000
 GAP = 5_000_000_000
 """Bytes of a chunk of zeros, which a file has without taking room on the disk."""
 
+FAR = [(key, b"v" * 65_536) for key, _ in ABC]
+"""Pairs whose chunks stand so far from each other that no block of a file has the starts of two frames."""
+
 
 # ---- the second reader
 
@@ -711,7 +714,7 @@ def reads_in(calls):
 
 def is_another_level(place):
     """A child that stands two levels below its node, of which the start of its frame told another level before."""
-    a = leaf(ABC[0])
+    a = leaf(FAR[0])
     root = node(2, (b"a", a))
     place.lay(in_prl=assembled([a, root], bytes(20)))
     words = words_for(reference(root), b"a", 1)
@@ -723,7 +726,7 @@ def is_another_level(place):
 
 def fails_to_read(place, call):
     """Each call of a kind fails in turn."""
-    kind = Kind(ABC, 0, 1)
+    kind = Kind(FAR, 0, 1)
     place.lay(in_prl=kind.content)
     words = words_for(kind.root, b"b", 1)
     for number in range(1, 100):

@@ -5,6 +5,7 @@ import errno
 import os
 import random
 import re
+import resource
 import tempfile
 from functools import partial
 from pathlib import Path
@@ -14,7 +15,7 @@ from harness import BAD_KEY, FOLDER, Case
 from look_ups import LONG, NUMBERS, assembled, leaf, line
 from place import Place, compiled
 from proofs import BAD_ROOT, FRAME_SIZE, MORE, TRUNCATED, WRONG_VERSION, another, bad_chunk, bad_frame, out_of_order, wrong_level
-from rooted import MISSING, NO_VALUE, READ_FAILED, SMALL_MEMORY, Asked, Kind, Reader, gone_over, random_pairs, reads_in, refusal, shown_answer, starts_read, turned, write_gap
+from rooted import FAR, MISSING, NO_VALUE, READ_FAILED, SMALL_MEMORY, Asked, Kind, Reader, gone_over, random_pairs, reads_in, refusal, shown_answer, starts_read, turned, write_gap
 from scratch import ABC, numbered
 from trees import chunk_file, reference, reference_text, tree
 
@@ -534,6 +535,8 @@ def word_cases():
         for word in bad
         for words in (["nth", "in.prl", "0"], ["nth", "--format", "2", "none", "0"], ["scan", "in.prl", "61", "1"], ["scan", "none", "6", "1"])
     ] + [
+        Case("scan --root: no pair, of a file that is no chunk file", ["scan", "--root", good, "none.prl", "61", "0"], before={"none.prl": b"none"}),
+        Case("scan --root: no pair, and no file", ["scan", "--root", good, "none", "61", "0"], status=5, err=b"prolly: cannot open none\n"),
         Case("scan --root: a dash for a root", ["scan", f"--root={'-' * 32}", "in.prl", "61", "1"], status=2, err=BAD_ROOT, before=given),
         Case("nth --root: a dash for a root", ["nth", f"--root={'-' * 32}", "in.prl", "1"], status=2, err=BAD_ROOT, before=given),
         Case("scan --root: a key that is none", ["scan", "--root", good, "in.prl", "6g", "1"], status=2, err=BAD_KEY, before=given),
@@ -650,7 +653,7 @@ def give_other_bytes(place, version):
 
 def are_of_another_level(place):
     """A child that stands two levels below its node, of which the start of its frame told another level before."""
-    a = leaf(ABC[0])
+    a = leaf(FAR[0])
     root = counted_node(2, (b"a", a, 1))
     place.lay(in_prl=assembled([a, root], bytes(20), 0, 2))
     for words in (number_words(reference(root), 0), scan_words(reference(root), b"", ALL, 2)):
@@ -662,7 +665,7 @@ def are_of_another_level(place):
 
 def fail_to_read(place, call, version):
     """Each call of a kind fails in turn: that is told behind the pairs of the leaves that were read before."""
-    kind = Kind(ABC, 0, version)
+    kind = Kind(FAR, 0, version)
     place.lay(in_prl=kind.content)
     for words, right in some_words(kind):
         printed = []
@@ -676,7 +679,7 @@ def fail_to_read(place, call, version):
         if number < 10:
             place.note("too few calls to tell")
         # The last look-up of the scan ends at the root, which was read before: nothing is read once all is printed.
-        firsts = [lines_of(ABC[:count]) for count in range(len(ABC))] if words[0] == "scan" else [b""]
+        firsts = [lines_of(FAR[:count]) for count in range(len(FAR))] if words[0] == "scan" else [b""]
         if [out for number, out in enumerate(printed) if out not in printed[:number]] != firsts:
             place.note(f"{words[0]}, {call} fails: printed {printed}")
 
@@ -721,6 +724,22 @@ def at_most(place, calls, most):
     """Notes where more was read."""
     if reads_in(calls) > most:
         place.note(f"{reads_in(calls)} reads, wanted {most}")
+
+
+def take_no_longer_for_many_children(place):
+    """The time of a scan is in line with the leaves, also where one node has all of them: for eight times the leaves it is
+    not three times eight times as long. Where each look-up read the node from its first entry on, it was some 64 times."""
+    times = []
+    for count in (10_000, 80_000):
+        pairs = [(b"%08d" % number, b"") for number in range(count)]
+        leaves = [leaf(pair) for pair in pairs]
+        top = plain_node(1, *((key, chunk) for (key, _), chunk in zip(pairs, leaves)))
+        place.lay(in_prl=assembled([*leaves, top], reference(top)))
+        before = resource.getrusage(resource.RUSAGE_CHILDREN).ru_utime
+        place.answers(place.run(*scan_words(reference(top), b"", ALL, 1)), (0, lines_of(pairs), b""))
+        times.append(resource.getrusage(resource.RUSAGE_CHILDREN).ru_utime - before)
+    if times[1] > 24 * times[0]:
+        place.note(f"{times[0]:.3f} s, and {times[1]:.3f} s for eight times the leaves")
 
 
 def print_as_they_go(place):
@@ -807,7 +826,7 @@ def placed_tests():
             yield f"each {call} fails, format {version}", partial(fail_to_read, call=call, version=version)
         for bits in (0, 2, 12):
             yield f"read little, --bits {bits}, format {version}", partial(read_little, bits=bits, version=version)
-    for test in (are_of_another_level, print_as_they_go, are_fifos, are_links, are_not_readable):
+    for test in (are_of_another_level, take_no_longer_for_many_children, print_as_they_go, are_fifos, are_links, are_not_readable):
         yield test.__name__.replace("_", " "), test
 
 

@@ -1,17 +1,22 @@
 #!/usr/bin/env python3
-"""Tests the program as a user runs it: `tests/run.py PROGRAM`, or over more random files than the gate has
-`tests/run.py PROGRAM --random SEED COUNT`, or to look for builds that hang `tests/run.py PROGRAM --links COUNT`.
+"""Tests the program as a user runs it: `tests/run.py PROGRAM`, or one part of it, such as those of diffs.py,
+`tests/run.py PROGRAM --part diffs`, or over more random files than the gate has `tests/run.py PROGRAM --random SEED COUNT`,
+or to look for builds that hang `tests/run.py PROGRAM --links COUNT`.
 
 Each case is a run with its words, input, output, error, status and files. What is wanted comes from
 docs/format.md, from a second builder and a second writer of text written after it (trees.py, escapes.py), or, for texts
-of help, from texts/. Beside the cases there are runs in which files may be lost, runs whose workers wait for one another,
-runs in which each growth of memory is refused in turn, the reader in Python beside the program, the examples of the
-README, what is installed, a sort on a cluster, the demonstration, code that must not compile, and random command lines
-over random files.
+of help, from texts/. Beside the cases there are runs in which files may be lost, in which calls of the system fail, or
+in which standard streams are not as usual, runs whose workers wait for one another, runs in which each growth of memory
+is refused in turn, the reader in Python beside the program, the examples of the README, what is installed, a sort on a
+cluster, the demonstration, code that must not compile, and random command lines over random files. As many parts run
+beside one another as there are processors, but for those that look at times.
 """
 
+import os
 import sys
 import tempfile
+from concurrent.futures import ProcessPoolExecutor
+from functools import partial
 from pathlib import Path
 
 import as_text
@@ -25,6 +30,7 @@ import examples
 import files
 import growths
 import installed
+import kept
 import links
 import look_ups
 import misuse
@@ -37,12 +43,25 @@ import rooted
 import rooted_pairs
 import scale
 import scratch
+import streams
 import surveys
 from harness import run
 from trees import chunk_file
 
 KNOWN_SIZES = [(0, 1, 45), (1, 1, 53), (2, 1, 127), (3, 1, 234), (1, 2, 53), (2, 2, 143), (3, 2, 274)]
 """Numbers of pairs, versions and sizes of chunk files, as docs/format.md gives them."""
+
+
+WITH_RUNS = (rooted_pairs, rooted, growths, kept, files, links, as_text, dumps, diffs, proofs, readers, progress, examples, installed, streams, scale, demo, misuse)
+"""The parts that have runs of their own, those first that take long."""
+
+WITH_CASES = (damaged, build, random_runs, as_text, diffs, scratch, pack, command_line, look_ups, dumps, proofs, rooted, rooted_pairs, surveys)
+"""The parts that have cases."""
+
+PARTS = [(part.__name__, "all_runs") for part in WITH_RUNS] + [(part.__name__, "cases") for part in WITH_CASES]
+
+ALONE = ("links", "progress")
+"""The parts that look at times, so that they run by themselves once all others are done."""
 
 
 def main():
@@ -52,30 +71,47 @@ def main():
         assert len(chunk_file(scratch.ABC[:count], 0, version)) == size
     assert chunk_file([], 0) == scratch.EMPTY_FILE
     passed, failed = 0, 0
-    with tempfile.TemporaryDirectory() as folder:
-        for name, differences in all_runs(program, Path(folder)):
-            passed += not differences
-            failed += bool(differences)
+    for count, differing in outcomes(program, sys.argv[2:]):
+        passed += count
+        failed += len(differing)
+        for name, differences in differing:
             for difference in differences:
-                print(f"FAILED {name}: {difference}")
+                print(f"FAILED {name}: {difference}", flush=True)
     print(f"{passed} passed, {failed} failed")
-    return 1 if failed else 0
+    return 1 if failed or not passed else 0
 
 
-def all_runs(program, folder):
-    """All runs: for each its name and its differences."""
-    if sys.argv[2:3] == ["--random"]:
-        for case in random_runs.by_hand(sys.argv[3:]):
-            yield case.name, run(program, case)
+def outcomes(program, words):
+    """What comes of all runs, or of those that the words name, part by part."""
+    if words[:1] == ["--random"]:
+        yield outcome((case.name, run(program, case)) for case in random_runs.by_hand(words[1:]))
         return
-    if sys.argv[2:3] == ["--links"]:
-        yield from links.by_hand(program, int(sys.argv[3]))
+    if words[:1] == ["--links"]:
+        yield outcome(links.by_hand(program, int(words[1])))
         return
-    for part in (command_line, pack, scratch, build, look_ups, dumps, diffs, as_text, proofs, rooted, rooted_pairs, damaged, random_runs, surveys):
-        for case in part.cases(folder):
-            yield case.name, run(program, case)
-    for part in (dumps, diffs, as_text, proofs, rooted, rooted_pairs, readers, files, links, progress, growths, examples, installed, scale, demo, misuse):
-        yield from part.all_runs(program, folder)
+    wanted = [part for part in PARTS if words[:1] != ["--part"] or part[0] == words[1]]
+    with ProcessPoolExecutor(os.cpu_count()) as workers:
+        yield from workers.map(partial(outcome_of, program), [part for part in wanted if part[0] not in ALONE])
+    yield from (outcome_of(program, part) for part in wanted if part[0] in ALONE)
+
+
+def outcome_of(program, part):
+    """What comes of the runs of a part."""
+    name, kind = part
+    with tempfile.TemporaryDirectory() as folder:
+        if kind == "cases":
+            return outcome((case.name, run(program, case)) for case in globals()[name].cases(Path(folder)))
+        return outcome(globals()[name].all_runs(program, Path(folder)))
+
+
+def outcome(runs):
+    """How many of these runs passed, and the other ones with their differences."""
+    passed, differing = 0, []
+    for name, differences in runs:
+        passed += not differences
+        if differences:
+            differing.append((name, differences))
+    return passed, differing
 
 
 if __name__ == "__main__":

@@ -31,14 +31,13 @@ def done(name, pairs, bits=12, version=1, changes=None, words=None):
 
 
 def refused(name, content, line, status=3, **more):
-    """A record file that is refused, after which the file for the tree is empty."""
+    """A record file that is refused, after which there is no file for the tree."""
     return Case(
         f"scratch: {name}",
         ["scratch", "--bits", "0", "--out", "out.prl"],
         content,
         status=status,
         err=b"prolly: " + line + b"\n",
-        after={"out.prl": b""},
         **more,
     )
 
@@ -129,7 +128,7 @@ def small_cases():
             "scratch: a file that is there is replaced",
             ["scratch", "--bits", "0", "--out", "out.prl"],
             out=EMPTY_ROOT,
-            before={"out.prl": b"what was there before, and is longer than that which comes now"},
+            before={"out.prl": chunk_file(ABC, 0)},
             after={"out.prl": EMPTY_FILE},
         ),
     ]
@@ -203,6 +202,13 @@ def large_cases(folder):
             out=EMPTY_ROOT,
         ),
         refused("16,777,217 records", many_removals(folder / "more", over), b"file 0: too many records"),
+        Case(
+            "explain: 16,777,217 records",
+            ["explain", str(folder / "more")],
+            status=1,
+            out=b"record 16777216 at byte 150994944: too many records\nthe key before: ffffff\n",
+        ),
+        Case("stat: 16,777,217 records", ["stat", str(folder / "more")], status=3, err=b"prolly: file 0: too many records\n"),
         refused("1,073,741,824 bytes are read", twins(folder / "twins"), b"file 0: record 1: key out of order"),
         refused("1,073,741,825 bytes", too_long(folder / "longer"), b"input too long", status=5),
     ]

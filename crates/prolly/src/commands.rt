@@ -4,13 +4,19 @@
 ghost use Rattle.std.specs.Prelude.{◌≤◌};
 ghost use Rattle.prolly_line.specs.Given.{IsWithinLimits};
 
-use crate::file_id::{FileId, STDIN, STDOUT};
-use crate::output::{MakeFault, Output};
+use crate::file_id::Found;
+use crate::inputs::Input;
+use crate::output::Output;
+use crate::output_kind::OutputKind;
+use crate::patient::Patient;
 use crate::refusal::Refusal;
+use crate::streams::Stream;
+use crate::target::Target;
 use prolly_build::{FILES_LIMIT, Report, build};
+use prolly_check::CheckFault;
 use prolly_entry::{Ref, Version};
 use prolly_fault::RunFault;
-use prolly_file::{Buffered, FromRead, FromSeek, Sink, ToWrite};
+use prolly_file::{Blocks, Buffered, FromRead, FromSeek, Sink, ToWrite};
 use prolly_progress::{CountedSink, CountedSource, Counts, watched};
 use prolly_proof::{get_by_root, nth_by_root};
 use prolly_stage::OpenGate;
@@ -21,9 +27,8 @@ use prolly_tool::{
     answer_scan_by_root, answer_scratch, answer_stat, answer_verify,
 };
 use std::alloc::AllocError;
-use std::fs;
 use std::fs::File;
-use std::io::Write;
+use std::io::{IsTerminal, Write};
 use std::sync::Wait;
 use std::thread::Threads;
 use std::time::Clock;
@@ -87,21 +92,18 @@ fn answer_or_refusal<T: Wait + Threads + Clock + Sync>(
             build_from(rt, threads, &config, &out, &files, quiet, mode)
         }
         Command::Explain { file, notation } => {
-            let mut source = opened(rt, &file)?;
+            let mut source = Input::open(rt, &file)?.into_source();
             Ok(answer_explain(rt.alloc(), &mut source, notation)?)
         }
         Command::Check { file } => {
-            let mut source = opened(rt, &file)?;
+            let mut source = chunk_file(rt, &file)?;
             Ok(answer_check(rt.alloc(), &mut source)?)
         }
         Command::Stat {
             file,
             json,
             notation,
-        } => {
-            let source = opened(rt, &file)?;
-            Ok(answer_stat(rt.alloc(), source, stat_form(json, notation)).answer?)
-        }
+        } => stat(rt, &file, stat_form(json, notation)),
         Command::Get {
             file,
             key,
@@ -187,13 +189,18 @@ fn answer_or_refusal<T: Wait + Threads + Clock + Sync>(
     }
 }
 
-/// `pack [--text] [--removals] [--atomic] [--sync] OUT`
+/// `pack [--text] [--removals] [--sync] [--force] OUT`
 fn pack(rt: &HostRuntime, form: LineForm, out: &str, mode: WriteMode) -> Result<Answer, Refusal> {
-    let output = output_beside_streams(rt, out, mode)?;
+    let target = Target::look(rt, out, OutputKind::RecordFile, mode)?;
+    target.refuse_input(rt)?;
+    let mut output = target.open_beside_answer(rt)?;
+    if rt.stdin().is_terminal() {
+        let _ = eprintln!(rt; "prolly: reading lines from the terminal; Control-D ends them");
+    }
     let answer = answer_pack_as(
         rt.alloc(),
-        &mut FromRead::new(rt.stdin()),
-        &mut ToWrite::new(output.file()),
+        &mut FromRead::new(Patient::new(rt, rt.stdin())),
+        &mut ToWrite::new(&mut output),
         form,
     );
     Ok(output.finish(rt, out, answer)?)
@@ -206,14 +213,14 @@ fn scratch(rt: &HostRuntime, bits: u8, version: Version) -> Result<Answer, Alloc
     let mut sink: Option<ToWrite<&File>> = None;
     answer_scratch(
         rt.alloc(),
-        &mut FromRead::new(rt.stdin()),
+        &mut FromRead::new(Patient::new(rt, rt.stdin())),
         bits,
         version,
         &mut sink,
     )
 }
 
-/// `scratch [--bits Q] [--format V] --out FILE [--atomic] [--sync]`
+/// `scratch [--bits Q] [--format V] --out FILE [--atomic] [--sync] [--force]`
 fn scratch_to(
     rt: &HostRuntime,
     bits: u8,
@@ -223,13 +230,15 @@ fn scratch_to(
 ) -> Result<Answer, Refusal>
     requires bits { bits ≤ 24 }
 {
-    let output = output_beside_streams(rt, out, mode)?;
+    let target = Target::look(rt, out, OutputKind::ChunkFile, mode)?;
+    target.refuse_input(rt)?;
+    let mut output = target.open_beside_answer(rt)?;
     let answer = answer_scratch(
         rt.alloc(),
-        &mut FromRead::new(rt.stdin()),
+        &mut FromRead::new(Patient::new(rt, rt.stdin())),
         bits,
         version,
-        &mut Some(ToWrite::new(output.file())),
+        &mut Some(ToWrite::new(&mut output)),
     );
     Ok(output.finish(rt, out, answer)?)
 }
@@ -256,14 +265,19 @@ impl<'a> RootedFile<'a> {
     }
 
     /// The file as a device.
-    fn device(self, rt: &HostRuntime) -> Result<FromSeek<File>, Refusal> {
-        Ok(FromSeek::new(file_beside(rt, self.file, None)?))
+    fn device(self, rt: &HostRuntime) -> Result<Blocks<FromSeek<File>>, Refusal> {
+        device_of(rt, Input::open(rt, self.file)?)
     }
+}
+
+/// A file of which any part is read, by blocks where the parts are short.
+fn device_of(rt: &HostRuntime, input: Input) -> Result<Blocks<FromSeek<File>>, Refusal> {
+    Ok(Blocks::new(rt.alloc(), FromSeek::new(input.into_file()))?)
 }
 
 /// `get [--text] FILE KEY`
 fn get(rt: &HostRuntime, file: &str, notation: Notation, key: &[u8]) -> Result<Answer, Refusal> {
-    let mut source = opened(rt, file)?;
+    let mut source = chunk_file(rt, file)?;
     Ok(answer_get_as(rt.alloc(), &mut source, key, notation)?)
 }
 
@@ -282,21 +296,22 @@ fn scan(
     from: &[u8],
     limit: u32,
 ) -> Result<Answer, Refusal> {
-    let mut source = opened(rt, file)?;
+    let mut source = chunk_file(rt, file)?;
     Ok(answer_scan_as(rt.alloc(), &mut source, from, limit, notation)?)
 }
 
 /// `scan [--text] --root ROOT [--format V] FILE KEY LIMIT`, which prints the pairs of a leaf before
 /// it looks for the next one.
 fn scan_from_root(rt: &HostRuntime, file: &str, scan: &RootScan<'_>) -> Result<Answer, Refusal> {
-    let mut device = FromSeek::new(file_beside(rt, file, FileId::at(rt, STDOUT))?);
-    let mut sink = ToWrite::new(rt.stdout());
+    let input = Input::open_beside(rt, file, Stream::Output.found(rt)?)?;
+    let mut device = device_of(rt, input)?;
+    let mut sink = ToWrite::new(Patient::new(rt, rt.stdout()));
     Ok(answer_scan_by_root(rt.alloc(), &mut device, scan, &mut sink)?)
 }
 
 /// `nth [--text] FILE N`
 fn nth(rt: &HostRuntime, file: &str, notation: Notation, n: u64) -> Result<Answer, Refusal> {
-    let mut source = opened(rt, file)?;
+    let mut source = chunk_file(rt, file)?;
     Ok(answer_nth_as(rt.alloc(), &mut source, n, notation)?)
 }
 
@@ -308,6 +323,17 @@ fn nth_from_root(rt: &HostRuntime, tree: RootedFile<'_>, n: u64) -> Result<Answe
     let mut device = tree.device(rt)?;
     let found = nth_by_root(rt.alloc(), &mut device, tree.root, n);
     Ok(answer_found_pair(rt.alloc(), tree.notation, &found)?)
+}
+
+/// `stat [--json] [--text] FILE`. Of the two kinds of files a chunk file is read whole.
+fn stat(rt: &HostRuntime, file: &str, form: StatForm) -> Result<Answer, Refusal> {
+    let input = Input::open(rt, file)?;
+    let source = if input.begins_with(b"PRLY") {
+        input.into_chunk_file(rt)?
+    } else {
+        input.into_source()
+    };
+    Ok(answer_stat(rt.alloc(), source, form).answer?)
 }
 
 /// How `stat` shows numbers: as JSON, or as lines with keys in this notation.
@@ -329,11 +355,16 @@ fn dump_form(lines: Option<Notation>) -> RecordForm {
 
 /// `dump [--text] [--hex] FILE`
 fn dump(rt: &HostRuntime, file: &str, form: RecordForm) -> Result<Answer, Refusal> {
-    let source = opened_beside(rt, file, FileId::at(rt, STDOUT))?;
-    Ok(dump_into(rt, source, form, rt.stdout())?)
+    let input = Input::open_beside(rt, file, Stream::Output.found(rt)?)?;
+    Ok(dump_into(
+        rt,
+        input.into_chunk_file(rt)?,
+        form,
+        Patient::new(rt, rt.stdout()),
+    )?)
 }
 
-/// `dump [--text] [--hex] FILE OUT [--atomic] [--sync]`
+/// `dump [--text] [--hex] FILE OUT [--sync] [--force]`
 fn dump_to(
     rt: &HostRuntime,
     file: &str,
@@ -341,8 +372,15 @@ fn dump_to(
     out: &str,
     mode: WriteMode,
 ) -> Result<Answer, Refusal> {
-    let (source, output) = opened_with_output(rt, file, out, mode)?;
-    let answer = dump_into(rt, source, form, output.file());
+    let kind = match form {
+        RecordForm::Records => OutputKind::RecordFile,
+        RecordForm::Lines(_) => OutputKind::Lines,
+    };
+    let target = Target::look(rt, out, kind, mode)?;
+    let input = Input::open_beside(rt, file, target.found())?;
+    let source = input.into_chunk_file(rt)?;
+    let mut output = target.open(rt)?;
+    let answer = dump_into(rt, source, form, &mut output);
     Ok(output.finish(rt, out, answer)?)
 }
 
@@ -365,16 +403,16 @@ fn diff(
     notation: Notation,
     stat: bool,
 ) -> Result<Answer, Refusal> {
-    let (old, new) = opened_both(rt, old, new, FileId::at(rt, STDOUT))?;
+    let (old, new) = both_chunk_files(rt, old, new, Stream::Output.found(rt)?)?;
     let form = if stat {
         None
     } else {
         Some(RecordForm::Lines(notation))
     };
-    Ok(diff_into(rt, old, new, form, stat, rt.stdout())?)
+    Ok(diff_into(rt, old, new, form, stat, Patient::new(rt, rt.stdout()))?)
 }
 
-/// `diff [--stat] OLD NEW --out FILE [--atomic] [--sync]`
+/// `diff [--stat] OLD NEW --out FILE [--sync] [--force]`
 fn diff_to(
     rt: &HostRuntime,
     old: &str,
@@ -383,11 +421,15 @@ fn diff_to(
     out: &str,
     mode: WriteMode,
 ) -> Result<Answer, Refusal> {
-    let target = FileId::at(rt, out);
-    let (old, new) = opened_both(rt, old, new, target)?;
-    let output = output_of(rt, out, target, mode)?;
+    let target = Target::look(rt, out, OutputKind::RecordFile, mode)?;
+    let (old, new) = both_chunk_files(rt, old, new, target.found())?;
+    let mut output = if stat {
+        target.open_beside_answer(rt)?
+    } else {
+        target.open(rt)?
+    };
     let form = Some(RecordForm::Records);
-    let answer = diff_into(rt, old, new, form, stat, output.file());
+    let answer = diff_into(rt, old, new, form, stat, &mut output);
     Ok(output.finish(rt, out, answer)?)
 }
 
@@ -405,7 +447,7 @@ fn diff_into<W: Write + Drop>(
     answer_diff(rt.alloc(), &mut old, &mut new, form, stat, &mut sink)
 }
 
-/// `prove [--text] FILE KEY OUT [--atomic] [--sync]`
+/// `prove [--text] FILE KEY OUT [--sync] [--force]`
 fn prove(
     rt: &HostRuntime,
     file: &str,
@@ -413,13 +455,11 @@ fn prove(
     out: &str,
     mode: WriteMode,
 ) -> Result<Answer, Refusal> {
-    let (mut source, output) = opened_with_output(rt, file, out, mode)?;
-    let answer = answer_prove(
-        rt.alloc(),
-        &mut source,
-        key,
-        &mut ToWrite::new(output.file()),
-    );
+    let target = Target::look(rt, out, OutputKind::Proof, mode)?;
+    let input = Input::open_beside(rt, file, target.found())?;
+    let mut source = input.into_chunk_file(rt)?;
+    let mut output = target.open(rt)?;
+    let answer = answer_prove(rt.alloc(), &mut source, key, &mut ToWrite::new(&mut output));
     Ok(output.finish(rt, out, answer)?)
 }
 
@@ -435,99 +475,42 @@ fn verify(
     let answer = match proof {
         None => answer_verify(
             rt.alloc(),
-            &mut FromRead::new(rt.stdin()),
+            &mut FromRead::new(Patient::new(rt, rt.stdin())),
             notation,
             version,
             root,
             key,
         ),
         Some(proof) => {
-            let mut source = opened(rt, &proof)?;
+            let mut source = Input::open(rt, &proof)?.into_whole(rt, Fault::InputTooLong)?;
             answer_verify(rt.alloc(), &mut source, notation, version, root, key)
         }
     };
     Ok(answer?)
 }
 
-/// The file of this name, to be read.
-fn opened(rt: &HostRuntime, name: &str) -> Result<FromRead<File>, Refusal> {
-    opened_beside(rt, name, None)
+/// The chunk file of this name, to be read whole.
+fn chunk_file(rt: &HostRuntime, name: &str) -> Result<FromRead<File>, Refusal> {
+    Input::open(rt, name)?.into_chunk_file(rt)
 }
 
-/// The file of this name, to be read, where it is not the one that is to be written.
-fn opened_beside(
-    rt: &HostRuntime,
-    name: &str,
-    target: Option<FileId>,
-) -> Result<FromRead<File>, Refusal> {
-    Ok(FromRead::new(file_beside(rt, name, target)?))
-}
-
-/// The same file, of which any part can be read.
-fn file_beside(rt: &HostRuntime, name: &str, target: Option<FileId>) -> Result<File, Refusal> {
-    let Ok(file) = fs::open(rt, name) else {
-        return Err(Refusal::of_name(rt, NameFault::CannotOpen, name));
-    };
-    if target.is_some() && target == FileId::of(file.metadata()) {
-        return Err(Refusal::of_name(rt, NameFault::IsInput, name));
-    }
-    Ok(file)
-}
-
-/// The files of these two names, to be read, where neither is the one that is to be written.
-fn opened_both(
+/// The chunk files of these two names, to be read whole, where neither is the output.
+fn both_chunk_files(
     rt: &HostRuntime,
     old: &str,
     new: &str,
-    target: Option<FileId>,
+    output: Found,
 ) -> Result<(FromRead<File>, FromRead<File>), Refusal> {
+    let old = Input::open_beside(rt, old, output)?;
+    let new = Input::open_beside(rt, new, output)?;
     Ok((
-        opened_beside(rt, old, target)?,
-        opened_beside(rt, new, target)?,
+        old.into_whole(rt, Fault::CheckOld(CheckFault::TooLong))?,
+        new.into_whole(rt, Fault::CheckNew(CheckFault::TooLong))?,
     ))
 }
 
-/// The file of this name, to be read, and the output OUT, which is another file.
-fn opened_with_output(
-    rt: &HostRuntime,
-    name: &str,
-    out: &str,
-    mode: WriteMode,
-) -> Result<(FromRead<File>, Output), Refusal> {
-    let target = FileId::at(rt, out);
-    let source = opened_beside(rt, name, target)?;
-    let output = output_of(rt, out, target, mode)?;
-    Ok((source, output))
-}
-
-/// The output of a command that reads standard input.
-fn output_beside_streams(rt: &HostRuntime, out: &str, mode: WriteMode) -> Result<Output, Refusal> {
-    let target = FileId::at(rt, out);
-    if target.is_some() && target == FileId::at(rt, STDIN) {
-        return Err(Refusal::of_name(rt, NameFault::IsInput, "standard input"));
-    }
-    output_of(rt, out, target, mode)
-}
-
-/// The output of a command whose inputs are other files than OUT.
-fn output_of(
-    rt: &HostRuntime,
-    out: &str,
-    target: Option<FileId>,
-    mode: WriteMode,
-) -> Result<Output, Refusal> {
-    if target.is_some() && target == FileId::at(rt, STDOUT) {
-        return Err(Refusal::of_fault(rt, Fault::OutIsStdout));
-    }
-    match Output::make(rt, out, mode) {
-        Ok(output) => Ok(output),
-        Err(MakeFault::Memory) => Err(Refusal::Memory),
-        Err(MakeFault::Name(fault)) => Err(Refusal::of_name(rt, fault, out)),
-    }
-}
-
 /// `build [--bits Q] [--stages S] [--capacity C] [--max-records M] [--batch B] [--format V]
-/// [--quiet] [--atomic] [--sync] OUT [FILES...]`
+/// [--quiet] [--atomic] [--sync] [--force] OUT [FILES...]`
 fn build_from<T: Wait + Threads + Clock + Sync>(
     rt: &HostRuntime,
     threads: &T,
@@ -540,35 +523,30 @@ fn build_from<T: Wait + Threads + Clock + Sync>(
     if files.len() > FILES_LIMIT {
         return Err(Refusal::of_fault(rt, Fault::Run(RunFault::TooManyFiles)));
     }
-    let target = FileId::at(rt, out);
+    let target = Target::look(rt, out, OutputKind::ChunkFile, mode)?;
     let counts = Counts::new();
     let mut total = Some(0);
     let mut sources = Vec::with_capacity(rt.alloc(), files.len())?;
     for name in files {
-        let file = file_beside(rt, name, target)?;
-        total = sum_of(total, size_of(&file));
-        let source = CountedSource::new(FromRead::new(file), &counts);
+        let input = Input::open_beside(rt, name, target.found())?;
+        total = sum_of(total, input.size());
+        let source = CountedSource::new(input.into_source(), &counts);
         if sources.push(source).is_err() {
             return Err(Refusal::Memory);
         }
     }
-    let output = output_of(rt, out, target, mode)?;
+    if files.is_empty() {
+        target.refuse_full(rt)?;
+    }
+    let mut output = target.open_beside_answer(rt)?;
     let run = Run {
         config,
         counts: &counts,
         total,
         quiet,
     };
-    let answer = build_into(rt, threads, run, &mut sources, output.file());
+    let answer = build_into(rt, threads, run, &mut sources, &mut output);
     Ok(output.finish(rt, out, answer)?)
-}
-
-/// How many bytes a file has, where it is one that keeps them, and no pipe or terminal.
-fn size_of(file: &File) -> Option<u64> {
-    match file.metadata() {
-        Ok(metadata) if metadata.is_file() => Some(metadata.len()),
-        _ => None,
-    }
 }
 
 /// The sum of two sizes, where both are known.
@@ -595,15 +573,15 @@ fn build_into<T: Wait + Threads + Clock + Sync>(
     threads: &T,
     run: Run<'_>,
     sources: &mut Vec<CountedSource<'_, FromRead<File>>>,
-    file: &File,
+    output: &mut Output,
 ) -> Result<Answer, AllocError> {
-    let file = CountedSink::new(ToWrite::new(file), run.counts);
-    let mut sink = Buffered::with_capacity(rt.alloc(), OUTPUT_BYTES, file)?;
+    let output = CountedSink::new(ToWrite::new(output), run.counts);
+    let mut sink = Buffered::with_capacity(rt.alloc(), OUTPUT_BYTES, output)?;
     let built = shown_build(rt, threads, run, sources, &mut sink);
     // What was taken is in the file also after a fault. That a tree was made is told only once all
-    // of it is there.
+    // of it is there, and so is that it is too tall: a failed write is told before that.
     let built = match (built, sink.flush()) {
-        (Ok(_), Err(_)) => Err(RunFault::Write),
+        (Ok(_) | Err(RunFault::TooTall), Err(_)) => Err(RunFault::Write),
         (built, _) => built,
     };
     answer_build(rt.alloc(), &built)

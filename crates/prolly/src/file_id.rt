@@ -1,35 +1,76 @@
-//! Whether two names lead to one file.
+//! What a name, or an open file, leads to.
 use std::fs::Metadata;
-use std::os::unix::fs::MetadataExt;
+use std::io::ErrorKind;
+use std::os::unix::fs::{FileTypeExt, MetadataExt};
 use std::{fs, io};
 
-/// The names of the files behind standard input and standard output, where the system has them.
-pub const STDIN: &str = "/dev/stdin";
-
-pub const STDOUT: &str = "/dev/stdout";
-
-/// A regular file, by whatever names and links one comes to it.
+/// A file, by whatever names and links one comes to it.
 #[derive(Clone, Copy, PartialEq, Eq)]
 pub struct FileId {
     device: u64,
     inode: u64,
 }
 
-impl FileId {
-    /// The regular file that has this metadata. `None` where there is no file, or none that keeps
-    /// what is written to it: a terminal, a pipe, a device or a folder.
-    pub fn of(metadata: io::Result<Metadata>) -> Option<FileId> {
-        match metadata {
-            Ok(metadata) if metadata.is_file() => Some(FileId {
-                device: metadata.dev(),
-                inode: metadata.ino(),
-            }),
-            _ => None,
+/// What a name, or an open file, leads to.
+#[derive(Clone, Copy)]
+pub enum Found {
+    /// No file.
+    Nothing,
+    /// A regular file, which keeps what is written to it, of so many bytes.
+    Regular(FileId, u64),
+    /// A pipe.
+    Pipe(FileId),
+    /// A terminal, a device, a socket or a folder.
+    Other,
+}
+
+impl Found {
+    /// What has this metadata.
+    pub fn of(metadata: &Metadata) -> Found {
+        let id = FileId {
+            device: metadata.dev(),
+            inode: metadata.ino(),
+        };
+        if metadata.is_file() {
+            Found::Regular(id, metadata.len())
+        } else if metadata.file_type().is_fifo() {
+            Found::Pipe(id)
+        } else {
+            Found::Other
         }
     }
 
-    /// The regular file to which the name leads now.
-    pub fn at(rt: &HostRuntime, name: &str) -> Option<FileId> {
-        FileId::of(fs::metadata(rt, name))
+    /// What the name leads to now. An error says that the system can't tell: then a file may well
+    /// be there.
+    pub fn at(rt: &HostRuntime, name: &str) -> io::Result<Found> {
+        match fs::metadata(rt, name) {
+            Ok(metadata) => Ok(Found::of(&metadata)),
+            Err(error) if error.kind() == ErrorKind::NotFound => Ok(Found::Nothing),
+            Err(error) => Err(error),
+        }
+    }
+
+    /// Whether both are one regular file.
+    pub fn is_same_file(self, other: Found) -> bool {
+        match (self, other) {
+            (Found::Regular(one, _), Found::Regular(another, _)) => one == another,
+            _ => false,
+        }
+    }
+
+    /// Whether both are one pipe.
+    pub fn is_same_pipe(self, other: Found) -> bool {
+        match (self, other) {
+            (Found::Pipe(one), Found::Pipe(another)) => one == another,
+            _ => false,
+        }
+    }
+
+    /// How many bytes it has, where it is a file that keeps them.
+    pub fn size(self) -> Option<u64> {
+        match self {
+            Found::Regular(_, size) => Some(size),
+            _ => None,
+        }
     }
 }

@@ -4,11 +4,19 @@
 
 mod commands;
 mod file_id;
+mod inputs;
+mod links;
 mod output;
+mod output_kind;
+mod patient;
 mod refusal;
+mod streams;
+mod target;
 mod words;
 
 use crate::commands::answer_of;
+use crate::patient::Patient;
+use crate::streams::ClosedStreams;
 use crate::words::read_words;
 use prolly_fault::RunFault;
 use prolly_tool::{Answer, Fault, parse};
@@ -20,6 +28,7 @@ use std::thread::Threads;
 use std::time::Clock;
 
 fn main(rt: HostRuntime) -> ExitCode {
+    let _closed = ClosedStreams::hold(&rt);
     match answer(&rt, &rt) {
         Ok(answer) => ExitCode::from(print(&rt, &answer)),
         Err(AllocError) => ExitCode::from(report(&rt, RunFault::Memory)),
@@ -44,8 +53,8 @@ fn answer<T: Wait + Threads + Clock + Sync>(
 /// Prints the answer, and gives the status to end with. Where standard error fails there is no one
 /// to tell; the status tells.
 fn print(rt: &HostRuntime, answer: &Answer) -> u8 {
-    let _ = rt.stderr().write_all(&answer.err);
-    match rt.stdout().write_all(&answer.out) {
+    let _ = Patient::new(rt, rt.stderr()).write_all(&answer.err);
+    match Patient::new(rt, rt.stdout()).write_all(&answer.out) {
         Ok(()) => answer.status,
         Err(_) => report(rt, RunFault::Write),
     }

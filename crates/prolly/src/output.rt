@@ -1,77 +1,65 @@
 //! The file that a command writes.
 use prolly_fault::RunFault;
-use prolly_tool::{Answer, Fault, NameFault, WriteMode};
+use prolly_tool::{Answer, Fault, NameFault};
 use std::alloc::AllocError;
-use std::fs::{File, OpenOptions};
-use std::io::ErrorKind;
+use std::fs::{File, Permissions};
+use std::io::{ErrorKind, Write};
+use std::os::unix::fs::PermissionsExt;
 use std::path::PathBuf;
 use std::{fs, io};
-
-/// How many names are tried for a file beside the output. One that is taken is that of a run that
-/// goes on, or that was killed.
-const MOST_NAMES: u32 = 1000;
 
 /// The greatest status of a command that is done: by it `diff` says that the maps differ.
 const DONE: u8 = 1;
 
 /// The file that a command writes: the one that the words name, or one beside it that is to replace
 /// it.
+///
+/// What was in the output stays until the first byte is written, and where the file is one beside
+/// it, until that is whole.
 #[derive(Drop)]
 pub struct Output {
     file: File,
-    replacement: Option<Replacement>,
+    place: Place,
+    has_begun: bool,
     sync: bool,
 }
 
-/// The name of a file, and that of the file which it is to replace.
+/// Where the file of an output stands.
 #[derive(Drop)]
-struct Replacement {
-    beside: PathBuf,
-    target: PathBuf,
+pub enum Place {
+    /// In the output's place. This run made it.
+    New(PathBuf),
+    /// In the output's place, where a regular file was before.
+    Old,
+    /// The output is a pipe, a terminal or a device.
+    Stream,
+    /// Beside the output, which it is to replace.
+    Beside(Replacement),
 }
 
-/// Why there is no file to write.
-#[derive(Clone, Copy)]
-pub enum MakeFault {
-    Memory,
-    Name(NameFault),
-}
-
-impl From<AllocError> for MakeFault {
-    fn from(_error: AllocError) -> MakeFault {
-        MakeFault::Memory
-    }
+/// The name of a file, that of the file which it is to replace, and the mode of that, where it is
+/// there.
+#[derive(Drop)]
+pub struct Replacement {
+    pub beside: PathBuf,
+    pub target: PathBuf,
+    pub mode: Option<u32>,
 }
 
 impl Output {
-    /// Makes the file. Without `mode.atomic` what the name led to is gone from here on; with it
-    /// that stays as it is until the file is kept.
-    pub fn make(rt: &HostRuntime, name: &str, mode: WriteMode) -> Result<Output, MakeFault> {
-        if mode.atomic {
-            let (file, replacement) = make_beside(rt, name)?;
-            return Ok(Output {
-                file,
-                replacement: Some(replacement),
-                sync: mode.sync,
-            });
-        }
-        match fs::create(rt, name) {
-            Ok(file) => Ok(Output {
-                file,
-                replacement: None,
-                sync: mode.sync,
-            }),
-            Err(_) => Err(MakeFault::Name(NameFault::CannotOpen)),
+    /// The output whose bytes go to this file, in this place. With `sync` it is brought to the disk.
+    pub fn new(file: File, place: Place, sync: bool) -> Output {
+        Output {
+            file,
+            place,
+            has_begun: false,
+            sync,
         }
     }
 
-    /// The file, which is empty at first.
-    pub fn file(&self) -> &File {
-        &self.file
-    }
-
-    /// Keeps the file where the command's answer is that it is done, and else leaves nothing beside
-    /// the name. The answer, or the fault that kept the file from its place or from the disk.
+    /// Keeps the file where the command's answer is that it is done. Else what was there before the
+    /// first byte is there again: nothing stands beside the name, nor in its place where this run
+    /// made it. The answer, or the fault that kept the file from its place or from the disk.
     pub fn finish(
         self,
         rt: &HostRuntime,
@@ -94,53 +82,81 @@ impl Output {
 
     /// Puts the file in its place, and on the disk where that was asked for.
     fn keep(&self, rt: &HostRuntime, name: &str) -> Result<(), Lost> {
-        let folder = match self.on_disk(rt, name) {
-            Ok(folder) => folder,
-            Err(error) => {
+        match self.put(rt, name) {
+            Ok(Some(folder)) => synced(&folder),
+            Ok(None) => Ok(()),
+            Err(lost) => {
                 self.remove(rt);
-                return Err(match error.kind() {
-                    ErrorKind::OutOfMemory => Lost::Memory,
-                    _ => Lost::Disk,
-                });
+                Err(lost)
             }
-        };
-        if let Some(replacement) = &self.replacement {
-            if fs::rename(rt, &replacement.beside, &replacement.target).is_err() {
-                self.remove(rt);
-                return Err(Lost::Place);
-            }
-        }
-        match folder {
-            Some(folder) if folder.sync_all().is_err() => Err(Lost::Disk),
-            _ => Ok(()),
         }
     }
 
-    /// Brings the file to the disk where that was asked for, and opens its folder, which has its
-    /// name. The folder is opened before the file takes its place, since after that nothing may
-    /// want memory.
-    fn on_disk(&self, rt: &HostRuntime, name: &str) -> io::Result<Option<File>> {
+    /// Puts the file in its place. Gives its folder, where that is to be brought to the disk.
+    fn put(&self, rt: &HostRuntime, name: &str) -> Result<Option<File>, Lost> {
+        let Place::Beside(replacement) = &self.place else {
+            return self.on_disk(rt, name);
+        };
+        if let Some(mode) = replacement.mode {
+            if self
+                .file
+                .set_permissions(Permissions::from_mode(mode))
+                .is_err()
+            {
+                return Err(Lost::Place);
+            }
+        }
+        let folder = self.on_disk(rt, replacement.beside.as_str())?;
+        if fs::rename(rt, &replacement.beside, &replacement.target).is_err() {
+            return Err(Lost::Place);
+        }
+        Ok(folder)
+    }
+
+    /// Brings the file of this name to the disk where that was asked for, and opens its folder,
+    /// which has its name. The folder is opened before the file takes its place, since after that
+    /// nothing may want memory.
+    fn on_disk(&self, rt: &HostRuntime, name: &str) -> Result<Option<File>, Lost> {
         if !self.sync {
             return Ok(None);
         }
-        self.file.sync_all()?;
-        let written = match &self.replacement {
-            Some(replacement) => replacement.beside.as_str(),
-            None => name,
-        };
-        let path = fs::canonicalize(rt, written)?;
+        synced(&self.file)?;
+        let path = fs::canonicalize(rt, name)?;
         match path.parent() {
             Some(folder) => Ok(Some(fs::open(rt, folder)?)),
             None => Ok(None),
         }
     }
 
-    /// Removes the file where it stands beside its name. Where that fails, it stays: the fault that
-    /// led here is the one to tell.
+    /// Removes the file where it stands beside its name, or is new and has no byte. Where that
+    /// fails, it stays: the fault that led here is the one to tell.
     fn remove(&self, rt: &HostRuntime) {
-        if let Some(replacement) = &self.replacement {
-            let _ = fs::remove_file(rt, &replacement.beside);
+        match &self.place {
+            Place::Beside(replacement) => {
+                let _ = fs::remove_file(rt, &replacement.beside);
+            }
+            Place::New(path) if !self.has_begun => {
+                let _ = fs::remove_file(rt, path);
+            }
+            _ => {}
         }
+    }
+}
+
+impl Write for Output {
+    /// Writes to the file, which is emptied before its first byte.
+    fn write(&mut self, buf: &[u8]) -> io::Result<usize> {
+        if !self.has_begun && !buf.is_empty() {
+            if let Place::Old = self.place {
+                self.file.set_len(0)?;
+            }
+            self.has_begun = true;
+        }
+        self.file.write(buf)
+    }
+
+    fn flush(&mut self) -> io::Result<()> {
+        self.file.flush()
     }
 }
 
@@ -151,50 +167,19 @@ enum Lost {
     Disk,
 }
 
-/// Makes a new file beside the one to which the name leads.
-fn make_beside(rt: &HostRuntime, name: &str) -> Result<(File, Replacement), MakeFault> {
-    let target = target_of(rt, name)?;
-    if let Ok(metadata) = fs::metadata(rt, &target) {
-        if !metadata.is_file() {
-            return Err(MakeFault::Name(NameFault::CannotReplace));
+impl From<io::Error> for Lost {
+    fn from(error: io::Error) -> Lost {
+        match error.kind() {
+            ErrorKind::OutOfMemory => Lost::Memory,
+            _ => Lost::Disk,
         }
-        if OpenOptions::new().write(true).open(rt, &target).is_err() {
-            return Err(MakeFault::Name(NameFault::CannotOpen));
-        }
-        let made = make_new(rt, target)?;
-        if made.0.set_permissions(metadata.permissions()).is_err() {
-            let _ = fs::remove_file(rt, &made.1.beside);
-            return Err(MakeFault::Name(NameFault::CannotReplace));
-        }
-        return Ok(made);
-    }
-    make_new(rt, target)
-}
-
-/// Where the name leads, through symbolic links: the name itself where no file is there yet.
-fn target_of(rt: &HostRuntime, name: &str) -> Result<PathBuf, AllocError> {
-    match fs::canonicalize(rt, name) {
-        Ok(target) => Ok(target),
-        Err(error) if error.kind() == ErrorKind::OutOfMemory => Err(AllocError),
-        Err(_) => PathBuf::from_str(rt.alloc(), name),
     }
 }
 
-/// Makes a file of a new name beside the target: `.0.tmp` behind its name, or the next number that
-/// is free.
-fn make_new(rt: &HostRuntime, target: PathBuf) -> Result<(File, Replacement), MakeFault> {
-    for number in 0..MOST_NAMES {
-        let name = target.as_str();
-        let beside = PathBuf::from(format!(in rt.alloc(); "{name}.{number}.tmp")?);
-        match OpenOptions::new()
-            .write(true)
-            .create_new(true)
-            .open(rt, &beside)
-        {
-            Ok(file) => return Ok((file, Replacement { beside, target })),
-            Err(error) if error.kind() == ErrorKind::AlreadyExists => {}
-            Err(_) => break,
-        }
+/// Brings a file, or a folder's names, to the disk.
+fn synced(file: &File) -> Result<(), Lost> {
+    match file.sync_all() {
+        Ok(()) => Ok(()),
+        Err(_) => Err(Lost::Disk),
     }
-    Err(MakeFault::Name(NameFault::CannotReplace))
 }

@@ -191,6 +191,7 @@ module _ (settings : Settings) (some : 1 ≤ settings.stages) (most : settings.s
           stages = tree.stages;
           taken = λ keeps. h.taken_is keeps ∙ ap (λ (bytes : List ℕ). old.taken ++ bytes)
               (file_is tree h.before h.root h.whole);
+          settled = h.settled;
           unfailed = h.unfailed;
           root = h.root_is ∙ ap (λ (c : Chunk). reference_of c.bytes) root_is;
           chunks_are = h.chunks_are ∙ ap (λ (es : List Chunk). length es) tree.events_are;

@@ -13,7 +13,7 @@ use Rattle.prolly_entry.specs.Reading.{IsReading}
 use Rattle.prolly_entry.specs.Record.{Record}
 use Rattle.prolly_tree.specs.Tree.{level_count}
 use Rattle.prolly_file.specs.Source.{SourceView}
-use Rattle.prolly_file.specs.Sink.{SinkView, TakesPrefix}
+use Rattle.prolly_file.specs.Sink.{IsSettled, SinkView, TakesPrefix}
 use Rattle.prolly_fault.specs.Ends.{End}
 use Rattle.prolly_link.specs.declared.end.End.TheVariants.{Clean, Fault}
 use Rattle.prolly_fault.specs.declared.fault.RunFault.{RunFault}
@@ -22,13 +22,14 @@ use Rattle.prolly_build.specs.declared.report.Report.{Report}
 use Rattle.prolly_build.specs.Settings.{Settings}
 use Rattle.prolly_build.specs.Writing.{AreSmall, frames_of}
 
--- The sink took the chunk file of a map, and the report is that of its tree, which has no more
--- levels than there are stages.
+-- The sink took the chunk file of a map and holds none of it back, and the report is that of its
+-- tree, which has no more levels than there are stages.
 pub record IsFileOf (settings : Settings) (m : List Pair) (old new : SinkView) (report : Report)
     : Type 0 where
   pub stages : level_count (sha512_cut settings.bits) settings.version m ≤ settings.stages
   pub taken : old.is_keeping ≡ true → new.taken ≡ old.taken ++ file (sha512_cut settings.bits)
       settings.version m
+  pub settled : IsSettled new
   pub unfailed : new.failures ≡ old.failures
   pub root : report.root.0 ≡ root_reference (sha512_cut settings.bits) settings.version m
   pub chunks_are : report.chunks ≡ length (chunks (sha512_cut settings.bits) settings.version m)

@@ -8,7 +8,7 @@ use Rattle.prolly_tree.specs.Events.{has_level, greatest_count}
 use Rattle.prolly_tree.specs.Pipeline.{before_second, HasSecond}
 use Rattle.prolly_entry.specs.Prefix.{IsPrefix}
 use Rattle.prolly_entry.specs.Reference.{reference_of}
-use Rattle.prolly_file.specs.Sink.{SinkView, TakesPrefix}
+use Rattle.prolly_file.specs.Sink.{IsSettled, SinkView, TakesPrefix}
 use Rattle.prolly_fault.specs.Ends.{End}
 use Rattle.prolly_link.specs.declared.end.End.TheVariants.{Clean, Fault}
 use Rattle.prolly_fault.specs.declared.fault.RunFault.{RunFault}
@@ -81,7 +81,8 @@ HasWritten head level events old new Failed = IsFailed head level events old new
 
 -- ---- the end
 
--- All events are written, and then the end record, and the report is that of the last event.
+-- All events are written, and then the end record, the sink holds nothing of it back, and the
+-- report is that of the last event.
 pub record HasEnded (head : List ℕ) (level : ℕ) (events : List Chunk) (old new : SinkView)
     (pairs : ℕ) (report : Report) : Type 0 where
   pub before : List Chunk
@@ -91,6 +92,7 @@ pub record HasEnded (head : List ℕ) (level : ℕ) (events : List Chunk) (old n
   pub unfailed : new.failures ≡ old.failures
   pub taken_is : old.is_keeping ≡ true → new.taken ≡ old.taken ++
       (frames_of head events ++ end_record (reference_of root.bytes) (length events))
+  pub settled : IsSettled new
   pub root_is : report.root.0 ≡ reference_of root.bytes
   pub chunks_are : report.chunks ≡ length events
   pub pairs_are : report.pairs ≡ pairs

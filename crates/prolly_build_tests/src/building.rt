@@ -13,6 +13,7 @@ use std::thread::Threads;
 
 mod faults;
 mod gates;
+mod growths;
 mod merging;
 mod ranges;
 mod refusals;

@@ -2,6 +2,7 @@
 use crate::expect::expect_eq;
 use prolly_file::{ScriptSink, ScriptSource, Sink, SinkFault, Source, SourceFault};
 use prolly_progress::{CountedSink, CountedSource, Counts, Progress, watched};
+use std::alloc::Global;
 use std::fmt::Display;
 use std::io::{Eprint, IsTerminal};
 use std::sync::Wait;
@@ -44,6 +45,36 @@ impl Eprint for Screen {
         self.printed.fetch_add(1, Ordering::SeqCst);
         if self.is_broken {
             return Err(io::Error::from(io::ErrorKind::BrokenPipe));
+        }
+        Ok(())
+    }
+
+    fn eprintln<D: Display + Drop>(&self, value: D) -> io::Result<()> {
+        self.eprint(value)
+    }
+}
+
+/// A terminal that counts how often these words are printed on it.
+#[derive(Drop)]
+struct Searched {
+    alloc: Global,
+    words: &'static str,
+    found: AtomicU64,
+}
+
+impl IsTerminal for Searched {
+    fn is_terminal(&self) -> bool {
+        true
+    }
+}
+
+impl Eprint for Searched {
+    fn eprint<D: Display + Drop>(&self, value: D) -> io::Result<()> {
+        let Ok(text) = format!(in self.alloc; "{value}") else {
+            return Err(io::Error::from(io::ErrorKind::OutOfMemory));
+        };
+        if text.contains(self.words) {
+            self.found.fetch_add(1, Ordering::SeqCst);
         }
         Ok(())
     }
@@ -154,12 +185,13 @@ fn a_flush_that_fails_is_told(rt: HostRuntime) -> Result<(), Fail> {
 }
 
 /// Watches work that is long enough to be shown, and gives what it gives, which is 7.
-fn watched_long<R: Threads + Wait + Clock + Sync>(
+fn watched_long<R: Threads + Wait + Clock + Sync, E: Eprint + IsTerminal + Sync>(
     rt: &R,
-    screen: &Screen,
+    screen: &E,
+    counts: &Counts,
     total: Option<u64>,
 ) -> u32 {
-    watched(rt, screen, &Counts::new(), total, || {
+    watched(rt, screen, counts, total, || {
         let _ = thread::sleep(rt, Duration::from_millis(1_300));
         7
     })
@@ -168,21 +200,44 @@ fn watched_long<R: Threads + Wait + Clock + Sync>(
 #[test]
 fn long_work_is_shown_on_a_terminal(rt: HostRuntime) {
     let screen = Screen::new(true, false);
-    expect_eq(&rt, &watched_long(&rt, &screen, None), &7);
+    expect_eq(&rt, &watched_long(&rt, &screen, &Counts::new(), None), &7);
     // A line, and its end.
     assert!(&rt; screen.printed() >= 2);
 }
 
 #[test]
+fn what_was_read_is_told_apart_from_what_was_written(rt: HostRuntime) {
+    let screen = Searched {
+        alloc: rt.alloc(),
+        words: "read 7 records, 3 of 9 MB, wrote 2 MB, ",
+        found: AtomicU64::new(0),
+    };
+    let counts = Counts::new();
+    counts.records.add(7);
+    counts.read.add(3_999_999);
+    counts.written.add(2_000_000);
+    expect_eq(
+        &rt,
+        &watched_long(&rt, &screen, &counts, Some(9_000_000)),
+        &7,
+    );
+    assert!(&rt; screen.found.load(Ordering::SeqCst) >= 1);
+}
+
+#[test]
 fn a_screen_that_fails_is_no_fault(rt: HostRuntime) {
     let screen = Screen::new(true, true);
-    expect_eq(&rt, &watched_long(&rt, &screen, Some(9)), &7);
+    expect_eq(
+        &rt,
+        &watched_long(&rt, &screen, &Counts::new(), Some(9)),
+        &7,
+    );
 }
 
 #[test]
 fn nothing_is_shown_where_there_is_no_terminal(rt: HostRuntime) {
     let screen = Screen::new(false, false);
-    expect_eq(&rt, &watched_long(&rt, &screen, None), &7);
+    expect_eq(&rt, &watched_long(&rt, &screen, &Counts::new(), None), &7);
     expect_eq(&rt, &screen.printed(), &0);
 }
 

@@ -1,6 +1,6 @@
 -- The tests against the file of the pairs.
-use Rattle.std.proofs.Common.{◌≡◌, ℕ, ◌<◌, true, false, not, List, ◌∷◌, ◌++◌, length, map, Some}
-use Rattle.std.proofs.Common.{None, sym, ap, ◌∙◌, subst}
+use Rattle.std.proofs.Common.{◌≡◌, ℕ, ◌-◌, ◌<◌, true, false, not, List, [], ◌∷◌, ◌++◌, length, map}
+use Rattle.std.proofs.Common.{get_or, Some, None, sym, ap, ◌∙◌, subst, arith}
 use Rattle.std.specs.Int.{w64, to_be_bytes}
 use Rattle.std.specs.List.{flat_map}
 use Rattle.std.specs.Str.{bytes_eq}
@@ -10,17 +10,20 @@ use Rattle.std.proofs.lemmas.Bool.{cond-true, cond-false, false≢true, not-fals
 use Rattle.prolly_entry.specs.declared.version.Version.{Version}
 use Rattle.prolly_entry.specs.Cut.{sha512_cut}
 use Rattle.prolly_tree.specs.Chunk.{chunks}
-use Rattle.prolly_tree.specs.File.{root_reference}
+use Rattle.prolly_tree.specs.File.{end_record, root_reference}
 use Rattle.prolly_entry.specs.Pair.{Pair}
 use Rattle.prolly_entry.specs.Reference.{reference_of}
+use Rattle.prolly_entry.specs.declared.reference.Ref.{Ref}
 use Rattle.prolly_entry.specs.lemmas.Lists.{cells}
 use Rattle.prolly_check.specs.declared.fault.CheckFault.{CheckFault}
 use Rattle.prolly_check.specs.declared.fault.CheckFault.TheVariants as faults
 use Rattle.prolly_check.specs.Canonical.{Says, CompareAs, ending_of_chunks}
 use Rattle.prolly_check.specs.Held.{pairs_held}
+use Rattle.prolly_check.specs.Index.{AreReferences}
 use Rattle.prolly_check.specs.Judged.{order_fault, chunk_bytes, ending_for}
 use Rattle.prolly_check.proofs.CheckedTree.{chunks_some, chunks_last}
 use Rattle.prolly_check.proofs.HeldPairs.{flat_held}
+use Rattle.prolly_check.proofs.IndexSteps.{as_many, reference_at}
 use Rattle.prolly_check.proofs.Verdicts.{difference_ok}
 
 -- what `!=` of bytes says
@@ -37,6 +40,16 @@ ending_is version bits pairs =
     (chunks_last version bits pairs)
     ∙ ap (λ n. root_reference (sha512_cut bits) version pairs ++ to_be_bytes w64 n)
     (length-map (chunks (sha512_cut bits) version pairs) (λ c. c.bytes))
+
+-- the end record of the last reference and the number of chunks is theirs
+pub ends_so : (cs : List (List ℕ)) (references : List Ref) (count : ℕ) (other : Ref) →
+    AreReferences cs references → count ≡ length cs → 0 < length cs →
+    end_record (get_or references (count - 1) other).0 count ≡ 0x45 ∷ ending_of_chunks cs
+ends_so cs references count other are e some =
+    let at = reference_at cs references (count - 1) other are
+    (omega (arith, e, as_many cs references are)) in
+    ap (λ r. end_record r count) at ∙
+    ap (λ n. end_record (reference_of (get_or cs (n - 1) [])) n) e
 
 -- where the keys rise, the chunks are tested, and then the end record
 module _ (version : Version) (bits : ℕ) (cs : List (List ℕ))

@@ -10,6 +10,7 @@ use Rattle.prolly_entry.specs.Cut.{Cut, sha512_cut}
 use Rattle.prolly_tree.specs.Chunk.{Chunk, chunks}
 use Rattle.prolly_tree.specs.Events.{clean, faulty, leaf_events, inner_events}
 use Rattle.prolly_entry.specs.Pair.{Pair}
+use Rattle.prolly_entry.specs.declared.reference.Ref.{Ref}
 use Rattle.prolly_tree.specs.Pipeline.{pipeline_events}
 use Rattle.prolly_entry.specs.Prefix.{IsPrefix}
 use Rattle.prolly_tree.specs.Tree.{level_count}
@@ -22,13 +23,14 @@ use Rattle.prolly_check.proofs.Acceptance.{difference_same}
 use Rattle.prolly_check.proofs.HeldPairs.{bytes_in}
 use Rattle.prolly_check.specs.declared.fault.CheckFault.{CheckFault}
 use Rattle.prolly_check.specs.declared.rebuild.Rebuild.{Rebuild}
+use Rattle.prolly_check.specs.Index.{AreReferences}
 use Rattle.prolly_check.specs.Judged.{difference, chunk_bytes}
 use Rattle.prolly_check.specs.Rebuilt.{node_levels, sent_through, sent_of, AreBehind, AreBelow}
 use Rattle.prolly_check.specs.Rebuilt.{AreFirst, DifferAs, Passed, Passes, HasTaken}
 use Rattle.prolly_check.specs.Refusal.{UnlessMemory}
 use Rattle.std.proofs.Math.Logic.{⊎_map}
 use Rattle.prolly_check.proofs.Rebuilds.{prefix_of, sent_prefix, difference_along, still_differ}
-use Rattle.prolly_check.proofs.Rebuilds.{ended_below, leaf_below}
+use Rattle.prolly_check.proofs.Rebuilds.{ended_below, first_are, leaf_below}
 
 module _ (bits : ℕ) (version : Version) (pairs : List Pair) where
   abbrev cut : Cut
@@ -88,20 +90,20 @@ module _ (bits : ℕ) (version : Version) (pairs : List Pair) where
     -- ---- level by level
 
     -- the levels up to this one have ended, and what it sends last is still to pass those above it
-    pub record IsEnding (nodes : List (NodeState ℕ)) (last : Option Chunk) (number : ℕ) : Type 0
-      where
-        pub level : ℕ
-        pub events : List Chunk
-        pub count : level + length nodes ≡ node_levels
-        pub sends : clean_events level ≡ events ++ option_to_list last
-        pub below : AreBelow (suc level) (option_to_list last)
-        pub behind : AreBehind bits version (suc level) nodes events
-        pub first : AreFirst chunks number (sent_through cut version (suc level) (length nodes)
-            events)
+    pub record IsEnding (nodes : List (NodeState ℕ)) (last : Option Chunk) (references : List Ref)
+        : Type 0 where
+      pub level : ℕ
+      pub events : List Chunk
+      pub count : level + length nodes ≡ node_levels
+      pub sends : clean_events level ≡ events ++ option_to_list last
+      pub below : AreBelow (suc level) (option_to_list last)
+      pub behind : AreBehind bits version (suc level) nodes events
+      pub first : AreFirst chunks references (sent_through cut version (suc level) (length nodes)
+          events)
 
     pub leaf_ends : (rebuild : Rebuild) (last : Option Chunk) →
         HasTaken bits version chunks pairs rebuild → LeafEnds sha512_cut rebuild.leaf last →
-        IsEnding rebuild.nodes.items last rebuild.number
+        IsEnding rebuild.nodes.items last rebuild.references.items
     leaf_ends rebuild last b ends =
         let leaves = leaf_events cut version faulty pairs in
         let sends = ends bits version pairs b.leaf in
@@ -113,20 +115,20 @@ module _ (bits : ℕ) (version : Version) (pairs : List Pair) where
           sends = sends;
           below = leaf_below cut version clean pairs leaves last sends;
           behind = b.nodes;
-          first = subst (λ n. AreFirst chunks rebuild.number (sent_through cut version 1 n leaves))
-              (sym count) b.first;
+          first = subst (λ n. AreFirst chunks rebuild.references.items
+              (sent_through cut version 1 n leaves)) (sym count) b.first;
         }
 
     module _ (nodes levels nodes' : List (NodeState ℕ)) (are : levels ≡ nodes) (last : Option Chunk)
-        (number : ℕ) (result : Result ℕ CheckFault) (b : IsEnding nodes last number)
-        (passes : Passes chunks levels nodes' last number result)
+        (old new : List Ref) (result : Result (Unit {0}) CheckFault) (b : IsEnding nodes last old)
+        (passes : Passes chunks levels nodes' last old new result)
         (same_size : length nodes' ≡ length levels) where
       size : length nodes' ≡ length nodes
       size = same_size ∙ ap length are
 
-      passed : Passed bits version chunks (suc b.level) nodes' (clean_events b.level) result
-      passed = subst (λ es. Passed bits version chunks (suc b.level) nodes' es result) (sym b.sends)
-          ((rw are at passes) bits version (suc b.level) b.events b.below b.behind b.first)
+      passed : Passed bits version chunks (suc b.level) nodes' (clean_events b.level) new result
+      passed = subst (λ es. Passed bits version chunks (suc b.level) nodes' es new result)
+          (sym b.sends) ((rw are at passes) bits version (suc b.level) b.events b.below b.behind b.first)
 
       pub ending_fault : (fault : CheckFault) → result ≡ Err fault →
           UnlessMemory (DifferAs chunks (clean_events node_levels)) fault
@@ -134,12 +136,12 @@ module _ (bits : ℕ) (version : Version) (pairs : List Pair) where
           differ_at_end b.level (length nodes') fault (omega (arith, size))
           (rw e at passed.compared)
 
-      module _ (next : ℕ) (ok : result ≡ Ok next) where
+      module _ (done : Unit {0}) (ok : result ≡ Ok done) where
         pub node_ends : (state : NodeState ℕ) (rest : List (NodeState ℕ)) (last' : Option Chunk) →
-            nodes' ≡ state ∷ rest → NodeEnds sha512_cut state last' → IsEnding rest last' next
+            nodes' ≡ state ∷ rest → NodeEnds sha512_cut state last' → IsEnding rest last' new
         node_ends state rest last' is ends =
             let p : Passed bits version chunks (suc b.level) (state ∷ rest) (clean_events b.level)
-            (Ok next) = rw (is, ok) at passed in
+            new (Ok done) = rw (is, ok) at passed in
             let sends = ends bits version (suc b.level) (clean_events b.level) p.behind.0 in
             let count = b.count in
             record {
@@ -188,17 +190,26 @@ module _ (bits : ℕ) (version : Version) (cs : List (List ℕ)) (pairs : List P
   verdict_fault fault = ⊎_map (λ memory. memory)
       (λ h. ap (λ ws. difference 0 ws cs) (sym wanted ∙ sym (append-nil (bytes_in all))) ∙ h [])
 
-  module _ (count : ℕ) (a : AreFirst cs count
+  module _ (references : List Ref) (a : AreFirst cs references
       (pipeline_events node_levels (sha512_cut bits) version clean pairs)) where
+    abbrev count : ℕ
+    count = length references
+
+    are : bytes_in all ≡ take count cs
+    are = first_are cs references all a
+
     pub verdict_short : count < length cs → difference 0 (chunk_bytes version bits pairs) cs ≡
         Some (faults.NotCanonical count)
     verdict_short h =
         let e : 0 + count ≡ count = omega arith in
-        ap (λ ws. difference 0 ws cs) (sym wanted ∙ a.are ∙ sym (append-nil (take count cs))) ∙
+        ap (λ ws. difference 0 ws cs) (sym wanted ∙ are ∙ sym (append-nil (take count cs))) ∙
         difference_along cs [] 0 count (omega arith)
         ∙ ap (difference (0 + count) []) (drop-cons cs count [] h) ∙
         ap (λ n. Some (faults.NotCanonical n)) e
 
     pub verdict_none : length cs ≤ count → difference 0 (chunk_bytes version bits pairs) cs ≡ None
-    verdict_none h = ap (λ ws. difference 0 ws cs) (sym wanted ∙ a.are ∙ take_all count cs h) ∙
+    verdict_none h = ap (λ ws. difference 0 ws cs) (sym wanted ∙ are ∙ take_all count cs h) ∙
         difference_same 0 cs
+
+    pub all_named : length cs ≤ count → AreReferences cs references
+    all_named h = subst (λ cs. AreReferences cs references) (are ∙ take_all count cs h) a.named

@@ -1,7 +1,8 @@
 -- The leaf that a key leads to.
-use Rattle.std.proofs.Common.{◌≡◌, ℕ, zero, suc, ◌<◌, inl, inr, ◌⊎◌, Bool, false, List, [], ◌∷◌}
-use Rattle.std.proofs.Common.{◌++◌, length, drop, map, get_or, Option, Some, None, refl, sym, ap}
+use Rattle.std.proofs.Common.{◌≡◌, ℕ, zero, suc, ◌+◌, ◌<◌, inl, inr, ◌⊎◌, Bool, false, List, []}
+use Rattle.std.proofs.Common.{◌∷◌, ◌++◌, length, drop, map, get_or, Option, Some, None, refl, sym, ap}
 use Rattle.std.proofs.Common.{◌∙◌, subst, arith, append_assoc, append-nil}
+use Rattle.std.proofs.Math.Logic.{⊎_map}
 use Rattle.std.specs.Ordering.{is_lt}
 use Rattle.std.proofs.lemmas.Bool.{cond-true, cond-false, cases_Bool}
 use Rattle.std.specs.List.{flat_map, AllByRecursion}
@@ -211,6 +212,16 @@ one_number (b ∷ before) after c (suc number) h within e =
     let w : suc number < suc (length (before ++ c ∷ after)) = within in
     one_number before after c number h.1 (omega arith) e
 
+-- what is behind the first of them
+next_behind : (cs : List (List ℕ)) (number : ℕ) (c : List ℕ) (after : List (List ℕ)) →
+    drop number cs ≡ c ∷ after → drop (number + 1) cs ≡ after
+next_behind [] zero c after e = cc
+next_behind [] (suc number) c after e = cc
+next_behind (b ∷ cs) zero c after e = cc
+next_behind (b ∷ cs) (suc number) c after e =
+    let next : suc number + 1 ≡ suc (number + 1) = omega arith in
+    ap (λ n. drop n (b ∷ cs)) next ∙ next_behind cs number c after e
+
 module _ (content : Content) (key : List ℕ) (number : ℕ) (f : HasFile content)
     (st : Stands content (LeafBelow content key) number) where
   pub at_leaf_of : (pairs : List Pair) → kind_of content.version
@@ -229,6 +240,9 @@ module _ (content : Content) (key : List ℕ) (number : ℕ) (f : HasFile conten
             (sym (ap pairs_held a.is ∙ own_pairs pairs a.below.of.lawful));
         same = from_behind content key s.before (own ∷ s.after) f s.lies s.past ∙
             ap (λ cs. pairs_from key (flat_map pairs_held cs)) (sym behind);
+        here = ⊎_map (λ last. next_behind (chunks_of content) number own s.after behind ∙ last)
+            (λ some none. some (ap (pairs_from key)
+            (sym (ap pairs_held a.is ∙ own_pairs pairs a.below.of.lawful)) ∙ none)) s.here;
       }
 
   module _ (children : List Child) (e : kind_of content.version

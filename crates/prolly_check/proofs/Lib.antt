@@ -46,6 +46,8 @@ pub mod LeafSteps
 pub mod CountSteps
 -- Scanning pairs from a key on, in a leaf and over chunks.
 pub mod Scans
+-- What is left of a map from a key on, leaf by leaf.
+pub mod LeafRests
 -- Pairs that are written as a record file, part by part.
 pub mod Dumps
 -- Events that pass levels of nodes, and the chunks of a file.

@@ -1,5 +1,5 @@
 -- The children of a node, read one after another.
-use Rattle.std.proofs.Common.{◌≡◌, ℕ, ◌+◌, List, [], ◌∷◌, ◌++◌, length, take, drop, refl, sym, ap}
+use Rattle.std.proofs.Common.{◌≡◌, ℕ, ◌+◌, ◌-◌, List, [], ◌∷◌, ◌++◌, length, take, drop, refl, sym, ap}
 use Rattle.std.proofs.Common.{◌∙◌, arith, append_assoc, length-drop}
 use Rattle.std.proofs.lemmas.List.{length-append, take_at, drop-drop}
 use Rattle.prolly_entry.specs.ChildAt.{tail_length, key_at, reference_at, count_at, IsChildAt}
@@ -48,6 +48,15 @@ module _ (version : Version) (entries rest : List ℕ) (c : Child)
   pub node_less : IsNode version entries [] → IsNode version rest []
   node_less n = some_node version rest (one_less (entry_of version) IsChild (node_apart version)
       entries rest c b (node_entries version entries n))
+
+  pub behind_first : rest ≡ drop (length entries - length rest) entries
+  behind_first =
+      let size = length entries - length rest in
+      sym (ap (drop size) b.is ∙ drop_front (entry_of version c) rest size (omega (
+        arith,
+        ap length b.is,
+        length-append (entry_of version c) rest,
+      )))
 
 pub node_left : (version : Version) (entries : List ℕ) → NoChildAt version entries →
     IsNode version entries [] → entries ≡ []

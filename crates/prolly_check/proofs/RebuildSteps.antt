@@ -7,13 +7,14 @@ use Rattle.prolly_entry.specs.Cut.{sha512_cut}
 use Rattle.prolly_tree.specs.Chunk.{Chunk}
 use Rattle.prolly_tree.specs.Events.{faulty, leaf_events}
 use Rattle.prolly_entry.specs.Pair.{Pair}
+use Rattle.prolly_entry.specs.declared.reference.Ref.{Ref}
 use Rattle.prolly_laws.specs.Stages.{fault_is_prefix}
 use Rattle.prolly_chunk.specs.LeafLevel.{LeafState, LeafBegins, LeafTakes}
 use Rattle.prolly_chunk.specs.NodeLevel.{NodeState, NodeBegins}
 use Rattle.prolly_check.specs.declared.fault.CheckFault.{CheckFault}
 use Rattle.prolly_check.specs.Rebuilt.{node_levels, sent_through, sent_of, AreBehind, AreFirst}
 use Rattle.prolly_check.specs.Rebuilt.{AreCompared, AreUnused, DifferAs, Passed, Passes, HasTaken}
-use Rattle.prolly_check.specs.Rebuilt.{Takes}
+use Rattle.prolly_check.specs.Rebuilt.{Takes, Took}
 use Rattle.prolly_check.specs.Refusal.{UnlessMemory}
 use Rattle.prolly_check.specs.Held.{pairs_held}
 use Rattle.prolly_check.specs.declared.rebuild.Rebuild.{Rebuild}
@@ -53,8 +54,8 @@ unused_more bits version level next (t ∷ states) s e h b =
 pub begun : (bits : ℕ) (version : Version) (chunks : List (List ℕ)) (rebuild : Rebuild) →
     LeafBegins sha512_cut bits rebuild.leaf →
     AreUnused bits version 1 rebuild.nodes.items → length rebuild.nodes.items ≡ node_levels →
-    rebuild.number ≡ 0 → HasTaken bits version chunks [] rebuild
-begun bits version chunks rebuild b u count zero =
+    rebuild.references.items ≡ [] → HasTaken bits version chunks [] rebuild
+begun bits version chunks rebuild b u count none_yet =
     let nodes = rebuild.nodes.items in
     let none : leaf_events (sha512_cut bits) version faulty [] ≡ [] = b.events version in
     let sent : sent_of bits version [] ≡ [] =
@@ -66,16 +67,16 @@ begun bits version chunks rebuild b u count zero =
       nodes = subst (AreBehind bits version 1 nodes) (sym none)
           (unused_behind bits version 1 nodes u);
       count = count;
-      first = rw (zero, sent) (record { are = refl; count = refl });
+      first = rw (none_yet, sent) (record { are = refl; named = refl });
     }
 
 -- ---- one more pair
 
 module _ (chunks : List (List ℕ)) (pair : Pair) (old : Rebuild) (leaf' : LeafState ℕ)
     (closed : Option Chunk) (takes : LeafTakes sha512_cut old.leaf leaf' pair closed)
-    (levels nodes' : List (NodeState ℕ)) (are : levels ≡ old.nodes.items)
-    (result : Result ℕ CheckFault) (passes : Passes chunks levels nodes' closed old.number
-    result) (same_size : length nodes' ≡ length levels)
+    (levels nodes' : List (NodeState ℕ)) (are : levels ≡ old.nodes.items) (after : List Ref)
+    (result : Result (Unit {0}) CheckFault) (passes : Passes chunks levels nodes' closed
+    old.references.items after result) (same_size : length nodes' ≡ length levels)
     (bits : ℕ) (version : Version) (pairs : List Pair) (b : HasTaken bits version chunks pairs old)
   where
     size : length nodes' ≡ length old.nodes.items
@@ -86,33 +87,39 @@ module _ (chunks : List (List ℕ)) (pair : Pair) (old : Rebuild) (leaf' : LeafS
     sends = takes.events bits version pairs b.leaf
 
     passed : Passed bits version chunks 1 nodes'
-        (leaf_events (sha512_cut bits) version faulty (pairs ++ pair ∷ [])) result
+        (leaf_events (sha512_cut bits) version faulty (pairs ++ pair ∷ [])) after result
     passed =
         let before = leaf_events (sha512_cut bits) version faulty pairs in
-        subst (λ es. Passed bits version chunks 1 nodes' es result) (sym sends)
+        subst (λ es. Passed bits version chunks 1 nodes' es after result) (sym sends)
         ((rw are at passes) bits version 1 before
         (leaf_below (sha512_cut bits) version faulty (pairs ++ pair ∷ []) before closed sends)
         b.nodes
-        (subst (λ n. AreFirst chunks old.number (sent_through (sha512_cut bits) version 1 n before))
-        (sym b.count) b.first))
+        (subst (λ n. AreFirst chunks old.references.items
+        (sent_through (sha512_cut bits) version 1 n before)) (sym b.count) b.first))
 
-    pub compared : AreCompared chunks (sent_of bits version (pairs ++ pair ∷ [])) result
+    compared : AreCompared chunks (sent_of bits version (pairs ++ pair ∷ [])) after result
     compared = subst (λ n. AreCompared chunks (sent_through (sha512_cut bits) version 1 n
-        (leaf_events (sha512_cut bits) version faulty (pairs ++ pair ∷ []))) result)
+        (leaf_events (sha512_cut bits) version faulty (pairs ++ pair ∷ []))) after result)
         (size ∙ b.count) passed.compared
 
-    pub one_taken : (new : Rebuild) → result ≡ Ok new.number → new.leaf ≡ leaf' →
-        new.nodes ≡ with_items old.nodes nodes' →
+    one_taken : (new : Rebuild) (done : Unit {0}) → result ≡ Ok done → new.leaf ≡ leaf' →
+        new.nodes ≡ with_items old.nodes nodes' → new.references.items ≡ after →
         HasTaken bits version chunks (pairs ++ pair ∷ []) new
-    one_taken new ok leaf nodes =
+    one_taken new done ok leaf nodes references =
         let items : new.nodes.items ≡ nodes' = ap (λ v. v.items) nodes ∙
         with_items_is old.nodes nodes' (omega (arith, size, old.nodes.ok.0)) in
         record {
           leaf = leaf ∙ takes.state bits pairs b.leaf;
           nodes = rw items (rw ok at passed.behind);
           count = ap length items ∙ size ∙ b.count;
-          first = rw ok at compared;
+          first = rw references (rw ok at compared);
         }
+
+    pub one_took : (new : Rebuild) (told : Result (Unit {0}) CheckFault) → result ≡ told →
+        new.leaf ≡ leaf' → new.nodes ≡ with_items old.nodes nodes' →
+        new.references.items ≡ after → Took bits version chunks (pairs ++ pair ∷ []) new told
+    one_took new (Ok done) is leaf nodes references = one_taken new done is leaf nodes references
+    one_took new (Err fault) is leaf nodes references = rw is at compared
 
 -- ---- pairs behind pairs
 

@@ -6,8 +6,8 @@ use Rattle.std.proofs.Common.{append_assoc, append-nil, length-take}
 use Rattle.std.proofs.Math.Seq.{drop-cons}
 use Rattle.std.proofs.lemmas.Bool.{cond-true, cond-false, false_from_ne_true}
 use Rattle.std.proofs.lemmas.List.{length-append, length-map, append_cancel_left, take_more}
-use Rattle.std.proofs.lemmas.List.{drop_all}
-use Rattle.std.proofs.lemmas.Result.{IfOk-weaker}
+use Rattle.std.proofs.lemmas.List.{drop_all, map-append}
+use Rattle.std.proofs.lemmas.Result.{on_ok_weaker}
 use Rattle.std.proofs.lemmas.Slice.Eq.{bytes_eq-Decides}
 use Rattle.std.specs.Str.{bytes_eq}
 use Rattle.std.specs.List.{filter}
@@ -15,6 +15,8 @@ use Rattle.std.specs.Option.{option_to_list}
 use Rattle.prolly_entry.specs.declared.version.Version.{Version}
 use Rattle.prolly_entry.specs.Cut.{Cut, sha512_cut}
 use Rattle.prolly_entry.specs.Pair.{Pair}
+use Rattle.prolly_entry.specs.Reference.{reference_of}
+use Rattle.prolly_entry.specs.declared.reference.Ref.{Ref}
 use Rattle.prolly_entry.specs.Prefix.{IsPrefix}
 use Rattle.prolly_tree.specs.Split.{is_closed, closed_groups, open_groups, open_entries}
 use Rattle.prolly_tree.specs.Tree.{leaves, pair_is_boundary}
@@ -32,6 +34,7 @@ use Rattle.prolly_check.specs.Rebuilt.{sent_through, AreBehind, AreBelow, AreFir
 use Rattle.prolly_check.specs.Rebuilt.{AreCompared, IsExpected, Passes}
 use Rattle.prolly_check.specs.Refusal.{UnlessMemory}
 use Rattle.prolly_check.proofs.HeldPairs.{bytes_in, bytes_append}
+use Rattle.prolly_check.proofs.IndexSteps.{as_many}
 use Rattle.std.proofs.Math.Logic.{⊎_map}
 
 -- ---- what is sent of more events goes on
@@ -111,19 +114,38 @@ still_differ chunks sent all fault p = ⊎_map (λ memory. memory) (differ fault
         ∙ ap (λ cs. difference 0 cs chunks) (append_assoc (bytes_in sent) (bytes_in p.0) more) ∙
         h (bytes_in p.0 ++ more)
 
+-- there are as many references as chunks that were sent
+pub as_many_sent : (chunks : List (List ℕ)) (references : List Ref) (sent : List Chunk) →
+    AreFirst chunks references sent → length references ≡ length sent
+as_many_sent chunks references sent a =
+    as_many (bytes_in sent) references a.named ∙ length-map sent (λ c. c.bytes)
+
+pub first_are : (chunks : List (List ℕ)) (references : List Ref) (sent : List Chunk) →
+    AreFirst chunks references sent → bytes_in sent ≡ take (length references) chunks
+first_are chunks references sent a =
+    a.are ∙ ap (λ n. take n chunks) (sym (as_many_sent chunks references sent a))
+
 -- one chunk more
-module _ (chunks : List (List ℕ)) (number : ℕ) (event : Chunk) (sent : List Chunk)
-    (a : AreFirst chunks number sent) where
+module _ (chunks : List (List ℕ)) (references : List Ref) (event : Chunk) (sent : List Chunk)
+    (a : AreFirst chunks references sent) where
+  abbrev number : ℕ
+  number = length references
+
+  count : number ≡ length sent
+  count = as_many_sent chunks references sent a
+
   within : number ≤ length chunks
-  within = let c = a.count in omega (
+  within = omega (
     arith,
-    ap length a.are,
+    count,
+    ap length (first_are chunks references sent a),
     length-map sent (λ c. c.bytes),
     length-take number chunks,
   )
 
   one_more : bytes_in (sent ++ event ∷ []) ≡ take number chunks ++ event.bytes ∷ []
-  one_more = bytes_append sent (event ∷ []) ∙ ap (λ cs. cs ++ event.bytes ∷ []) a.are
+  one_more = bytes_append sent (event ∷ []) ∙
+      ap (λ cs. cs ++ event.bytes ∷ []) (first_are chunks references sent a)
 
   then : (more : List (List ℕ)) → difference 0 (bytes_in (sent ++ event ∷ []) ++ more) chunks ≡
       difference number (event.bytes ∷ more) (drop number chunks)
@@ -151,13 +173,21 @@ module _ (chunks : List (List ℕ)) (number : ℕ) (event : Chunk) (sent : List 
       (false_from_ne_true (bytes_eq event.bytes there)
       (λ t. other (sym ((bytes_eq-Decides event.bytes there).0 t))))
 
-  pub is_same : number < length chunks → get_or chunks number [] ≡ event.bytes →
-      AreFirst chunks (number + 1) (sent ++ event ∷ [])
-  is_same h same = record {
-    are = one_more ∙ ap (λ c. take number chunks ++ c ∷ []) (sym same) ∙
-        sym (take_more chunks number [] h);
-    count = let c = a.count in omega (arith, length-append sent (event ∷ []));
-  }
+  pub is_same : (reference : Ref) → reference.0 ≡ reference_of event.bytes →
+      number < length chunks → get_or chunks number [] ≡ event.bytes →
+      AreFirst chunks (references ++ reference ∷ []) (sent ++ event ∷ [])
+  is_same reference is h same =
+      let next : number + 1 ≡ length (sent ++ event ∷ []) =
+      omega (arith, count, length-append sent (event ∷ [])) in
+      record {
+        are = one_more ∙ ap (λ c. take number chunks ++ c ∷ []) (sym same) ∙
+            sym (take_more chunks number [] h) ∙ ap (λ n. take n chunks) next;
+        named = map-append (λ r. r.0) references (reference ∷ []) ∙
+            ap (λ rs. rs ++ reference.0 ∷ []) a.named ∙
+            ap (λ r. map reference_of (bytes_in sent) ++ r ∷ []) is ∙
+            sym (ap (map reference_of) (bytes_append sent (event ∷ [])) ∙
+            map-append reference_of (bytes_in sent) (event.bytes ∷ []));
+      }
 
 -- ---- what the levels do with an event
 
@@ -263,12 +293,12 @@ leaf_below cut version closing pairs sent last e =
 
 -- ---- an event on its way
 
-module _ (chunks : List (List ℕ)) (number : ℕ) (event : Chunk) where
+module _ (chunks : List (List ℕ)) (old mid : List Ref) (event : Chunk) where
   -- the file has another chunk in its place
-  pub is_refused : (levels : List (NodeState ℕ)) (fault : CheckFault) →
-      IsExpected chunks number event (Err fault) →
-      Passes chunks levels levels (Some event) number (Err fault)
-  is_refused levels fault other bits version level events below behind first =
+  pub is_refused : (A : Type 0) (levels : List (NodeState ℕ)) (fault : CheckFault) →
+      IsExpected {A = A} chunks old mid event (Err fault) →
+      Passes chunks levels levels (Some event) old mid (Err fault)
+  is_refused A levels fault other bits version level events below behind first =
       let sent = sent_through (sha512_cut bits) version level (length levels) in record {
         behind = tt;
         compared = still_differ chunks (sent events ++ event ∷ []) (sent (events ++ event ∷ []))
@@ -278,12 +308,13 @@ module _ (chunks : List (List ℕ)) (number : ℕ) (event : Chunk) where
       }
 
   -- the first level takes it, those above let it pass, and then they take what the first one closes
-  pub one_level : (next : ℕ) (state state' : NodeState ℕ) (above above' : List (NodeState ℕ))
-      (closed : Option Chunk) (result : Result ℕ CheckFault) →
-      IsExpected chunks number event (Ok next) → NodeTakes sha512_cut state state' event closed →
-      Passes chunks above above' closed next result →
-      Passes chunks (state ∷ above) (state' ∷ above') (Some event) number result
-  one_level next state state' above above' closed result there takes passes bits version level
+  pub one_level : {A : Type 0} (next : A) (state state' : NodeState ℕ)
+      (above above' : List (NodeState ℕ)) (closed : Option Chunk) (new : List Ref)
+      (result : Result (Unit {0}) CheckFault) → IsExpected chunks old mid event (Ok next) →
+      NodeTakes sha512_cut state state' event closed →
+      Passes chunks above above' closed mid new result →
+      Passes chunks (state ∷ above) (state' ∷ above') (Some event) old new result
+  one_level next state state' above above' closed new result there takes passes bits version level
       events below behind first =
       let cut = sha512_cut bits in
       let inner = inner_events level cut version faulty in
@@ -295,14 +326,15 @@ module _ (chunks : List (List ℕ)) (number : ℕ) (event : Chunk) where
       let p = passes bits version (suc level) (inner events ++ event ∷ [])
       (closed_below cut version level events event closed sends)
       (behind_on bits version (suc level) above (inner events) event (omega arith) behind.1)
-      (subst (AreFirst chunks next) (sym (sent_on bits version (suc level) (length above)
+      (subst (AreFirst chunks mid) (sym (sent_on bits version (suc level) (length above)
       (inner events) event (omega arith)))
       (there (sent_through cut version (suc level) (length above) (inner events)) first)) in
       record {
-        behind = IfOk-weaker result _ _ (λ next b. (
+        behind = on_ok_weaker result (λ b. (
           takes.state bits version level events behind.0,
           subst (AreBehind bits version (suc level) above') (sym sent) b,
         )) p.behind;
         compared = subst (λ es. AreCompared chunks
-            (sent_through cut version (suc level) (length above') es) result) (sym sent) p.compared;
+            (sent_through cut version (suc level) (length above') es) new result) (sym sent)
+            p.compared;
       }

@@ -12,7 +12,6 @@ use Rattle.prolly_entry.specs.Pair.{Pair}
 use Rattle.prolly_entry.specs.Reference.{reference_of}
 use Rattle.prolly_entry.specs.declared.version.Version.{Version}
 use Rattle.prolly_entry.specs.lemmas.Lists.{all_append, all_back}
-use Rattle.prolly_entry.specs.lemmas.Orders.{below_greater}
 use Rattle.prolly_laws.specs.Trees.{pairs_are}
 use Rattle.prolly_tree.specs.Tree.{Tree, bytes_of, greatest_key, last_key, pairs_below, tree_of}
 use Rattle.prolly_tree.specs.lemmas.Maps.{Above, Rises, rises, rises_back, rises_front}
@@ -28,7 +27,7 @@ use Rattle.prolly_check.proofs.LeafSteps.{leads_nowhere, leads_to}
 use Rattle.prolly_check.proofs.Lookups.{above_last, above_not, all_below, child_is, child_some}
 use Rattle.prolly_check.proofs.Lookups.{root_is, trees_below}
 use Rattle.prolly_check.proofs.NextKeys.{below_next, least_above}
-use Rattle.prolly_check.proofs.Scans.{none_from, pairs_from-append, some_from}
+use Rattle.prolly_check.proofs.Scans.{from_all, none_from, pairs_from-append, some_from}
 use Rattle.prolly_check.proofs.TreeWays.{IsKind, OnTo, right}
 use Rattle.prolly_check.proofs.Verdicts.{is_less}
 use Rattle.prolly_check.proofs.WayDown.{children_are, own_pairs}
@@ -49,13 +48,6 @@ pub record IsFoundIn (key : List ℕ) (all found : List Pair) : Type 0 where
   pub below : AllByRecursion (λ p. KeyBelow p.key key) before
   pub here : NotBelow key found
   pub none : found ≡ [] → after ≡ []
-
--- pairs above a key are all from it on
-from_all : (key : List ℕ) (ps : List Pair) → Above key ps → pairs_from key ps ≡ ps
-from_all key [] h = refl
-from_all key (p ∷ ps) h = cond-true (not (is_lt (key_order p.key key))) (p ∷ pairs_from key ps)
-    (pairs_from key ps) (ap (λ o. not (is_lt o)) (below_greater key p.key h.0)) ∙
-    ap (λ qs. p ∷ qs) (from_all key ps h.1)
 
 from_here : (key : List ℕ) (ps : List Pair) → NotBelow key ps → pairs_from key ps ≡ ps
 from_here key [] h = refl

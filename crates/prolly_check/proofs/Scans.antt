@@ -4,13 +4,15 @@ use Rattle.std.proofs.Common.{◌≡◌, ℕ, ◌<◌, ◌≤◌, Bool, true, fa
 use Rattle.std.proofs.Common.{length, take, refl, ap, ◌∙◌, arith, drop}
 use Rattle.std.specs.Ordering.{is_lt}
 use Rattle.std.specs.List.{flat_map, AllByRecursion}
-use Rattle.std.proofs.lemmas.Bool.{cond-false}
+use Rattle.std.proofs.lemmas.Bool.{cond-false, cond-true}
 use Rattle.std.proofs.lemmas.List.Elements.{filter-append}
+use Rattle.prolly_entry.specs.lemmas.Lists.{all_back}
+use Rattle.prolly_entry.specs.lemmas.Orders.{below_greater}
 use Rattle.prolly_entry.specs.Keys.{key_order, KeyBelow}
 use Rattle.prolly_entry.specs.Pair.{Pair}
 use Rattle.prolly_tree.specs.Tree.{Tree, pairs_below, greatest_key, last_key}
-use Rattle.prolly_check.proofs.Lookups.{trees_below}
-use Rattle.prolly_tree.specs.lemmas.Maps.{Rises}
+use Rattle.prolly_check.proofs.Lookups.{above_not, trees_below}
+use Rattle.prolly_tree.specs.lemmas.Maps.{Above, Rises}
 use Rattle.prolly_check.specs.Leaves.{pairs_from}
 use Rattle.prolly_check.specs.Held.{pairs_held}
 
@@ -49,6 +51,62 @@ some_from from (p ∷ q ∷ ps) some h e = go (not (is_lt (key_order p.key from)
         cond b (p ∷ pairs_from from (q ∷ ps)) (pairs_from from (q ∷ ps)) ≡ [] → ⊥
     go true more f = cons≢nil f
     go false more f = more f
+
+-- ---- in a map
+
+-- pairs above a key are all from it on
+pub from_all : (key : List ℕ) (ps : List Pair) → Above key ps → pairs_from key ps ≡ ps
+from_all key [] h = refl
+from_all key (p ∷ ps) h = cond-true (not (is_lt (key_order p.key key))) (p ∷ pairs_from key ps)
+    (pairs_from key ps) (ap (λ o. not (is_lt o)) (below_greater key p.key h.0)) ∙
+    ap (λ qs. p ∷ qs) (from_all key ps h.1)
+
+-- where the first one of a map is from the key on, all are
+pub from_first : (key : List ℕ) (p : Pair) (ps : List Pair) → Rises (p ∷ ps) →
+    is_lt (key_order p.key key) ≡ false → pairs_from key (p ∷ ps) ≡ p ∷ ps
+from_first key p ps h here =
+    cond-true (not (is_lt (key_order p.key key))) (p ∷ pairs_from key ps) (pairs_from key ps)
+    (ap not here) ∙ ap (λ qs. p ∷ qs) (from_all key ps (above_not p.key key ps here h.0))
+
+-- a pair below the key is passed over
+pub from_second : (key : List ℕ) (p : Pair) (ps : List Pair) →
+    is_lt (key_order p.key key) ≡ true → pairs_from key (p ∷ ps) ≡ pairs_from key ps
+from_second key p ps past = cond-false (not (is_lt (key_order p.key key)))
+    (p ∷ pairs_from key ps) (pairs_from key ps) (ap not past)
+
+-- behind pairs of a map of which one is from the key on, all are
+pub from_behind : (key : List ℕ) (ps qs : List Pair) → Rises (ps ++ qs) →
+    (pairs_from key ps ≡ [] → ⊥) → pairs_from key qs ≡ qs
+from_behind key [] qs h some = absurd (some refl)
+from_behind key (p ∷ ps) qs h some = go (from_behind key ps qs h.1)
+    (is_lt (key_order p.key key)) refl
+  where
+    go : ((pairs_from key ps ≡ [] → ⊥) → pairs_from key qs ≡ qs) → (b : Bool) →
+        is_lt (key_order p.key key) ≡ b → pairs_from key qs ≡ qs
+    go behind true past = behind (λ none. some (from_second key p ps past ∙ none))
+    go behind false here = from_all key qs (above_not p.key key qs here
+        (all_back (λ q. KeyBelow p.key q.key) ps qs h.0))
+
+-- what holds of all pairs holds of those from a key on
+pub all_from : (P : Pair → Type 0) (key : List ℕ) (ps : List Pair) → AllByRecursion P ps →
+    AllByRecursion P (pairs_from key ps)
+all_from P key [] h = tt
+all_from P key (p ∷ ps) h = go (not (is_lt (key_order p.key key))) (all_from P key ps h.1)
+  where
+    go : (b : Bool) → AllByRecursion P (pairs_from key ps) →
+        AllByRecursion P (cond b (p ∷ pairs_from key ps) (pairs_from key ps))
+    go true k = (h.0, k)
+    go false k = k
+
+-- they rise, too
+pub rises_from : (key : List ℕ) (ps : List Pair) → Rises ps → Rises (pairs_from key ps)
+rises_from key [] h = tt
+rises_from key (p ∷ ps) h = go (not (is_lt (key_order p.key key))) (rises_from key ps h.1)
+  where
+    go : (b : Bool) → Rises (pairs_from key ps) →
+        Rises (cond b (p ∷ pairs_from key ps) (pairs_from key ps))
+    go true k = (all_from (λ q. KeyBelow p.key q.key) key ps h.0, k)
+    go false k = k
 
 -- ---- in a leaf
 

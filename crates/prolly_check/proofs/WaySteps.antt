@@ -1,9 +1,10 @@
 -- Going down the way of a look-up in a file that was checked.
 use Rattle.std.proofs.Common.{◌≡◌, ℕ, zero, suc, ◌<◌, List, [], ◌∷◌, ◌++◌, length, map, get_or}
-use Rattle.std.proofs.Common.{Option, None, refl, sym, ap, ◌∙◌, subst, arith}
+use Rattle.std.proofs.Common.{All, Option, None, refl, sym, ap, ◌∙◌, subst, arith}
 use Rattle.std.specs.Borrow.{Bor}
 use Rattle.std.specs.List.{AllByRecursion, flat_map}
 use Rattle.std.proofs.lemmas.List.{map-append}
+use Rattle.prolly_entry.specs.Byte.{IsByte}
 use Rattle.prolly_entry.specs.Keys.{KeyBelow, Rising, RisingFrom}
 use Rattle.prolly_entry.specs.Pair.{Pair}
 use Rattle.prolly_entry.specs.Reference.{reference_of}
@@ -124,8 +125,9 @@ module _ (content : Content) (key : List ℕ) (chunks : List (List ℕ)) (number
   abbrev chunk : List ℕ
   chunk = get_or (chunks_of content) number []
 
-  named : IsNamed content.version (reference_of chunk) chunk
-  named = record {
+  named : All IsByte chunk → IsNamed content.version (reference_of chunk) chunk
+  named bytes = record {
+    bytes = bytes;
     is = refl;
     ordered = record {
       whole = each_whole content.version (chunks_of content) number
@@ -148,16 +150,17 @@ module _ (content : Content) (key : List ℕ) (chunks : List (List ℕ)) (number
             (leads_nowhere content.version n.level key n.trees none),
       )
 
-  pub way_ends : (value : Option (List ℕ)) → EndsWith key (kind_of content.version chunk) value →
+  pub way_ends : All IsByte chunk → (value : Option (List ℕ)) →
+      EndsWith key (kind_of content.version chunk) value →
       IsWay content.version (reference_of (root_bytes content)) key (chunks ++ chunk ∷ [])
       (find content.pairs key)
-  way_ends value h = record {
+  way_ends bytes value h = record {
     before = chunks;
     last = chunk;
     reference = reference_of chunk;
     are = refl;
     lead = on.lead;
-    named = named;
+    named = named bytes;
     down = on.down;
     ends = ends (kind_of content.version chunk) value refl h;
   }
@@ -183,15 +186,15 @@ module _ (content : Content) (key : List ℕ) (chunks : List (List ℕ)) (number
     pub way_leads : GoesOn content (Tells content key) number reference
     way_leads = on_below (kind_of content.version chunk) reference refl h
 
-    pub way_goes_on : (next : ℕ) → HasAt (chunks_of content) next reference →
+    pub way_goes_on : All IsByte chunk → (next : ℕ) → HasAt (chunks_of content) next reference →
         OnWay content key (chunks ++ chunk ∷ []) next
-    way_goes_on next has =
+    way_goes_on bytes next has =
         let at = way_leads.at next has in
         record {
           at = at.0;
           lead = subst (Lead content.version key (reference_of (root_bytes content))
               (chunks ++ chunk ∷ [])) (sym has.is) (lead_more content.version key
               (reference_of (root_bytes content)) chunks (reference_of chunk) chunk reference
-              on.lead named h);
+              on.lead (named bytes) h);
           down = falls_more chunks chunk (get_or (chunks_of content) next []) on.down at.2;
         }

@@ -1,6 +1,6 @@
 -- Rebuilding the chunks of pairs one by one, by levels that stand one above another.
 use Rattle.std.specs.Prelude.{◌≡◌, ℕ, zero, suc, ◌<◌, List, [], ◌∷◌, ◌++◌, length, take, map}
-use Rattle.std.specs.Prelude.{Option, Some, Result, Ok, Err, IfOk}
+use Rattle.std.specs.Prelude.{Option, Some, Result, Ok, Err, OnOk}
 use Rattle.prolly_entry.specs.declared.version.Version.{Version}
 use Rattle.prolly_entry.specs.Cut.{Cut, sha512_cut}
 use Rattle.prolly_tree.specs.Chunk.{Chunk}
@@ -8,10 +8,13 @@ use Rattle.prolly_tree.specs.Events.{clean, faulty, leaf_events, inner_events}
 use Rattle.prolly_tree.specs.Pipeline.{pipeline_events}
 use Rattle.std.specs.List.{AllByRecursion}
 use Rattle.std.specs.Option.{option_to_list}
+use Rattle.std.specs.Global.{Vec}
 use Rattle.prolly_entry.specs.Pair.{Pair}
+use Rattle.prolly_entry.specs.declared.reference.Ref.{Ref}
 use Rattle.prolly_chunk.specs.LeafLevel.{leaf_level}
 use Rattle.prolly_chunk.specs.NodeLevel.{NodeState, node_level, NodeBegins}
 use Rattle.prolly_check.specs.declared.fault.CheckFault.{CheckFault}
+use Rattle.prolly_check.specs.Index.{AreReferences}
 use Rattle.prolly_check.specs.Judged.{difference}
 use Rattle.prolly_check.specs.Refusal.{UnlessMemory}
 use Rattle.prolly_check.specs.declared.rebuild.Rebuild.{Rebuild}
@@ -35,44 +38,50 @@ AreBehind bits version level (state ∷ states) events =
 abbrev pub AreBelow : ℕ → List Chunk → Type 0
 AreBelow level events = AllByRecursion (λ e. e.level < level) events
 
--- The bytes of the chunks that were sent are the first chunks of a file, so many.
-pub record AreFirst (chunks : List (List ℕ)) (number : ℕ) (sent : List Chunk) : Type 0 where
-  pub are : map (λ c. c.bytes) sent ≡ take number chunks
-  pub count : length sent ≡ number
+-- The bytes of the chunks that were sent are the first chunks of a file, and these are their
+-- references.
+pub record AreFirst (chunks : List (List ℕ)) (references : List Ref) (sent : List Chunk) : Type 0
+  where
+    pub are : map (λ c. c.bytes) sent ≡ take (length sent) chunks
+    pub named : AreReferences (map (λ c. c.bytes) sent) references
 
 -- However the chunks that were sent go on, this is their first difference from those of a file.
 abbrev pub DifferAs : List (List ℕ) → List Chunk → CheckFault → Type 0
 DifferAs chunks sent fault = (more : List (List ℕ)) →
     difference 0 (map (λ c. c.bytes) sent ++ more) chunks ≡ Some fault
 
--- The chunks that were sent are compared with those of a file: they begin them, so many; or they
--- differ, unless memory was refused.
-abbrev pub AreCompared : List (List ℕ) → List Chunk → Result ℕ CheckFault → Type 0
-AreCompared chunks sent (Ok number) = AreFirst chunks number sent
-AreCompared chunks sent (Err fault) = UnlessMemory (DifferAs chunks sent) fault
+-- The chunks that were sent are compared with those of a file: they begin them, and these are their
+-- references; or they differ, unless memory was refused.
+abbrev pub AreCompared : {A : Type 0} → List (List ℕ) → List Chunk → List Ref →
+    Result A CheckFault → Type 0
+AreCompared chunks sent references (Ok done) = AreFirst chunks references sent
+AreCompared chunks sent references (Err fault) = UnlessMemory (DifferAs chunks sent) fault
 
--- Whatever was sent before, as many chunks as the number, it is compared with this event behind it.
-abbrev pub IsExpected : List (List ℕ) → ℕ → Chunk → Result ℕ CheckFault → Type 0
-IsExpected chunks number event result = (sent : List Chunk) → AreFirst chunks number sent →
-    AreCompared chunks (sent ++ event ∷ []) result
+-- Whatever was sent before, of which these are the references, it is compared with this event
+-- behind it.
+abbrev pub IsExpected : {A : Type 0} → List (List ℕ) → List Ref → List Ref → Chunk →
+    Result A CheckFault → Type 0
+IsExpected chunks old new event result = (sent : List Chunk) → AreFirst chunks old sent →
+    AreCompared chunks (sent ++ event ∷ []) new result
 
 -- The levels took an event, if there was one, behind others, and what leaves the last one is
 -- compared.
 pub record Passed (bits : ℕ) (version : Version) (chunks : List (List ℕ)) (level : ℕ)
-    (new : List (NodeState ℕ)) (events : List Chunk) (result : Result ℕ CheckFault) : Type 0 where
-  pub behind : IfOk result (λ next. AreBehind bits version level new events)
+    (new : List (NodeState ℕ)) (events : List Chunk) (references : List Ref)
+    (result : Result (Unit {0}) CheckFault) : Type 0 where
+  pub behind : OnOk result (AreBehind bits version level new events)
   pub compared : AreCompared chunks (sent_through (sha512_cut bits) version level (length new)
-      events) result
+      events) references result
 
--- So they do behind any events, where what has left the last one begins the chunks of the file, as
--- many as the number.
-abbrev pub Passes : List (List ℕ) → List (NodeState ℕ) → List (NodeState ℕ) → Option Chunk → ℕ →
-    Result ℕ CheckFault → Type 0
-Passes chunks old new event number result = (bits : ℕ) (version : Version) (level : ℕ)
+-- So they do behind any events, where what has left the last one begins the chunks of the file, and
+-- the first list has its references.
+abbrev pub Passes : List (List ℕ) → List (NodeState ℕ) → List (NodeState ℕ) → Option Chunk →
+    List Ref → List Ref → Result (Unit {0}) CheckFault → Type 0
+Passes chunks old new event before after result = (bits : ℕ) (version : Version) (level : ℕ)
     (events : List Chunk) →
     AreBelow level (option_to_list event) → AreBehind bits version level old events →
-    AreFirst chunks number (sent_through (sha512_cut bits) version level (length old) events) →
-    Passed bits version chunks level new (events ++ option_to_list event) result
+    AreFirst chunks before (sent_through (sha512_cut bits) version level (length old) events) →
+    Passed bits version chunks level new (events ++ option_to_list event) after result
 
 -- The levels, from this one on, took nothing and have sent nothing.
 abbrev pub AreUnused : ℕ → Version → ℕ → List (NodeState ℕ) → Type 0
@@ -96,7 +105,7 @@ pub record HasTaken (bits : ℕ) (version : Version) (chunks : List (List ℕ)) 
   pub nodes : AreBehind bits version 1 rebuild.nodes.items
       (leaf_events (sha512_cut bits) version faulty pairs)
   pub count : length rebuild.nodes.items ≡ node_levels
-  pub first : AreFirst chunks rebuild.number (sent_of bits version pairs)
+  pub first : AreFirst chunks rebuild.references.items (sent_of bits version pairs)
 
 -- It did, or what is sent of the pairs differs from the chunks of the file, unless memory was
 -- refused.
@@ -112,8 +121,14 @@ abbrev pub Takes : List (List ℕ) → Rebuild → Rebuild → List Pair → Res
 Takes chunks old new taken result = (bits : ℕ) (version : Version) (pairs : List Pair) →
     HasTaken bits version chunks pairs old → Took bits version chunks (pairs ++ taken) new result
 
+-- The chunks that were sent are all that come: they begin those of a file, and these are their
+-- references; or they differ, unless memory was refused.
+abbrev pub AreAllCompared : List (List ℕ) → List Chunk → Result (Vec Ref) CheckFault → Type 0
+AreAllCompared chunks sent (Ok references) = AreFirst chunks references.items sent
+AreAllCompared chunks sent (Err fault) = UnlessMemory (DifferAs chunks sent) fault
+
 -- All that the last level sends of the pairs that it took is compared.
-abbrev pub Ends : List (List ℕ) → Rebuild → Result ℕ CheckFault → Type 0
+abbrev pub Ends : List (List ℕ) → Rebuild → Result (Vec Ref) CheckFault → Type 0
 Ends chunks rebuild result = (bits : ℕ) (version : Version) (pairs : List Pair) →
     HasTaken bits version chunks pairs rebuild →
-    AreCompared chunks (pipeline_events node_levels (sha512_cut bits) version clean pairs) result
+    AreAllCompared chunks (pipeline_events node_levels (sha512_cut bits) version clean pairs) result

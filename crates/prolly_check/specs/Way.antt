@@ -1,7 +1,8 @@
 -- The way of a look-up down a tree, by the references of its chunks. (This project's rules.)
-use Rattle.std.specs.Prelude.{◌≡◌, ℕ, suc, ◌⊎◌, slice_index, List, [], ◌∷◌, ◌++◌, map, Option, Some}
-use Rattle.std.specs.Prelude.{None, option_map}
+use Rattle.std.specs.Prelude.{◌≡◌, ℕ, suc, ◌⊎◌, slice_index, All, List, [], ◌∷◌, ◌++◌, map, Option}
+use Rattle.std.specs.Prelude.{Some, None, option_map}
 use Rattle.std.specs.List.{AllByRecursion}
+use Rattle.prolly_entry.specs.Byte.{IsByte}
 use Rattle.prolly_entry.specs.Cut.{sha512_cut}
 use Rattle.prolly_entry.specs.Keys.{Rising}
 use Rattle.prolly_entry.specs.Pair.{Pair, IsPair}
@@ -49,8 +50,11 @@ EndsWith key (Node children) value = (child_for key children ≡ None) × (value
 abbrev pub level_of : List ℕ → ℕ
 level_of chunk = slice_index chunk 0
 
--- The chunk has the reference, and is one that can be read.
+-- The chunk has the reference, and is one that can be read. It is bytes, as chunks in memory always
+-- are: lists of other numbers have references too, and for them two different ones with one
+-- reference are found by hand, so without this a clash would say nothing.
 pub record IsNamed (version : Version) (reference chunk : List ℕ) : Type 0 where
+  pub bytes : All IsByte chunk
   pub is : reference_of chunk ≡ reference
   pub ordered : IsOrdered version chunk
 

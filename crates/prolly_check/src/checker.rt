@@ -19,8 +19,9 @@ use std::alloc::Global;
 /// chunks and the end record against those of the file of the same pairs; the references.
 ///
 /// Takes time linear in the bytes, but for the ordering of the references, and hashes each entry
-/// once and each chunk once. Beside the bytes it holds the place and the reference of each chunk,
-/// while the chunks are rebuilt one open chunk of each level, and then the index of the references.
+/// once and each chunk once. Beside the bytes it holds the place of each chunk, while the chunks
+/// are rebuilt one open chunk of each level and the reference of each chunk that was found right,
+/// and then the index of the references.
 pub fn check<S: Source>(alloc: Global, source: &mut S, max_bytes: u32) -> Result<Tree, CheckFault>
     // What is accepted are the bytes of the source, and they are the file of a map.
     ensures same { (S.seen source.old).is_honest ≡ true →
@@ -42,6 +43,8 @@ pub fn check<S: Source>(alloc: Global, source: &mut S, max_bytes: u32) -> Result
     ensures read { IsErrOf result CheckFault.Read ↔
         ((S.seen source.new).failures ≢ (S.seen source.old).failures) }
     ensures unfailed { OnOk result ((S.seen source.new).failures ≡ (S.seen source.old).failures) }
+    ensures never { (S.seen source.old).is_steady ≡ true →
+        (S.seen source.new).failures ≡ (S.seen source.old).failures }
     ensures honest { (S.seen source.old).is_honest ≡ true → (S.seen source.new).is_honest ≡ true }
     ensures steady { (S.seen source.old).is_steady ≡ true → (S.seen source.new).is_steady ≡ true }
 {

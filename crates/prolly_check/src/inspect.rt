@@ -9,7 +9,7 @@ ghost use Rattle.prolly_check.specs.Verdict.{IsVerdict};
 use crate::canonical::test_canonical;
 use crate::ending::test_ending;
 use crate::fault::CheckFault;
-use crate::file_chunks::{FileChunks, references_of};
+use crate::file_chunks::FileChunks;
 use crate::frames::{Span, find_frames};
 use crate::header::read_header;
 use crate::index::{Index, index_chunks};
@@ -43,10 +43,9 @@ pub(crate) fn inspect(alloc: Global, bytes: &[u8]) -> Result<Layout, CheckFault>
         Some(cut) => cut,
         None => unreachable!(),
     };
-    let references = references_of(alloc, bytes, &frames.spans)?;
-    let chunks = FileChunks::new(header.version, bytes, &frames.spans, &references);
-    test_canonical(alloc, cut, header.version, &chunks, &bytes[frames.end..])?;
-    let index = index_chunks(alloc, &chunks)?;
+    let chunks = FileChunks::new(header.version, bytes, &frames.spans);
+    let references = test_canonical(alloc, cut, header.version, &chunks, &bytes[frames.end..])?;
+    let index = index_chunks(alloc, &references)?;
     Ok(Layout {
         version: header.version,
         spans: frames.spans,

@@ -1,10 +1,11 @@
 //! What who has one tree lacks of another.
 ghost use Rattle.std.specs.Prelude.{◌<◌, ◌^◌, ℕ, List};
-ghost use Rattle.prolly_check.specs.Index.{IsIndex};
+ghost use Rattle.prolly_check.specs.Index.{AreReferences, IsIndex};
 ghost use Rattle.prolly_check.specs.Missing.{AreSo, lacking, size_of};
 
 use crate::file_chunks::FileChunks;
 use crate::index::Index;
+use prolly_entry::Ref;
 
 /// The chunks of a tree whose references another tree lacks: what a replica that has the other one
 /// has to fetch.
@@ -18,8 +19,9 @@ pub struct Missing {
 
 /// The chunks whose references the index lacks. Takes no memory and no hash, and looks each
 /// reference up.
-pub(crate) fn missing_in(index: &Index, chunks: &FileChunks) -> Missing
-    requires { size_of chunks.now < 2 ^ 64 }
+pub(crate) fn missing_in(index: &Index, chunks: &FileChunks, references: &[Ref]) -> Missing
+    requires small { size_of chunks.now < 2 ^ 64 }
+    requires references { AreReferences chunks.now references.now }
     ensures { (others : List (List ℕ)) → IsIndex index.now others →
         AreSo (lacking others chunks.now) result }
 {
@@ -28,7 +30,7 @@ pub(crate) fn missing_in(index: &Index, chunks: &FileChunks) -> Missing
         bytes: 0,
     };
     for number in 0..chunks.len() {
-        if index.get(&chunks.reference(number)).is_none() {
+        if index.get(&references[number]).is_none() {
             missing.chunks += 1;
             missing.bytes += chunks.chunk(number).len() as u64;
         }

@@ -1,6 +1,6 @@
 //! The entries of nodes.
-ghost use Rattle.std.specs.Prelude.{◌≡◌, ◌≤◌, true, false, List, [], ◌∷◌, length, take, drop};
-ghost use Rattle.std.specs.Prelude.{IfSome, IfNone, MatchOption};
+ghost use Rattle.std.specs.Prelude.{◌≡◌, ◌≤◌, ◌<◌, ◌-◌, true, false, List, [], ◌∷◌, length, take};
+ghost use Rattle.std.specs.Prelude.{drop, IfSome, IfNone, MatchOption};
 ghost use Rattle.std.specs.Int.{w64, from_be_bytes};
 ghost use Rattle.prolly_entry.specs.ChildAt.{NoChildAt, tail_length};
 ghost use Rattle.prolly_entry.specs.Pair.{Pair as PairValue};
@@ -47,6 +47,20 @@ fn split_child(version: Version, entries: &[u8]) -> Option<(Child<'_>, &[u8])>
         count: count_in(version, tail),
     };
     Some((child, &entries[at.len..]))
+}
+
+/// The first child of the entries of a node, and the entries behind it. Takes no memory.
+pub fn split_first_child(version: Version, entries: &[u8]) -> Option<(Child<'_>, &[u8])>
+    requires { IsNode version entries.now [] }
+    ensures first { MatchOption result (children_in version entries.now ≡ []) (λ r.
+        children_in version entries.now ≡ value_of r.0 ∷ children_in version r.1.now) }
+    ensures node { IfSome result (λ r. IsNode version r.1.now []) }
+    ensures shorter { IfSome result (λ r. length r.1.now < length entries.now) }
+    ensures behind { IfSome result (λ r.
+        r.1.now ≡ drop (length entries.now - length r.1.now) entries.now) }
+{
+    let (child, rest) = split_child(version, entries)?;
+    Some((child, rest))
 }
 
 /// The reference behind a key.

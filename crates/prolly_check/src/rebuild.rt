@@ -4,6 +4,7 @@ ghost use Rattle.std.specs.Prelude.{IfOk, IfErr};
 ghost use Rattle.std.specs.List.{flat_map};
 ghost use Rattle.prolly_check.specs.Canonical.{CompareAs};
 ghost use Rattle.prolly_check.specs.Held.{pairs_held};
+ghost use Rattle.prolly_check.specs.Index.{AreReferences};
 ghost use Rattle.prolly_check.specs.Rebuilt.{AreUnused, HasTaken, Takes, Ends, node_levels};
 ghost use Rattle.prolly_check.specs.Refusal.{UnlessMemory};
 
@@ -12,19 +13,19 @@ use crate::file_chunks::FileChunks;
 use crate::leaf::Pairs;
 use crate::passing::pass;
 use prolly_chunk::{LeafLevel, NodeLevel};
-use prolly_entry::{Pair, Sha512Cut, Version};
+use prolly_entry::{Pair, Ref, Sha512Cut, Version};
 use std::alloc::{AllocError, Global};
 
 /// The number of levels of nodes. A tree of fewer than 2^64 pairs has no more.
 const NODE_LEVELS: u8 = 64;
 
-/// What is rebuilt so far of the chunks of pairs: the open chunk of each level, and how many chunks
-/// were closed and found in a file.
+/// What is rebuilt so far of the chunks of pairs: the open chunk of each level, and the references
+/// of the chunks that were closed and found in a file.
 #[derive(Drop)]
 struct Rebuild {
     leaf: LeafLevel<Sha512Cut>,
     nodes: Vec<NodeLevel<Sha512Cut>>,
-    number: usize,
+    references: Vec<Ref>,
 }
 
 /// All levels of nodes, before the first chunk.
@@ -51,7 +52,7 @@ fn begin(alloc: Global, cut: Sha512Cut, version: Version) -> Result<Rebuild, All
     Ok(Rebuild {
         leaf: LeafLevel::new(alloc, cut)?,
         nodes: new_nodes(alloc, cut, version)?,
-        number: 0,
+        references: Vec::new(alloc),
     })
 }
 
@@ -70,8 +71,13 @@ fn add_copy(
 {
     let pair = Pair::copy_of(alloc, key, value)?;
     let closed = rebuild.leaf.push(alloc, &pair)?;
-    rebuild.number = pass(alloc, &mut rebuild.nodes, closed, chunks, rebuild.number)?;
-    Ok(())
+    pass(
+        alloc,
+        &mut rebuild.nodes,
+        closed,
+        chunks,
+        &mut rebuild.references,
+    )
 }
 
 /// Takes the pairs of a leaf.
@@ -99,45 +105,50 @@ fn add_chunks(alloc: Global, rebuild: &mut Rebuild, chunks: &FileChunks) -> Resu
     Ok(())
 }
 
-/// Closes what is left open, level by level from the leaves up, and answers how many chunks there
-/// are in all.
-fn finish(alloc: Global, rebuild: Rebuild, chunks: &FileChunks) -> Result<usize, CheckFault>
+/// Closes what is left open, level by level from the leaves up, and answers the references of all
+/// chunks.
+fn finish(alloc: Global, rebuild: Rebuild, chunks: &FileChunks) -> Result<Vec<Ref>, CheckFault>
     ensures { Ends chunks.now rebuild result }
 {
     let Rebuild {
         leaf,
         mut nodes,
-        mut number,
+        mut references,
     } = rebuild;
     let mut last = leaf.finish();
     loop {
-        number = pass(alloc, &mut nodes, last, chunks, number)?;
+        pass(alloc, &mut nodes, last, chunks, &mut references)?;
         if nodes.len() == 0 {
-            return Ok(number);
+            return Ok(references);
         }
         last = nodes.remove(0).finish();
     }
 }
 
-/// Tests that the chunks of a file are those of the pairs that they hold.
+/// Tests that the chunks of a file are those of the pairs that they hold, and answers the reference
+/// of each.
 ///
-/// Holds one open chunk a level beside the file.
+/// Holds one open chunk a level beside the file, and takes one hash of each chunk, and memory for
+/// its reference, once the chunk was found right.
 pub(crate) fn test_rebuilt(
     alloc: Global,
     cut: Sha512Cut,
     version: Version,
     chunks: &FileChunks,
-) -> Result<(), CheckFault>
+) -> Result<Vec<Ref>, CheckFault>
     requires { length (flat_map pairs_held chunks.now) < 2 ^ 64 }
     ensures ok { OnOk result (CompareAs version cut chunks.now None) }
+    ensures references { IfOk result (λ references.
+        AreReferences chunks.now references.items) }
     ensures err { IfErr result (UnlessMemory (λ fault.
         CompareAs version cut chunks.now (Some fault))) }
 {
     let mut rebuild = begin(alloc, cut, version)?;
     add_chunks(alloc, &mut rebuild, chunks)?;
-    let count = finish(alloc, rebuild, chunks)?;
+    let references = finish(alloc, rebuild, chunks)?;
+    let count = references.len();
     if count < chunks.len() {
         return Err(CheckFault::NotCanonical { chunk: count });
     }
-    Ok(())
+    Ok(references)
 }

@@ -31,15 +31,18 @@ fn keep(
     Ok(())
 }
 
-/// Copies of the pairs of a leaf whose key is not less than `from`. Takes memory for them, and time
-/// linear in the leaf.
-pub fn pairs_from(alloc: Global, mut leaf: Pairs, from: &[u8]) -> Result<Vec<Pair>, AllocError>
-    ensures { IfOk result (λ pairs. pairs.items ≡ pairs_from from.now leaf.entry) }
+/// Copies of the first pairs of a leaf whose key is not less than `from`, at most `limit` of them.
+/// Takes memory for them, and time linear in the part of the leaf that ends with the last of them.
+pub fn first_pairs_from(
+    alloc: Global,
+    leaf: Pairs,
+    from: &[u8],
+    limit: usize,
+) -> Result<Vec<Pair>, AllocError>
+    ensures { IfOk result (λ pairs. pairs.items ≡ take limit (pairs_from from.now leaf.entry)) }
 {
     let mut pairs = Vec::new(alloc);
-    while let Some((key, value)) = leaf.next() {
-        keep(alloc, key, value, from, &mut pairs)?;
-    }
+    scan_leaf(alloc, leaf, from, limit, &mut pairs)?;
     Ok(pairs)
 }
 

@@ -1,5 +1,5 @@
 //! A chunk file that was checked.
-ghost use Rattle.std.specs.Prelude.{◌≡◌, ◌↔◌, ◌^◌, ◌<◌, length, map, IfOk, IfErr, IsErr, Err};
+ghost use Rattle.std.specs.Prelude.{◌≡◌, ◌↔◌, ◌^◌, ◌<◌, length, map, IfOk, IfErr, IsErr, Err, OnOk};
 ghost use Rattle.std.specs.Option.{option_copied};
 ghost use Rattle.prolly_tree.specs.Chunk.{chunks};
 ghost use Rattle.prolly_entry.specs.Cut.{sha512_cut};
@@ -71,6 +71,8 @@ impl Tree {
     ghost use Rattle.prolly_tree.specs.Difference.{IsMap};
     ghost use Rattle.prolly_tree.specs.RecordFile.{record_file};
     ghost use Rattle.prolly_file.specs.Writes.{Writes};
+    ghost use Rattle.prolly_file.specs.Sink.{IsSettled};
+    ghost use Rattle.prolly_check.specs.Leaves.{pairs_from};
 
     /// The tree of the bytes of a file.
     pub(crate) fn of(alloc: Global, bytes: Vec<u8>) -> Result<Tree, CheckFault>
@@ -210,14 +212,29 @@ impl Tree {
         Leaves::new(self.file())
     }
 
+    /// The leaves of the pairs whose key is not less than `from`, in the order of their keys. Of
+    /// the first leaf only these pairs are given.
+    ///
+    /// Takes no memory. Reads one chunk a level, the first leaf up to its first such pair, and no
+    /// other leaf before `next` is called.
+    pub fn leaves_from(&self, from: &[u8]) -> Leaves<'_>
+        ensures are { (content : Content) → IsFileOf self.now content →
+            result ≡ pairs_from from.now content.pairs }
+        ensures rising { IsMap result }
+        ensures lawful { AllByRecursion IsPair result }
+    {
+        Leaves::from_key(self.file(), from)
+    }
+
     /// Writes the pairs of the map to a sink, as a record file, and flushes the sink.
     ///
     /// Takes no memory, and makes one call of the sink for each leaf, or more where the sink takes
     /// only a part. After a `WriteFault` the sink has a part of the record file. Where that ends
     /// between two records, no reader can tell that more was to follow.
     pub fn write_records<W: Sink>(&self, sink: &mut W) -> Result<(), WriteFault>
-        ensures { (content : Content) → IsFileOf self.now content →
+        ensures written { (content : Content) → IsFileOf self.now content →
             Writes (record_file content.pairs) (W.seen sink.old) (W.seen sink.new) result }
+        ensures settled { OnOk result (IsSettled (W.seen sink.new)) }
     {
         write_records(self.leaves(), sink)
     }
@@ -232,7 +249,7 @@ impl Tree {
             IsFileOf other.now others →
             AreSo (lacking (chunks_of others) (chunks_of content)) result }
     {
-        missing_in(&other.index, &self.file_chunks())
+        missing_in(&other.index, &self.file_chunks(), &self.references)
     }
 
     /// The version of the file.
@@ -242,14 +259,14 @@ impl Tree {
         self.file().version()
     }
 
-    /// The chunks of the file, with their references.
+    /// The chunks of the file.
     fn file_chunks(&self) -> FileChunks<'_>
         ensures chunks { (content : Content) → IsFileOf self.now content →
             result ≡ chunks_of content }
         ensures tree { AreOfMap result }
         ensures small { size_of result < 2 ^ 64 }
     {
-        FileChunks::new(self.version, &self.bytes, &self.spans, &self.references)
+        FileChunks::new(self.version, &self.bytes, &self.spans)
     }
 
     /// The same, as look-ups see it.

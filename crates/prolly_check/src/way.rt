@@ -1,5 +1,6 @@
 //! The chunks on the way of a look-up.
-ghost use Rattle.std.specs.Prelude.{map, IfOk};
+ghost use Rattle.std.specs.Prelude.{◌≡◌, [], ◌∷◌, ◌++◌, All, map, IfOk, OnOk};
+ghost use Rattle.prolly_entry.specs.Byte.{IsByte};
 ghost use Rattle.prolly_entry.specs.Reference.{reference_of};
 ghost use Rattle.prolly_tree.specs.LookUp.{find};
 ghost use Rattle.prolly_check.specs.Root.{root_bytes};
@@ -21,10 +22,19 @@ pub(crate) fn way_to<'a>(
     let mut chunks = Vec::new(alloc);
     let mut number = file.root();
     loop {
-        chunks.push(file.chunk(number))?;
+        keep(&mut chunks, file.chunk(number))?;
         match step_of(file.entries(number), key) {
             Step::End(_) => return Ok(chunks),
             Step::Below(reference) => number = file.child(&reference),
         }
     }
+}
+
+/// Adds a chunk to those of a way.
+fn keep<'a>(chunks: &mut Vec<&'a [u8]>, chunk: &'a [u8]) -> Result<(), AllocError>
+    ensures kept { OnOk result (chunks.new.items ≡ chunks.old.items ++ chunk.entry ∷ []) }
+    ensures bytes { All IsByte chunk.now }
+{
+    chunks.push(chunk)?;
+    Ok(())
 }

@@ -10,22 +10,22 @@ const COMMANDS: &[(&str, &str)] = &[
     (
         "pack a.rec",
         "Pack { out: \"a.rec\", notation: Hex, removals: false, \
-         mode: WriteMode { atomic: false, sync: false } }",
+         mode: WriteMode { atomic: false, sync: false, force: false } }",
     ),
     (
         "pack --sync a.rec --atomic",
         "Pack { out: \"a.rec\", notation: Hex, removals: false, \
-         mode: WriteMode { atomic: true, sync: true } }",
+         mode: WriteMode { atomic: true, sync: true, force: false } }",
     ),
     (
         "scratch",
         "Scratch { bits: 12, version: 1, out: None, \
-         mode: WriteMode { atomic: false, sync: false } }",
+         mode: WriteMode { atomic: false, sync: false, force: false } }",
     ),
     (
         "scratch --sync --out a.prl",
         "Scratch { bits: 12, version: 1, out: Some(\"a.prl\"), \
-         mode: WriteMode { atomic: false, sync: true } }",
+         mode: WriteMode { atomic: false, sync: true, force: false } }",
     ),
     ("check a.prl", "Check { file: \"a.prl\" }"),
     (
@@ -52,30 +52,36 @@ const COMMANDS: &[(&str, &str)] = &[
         "build --atomic out.prl",
         "Build { bits: 12, stages: 12, capacity: 64, max_records: 16777216, \
          batch: 16, version: 1, out: \"out.prl\", files: [], \
-         quiet: false, mode: WriteMode { atomic: true, sync: false } }",
+         quiet: false, mode: WriteMode { atomic: true, sync: false, force: false } }",
     ),
     (
         "scratch --bits 24 --format 2 --out a.prl",
         "Scratch { bits: 24, version: 2, out: Some(\"a.prl\"), \
-         mode: WriteMode { atomic: false, sync: false } }",
+         mode: WriteMode { atomic: false, sync: false, force: false } }",
     ),
     (
         "build out.prl x.rec y.rec",
         "Build { bits: 12, stages: 12, capacity: 64, max_records: 16777216, \
          batch: 16, version: 1, out: \"out.prl\", files: [\"x.rec\", \"y.rec\"], \
-         quiet: false, mode: WriteMode { atomic: false, sync: false } }",
+         quiet: false, mode: WriteMode { atomic: false, sync: false, force: false } }",
     ),
     (
         "build --bits 1 --stages 2 --capacity 3 --max-records 4 --batch 5 --format 2 out.prl",
         "Build { bits: 1, stages: 2, capacity: 3, max_records: 4, batch: 5, version: 2, \
          out: \"out.prl\", files: [], quiet: false, \
-         mode: WriteMode { atomic: false, sync: false } }",
+         mode: WriteMode { atomic: false, sync: false, force: false } }",
+    ),
+    (
+        "build --max-records 2 out.prl x.rec y.rec",
+        "Build { bits: 12, stages: 12, capacity: 64, max_records: 2, \
+         batch: 16, version: 1, out: \"out.prl\", files: [\"x.rec\", \"y.rec\"], \
+         quiet: false, mode: WriteMode { atomic: false, sync: false, force: false } }",
     ),
     (
         "build --quiet out.prl",
         "Build { bits: 12, stages: 12, capacity: 64, max_records: 16777216, \
          batch: 16, version: 1, out: \"out.prl\", files: [], \
-         quiet: true, mode: WriteMode { atomic: false, sync: false } }",
+         quiet: true, mode: WriteMode { atomic: false, sync: false, force: false } }",
     ),
     (
         "explain a.rec",
@@ -109,27 +115,27 @@ const COMMANDS: &[(&str, &str)] = &[
     (
         "dump a.prl",
         "Dump { file: \"a.prl\", out: None, lines: None, \
-         mode: WriteMode { atomic: false, sync: false } }",
+         mode: WriteMode { atomic: false, sync: false, force: false } }",
     ),
     (
         "dump --sync a.prl --text --atomic a.txt",
         "Dump { file: \"a.prl\", out: Some(\"a.txt\"), lines: Some(Text), \
-         mode: WriteMode { atomic: true, sync: true } }",
+         mode: WriteMode { atomic: true, sync: true, force: false } }",
     ),
     (
         "diff a.prl b.prl",
         "Diff { old: \"a.prl\", new: \"b.prl\", out: None, stat: false, \
-         notation: Hex, mode: WriteMode { atomic: false, sync: false } }",
+         notation: Hex, mode: WriteMode { atomic: false, sync: false, force: false } }",
     ),
     (
         "diff a.prl --atomic --stat --out a.rec b.prl",
         "Diff { old: \"a.prl\", new: \"b.prl\", out: Some(\"a.rec\"), stat: true, \
-         notation: Hex, mode: WriteMode { atomic: true, sync: false } }",
+         notation: Hex, mode: WriteMode { atomic: true, sync: false, force: false } }",
     ),
     (
         "prove a.prl 6B --sync a.prf",
         "Prove { file: \"a.prl\", key: [107], out: \"a.prf\", \
-         mode: WriteMode { atomic: false, sync: true } }",
+         mode: WriteMode { atomic: false, sync: true, force: false } }",
     ),
     (
         "verify 00000000000000000000000000000000 00",
@@ -145,7 +151,7 @@ const COMMANDS: &[(&str, &str)] = &[
     (
         "pack --removals --text a.rec",
         "Pack { out: \"a.rec\", notation: Text, removals: true, \
-         mode: WriteMode { atomic: false, sync: false } }",
+         mode: WriteMode { atomic: false, sync: false, force: false } }",
     ),
     (
         "get --text a.prl a\\x6cl",
@@ -159,22 +165,53 @@ const COMMANDS: &[(&str, &str)] = &[
     (
         "dump --hex a.prl",
         "Dump { file: \"a.prl\", out: None, lines: Some(Hex), \
-         mode: WriteMode { atomic: false, sync: false } }",
+         mode: WriteMode { atomic: false, sync: false, force: false } }",
     ),
     (
         "dump --hex --text a.prl",
         "Dump { file: \"a.prl\", out: None, lines: Some(Text), \
-         mode: WriteMode { atomic: false, sync: false } }",
+         mode: WriteMode { atomic: false, sync: false, force: false } }",
     ),
     (
         "diff --text a.prl b.prl",
         "Diff { old: \"a.prl\", new: \"b.prl\", out: None, stat: false, \
-         notation: Text, mode: WriteMode { atomic: false, sync: false } }",
+         notation: Text, mode: WriteMode { atomic: false, sync: false, force: false } }",
     ),
     (
         "prove --text a.prl a b",
         "Prove { file: \"a.prl\", key: [97], out: \"b\", \
-         mode: WriteMode { atomic: false, sync: false } }",
+         mode: WriteMode { atomic: false, sync: false, force: false } }",
+    ),
+    (
+        "pack --force a.rec",
+        "Pack { out: \"a.rec\", notation: Hex, removals: false, \
+         mode: WriteMode { atomic: false, sync: false, force: true } }",
+    ),
+    (
+        "scratch --out a.prl --force",
+        "Scratch { bits: 12, version: 1, out: Some(\"a.prl\"), \
+         mode: WriteMode { atomic: false, sync: false, force: true } }",
+    ),
+    (
+        "build --force --sync a.prl b.rec",
+        "Build { bits: 12, stages: 12, capacity: 64, max_records: 16777216, \
+         batch: 16, version: 1, out: \"a.prl\", files: [\"b.rec\"], \
+         quiet: false, mode: WriteMode { atomic: false, sync: true, force: true } }",
+    ),
+    (
+        "dump a.prl --force --hex a.txt",
+        "Dump { file: \"a.prl\", out: Some(\"a.txt\"), lines: Some(Hex), \
+         mode: WriteMode { atomic: false, sync: false, force: true } }",
+    ),
+    (
+        "diff --force a.prl b.prl --out a.rec --atomic",
+        "Diff { old: \"a.prl\", new: \"b.prl\", out: Some(\"a.rec\"), stat: false, \
+         notation: Hex, mode: WriteMode { atomic: true, sync: false, force: true } }",
+    ),
+    (
+        "prove a.prl 61 a.prf --force",
+        "Prove { file: \"a.prl\", key: [97], out: \"a.prf\", \
+         mode: WriteMode { atomic: false, sync: false, force: true } }",
     ),
     (
         "verify --text 00000000000000000000000000000000 a",
@@ -184,7 +221,7 @@ const COMMANDS: &[(&str, &str)] = &[
 ];
 
 // The answer to the words of a line.
-fn answer(alloc: Global, line: &str) -> Result<Result<Command, ParseFault>, AllocError> {
+pub(crate) fn answer(alloc: Global, line: &str) -> Result<Result<Command, ParseFault>, AllocError> {
     let mut words = Vec::new(alloc);
     for word in line.split_whitespace() {
         words.push(String::from_str(alloc, word)?)?;
@@ -227,6 +264,9 @@ const UNUSABLE_WORDS: &[&str] = &[
     "pack",
     "pack --sync --sync a.rec",
     "scratch --atomic=true",
+    "pack --force --force a.rec",
+    "build --force=true out.prl",
+    "check --force a.prl",
     "scratch --bits 25",
     "build --stages 0 out.prl",
     "scan a.prl 00 1000001",
@@ -265,6 +305,7 @@ fn text_shown(alloc: Global, line: &str) -> Result<(&'static str, String), Fail>
 const TEXTS: &[(&str, &str, &str)] = &[
     ("--help", "help", "  pack "),
     ("help build", "help", "[default: 16777216]"),
+    ("help diff", "help", "--force"),
     ("--version", "help", "prolly 1.0.0, proved with rattle-kit-"),
     ("", "usage", "requires a subcommand"),
     ("scratch --bits 25", "usage", "25 is not in 0..=24"),
@@ -309,8 +350,9 @@ const BAD_WORDS: &[(&str, &str)] = &[
         "bad key of text",
     ),
     ("get --text --root 0 a.prl \\q", "bad root"),
-    // What clap refuses is no bad key.
+    // What clap refuses is no bad key, and no bad root.
     ("scan a.prl 6x", "usage"),
+    ("scan --root 0 a.prl 6x 1000001", "usage"),
 ];
 
 #[test]

@@ -7,4 +7,6 @@ mod command_line;
 #[cfg(test)]
 mod expect;
 #[cfg(test)]
+mod growths;
+#[cfg(test)]
 mod tools;

@@ -5,13 +5,15 @@ use std::process::Abort;
 
 mod build_answers;
 mod dump_answers;
+pub(crate) mod look_up_answers;
+mod name_answers;
 mod pack_answers;
 mod packing;
 mod proof_answers;
 mod scratch_answers;
 
 /// Fails unless an answer has this status, and shows this on standard output and on standard error.
-fn expect_answer(rt: &impl Abort, answer: &Answer, status: u8, out: &[u8], err: &[u8]) {
+pub(crate) fn expect_answer(rt: &impl Abort, answer: &Answer, status: u8, out: &[u8], err: &[u8]) {
     expect_eq(rt, &answer.status, &status);
     expect_bytes(rt, &answer.out, out);
     expect_bytes(rt, &answer.err, err);

@@ -11,12 +11,12 @@ use Rattle.prolly_entry.specs.Keys.{key_order, KeyBelow}
 use Rattle.prolly_entry.specs.Pair.{Pair}
 use Rattle.prolly_entry.specs.lemmas.Orders.{order_self, order_trans}
 use Rattle.prolly_entry.specs.lemmas.Spellings.{same_pair}
-use Rattle.prolly_tree.specs.Difference.{IsDifference, IsMap}
+use Rattle.prolly_tree.specs.Difference.{IsMap}
 use Rattle.prolly_tree.specs.LookUp.{find}
 use Rattle.prolly_tree.specs.lemmas.Differences.{differ_nowhere, shared_first, removed_first}
 use Rattle.prolly_tree.specs.lemmas.Differences.{added_first, changed_first}
 use Rattle.prolly_tree.specs.lemmas.Maps.{Above, find_above, map_behind, rises}
-use Rattle.prolly_diff.specs.Walk.{Maps, AreMaps, AreAlike, IsFirstChange, TakesLeast}
+use Rattle.prolly_diff.specs.Walk.{Maps, AreMaps, AreAlike, IsEnd, IsFirstChange, TakesLeast}
 
 -- Maps begin like themselves.
 pub alike_none : (maps : Maps) → AreAlike maps maps
@@ -192,10 +192,14 @@ changed maps mid rest o n m s h differ = rw h.2 (change_behind maps mid rest n.k
 
 -- Where nothing is left behind what both begin with, the maps are the same.
 pub no_change : (maps mid rest : Maps) → AreMaps maps → AreAlike maps mid →
-    TakesLeast mid None None rest → IsDifference maps.before maps.after []
-no_change maps mid rest m s h = rw (s.before_is, s.after_is) (shared_first s.shared mid.before
-    mid.after [] (subst IsMap s.before_is m.0) (subst IsMap s.after_is m.1)
-    (rw (h.0, h.1) differ_nowhere))
+    TakesLeast mid None None rest → IsEnd maps rest
+no_change maps mid rest m s h = record {
+  same = rw (s.before_is, s.after_is) (shared_first s.shared mid.before
+      mid.after [] (subst IsMap s.before_is m.0) (subst IsMap s.after_is m.1)
+      (rw (h.0, h.1) differ_nowhere));
+  before_is = h.2;
+  after_is = h.3;
+}
 
 -- ---- what a comparison of values says
 

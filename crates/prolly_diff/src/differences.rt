@@ -1,10 +1,10 @@
 //! The walk over two trees.
-ghost use Rattle.std.specs.Prelude.{◌≡◌, [], MatchOption};
+ghost use Rattle.std.specs.Prelude.{◌≡◌, MatchOption};
 ghost use Rattle.std.specs.Option.{option_copied};
-ghost use Rattle.prolly_tree.specs.Difference.{IsDifference, IsMap};
+ghost use Rattle.prolly_tree.specs.Difference.{IsMap};
 ghost use Rattle.prolly_check.specs.Content.{Content};
 ghost use Rattle.prolly_check.specs.Verdict.{IsFileOf};
-ghost use Rattle.prolly_diff.specs.Walk.{IsFirstChange};
+ghost use Rattle.prolly_diff.specs.Walk.{IsEnd, IsFirstChange};
 
 use crate::change::Change;
 use crate::least::take_least;
@@ -49,9 +49,10 @@ impl<'a> Differences<'a> {
         }
     }
 
-    /// The next change, or none where the rest of both maps is the same.
+    /// The next change, or none where the rest of both maps is the same. Behind that nothing is left
+    /// of either, so there is none at each further call.
     pub fn next(&mut self) -> Option<Change<'a>>
-        ensures { MatchOption result (IsDifference self.old.before self.old.after [])
+        ensures { MatchOption result (IsEnd self.old self.new)
             (λ change. IsFirstChange self.old change.key.now (option_copied change.before)
             (option_copied change.after) self.new) }
     {
@@ -62,7 +63,9 @@ impl<'a> Differences<'a> {
 /// The next change between two sides.
 fn next_change<'a>(before: &mut Side<'a>, after: &mut Side<'a>) -> Option<Change<'a>>
     requires { IsMap before.old × IsMap after.old }
-    ensures change { MatchOption result (IsDifference before.old after.old [])
+    ensures change { MatchOption result (IsEnd
+        (record { before = before.old; after = after.old })
+        (record { before = before.new; after = after.new }))
         (λ change. IsFirstChange (record { before = before.old; after = after.old })
         change.key.now (option_copied change.before) (option_copied change.after)
         (record { before = before.new; after = after.new })) }

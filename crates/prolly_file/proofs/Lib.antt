@@ -10,3 +10,7 @@ pub mod Rises
 pub mod TreeChunks
 -- Bytes that are read behind the first ones of a buffer.
 pub mod Fronts
+-- Reads that are served from a block of a device.
+pub mod BlockReads
+-- A buffer that is filled part by part.
+pub mod Filled

@@ -12,6 +12,8 @@ pub mod Source
 pub mod Device
 -- What a clause reads of a `FromRead`.
 pub mod FromRead
+-- Readers of std that seek.
+pub mod ReadSeek
 -- What a contract sees of a sink, and what a write does to the bytes that it took.
 pub mod Sink
 -- What comes of writing bytes to a sink.

@@ -1,14 +1,20 @@
 -- What a contract sees of a sink, and what a write does to the bytes that it took.
-use Rattle.std.specs.Prelude.{◌≡◌, ℕ, ◌<◌, Bool, List, ◌++◌, length, take, Result, MatchResult}
+use Rattle.std.specs.Prelude.{◌≡◌, ℕ, ◌<◌, Bool, true, List, ◌++◌, length, take, Result, MatchResult}
 use Rattle.prolly_entry.specs.Prefix.{IsPrefix}
 use Rattle.prolly_file.specs.Failures.{after_failure}
 
 -- What a contract sees of a sink: whether it keeps the bytes that it takes, those that it took so
--- far, and how many of its calls failed, modulo 2 ^ 64.
+-- far, those of them that are where they end up, behind every buffer, and how many of its calls
+-- failed, modulo 2 ^ 64.
 pub record SinkView : Type 0 where
   pub is_keeping : Bool
   pub taken : List ℕ
+  pub settled : List ℕ
   pub failures : ℕ
+
+-- Where a sink keeps what it takes, it holds none of it back.
+abbrev pub IsSettled : SinkView → Type 0
+IsSettled sink = sink.is_keeping ≡ true → sink.settled ≡ sink.taken
 
 -- A write that gave `Ok(n)` took the first n bytes of the slice. A failed write took none.
 abbrev pub Takes : {E : Type 0} → List ℕ → List ℕ → Result ℕ E → List ℕ → Type 0

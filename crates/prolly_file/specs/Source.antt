@@ -16,3 +16,9 @@ abbrev pub HandsOut : {E : Type 0} → List ℕ → List ℕ → Result ℕ E �
 HandsOut old new result buf =
     MatchResult result (λ n. (old ≡ take n buf ++ new) × (n ≡ 0 → 0 < length buf → new ≡ []))
     (λ _. new ≡ old)
+
+-- Of the bytes that were left before, fewer than so many were handed out, and the others are left.
+pub record HandedOutFewer (size : ℕ) (old new : List ℕ) : Type 0 where
+  pub given : List ℕ
+  pub are : old ≡ given ++ new
+  pub few : length given < size

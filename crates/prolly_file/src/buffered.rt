@@ -1,8 +1,8 @@
 //! A sink that gathers small writes.
-ghost use Rattle.std.specs.Prelude.{◌≡◌, ◌≤◌, true, false, [], length, vec_len, IsErr, IfOk, OnOk};
-ghost use Rattle.std.specs.Prelude.{OnErr};
+ghost use Rattle.std.specs.Prelude.{◌≡◌, ◌≤◌, ◌<◌, ◌↔◌, ◌+◌, true, false, [], length, vec_len};
+ghost use Rattle.std.specs.Prelude.{◌-◌, vec_capacity, IsErr, IfOk, OnOk};
 ghost use Rattle.prolly_file.specs.Failures.{CountsFailure, after_failure};
-ghost use Rattle.prolly_file.specs.Sink.{Takes, CountsWriteFailure};
+ghost use Rattle.prolly_file.specs.Sink.{Takes, CountsWriteFailure, IsSettled};
 
 use crate::sink::{Sink, SinkFault};
 use std::alloc::{AllocError, Global};
@@ -27,7 +27,7 @@ pub struct Buffered<W> {
 }
 
 impl<W: Sink + Drop> Buffered<W> {
-    ghost use Rattle.prolly_file.specs.Buffered.{has_failed, sink_of};
+    ghost use Rattle.prolly_file.specs.Buffered.{has_failed, room_of, sink_of, size_of};
 
     /// A buffer of at least so many bytes before the sink. This is all the memory that it takes.
     pub fn with_capacity(alloc: Global, capacity: usize, sink: W) -> Result<Buffered<W>, AllocError>
@@ -35,10 +35,14 @@ impl<W: Sink + Drop> Buffered<W> {
             (⟦<Buffered<W> as Sink>⟧.seen buffer).taken ≡ (W.seen sink).taken) }
         ensures keeping { IfOk result (λ buffer.
             (⟦<Buffered<W> as Sink>⟧.seen buffer).is_keeping ≡ (W.seen sink).is_keeping) }
+        ensures settled { IfOk result (λ buffer.
+            (⟦<Buffered<W> as Sink>⟧.seen buffer).settled ≡ (W.seen sink).settled) }
         ensures failures { IfOk result (λ buffer.
             (⟦<Buffered<W> as Sink>⟧.seen buffer).failures ≡ 0) }
         ensures sink { IfOk result (λ buffer. (sink_of buffer ≡ sink) ×
             (has_failed buffer ≡ false)) }
+        ensures room { IfOk result (λ buffer. (capacity ≤ room_of buffer) ×
+            (room_of buffer ≡ size_of buffer)) }
     {
         Ok(Buffered {
             sink,
@@ -51,7 +55,7 @@ impl<W: Sink + Drop> Buffered<W> {
 }
 
 impl<W: Sink> Buffered<W> {
-    ghost use Rattle.prolly_file.specs.Buffered.{has_failed, sink_of, HandsOn, Passes};
+    ghost use Rattle.prolly_file.specs.Buffered.{sink_of, HandsOn, Holds, Passes};
 
     /// The sink behind the buffer.
     pub fn sink(&self) -> &W
@@ -87,6 +91,16 @@ impl<W: Sink> Buffered<W> {
         }
     }
 
+    /// Keeps bytes for which there is room.
+    fn hold(&mut self, buf: &[u8])
+        requires { length buf.now ≤ vec_capacity self.old.held - vec_len self.old.held }
+        ensures { Holds self.old self.new buf.now }
+    {
+        let Ok(()) = self.held.extend_from_slice(buf) else {
+            unreachable!();
+        };
+    }
+
     /// Notes that a call failed.
     fn failed(&mut self) -> SinkFault
         ensures { self.new ≡ record self.old {
@@ -101,7 +115,8 @@ impl<W: Sink> Buffered<W> {
 }
 
 impl<W: Sink> Sink for Buffered<W> {
-    ghost use Rattle.prolly_file.specs.Buffered.{bytes_taken, has_failed, seen_before, sink_of};
+    ghost use Rattle.prolly_file.specs.Buffered.{bytes_taken, has_failed, room_of, seen_before};
+    ghost use Rattle.prolly_file.specs.Buffered.{sink_of, size_of, FailsWithSink, IsHeld};
 
     ghost seen = { seen_before W.seen };
 
@@ -113,10 +128,19 @@ impl<W: Sink> Sink for Buffered<W> {
             (W.seen (sink_of self.new)).is_keeping ≡ true }
         ensures failures { CountsWriteFailure self.old.failures self.new.failures result buf.now }
 
-        // After a fault the other sink is left alone.
-        ensures failed { OnErr result (has_failed self.new ≡ true) }
-        ensures faulty { has_failed self.old ≡ true → IsErr result × (has_failed self.new ≡ true) }
+        // It fails where the other sink does, and leaves that alone from then on.
+        ensures cause { has_failed self.old ≡ false →
+            FailsWithSink W.seen self.old self.new result }
+        ensures failed { IsErr result ↔ (has_failed self.new ≡ true) }
+        ensures faulty { has_failed self.old ≡ true → IsErr result }
         ensures alone { has_failed self.old ≡ true → sink_of self.new ≡ sink_of self.old }
+
+        // What there is room for is held back; else what was held is handed on.
+        ensures held { has_failed self.old ≡ false → length buf.now < room_of self.old →
+            IsHeld self.old self.new result buf.now }
+        ensures emptied { room_of self.old < length buf.now →
+            OnOk result (size_of self.old ≤ room_of self.new + length buf.now) }
+        ensures size { OnOk result (size_of self.old ≤ size_of self.new) }
     {
         if self.has_failed {
             return Err(self.failed());
@@ -127,10 +151,8 @@ impl<W: Sink> Sink for Buffered<W> {
         if buf.len() >= self.held.capacity() {
             return self.pass(buf);
         }
-        match self.held.extend_from_slice(buf) {
-            Ok(()) => Ok(buf.len()),
-            Err(_) => unreachable!(),
-        }
+        self.hold(buf);
+        Ok(buf.len())
     }
 
     /// Hands on all that is held, and flushes the other sink.
@@ -141,14 +163,21 @@ impl<W: Sink> Sink for Buffered<W> {
             (W.seen (sink_of self.new)).is_keeping ≡ true }
         ensures failures { CountsFailure self.old.failures self.new.failures result }
 
-        // The other sink has all that was taken.
+        // The other sink has all that was taken, and holds none of it back.
         ensures through { (W.seen (sink_of self.old)).is_keeping ≡ true →
             OnOk result ((W.seen (sink_of self.new)).taken ≡ bytes_taken W.seen self.new) }
+        ensures settled { OnOk result (IsSettled (seen_before W.seen self.new)) }
 
-        // After a fault the other sink is left alone.
-        ensures failed { OnErr result (has_failed self.new ≡ true) }
-        ensures faulty { has_failed self.old ≡ true → IsErr result × (has_failed self.new ≡ true) }
+        // It fails where the other sink does, and leaves that alone from then on.
+        ensures cause { has_failed self.old ≡ false →
+            FailsWithSink W.seen self.old self.new result }
+        ensures failed { IsErr result ↔ (has_failed self.new ≡ true) }
+        ensures faulty { has_failed self.old ≡ true → IsErr result }
         ensures alone { has_failed self.old ≡ true → sink_of self.new ≡ sink_of self.old }
+
+        // Nothing is held.
+        ensures room { OnOk result ((room_of self.new ≡ size_of self.old) ×
+            (size_of self.new ≡ size_of self.old)) }
     {
         if self.has_failed {
             return Err(self.failed());

@@ -1,6 +1,7 @@
 //! The first bytes of a source.
-ghost use Rattle.std.specs.Prelude.{◌≡◌, ◌≤◌, ◌++◌, true, length, take, IfOk, IsOk};
+ghost use Rattle.std.specs.Prelude.{◌≡◌, ◌≤◌, ◌++◌, true, length, take, IfOk, IsOk, OnErr};
 ghost use Rattle.prolly_file.specs.Failures.{CountsFailure};
+ghost use Rattle.prolly_file.specs.Source.{HandedOutFewer};
 
 use crate::source::{Source, SourceFault};
 
@@ -17,6 +18,8 @@ pub fn take_front<S: Source>(source: &mut S, front: &mut [u8]) -> Result<usize, 
         take count front.new ++ (S.seen source.new).left ≡ (S.seen source.old).left) }
     ensures first { (S.seen source.old).is_honest ≡ true → IfOk result (λ count.
         take count front.new ≡ take (length front.old) (S.seen source.old).left) }
+    ensures fewer { (S.seen source.old).is_honest ≡ true → OnErr result
+        (HandedOutFewer (length front.old) (S.seen source.old).left (S.seen source.new).left) }
     ensures failures { CountsFailure (S.seen source.old).failures
         (S.seen source.new).failures result }
     ensures honest { (S.seen source.old).is_honest ≡ true → (S.seen source.new).is_honest ≡ true }

@@ -1,6 +1,7 @@
 //! The devices that bytes come from and go to, and the writer of chunk files.
 #![tactic(auto)]
 
+mod block_device;
 mod buffered;
 mod countdown;
 mod device;
@@ -10,6 +11,7 @@ mod from_seek;
 mod front;
 mod levels;
 mod plain;
+mod read_seek;
 mod rejoined;
 mod script_device;
 mod script_sink;
@@ -22,6 +24,7 @@ mod whole;
 mod whole_file;
 mod writer;
 
+pub use block_device::Blocks;
 pub use buffered::Buffered;
 pub use device::Device;
 pub use frame::{end_record, frame_start};
@@ -29,6 +32,7 @@ pub use from_read::FromRead;
 pub use from_seek::FromSeek;
 pub use front::take_front;
 pub use plain::{ScratchFault, scratch, scratch_as};
+pub use read_seek::ReadSeek;
 pub use rejoined::Rejoined;
 pub use script_device::ScriptDevice;
 pub use script_sink::ScriptSink;

@@ -57,7 +57,12 @@ impl ScriptSink {
 }
 
 impl Sink for ScriptSink {
-    ghost seen = { λ s. record { is_keeping = true; taken = s.taken; failures = s.failures } };
+    ghost seen = { λ s. record {
+      is_keeping = true;
+      taken = s.taken;
+      settled = s.taken;
+      failures = s.failures;
+    } };
 
     fn write(&mut self, buf: &[u8]) -> Result<usize, SinkFault>
         ensures bound { IfOk result (λ n. n ≤ length buf.now) }

@@ -1,7 +1,7 @@
 //! What takes bytes.
-ghost use Rattle.std.specs.Prelude.{◌≡◌, ◌≤◌, true, length, IfOk};
+ghost use Rattle.std.specs.Prelude.{◌≡◌, ◌≤◌, true, length, IfOk, OnOk};
 ghost use Rattle.prolly_file.specs.Failures.{CountsFailure};
-ghost use Rattle.prolly_file.specs.Sink.{SinkView, Takes, CountsWriteFailure};
+ghost use Rattle.prolly_file.specs.Sink.{SinkView, Takes, CountsWriteFailure, IsSettled};
 
 /// A write or a flush that failed.
 #[derive(Clone, Copy, Debug, PartialEq, Eq)]
@@ -9,8 +9,9 @@ pub struct SinkFault;
 
 /// What takes bytes, a part at a time.
 pub trait Sink {
-    /// What a contract sees of it: whether it keeps the bytes that it takes, which these are, and
-    /// how many of its calls failed. A write that takes none of some bytes has failed too.
+    /// What a contract sees of it: whether it keeps the bytes that it takes, which these are, which
+    /// of them it does not hold back, and how many of its calls failed. A write that takes none of
+    /// some bytes has failed too.
     ghost seen: { Self → SinkView };
 
     /// Takes bytes from the start of `buf`, and answers how many: as many as it likes, so a caller
@@ -23,11 +24,11 @@ pub trait Sink {
         ensures failures { CountsWriteFailure (seen self.old).failures
             (seen self.new).failures result buf.now };
 
-    /// Has the bytes that were taken written out, where the sink holds some of them back. No clause
-    /// can say that they are.
+    /// Has the bytes that were taken written out, where the sink holds some of them back.
     fn flush(&mut self) -> Result<(), SinkFault>
         ensures bytes { (seen self.old).is_keeping ≡ true →
             (seen self.new).taken ≡ (seen self.old).taken }
         ensures keeping { (seen self.old).is_keeping ≡ true → (seen self.new).is_keeping ≡ true }
+        ensures settled { OnOk result (IsSettled (seen self.new)) }
         ensures failures { CountsFailure (seen self.old).failures (seen self.new).failures result };
 }

@@ -1,6 +1,7 @@
 //! A writer of std as a sink.
 ghost use Rattle.std.specs.Prelude.{◌≡◌, is_some};
 ghost use Rattle.prolly_file.specs.Known.{known_bytes};
+ghost use Rattle.prolly_file.specs.Sink.{IsSettled};
 
 use crate::sink::{Sink, SinkFault};
 use crate::tries::write_again;
@@ -26,6 +27,7 @@ impl<W: Write> ToWrite<W> {
             (W.contents writer) }
         ensures taken { (⟦<ToWrite<W> as Sink>⟧.seen result).taken ≡ known_bytes
             (W.contents writer) }
+        ensures settled { IsSettled (⟦<ToWrite<W> as Sink>⟧.seen result) }
     {
         ToWrite {
             writer,

@@ -8,7 +8,7 @@ ghost use Rattle.prolly_file.specs.Writer.{Begins, next_count};
 ghost use Rattle.prolly_file.specs.Writes.{Writes};
 ghost use Rattle.prolly_file.specs.Failures.{CountsFailure};
 ghost use Rattle.prolly_file.specs.Frame.{framed};
-ghost use Rattle.prolly_file.specs.Sink.{TakesPrefix};
+ghost use Rattle.prolly_file.specs.Sink.{IsSettled, TakesPrefix};
 
 use crate::frame::{end_record, frame_start, header};
 use crate::sink::Sink;
@@ -114,6 +114,7 @@ impl FileWriter {
         ensures written { (W.seen sink.old).is_keeping ≡ true →
             OnOk result ((W.seen sink.new).taken
             ≡ (W.seen sink.old).taken ++ end_record root.now.0 self.chunks) }
+        ensures settled { OnOk result (IsSettled (W.seen sink.new)) }
         ensures part { (W.seen sink.old).is_keeping ≡ true →
             OnErr result (TakesPrefix ((W.seen sink.old).taken) ((W.seen sink.new).taken)
             (end_record root.now.0 self.chunks)) }
@@ -141,6 +142,7 @@ impl FileWriter {
 pub fn write_whole<W: Sink>(sink: &mut W, bytes: &[u8]) -> Result<(), WriteFault>
     ensures written { (W.seen sink.old).is_keeping ≡ true →
         OnOk result ((W.seen sink.new).taken ≡ (W.seen sink.old).taken ++ bytes.now) }
+    ensures settled { OnOk result (IsSettled (W.seen sink.new)) }
     ensures part { (W.seen sink.old).is_keeping ≡ true →
         OnErr result (TakesPrefix ((W.seen sink.old).taken) ((W.seen sink.new).taken) bytes.now) }
     ensures fault { IsErr result ↔ ((W.seen sink.new).failures ≢ (W.seen sink.old).failures) }

@@ -3,10 +3,12 @@ use crate::expect::expect_eq;
 use prolly_file::{Sink, SinkFault, Source, SourceFault};
 use std::process::Abort;
 
+mod blocks;
 mod buffers;
 mod chunk_files;
 mod plain;
 mod readers;
+mod script_devices;
 mod script_sinks;
 mod script_sources;
 mod whole;

@@ -11,4 +11,8 @@ mod expect;
 #[cfg(test)]
 mod files;
 #[cfg(test)]
+mod growths;
+#[cfg(test)]
 mod levels;
+#[cfg(test)]
+mod rooted;

@@ -13,6 +13,8 @@ mod Presence
 -- The subcommands as clap builds them, and what stands in the rows of each where clap takes the
 -- words.
 mod Shapes
+-- Where no two arguments of a level have one id, each is the one of its id.
+mod Sound
 -- Where clap takes the words, the walk over them did not stop at the subcommand `help`, which clap
 -- adds.
 mod Stops

@@ -24,11 +24,11 @@ use Rattle.prolly_line.proofs.Passes.{Each, HasPassed, none_in, wants_value}
 
 -- ---- rows that stay, and rows that are new
 
-or_true : (a b : Bool) → b ≡ true → (a || b) ≡ true
+pub or_true : (a b : Bool) → b ≡ true → (a || b) ≡ true
 or_true true b h = refl
 or_true false b h = h
 
-same_text : (t : Text) → bytes_eq t t ≡ true
+pub same_text : (t : Text) → bytes_eq t t ≡ true
 same_text t = (bytes_eq-Decides t t).1 refl
 
 -- a row stays where values join another row, or its own

@@ -6,6 +6,7 @@ use Rattle.clap.specs.Walk.{Row}
 use Rattle.clap.proofs.OnLiterals.{clap_on_literals}
 use Rattle.prolly_line.proofs.Levels.{level_at, number_at, shape_at, word_at}
 use Rattle.prolly_line.proofs.Passes.{Each, IsSound}
+use Rattle.prolly_line.proofs.Sound.{all_sound}
 use Rattle.prolly_line.specs.Accepted.{HasNumber, HasWord, IsAccepted}
 use Rattle.prolly_line.specs.Line.{build_line, check_line, diff_line, dump_line, explain_line}
 use Rattle.prolly_line.specs.Line.{get_line, nth_line, pack_line, program_line, prove_line}
@@ -34,10 +35,7 @@ pack_found = refl
 
 pack_sound : IsSoundShape pack_shape
 unfolding clap_on_literals pack_shape
-pack_sound = (
-  (refl, refl),
-  ((refl, refl), ((refl, refl), ((refl, refl), ((refl, refl), ((refl, refl), tt))))),
-)
+pack_sound = all_sound pack_shape.rules refl
 
 pub record TakesPack (rows : List Row) : Type 0 where
   pub out : HasWord (codes "out") rows
@@ -61,13 +59,7 @@ scratch_found = refl
 
 scratch_sound : IsSoundShape scratch_shape
 unfolding clap_on_literals scratch_shape
-scratch_sound = (
-  (refl, refl),
-  (
-    (refl, refl),
-    ((refl, refl), ((refl, refl), ((refl, refl), ((refl, refl), tt)))),
-  ),
-)
+scratch_sound = all_sound scratch_shape.rules refl
 
 pub record TakesScratch (rows : List Row) : Type 0 where
   pub bits : HasNumber (codes "bits") 0 24 rows
@@ -93,31 +85,7 @@ build_found = refl
 
 build_sound : IsSoundShape build_shape
 unfolding clap_on_literals build_shape
-build_sound = (
-  (refl, refl),
-  (
-    (refl, refl),
-    (
-      (refl, refl),
-      (
-        (refl, refl),
-        (
-          (refl, refl),
-          (
-            (refl, refl),
-            (
-              (refl, refl),
-              (
-                (refl, refl),
-                ((refl, refl), ((refl, refl), ((refl, refl), ((refl, refl), tt)))),
-              ),
-            ),
-          ),
-        ),
-      ),
-    ),
-  ),
-)
+build_sound = all_sound build_shape.rules refl
 
 pub record TakesBuild (rows : List Row) : Type 0 where
   pub bits : HasNumber (codes "bits") 0 24 rows
@@ -154,7 +122,7 @@ explain_found = refl
 
 explain_sound : IsSoundShape explain_shape
 unfolding clap_on_literals explain_shape
-explain_sound = ((refl, refl), ((refl, refl), ((refl, refl), tt)))
+explain_sound = all_sound explain_shape.rules refl
 
 pub record TakesExplain (rows : List Row) : Type 0 where
   pub file : HasWord (codes "file") rows
@@ -178,7 +146,7 @@ check_found = refl
 
 check_sound : IsSoundShape check_shape
 unfolding clap_on_literals check_shape
-check_sound = ((refl, refl), ((refl, refl), tt))
+check_sound = all_sound check_shape.rules refl
 
 pub record TakesCheck (rows : List Row) : Type 0 where
   pub file : HasWord (codes "file") rows
@@ -202,7 +170,7 @@ stat_found = refl
 
 stat_sound : IsSoundShape stat_shape
 unfolding clap_on_literals stat_shape
-stat_sound = ((refl, refl), ((refl, refl), ((refl, refl), ((refl, refl), tt))))
+stat_sound = all_sound stat_shape.rules refl
 
 pub record TakesStat (rows : List Row) : Type 0 where
   pub file : HasWord (codes "file") rows
@@ -226,10 +194,7 @@ get_found = refl
 
 get_sound : IsSoundShape get_shape
 unfolding clap_on_literals get_shape
-get_sound = (
-  (refl, refl),
-  ((refl, refl), ((refl, refl), ((refl, refl), ((refl, refl), ((refl, refl), tt))))),
-)
+get_sound = all_sound get_shape.rules refl
 
 pub record TakesGet (rows : List Row) : Type 0 where
   pub format : HasNumber (codes "format") 1 2 rows
@@ -257,13 +222,7 @@ scan_found = refl
 
 scan_sound : IsSoundShape scan_shape
 unfolding clap_on_literals scan_shape
-scan_sound = (
-  (refl, refl),
-  (
-    (refl, refl),
-    ((refl, refl), ((refl, refl), ((refl, refl), ((refl, refl), ((refl, refl), tt))))),
-  ),
-)
+scan_sound = all_sound scan_shape.rules refl
 
 pub record TakesScan (rows : List Row) : Type 0 where
   pub format : HasNumber (codes "format") 1 2 rows
@@ -293,10 +252,7 @@ nth_found = refl
 
 nth_sound : IsSoundShape nth_shape
 unfolding clap_on_literals nth_shape
-nth_sound = (
-  (refl, refl),
-  ((refl, refl), ((refl, refl), ((refl, refl), ((refl, refl), ((refl, refl), tt))))),
-)
+nth_sound = all_sound nth_shape.rules refl
 
 pub record TakesNth (rows : List Row) : Type 0 where
   pub format : HasNumber (codes "format") 1 2 rows
@@ -324,13 +280,7 @@ dump_found = refl
 
 dump_sound : IsSoundShape dump_shape
 unfolding clap_on_literals dump_shape
-dump_sound = (
-  (refl, refl),
-  (
-    (refl, refl),
-    ((refl, refl), ((refl, refl), ((refl, refl), ((refl, refl), ((refl, refl), tt))))),
-  ),
-)
+dump_sound = all_sound dump_shape.rules refl
 
 pub record TakesDump (rows : List Row) : Type 0 where
   pub file : HasWord (codes "file") rows
@@ -354,16 +304,7 @@ diff_found = refl
 
 diff_sound : IsSoundShape diff_shape
 unfolding clap_on_literals diff_shape
-diff_sound = (
-  (refl, refl),
-  (
-    (refl, refl),
-    (
-      (refl, refl),
-      ((refl, refl), ((refl, refl), ((refl, refl), ((refl, refl), ((refl, refl), tt))))),
-    ),
-  ),
-)
+diff_sound = all_sound diff_shape.rules refl
 
 pub record TakesDiff (rows : List Row) : Type 0 where
   pub old : HasWord (codes "old") rows
@@ -389,13 +330,7 @@ prove_found = refl
 
 prove_sound : IsSoundShape prove_shape
 unfolding clap_on_literals prove_shape
-prove_sound = (
-  (refl, refl),
-  (
-    (refl, refl),
-    ((refl, refl), ((refl, refl), ((refl, refl), ((refl, refl), ((refl, refl), tt))))),
-  ),
-)
+prove_sound = all_sound prove_shape.rules refl
 
 pub record TakesProve (rows : List Row) : Type 0 where
   pub file : HasWord (codes "file") rows
@@ -423,10 +358,7 @@ verify_found = refl
 
 verify_sound : IsSoundShape verify_shape
 unfolding clap_on_literals verify_shape
-verify_sound = (
-  (refl, refl),
-  ((refl, refl), ((refl, refl), ((refl, refl), ((refl, refl), ((refl, refl), tt))))),
-)
+verify_sound = all_sound verify_shape.rules refl
 
 pub record TakesVerify (rows : List Row) : Type 0 where
   pub root : HasWord (codes "root") rows

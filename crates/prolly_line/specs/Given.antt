@@ -57,10 +57,12 @@ HasFlag rows name = first_of name rows ≡ Some (codes "true")
 abbrev pub GivesFlag : List Row → Text → Bool → Type 0
 GivesFlag rows name on = IsTrue on ↔ HasFlag rows name
 
--- an output is written in this mode: each half of it is on where the words have its flag
+-- an output is written in this mode: each part of it is on where the words have its flag
 abbrev pub GivesMode : List Row → WriteMode → Type 0
 GivesMode rows mode =
-    GivesFlag rows (codes "atomic") mode.atomic × GivesFlag rows (codes "sync") mode.sync
+    GivesFlag rows (codes "atomic") mode.atomic
+    × GivesFlag rows (codes "sync") mode.sync
+    × GivesFlag rows (codes "force") mode.force
 
 -- keys and values are in this notation: as text where the words have `--text`, and else in
 -- hexadecimal

@@ -74,6 +74,9 @@ atomic_flag = flag (codes "atomic")
 abbrev pub sync_flag : Rule
 sync_flag = flag (codes "sync")
 
+abbrev pub force_flag : Rule
+force_flag = flag (codes "force")
+
 abbrev pub text_flag : Rule
 text_flag = flag (codes "text")
 
@@ -127,29 +130,32 @@ files_words = words_rule (codes "files")
 
 -- ---- subcommands
 
+-- the flags that say how an output is written
+abbrev pub with_mode : App → App
+with_mode app = with_rule (with_rule (with_rule app atomic_flag) sync_flag) force_flag
+
 -- `NAME [--text] [--root ROOT] [--format V] FILE`, a look-up in a file, or by a root that it trusts
 abbrev pub look_up_line : Text → App
 look_up_line name = with_rule (with_rule (with_rule (with_rule (new_app name) text_flag)
     root_option) format_option) file_word
 
--- `pack [--text] [--removals] [--atomic] [--sync] OUT`
+-- `pack [--text] [--removals] [--atomic] [--sync] [--force] OUT`
 abbrev pub pack_line : App
-pack_line = with_rule (with_rule (with_rule (with_rule (with_rule (new_app (codes "pack"))
-    text_flag) removals_flag) atomic_flag) sync_flag) out_word
+pack_line = with_rule (with_mode (with_rule (with_rule (new_app (codes "pack"))
+    text_flag) removals_flag)) out_word
 
--- `scratch [--bits Q] [--format V] [--out FILE] [--atomic] [--sync]`
+-- `scratch [--bits Q] [--format V] [--out FILE] [--atomic] [--sync] [--force]`
 abbrev pub scratch_line : App
-scratch_line = with_rule (with_rule (with_rule (with_rule (with_rule (new_app (codes "scratch"))
-    bits_option) format_option) out_option) atomic_flag) sync_flag
+scratch_line = with_mode (with_rule (with_rule (with_rule (new_app (codes "scratch"))
+    bits_option) format_option) out_option)
 
 -- `build [--bits Q] [--stages S] [--capacity C] [--max-records M] [--batch B] [--format V]
--- [--quiet] [--atomic] [--sync] OUT [FILES...]`
+-- [--quiet] [--atomic] [--sync] [--force] OUT [FILES...]`
 abbrev pub build_line : App
-build_line = with_rule (with_rule (with_rule (with_rule (with_rule
-    (with_rule (with_rule (with_rule (with_rule (with_rule (with_rule
+build_line = with_rule (with_rule (with_mode
+    (with_rule (with_rule (with_rule (with_rule (with_rule (with_rule (with_rule
     (new_app (codes "build")) bits_option) stages_option) capacity_option) max_records_option)
-    batch_option)
-    format_option) quiet_flag) atomic_flag) sync_flag) out_word) files_words
+    batch_option) format_option) quiet_flag)) out_word) files_words
 
 -- `explain [--text] FILE`
 abbrev pub explain_line : App
@@ -176,22 +182,20 @@ scan_line = with_rule (with_rule (look_up_line (codes "scan")) key_word) limit_w
 abbrev pub nth_line : App
 nth_line = with_rule (look_up_line (codes "nth")) n_word
 
--- `dump [--text] [--hex] [--atomic] [--sync] FILE [OUT]`
+-- `dump [--text] [--hex] [--atomic] [--sync] [--force] FILE [OUT]`
 abbrev pub dump_line : App
-dump_line = with_rule (with_rule (with_rule (with_rule (with_rule (with_rule
-    (new_app (codes "dump")) text_flag) hex_flag) atomic_flag) sync_flag) file_word)
-    optional_out_word
+dump_line = with_rule (with_rule (with_mode (with_rule (with_rule (new_app (codes "dump"))
+    text_flag) hex_flag)) file_word) optional_out_word
 
--- `diff [--text] [--stat] [--out FILE] [--atomic] [--sync] OLD NEW`
+-- `diff [--text] [--stat] [--out FILE] [--atomic] [--sync] [--force] OLD NEW`
 abbrev pub diff_line : App
-diff_line = with_rule (with_rule (with_rule (with_rule (with_rule (with_rule (with_rule
-    (new_app (codes "diff")) text_flag) stat_flag) out_option) atomic_flag) sync_flag) old_word)
-    new_word
+diff_line = with_rule (with_rule (with_mode (with_rule (with_rule (with_rule
+    (new_app (codes "diff")) text_flag) stat_flag) out_option)) old_word) new_word
 
--- `prove [--text] [--atomic] [--sync] FILE KEY OUT`
+-- `prove [--text] [--atomic] [--sync] [--force] FILE KEY OUT`
 abbrev pub prove_line : App
-prove_line = with_rule (with_rule (with_rule (with_rule (with_rule (with_rule
-    (new_app (codes "prove")) text_flag) atomic_flag) sync_flag) file_word) key_word) out_word
+prove_line = with_rule (with_rule (with_rule (with_mode (with_rule (new_app (codes "prove"))
+    text_flag)) file_word) key_word) out_word
 
 -- `verify [--text] [--format V] ROOT KEY [PROOF]`
 abbrev pub verify_line : App

@@ -1,7 +1,7 @@
 //! The options and words of the subcommands, each with the rule that clap reads it by.
 ghost use Rattle.prolly_line.specs.Line.{atomic_flag, batch_option, bits_option, capacity_option};
-ghost use Rattle.prolly_line.specs.Line.{file_word, files_words, flag, format_option, key_word};
-ghost use Rattle.prolly_line.specs.Line.{hex_flag, json_flag, limit_word, quiet_flag};
+ghost use Rattle.prolly_line.specs.Line.{file_word, files_words, flag, force_flag, format_option};
+ghost use Rattle.prolly_line.specs.Line.{hex_flag, json_flag, key_word, limit_word, quiet_flag};
 ghost use Rattle.prolly_line.specs.Line.{removals_flag};
 ghost use Rattle.prolly_line.specs.Line.{max_records_option, n_word, number_option, number_word};
 ghost use Rattle.prolly_line.specs.Line.{option_rule, optional_out_word, out_option, out_word};
@@ -135,13 +135,11 @@ pub(crate) fn root_option<'a>(alloc: Global) -> Arg<'a>
     )
 }
 
-/// `--atomic`
-pub(crate) fn atomic_flag<'a>(alloc: Global) -> Arg<'a>
+/// `--atomic`; `what` says for its help what it changes.
+pub(crate) fn atomic_flag<'a>(alloc: Global, what: &'a str) -> Arg<'a>
     ensures { IsReadBy atomic_flag result }
 {
-    flag(alloc, "atomic").help(
-        "Write a file beside the output, and put it in its place once it is whole",
-    )
+    flag(alloc, "atomic").help(what)
 }
 
 /// `--sync`
@@ -149,6 +147,13 @@ pub(crate) fn sync_flag<'a>(alloc: Global) -> Arg<'a>
     ensures { IsReadBy sync_flag result }
 {
     flag(alloc, "sync").help("Print the answer only once the output is on the disk")
+}
+
+/// `--force`
+pub(crate) fn force_flag<'a>(alloc: Global) -> Arg<'a>
+    ensures { IsReadBy force_flag result }
+{
+    flag(alloc, "force").help("Write over the output even where it is a file of another kind")
 }
 
 /// `--text`; `what` says for its help what is text then, and in place of what.

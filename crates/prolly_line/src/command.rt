@@ -16,10 +16,13 @@ use std::alloc::{AllocError, Global};
 /// How an output is written.
 #[derive(Clone, Copy, Debug, PartialEq, Eq)]
 pub struct WriteMode {
-    /// A file beside the output is written, and takes its place once it is whole.
+    /// A file beside the output is written, and takes its place once it is whole. A record file
+    /// and a proof are written so in any case.
     pub atomic: bool,
     /// The command is done only once the output is on the disk.
     pub sync: bool,
+    /// The output is written over even where it is a file of another kind.
+    pub force: bool,
 }
 
 /// What the program is asked to do. File names are the words as they stand. A notation is that of

@@ -15,7 +15,7 @@ use prolly_entry::Ref;
 use prolly_text::Notation;
 use std::alloc::Global;
 
-/// `pack [--text] [--removals] [--atomic] [--sync] OUT`
+/// `pack [--text] [--removals] [--atomic] [--sync] [--force] OUT`
 pub(crate) fn pack(alloc: Global, given: &ArgMatches<'_>) -> Result<Command, ParseFault>
     requires { IsAccepted (codes "pack", rows_in given.now) }
     ensures { Answers (codes "pack", rows_in given.now) result }
@@ -32,7 +32,7 @@ pub(crate) fn pack(alloc: Global, given: &ArgMatches<'_>) -> Result<Command, Par
     })
 }
 
-/// `scratch [--bits Q] [--format V] [--out FILE] [--atomic] [--sync]`
+/// `scratch [--bits Q] [--format V] [--out FILE] [--atomic] [--sync] [--force]`
 pub(crate) fn scratch(alloc: Global, given: &ArgMatches<'_>) -> Result<Command, ParseFault>
     requires { IsAccepted (codes "scratch", rows_in given.now) }
     ensures { Answers (codes "scratch", rows_in given.now) result }
@@ -50,7 +50,7 @@ pub(crate) fn scratch(alloc: Global, given: &ArgMatches<'_>) -> Result<Command, 
 }
 
 /// `build [--bits Q] [--stages S] [--capacity C] [--max-records M] [--batch B] [--format V]
-/// [--quiet] [--atomic] [--sync] OUT [FILES...]`
+/// [--quiet] [--atomic] [--sync] [--force] OUT [FILES...]`
 pub(crate) fn build(alloc: Global, given: &ArgMatches<'_>) -> Result<Command, ParseFault>
     requires { IsAccepted (codes "build", rows_in given.now) }
     ensures { Answers (codes "build", rows_in given.now) result }
@@ -185,7 +185,7 @@ pub(crate) fn nth(alloc: Global, given: &ArgMatches<'_>) -> Result<Command, Pars
     })
 }
 
-/// `dump [--text] [--hex] [--atomic] [--sync] FILE [OUT]`
+/// `dump [--text] [--hex] [--atomic] [--sync] [--force] FILE [OUT]`
 pub(crate) fn dump(alloc: Global, given: &ArgMatches<'_>) -> Result<Command, ParseFault>
     requires { IsAccepted (codes "dump", rows_in given.now) }
     ensures { Answers (codes "dump", rows_in given.now) result }
@@ -202,7 +202,7 @@ pub(crate) fn dump(alloc: Global, given: &ArgMatches<'_>) -> Result<Command, Par
     })
 }
 
-/// `diff [--text] [--stat] [--out FILE] [--atomic] [--sync] OLD NEW`
+/// `diff [--text] [--stat] [--out FILE] [--atomic] [--sync] [--force] OLD NEW`
 pub(crate) fn diff(alloc: Global, given: &ArgMatches<'_>) -> Result<Command, ParseFault>
     requires { IsAccepted (codes "diff", rows_in given.now) }
     ensures { Answers (codes "diff", rows_in given.now) result }
@@ -223,7 +223,7 @@ pub(crate) fn diff(alloc: Global, given: &ArgMatches<'_>) -> Result<Command, Par
     })
 }
 
-/// `prove [--text] [--atomic] [--sync] FILE KEY OUT`
+/// `prove [--text] [--atomic] [--sync] [--force] FILE KEY OUT`
 pub(crate) fn prove(alloc: Global, given: &ArgMatches<'_>) -> Result<Command, ParseFault>
     requires { IsAccepted (codes "prove", rows_in given.now) }
     ensures { Answers (codes "prove", rows_in given.now) result }

@@ -30,14 +30,19 @@ chunk file holds a whole tree, and so all pairs of a map.
 
 Keys have at most 1,024 bytes, values at most 65,536.
 
-A file that a command writes is made before the input is read, and what it held
-is gone; after a fault it holds no more than a first part. With --atomic a file
-beside it is written, under its name and `.0.tmp` (or the next number that is
-free), which takes its place once it is whole: after any fault the file is as it
-was. Only a run that is killed may leave the other one behind. With --sync the
-answer is printed once the file and its name are on the disk; without it, once
-the system has taken them, which a loss of power may undo. A file that is also
-an input is not written, but refused.",
+An output that is also an input is refused, and nothing is touched. So is one
+that is a file of another kind, unless --force is given: where it has bytes, it
+is to begin as what is to be written begins.
+
+A record file and a proof are written to a file beside the output, under its
+name and `.0.tmp` (or the next number that is free), which takes its place once
+it is whole: after a fault the output is as it was. A chunk file is written so
+with --atomic. Without it, what the output held is gone as soon as there is
+something to write, and after a fault behind that the output holds a first part.
+Only a run that is killed may leave a file beside the output.
+
+With --sync the answer is printed once the file and its name are on the disk;
+without it, once the system has taken them, which a loss of power may undo.",
     example: "Example, from two lines of text to a look-up:
   printf 'apple\\t3\\npear\\t5\\n' | prolly pack --text fruit.rec
   prolly build fruit.prl fruit.rec
@@ -68,9 +73,9 @@ away.
 
 Prints the number of records.
 
-OUT is made before the input is read. After a fault it is left empty; where
-writing it failed, with the first part of the record file; and where standard
-output alone failed, whole. With --atomic it is as it was, but for the last.",
+OUT is replaced once the record file is whole: after a fault it is as it was,
+but where standard output alone failed. An OUT that has bytes and does not begin
+as a record file does is refused, unless --force is given.",
     example: "Example: put 31 at 61, and take 62 away
   printf '61 31\\n62 -\\n' | prolly pack changes.rec",
 };
@@ -83,10 +88,11 @@ prints the text of its root.
 Equal contents give equal roots and equal chunk files, whether this command made
 them or `build` did, at equal --bits and --format.
 
-With --out, FILE is made before the input is read. After a fault it is left
-empty; where writing it failed, with the first part of the chunk file; and where
-standard output alone failed, whole. With --atomic it is as it was, but for the
-last.",
+With --out, FILE is opened before the input is read, and emptied once there is
+something to write: after a fault before that it is as it was. Where writing it
+failed, it holds the first part of the chunk file, or with --atomic what it
+held; where standard output alone failed, it is whole. A FILE that has bytes and
+does not begin as a chunk file does is refused, unless --force is given.",
     example: "Example:
   prolly scratch --out ab.prl < ab.rec",
 };
@@ -101,13 +107,16 @@ pair replaces the value, its removal takes the key away.
 
 Prints the text of the root and the numbers of chunks, pairs and levels.
 
-OUT comes first: `prolly build *.rec` takes the first of these files for OUT,
-and what it held is gone. An OUT that is among FILES is refused.
+OUT comes first: `prolly build *.rec` takes the first of these files for OUT. So
+an OUT that has bytes and does not begin as a chunk file does is refused, and
+where no FILES are given any OUT that has bytes, unless --force is given. An OUT
+that is among FILES is always refused.
 
-OUT is made once all files are open, before any is read. After a fault it holds
-no more than the first part of a chunk file, which `check` calls truncated; only
-where nothing but its line could not be made or printed is it whole. With
---atomic it is as it was, unless only standard output failed.
+OUT is opened once all files are, and emptied once there is something to write:
+after a fault before that it is as it was. After a later one it holds no more
+than the first part of a chunk file, which `check` calls truncated; only where
+nothing but its line could not be made or printed is it whole. With --atomic it
+is as it was, unless only standard output failed.
 
 No command reads a whole chunk file of more than 1,073,741,824 bytes, which
 about 28,200,000 records of 38 bytes make.
@@ -242,11 +251,10 @@ with --text a key, a tab and a value as text, of which `pack --text` makes the
 record file, and with --hex alone HEXKEY HEXVALUE, of which `pack` makes it.
 
 What is written goes to OUT, or to standard output where OUT is not given; then
---atomic and --sync say nothing. Nothing else is printed.
+--atomic, --sync and --force say nothing. Nothing else is printed.
 
-OUT is made once FILE is open, before it is read. After a fault it is left
-empty; where writing it failed, with the first part of what it was to hold. With
---atomic it is as it was.",
+OUT is replaced once what it is to hold is whole: after a fault it is as it was.
+An OUT that is a file of another kind is refused, unless --force is given.",
     example: "Example: the pairs of a tree, with the changes of a day, to the next tree
   prolly dump monday.prl monday.rec
   prolly build tuesday.prl monday.rec tuesday.rec",
@@ -260,8 +268,8 @@ first, as by `check`.
 
 Without --out these are lines that `pack` reads, `HEXKEY HEXVALUE` or, for a key
 that NEW lacks, `HEXKEY -`; with --text they are the lines that
-`pack --text --removals` reads. Then --atomic and --sync say nothing. With
---out, FILE is a record file of them, and nothing is printed. So `build` of
+`pack --text --removals` reads. Then --atomic, --sync and --force say nothing.
+With --out, FILE is a record file of them, and nothing is printed. So `build` of
 OLD's pairs and of that file makes NEW's tree again, at equal --bits and
 --format.
 
@@ -274,9 +282,9 @@ NEW.
 
 The exit status is 0 where the maps are equal, and 1 where they are not.
 
-FILE is made before the chunk files are read. After a fault it is left empty;
-where writing it failed, with the first part of the record file. With --atomic
-it is as it was.",
+FILE is replaced once the record file is whole: after a fault it is as it was. A
+FILE that has bytes and does not begin as a record file does is refused, unless
+--force is given.",
     example: "Example: the changes of a day, as a record file
   prolly diff monday.prl tuesday.prl --out changes.rec",
 };
@@ -292,9 +300,9 @@ With --text the key is taken as text, with the escapes of `pack --text`.
 
 Nothing is printed. The exit status is 0 also where FILE does not have the key.
 
-OUT is made once FILE is open, before it is read. After a fault it is left
-empty; where writing it failed, with the first part of the proof. With --atomic
-it is as it was.",
+OUT is replaced once the proof is whole: after a fault it is as it was. An OUT
+that has bytes and does not begin as a proof does is refused, unless --force is
+given.",
     example: "Example: a proof of what ab.prl has at the key of one byte, 61
   prolly prove ab.prl 61 61.proof",
 };

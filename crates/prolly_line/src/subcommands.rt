@@ -1,11 +1,10 @@
 //! The subcommands, each with the line that clap reads it by.
 ghost use Rattle.std.specs.Prelude.{IfOk};
 ghost use Rattle.clap.specs.Words.{App, Rule, with_rule};
-ghost use Rattle.prolly_line.specs.Line.{atomic_flag, sync_flag};
 ghost use Rattle.prolly_line.specs.Line.{build_line, check_line, diff_line, dump_line};
 ghost use Rattle.prolly_line.specs.Line.{explain_line, get_line, look_up_line, nth_line, pack_line};
 ghost use Rattle.prolly_line.specs.Line.{prove_line, scan_line, scratch_line, stat_line};
-ghost use Rattle.prolly_line.specs.Line.{verify_line};
+ghost use Rattle.prolly_line.specs.Line.{verify_line, with_mode};
 ghost use Rattle.prolly_line.specs.Local.{HasLine, IsReadBy};
 
 use crate::assembly::{described, with_argument};
@@ -29,16 +28,24 @@ const KEY_AND_VALUE: &str = "Take the key and print the value as text in place o
 // What `--text` says where keys are printed.
 const SHOWN_KEYS: &str = "Print keys as text in place of hexadecimal";
 
-// Adds the flags that say how the output is written.
+// What `--atomic` says where a chunk file is made.
+const ASIDE: &str = "Write a file beside the output, and put it in its place once it is whole";
+
+// What `--atomic` says where this is done without it.
+const ALWAYS_ASIDE: &str = "Change nothing: the output is always put in its place once it is whole";
+
+// Adds the flags that say how the output is written; `atomic` is what `--atomic` says.
 fn with_mode<'a>(
     alloc: Global,
     line: Result<Command<'a>, AllocError>,
+    atomic: &'a str,
 ) -> Result<Command<'a>, AllocError>
     ensures { (app : App) → IfOk line.entry (HasLine app)
-        → IfOk result (HasLine (with_rule (with_rule app atomic_flag) sync_flag)) }
+        → IfOk result (HasLine (with_mode app)) }
 {
-    let line = with_argument(line, arguments::atomic_flag(alloc));
-    with_argument(line, arguments::sync_flag(alloc))
+    let line = with_argument(line, arguments::atomic_flag(alloc, atomic));
+    let line = with_argument(line, arguments::sync_flag(alloc));
+    with_argument(line, arguments::force_flag(alloc))
 }
 
 // `NAME [--text] [--root ROOT] [--format V] FILE SOUGHT`, a look-up in a file, or by a root that it
@@ -64,7 +71,7 @@ fn look_up_line<'a>(
     with_argument(line, sought)
 }
 
-/// `pack [--text] [--removals] [--atomic] [--sync] OUT`
+/// `pack [--text] [--removals] [--atomic] [--sync] [--force] OUT`
 pub(crate) fn pack_line<'a>(alloc: Global) -> Result<Command<'a>, AllocError>
     ensures { IfOk result (HasLine pack_line) }
 {
@@ -73,11 +80,12 @@ pub(crate) fn pack_line<'a>(alloc: Global) -> Result<Command<'a>, AllocError>
         "Read lines KEY, tab, VALUE of text in place of hexadecimal",
     );
     let line = described(alloc, "pack", help::PACK).arg(text);
-    let line = with_mode(alloc, with_argument(line, arguments::removals_flag(alloc)));
+    let line = with_argument(line, arguments::removals_flag(alloc));
+    let line = with_mode(alloc, line, ALWAYS_ASIDE);
     with_argument(line, arguments::out_word(alloc, "The record file to make"))
 }
 
-/// `scratch [--bits Q] [--format V] [--out FILE] [--atomic] [--sync]`
+/// `scratch [--bits Q] [--format V] [--out FILE] [--atomic] [--sync] [--force]`
 pub(crate) fn scratch_line<'a>(alloc: Global) -> Result<Command<'a>, AllocError>
     ensures { IfOk result (HasLine scratch_line) }
 {
@@ -85,11 +93,11 @@ pub(crate) fn scratch_line<'a>(alloc: Global) -> Result<Command<'a>, AllocError>
     let line = with_argument(line, arguments::format_option(alloc, WRITTEN_FORMAT));
     let out = arguments::out_option(alloc, "Write the tree to FILE, a chunk file");
     let line = with_argument(line, out);
-    with_mode(alloc, line)
+    with_mode(alloc, line, ASIDE)
 }
 
 /// `build [--bits Q] [--stages S] [--capacity C] [--max-records M] [--batch B] [--format V]
-/// [--quiet] [--atomic] [--sync] OUT [FILES...]`
+/// [--quiet] [--atomic] [--sync] [--force] OUT [FILES...]`
 pub(crate) fn build_line<'a>(alloc: Global) -> Result<Command<'a>, AllocError>
     ensures { IfOk result (HasLine build_line) }
 {
@@ -100,7 +108,7 @@ pub(crate) fn build_line<'a>(alloc: Global) -> Result<Command<'a>, AllocError>
     let line = with_argument(line, arguments::batch_option(alloc));
     let line = with_argument(line, arguments::format_option(alloc, WRITTEN_FORMAT));
     let line = with_argument(line, arguments::quiet_flag(alloc));
-    let line = with_mode(alloc, line);
+    let line = with_mode(alloc, line, ASIDE);
     let line = with_argument(line, arguments::out_word(alloc, "The chunk file to make"));
     with_argument(line, arguments::files_words(alloc))
 }
@@ -134,20 +142,21 @@ pub(crate) fn stat_line<'a>(alloc: Global) -> Result<Command<'a>, AllocError>
     )
 }
 
-/// `dump [--text] [--hex] [--atomic] [--sync] FILE [OUT]`
+/// `dump [--text] [--hex] [--atomic] [--sync] [--force] FILE [OUT]`
 pub(crate) fn dump_line<'a>(alloc: Global) -> Result<Command<'a>, AllocError>
     ensures { IfOk result (HasLine dump_line) }
 {
     let text = arguments::text_flag(alloc, DUMPED_TEXT);
     let line = described(alloc, "dump", help::DUMP).arg(text);
-    let line = with_mode(alloc, with_argument(line, arguments::hex_flag(alloc)));
+    let line = with_argument(line, arguments::hex_flag(alloc));
+    let line = with_mode(alloc, line, ALWAYS_ASIDE);
     with_argument(
         with_argument(line, arguments::file_word(alloc, CHUNK_FILE)),
         arguments::optional_out_word(alloc),
     )
 }
 
-/// `diff [--text] [--stat] [--out FILE] [--atomic] [--sync] OLD NEW`
+/// `diff [--text] [--stat] [--out FILE] [--atomic] [--sync] [--force] OLD NEW`
 pub(crate) fn diff_line<'a>(alloc: Global) -> Result<Command<'a>, AllocError>
     ensures { IfOk result (HasLine diff_line) }
 {
@@ -162,7 +171,7 @@ pub(crate) fn diff_line<'a>(alloc: Global) -> Result<Command<'a>, AllocError>
     );
     let line = described(alloc, "diff", help::DIFF).arg(text);
     let line = with_argument(line, arguments::stat_flag(alloc));
-    let line = with_mode(alloc, with_argument(line, out));
+    let line = with_mode(alloc, with_argument(line, out), ALWAYS_ASIDE);
     with_argument(with_argument(line, old), new)
 }
 
@@ -192,12 +201,13 @@ pub(crate) fn nth_line<'a>(alloc: Global) -> Result<Command<'a>, AllocError>
     look_up_line(alloc, "nth", help::NTH, text, arguments::n_word(alloc))
 }
 
-/// `prove [--text] [--atomic] [--sync] FILE KEY OUT`
+/// `prove [--text] [--atomic] [--sync] [--force] FILE KEY OUT`
 pub(crate) fn prove_line<'a>(alloc: Global) -> Result<Command<'a>, AllocError>
     ensures { IfOk result (HasLine prove_line) }
 {
     let text = arguments::text_flag(alloc, "Take the key as text in place of hexadecimal");
-    let line = with_mode(alloc, described(alloc, "prove", help::PROVE).arg(text));
+    let line = described(alloc, "prove", help::PROVE).arg(text);
+    let line = with_mode(alloc, line, ALWAYS_ASIDE);
     let line = with_argument(line, arguments::file_word(alloc, CHUNK_FILE));
     let line = with_argument(line, arguments::key_word(alloc));
     with_argument(line, arguments::out_word(alloc, "The proof to make"))

@@ -87,6 +87,7 @@ pub(crate) fn mode_of(given: &ArgMatches<'_>) -> WriteMode
     WriteMode {
         atomic: flag_of(given, "atomic"),
         sync: flag_of(given, "sync"),
+        force: flag_of(given, "force"),
     }
 }
 

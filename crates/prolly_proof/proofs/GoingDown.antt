@@ -10,10 +10,10 @@ use Rattle.prolly_check.specs.Checked.{chunks_of}
 use Rattle.prolly_check.specs.Content.{Content}
 use Rattle.prolly_check.specs.Descent.{ChildIsTree, IsTreeOf, RootIsTree, TopIsRead, child_of}
 use Rattle.prolly_check.specs.Descent.{entries_below}
-use Rattle.prolly_check.specs.Entries.{Child, behind_child, children_in, entries_up_to, first_child}
+use Rattle.prolly_check.specs.Entries.{Child}
 use Rattle.prolly_check.specs.Kinds.{kind_of}
 use Rattle.prolly_check.specs.Verdict.{IsFileOf}
-use Rattle.prolly_check.specs.Way.{IsNamed, IsOrdered, level_of}
+use Rattle.prolly_check.specs.Way.{IsOrdered, level_of}
 use Rattle.prolly_check.specs.declared.entries.Entries.{Entries}
 use Rattle.prolly_check.specs.declared.entries.Entries.TheVariants.{Node}
 use Rattle.prolly_entry.specs.Cut.{sha512_cut}
@@ -87,28 +87,6 @@ leaf_node content leaf children e = cc
 same_children : (xs ys : List Child) → ◌≡◌ {A = Entries} (Node xs) (Node ys) → xs ≡ ys
 same_children xs ys e = cc
 
-few_up_to : {A : Type 0} (first : List ℕ → A) (behind : List ℕ → List ℕ) (n : ℕ)
-    (bytes : List ℕ) → length (entries_up_to first behind n bytes) ≤ n
-few_up_to first behind zero bytes = omega arith
-few_up_to first behind (suc n) [] = omega arith
-few_up_to first behind (suc n) (b ∷ bytes) =
-    omega (arith, few_up_to first behind n (behind (b ∷ bytes)))
-
-few_entries : (version : Version) (entries : List ℕ) →
-    length (children_in version entries) ≤ length entries
-unfolding children_in
-few_entries version entries =
-    few_up_to (first_child version) (behind_child version) (length entries) entries
-
--- a chunk has no more children than bytes
-pub few_children : (version : Version) (chunk : List ℕ) (children : List Child) →
-    ◌≡◌ {A = Entries} (Node children) (kind_of version chunk) → length children ≤ length chunk
-few_children version [] children node = cc
-few_children version (zero ∷ entries) children node = cc
-few_children version (suc level ∷ entries) children node =
-    let same = same_children children (children_in version entries) node in
-    omega (arith, ap length same, few_entries version entries)
-
 pub node_level : (version : Version) (chunk : List ℕ) (children : List Child) →
     ◌≡◌ {A = Entries} (Node children) (kind_of version chunk) → 0 < level_of chunk
 node_level version [] children node = cc
@@ -175,12 +153,12 @@ module _ (content : Content) (size : ℕ)
 
     -- the chunk in this place is the one that is due
     pub is_due : (version : Version) → version ≡ content.version →
-        IsNamed version reference chunk
-    is_due version same = record {
-      is = ap reference_of is ∙ sym at.named;
-      ordered = subst (λ v. IsOrdered v chunk) (sym same) (subst (IsOrdered content.version)
-          (sym is) (read content.version (chunks_of content) at.level at.t at.below).0);
-    }
+        (reference_of chunk ≡ reference) × IsOrdered version chunk
+    is_due version same = (
+      ap reference_of is ∙ sym at.named,
+      subst (λ v. IsOrdered v chunk) (sym same) (subst (IsOrdered content.version)
+          (sym is) (read content.version (chunks_of content) at.level at.t at.below).0),
+    )
 
 -- ---- at the root
 

@@ -18,3 +18,5 @@ pub mod Walking
 pub mod GoingDown
 -- What is kept of the frames below a chunk.
 pub mod Keeping
+-- Going on among the children of a node from where a look-up came to before.
+pub mod Marks

@@ -1,12 +1,14 @@
 -- What leads a look-up by a root, in the words of each kind of look-up.
 use Rattle.std.proofs.Common.{◌≡◌, ℕ, List, [], ◌∷◌, ◌++◌, Option, Some, None, refl, sym, ap, ◌∙◌}
-use Rattle.std.proofs.Common.{subst, Bor}
+use Rattle.std.proofs.Common.{subst, take, Bor}
+use Rattle.std.proofs.Math.Seq.{take-nil}
 use Rattle.std.specs.Prelude.{option_map}
 use Rattle.prolly_check.specs.Children.{child_for, child_with}
 use Rattle.prolly_check.specs.CountWay.{CountEnds, CountLead, CountsOn, IsCountWay}
 use Rattle.prolly_check.specs.CountWay.{reference_and_number}
 use Rattle.prolly_check.specs.Entries.{Child}
 use Rattle.prolly_check.specs.Kinds.{kind_of}
+use Rattle.prolly_check.specs.Leaves.{pairs_from}
 use Rattle.prolly_check.specs.ScanWay.{EndsWithPairs}
 use Rattle.prolly_check.specs.Way.{EndsWith, IsNamed, IsWayTo, Lead, LeadsOn}
 use Rattle.prolly_check.specs.declared.entries.Entries.{Entries}
@@ -151,11 +153,25 @@ pub value_ends : (key : Bor (List ℕ)) (entries : Entries) (value : Option (Lis
 value_ends key (Leaf pairs) value ends tells = tells
 value_ends key (Node children) value ends tells = (no_child key children ends, tells)
 
-pub pairs_end : (key : Bor (List ℕ)) (entries : Entries) (found : List Pair) →
-    EndsFor (Key key) entries → TellPairs key.now entries found →
-    EndsWithPairs key.now entries found
-pairs_end key (Leaf pairs) found ends tell = tell
-pairs_end key (Node children) found ends tell = (no_child key children ends, tell)
+-- all pairs that are found there, of which these are the first
+pub record FoundThere (key : Bor (List ℕ)) (most : ℕ) (entries : Entries) (pairs : List Pair)
+    : Type 0 where
+  pub found : List Pair
+  pub ends : EndsFor (Key key) entries → EndsWithPairs key.now entries found
+  pub are : pairs ≡ take most found
+
+pub pairs_end : (key : Bor (List ℕ)) (most : ℕ) (entries : Entries) (pairs : List Pair) →
+    TellPairs key.now most entries pairs → FoundThere key most entries pairs
+pairs_end key most (Leaf held) pairs tell = record {
+  found = pairs_from key.now held;
+  ends = λ ends. refl;
+  are = tell;
+}
+pairs_end key most (Node children) pairs tell = record {
+  found = [];
+  ends = λ ends. (no_child key children ends, refl);
+  are = tell ∙ sym (take-nil most);
+}
 
 pair_ends : (n : ℕ) (entries : Entries) (pair : Option Pair) → EndsFor (Place n) entries →
     TellsPair n entries pair → CountEnds n entries pair

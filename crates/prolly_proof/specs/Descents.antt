@@ -69,6 +69,13 @@ AnswersLawful device version root result = (content : Content) → HoldsFile dev
     root ≡ root_reference (sha512_cut content.bits) content.version content.pairs →
     IfErr result MayFail
 
+-- The same where no memory is taken: the only fault is that a read failed.
+abbrev pub ReadsLawful : {T : Type 0} → DeviceView → Version → List ℕ → Result T RootFault → Type 0
+ReadsLawful device version root result = (content : Content) → HoldsFile device content →
+    version ≡ content.version →
+    root ≡ root_reference (sha512_cut content.bits) content.version content.pairs →
+    IfErr result OnlyRead
+
 -- The place is that of the top of this tree of the file, and where the frames of the tree begin.
 pub record IsPlaceOf (content : Content) (level : ℕ) (t : Tree level) (size : ℕ) (place : Place)
     : Type 0 where

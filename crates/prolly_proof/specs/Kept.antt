@@ -7,6 +7,7 @@ use Rattle.prolly_entry.specs.declared.version.Version.{Version}
 use Rattle.prolly_tree.specs.Tree.{Tree}
 use Rattle.prolly_proof.specs.Descents.{IsPlaceOf, chunks_of_trees}
 use Rattle.prolly_proof.specs.Faults.{FallsTo}
+use Rattle.prolly_proof.specs.Sought.{IsMark}
 use Rattle.prolly_proof.specs.Walks.{IsFrameOf, StandsBehind, chunks_of_tree}
 use Rattle.prolly_proof.specs.declared.below.Passed.{Passed}
 use Rattle.prolly_proof.specs.declared.level.Due.{Due}
@@ -17,9 +18,10 @@ use Rattle.prolly_proof.specs.declared.walk.Walk.{Walk}
 
 -- ---- whatever the file is
 
--- The chunk has its reference, and can be read.
-abbrev pub IsLevel : Version → Level → Type 0
-IsLevel version level = IsNamed version level.reference.0 level.chunk.items
+-- The chunk has its reference, and can be read, and the mark stands between its entries.
+pub record IsLevel (version : Version) (level : Level) : Type 0 where
+  pub named : IsNamed version level.reference.0 level.chunk.items
+  pub mark : IsMark version level.chunk.items level.mark
 
 -- It is the one that is due, and what is below it is looked for below its place.
 pub record IsAtDue (version : Version) (due : Due) (place : Place) (level : Level) : Type 0 where

@@ -1,13 +1,15 @@
 -- What a look-up by a root seeks, and where that leads it. (This project's rules.)
-use Rattle.std.specs.Prelude.{◌≡◌, ℕ, List, [], ◌∷◌, ◌++◌, length, Option, Some, None, option_map}
+use Rattle.std.specs.Prelude.{◌≡◌, ◌<◌, ◌≤◌, ℕ, List, [], ◌∷◌, ◌++◌, length, drop, Option, Some, None}
+use Rattle.std.specs.Prelude.{option_map}
 use Rattle.prolly_check.specs.Children.{child_for, child_with}
-use Rattle.prolly_check.specs.Entries.{Child}
+use Rattle.prolly_check.specs.Entries.{Child, IsNode, children_in}
 use Rattle.prolly_check.specs.Kinds.{kind_of}
 use Rattle.prolly_check.specs.Way.{IsNamed, LevelsFall}
 use Rattle.prolly_check.specs.declared.entries.Entries.{Entries}
 use Rattle.prolly_check.specs.declared.entries.Entries.TheVariants.{Leaf, Node}
 use Rattle.prolly_entry.specs.declared.version.Version.{Version}
 use Rattle.prolly_proof.specs.declared.sought.ChildSought.{ChildSought}
+use Rattle.prolly_proof.specs.declared.sought.Mark.{Mark}
 use Rattle.prolly_proof.specs.declared.sought.Sought.{Sought}
 use Rattle.prolly_proof.specs.declared.sought.Sought.TheVariants.{Key, Place}
 
@@ -38,6 +40,17 @@ pub record IsChildSought (sought : Sought) (children : List Child) (is : ChildSo
   pub number : is.number ≡ length before
   pub reference : is.reference.0 ≡ child.reference
   pub sought_there : child_sought sought children ≡ Some (child, is.sought)
+
+-- The mark stands between the entries of the chunk, where that is a node: before it are so many
+-- children, and behind it the others.
+pub record IsMark (version : Version) (chunk : List ℕ) (mark : Mark) : Type 0 where
+  pub before : List Child
+  pub are : children_in version (drop 1 chunk) ≡
+      before ++ children_in version (drop mark.place chunk)
+  pub number : mark.number ≡ length before
+  pub node : IsNode version (drop 1 chunk) [] → IsNode version (drop mark.place chunk) []
+  pub few : mark.number < mark.place
+  pub within : mark.place ≤ length chunk
 
 -- A look-up goes on from these entries at the chunk with this reference, and seeks this there.
 abbrev pub LeadsFor : Sought → Entries → List ℕ → Sought → Type 0

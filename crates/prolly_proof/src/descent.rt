@@ -3,7 +3,7 @@ ghost use Rattle.std.specs.Prelude.{◌≡◌, ℕ, List, [], ◌∷◌, ◌++�
 ghost use Rattle.std.specs.List.{AllByRecursion};
 ghost use Rattle.prolly_check.specs.Content.{Content};
 ghost use Rattle.prolly_entry.specs.Cut.{sha512_cut};
-ghost use Rattle.prolly_proof.specs.Descents.{AnswersLawful, IsDescent, MayFail, StandsAtTree};
+ghost use Rattle.prolly_proof.specs.Descents.{IsDescent, MayFail, ReadsLawful, StandsAtTree};
 ghost use Rattle.prolly_proof.specs.Descents.{levels_of};
 ghost use Rattle.prolly_proof.specs.Kept.{IsLevel, KeepsLevel};
 ghost use Rattle.prolly_proof.specs.Walks.{HoldsFile, StaysSame, TellsReads};
@@ -36,7 +36,7 @@ pub(crate) fn top_of<D: Device>(device: &mut D, version: Version) -> Result<Plac
         version ≡ content.version →
         root ≡ root_reference (sha512_cut content.bits) content.version content.pairs →
         IfOk result (StandsAtTree content (length (D.seen device.old).bytes) root None) }
-    ensures lawful { (root : List ℕ) → AnswersLawful (D.seen device.old) version root result }
+    ensures lawful { (root : List ℕ) → ReadsLawful (D.seen device.old) version root result }
     ensures reads { TellsReads (D.seen device.old).failures (D.seen device.new).failures result }
     ensures same { StaysSame (D.seen device.old) (D.seen device.new) }
 {

@@ -9,7 +9,7 @@ ghost use Rattle.prolly_proof.specs.ByRoot.{TellPairs, TellsPair, TellsValue};
 ghost use Rattle.prolly_proof.specs.declared.sought.Sought.TheVariants.{Place};
 
 use crate::sought::Sought;
-use prolly_check::{Entries, entries_of, pair_at, pairs_from, value_in};
+use prolly_check::{Entries, entries_of, first_pairs_from, pair_at, value_in};
 use prolly_entry::{Pair, Version};
 use std::alloc::{AllocError, Global};
 
@@ -46,18 +46,21 @@ pub(crate) fn pair_sought(
     }
 }
 
-/// The first pairs that the chunk at which a look-up of the key ends has from the key on.
+/// The first pairs that the chunk at which a look-up of the key ends has from the key on, at most so
+/// many.
 pub(crate) fn pairs_at(
     alloc: Global,
     version: Version,
     chunk: &[u8],
     from: &[u8],
+    most: usize,
 ) -> Result<Vec<Pair>, AllocError>
     requires { IsWhole version chunk.now }
-    ensures { IfOk result (λ pairs. TellPairs from.now (kind_of version chunk.now) pairs.items) }
+    ensures { IfOk result (λ pairs.
+        TellPairs from.now most (kind_of version chunk.now) pairs.items) }
 {
     match entries_of(version, chunk) {
-        Entries::Leaf(pairs) => pairs_from(alloc, pairs, from),
+        Entries::Leaf(pairs) => first_pairs_from(alloc, pairs, from, most),
         Entries::Node(_) => Ok(Vec::new(alloc)),
     }
 }

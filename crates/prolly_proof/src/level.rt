@@ -3,7 +3,8 @@ ghost use Rattle.std.specs.Prelude.{◌≡◌, ◌<◌, ◌∷◌, ◌++◌, ℕ
 ghost use Rattle.std.specs.Prelude.{IfSome, IsOk, OnOk};
 ghost use Rattle.prolly_check.specs.Checked.{chunks_of};
 ghost use Rattle.prolly_check.specs.Content.{Content};
-ghost use Rattle.prolly_check.specs.Way.{IsNamed};
+ghost use Rattle.prolly_check.specs.Way.{IsNamed, IsOrdered};
+ghost use Rattle.prolly_entry.specs.Reference.{reference_of};
 ghost use Rattle.prolly_proof.specs.Descents.{MayFail, StandsAtTree};
 ghost use Rattle.prolly_proof.specs.Kept.{IsAtDue, IsLevel, KeepsLevel};
 ghost use Rattle.prolly_proof.specs.Walks.{HoldsFile, IsFrameOf, StaysSame, TellsReads};
@@ -11,7 +12,7 @@ ghost use Rattle.prolly_proof.specs.Walks.{HoldsFile, IsFrameOf, StaysSame, Tell
 use crate::below::FramesBelow;
 use crate::place::Place;
 use crate::root_fault::RootFault;
-use crate::sought::{Sought, child_sought};
+use crate::sought::{Mark, Sought, child_sought};
 use crate::verifier::falls_to;
 use crate::walk::Frame;
 use prolly_check::laws::tops_are_read;
@@ -49,13 +50,14 @@ pub(crate) struct Level {
     pub(crate) frame: Frame,
     /// Its bytes.
     pub(crate) chunk: Vec<u8>,
+    /// Where the last look-up passed over the child before the one that it went to.
+    pub(crate) mark: Mark,
     /// What is below it.
     pub(crate) below: FramesBelow,
 }
 
 impl Level {
     ghost use Rattle.prolly_proof.specs.Descents.{IsOnward, StepsDown};
-    ghost use Rattle.prolly_check.specs.Whole.{IsWhole};
     ghost use Rattle.prolly_proof.specs.declared.place.Place.{Place as PlaceValue};
     ghost use Rattle.prolly_tree.specs.Tree.{bytes_of};
     ghost use Rattle.std.specs.Prelude.{true};
@@ -89,6 +91,7 @@ impl Level {
             reference,
             frame: place.frame,
             chunk,
+            mark: Mark::first(),
             below: FramesBelow {
                 first: place.below,
                 last: None,
@@ -111,10 +114,11 @@ impl Level {
         version: Version,
         sought: Sought<'a>,
     ) -> Result<Onward<'a>, RootFault>
-        requires { IsWhole version self.old.chunk.items }
+        requires { IsLevel version self.old }
         ensures is { IfOk result (IsOnward version sought.entry self.old.chunk.items) }
         ensures stays { (self.new.reference ≡ self.old.reference) ×
             (self.new.chunk ≡ self.old.chunk) }
+        ensures level { IsLevel version self.new }
         ensures same { StaysSame (D.seen device.old) (D.seen device.new) }
         ensures reads { TellsReads (D.seen device.old).failures (D.seen device.new).failures
             result }
@@ -132,12 +136,13 @@ impl Level {
     {
         // By this law the children of a chunk of a lawful file are the trees below it.
         tops_are_read();
-        let Entries::Node(children) = entries_of(version, &self.chunk) else {
+        let Entries::Node(_) = entries_of(version, &self.chunk) else {
             return Ok(Onward::End);
         };
-        let Some(child) = child_sought(children, sought) else {
+        let Some(child) = child_sought(version, &self.chunk, self.mark, sought) else {
             return Ok(Onward::End);
         };
+        self.mark = child.passed;
         let level = self.chunk[0];
         let place = self.below.child(device, level - 1, child.number)?;
         let due = Due {
@@ -206,7 +211,8 @@ fn read_chunk<D: Device>(alloc: Global, device: &mut D, frame: &Frame) -> Result
 /// Tests whether the chunk of this number has the reference and can be read.
 fn test(version: Version, chunk: &[u8], reference: &Ref, number: u64) -> Result<(), RootFault>
     ensures named { OnOk result (IsNamed version reference.now.0 chunk.now) }
-    ensures fits { IsNamed version reference.now.0 chunk.now → IsOk result }
+    ensures fits { reference_of chunk.now ≡ reference.now.0 → IsOrdered version chunk.now →
+        IsOk result }
     ensures read { IfErr result (λ fault. fault ≡ RootFault.Read → ⊥) }
 {
     if Ref::of(chunk) != *reference {

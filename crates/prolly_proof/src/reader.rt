@@ -1,9 +1,9 @@
 //! Looking up by the root again and again, in a file of which no more is read than that wants.
-ghost use Rattle.std.specs.Prelude.{◌≡◌, length, IfOk, IfErr};
+ghost use Rattle.std.specs.Prelude.{◌≡◌, [], length, IfOk, IfErr, OnErr};
 ghost use Rattle.prolly_check.specs.Content.{Content};
-ghost use Rattle.prolly_check.specs.ScanWay.{IsScanWay};
 ghost use Rattle.prolly_entry.specs.Cut.{sha512_cut};
-ghost use Rattle.prolly_proof.specs.Descents.{AnswersLawful, MayFail};
+ghost use Rattle.prolly_proof.specs.ByRoot.{AreFirstFound};
+ghost use Rattle.prolly_proof.specs.Descents.{MayFail, ReadsLawful};
 ghost use Rattle.prolly_proof.specs.Readers.{IsReaderOf, way_of};
 ghost use Rattle.prolly_proof.specs.Walks.{HoldsFile, StaysSame, TellsReads};
 ghost use Rattle.prolly_tree.specs.File.{root_reference};
@@ -59,7 +59,8 @@ impl Reader {
     /// A reader for the tree with this root, of chunks of this version. Both have to come from who
     /// is trusted, and not from the file.
     ///
-    /// Goes over all frames of the file to find the root: ten bytes are read of each.
+    /// Goes over all frames of the file to find the root: ten bytes are read of each. Takes no
+    /// memory.
     pub fn open<D: Device>(
         alloc: Global,
         device: &mut D,
@@ -73,8 +74,8 @@ impl Reader {
             root.now.0 ≡ root_reference (sha512_cut content.bits) content.version content.pairs →
             IfOk result (IsReaderOf content (length (D.seen device.old).bytes)) }
 
-        // A lawful file with this root is never refused.
-        ensures lawful { AnswersLawful (D.seen device.old) version root.now.0 result }
+        // A lawful file with this root is never refused, nor is memory wanted.
+        ensures lawful { ReadsLawful (D.seen device.old) version root.now.0 result }
         ensures reads { TellsReads (D.seen device.old).failures (D.seen device.new).failures
             result }
         ensures same { StaysSame (D.seen device.old) (D.seen device.new) }
@@ -88,9 +89,9 @@ impl Reader {
         })
     }
 
-    /// The first pairs that the tree with the reader's root has from the key on: those of one leaf.
-    /// The others are those from behind the last of these on, at which the next look-up begins;
-    /// where there are none, the tree has none.
+    /// The first pairs that the tree with the reader's root has from the key on: those of one leaf,
+    /// at most `most` of them. The others are those from behind the last of these on, at which the
+    /// next look-up begins; where there are none, and `most` is not 0, the tree has none.
     ///
     /// The chunks that show it are kept until the next look-up. Takes memory for them and for the
     /// pairs. After an `Err` nothing is kept, and the next look-up reads its chunks anew.
@@ -99,10 +100,12 @@ impl Reader {
         alloc: Global,
         device: &mut D,
         from: &[u8],
+        most: usize,
     ) -> Result<Vec<Pair>, RootFault>
         ensures of { (self.new.version ≡ self.old.version) × (self.new.root ≡ self.old.root) }
-        ensures found { IfOk result (λ pairs.
-            IsScanWay self.old.version self.old.root from.now (way_of self.new) pairs.items) }
+        ensures found { IfOk result (λ pairs. AreFirstFound self.old.version self.old.root
+            from.now most (way_of self.new) pairs.items) }
+        ensures none { OnErr result (self.new.levels ≡ []) }
         ensures keeps { (content : Content) → HoldsFile (D.seen device.old) content →
             IsReaderOf content (length (D.seen device.old).bytes) self.old →
             IsReaderOf content (length (D.seen device.old).bytes) self.new }
@@ -126,7 +129,7 @@ impl Reader {
             kept,
             sought,
         )?;
-        let pairs = pairs_at(alloc, self.version, &descent.last.chunk, from)?;
+        let pairs = pairs_at(alloc, self.version, &descent.last.chunk, from, most)?;
         self.levels = with(descent.above, descent.last)?;
         Ok(pairs)
     }

@@ -1,11 +1,13 @@
 //! What a look-up by the root seeks, and which child of a node it goes on in.
-ghost use Rattle.std.specs.Prelude.{◌≡◌, ◌<◌, ◌^◌, ◌∷◌, List, Some, None, IfSome, IfNone, length};
+ghost use Rattle.std.specs.Prelude.{◌≡◌, ◌<◌, ◌∷◌, [], List, map, drop, Some, None, IfSome, IfNone};
+ghost use Rattle.std.specs.Prelude.{MatchOption};
 ghost use Rattle.prolly_check.specs.Children.{value_of};
-ghost use Rattle.prolly_check.specs.Entries.{Child as ChildValue};
-ghost use Rattle.prolly_proof.specs.Sought.{IsChildSought, child_sought, found_child};
+ghost use Rattle.prolly_check.specs.Entries.{Child as ChildValue, IsNode, children_in};
+ghost use Rattle.prolly_entry.specs.Keys.{Rising};
+ghost use Rattle.prolly_proof.specs.Sought.{IsChildSought, IsMark, child_sought, found_child};
 
-use prolly_check::{Child, Children};
-use prolly_entry::{Ref, key_order};
+use prolly_check::{Child, split_first_child};
+use prolly_entry::{Ref, Version, key_order};
 
 /// What a look-up seeks.
 #[derive(Clone, Copy, Debug)]
@@ -14,6 +16,27 @@ pub(crate) enum Sought<'a> {
     Key(&'a [u8]),
     /// The pair of this number, counted from 0 in the order of keys.
     Place(u64),
+}
+
+/// A place between the entries of a node.
+#[derive(Clone, Copy, Debug)]
+pub(crate) struct Mark {
+    /// How many children stand before it.
+    pub(crate) number: u64,
+    /// Where in the chunk the entry of the next one begins.
+    pub(crate) place: usize,
+}
+
+impl Mark {
+    /// The one before all entries.
+    pub(crate) fn first() -> Mark
+        ensures { (result.number ≡ 0) × (result.place ≡ 1) }
+    {
+        Mark {
+            number: 0,
+            place: 1,
+        }
+    }
 }
 
 /// The child of a node that a look-up goes on in.
@@ -25,30 +48,81 @@ pub(crate) struct ChildSought<'a> {
     pub(crate) reference: Ref,
     /// What is sought below it.
     pub(crate) sought: Sought<'a>,
+    /// Before the child that was passed over last. It is before the first one that was read, where
+    /// none was.
+    pub(crate) passed: Mark,
 }
 
-/// The first of the children below which is what is sought, or none.
+/// The first of the children of a node below which is what is sought, or none. Where the child
+/// behind the mark is below the key that is sought, it reads on from there.
 pub(crate) fn child_sought<'a>(
-    mut children: Children<'_>,
+    version: Version,
+    chunk: &[u8],
+    mark: Mark,
     mut sought: Sought<'a>,
 ) -> Option<ChildSought<'a>>
-    requires { length children < 2 ^ 64 }
-    ensures some { IfSome result (IsChildSought sought.entry children.entry) }
-    ensures none { IfNone result (child_sought sought.entry children.entry ≡ None) }
+    requires rising { Rising (map (λ c. c.key) (children_in version (drop 1 chunk.now))) }
+    requires node { IsNode version (drop 1 chunk.now) [] }
+    requires mark { IsMark version chunk.now mark }
+    ensures some { IfSome result
+        (IsChildSought sought.entry (children_in version (drop 1 chunk.now))) }
+    ensures none { IfNone result
+        (child_sought sought.entry (children_in version (drop 1 chunk.now)) ≡ None) }
+    ensures passed { IfSome result (λ child. IsMark version chunk.now child.passed) }
 {
-    let mut number = 0;
-    while let Some(child) = children.next() {
+    let mut here = begin(version, chunk, mark, sought);
+    let mut passed = here;
+    while let Some((child, behind_it)) = next_child(version, chunk, here) {
         let Some(next) = behind(sought, &child) else {
             return Some(ChildSought {
-                number,
+                number: here.number,
                 reference: child.reference,
                 sought,
+                passed,
             });
         };
         sought = next;
-        number += 1;
+        passed = here;
+        here = behind_it;
     }
     None
+}
+
+/// From where on the children are read: from the mark, where the child behind it is below the key
+/// that is sought, and else from the first on.
+fn begin(version: Version, chunk: &[u8], mark: Mark, sought: Sought<'_>) -> Mark
+    requires rising { Rising (map (λ c. c.key) (children_in version (drop 1 chunk.now))) }
+    requires node { IsNode version (drop 1 chunk.now) [] }
+    requires mark { IsMark version chunk.now mark }
+    ensures mark { IsMark version chunk.now result }
+    ensures same { child_sought sought.entry (children_in version (drop 1 chunk.now)) ≡
+        child_sought sought.entry (children_in version (drop result.place chunk.now)) }
+{
+    let Sought::Key(key) = sought else {
+        return Mark::first();
+    };
+    match next_child(version, chunk, mark) {
+        Some((child, _)) if key_order(child.key, key).is_lt() => mark,
+        _ => Mark::first(),
+    }
+}
+
+/// The child behind the mark, and the mark behind that child.
+fn next_child(version: Version, chunk: &[u8], mark: Mark) -> Option<(Child<'_>, Mark)>
+    requires node { IsNode version (drop 1 chunk.now) [] }
+    requires mark { IsMark version chunk.now mark }
+    ensures next { MatchOption result (children_in version (drop mark.place chunk.now) ≡ []) (λ r.
+        children_in version (drop mark.place chunk.now) ≡
+        value_of r.0 ∷ children_in version (drop r.1.place chunk.now)) }
+    ensures mark { IfSome result (λ r. IsMark version chunk.now r.1) }
+    ensures further { IfSome result (λ r. mark.place < r.1.place) }
+{
+    let (child, rest) = split_first_child(version, &chunk[mark.place..])?;
+    let behind_it = Mark {
+        number: mark.number + 1,
+        place: chunk.len() - rest.len(),
+    };
+    Some((child, behind_it))
 }
 
 /// What is sought behind the child, where it is not below it.

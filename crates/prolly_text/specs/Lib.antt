@@ -4,5 +4,7 @@ pub mod Escapes
 pub mod Pieces
 -- The two notations, and their laws.
 pub mod Notations
+-- How a line shows the name of a file.
+pub mod Names
 -- Lemmas for the crates above, by subject.
 pub mod lemmas

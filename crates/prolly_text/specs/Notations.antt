@@ -1,6 +1,8 @@
 -- The two ways in which the bytes of keys and values are written.
-use Rattle.std.specs.Prelude.{◌≡◌, ◌≢◌, ◌≤◌, ℕ, List, Ok}
+use Rattle.std.specs.Prelude.{◌≡◌, ◌≢◌, ℕ, List, Ok}
+use Rattle.std.specs.Char.{is_control}
 use Rattle.std.specs.List.{AllByRecursion}
+use Rattle.std.specs.Str.{IsUtf8, NoCharPasses}
 use Rattle.hex.specs.Hex.{decode_of, encode_lower}
 use Rattle.prolly_entry.specs.Byte.{IsByte}
 use Rattle.prolly_text.specs.Escapes.{text_of}
@@ -51,11 +53,11 @@ abbrev pub TextsStandApart : Type 0
 TextsStandApart = (notation : Notation) (text bytes : List ℕ) → IsWritten notation text bytes →
     AllByRecursion (StandsWithin notation) text
 
--- The byte is no control character.
-abbrev pub IsShown : ℕ → Type 0
-IsShown b = (0x20 ≤ b) × (b ≢ 0x7F)
+-- The bytes are UTF-8, and none of their characters is a control character: below 20, or 7F to 9F.
+abbrev pub IsShown : List ℕ → Type 0
+IsShown text = IsUtf8 text × NoCharPasses is_control text
 
--- Law: nothing that is written is a control character.
+-- Law: what is written is UTF-8 without a control character.
 abbrev pub WrittenShows : Type 0
 WrittenShows = (notation : Notation) (bytes : List ℕ) → AllByRecursion IsByte bytes →
-    AllByRecursion IsShown (written notation bytes)
+    IsShown (written notation bytes)

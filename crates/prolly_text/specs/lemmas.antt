@@ -4,9 +4,17 @@ pub mod Fronts
 pub mod Sequences
 -- A chunk of bytes that are not all UTF-8 has an invalid part.
 pub mod Chunks
--- The bytes that have a letter, and those that show.
+-- The characters that have a letter, and those that stand for themselves.
 pub mod Letters
--- What is written as text: it stands for its bytes, and shows.
+-- What is UTF-8 without a control character.
+pub mod Shown
+-- Texts in hexadecimal.
+pub mod Digits
+-- The characters at the front of bytes.
+pub mod Characters
+-- Texts that stand for bytes, and show.
+pub mod Spelled
+-- What is written as text is one of these.
 pub mod Writing
 -- What holds of both notations.
 pub mod Notations

@@ -1,7 +1,9 @@
 //! Bytes written as text.
 ghost use Rattle.std.specs.Prelude.{◌≡◌, ◌++◌, OnOk};
 ghost use Rattle.std.specs.List.{flat_map};
-ghost use Rattle.prolly_text.specs.Escapes.{hex_escape, letter_of, shown_byte, text_of};
+ghost use Rattle.std.specs.Str.{chars};
+ghost use Rattle.prolly_text.specs.Escapes.{hex_escape, letter_of, shown_character, shown_plain};
+ghost use Rattle.prolly_text.specs.Escapes.{text_of};
 
 use crate::notation::append_hex;
 use std::alloc::{AllocError, Global};
@@ -11,18 +13,19 @@ pub(crate) fn append_text(alloc: Global, out: &mut Vec<u8>, bytes: &[u8]) -> Res
     ensures { OnOk result (out.new.items ≡ out.old.items ++ text_of bytes.now) }
 {
     for chunk in bytes.utf8_chunks() {
-        append_characters(alloc, out, chunk.valid().as_bytes())?;
+        append_characters(alloc, out, chunk.valid())?;
         append_escapes(alloc, out, chunk.invalid())?;
     }
     Ok(())
 }
 
-/// Appends each byte of characters, as it stands or escaped.
-fn append_characters(alloc: Global, out: &mut Vec<u8>, bytes: &[u8]) -> Result<(), AllocError>
-    ensures { OnOk result (out.new.items ≡ out.old.items ++ flat_map shown_byte bytes.now) }
+/// Appends each character, as it stands or escaped.
+fn append_characters(alloc: Global, out: &mut Vec<u8>, text: &str) -> Result<(), AllocError>
+    ensures { OnOk result (out.new.items ≡ out.old.items ++ flat_map shown_character
+        (chars text.now)) }
 {
-    for byte in bytes {
-        append_shown(alloc, out, *byte)?;
+    for character in text.chars() {
+        append_character(alloc, out, character)?;
     }
     Ok(())
 }
@@ -37,18 +40,35 @@ fn append_escapes(alloc: Global, out: &mut Vec<u8>, bytes: &[u8]) -> Result<(), 
     Ok(())
 }
 
-/// Appends a byte of a character, as it stands or escaped.
-fn append_shown(alloc: Global, out: &mut Vec<u8>, byte: u8) -> Result<(), AllocError>
-    ensures { OnOk result (out.new.items ≡ out.old.items ++ shown_byte byte) }
+/// Appends a character, as it stands or escaped.
+fn append_character(alloc: Global, out: &mut Vec<u8>, character: char) -> Result<(), AllocError>
+    ensures { OnOk result (out.new.items ≡ out.old.items ++ shown_character character) }
 {
-    if let Some(letter) = letter_of(byte) {
+    if let Some(letter) = letter_of(character) {
         return out.extend_from_slice(&[b'\\', letter]);
     }
-    if byte < 0x20 || byte == 0x7f {
-        return append_escape(alloc, out, byte);
+    append_plain(alloc, out, character)
+}
+
+/// Appends a character that has no letter: a control character by its bytes, and every other one
+/// as it stands.
+pub(crate) fn append_plain(
+    alloc: Global,
+    out: &mut Vec<u8>,
+    character: char,
+) -> Result<(), AllocError>
+    ensures { OnOk result (out.new.items ≡ out.old.items ++ shown_plain character) }
+{
+    let mut buffer = [0; 4];
+    if character.is_control() {
+        return append_escapes(alloc, out, character.encode_utf8(&mut buffer).as_bytes());
     }
-    out.push(byte)?;
-    Ok(())
+    // Most text is ASCII, for which a push is shorter than a copy.
+    if character.is_ascii() {
+        out.push(character as u8)?;
+        return Ok(());
+    }
+    out.extend_from_slice(character.encode_utf8(&mut buffer).as_bytes())
 }
 
 /// Appends `\x` and the byte in hexadecimal.
@@ -59,18 +79,18 @@ fn append_escape(alloc: Global, out: &mut Vec<u8>, byte: u8) -> Result<(), Alloc
     append_hex(alloc, out, &[byte])
 }
 
-/// The letter by which a byte is escaped, if it has one.
-fn letter_of(byte: u8) -> Option<u8>
-    ensures { result ≡ letter_of byte }
+/// The letter by which a character is escaped, if it has one.
+fn letter_of(character: char) -> Option<u8>
+    ensures { result ≡ letter_of character }
 {
-    match byte {
-        0x08 => Some(b'b'),
-        0x09 => Some(b't'),
-        0x0a => Some(b'n'),
-        0x0b => Some(b'v'),
-        0x0c => Some(b'f'),
-        0x0d => Some(b'r'),
-        0x5c => Some(b'\\'),
+    match character {
+        '\x08' => Some(b'b'),
+        '\t' => Some(b't'),
+        '\n' => Some(b'n'),
+        '\x0b' => Some(b'v'),
+        '\x0c' => Some(b'f'),
+        '\r' => Some(b'r'),
+        '\\' => Some(b'\\'),
         _ => None,
     }
 }

@@ -1,5 +1,6 @@
 //! Laws of the notations. Each is the contract of a function that does nothing: to call it is to
 //! know the law, and to prove the crate is to prove it.
+ghost use Rattle.prolly_text.specs.Names.{NamesShow};
 ghost use Rattle.prolly_text.specs.Notations.{OneReading, TextsStandApart, WrittenIsRead};
 ghost use Rattle.prolly_text.specs.Notations.{WrittenShows};
 
@@ -18,7 +19,12 @@ pub fn texts_stand_apart()
     ensures { TextsStandApart }
 {}
 
-/// Nothing that is written is a control character.
+/// What is written is UTF-8, and no character of it is a control character.
 pub fn written_shows()
     ensures { WrittenShows }
+{}
+
+/// What a line shows of a name stands for that name alone, as text, and has no control character.
+pub fn names_show()
+    ensures { NamesShow }
 {}

@@ -17,7 +17,7 @@ use Rattle.prolly_tree.specs.Difference.{IsChangeTo, IsDifference}
 use Rattle.prolly_tree.specs.LookUp.{find}
 use Rattle.prolly_tree.specs.lemmas.Differences.{some_difference}
 use Rattle.prolly_file.specs.Failures.{after_failure}
-use Rattle.prolly_file.specs.Sink.{SinkView}
+use Rattle.prolly_file.specs.Sink.{IsSettled, SinkView}
 use Rattle.prolly_file.specs.Writes.{Writes}
 use Rattle.prolly_diff.specs.Walk.{Maps, AreMaps, IsFirstChange}
 use Rattle.std.specs.Prelude.{IfOk, OnErr}
@@ -297,9 +297,9 @@ module _ {W : Type 0} (seen : W → SinkView) (form : Option RecordForm) (all le
 
   module _ (new : W) (same : (seen mid).is_keeping ≡ true → (seen new).taken ≡ (seen mid).taken)
       (own_form : RecordForm) (some : form ≡ Some own_form) where
-    pub all_written : (seen new).failures ≡ (seen mid).failures →
+    pub all_written : (seen new).failures ≡ (seen mid).failures → IsSettled (seen new) →
         HasDifference all.before all.after (AreAll new)
-    all_written counted = record {
+    all_written counted settled = record {
       records = w.done;
       is = all_done;
       so = (go form some w.took, w.counted);
@@ -308,7 +308,8 @@ module _ {W : Type 0} (seen : W → SinkView) (form : Option RecordForm) (all le
         go : (f : Option RecordForm) → f ≡ Some own_form → TookIn seen f w.done old mid →
             AreWritten f (λ bytes. TookAll seen bytes old new) (new ≡ old) w.done
         go None e took = absurd (no_form own_form e)
-        go (Some f) e took = flushed seen (written_records f w.done) old mid took new same counted
+        go (Some f) e took =
+            flushed seen (written_records f w.done) old mid took new same counted settled
 
     pub flush_failed : (seen new).failures ≡ after_failure (seen mid).failures →
         HasDifference all.before all.after

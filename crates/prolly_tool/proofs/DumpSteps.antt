@@ -5,7 +5,7 @@ use Rattle.std.proofs.lemmas.List.Folds.{flat_map-map}
 use Rattle.prolly_entry.specs.Pair.{Pair}
 use Rattle.prolly_entry.specs.Record.{Record}
 use Rattle.prolly_file.specs.Failures.{after_failure}
-use Rattle.prolly_file.specs.Sink.{SinkView}
+use Rattle.prolly_file.specs.Sink.{IsSettled, SinkView}
 use Rattle.prolly_file.specs.Writes.{Writes}
 use Rattle.prolly_fault.specs.declared.fault.RunFault.TheVariants.{Write}
 use Rattle.prolly_text.specs.declared.notation.Notation.{Notation}
@@ -36,9 +36,9 @@ module _ {W : Type 0} (seen : W → SinkView) (form : RecordForm) (is : form ≡
 
   pub file_dumped : {T E : Type 0} (x : T) →
       Writes {T = T} {E = E} (record_file m) (seen old) (seen new) (Ok x) →
-      TookAll seen (written_records form (puts m)) old new
-  file_dumped x w = subst (λ bytes. TookAll seen bytes old new) same_bytes
-      (wrote_all seen x (record_file m) old new w)
+      IsSettled (seen new) → TookAll seen (written_records form (puts m)) old new
+  file_dumped x w settled = subst (λ bytes. TookAll seen bytes old new) same_bytes
+      (wrote_all seen x (record_file m) old new w settled)
 
   pub file_stopped : {T E : Type 0} (x : E) →
       Writes {T = T} {E = E} (record_file m) (seen old) (seen new) (Err x) →
@@ -118,10 +118,10 @@ module _ {W : Type 0} (seen : W → SinkView) (notation : Notation) where
             (sym none) ∙
             sym l.all)
 
-        pub all_listed : (seen new).failures ≡ (seen mid).failures →
+        pub all_listed : (seen new).failures ≡ (seen mid).failures → IsSettled (seen new) →
             TookAll seen (lines_file notation pairs) old new
-        all_listed counted = subst (λ bytes. TookAll seen bytes old new) done_all
-            (flushed seen (lines_file notation l.done) old mid l.took new same counted)
+        all_listed counted settled = subst (λ bytes. TookAll seen bytes old new) done_all
+            (flushed seen (lines_file notation l.done) old mid l.took new same counted settled)
 
         pub list_unflushed : (seen new).failures ≡ after_failure (seen mid).failures →
             TookPart seen (lines_file notation pairs) old new

@@ -18,6 +18,8 @@ pub mod Counting
 pub mod DiffSteps
 -- What is answered to bytes that are no proof.
 pub mod Verifying
+-- Lines that are made of the first pairs of leaves.
+pub mod FirstLines
 -- Scans by a root, leaf by leaf.
 pub mod ScanSteps
 -- What `stat` answers of a file of either kind.

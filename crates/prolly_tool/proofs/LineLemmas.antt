@@ -15,7 +15,7 @@ use Rattle.prolly_text.specs.Notations.{IsWritten, StandsWithin, separator}
 use Rattle.prolly_text.specs.declared.notation.Notation.{Notation}
 use Rattle.prolly_text.specs.declared.notation.Notation.TheVariants.{Hex, Text}
 use Rattle.prolly_text.specs.lemmas.Notations.{texts_stand_apart}
-use Rattle.prolly_text.specs.lemmas.Writing.{all_so}
+use Rattle.prolly_text.specs.lemmas.Digits.{all_so}
 use Rattle.prolly_tree.specs.Split.{in_front}
 use Rattle.prolly_tool.specs.Lines.{lines_of, reads_bare_keys, CutsAt, IsBadLine, IsDashLine}
 use Rattle.prolly_tool.specs.Lines.{IsLineOf, IsPairLine, IsRemovalLine}

@@ -2,10 +2,10 @@
 use Rattle.std.proofs.Common.{◌≡◌, ◌≢◌, ℕ, suc, zero, ◌+◌, ◌-◌, ◌<◌, ◌^◌, inl, inr, ◌⊎◌, true, List}
 use Rattle.std.proofs.Common.{[], ◌∷◌, ◌++◌, length, take, Some, None, Ok, Err, refl, sym, ap, ◌∙◌}
 use Rattle.std.proofs.Common.{subst, arith, append_assoc, append-nil, Result}
-use Rattle.std.specs.Prelude.{OnOk, IfErr}
+use Rattle.std.specs.Prelude.{◌≤◌, min, OnOk, IfErr}
 use Rattle.std.specs.List.{slice_get}
 use Rattle.std.proofs.Math.Seq.{take-append-add}
-use Rattle.std.proofs.lemmas.List.{length-append, take_all}
+use Rattle.std.proofs.lemmas.List.{length-append, length-take, take_all}
 use Rattle.std.proofs.lemmas.List.Concat.{flat_map-append}
 use Rattle.std.proofs.lemmas.Option.{slice_get-get_or}
 use Rattle.prolly_check.specs.ScanWay.{AreScanned, EndsEmpty, IsScanWay, from_behind, joined}
@@ -20,8 +20,9 @@ use Rattle.prolly_fault.specs.declared.fault.RunFault.TheVariants as runs
 use Rattle.prolly_fault.specs.declared.fault.RunFault.TheVariants.{Memory, Write}
 use Rattle.prolly_file.specs.Device.{DeviceView}
 use Rattle.prolly_file.specs.Failures.{CountsFailure, after_failure}
-use Rattle.prolly_file.specs.Sink.{SinkView}
-use Rattle.prolly_proof.specs.Descents.{AnswersLawful, MayFail}
+use Rattle.prolly_file.specs.Sink.{IsSettled, SinkView}
+use Rattle.prolly_proof.specs.ByRoot.{AreFirstFound}
+use Rattle.prolly_proof.specs.Descents.{AnswersLawful, MayFail, ReadsLawful}
 use Rattle.prolly_proof.specs.Readers.{IsReaderOf, ReaderView}
 use Rattle.prolly_proof.specs.Walks.{HoldsFile, StaysSame, TellsReads}
 use Rattle.prolly_proof.specs.declared.root_fault.RootFault.{RootFault}
@@ -30,7 +31,8 @@ use Rattle.prolly_tree.specs.File.{root_reference}
 use Rattle.prolly_tree.specs.Tree.{last_key}
 use Rattle.prolly_text.specs.declared.notation.Notation.{Notation}
 use Rattle.prolly_tool.specs.LookUps.{pair_lines, pair_text}
-use Rattle.prolly_tool.specs.Outputs.{TookAll, TookPart, TookPrefix, TookUntil}
+use Rattle.prolly_tool.specs.Outputs.{TookAll, TookBytes, TookPart, TookPrefix}
+use Rattle.prolly_tool.specs.Outputs.{TookUntil}
 use Rattle.prolly_tool.specs.RootScans.{AreTooFew, IsDoneScan, IsFlushed, IsOpened, IsStoppedScan}
 use Rattle.prolly_tool.specs.RootScans.{Scanned, StoppedScan, TellsScanReads, limited_lines}
 use Rattle.prolly_tool.specs.declared.fault.Fault.{Fault}
@@ -62,6 +64,27 @@ none_last (q ∷ qs) e =
 pub some_last : (pairs : List Pair) (n : ℕ) (p : Pair) → slice_get pairs n ≡ Some p → pairs ≢ []
 some_last [] n p e = absurd (cc)
 some_last (q ∷ qs) n p e = λ none. cc
+
+-- ---- the first pairs of a leaf
+
+module _ (left : ℕ) (found pairs : List Pair) (are : pairs ≡ take left found) where
+  size : length pairs ≡ min left (length found)
+  size = ap length are ∙ length-take left found
+
+  -- Where room was for one and none was taken, there are none.
+  pub none_found : 0 < left → pairs ≡ [] → found ≡ []
+  none_found some none = no_pairs found (omega (arith, size, ap length none, some))
+    where
+      no_pairs : (ps : List Pair) → length ps ≡ 0 → ps ≡ []
+      no_pairs [] few = refl
+      no_pairs (p ∷ ps) few = absurd (omega (arith, few))
+
+  -- All were taken where there was room for more.
+  pub all_found : length pairs < left → pairs ≡ found
+  all_found few = are ∙ take_all left found (omega (arith, size, few))
+
+  pub many_found : left ≤ length pairs → left ≤ length found
+  many_found many = omega (arith, size, many)
 
 -- ---- look-ups one after another
 
@@ -150,7 +173,7 @@ module _ {W : Type 0} (seen : W → SinkView) where
 
   -- More bytes are written behind those that the sink took.
   module _ (done own : List ℕ) (old mid new : W) (so_far : TookSoFar seen done old mid) where
-    took_also : TookAll seen own mid new →
+    took_also : TookBytes seen own mid new →
         ((seen mid).is_keeping ≡ true → (seen new).is_keeping ≡ true) →
         TookSoFar seen (done ++ own) old new
     took_also t keeping = record {
@@ -238,12 +261,12 @@ module _ {W : Type 0} (seen : W → SinkView) (version : Version) (root from : L
 
       -- The limit is reached.
       pub scan_full : left ≡ 0 → IsDoneScan version root from limit notation
-          (λ bytes. TookAll seen bytes old mid)
+          (λ bytes. TookBytes seen bytes old mid)
       scan_full none = (so_far, inl (omega (arith, none, s.left_is)), s.took.all)
 
       -- Memory is wanted before more is sought.
       pub scan_wants : (device : DeviceView) → IsStoppedScan device version root from limit notation
-          (λ bytes. TookAll seen bytes old mid)
+          (λ bytes. TookBytes seen bytes old mid)
           (λ fault bytes. TookUntil seen fault bytes old mid) (Run Memory)
       scan_wants device = (
         so_far,
@@ -260,13 +283,13 @@ module _ {W : Type 0} (seen : W → SinkView) (version : Version) (root from : L
         pub scan_fails : (device : DeviceView) (fault : RootFault) →
             AnswersLawful {T = Unit {0}} device version root (Err fault) →
             IsStoppedScan device version root from limit notation
-            (λ bytes. TookAll seen bytes old mid)
+            (λ bytes. TookBytes seen bytes old mid)
             (λ fault bytes. TookUntil seen fault bytes old mid) (Root fault)
         scan_fails device fault lawful = (
           so_far,
           (
             too_few,
-            subst (λ bytes. TookAll seen bytes old mid) (sym
+            subst (λ bytes. TookBytes seen bytes old mid) (sym
                 (few_lines notation limit s.lists too_few))
                 s.took.all,
             lawful,
@@ -289,7 +312,7 @@ module _ {W : Type 0} (seen : W → SinkView) (version : Version) (root from : L
 
           -- It finds that there are no more.
           pub scan_ends : found ≡ [] → IsDoneScan version root from limit notation
-              (λ bytes. TookAll seen bytes old mid)
+              (λ bytes. TookBytes seen bytes old mid)
           scan_ends none =
               let same : limited_lines notation limit s.lists ≡ limited_lines notation limit
               with_more.lists =
@@ -300,13 +323,13 @@ module _ {W : Type 0} (seen : W → SinkView) (version : Version) (root from : L
               append-nil (limited_lines notation limit s.lists)) in (
                 with_more,
                 inr (subst (λ ps. EndsEmpty (s.lists ++ ps ∷ [])) (sym none) (ends_empty s.lists)),
-                subst (λ bytes. TookAll seen bytes old mid) same s.took.all,
+                subst (λ bytes. TookBytes seen bytes old mid) same s.took.all,
               )
 
           module _ (new : W) where
             -- Its lines are written.
             pub scan_goes_on : (p : Pair) (rest : ℕ) (key : List ℕ) →
-                TookAll seen (pair_lines notation (take left found)) mid new →
+                TookBytes seen (pair_lines notation (take left found)) mid new →
                 ((seen mid).is_keeping ≡ true → (seen new).is_keeping ≡ true) →
                 slice_get found (length found - 1) ≡ Some p → key ≡ next_key p.key →
                 rest ≡ left - length found → IsScanning rest key old new
@@ -330,11 +353,30 @@ module _ {W : Type 0} (seen : W → SinkView) (version : Version) (root from : L
                   mid new s.took t keeping);
             }
 
+            -- They were so many that the limit is reached.
+            pub scan_fills : left ≤ length found →
+                TookBytes seen (pair_lines notation (take left found)) mid new →
+                ((seen mid).is_keeping ≡ true → (seen new).is_keeping ≡ true) →
+                IsDoneScan version root from limit notation (λ bytes. TookBytes seen bytes old new)
+            scan_fills many t keeping = (
+              with_more,
+              inl (omega (
+                arith,
+                many,
+                s.left_is,
+                ap length (joined_more s.lists found),
+                length-append (joined s.lists) found,
+              )),
+              subst (λ bytes. TookBytes seen bytes old new) (sym text)
+                  (took_also seen (limited_lines notation limit s.lists)
+                  (pair_lines notation (take left found)) old mid new s.took t keeping).all,
+            )
+
             -- A part of them is.
             pub scan_unwritten : (device : DeviceView) (fault : RunFault) →
                 TookUntil seen fault (pair_lines notation (take left found)) mid new →
                 IsStoppedScan device version root from limit notation
-                (λ bytes. TookAll seen bytes old new)
+                (λ bytes. TookBytes seen bytes old new)
                 (λ fault bytes. TookUntil seen fault bytes old new) (Run fault)
             scan_unwritten device fault t = (
               with_more,
@@ -384,12 +426,13 @@ stop_cases d v r l n took until faults.OutIsStdout lists goal a b t =
 module _ {W : Type 0} (seen : W → SinkView) (old mid new : W)
     (keeping : (seen old).is_keeping ≡ true → (seen mid).is_keeping ≡ true)
     (same : (seen mid).is_keeping ≡ true → (seen new).taken ≡ (seen mid).taken) where
-  so_far_all : (bytes : List ℕ) → TookAll seen bytes old mid → TookSoFar seen bytes old mid
+  so_far_all : (bytes : List ℕ) → TookBytes seen bytes old mid → TookSoFar seen bytes old mid
   so_far_all bytes t = record { all = t; keeping = keeping }
 
-  module _ (counted : (seen new).failures ≡ (seen mid).failures) where
-    all_flushed : (bytes : List ℕ) → TookAll seen bytes old mid → TookAll seen bytes old new
-    all_flushed bytes t = flushed seen bytes old mid (so_far_all bytes t) new same counted
+  module _ (counted : (seen new).failures ≡ (seen mid).failures)
+      (settled : IsSettled (seen new)) where
+    all_flushed : (bytes : List ℕ) → TookBytes seen bytes old mid → TookAll seen bytes old new
+    all_flushed bytes t = flushed seen bytes old mid (so_far_all bytes t) new same counted settled
 
     prefix_flushed : (bytes : List ℕ) → TookPrefix seen bytes old mid →
         TookPrefix seen bytes old new
@@ -412,20 +455,20 @@ module _ {W : Type 0} (seen : W → SinkView) (old mid new : W)
     module _ (device : DeviceView) (version : Version) (root from : List ℕ) (limit : ℕ)
         (notation : Notation) where
       pub done_flushed : IsDoneScan version root from limit notation
-          (λ bytes. TookAll seen bytes old mid) →
+          (λ bytes. TookBytes seen bytes old mid) →
           IsDoneScan version root from limit notation (λ bytes. TookAll seen bytes old new)
       done_flushed d = (d.0, d.1, all_flushed (limited_lines notation limit d.0.lists) d.2)
 
       pub stopped_flushed : (fault : Fault) → fault ≢ Run Write →
           IsStoppedScan device version root from limit notation
-          (λ bytes. TookAll seen bytes old mid)
+          (λ bytes. TookBytes seen bytes old mid)
           (λ fault bytes. TookUntil seen fault bytes old mid) fault →
           IsStoppedScan device version root from limit notation
           (λ bytes. TookAll seen bytes old new)
           (λ fault bytes. TookUntil seen fault bytes old new) fault
       stopped_flushed fault other d = (
         d.0,
-        stop_cases device version root limit notation (λ bytes. TookAll seen bytes old mid)
+        stop_cases device version root limit notation (λ bytes. TookBytes seen bytes old mid)
             (λ fault bytes. TookUntil seen fault bytes old mid) fault d.0.lists
             (λ f. f ≢ Run Write → StoppedScan device version root limit notation
             (λ bytes. TookAll seen bytes old new)
@@ -442,7 +485,7 @@ module _ {W : Type 0} (seen : W → SinkView) (old mid new : W)
       )
 
   module _ (counted : (seen new).failures ≡ after_failure (seen mid).failures) where
-    all_unflushed : (bytes : List ℕ) → TookAll seen bytes old mid → TookPart seen bytes old new
+    all_unflushed : (bytes : List ℕ) → TookBytes seen bytes old mid → TookPart seen bytes old new
     all_unflushed bytes t = unflushed seen bytes old mid (so_far_all bytes t) new same counted
 
     prefix_unflushed : (bytes : List ℕ) → TookPrefix seen bytes old mid →
@@ -466,7 +509,7 @@ module _ {W : Type 0} (seen : W → SinkView) (old mid new : W)
     module _ (device : DeviceView) (version : Version) (root from : List ℕ) (limit : ℕ)
         (notation : Notation) where
       pub done_unflushed :
-          IsDoneScan version root from limit notation (λ bytes. TookAll seen bytes old mid) →
+          IsDoneScan version root from limit notation (λ bytes. TookBytes seen bytes old mid) →
           IsStoppedScan device version root from limit notation
           (λ bytes. TookAll seen bytes old new)
           (λ fault bytes. TookUntil seen fault bytes old new) (Run Write)
@@ -474,14 +517,14 @@ module _ {W : Type 0} (seen : W → SinkView) (old mid new : W)
 
       pub stopped_unflushed : (fault : Fault) → fault ≢ Run Write →
           IsStoppedScan device version root from limit notation
-          (λ bytes. TookAll seen bytes old mid)
+          (λ bytes. TookBytes seen bytes old mid)
           (λ fault bytes. TookUntil seen fault bytes old mid) fault →
           IsStoppedScan device version root from limit notation
           (λ bytes. TookAll seen bytes old new)
           (λ fault bytes. TookUntil seen fault bytes old new) (Run Write)
       stopped_unflushed fault other d = (
         d.0,
-        stop_cases device version root limit notation (λ bytes. TookAll seen bytes old mid)
+        stop_cases device version root limit notation (λ bytes. TookBytes seen bytes old mid)
             (λ fault bytes. TookUntil seen fault bytes old mid) fault d.0.lists
             (λ f. f ≢ Run Write → TookPart seen (limited_lines notation limit d.0.lists) old new)
             (λ of_root t other. subst (λ bytes. TookPart seen bytes old new)
@@ -499,14 +542,14 @@ module _ {W : Type 0} (seen : W → SinkView) (old mid new : W)
     (same : (seen mid).is_keeping ≡ true → (seen new).taken ≡ (seen mid).taken)
     (device : DeviceView) (version : Version) (root from : List ℕ) (limit : ℕ)
     (notation : Notation)
-    (d : IsDoneScan version root from limit notation (λ bytes. TookAll seen bytes old mid)) where
+    (d : IsDoneScan version root from limit notation (λ bytes. TookBytes seen bytes old mid)) where
   pub done_ended : (result : Result (Unit {0}) Fault) →
       CountsFailure (seen mid).failures (seen new).failures result →
-      OnOk result (IsDoneScan version root from limit notation
-      (λ bytes. TookAll seen bytes old new))
-  done_ended (Ok x) counted =
-      done_flushed seen old mid new keeping same counted device version root from limit notation d
-  done_ended (Err fault) counted = tt
+      OnOk result (IsSettled (seen new)) → OnOk result
+      (IsDoneScan version root from limit notation (λ bytes. TookAll seen bytes old new))
+  done_ended (Ok x) counted settled = done_flushed seen old mid new keeping same counted settled
+      device version root from limit notation d
+  done_ended (Err fault) counted settled = tt
 
   pub done_failed : (result : Result (Unit {0}) Fault) →
       CountsFailure (seen mid).failures (seen new).failures result →
@@ -549,13 +592,21 @@ stays_same old mid late first second honest =
 -- ---- the reader
 
 -- What it finds by its version and root is found by those that it had.
-pub way_from : (old now : ReaderView) (key next : List ℕ) (way : List (List ℕ))
-    (found : List Pair) → now.version ≡ old.version → now.root ≡ old.root → key ≡ next →
-    IsScanWay now.version now.root key way found → IsScanWay old.version old.root next way found
-way_from old now key next way found version root is found_there =
-    subst (λ v. IsScanWay v old.root next way found) version
-    (subst (λ r. IsScanWay now.version r next way found) root
-    (subst (λ key. IsScanWay now.version now.root key way found) is found_there))
+pub found_from : (old now : ReaderView) (key next : List ℕ) (most : ℕ) (way : List (List ℕ))
+    (pairs : List Pair) → now.version ≡ old.version → now.root ≡ old.root → key ≡ next →
+    AreFirstFound now.version now.root key most way pairs →
+    AreFirstFound old.version old.root next most way pairs
+found_from old now key next most way pairs version root is found =
+    subst (λ v. AreFirstFound v old.root next most way pairs) version
+    (subst (λ r. AreFirstFound now.version r next most way pairs) root
+    (subst (λ key. AreFirstFound now.version now.root key most way pairs) is found))
+
+-- What is promised where no memory is taken is also promised where it is.
+pub opened_fails : (device : DeviceView) (version : Version) (root : List ℕ) (fault : RootFault) →
+    ReadsLawful {T = Unit {0}} device version root (Err fault) →
+    AnswersLawful {T = Unit {0}} device version root (Err fault)
+opened_fails device version root fault only content holds is root_is =
+    inr (only content holds is root_is)
 
 module _ (first late : DeviceView) (same : StaysSame first late) (reader : ReaderView)
     (opened : IsOpened first reader) where
@@ -616,7 +667,8 @@ module _ {W : Type 0} (seen : W → SinkView) (mid late : W) (old new : ℕ) (fa
   flush_tells (inl failed) = inl (inr refl, failed.1)
   flush_tells (inr none) = inr (λ e. cc, none.1)
 
-  told_tells : ((told ≡ fault) × ((seen late).failures ≡ (seen mid).failures))
+  told_tells : ((told ≡ fault) × ((seen late).failures ≡ (seen mid).failures) ×
+      IsSettled (seen late))
       ⊎ ((told ≡ Run Write) × ((seen late).failures ≡ after_failure (seen mid).failures)) →
       TellsScanReads old new (Err told)
   told_tells (inl is) = subst (λ f. TellsScanReads old new (Err f)) (sym is.0) tells

@@ -2,14 +2,14 @@
 use Rattle.std.proofs.Common.{◌≡◌, ◌≢◌, ℕ, true, List, [], ◌++◌, Result, Ok, Err, refl, sym, ap}
 use Rattle.std.proofs.Common.{◌∙◌, subst, arith, append_assoc, append-nil}
 use Rattle.prolly_file.specs.Failures.{after_failure}
-use Rattle.prolly_file.specs.Sink.{SinkView}
+use Rattle.prolly_file.specs.Sink.{IsSettled, SinkView}
 use Rattle.prolly_file.specs.Writes.{Writes}
-use Rattle.prolly_tool.specs.Outputs.{TookAll, TookPart, TookPrefix}
+use Rattle.prolly_tool.specs.Outputs.{TookAll, TookBytes, TookPart, TookPrefix}
 
 -- So far the sink took these bytes, and goes on.
 pub record TookSoFar {W : Type 0} (seen : W → SinkView) (bytes : List ℕ) (old new : W)
     : Type 0 where
-  pub all : TookAll seen bytes old new
+  pub all : TookBytes seen bytes old new
   pub keeping : (seen old).is_keeping ≡ true → (seen new).is_keeping ≡ true
 
 -- What is written of a buffer that was cleared is what was appended to it.
@@ -32,8 +32,13 @@ module _ {W : Type 0} (seen : W → SinkView) where
   -- ---- all at once
 
   pub wrote_all : {T E : Type 0} (x : T) (bytes : List ℕ) (old new : W) →
-      Writes {T = T} {E = E} bytes (seen old) (seen new) (Ok x) → TookAll seen bytes old new
-  wrote_all x bytes old new w = record { unfailed = w.failures; took = w.written }
+      Writes {T = T} {E = E} bytes (seen old) (seen new) (Ok x) → IsSettled (seen new) →
+      TookAll seen bytes old new
+  wrote_all x bytes old new w settled = record {
+    unfailed = w.failures;
+    took = w.written;
+    settled = λ before. settled;
+  }
 
   pub wrote_part : {T E : Type 0} (x : E) (bytes : List ℕ) (old new : W) →
       Writes {T = T} {E = E} bytes (seen old) (seen new) (Err x) → TookPart seen bytes old new
@@ -96,10 +101,12 @@ module _ {W : Type 0} (seen : W → SinkView) where
     -- All are written, and the sink is flushed.
     module _ (new : W) (same : (seen mid).is_keeping ≡ true →
         (seen new).taken ≡ (seen mid).taken) where
-      pub flushed : (seen new).failures ≡ (seen mid).failures → TookAll seen done old new
-      flushed counted = record {
+      pub flushed : (seen new).failures ≡ (seen mid).failures → IsSettled (seen new) →
+          TookAll seen done old new
+      flushed counted settled = record {
         unfailed = counted ∙ so_far.all.unfailed;
         took = λ k. same (so_far.keeping k) ∙ so_far.all.took k;
+        settled = λ before. settled;
       }
 
       pub unflushed : (seen new).failures ≡ after_failure (seen mid).failures →

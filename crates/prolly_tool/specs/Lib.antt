@@ -10,7 +10,7 @@ pub mod Scratch
 pub mod Pack
 -- The line and the status of each fault. (This project's texts.)
 pub mod Faults
--- How a line names a file. (This project's texts.)
+-- What a line says of a file that it names. (This project's texts.)
 pub mod Names
 -- What the program prints.
 pub mod Answers

@@ -1,7 +1,7 @@
 -- What a command that makes a file does to the sink that it is lent, and what it answers.
 use Rattle.std.specs.Prelude.{◌≡◌, ◌≢◌, ℕ, ◌⊎◌, true, List, ◌++◌, Option, Some, None}
 use Rattle.prolly_entry.specs.Record.{Record}
-use Rattle.prolly_file.specs.Sink.{SinkView, TakesPrefix}
+use Rattle.prolly_file.specs.Sink.{IsSettled, SinkView, TakesPrefix}
 use Rattle.prolly_fault.specs.declared.fault.RunFault.{RunFault}
 use Rattle.prolly_fault.specs.declared.fault.RunFault.TheVariants.{Memory, Write}
 use Rattle.prolly_tool.specs.declared.answer.Answer.{Answer}
@@ -11,10 +11,18 @@ use Rattle.prolly_tool.specs.Answers.{ShowsLine, ShowsFault}
 
 -- ---- sinks
 
--- The sink took all of these bytes, and no call of it failed.
+-- The sink took all of these bytes, and no call of it failed. It may hold some of them back.
+pub record TookBytes {W : Type 0} (seen : W → SinkView) (bytes : List ℕ) (old new : W)
+    : Type 0 where
+  pub unfailed : (seen new).failures ≡ (seen old).failures
+  pub took : (seen old).is_keeping ≡ true → (seen new).taken ≡ (seen old).taken ++ bytes
+
+-- The sink took all of these bytes, no call of it failed, and where it had held no byte back before
+-- it holds none back now.
 pub record TookAll {W : Type 0} (seen : W → SinkView) (bytes : List ℕ) (old new : W) : Type 0 where
   pub unfailed : (seen new).failures ≡ (seen old).failures
   pub took : (seen old).is_keeping ≡ true → (seen new).taken ≡ (seen old).taken ++ bytes
+  pub settled : IsSettled (seen old) → IsSettled (seen new)
 
 -- A call of the sink failed, and it took a prefix of these bytes.
 pub record TookPart {W : Type 0} (seen : W → SinkView) (bytes : List ℕ) (old new : W) : Type 0 where

@@ -10,7 +10,7 @@ use Rattle.prolly_fault.specs.declared.fault.RunFault.{RunFault}
 use Rattle.prolly_fault.specs.declared.fault.RunFault.TheVariants.{Write}
 use Rattle.prolly_file.specs.Device.{DeviceView}
 use Rattle.prolly_file.specs.Failures.{after_failure}
-use Rattle.prolly_file.specs.Sink.{SinkView}
+use Rattle.prolly_file.specs.Sink.{IsSettled, SinkView}
 use Rattle.prolly_proof.specs.Descents.{AnswersLawful}
 use Rattle.prolly_proof.specs.Readers.{IsReaderOf, ReaderView}
 use Rattle.prolly_proof.specs.Walks.{HoldsFile}
@@ -104,5 +104,6 @@ IsRootScan device version root from limit notation took_all took_until tells ans
 pub record IsFlushed {W : Type 0} (seen : W → SinkView) (old new : W) (fault told : Fault)
     : Type 0 where
   pub same : (seen old).is_keeping ≡ true → (seen new).taken ≡ (seen old).taken
-  pub tells : ((told ≡ fault) × ((seen new).failures ≡ (seen old).failures))
+  pub tells : ((told ≡ fault) × ((seen new).failures ≡ (seen old).failures) ×
+      IsSettled (seen new))
       ⊎ ((told ≡ Run Write) × ((seen new).failures ≡ after_failure (seen old).failures))

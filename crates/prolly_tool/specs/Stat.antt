@@ -10,7 +10,7 @@ use Rattle.prolly_check.specs.Missing.{size_of}
 use Rattle.prolly_entry.specs.Cut.{sha512_cut}
 use Rattle.prolly_entry.specs.Reference.{reference_text}
 use Rattle.prolly_fault.specs.declared.fault.RunFault.TheVariants as runs
-use Rattle.prolly_file.specs.Source.{SourceView}
+use Rattle.prolly_file.specs.Source.{HandedOutFewer, SourceView}
 use Rattle.prolly_load.specs.Fault.{fault_of}
 use Rattle.prolly_load.specs.declared.surveyed.FlawedRecord.{FlawedRecord}
 use Rattle.prolly_load.specs.declared.surveyed.Survey.{Survey}
@@ -85,10 +85,16 @@ abbrev pub IsStatOf : Bool → StatForm → List ℕ → Type 0 → Answer → T
 IsStatOf true form bytes failed answer = IsLookUp bytes failed (ShowsTree form) answer
 IsStatOf false form bytes failed answer = IsSurveyAnswer bytes failed (ShowsRecords form) answer
 
+-- What kind of file it is could not be read: a read failed before four of its bytes were given, and
+-- this is told.
+pub record IsUnknown (bytes left : List ℕ) (failed : Type 0) (answer : Answer) : Type 0 where
+  pub fewer : HandedOutFewer 4 bytes left
+  pub unread : IsUnread failed answer
+
 -- The answer is of the kind of file that it is; or what kind that is could not be read.
-abbrev pub IsStat : StatForm → List ℕ → Type 0 → Answer → Type 0
-IsStat form bytes failed answer =
-    IsStatOf (is_chunk_file bytes) form bytes failed answer ⊎ IsUnread failed answer
+abbrev pub IsStat : StatForm → List ℕ → List ℕ → Type 0 → Answer → Type 0
+IsStat form bytes left failed answer =
+    IsStatOf (is_chunk_file bytes) form bytes failed answer ⊎ IsUnknown bytes left failed answer
 
 -- What `stat` answers to an honest source of a file of this kind, of what that has left.
 abbrev pub AnswersOf : {S : Type 0} → Bool → (S → SourceView) → S → S → StatForm →
@@ -97,11 +103,12 @@ AnswersOf is_chunk_file seen old new form result = (seen old).is_honest ≡ true
     IfOk result (IsStatOf is_chunk_file form (seen old).left
     ((seen new).failures ≢ (seen old).failures))
 
--- And to any honest source.
+-- And to any honest source, of what that had left and has left.
 abbrev pub AnswersStat : {S : Type 0} → (S → SourceView) → S → S → StatForm →
     Result Answer AllocError → Type 0
 AnswersStat seen old new form result = (seen old).is_honest ≡ true →
-    IfOk result (IsStat form (seen old).left ((seen new).failures ≢ (seen old).failures))
+    IfOk result (IsStat form (seen old).left (seen new).left
+    ((seen new).failures ≢ (seen old).failures))
 
 -- A failed read of any source is told as one of a chunk file or of file 0.
 abbrev pub AnswersBadRead : {S : Type 0} → (S → SourceView) → S → S → Result Answer AllocError →

@@ -6,11 +6,11 @@ ghost use Rattle.prolly_tool.specs.Answers.{ShowsName, ShowsRefusal};
 ghost use Rattle.prolly_tool.specs.LookUps.{ShowsPair, ShowsValue};
 
 use crate::fault::Fault;
-use crate::line_parts::{append_name, append_pair};
+use crate::line_parts::append_pair;
 use crate::name_fault::NameFault;
 use prolly_fault::RunFault;
 use prolly_line::ParseFault;
-use prolly_text::Notation;
+use prolly_text::{Notation, append_name};
 use std::alloc::{AllocError, Global};
 
 /// What the program prints, and the status with which it ends.
@@ -117,8 +117,8 @@ impl Answer {
     }
 
     /// The answer of a command that is not done since a file that the words name is at fault: a
-    /// line with its name, in which control bytes and backslashes are escaped, so that it stays one
-    /// line and names one file.
+    /// line with its name, in which control characters and backslashes are escaped, so that it
+    /// stays one line and names one file.
     pub fn of_name(alloc: Global, fault: NameFault, name: &str) -> Result<Answer, AllocError>
         ensures { IfOk result (λ answer. ShowsName answer fault name.now) }
     {

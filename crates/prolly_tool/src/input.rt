@@ -8,7 +8,7 @@ use prolly_file::{Source, WholeFault, read_whole};
 use std::alloc::Global;
 
 /// How many bytes a command reads at most.
-pub(crate) const INPUT_LIMIT: u32 = 1_073_741_824;
+pub const INPUT_LIMIT: u32 = 1_073_741_824;
 
 /// How many records a record file has at most.
 pub(crate) const RECORD_LIMIT: u32 = 16_777_216;

@@ -45,6 +45,7 @@ pub use fault::Fault;
 pub use found_answer::answer_found;
 pub use found_pair_answer::answer_found_pair;
 pub use get_answer::{answer_get, answer_get_as};
+pub use input::INPUT_LIMIT;
 pub use line_form::LineForm;
 pub use name_fault::NameFault;
 pub use nth_answer::{answer_nth, answer_nth_as};

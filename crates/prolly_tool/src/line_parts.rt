@@ -2,9 +2,8 @@
 ghost use Rattle.std.specs.Prelude.{◌≡◌, ◌++◌, ◌∷◌, OnOk};
 ghost use Rattle.std.specs.Fmt.{decimal};
 ghost use Rattle.prolly_text.specs.Notations.{separator, written};
-ghost use Rattle.prolly_tool.specs.Names.{shown_byte, shown_name};
 
-use prolly_text::{Notation, append_hex};
+use prolly_text::Notation;
 use std::alloc::{AllocError, Global};
 
 /// Appends a space, and the number in decimal.
@@ -34,29 +33,4 @@ pub(crate) fn append_pair(
     notation.append(alloc, line, key)?;
     line.push(notation.separator())?;
     notation.append(alloc, line, value)
-}
-
-/// Appends a file's name, as a line shows it.
-pub(crate) fn append_name(alloc: Global, line: &mut Vec<u8>, name: &str) -> Result<(), AllocError>
-    ensures { OnOk result (line.new.items ≡ line.old.items ++ shown_name name.now) }
-{
-    for byte in name.as_bytes() {
-        append_shown(alloc, line, *byte)?;
-    }
-    Ok(())
-}
-
-/// Appends a byte of a name, as a line shows it.
-fn append_shown(alloc: Global, line: &mut Vec<u8>, byte: u8) -> Result<(), AllocError>
-    ensures { OnOk result (line.new.items ≡ line.old.items ++ shown_byte byte) }
-{
-    if byte < 0x20 || byte == 0x7f {
-        line.extend_from_slice(b"\\x")?;
-        return append_hex(alloc, line, &[byte]);
-    }
-    if byte == b'\\' {
-        return line.extend_from_slice(b"\\\\");
-    }
-    line.push(byte)?;
-    Ok(())
 }

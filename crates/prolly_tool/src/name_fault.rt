@@ -12,6 +12,22 @@ pub enum NameFault {
     CannotReplace,
     /// The file is an input, over which the output would be written.
     IsInput,
+    /// A chunk file is to be written over a file that has bytes and is none. `--force` was not
+    /// given.
+    NotChunkFile,
+    /// A proof is to be written over a file that has bytes and is none. `--force` was not given.
+    NotProof,
+    /// A record file is to be written over a file that has bytes and does not begin as one does.
+    /// `--force` was not given.
+    NotRecordFile,
+    /// Lines are to be written over a file that has bytes which no lines have. `--force` was not
+    /// given.
+    NotLines,
+    /// The empty tree is to be written over a file that has bytes: a build was given neither record
+    /// files nor `--force`.
+    NotEmpty,
+    /// Another run is writing the file.
+    IsBusy,
 }
 
 impl NameFault {
@@ -23,6 +39,12 @@ impl NameFault {
             NameFault::CannotOpen => "cannot open ",
             NameFault::CannotReplace => "cannot replace ",
             NameFault::IsInput => "OUT is also an input: ",
+            NameFault::NotChunkFile => "OUT is not a chunk file: ",
+            NameFault::NotProof => "OUT is not a proof: ",
+            NameFault::NotRecordFile => "OUT is not a record file: ",
+            NameFault::NotLines => "OUT is not a file of lines: ",
+            NameFault::NotEmpty => "OUT is not empty, and no FILES are given: ",
+            NameFault::IsBusy => "another run writes OUT: ",
         }
     }
 }

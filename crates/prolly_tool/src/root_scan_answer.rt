@@ -1,12 +1,13 @@
 //! The command `scan` of a file of which only the root is believed.
-ghost use Rattle.std.specs.Prelude.{◌≡◌, ◌≢◌, ◌⊎◌, ◌↔◌, IfOk, IfErr, OnOk, OnErr, take, true};
+ghost use Rattle.std.specs.Prelude.{◌≡◌, ◌≢◌, ◌⊎◌, ◌↔◌, IfOk, IfErr, OnOk, OnErr, true};
 ghost use Rattle.std.specs.Prelude.{Err, IsTrue};
 ghost use Rattle.prolly_check.specs.ScanWay.{next_key};
 ghost use Rattle.prolly_file.specs.Device.{DeviceView};
 ghost use Rattle.prolly_file.specs.Failures.{CountsFailure};
+ghost use Rattle.prolly_file.specs.Sink.{IsSettled};
 ghost use Rattle.prolly_proof.specs.Walks.{StaysSame};
 ghost use Rattle.prolly_tool.specs.LookUps.{pair_lines};
-ghost use Rattle.prolly_tool.specs.Outputs.{TookAll, TookUntil};
+ghost use Rattle.prolly_tool.specs.Outputs.{TookAll, TookBytes, TookUntil};
 ghost use Rattle.prolly_tool.specs.RootScans.{IsDoneScan, IsFlushed, IsOpened, IsRootScan};
 ghost use Rattle.prolly_tool.specs.RootScans.{IsStoppedScan, TellsScanReads};
 ghost use Rattle.prolly_tool.specs.declared.fault.Fault.{Fault as FaultValue};
@@ -44,8 +45,9 @@ pub struct RootScan<'a> {
 ///
 /// It goes on leaf by leaf, and looks each up from the root with one [`Reader`], which goes over
 /// the frames below a chunk once and reads no chunk twice. It takes memory for one look-up, and for
-/// the pairs and the lines of one leaf. What the pairs of such look-ups are of the map with the
-/// root is said by [`ways_are_right`](prolly_check::laws::ways_are_right). The sink is called once
+/// the pairs and the lines of one leaf, or of as many of them as are still wanted. What the pairs of
+/// such look-ups are of the map with the root is said by
+/// [`ways_are_right`](prolly_check::laws::ways_are_right). The sink is called once
 /// for each leaf, or more often where it takes only a part, and flushed at the end. Where the limit
 /// is 0, nothing is read.
 pub fn answer_scan_by_root<D: Device, W: Sink>(
@@ -110,11 +112,11 @@ fn write_leaves<D: Device, W: Sink>(
     sink: &mut W,
 ) -> Result<(), Fault>
     ensures ok { OnOk result (IsDoneScan reader.version reader.root scan.now.from.now
-        scan.now.limit scan.now.notation (λ bytes. TookAll W.seen bytes sink.old sink.new)) }
+        scan.now.limit scan.now.notation (λ bytes. TookBytes W.seen bytes sink.old sink.new)) }
     ensures err { (first : DeviceView) → StaysSame first (D.seen device.old) →
         IsOpened first reader → IfErr result (IsStoppedScan first reader.version reader.root
         scan.now.from.now scan.now.limit scan.now.notation
-        (λ bytes. TookAll W.seen bytes sink.old sink.new)
+        (λ bytes. TookBytes W.seen bytes sink.old sink.new)
         (λ fault bytes. TookUntil W.seen fault bytes sink.old sink.new)) }
     ensures keeping { (W.seen sink.old).is_keeping ≡ true → (W.seen sink.new).is_keeping ≡ true }
     ensures reads { TellsScanReads (D.seen device.old).failures (D.seen device.new).failures
@@ -125,17 +127,21 @@ fn write_leaves<D: Device, W: Sink>(
     };
     let mut left = scan.limit as usize;
     while left > 0 {
-        let pairs = match reader.pairs_from(alloc, device, &next) {
+        let pairs = match reader.pairs_from(alloc, device, &next, left) {
             Ok(pairs) => pairs,
             Err(fault) => return Err(Fault::Root(fault)),
         };
         let Some(last) = pairs.last() else {
             return Ok(());
         };
-        if let Err(fault) = write_first(alloc, scan.notation, &pairs, left, sink) {
+        if let Err(fault) = write_lines(alloc, scan.notation, &pairs, sink) {
             return Err(Fault::Run(fault));
         }
-        left = left.saturating_sub(pairs.len());
+        let count = pairs.len();
+        if count >= left {
+            return Ok(());
+        }
+        left -= count;
         next = match key_behind(alloc, last.key()) {
             Ok(next) => next,
             Err(_) => return Err(Fault::Run(RunFault::Memory)),
@@ -144,37 +150,25 @@ fn write_leaves<D: Device, W: Sink>(
     Ok(())
 }
 
-/// Writes the lines of the first of the pairs of a leaf, at most so many.
-fn write_first<W: Sink>(
+/// Writes the lines of the pairs of a leaf.
+fn write_lines<W: Sink>(
     alloc: Global,
     notation: Notation,
     pairs: &[Pair],
-    most: usize,
     sink: &mut W,
 ) -> Result<(), RunFault>
-    ensures ok { OnOk result
-        (TookAll W.seen (pair_lines notation (take most pairs.now)) sink.old sink.new) }
-    ensures err { IfErr result (λ fault. TookUntil W.seen fault
-        (pair_lines notation (take most pairs.now)) sink.old sink.new) }
+    ensures ok { OnOk result (TookBytes W.seen (pair_lines notation pairs.now) sink.old sink.new) }
+    ensures err { IfErr result (λ fault.
+        TookUntil W.seen fault (pair_lines notation pairs.now) sink.old sink.new) }
     ensures keeping { (W.seen sink.old).is_keeping ≡ true → (W.seen sink.new).is_keeping ≡ true }
 {
-    let Ok(lines) = lines_of(alloc, notation, first_of(pairs, most)) else {
+    let Ok(lines) = lines_of(alloc, notation, pairs) else {
         return Err(RunFault::Memory);
     };
     match write_all(sink, &lines) {
         Ok(()) => Ok(()),
         Err(_) => Err(RunFault::Write),
     }
-}
-
-/// The first of the pairs, at most so many.
-fn first_of(pairs: &[Pair], most: usize) -> &[Pair]
-    ensures { result.now ≡ take most pairs.now }
-{
-    if pairs.len() <= most {
-        return pairs;
-    }
-    &pairs[..most]
 }
 
 /// The least key that is greater than this one.
@@ -190,6 +184,7 @@ fn key_behind(alloc: Global, key: &[u8]) -> Result<Vec<u8>, AllocError>
 fn flush<W: Sink>(sink: &mut W) -> Result<(), Fault>
     ensures bytes { (W.seen sink.old).is_keeping ≡ true →
         (W.seen sink.new).taken ≡ (W.seen sink.old).taken }
+    ensures settled { OnOk result (IsSettled (W.seen sink.new)) }
     ensures failures { CountsFailure (W.seen sink.old).failures (W.seen sink.new).failures result }
     ensures fault { IfErr result (λ fault. fault ≡ Run RunFault.Write) }
 {
@@ -208,9 +203,9 @@ fn fault_flushed<W: Sink>(sink: &mut W, fault: Fault) -> Fault
     if is_failed_write(fault) {
         return fault;
     }
-    match sink.flush() {
+    match flush(sink) {
         Ok(()) => fault,
-        Err(_) => Fault::Run(RunFault::Write),
+        Err(failed) => failed,
     }
 }
 

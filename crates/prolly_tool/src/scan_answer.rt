@@ -1,5 +1,5 @@
 //! The command `scan`: pairs from a key on.
-ghost use Rattle.std.specs.Prelude.{◌≡◌, IfOk, OnOk};
+ghost use Rattle.std.specs.Prelude.{◌≡◌, ◌-◌, ◌++◌, length, take, IfOk, OnOk};
 ghost use Rattle.prolly_text.specs.declared.notation.Notation.TheVariants.{Hex};
 ghost use Rattle.prolly_tool.specs.LookUps.{AnswersFailedRead, AnswersLookUp, ShowsScan};
 ghost use Rattle.prolly_tool.specs.LookUps.{pair_lines};
@@ -8,7 +8,7 @@ use crate::answer::Answer;
 use crate::fault::Fault;
 use crate::input::INPUT_LIMIT;
 use crate::line_parts::append_pair;
-use prolly_check::check;
+use prolly_check::{Leaves, Pairs, check};
 use prolly_entry::Pair;
 use prolly_file::Source;
 use prolly_text::Notation;
@@ -16,9 +16,10 @@ use std::alloc::{AllocError, Global};
 
 /// What `scan` answers: a line of key and value in this notation for each of the first `limit`
 /// pairs whose key is not less than `from`; or the line of the fault of a file that `check`
-/// refuses. An `Err` is want of memory for the pairs or for the answer's own text.
+/// refuses. An `Err` is want of memory for the answer's own text.
 ///
-/// The file is checked first, as by `check`; the look-up itself stops at its limit.
+/// The file is checked first, as by `check`. Beside what that takes, memory is taken for the lines
+/// alone: they are made from where the pairs lie, leaf by leaf, up to the limit.
 pub fn answer_scan_as<S: Source>(
     alloc: Global,
     source: &mut S,
@@ -34,8 +35,7 @@ pub fn answer_scan_as<S: Source>(
         Ok(tree) => tree,
         Err(fault) => return Answer::of_fault(alloc, Fault::Check(fault)),
     };
-    let pairs = tree.scan(alloc, from, limit)?;
-    let lines = lines_of(alloc, notation, &pairs)?;
+    let lines = first_lines(alloc, notation, tree.leaves_from(from), limit)?;
     Ok(Answer::of_lines(alloc, lines))
 }
 
@@ -51,6 +51,52 @@ pub fn answer_scan<S: Source>(
     ensures read { AnswersFailedRead S.seen source.old source.new result }
 {
     answer_scan_as(alloc, source, from, limit, Notation::Hex)
+}
+
+/// A line for each of the first pairs of the leaves, at most `limit` of them. Asks for no leaf
+/// behind the one that has the last of them.
+fn first_lines(
+    alloc: Global,
+    notation: Notation,
+    mut leaves: Leaves,
+    limit: u32,
+) -> Result<Vec<u8>, AllocError>
+    ensures { IfOk result (λ lines. lines.items ≡ pair_lines notation (take limit leaves.entry)) }
+{
+    let mut lines = Vec::new(alloc);
+    let mut left = limit;
+    while left > 0 {
+        let Some(leaf) = leaves.next() else {
+            return Ok(lines);
+        };
+        left = append_first(alloc, &mut lines, notation, leaf, left)?;
+    }
+    Ok(lines)
+}
+
+/// Appends a line for each of the first pairs of a leaf, at most `limit` of them. Answers how many
+/// more are within the limit.
+fn append_first(
+    alloc: Global,
+    lines: &mut Vec<u8>,
+    notation: Notation,
+    mut leaf: Pairs,
+    limit: u32,
+) -> Result<u32, AllocError>
+    ensures lines { OnOk result (lines.new.items ≡
+        lines.old.items ++ pair_lines notation (take limit leaf.entry)) }
+    ensures left { IfOk result (λ left. left ≡ limit - length leaf.entry) }
+{
+    let mut left = limit;
+    while left > 0 {
+        let Some((key, value)) = leaf.next() else {
+            return Ok(left);
+        };
+        append_pair(alloc, lines, notation, key, value)?;
+        lines.extend_from_slice(b"\n")?;
+        left -= 1;
+    }
+    Ok(left)
 }
 
 /// A line for each pair.

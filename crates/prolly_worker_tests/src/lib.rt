@@ -4,6 +4,8 @@
 #![tactic(auto)]
 
 #[cfg(test)]
+mod growths;
+#[cfg(test)]
 mod links;
 #[cfg(test)]
 mod loading;

@@ -17,10 +17,10 @@ use std::test::Fail;
 mod sources;
 
 /// The record file that puts 1 at a, b and c, eight bytes a record.
-const THREE_PUTS: &[u8] = b"\0\x01a\0\0\0\x011\0\x01b\0\0\0\x011\0\x01c\0\0\0\x011";
+pub(crate) const THREE_PUTS: &[u8] = b"\0\x01a\0\0\0\x011\0\x01b\0\0\0\x011\0\x01c\0\0\0\x011";
 
 /// Loads a source as file 0 into a list.
-fn load_all<S: Source>(
+pub(crate) fn load_all<S: Source>(
     rt: &impl Wait,
     alloc: Global,
     source: S,
@@ -30,7 +30,7 @@ fn load_all<S: Source>(
 }
 
 /// The bytes of these records in a file.
-fn bytes_of(alloc: Global, records: &[Record]) -> Result<Vec<u8>, AllocError> {
+pub(crate) fn bytes_of(alloc: Global, records: &[Record]) -> Result<Vec<u8>, AllocError> {
     let mut bytes = Vec::new(alloc);
     for record in records {
         append_record(&mut bytes, record)?;

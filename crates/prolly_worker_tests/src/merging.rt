@@ -2,7 +2,9 @@
 use crate::links::comparing::{expect_all_taken, expect_bytes, expect_eq, expect_sent};
 use prolly_entry::{Pair, Record};
 use prolly_fault::{End, ListIn, Receiver, RunFault};
+use prolly_file::FromRead;
 use prolly_link::{In, ListOut, link};
+use prolly_load::load;
 use prolly_merge::{merge, merge_two};
 use std::alloc::{AllocError, Global};
 use std::process::Abort;
@@ -113,11 +115,11 @@ fn merges_two_inputs_with_their_removals(rt: HostRuntime) -> Result<(), Fail> {
 }
 
 /// Merges two inputs, and compares the records and the end.
-fn expect_two_merged<R: Abort + Wait>(
+fn expect_two_merged<I: In<Record, RunFault> + Drop, R: Abort + Wait>(
     rt: &R,
     alloc: Global,
-    left: ListIn<Record>,
-    right: ListIn<Record>,
+    left: I,
+    right: I,
     sent: &[u8],
     last: End,
 ) -> Result<(), Fail> {
@@ -154,6 +156,45 @@ fn a_lost_input_ends_with_a_fault(rt: HostRuntime) -> Result<(), Fail> {
     expect_merged(&rt, rt.alloc(), inputs, b"a1b1", lost)
 }
 
+// The same of each of two inputs.
+#[test]
+fn a_lost_input_of_two_ends_with_a_fault(rt: HostRuntime) -> Result<(), Fail> {
+    let lost = End::Fault(RunFault::Lost);
+    for is_left_closed in [false, true] {
+        let left = input_of(&rt, rt.alloc(), b"a1c1", is_left_closed)?;
+        let right = input_of(&rt, rt.alloc(), b"b1", !is_left_closed)?;
+        let sent = if is_left_closed {
+            b"a1b1".as_slice()
+        } else {
+            b"a1b1c1"
+        };
+        expect_two_merged(&rt, rt.alloc(), left, right, sent, lost)?;
+    }
+    Ok(())
+}
+
+/// The list of the records of a file of this number.
+fn loaded(rt: &impl Wait, alloc: Global, number: u32, file: &[u8]) -> ListIn<Record> {
+    let source = FromRead::new(file);
+    let sent = load(rt, alloc, number, source, 1_000, ListOut::new(alloc)).out;
+    ListIn::new(sent.items, sent.last)
+}
+
+/// The record file of 5=1 and 3=1, and that of 1=1, 2=1 and 7=1.
+const TWO_FILES: [&[u8]; 2] = [
+    b"\0\x015\0\0\0\x011\0\x013\0\0\0\x011",
+    b"\0\x011\0\0\0\x011\0\x012\0\0\0\x011\0\x017\0\0\0\x011",
+];
+
+#[test]
+fn loaded_files_are_merged(rt: HostRuntime) -> Result<(), Fail> {
+    let [first, second] = TWO_FILES;
+    let mut inputs = Vec::new(rt.alloc());
+    inputs.push(loaded(&rt, rt.alloc(), 0, first))?;
+    inputs.push(loaded(&rt, rt.alloc(), 1, second))?;
+    expect_merged(&rt, rt.alloc(), inputs, b"112151", FIRST_FAULT)
+}
+
 /// The receiver of these records, spelled as in `records_of`, behind which the sender is closed or
 /// dropped.
 fn input_of<R: Abort + Wait>(
@@ -172,7 +213,10 @@ fn input_of<R: Abort + Wait>(
 }
 
 // The lists of these inputs, each with its end.
-fn lists_of(alloc: Global, inputs: &[(&[u8], End)]) -> Result<Vec<ListIn<Record>>, AllocError> {
+pub(crate) fn lists_of(
+    alloc: Global,
+    inputs: &[(&[u8], End)],
+) -> Result<Vec<ListIn<Record>>, AllocError> {
     let mut lists = Vec::new(alloc);
     for (records, end) in inputs {
         lists.push(list_of(alloc, records, *end)?)?;
@@ -181,7 +225,11 @@ fn lists_of(alloc: Global, inputs: &[(&[u8], End)]) -> Result<Vec<ListIn<Record>
 }
 
 // A list of these records, spelled as in `records_of`, with its end.
-fn list_of(alloc: Global, bytes: &[u8], last: End) -> Result<ListIn<Record>, AllocError> {
+pub(crate) fn list_of(
+    alloc: Global,
+    bytes: &[u8],
+    last: End,
+) -> Result<ListIn<Record>, AllocError> {
     Ok(ListIn::new(records_of(alloc, bytes)?, last))
 }
 
@@ -202,7 +250,7 @@ fn record_of(alloc: Global, key: u8, value: u8) -> Result<Record, AllocError> {
     }
 }
 
-fn bytes_of_pairs(alloc: Global, pairs: &[Pair]) -> Result<Vec<u8>, AllocError> {
+pub(crate) fn bytes_of_pairs(alloc: Global, pairs: &[Pair]) -> Result<Vec<u8>, AllocError> {
     let mut bytes = Vec::new(alloc);
     for pair in pairs {
         bytes.extend_from_slice(pair.key())?;
@@ -211,7 +259,7 @@ fn bytes_of_pairs(alloc: Global, pairs: &[Pair]) -> Result<Vec<u8>, AllocError> 
     Ok(bytes)
 }
 
-fn bytes_of_records(alloc: Global, records: &[Record]) -> Result<Vec<u8>, AllocError> {
+pub(crate) fn bytes_of_records(alloc: Global, records: &[Record]) -> Result<Vec<u8>, AllocError> {
     let mut bytes = Vec::new(alloc);
     for record in records {
         bytes.extend_from_slice(record.key())?;

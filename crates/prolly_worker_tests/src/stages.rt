@@ -17,10 +17,10 @@ use std::thread;
 use turns::{Counted, Turns};
 
 mod links;
-mod lists;
+pub(crate) mod lists;
 mod turns;
 
-const KEYS: [&[u8]; 6] = [b"a", b"b!", b"c", b"d!", b"e", b"f!"];
+pub(crate) const KEYS: [&[u8]; 6] = [b"a", b"b!", b"c", b"d!", b"e", b"f!"];
 
 /// The leaves of the first five keys, each with the value 1: two that a boundary closes, and what
 /// is left.
@@ -51,7 +51,7 @@ fn expect_leaves<R: Abort + Wait>(
 }
 
 /// The levels of these events.
-fn levels_of(alloc: Global, events: &[ChunkEvent]) -> Result<Vec<u8>, AllocError> {
+pub(crate) fn levels_of(alloc: Global, events: &[ChunkEvent]) -> Result<Vec<u8>, AllocError> {
     let mut levels = Vec::new(alloc);
     for event in events {
         levels.push(event.level())?;
@@ -178,6 +178,20 @@ fn a_stage_runs_between_threads(rt: HostRuntime) -> Result<(), Fail> {
     let worked = expect_stage_at_work(&rt, rt.alloc(), pairs, &mut events);
     drop(stage.join(&rt));
     worked
+}
+
+// The leaf that was begun is not sent.
+#[test]
+fn a_lost_input_of_the_leaves_is_a_fault(rt: HostRuntime) -> Result<(), Fail> {
+    let (mut sender, input) = link(rt.alloc(), 4)?;
+    expect_all_taken(&rt, &mut sender, pairs_of(rt.alloc(), &KEYS[..3])?);
+    drop(sender);
+    let out = ListOut::new(rt.alloc());
+    let Staged { input, out } = leaf_stage(&rt, rt.alloc(), KeyCut, input, out);
+    drop(input);
+    let lost = End::Fault(RunFault::Lost);
+    expect_sent(&rt, (out.items.len() as u64, out.last), (1, lost));
+    Ok(())
 }
 
 #[test]

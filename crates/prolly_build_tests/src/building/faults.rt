@@ -41,10 +41,11 @@ const TOO_TALL: Option<RunFault> = Some(RunFault::TooTall);
 
 pub(super) const WRITE_FAILED: Option<RunFault> = Some(RunFault::Write);
 
-/// Record files, the stages and the limit of records they are built with, the fault, the map of the
-/// file that is begun, and how many bytes of it are written. None has an end record, which has 29
-/// bytes.
-const FAULTY_FILES: [(&[&[u8]], u8, u32, Option<RunFault>, &[u8], usize); 10] = [
+/// Record files, the stages and the limit of records they are built with, the fault, if any, the map
+/// of the file that is begun, and how many bytes of it are written. Where there is a fault it has no
+/// end record, which has 29 bytes.
+const FAULTY_FILES: [(&[&[u8]], u8, u32, Option<RunFault>, &[u8], usize); 14] = [
+    (&[b"a1a2"], 12, 1_000, OUT_OF_ORDER, b"a1", 24),
     (&[b"a1a2", b""], 12, 1_000, OUT_OF_ORDER, b"a1", 24),
     (
         &[b"5131", b"112171"],
@@ -73,8 +74,18 @@ const FAULTY_FILES: [(&[&[u8]], u8, u32, Option<RunFault>, &[u8], usize); 10] = 
         b"a1b1",
         98,
     ),
+    (&[b"a1b1", b"c1d1"], 12, 2, None, b"a1b1c1d1", 275),
+    (&[b"a1b1c1"], 2, 1_000, TOO_TALL, b"a1b1c1", 116),
     (&[b"a1b1c1", b""], 2, 3, TOO_TALL, b"a1b1c1", 116),
     (&[b"a1", b"b1"], 1, 1, TOO_TALL, b"a1b1", 24),
+    (
+        &[b"a1b1c1d1d1"],
+        2,
+        1_000,
+        Some(RunFault::OutOfOrder { file: 0, place: 4 }),
+        b"a1b1c1d1",
+        134,
+    ),
     (
         &[b"a1b1c1d1d1", b""],
         2,
@@ -124,7 +135,7 @@ const SECOND_LONG_KEY: Option<RunFault> = Some(RunFault::KeyTooLong { file: 0, p
 
 /// Record files, the limit of records they are built with, how many bytes a read gives, the read
 /// that would fail, the fault, and how many bytes of the chunk file of a=1 and b=1 are written.
-const CUT_FILES: [(&[u8], u32, usize, Option<u64>, Option<RunFault>, usize); 11] = [
+const CUT_FILES: [(&[u8], u32, usize, Option<u64>, Option<RunFault>, usize); 13] = [
     (b"\0", 1_000, 4_096, None, CUT, 6),
     (b"\0\x01", 1_000, 4_096, None, CUT, 6),
     (b"\0\x01a\0\0", 1_000, 4_096, None, CUT, 6),
@@ -141,6 +152,22 @@ const CUT_FILES: [(&[u8], u32, usize, Option<u64>, Option<RunFault>, usize); 11]
         6,
     ),
     (b"\0\x01a\xFF\xFF\xFF\xFF\0", 1, 4_096, None, MANY, 6),
+    (
+        b"\0\x01a\0\0\0\x011\0\x01b\0\0\0\x011\0",
+        2,
+        4_096,
+        None,
+        MANY,
+        98,
+    ),
+    (
+        b"\0\x01a\0\0\0\x011\0\x01b\0\0\0\x011",
+        2,
+        4_096,
+        None,
+        None,
+        127,
+    ),
     (
         b"\0\x01a\0\0\0\x011\0\x01b\0\0\0\x011",
         1_000,

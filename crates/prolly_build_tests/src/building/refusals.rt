@@ -3,47 +3,87 @@ use super::*;
 use crate::expect::expect_eq;
 use prolly_file::{Source, SourceFault};
 use prolly_stage::Worker;
-
-/// A permit that refuses one worker.
-#[derive(Drop)]
-struct AllBut(Worker);
-
-impl Permit for AllBut {
-    fn may_start(&self, worker: Worker) -> bool {
-        worker != self.0
-    }
-}
+use std::sync::atomic::{AtomicUsize, Ordering};
 
 const THREE_FILES: [&[u8]; 3] = [b"a1d1", b"b1", b"c1e1"];
 
+/// The workers of a build of three files with four stages, in the order in which they start.
 const WORKERS: [Worker; 9] = [
+    Worker::Stage(3),
+    Worker::Stage(2),
+    Worker::Stage(1),
+    Worker::Stage(0),
+    Worker::Merger(1),
+    Worker::Merger(0),
     Worker::Loader(0),
     Worker::Loader(1),
     Worker::Loader(2),
-    Worker::Merger(0),
-    Worker::Merger(1),
-    Worker::Stage(0),
-    Worker::Stage(1),
-    Worker::Stage(2),
-    Worker::Stage(3),
 ];
 
-/// Fails unless a build to which this worker was refused ended in that fault, and took no bytes.
-fn expect_no_thread(rt: &impl Abort, worker: Worker, fault: Option<RunFault>, taken: &[u8]) {
-    let expected = (worker, Some(RunFault::NoThread), b"".as_slice());
-    expect_eq(rt, &(worker, fault, taken), &expected);
+/// How many of them are started before the loaders.
+const BEFORE_LOADERS: usize = 6;
+
+/// A permit for so many workers, and no more. It counts how often it is asked, and how often for
+/// another worker than the one whose turn it is.
+#[derive(Drop)]
+struct InTurn {
+    granted: usize,
+    asked: AtomicUsize,
+    out_of_turn: AtomicUsize,
 }
 
-/// Fails unless a build to which this worker is refused ends in that fault, and nothing is written.
-fn expect_refusal<R: Wait + Threads + Sync + Abort>(
+impl InTurn {
+    fn new(granted: usize) -> InTurn {
+        InTurn {
+            granted,
+            asked: AtomicUsize::new(0),
+            out_of_turn: AtomicUsize::new(0),
+        }
+    }
+
+    fn asked(&self) -> usize {
+        self.asked.load(Ordering::SeqCst)
+    }
+
+    fn out_of_turn(&self) -> usize {
+        self.out_of_turn.load(Ordering::SeqCst)
+    }
+}
+
+impl Permit for InTurn {
+    fn may_start(&self, worker: Worker) -> bool {
+        let place = self.asked.fetch_add(1, Ordering::SeqCst);
+        if WORKERS.get(place) != Some(&worker) {
+            self.out_of_turn.fetch_add(1, Ordering::SeqCst);
+        }
+        place < self.granted
+    }
+}
+
+/// Fails unless no source behind so many was read. One that was has given all it has.
+fn expect_unread(rt: &impl Abort, sources: &mut [ScriptSource], read: usize) {
+    for (place, source) in sources.iter_mut().enumerate() {
+        if place >= read {
+            expect_eq(rt, &source.read(&mut [0]), &Ok(1));
+        }
+    }
+}
+
+/// Builds where so many workers may start, and fails unless there is this fault, or none, the permit
+/// was asked so often, each time for the worker whose turn it was, and the sink has taken these
+/// bytes. A source whose loader did not start is as it was.
+fn expect_started<R: Wait + Threads + Sync + Abort>(
     rt: &R,
     alloc: Global,
-    worker: Worker,
+    granted: usize,
+    asked: usize,
+    fault: Option<RunFault>,
+    taken: &[u8],
 ) -> Result<(), Fail> {
     let config = settings(4)?;
     let mut sources = sources_of(alloc, &THREE_FILES)?;
     let mut sink = open_sink(alloc);
-    let permit = AllBut(worker);
+    let permit = InTurn::new(granted);
     let built = build_with(
         rt,
         alloc,
@@ -53,20 +93,24 @@ fn expect_refusal<R: Wait + Threads + Sync + Abort>(
         &OpenGate,
         &permit,
     );
-    expect_no_thread(rt, worker, built.err(), sink.taken());
+    let outcome = (built.err(), permit.asked(), sink.taken());
+    expect_outcome(rt, outcome, (fault, asked, taken));
+    expect_eq(rt, &(granted, permit.out_of_turn()), &(granted, 0));
+    expect_unread(rt, &mut sources, granted.saturating_sub(BEFORE_LOADERS));
     Ok(())
 }
 
+// Behind the refusal of one nobody is asked for.
 #[test]
-fn each_worker_may_be_refused(rt: HostRuntime) -> Result<(), Fail> {
-    for &worker in &WORKERS {
-        expect_refusal(&rt, rt.alloc(), worker)?;
+fn workers_start_in_turn_and_each_may_be_refused(rt: HostRuntime) -> Result<(), Fail> {
+    let alloc = rt.alloc();
+    let no_thread = Some(RunFault::NoThread);
+    for granted in 0..WORKERS.len() {
+        expect_started(&rt, alloc, granted, granted + 1, no_thread, b"")?;
     }
-    let config = settings(4)?;
-    let file = file_of(rt.alloc(), b"a1b1c1d1e1")?;
-    let report = expect_file(&rt, rt.alloc(), &config, &OpenGate, &THREE_FILES, &file)?;
-    expect_numbers(&rt, &report, (11, 5, 4));
-    Ok(())
+    let file = file_of(alloc, b"a1b1c1d1e1")?;
+    assert!(rt; file.len() == 415);
+    expect_started(&rt, alloc, WORKERS.len(), WORKERS.len(), None, &file)
 }
 
 /// So many sources, of which each fails at its first read.

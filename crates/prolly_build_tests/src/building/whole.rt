@@ -10,7 +10,7 @@ const FIVE: &[u8] = b"a1b1c1d1e1";
 
 /// Record files, the map that they come to, the length of its chunk file, and the numbers of
 /// chunks, pairs and levels.
-const WHOLE_FILES: [(&[&[u8]], &[u8], usize, (u64, u64, u8)); 12] = [
+const WHOLE_FILES: [(&[&[u8]], &[u8], usize, (u64, u64, u8)); 13] = [
     (&[], b"", 45, (1, 0, 1)),
     (&[b""], b"", 45, (1, 0, 1)),
     (&[b"a-"], b"", 45, (1, 0, 1)),
@@ -20,6 +20,7 @@ const WHOLE_FILES: [(&[&[u8]], &[u8], usize, (u64, u64, u8)); 12] = [
     (&[b"a1", b"b1", b"a-", b""], b"b1", 53, (1, 1, 1)),
     (&[b"a1b1"], b"a1b1", 127, (3, 2, 2)),
     (&[b"a1b1c1"], b"a1b1c1", 234, (6, 3, 3)),
+    (&[b"a1", b"b1", b"c1", b"d1"], b"a1b1c1d1", 275, (7, 4, 3)),
     (&[FIVE], FIVE, 415, (11, 5, 4)),
     (&[b"a1d1", b"b1", b"c1e1"], FIVE, 415, (11, 5, 4)),
     (&[b"a0c0e0", FIVE], FIVE, 415, (11, 5, 4)),

@@ -5,16 +5,22 @@ use prolly_fault::RunFault;
 use prolly_tool::{Report, answer_build};
 use std::test::Fail;
 
+/// The root of the chunk file of a=1, b=1 and c=1, of 0 bits.
+const ROOT_OF_THREE: Ref = Ref([
+    0x99, 0x9E, 0x24, 0x8A, 0x92, 0x65, 0x82, 0x5B, 0x3A, 0x39, 0x54, 0x9B, 0xFA, 0x46, 0xB9, 0xE3,
+    0x36, 0x06, 0x4F, 0x9C,
+]);
+
 #[test]
 fn shows_the_report(rt: HostRuntime) -> Result<(), Fail> {
     let report = Report {
-        root: Ref::of(b"abc"),
-        chunks: 11,
-        pairs: 5,
-        levels: 4,
+        root: ROOT_OF_THREE,
+        chunks: 6,
+        pairs: 3,
+        levels: 3,
     };
     let answer = answer_build(rt.alloc(), &Ok(report))?;
-    let line = b"rmnjb8cjc5tblj21ed4qs821649eduie 11 5 4\n";
+    let line = b"j6f292kicm15mehpaidvkhlpscr0cjss 6 3 3\n";
     expect_answer(&rt, &answer, 0, line, b"");
     Ok(())
 }

@@ -14,6 +14,10 @@ const B: &[u8] = b"\0\0\x01b\0\0\0\x011";
 
 const C: &[u8] = b"\0\0\x01c\0\0\0\x011";
 
+const D: &[u8] = b"\0\0\x01d\0\0\0\x011";
+
+const E: &[u8] = b"\0\0\x01e\0\0\0\x011";
+
 /// The leaves of the keys a, b!, c, d! and e, where an exclamation mark closes a leaf.
 const FIRST: &[u8] = b"\0\0\x01a\0\0\0\x011\0\x02b!\0\0\0\x011";
 
@@ -157,6 +161,36 @@ fn version_two_counts(rt: HostRuntime) -> Result<(), Fail> {
     let lengths = [53, 143, 274];
     let counts: [&[u8]; 3] = [b"\x01\x01", b"\x01", b"\x02\x01"];
     expect_small_files(&rt, rt.alloc(), Version::Two, lengths, counts)
+}
+
+/// The nodes of level 1 of the file of the keys a to e.
+fn low_nodes_of_letters(alloc: Global) -> Result<[Vec<u8>; 3], Fail> {
+    let first = node_of(alloc, 1, &[(b"a", A), (b"b", B)], &[])?;
+    let second = node_of(alloc, 1, &[(b"c", C), (b"d", D)], &[])?;
+    let last = node_of(alloc, 1, &[(b"e", E)], &[])?;
+    Ok([first, second, last])
+}
+
+/// Those of the levels above: two nodes and the root.
+fn high_nodes_of_letters(
+    alloc: Global,
+    [first, second, last]: &[Vec<u8>; 3],
+) -> Result<[Vec<u8>; 3], Fail> {
+    let left = node_of(alloc, 2, &[(b"b", first), (b"d", second)], &[])?;
+    let right = node_of(alloc, 2, &[(b"e", last)], &[])?;
+    let root = node_of(alloc, 3, &[(b"d", &left), (b"e", &right)], &[])?;
+    Ok([left, right, root])
+}
+
+#[test]
+fn a_node_stands_behind_its_last_child(rt: HostRuntime) -> Result<(), Fail> {
+    let alloc = rt.alloc();
+    let low = low_nodes_of_letters(alloc)?;
+    let [left, right, root] = &high_nodes_of_letters(alloc, &low)?;
+    let [first, second, last] = &low;
+    let chunks: [&[u8]; 11] = [A, B, first, C, D, second, left, E, last, right, root];
+    let keys: [&[u8]; 5] = [b"a", b"b", b"c", b"d", b"e"];
+    expect_small(&rt, alloc, Version::One, &keys, 415, &chunks)
 }
 
 /// The nodes of the file of the keys a, b!, c, d! and e.

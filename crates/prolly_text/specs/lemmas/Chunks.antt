@@ -10,6 +10,7 @@ use Rattle.std.specs.Str.Lossy.{after_first_chunk, error_len_after_one, error_le
 use Rattle.std.specs.Str.Lossy.{error_len_of_some, second_byte_max, second_byte_min, utf8_error_len}
 use Rattle.std.specs.Str.Lossy.{utf8_invalid_len, utf8_valid_len}
 use Rattle.std.proofs.lemmas.Bool.{cases_lt}
+use Rattle.std.proofs.lemmas.Str.{chars-nil}
 use Rattle.prolly_text.specs.Escapes.{text_within}
 
 either : {A : Type 0} (P : A → Type 0) (b : Bool) (x y : A) → P x → P y → P (cond b x y)
@@ -64,4 +65,5 @@ text_nil (suc k) =
       drop-nil shown,
       take-nil (utf8_invalid_len []),
       drop-nil (shown + utf8_invalid_len []),
+      chars-nil,
     ) (text_nil k)

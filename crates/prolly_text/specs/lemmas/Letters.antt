@@ -1,24 +1,39 @@
--- The bytes that have a letter, and those that show.
-use Rattle.std.proofs.Common.{◌≡◌, ℕ, true, Some, None}
+-- The characters that have a letter, and those that stand for themselves.
+use Rattle.std.proofs.Common.{◌≡◌, ℕ, ◌<◌, ◌≤◌, true, false, Some, None}
 use Rattle.std.proofs.Common.{arith}
 use Rattle.std.proofs.lemmas.Bool.Decides.{nat_tests}
+use Rattle.std.specs.Char.{is_control}
+use Rattle.std.specs.Prelude.{◌==◌}
 use Rattle.hex.specs.Hex.{is_hex_digit}
 use Rattle.prolly_text.specs.Escapes.{letter_of}
-use Rattle.prolly_text.specs.Notations.{IsShown}
 use Rattle.prolly_text.specs.Pieces.{is_plain, named_byte}
 
--- A letter names the byte that it stands for.
-pub letter_names : (byte letter : ℕ) → letter_of byte ≡ Some letter → named_byte letter ≡ Some byte
-letter_names byte letter h = grind (arith, nat_tests)
+-- A letter names the character that it stands for, which is one byte.
+pub letter_names : (character letter : ℕ) → letter_of character ≡ Some letter →
+    named_byte letter ≡ Some character
+letter_names character letter h = grind (arith, nat_tests)
 
--- Letters show.
-pub letter_shows : (byte letter : ℕ) → letter_of byte ≡ Some letter → IsShown letter
-letter_shows byte letter h = grind (arith, nat_tests)
+pub letter_low : (character letter : ℕ) → letter_of character ≡ Some letter → character < 0x80
+letter_low character letter h = grind (arith, nat_tests)
 
--- A byte without a letter stands for itself.
-pub plain_without : (byte : ℕ) → letter_of byte ≡ None → is_plain byte ≡ true
-plain_without byte h = grind (arith, nat_tests)
+pub no_backslash : (character : ℕ) → letter_of character ≡ None → (character == 0x5C) ≡ false
+no_backslash character h = grind (arith, nat_tests)
 
--- Digits show.
-pub digit_shows : (digit : ℕ) → is_hex_digit digit ≡ true → IsShown digit
-digit_shows digit h = grind (arith, nat_tests)
+-- What is no control character and no backslash stands for itself, and so does each byte that is
+-- not ASCII.
+pub plain_low : (character : ℕ) → is_control character ≡ false → (character == 0x5C) ≡ false →
+    is_plain character ≡ true
+plain_low character h k = grind (arith, nat_tests)
+
+pub plain_high : (byte : ℕ) → 0x80 ≤ byte → is_plain byte ≡ true
+plain_high byte h = grind (arith, nat_tests)
+
+-- The character is one of ASCII, and shows.
+abbrev pub IsPrintable : ℕ → Type 0
+IsPrintable character = (0x20 ≤ character) × (character < 0x7F)
+
+pub letter_prints : (character letter : ℕ) → letter_of character ≡ Some letter → IsPrintable letter
+letter_prints character letter h = grind (arith, nat_tests)
+
+pub digit_prints : (digit : ℕ) → is_hex_digit digit ≡ true → IsPrintable digit
+digit_prints digit h = grind (arith, nat_tests)

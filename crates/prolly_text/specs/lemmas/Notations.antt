@@ -9,25 +9,31 @@ use Rattle.prolly_text.specs.declared.notation.Notation.{Notation}
 use Rattle.prolly_text.specs.declared.notation.Notation.TheVariants.{Hex, Text}
 use Rattle.prolly_text.specs.Notations.{OneReading, StandsWithin, TextsStandApart, WrittenIsRead}
 use Rattle.prolly_text.specs.Notations.{WrittenShows, separator}
+use Rattle.prolly_text.specs.Names.{NamesShow, shown_in_name}
 use Rattle.prolly_text.specs.Pieces.{is_plain, named_byte, BeginsWith, IsPiece, IsTextOf}
 use Rattle.prolly_text.specs.lemmas.Sequences.{one_text}
-use Rattle.prolly_text.specs.lemmas.Writing.{all_so, digits_of, digits_show, hex_read, text_is}
-use Rattle.prolly_text.specs.lemmas.Writing.{text_shows}
+use Rattle.prolly_text.specs.lemmas.Digits.{all_so, digits_of, digits_show, hex_read}
+use Rattle.prolly_text.specs.lemmas.Spelled.{name_spells, valid_spelled}
+use Rattle.prolly_text.specs.lemmas.Writing.{text_spelled}
 
 -- What is written for bytes stands for them.
 pub written_is_read : WrittenIsRead
 written_is_read Hex bytes h = hex_read bytes h
-written_is_read Text bytes h = text_is bytes h
+written_is_read Text bytes h = (text_spelled bytes h).0
 
 -- A text stands for one list of bytes at most.
 pub one_reading : OneReading
 one_reading Hex text a b h k = decode_of-same text a b h k
 one_reading Text text a b h k = one_text text a b h k
 
--- Nothing that is written is a control character.
+-- What is written is UTF-8 without a control character.
 pub written_shows : WrittenShows
 written_shows Hex bytes h = digits_show (encode_lower bytes) bytes (hex_read bytes h)
-written_shows Text bytes h = text_shows bytes h
+written_shows Text bytes h = (text_spelled bytes h).1
+
+-- What a line shows of a name stands for that name, and has no control character.
+pub names_show : NamesShow
+names_show name valid h = valid_spelled shown_in_name name_spells name valid h
 
 -- ---- no newline, and no separator
 

@@ -1,6 +1,6 @@
 -- Pieces one after another.
 use Rattle.std.proofs.Common.{◌≡◌, inl, inr, ℕ, ◌<◌, List, [], ◌∷◌, ◌++◌, length, refl, sym, ap}
-use Rattle.std.proofs.Common.{◌∙◌, subst, append-nil, arith, length-append}
+use Rattle.std.proofs.Common.{◌∙◌, subst, append-nil, append_assoc, arith, length-append}
 use Rattle.prolly_text.specs.Pieces.{BeginsWith, BeginsWithNone, BeginsWithAll, IsPiece, IsTextOf}
 use Rattle.prolly_text.specs.lemmas.Fronts.{none_of_nothing, one_piece}
 
@@ -10,6 +10,20 @@ pub all_both : (xs ys text mid behind : List ℕ) → BeginsWithAll text xs mid 
 all_both [] ys text mid behind h k =
     subst (λ t. BeginsWithAll t ys behind) (sym h) k
 all_both (x ∷ xs) ys text mid behind h k = (h.0, h.1, all_both xs ys h.0 mid behind h.2 k)
+
+-- The same pieces in front of more text.
+pub all_longer : (bytes text behind more : List ℕ) → BeginsWithAll text bytes behind →
+    BeginsWithAll (text ++ more) bytes (behind ++ more)
+all_longer [] text behind more h = ap (λ t. t ++ more) h
+all_longer (b ∷ bytes) text behind more h = (
+  h.0 ++ more,
+  record {
+    piece = h.1.piece;
+    whole = ap (λ t. t ++ more) h.1.whole ∙ append_assoc h.1.piece h.0 more;
+    is = h.1.is;
+  },
+  all_longer bytes h.0 behind more h.2,
+)
 
 pub all_one : (byte : ℕ) (text behind : List ℕ) → BeginsWith text byte behind →
     BeginsWithAll text (byte ∷ []) behind

@@ -14,7 +14,7 @@ use std::alloc::Global;
 use std::sync::Wait;
 
 /// The leaf stage.
-pub(super) fn leaves_of<C: Cut, R: Wait>(
+pub(crate) fn leaves_of<C: Cut, R: Wait>(
     rt: &R,
     alloc: Global,
     cut: C,
@@ -63,7 +63,7 @@ fn nodes_above<C: Cut, R: Wait>(
 }
 
 /// The leaf stage, and the stage of level 1 behind it.
-pub(super) fn two_stages<C: Cut, R: Wait>(
+pub(crate) fn two_stages<C: Cut, R: Wait>(
     rt: &R,
     alloc: Global,
     cut: C,

@@ -19,19 +19,19 @@ loop-leaf-smaller g c = omega (
   simp length-append at (ap length c.in-Some.ensures.next),
 )
 
-pub returns-in_err-write_all : goal.returns-in_err-write_all
-returns-in_err-write_all g c =
+pub returns-in_err-write_all-clause-written : goal.returns-in_err-write_all-clause-written
+returns-in_err-write_all-clause-written g c =
     let p = err_from_is_err_and c.from_residual.result c.from_residual.ensures.1 in
     let own = rw c.spellings.ensures at c.in_err-write_all.ensures.writes in
     rw p.1 (dump_failed _ _ c.in-Some.leaf _ c.in-Some.ensures.next _ _ _ c.loop-leaf.invariant _ _
     own)
 
-pub returns-in-Ok : goal.returns-in-Ok
-returns-in-Ok g c =
+pub returns-in-Ok-clause-written : goal.returns-in-Ok-clause-written
+returns-in-Ok-clause-written g c =
     dump_flushed _ _ c.in_default.ensures.next _ _ _ c.loop-leaf.invariant c.in-Ok.ensures.bytes
     c.in-Ok.ensures.keeping _ c.in-Ok.ensures.failures
 
-pub returns-in-Err : goal.returns-in-Err
-returns-in-Err g c =
+pub returns-in-Err-clause-written : goal.returns-in-Err-clause-written
+returns-in-Err-clause-written g c =
     dump_unflushed _ _ c.in_default.ensures.next _ _ _ c.loop-leaf.invariant c.in-Err.ensures.bytes
     c.in-Err.ensures.keeping _ c.in-Err.ensures.failures

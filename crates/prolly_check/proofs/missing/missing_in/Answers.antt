@@ -2,6 +2,7 @@ use Rattle.std.proofs.Common.{◌≡◌, ◌+◌, [], length, get_or, sym, ap, �
 use Rattle.std.specs.Prelude.{is_some, not}
 use Rattle.prolly_entry.specs.Reference.{reference_of}
 use Rattle.prolly_check.specs.Index.{number_of}
+use Rattle.prolly_check.proofs.IndexSteps.{as_many, reference_at}
 use Rattle.prolly_check.proofs.MissingSteps.{CountedTo, copied, counted, passed}
 use Rattle.prolly_check.proofs.MissingSteps.{size_more, size_up_to}
 use Rattle.prolly_check.proofs.missing.missing_in.Goals.{then-is_none, else-is_none}
@@ -17,7 +18,10 @@ overflow_add-missing-then-is_none c =
 -- what the index says of the chunk's reference
 known : (c : goal.Joined-is_none) → is_some (number_of c.args.index.now
     (reference_of (get_or c.args.chunks.now c.loop-number.number []))) ≡ not c.is_none.result
-known c = ap (λ r. is_some (number_of c.args.index.now r)) (sym c.reference.ensures) ∙
+known c = ap (λ r. is_some (number_of c.args.index.now r)) (sym
+    (reference_at c.args.chunks.now c.args.references.now c.loop-number.number _
+    c.requires.references
+    (omega (arith, as_many c.args.chunks.now c.args.references.now c.requires.references)))) ∙
     ap is_some (sym c.get.ensures.value) ∙ copied c.get.result ∙ c.is_none.ensures
 
 pub loop-number-preserved : goal.loop-number-preserved

@@ -5,10 +5,10 @@ use Rattle.prolly_check.specs.Rebuilt.{HasTaken}
 use Rattle.prolly_check.proofs.FinishSteps.{IsEnding}
 use Rattle.prolly_check.proofs.rebuild.finish.Given as goal
 
-abbrev pub invariant-loop-nodes : goal.invariant-loop-nodes
-invariant-loop-nodes l = (bits : ℕ) (version : Version) (pairs : List Pair) →
+abbrev pub invariant-loop-references : goal.invariant-loop-references
+invariant-loop-references l = (bits : ℕ) (version : Version) (pairs : List Pair) →
     HasTaken bits version l.chunks pairs l.fn.rebuild →
-    IsEnding bits version pairs l.chunks l.nodes.items l.last l.number
+    IsEnding bits version pairs l.chunks l.nodes.items l.last l.references.items
 
-abbrev pub decreases-loop-nodes : goal.decreases-loop-nodes
-decreases-loop-nodes l = vec_len l.nodes
+abbrev pub decreases-loop-references : goal.decreases-loop-references
+decreases-loop-references l = vec_len l.nodes

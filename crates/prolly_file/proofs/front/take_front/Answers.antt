@@ -1,4 +1,6 @@
-use Rattle.std.proofs.Common.{◌∙◌, ◌-◌, length, rules}
+use Rattle.std.proofs.Common.{◌∙◌, ◌-◌, ◌++◌, length, take, sym, ap, arith, rules}
+use Rattle.std.proofs.lemmas.List.{length-take-le}
+use Rattle.std.proofs.lemmas.Result.{err_from_is_err_and}
 use Rattle.prolly_file.proofs.Fronts.{front_grown}
 use Rattle.prolly_file.proofs.front.take_front.Goals as goal
 
@@ -15,3 +17,18 @@ loop-count-preserved g c = record {
   within = search rules;
   size = search rules;
 }
+
+pub returns-in_err-given-clause-fewer : goal.returns-in_err-given-clause-fewer
+returns-in_err-given-clause-fewer g c =
+    let p = err_from_is_err_and c.from_residual.result c.from_residual.ensures.1 in
+    rw p.1 (λ honest. record {
+      given = take c.loop-count.count c.loop-count.front;
+      are = c.loop-count.invariant.bytes honest ∙
+          ap (λ left. take c.loop-count.count c.loop-count.front ++ left)
+          (sym (c.in_err-given.ensures.bytes (c.loop-count.invariant.honest honest)));
+      few = omega (
+        arith,
+        c.loop-count.invariant.size,
+        length-take-le c.loop-count.count c.loop-count.front c.loop-count.invariant.within,
+      );
+    })

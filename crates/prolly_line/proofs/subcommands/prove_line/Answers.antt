@@ -5,9 +5,9 @@ use Rattle.prolly_line.proofs.subcommands.prove_line.Goals as goal
 
 pub returns : goal.returns
 returns c =
-    let with_text = IfOk-weaker c.arg.result _ _
+    let with_text = IfOk-weaker c.arg-line.result _ _
     (λ x adds. added c.described.result x c.text_flag-text.result _ _ c.described.ensures
-    c.text_flag-text.ensures adds) c.arg.ensures in
+    c.text_flag-text.ensures adds) c.arg-line.ensures in
     let with_mode = c.with_mode-line.ensures _ with_text in
     let with_file = c.with_argument-line.ensures _ _ with_mode c.file_word.ensures in
     let with_key = c.with_argument-line-2.ensures _ _ with_file c.key_word.ensures in

@@ -42,7 +42,7 @@ returns-in-End-clause-found g c =
     subst (λ chunk. LeadsToEnd version c.args.root.now.0 c.args.sought above chunk.items due.sought)
     (sym c.in_ok-step.ensures.stays.1)
     (ends_here version c.args.root.now.0 c.args.sought above due c.loop-above.invariant.way
-    level.chunk.items (subst (λ r. IsNamed version r.0 level.chunk.items) is.reference is.is)
+    level.chunk.items (subst (λ r. IsNamed version r.0 level.chunk.items) is.reference is.is.named)
     is.falls c.in_ok-step.field-0 c.in_ok-step.ensures.is c.in-End.is)
 
 pub returns-in-End-clause-keeps : goal.returns-in-End-clause-keeps
@@ -83,15 +83,11 @@ loop-above-preserved g c =
           (ap (λ chunk. chunks_in above ++ chunk.items ∷ []) (sym stepped.stays.1) ∙
           sym (one_more above c.keep.new.list.items c.step.new.self more))
           (goes_on version root c.args.sought (chunks_in above) due before.way level.chunk.items
-          (subst (λ r. IsNamed version r.0 level.chunk.items) is.reference is.is) is.falls
+          (subst (λ r. IsNamed version r.0 level.chunk.items) is.reference is.is.named) is.falls
           c.in_ok-step.field-0 stepped.is c.in-Below.next c.in-Below.there c.in-Below.is);
       levels = subst (AllByRecursion (IsLevel version)) (sym more)
-          (all_append (IsLevel version) above (c.step.new.self ∷ []) before.levels (
-            subst (λ chunk. IsNamed version c.step.new.self.reference.0 chunk.items)
-                (sym stepped.stays.1)
-                (subst (λ r. IsNamed version r.0 level.chunk.items) (sym stepped.stays.0) is.is),
-            tt,
-          ));
+          (all_append (IsLevel version) above (c.step.new.self ∷ []) before.levels
+          (stepped.level, tt));
       kept = (next_kept (IsLevel version) (into_iter_items c.loop-above.kept) (into_iter_items
           c.next.new.self)
           c.next.result c.next.ensures.items before.kept).1;

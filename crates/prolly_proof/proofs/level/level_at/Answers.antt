@@ -1,5 +1,6 @@
 use Rattle.std.proofs.Common.{◌≡◌, length, sym, subst, ◌∙◌, rules}
 use Rattle.std.proofs.lemmas.Bool.{false≢true}
+use Rattle.prolly_proof.specs.Descents.{MayFail}
 use Rattle.prolly_proof.specs.Faults.{FallsTo}
 use Rattle.prolly_proof.specs.Kept.{KeepsLevel}
 use Rattle.prolly_proof.proofs.GoingDown.{kept_is}
@@ -15,3 +16,9 @@ returns-then-not-falls_to-clause-only g c content holds same keeps at =
     c.args.due.now.above c.args.place.now at level kept frame in
     absurd (false≢true (c.if-not-falls_to.ensures.1 (subst (FallsTo c.args.due.now.above) (sym is)
     at.falls)))
+
+pub returns-in_err-level-in_default-clause-only : goal.returns-in_err-level-in_default-clause-only
+returns-in_err-level-in_default-clause-only g c content holds same kept at =
+    let only : MayFail c.in_err-level-in_default.field-0.0 =
+    c.in_err-level-in_default.ensures.only content c.args.due.now.above holds same at in
+    search rules

@@ -1,15 +1,15 @@
-use Rattle.std.proofs.Common.{◌≡◌, ◌++◌, List, length}
-use Rattle.prolly_check.specs.Entries.{Child}
-use Rattle.prolly_proof.specs.Sought.{child_sought}
+use Rattle.std.proofs.Common.{◌≡◌, ◌-◌, drop, length}
+use Rattle.prolly_check.specs.Entries.{children_in}
+use Rattle.prolly_proof.specs.Sought.{IsMark, child_sought}
 use Rattle.prolly_proof.proofs.sought.child_sought.Given as goal
 
 abbrev pub invariant-loop-child : goal.invariant-loop-child
 invariant-loop-child l = record {
-  child : child_sought l.initial.sought l.initial.children ≡ child_sought l.sought l.children;
-  before : List Child;
-  are : l.initial.children ≡ before ++ l.children;
-  number : l.number ≡ length before;
+  here : IsMark l.version l.chunk l.here;
+  passed : IsMark l.version l.chunk l.passed;
+  child : child_sought l.initial.sought (children_in l.version (drop 1 l.chunk)) ≡
+      child_sought l.sought (children_in l.version (drop l.here.place l.chunk));
 }
 
 abbrev pub decreases-loop-child : goal.decreases-loop-child
-decreases-loop-child l = length l.children
+decreases-loop-child l = length l.chunk - l.here.place

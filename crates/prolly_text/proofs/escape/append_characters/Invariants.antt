@@ -1,9 +1,13 @@
--- The bytes so far were appended.
-use Rattle.std.specs.Prelude.{◌≡◌, ◌++◌, take}
+-- What was appended, with what is shown of the characters that are left, is that of all.
+use Rattle.std.specs.Prelude.{◌≡◌, ◌++◌}
 use Rattle.std.specs.List.{flat_map}
-use Rattle.prolly_text.specs.Escapes.{shown_byte}
+use Rattle.std.specs.Str.{chars, IsUtf8}
+use Rattle.std.specs.Str.Iter.{chars_rest}
+use Rattle.prolly_text.specs.Escapes.{shown_character}
 use Rattle.prolly_text.proofs.escape.append_characters.Given as goal
 
-abbrev pub invariant-loop-byte : goal.invariant-loop-byte
-invariant-loop-byte l = l.out.items ≡
-    l.fn.out.items ++ flat_map shown_byte (take l.byte-index l.bytes)
+abbrev pub invariant-loop-character : goal.invariant-loop-character
+invariant-loop-character l =
+    IsUtf8 (chars_rest l.character-iterator)
+    × (l.out.items ++ flat_map shown_character (chars (chars_rest l.character-iterator)) ≡
+    l.fn.out.items ++ flat_map shown_character (chars l.fn.text))

@@ -44,16 +44,16 @@ loop-change-init g c = none_written g.W.Sink.seen c.args.form c.args.changes c.a
 pub returns-in-Ok-flush-clause-ok : goal.returns-in-Ok-flush-clause-ok
 returns-in-Ok-flush-clause-ok g c = all_written g.W.Sink.seen c.args.form c.args.changes _
     c.loop-change.counts c.args.sink.now c.loop-change.sink c.loop-change.invariant
-    c.in_default.ensures c.flush.new.self c.in-Ok-flush.ensures.bytes
-    _ c.in-Some-form.is c.in-Ok-flush.ensures.failures
+    c.in_default.ensures.same c.flush.new.self c.in-Ok-flush.ensures.bytes
+    _ c.in-Some-form.is c.in-Ok-flush.ensures.failures c.in-Ok-flush.ensures.settled
 
 pub returns-clause-err : goal.returns-clause-err
 returns-clause-err g c = flush_failed g.W.Sink.seen c.args.form c.args.changes _
     c.loop-change.counts c.args.sink.now c.loop-change.sink c.loop-change.invariant
-    c.in_default.ensures c.flush.new.self c.in-Err.ensures.bytes
+    c.in_default.ensures.same c.flush.new.self c.in-Err.ensures.bytes
     _ c.in-Some-form.is c.in-Err.ensures.failures
 
 pub returns-in_default-form-clause-ok : goal.returns-in_default-form-clause-ok
 returns-in_default-form-clause-ok g c = only_counted g.W.Sink.seen c.args.form c.args.changes _
     c.loop-change.counts c.args.sink.now c.loop-change.sink c.loop-change.invariant
-    c.in_default.ensures c.in_default-form.is
+    c.in_default.ensures.same c.in_default-form.is

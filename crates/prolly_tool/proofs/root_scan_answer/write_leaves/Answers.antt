@@ -1,14 +1,15 @@
-use Rattle.std.proofs.Common.{◌≡◌, ◌-◌, ◌∙◌, refl, sym, ap, arith, subst, length, take}
+use Rattle.std.proofs.Common.{◌≡◌, ◌-◌, ◌∙◌, refl, sym, ap, arith, subst, length}
 use Rattle.std.proofs.Common.{Err, Some, None}
 use Rattle.std.specs.List.{slice_get}
 use Rattle.prolly_check.specs.ScanWay.{next_key}
 use Rattle.prolly_proof.specs.Readers.{way_of}
 use Rattle.prolly_tool.specs.LookUps.{pair_lines}
-use Rattle.prolly_tool.specs.Outputs.{TookAll, TookUntil}
-use Rattle.prolly_tool.proofs.ScanSteps.{look_up_tells, none_last, opened_lawful, opened_still}
-use Rattle.prolly_tool.proofs.ScanSteps.{scan_begins, scan_ends}
+use Rattle.prolly_tool.specs.Outputs.{TookBytes, TookUntil}
+use Rattle.prolly_tool.proofs.ScanSteps.{all_found, found_from, look_up_tells, many_found}
+use Rattle.prolly_tool.proofs.ScanSteps.{none_found, none_last, opened_lawful, opened_still}
+use Rattle.prolly_tool.proofs.ScanSteps.{scan_begins, scan_ends, scan_fills}
 use Rattle.prolly_tool.proofs.ScanSteps.{scan_fails, scan_full, scan_goes_on, scan_unwritten}
-use Rattle.prolly_tool.proofs.ScanSteps.{scan_wants, stays_same, way_from}
+use Rattle.prolly_tool.proofs.ScanSteps.{scan_wants, stays_same}
 use Rattle.prolly_tool.specs.RootScans.{TellsScanReads}
 use Rattle.prolly_tool.specs.declared.fault.Fault.TheVariants.{Root}
 use Rattle.prolly_tool.proofs.root_scan_answer.write_leaves.Goals as goal
@@ -55,64 +56,99 @@ returns-in-Err-clause-err g c first same opened = scan_fails g.W.Sink.seen c.arg
 
 pub returns-in_default-last-clause-ok : goal.returns-in_default-last-clause-ok
 returns-in_default-last-clause-ok g c =
-    let found = c.in-Ok-pairs_from.pairs.items in
-    let way = way_of c.pairs_from.new.self in
+    let pairs = c.in-Ok-pairs_from.pairs.items in
+    let left = c.loop-left.left in
+    let is = found_from c.args.reader c.loop-left.reader c.deref.result.now c.loop-left.next.items
+    left (way_of c.pairs_from.new.self) pairs c.loop-left.invariant.version
+    c.loop-left.invariant.root c.deref.ensures.value c.in-Ok-pairs_from.ensures.found in
     scan_ends g.W.Sink.seen c.args.reader.version c.args.reader.root c.args.scan.now.from.now
-    c.args.scan.now.limit c.args.scan.now.notation
-    c.loop-left.left c.loop-left.next.items c.args.sink.now c.loop-left.sink
-    c.loop-left.invariant.scan (omega arith) found way
-    (way_from c.args.reader c.loop-left.reader c.deref.result.now c.loop-left.next.items way found
-    c.loop-left.invariant.version c.loop-left.invariant.root c.deref.ensures.value
-    c.in-Ok-pairs_from.ensures.found)
-    (none_last found (subst (λ ps. slice_get ps (length ps - 1) ≡ None)
-    c.deref-in-loop-left.ensures.value (sym c.in_default-last.ensures.value)))
+    c.args.scan.now.limit c.args.scan.now.notation left c.loop-left.next.items c.args.sink.now
+    c.loop-left.sink c.loop-left.invariant.scan (omega arith) is.found
+    (way_of c.pairs_from.new.self) is.way
+    (none_found left is.found pairs is.are (omega arith)
+    (none_last pairs (subst (λ ps. slice_get ps (length ps - 1) ≡ None)
+    c.deref-in-loop-left.ensures.value (sym c.in_default-last.ensures.value))))
 
-pub returns-in-Err-write_first-clause-err : goal.returns-in-Err-write_first-clause-err
-returns-in-Err-write_first-clause-err g c first same opened =
-    let found = c.in-Ok-pairs_from.pairs.items in
-    let way = way_of c.pairs_from.new.self in
+pub returns-in-Err-write_lines-clause-err : goal.returns-in-Err-write_lines-clause-err
+returns-in-Err-write_lines-clause-err g c first same opened =
+    let pairs = c.in-Ok-pairs_from.pairs.items in
+    let left = c.loop-left.left in
+    let is = found_from c.args.reader c.loop-left.reader c.deref.result.now c.loop-left.next.items
+    left (way_of c.pairs_from.new.self) pairs c.loop-left.invariant.version
+    c.loop-left.invariant.root c.deref.ensures.value c.in-Ok-pairs_from.ensures.found in
     scan_unwritten g.W.Sink.seen c.args.reader.version c.args.reader.root c.args.scan.now.from.now
-    c.args.scan.now.limit c.args.scan.now.notation
-    c.loop-left.left c.loop-left.next.items c.args.sink.now c.loop-left.sink
-    c.loop-left.invariant.scan (omega arith) found way
-    (way_from c.args.reader c.loop-left.reader c.deref.result.now c.loop-left.next.items way found
-    c.loop-left.invariant.version c.loop-left.invariant.root c.deref.ensures.value
-    c.in-Ok-pairs_from.ensures.found) c.write_first.new.sink
-    first c.in-Err-write_first.fault
-    (subst (λ ps. TookUntil g.W.Sink.seen c.in-Err-write_first.fault
-    (pair_lines c.args.scan.now.notation (take c.loop-left.left ps)) c.loop-left.sink
-    c.write_first.new.sink)
-    c.deref-in-loop-left-2.ensures.value c.in-Err-write_first.ensures.err)
+    c.args.scan.now.limit c.args.scan.now.notation left c.loop-left.next.items c.args.sink.now
+    c.loop-left.sink c.loop-left.invariant.scan (omega arith) is.found
+    (way_of c.pairs_from.new.self) is.way c.write_lines.new.sink first
+    c.in-Err-write_lines.fault
+    (subst (λ ps. TookUntil g.W.Sink.seen c.in-Err-write_lines.fault
+    (pair_lines c.args.scan.now.notation ps) c.loop-left.sink c.write_lines.new.sink)
+    (c.deref-in-loop-left-2.ensures.value ∙ is.are) c.in-Err-write_lines.ensures.err)
+
+pub returns-then-count-left-clause-ok : goal.returns-then-count-left-clause-ok
+returns-then-count-left-clause-ok g c =
+    let pairs = c.in-Ok-pairs_from.pairs.items in
+    let left = c.loop-left.left in
+    let is = found_from c.args.reader c.loop-left.reader c.deref.result.now c.loop-left.next.items
+    left (way_of c.pairs_from.new.self) pairs c.loop-left.invariant.version
+    c.loop-left.invariant.root c.deref.ensures.value c.in-Ok-pairs_from.ensures.found in
+    scan_fills g.W.Sink.seen c.args.reader.version c.args.reader.root c.args.scan.now.from.now
+    c.args.scan.now.limit c.args.scan.now.notation left c.loop-left.next.items c.args.sink.now
+    c.loop-left.sink c.loop-left.invariant.scan (omega arith) is.found
+    (way_of c.pairs_from.new.self) is.way c.write_lines.new.sink
+    (many_found left is.found pairs is.are (omega (
+      arith,
+      c.if-count-left.true,
+      c.len-count.ensures,
+      c.in-Ok-pairs_from.pairs.ok,
+    )))
+    (subst (λ ps. TookBytes g.W.Sink.seen (pair_lines c.args.scan.now.notation ps) c.loop-left.sink
+    c.write_lines.new.sink) (c.deref-in-loop-left-2.ensures.value ∙ is.are)
+    c.in_default-write_lines.ensures.ok) c.in_default-write_lines.ensures.keeping
 
 pub returns-in-Err-key_behind-clause-err : goal.returns-in-Err-key_behind-clause-err
 returns-in-Err-key_behind-clause-err g c first same opened =
-    let found = c.in-Ok-pairs_from.pairs.items in
-    let way = way_of c.pairs_from.new.self in
+    let pairs = c.in-Ok-pairs_from.pairs.items in
+    let left = c.loop-left.left in
     let last = c.in-Some.last.now in
+    let is = found_from c.args.reader c.loop-left.reader c.deref.result.now c.loop-left.next.items
+    left (way_of c.pairs_from.new.self) pairs c.loop-left.invariant.version
+    c.loop-left.invariant.root c.deref.ensures.value c.in-Ok-pairs_from.ensures.found in
+    let all = all_found left is.found pairs is.are (omega (
+      arith,
+      c.if-count-left.false,
+      c.len-count.ensures,
+      c.in-Ok-pairs_from.pairs.ok,
+    )) in
     scan_wants g.W.Sink.seen c.args.reader.version c.args.reader.root c.args.scan.now.from.now
-    c.args.scan.now.limit c.args.scan.now.notation
-    (c.loop-left.left - length found) (next_key last.key) c.args.sink.now c.write_first.new.sink
+    c.args.scan.now.limit c.args.scan.now.notation (left - length pairs) (next_key last.key)
+    c.args.sink.now c.write_lines.new.sink
     (scan_goes_on g.W.Sink.seen c.args.reader.version c.args.reader.root c.args.scan.now.from.now
-    c.args.scan.now.limit c.args.scan.now.notation
-    c.loop-left.left c.loop-left.next.items c.args.sink.now c.loop-left.sink
-    c.loop-left.invariant.scan (omega arith) found way
-    (way_from c.args.reader c.loop-left.reader c.deref.result.now c.loop-left.next.items way found
-    c.loop-left.invariant.version c.loop-left.invariant.root c.deref.ensures.value
-    c.in-Ok-pairs_from.ensures.found) c.write_first.new.sink last
-    (c.loop-left.left - length found) (next_key last.key)
-    (subst (λ ps. TookAll g.W.Sink.seen (pair_lines c.args.scan.now.notation
-    (take c.loop-left.left ps)) c.loop-left.sink
-    c.write_first.new.sink) c.deref-in-loop-left-2.ensures.value
-    c.in_default-write_first.ensures.ok)
-    c.in_default-write_first.ensures.keeping
-    (subst (λ ps. slice_get ps (length ps - 1) ≡ Some last) c.deref-in-loop-left.ensures.value
-    (sym c.in-Some.ensures.value)) refl refl) first
+    c.args.scan.now.limit c.args.scan.now.notation left c.loop-left.next.items c.args.sink.now
+    c.loop-left.sink c.loop-left.invariant.scan (omega arith) is.found
+    (way_of c.pairs_from.new.self) is.way c.write_lines.new.sink last (left - length pairs)
+    (next_key last.key)
+    (subst (λ ps. TookBytes g.W.Sink.seen (pair_lines c.args.scan.now.notation ps)
+    c.loop-left.sink c.write_lines.new.sink) (c.deref-in-loop-left-2.ensures.value ∙ is.are)
+    c.in_default-write_lines.ensures.ok) c.in_default-write_lines.ensures.keeping
+    (subst (λ ps. slice_get ps (length ps - 1) ≡ Some last)
+    (c.deref-in-loop-left.ensures.value ∙ all) (sym c.in-Some.ensures.value)) refl
+    (ap (λ ps. left - length ps) all)) first
 
 pub loop-left-preserved : goal.loop-left-preserved
 loop-left-preserved g c =
-    let found = c.in-Ok-pairs_from.pairs.items in
-    let way = way_of c.pairs_from.new.self in
+    let pairs = c.in-Ok-pairs_from.pairs.items in
+    let left = c.loop-left.left in
     let last = c.in-Some.last.now in
+    let is = found_from c.args.reader c.loop-left.reader c.deref.result.now c.loop-left.next.items
+    left (way_of c.pairs_from.new.self) pairs c.loop-left.invariant.version
+    c.loop-left.invariant.root c.deref.ensures.value c.in-Ok-pairs_from.ensures.found in
+    let all = all_found left is.found pairs is.are (omega (
+      arith,
+      c.if-count-left.false,
+      c.len-count.ensures,
+      c.in-Ok-pairs_from.pairs.ok,
+    )) in
     record {
       reads = c.in-Ok-pairs_from.ensures.reads ∙ c.loop-left.invariant.reads;
       version = c.in-Ok-pairs_from.ensures.of.0 ∙ c.loop-left.invariant.version;
@@ -124,28 +160,17 @@ loop-left-preserved g c =
           c.in-Ok-pairs_from.ensures.of.0 c.in-Ok-pairs_from.ensures.of.1
           c.in-Ok-pairs_from.ensures.keeps;
       scan = scan_goes_on g.W.Sink.seen c.args.reader.version c.args.reader.root
-          c.args.scan.now.from.now
-          c.args.scan.now.limit c.args.scan.now.notation c.loop-left.left c.loop-left.next.items
-          c.args.sink.now c.loop-left.sink
-          c.loop-left.invariant.scan (omega arith) found way
-          (way_from c.args.reader c.loop-left.reader c.deref.result.now c.loop-left.next.items way
-          found c.loop-left.invariant.version c.loop-left.invariant.root c.deref.ensures.value
-          c.in-Ok-pairs_from.ensures.found) c.write_first.new.sink last
-          c.saturating_sub-left.result c.in-Ok-key_behind.next.items
-          (subst (λ ps. TookAll g.W.Sink.seen (pair_lines c.args.scan.now.notation
-          (take c.loop-left.left ps))
-          c.loop-left.sink c.write_first.new.sink) c.deref-in-loop-left-2.ensures.value
-          c.in_default-write_first.ensures.ok)
-          c.in_default-write_first.ensures.keeping
+          c.args.scan.now.from.now c.args.scan.now.limit c.args.scan.now.notation left
+          c.loop-left.next.items c.args.sink.now c.loop-left.sink c.loop-left.invariant.scan
+          (omega arith) is.found (way_of c.pairs_from.new.self) is.way c.write_lines.new.sink last
+          _ c.in-Ok-key_behind.next.items
+          (subst (λ ps. TookBytes g.W.Sink.seen (pair_lines c.args.scan.now.notation ps)
+          c.loop-left.sink c.write_lines.new.sink) (c.deref-in-loop-left-2.ensures.value ∙ is.are)
+          c.in_default-write_lines.ensures.ok) c.in_default-write_lines.ensures.keeping
           (subst (λ ps. slice_get ps (length ps - 1) ≡ Some last)
-          c.deref-in-loop-left.ensures.value (sym c.in-Some.ensures.value))
+          (c.deref-in-loop-left.ensures.value ∙ all) (sym c.in-Some.ensures.value))
           (c.in-Ok-key_behind.ensures ∙ ap next_key c.key.ensures.key)
-          (omega (
-            arith,
-            c.saturating_sub-left.ensures,
-            c.len.ensures,
-            c.in-Ok-pairs_from.pairs.ok,
-          ));
+          (omega (arith, c.len-count.ensures, c.in-Ok-pairs_from.pairs.ok, ap length all));
       same = stays_same (g.D.Device.seen c.args.device.now) (g.D.Device.seen c.loop-left.device)
           (g.D.Device.seen c.pairs_from.new.device) c.loop-left.invariant.same
           c.in-Ok-pairs_from.ensures.same;

@@ -4,15 +4,17 @@ use Rattle.prolly_entry.specs.declared.version.Version.{Version}
 use Rattle.prolly_fault.specs.declared.fault.RunFault.TheVariants.{Write}
 use Rattle.prolly_file.specs.Device.{DeviceView}
 use Rattle.prolly_file.specs.Failures.{after_failure}
-use Rattle.prolly_file.specs.Sink.{SinkView}
+use Rattle.prolly_file.specs.Sink.{IsSettled, SinkView}
 use Rattle.prolly_proof.specs.Readers.{ReaderView}
 use Rattle.prolly_text.specs.declared.notation.Notation.{Notation}
-use Rattle.prolly_tool.specs.Outputs.{TookAll, TookUntil}
+use Rattle.prolly_tool.specs.Outputs.{TookAll, TookBytes, TookPart, TookUntil}
 use Rattle.prolly_tool.specs.RootScans.{IsDoneScan, IsFlushed, IsStoppedScan, TellsScanReads}
+use Rattle.prolly_tool.specs.RootScans.{limited_lines}
 use Rattle.prolly_tool.specs.declared.fault.Fault.{Fault}
 use Rattle.prolly_tool.specs.declared.fault.Fault.TheVariants.{Run}
 use Rattle.prolly_tool.proofs.ScanSteps.{done_ended, done_failed, stopped_flushed}
-use Rattle.prolly_tool.proofs.ScanSteps.{done_tells, flushed_tells, look_up_tells, scan_begins}
+use Rattle.prolly_tool.proofs.ScanSteps.{done_tells, flushed_tells, look_up_tells, opened_fails}
+use Rattle.prolly_tool.proofs.ScanSteps.{scan_begins}
 use Rattle.prolly_tool.proofs.ScanSteps.{scan_fails, scan_full, stopped_unflushed}
 use Rattle.prolly_tool.proofs.root_scan_answer.write_scan.Goals as goal
 
@@ -22,20 +24,36 @@ module _ {W : Type 0} (seen : W → SinkView) (old mid new : W)
     (device : DeviceView) (version : Version) (root from : List ℕ) (limit : ℕ)
     (notation : Notation)
     (fault told : Fault)
-    (d : IsStoppedScan device version root from limit notation (λ bytes. TookAll seen bytes old mid)
-    (λ fault bytes. TookUntil seen fault bytes old mid) fault) where
+    (d : IsStoppedScan device version root from limit notation
+    (λ bytes. TookBytes seen bytes old mid) (λ fault bytes. TookUntil seen fault bytes old mid)
+    fault) where
+  -- Where writing failed, nothing is said of a look-up.
+  told_failed : fault ≡ Run Write → told ≡ fault → new ≡ mid →
+      IsStoppedScan device version root from limit notation (λ bytes. TookAll seen bytes old new)
+      (λ fault bytes. TookUntil seen fault bytes old new) told
+  told_failed failed is left =
+      let stopped = subst (IsStoppedScan device version root from limit notation
+      (λ bytes. TookBytes seen bytes old mid) (λ fault bytes. TookUntil seen fault bytes old mid))
+      failed d in
+      subst (IsStoppedScan device version root from limit notation
+      (λ bytes. TookAll seen bytes old new) (λ fault bytes. TookUntil seen fault bytes old new))
+      (sym (is ∙ failed)) (
+        stopped.0,
+        subst (λ last. TookPart seen (limited_lines notation limit stopped.0.lists) old last)
+            (sym left) stopped.1,
+      )
+
   told_flushed : fault ≢ Run Write →
       ((seen mid).is_keeping ≡ true → (seen new).taken ≡ (seen mid).taken) →
-      ((told ≡ fault) × ((seen new).failures ≡ (seen mid).failures))
+      ((told ≡ fault) × ((seen new).failures ≡ (seen mid).failures) × IsSettled (seen new))
       ⊎ ((told ≡ Run Write) × ((seen new).failures ≡ after_failure (seen mid).failures)) →
       IsStoppedScan device version root from limit notation (λ bytes. TookAll seen bytes old new)
       (λ fault bytes. TookUntil seen fault bytes old new) told
   told_flushed other same (inl is) = subst
       (IsStoppedScan device version root from limit notation (λ bytes. TookAll seen bytes old new)
       (λ fault bytes. TookUntil seen fault bytes old new)) (sym is.0)
-      (stopped_flushed seen old mid new keeping same is.1 device version root from limit notation
-      fault
-      other d)
+      (stopped_flushed seen old mid new keeping same is.1 is.2 device version root from limit
+      notation fault other d)
   told_flushed other same (inr is) = subst
       (IsStoppedScan device version root from limit notation (λ bytes. TookAll seen bytes old new)
       (λ fault bytes. TookUntil seen fault bytes old new)) (sym is.0)
@@ -47,13 +65,17 @@ module _ {W : Type 0} (seen : W → SinkView) (old mid new : W)
       ⊎ ((fault ≢ Run Write) × IsFlushed seen mid new fault told) →
       IsStoppedScan device version root from limit notation (λ bytes. TookAll seen bytes old new)
       (λ fault bytes. TookUntil seen fault bytes old new) told
-  stopped_ended (inl is) = subst
-      (IsStoppedScan device version root from limit notation (λ bytes. TookAll seen bytes old new)
-      (λ fault bytes. TookUntil seen fault bytes old new)) (sym is.1)
-      (subst (λ last. IsStoppedScan device version root from limit notation
-      (λ bytes. TookAll seen bytes old last) (λ fault bytes. TookUntil seen fault bytes old last)
-      fault) (sym is.2) d)
+  stopped_ended (inl is) = told_failed is.0 is.1 is.2
   stopped_ended (inr is) = told_flushed is.0 is.1.same is.1.tells
+
+-- Where nothing is written, the sink is as it was.
+untouched : {W : Type 0} (seen : W → SinkView) (bytes : List ℕ) (old : W) →
+    TookBytes seen bytes old old → TookAll seen bytes old old
+untouched seen bytes old t = record {
+  unfailed = t.unfailed;
+  took = t.took;
+  settled = λ before. before;
+}
 
 -- What is said by the reader's version and root is said by those that it was opened for.
 by_args : (version : Version) (root : List ℕ) (reader : ReaderView) →
@@ -65,19 +87,25 @@ by_args version root reader is P p =
 pub returns-then-scan-eq0-clause-ok : goal.returns-then-scan-eq0-clause-ok
 returns-then-scan-eq0-clause-ok g c =
     let scan = c.args.scan.now in
-    scan_full g.W.Sink.seen scan.version scan.root.now.0
+    let done = scan_full g.W.Sink.seen scan.version scan.root.now.0
     scan.from.now scan.limit scan.notation scan.limit scan.from.now c.args.sink.now c.args.sink.now
     (scan_begins g.W.Sink.seen scan.version scan.root.now.0 scan.from.now scan.limit scan.notation
-    scan.limit scan.from.now c.args.sink.now refl refl) c.if-scan-eq0.true
+    scan.limit scan.from.now c.args.sink.now refl refl) c.if-scan-eq0.true in
+    (done.0, done.1, untouched g.W.Sink.seen _ c.args.sink.now done.2)
 
 pub returns-in-Err-clause-err : goal.returns-in-Err-clause-err
 returns-in-Err-clause-err g c =
     let scan = c.args.scan.now in
-    scan_fails g.W.Sink.seen scan.version scan.root.now.0
+    let stopped = scan_fails g.W.Sink.seen scan.version scan.root.now.0
     scan.from.now scan.limit scan.notation scan.limit scan.from.now c.args.sink.now c.args.sink.now
     (scan_begins g.W.Sink.seen scan.version scan.root.now.0 scan.from.now scan.limit scan.notation
     scan.limit scan.from.now c.args.sink.now refl refl) (omega (arith, c.if-scan-eq0.false))
-    (g.D.Device.seen c.args.device.now) c.in-Err.fault c.in-Err.ensures.lawful
+    (g.D.Device.seen c.args.device.now) c.in-Err.fault
+    (opened_fails (g.D.Device.seen c.args.device.now) scan.version scan.root.now.0 c.in-Err.fault
+    c.in-Err.ensures.lawful) in (
+      stopped.0,
+      (stopped.1.0, untouched g.W.Sink.seen _ c.args.sink.now stopped.1.1, stopped.1.2),
+    )
 
 pub returns-in-Ok-write_leaves-clause-ok : goal.returns-in-Ok-write_leaves-clause-ok
 returns-in-Ok-write_leaves-clause-ok g c =
@@ -87,8 +115,9 @@ returns-in-Ok-write_leaves-clause-ok g c =
     (g.D.Device.seen c.args.device.now) scan.version scan.root.now.0 scan.from.now
     scan.limit scan.notation (by_args scan.version scan.root.now.0 c.in-Ok.reader c.in-Ok.ensures.of
     (λ v r. IsDoneScan v r scan.from.now scan.limit scan.notation
-    (λ bytes. TookAll g.W.Sink.seen bytes c.args.sink.now c.write_leaves.new.sink))
+    (λ bytes. TookBytes g.W.Sink.seen bytes c.args.sink.now c.write_leaves.new.sink))
     c.in-Ok-write_leaves.ensures.ok) c.flush.result c.flush.ensures.failures
+    c.flush.ensures.settled
 
 pub returns-in-Ok-write_leaves-clause-err : goal.returns-in-Ok-write_leaves-clause-err
 returns-in-Ok-write_leaves-clause-err g c =
@@ -98,7 +127,7 @@ returns-in-Ok-write_leaves-clause-err g c =
     (g.D.Device.seen c.args.device.now) scan.version scan.root.now.0 scan.from.now
     scan.limit scan.notation (by_args scan.version scan.root.now.0 c.in-Ok.reader c.in-Ok.ensures.of
     (λ v r. IsDoneScan v r scan.from.now scan.limit scan.notation
-    (λ bytes. TookAll g.W.Sink.seen bytes c.args.sink.now c.write_leaves.new.sink))
+    (λ bytes. TookBytes g.W.Sink.seen bytes c.args.sink.now c.write_leaves.new.sink))
     c.in-Ok-write_leaves.ensures.ok) c.flush.result c.flush.ensures.failures c.flush.ensures.fault
 
 pub returns-in-Err-write_leaves-clause-err : goal.returns-in-Err-write_leaves-clause-err
@@ -111,7 +140,7 @@ returns-in-Err-write_leaves-clause-err g c =
     scan.limit scan.notation c.in-Err-write_leaves.fault c.fault_flushed.result
     (by_args scan.version scan.root.now.0 c.in-Ok.reader of
     (λ v r. IsStoppedScan first v r scan.from.now scan.limit scan.notation
-    (λ bytes. TookAll g.W.Sink.seen bytes c.args.sink.now c.write_leaves.new.sink)
+    (λ bytes. TookBytes g.W.Sink.seen bytes c.args.sink.now c.write_leaves.new.sink)
     (λ fault bytes. TookUntil g.W.Sink.seen fault bytes c.args.sink.now c.write_leaves.new.sink)
     c.in-Err-write_leaves.fault)
     (c.in-Err-write_leaves.ensures.err first c.in-Ok.ensures.same

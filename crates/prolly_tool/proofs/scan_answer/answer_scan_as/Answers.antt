@@ -1,4 +1,4 @@
-use Rattle.std.proofs.Common.{◌∙◌, ap, inl}
+use Rattle.std.proofs.Common.{◌∙◌, ap, inl, take}
 use Rattle.prolly_tool.specs.LookUps.{pair_lines}
 use Rattle.prolly_tool.proofs.Answering.{looked_up}
 use Rattle.prolly_tool.proofs.scan_answer.answer_scan_as.Goals as goal
@@ -10,8 +10,8 @@ returns-clause-shown g c = λ honest. inl (
     (λ content is. record {
       status_is = c.of_lines.ensures.status_is;
       out_is = c.of_lines.ensures.out_is ∙ c.in_ok-lines.ensures ∙
-          ap (pair_lines c.args.notation)
-          (c.deref.ensures.value ∙ c.in_ok-pairs.ensures content is);
+          ap (λ pairs. pair_lines c.args.notation (take c.args.limit pairs))
+          (c.leaves_from.ensures.are content is);
       err_is = c.of_lines.ensures.err_is;
     })
     )

@@ -7,7 +7,7 @@ pub returns-clause-shown : goal.returns-clause-shown
 returns-clause-shown g c = λ honest.
     let told : c.eq.result ≡ bytes_eq (take c.in-Ok.count c.take_front.new.front)
     (codes "PRLY") = search rules in
-    stated _ _ _ _ _ _ _ _ _
+    stated _ _ _ _ _ _ _ _ _ _
     (c.new-whole.ensures.left ∙ c.in-Ok.ensures.joined honest)
     (told ∙ ap (λ f. bytes_eq f (codes "PRLY")) (c.in-Ok.ensures.first honest))
     (c.new-whole.ensures.failures ∙ c.in-Ok.ensures.failures) (sym c.into_rest.ensures.failures)

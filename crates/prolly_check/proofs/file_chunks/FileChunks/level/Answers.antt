@@ -13,7 +13,7 @@ bounds-chunk_at-0 c =
     let within : number < length (chunks_in bytes spans) =
     subst (λ chunks. number < length chunks) (sym c.self.view_is) c.requires in
     let some = some_byte version (get_or (chunks_in bytes spans) number [])
-    (each_whole version (chunks_in bytes spans) number c.self.invariant.2 within) in
+    (each_whole version (chunks_in bytes spans) number c.self.invariant.1 within) in
     let is = c.chunk_at.ensures ∙ sym (get_or-map (chunk_in bytes) spans number _ []
     (omega (arith, length-map spans (chunk_in bytes)))) in
     omega (arith, ap length is)

@@ -6,4 +6,4 @@ use Rattle.prolly_check.proofs.file_chunks.FileChunks.pairs.Goals as goal
 pub pairs_of-requires : goal.pairs_of-requires
 pairs_of-requires c = subst (IsWhole c.self.inside.version) (sym c.chunk.ensures)
     (each_whole c.self.inside.version c.args.self.now c.args.number
-    (subst (AreWhole c.self.inside.version) c.self.view_is c.self.invariant.2) c.requires)
+    (subst (AreWhole c.self.inside.version) c.self.view_is c.self.invariant.1) c.requires)

@@ -1,4 +1,5 @@
-use Rattle.std.proofs.Common.{◌∙◌}
+use Rattle.std.proofs.lemmas.Grind.{common_steps}
+use Rattle.std.proofs.Common.{◌∙◌, arith}
 use Rattle.prolly_file.proofs.Written.{handed_on}
 use Rattle.prolly_file.proofs.buffered.Buffered.hand_on.Goals as goal
 
@@ -14,4 +15,5 @@ loop-self-preserved g c = record {
   held = c.loop-self.invariant.held;
   has_failed = c.loop-self.invariant.has_failed;
   failures = c.loop-self.invariant.failures;
+  unfailed = grind (arith, common_steps);
 }

@@ -13,6 +13,7 @@ invariant-loop-self g l = record {
   held : l.self.held ≡ l.initial.self.held;
   has_failed : l.self.has_failed ≡ l.initial.self.has_failed;
   failures : l.self.failures ≡ l.initial.self.failures;
+  unfailed : (g.W.Sink.seen l.self.sink).failures ≡ (g.W.Sink.seen l.initial.self.sink).failures;
 }
 
 abbrev pub decreases-loop-self : goal.decreases-loop-self

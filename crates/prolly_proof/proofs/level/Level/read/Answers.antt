@@ -24,6 +24,6 @@ returns-in_err-test-clause-only g c content above holds same at =
     (at.stands.before ++ chunks_below content.version at.level at.t) at.stands.left
     (bytes_of content.version at.level at.t) holds
     (frame_stands content size c.args.reference.0 above c.args.place.now at) at.stands.frame in
-    absurd (false≢true (c.in_err-test.ensures.fits (is_due content size
-    c.tops_are_read.ensures.child c.tops_are_read.ensures.read c.args.reference.0 above
-    c.args.place.now at c.deref.result.now is c.args.version same)))
+    let due = is_due content size c.tops_are_read.ensures.child c.tops_are_read.ensures.read
+    c.args.reference.0 above c.args.place.now at c.deref.result.now is c.args.version same in
+    absurd (false≢true (c.in_err-test.ensures.fits due.0 due.1))

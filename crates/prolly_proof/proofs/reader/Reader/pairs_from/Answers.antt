@@ -1,6 +1,7 @@
 use Rattle.std.proofs.Common.{subst, sym}
 use Rattle.prolly_check.specs.Kinds.{kind_of}
 use Rattle.prolly_check.specs.ScanWay.{EndsWithPairs, IsScanWay}
+use Rattle.prolly_proof.specs.ByRoot.{AreFirstFound}
 use Rattle.prolly_proof.specs.Descents.{chunks_in}
 use Rattle.prolly_proof.proofs.Descending.{one_more}
 use Rattle.prolly_proof.proofs.Seeking.{key_way, pairs_end}
@@ -12,13 +13,17 @@ returns-clause-found g c =
     let root = c.self.inside.root.0 in
     let descent = c.in_ok-descent.descent in
     let last = descent.last.chunk.items in
-    let found = c.in_ok-pairs.pairs.items in
-    subst (λ reader. IsScanWay reader.version reader.root c.args.from.now
-    (chunks_in c.in_ok-self-inside.field-0.items) found) c.self.view_is
-    (subst (λ way. IsScanWay version root c.args.from.now way found)
-    (sym (one_more descent.above.items c.in_ok-self-inside.field-0.items descent.last
-    c.in_ok-self-inside.ensures))
-    (key_way version root c.args.from (chunks_in descent.above.items) last descent.sought
-    c.in_ok-descent.ensures.found (λ entries. EndsWithPairs c.args.from.now entries found)
-    (λ ends. pairs_end c.args.from (kind_of version last) found ends
-    (rw c.deref.ensures.value at c.in_ok-pairs.ensures))))
+    let pairs = c.in_ok-pairs.pairs.items in
+    let there = pairs_end c.args.from c.args.most (kind_of version last) pairs
+    (rw c.deref.ensures.value at c.in_ok-pairs.ensures) in
+    subst (λ reader. AreFirstFound reader.version reader.root c.args.from.now c.args.most
+    (chunks_in c.in_ok-self-inside.field-0.items) pairs) c.self.view_is (record {
+      found = there.found;
+      way = subst (λ way. IsScanWay version root c.args.from.now way there.found)
+          (sym (one_more descent.above.items c.in_ok-self-inside.field-0.items descent.last
+          c.in_ok-self-inside.ensures))
+          (key_way version root c.args.from (chunks_in descent.above.items) last descent.sought
+          c.in_ok-descent.ensures.found
+          (λ entries. EndsWithPairs c.args.from.now entries there.found) there.ends);
+      are = there.are;
+    })

@@ -1,0 +1,74 @@
+//! The files that a command reads.
+use crate::file_id::Found;
+use crate::refusal::Refusal;
+use prolly_check::CheckFault;
+use prolly_file::FromRead;
+use prolly_tool::{Fault, INPUT_LIMIT, NameFault};
+use std::fs;
+use std::fs::File;
+use std::os::unix::fs::FileExt;
+
+/// A file that is open to be read.
+#[derive(Drop)]
+pub struct Input {
+    file: File,
+    found: Found,
+}
+
+impl Input {
+    /// The file of this name.
+    pub fn open(rt: &HostRuntime, name: &str) -> Result<Input, Refusal> {
+        Input::open_beside(rt, name, Found::Nothing)
+    }
+
+    /// The file of this name, where it is not the one that is to be written.
+    pub fn open_beside(rt: &HostRuntime, name: &str, output: Found) -> Result<Input, Refusal> {
+        let Ok(file) = fs::open(rt, name) else {
+            return Err(Refusal::of_name(rt, NameFault::CannotOpen, name));
+        };
+        let Ok(metadata) = file.metadata() else {
+            return Err(Refusal::of_name(rt, NameFault::CannotOpen, name));
+        };
+        let found = Found::of(&metadata);
+        if found.is_same_file(output) {
+            return Err(Refusal::of_name(rt, NameFault::IsInput, name));
+        }
+        Ok(Input { file, found })
+    }
+
+    /// How many bytes it has, where it is a file that keeps them, and no pipe or terminal.
+    pub fn size(&self) -> Option<u64> {
+        self.found.size()
+    }
+
+    /// The file, of which any part can be read.
+    pub fn into_file(self) -> File {
+        self.file
+    }
+
+    /// The file, to be read from its beginning on.
+    pub fn into_source(self) -> FromRead<File> {
+        FromRead::new(self.file)
+    }
+
+    /// The file, to be read whole. One of more bytes than a command reads is refused by this fault
+    /// before any of them is read.
+    pub fn into_whole(self, rt: &HostRuntime, fault: Fault) -> Result<FromRead<File>, Refusal> {
+        match self.found.size() {
+            Some(size) if size > u64::from(INPUT_LIMIT) => Err(Refusal::of_fault(rt, fault)),
+            _ => Ok(self.into_source()),
+        }
+    }
+
+    /// The chunk file, to be read whole.
+    pub fn into_chunk_file(self, rt: &HostRuntime) -> Result<FromRead<File>, Refusal> {
+        self.into_whole(rt, Fault::Check(CheckFault::TooLong))
+    }
+
+    /// Whether the file begins with these four bytes. What was read is read again by who reads the
+    /// file.
+    pub fn begins_with(&self, letters: &[u8; 4]) -> bool {
+        let mut front = [0; 4];
+        self.file.read_exact_at(&mut front, 0).is_ok() && front == *letters
+    }
+}

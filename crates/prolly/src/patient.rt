@@ -1,0 +1,67 @@
+//! Standard streams that may be non-blocking.
+use std::io::{ErrorKind, Read, Write};
+use std::time::Duration;
+use std::{io, thread};
+
+/// How long is waited before a call is made again, at first, in milliseconds. It doubles each time.
+const FIRST_PAUSE: u64 = 1;
+
+/// How long is waited at most.
+const MOST_PAUSE: u64 = 64;
+
+/// A standard stream, of which a call waits until it is done.
+///
+/// Whoever starts a program may hand down a pipe that is non-blocking, as Node.js does: a call of it
+/// fails where there is nothing to read yet, or no room to write. It is made again after a pause.
+#[derive(Drop)]
+pub struct Patient<'a, S> {
+    rt: &'a HostRuntime,
+    stream: S,
+}
+
+impl<'a, S> Patient<'a, S> {
+    /// The stream, which is waited for.
+    pub fn new(rt: &'a HostRuntime, stream: S) -> Patient<'a, S> {
+        Patient { rt, stream }
+    }
+}
+
+impl<S: Read> Read for Patient<'_, S> {
+    fn read(&mut self, buf: &mut [u8]) -> io::Result<usize> {
+        let mut pause = FIRST_PAUSE;
+        for _ in 0..u64::MAX {
+            match self.stream.read(buf) {
+                Err(error) if error.kind() == ErrorKind::WouldBlock => {
+                    pause = longer_behind(self.rt, pause);
+                }
+                result => return result,
+            }
+        }
+        self.stream.read(buf)
+    }
+}
+
+impl<S: Write> Write for Patient<'_, S> {
+    fn write(&mut self, buf: &[u8]) -> io::Result<usize> {
+        let mut pause = FIRST_PAUSE;
+        for _ in 0..u64::MAX {
+            match self.stream.write(buf) {
+                Err(error) if error.kind() == ErrorKind::WouldBlock => {
+                    pause = longer_behind(self.rt, pause);
+                }
+                result => return result,
+            }
+        }
+        self.stream.write(buf)
+    }
+
+    fn flush(&mut self) -> io::Result<()> {
+        self.stream.flush()
+    }
+}
+
+/// Waits for so many milliseconds, and answers how long is waited the next time.
+fn longer_behind(rt: &HostRuntime, pause: u64) -> u64 {
+    thread::sleep(rt, Duration::from_millis(pause));
+    pause.saturating_mul(2).min(MOST_PAUSE)
+}

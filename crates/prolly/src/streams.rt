@@ -1,0 +1,73 @@
+//! What standard input and standard output are.
+use crate::file_id::Found;
+use crate::refusal::Refusal;
+use prolly_tool::NameFault;
+use std::fs;
+use std::fs::File;
+use std::os::fd::AsRawFd;
+
+/// The folder in which the system has a name for each open file of a process.
+const OPEN_FILES: &str = "/proc/self/fd";
+
+/// A standard stream.
+#[derive(Clone, Copy)]
+pub enum Stream {
+    Input,
+    Output,
+}
+
+impl Stream {
+    /// What the stream is: nothing where it is closed. Where the system has no names for open files
+    /// it can't be told, and is refused.
+    pub fn found(self, rt: &HostRuntime) -> Result<Found, Refusal> {
+        match Found::at(rt, self.path()) {
+            Ok(Found::Nothing) if !fs::metadata(rt, OPEN_FILES).is_ok() => {}
+            Ok(found) => return Ok(found),
+            Err(_) => {}
+        }
+        Err(Refusal::of_name(rt, NameFault::CannotOpen, self.name()))
+    }
+
+    /// The name by which a fault tells of it.
+    pub fn name(self) -> &'static str {
+        match self {
+            Stream::Input => "standard input",
+            Stream::Output => "standard output",
+        }
+    }
+
+    /// The name that the system has for it.
+    fn path(self) -> &'static str {
+        match self {
+            Stream::Input => "/proc/self/fd/0",
+            Stream::Output => "/proc/self/fd/1",
+        }
+    }
+}
+
+/// The numbers of standard streams that were closed when the program began.
+///
+/// The system gives the least number that is free to the next file that is opened. Without these a
+/// file of the user's would be read as standard input, or would get the answer as standard output.
+#[derive(Drop)]
+pub struct ClosedStreams {
+    _held: [Option<File>; 3],
+}
+
+impl ClosedStreams {
+    /// Takes the numbers. What stands behind them is a folder: it can be neither read nor written,
+    /// as the closed stream could not.
+    pub fn hold(rt: &HostRuntime) -> ClosedStreams {
+        ClosedStreams {
+            _held: [held(rt), held(rt), held(rt)],
+        }
+    }
+}
+
+/// The next number that is free, where it is that of a standard stream.
+fn held(rt: &HostRuntime) -> Option<File> {
+    match fs::open(rt, "/") {
+        Ok(folder) if folder.as_raw_fd() <= 2 => Some(folder),
+        _ => None,
+    }
+}

@@ -1,0 +1,21 @@
+use Rattle.prolly_check.specs.Entries.{IsChild, entry_of}
+use Rattle.prolly_check.proofs.EntryLists.{shorter}
+use Rattle.prolly_check.proofs.NodeChildren.{behind_first, next_child, no_next_child}
+use Rattle.prolly_check.proofs.NodeChildren.{node_apart, node_less}
+use Rattle.prolly_check.proofs.node.split_first_child.Goals as goal
+
+pub returns : goal.returns
+returns c =
+    let entries = c.args.entries.now in
+    let rest = c.in_ok-child.rest.now in
+    let begins = c.in_ok-child.ensures.some in record {
+      first = next_child c.args.version entries rest _ begins c.in_ok-child.ensures.counted;
+      node = node_less c.args.version entries rest _ begins c.requires;
+      shorter = shorter (entry_of c.args.version) IsChild (node_apart c.args.version) entries rest _
+          begins;
+      behind = behind_first c.args.version entries rest _ begins;
+    }
+
+pub returns-in_err-child-clause-first : goal.returns-in_err-child-clause-first
+returns-in_err-child-clause-first c = rw c.from_residual.ensures (no_next_child c.args.version
+    c.args.entries.now c.in_err-child.ensures.none c.requires)

@@ -1,0 +1,238 @@
+//! Look-ups by the root, over a device that is honest and one of whose calls fails.
+use crate::expect::{expect_bytes, expect_eq};
+use prolly_entry::{Pair, Ref, Sha512Cut, Version};
+use prolly_file::{ScriptDevice, scratch_as};
+use prolly_proof::{Reader, RootFault, get_by_root, nth_by_root};
+use prolly_test_parts::{joined, pairs_of};
+use std::alloc::Global;
+use std::process::Abort;
+use std::test::Fail;
+
+/// More calls than any of these look-ups makes.
+const MOST_CALLS: u64 = 100;
+
+/// How many pairs of a leaf are asked for: more than any has.
+const MOST_PAIRS: usize = 100;
+
+/// A chunk file, with what is to be known of it.
+#[derive(Drop)]
+pub(crate) struct Rooted {
+    pub(crate) version: Version,
+    pub(crate) root: Ref,
+    pub(crate) file: Vec<u8>,
+}
+
+impl Rooted {
+    /// The file of these keys, each with the value 1, of 0 bits: each pair is a leaf.
+    pub(crate) fn of(alloc: Global, version: Version, keys: &[&[u8]]) -> Result<Rooted, Fail> {
+        let cut = Sha512Cut::new(0).ok_or("bits")?;
+        let pairs = pairs_of(alloc, keys)?;
+        let mut file = Vec::new(alloc);
+        let root = scratch_as(alloc, cut, version, &pairs, 12, &mut file)?;
+        Ok(Rooted {
+            version,
+            root,
+            file,
+        })
+    }
+
+    /// A device of the file, whose call of this number fails; 0 for none.
+    pub(crate) fn device(&self, alloc: Global, fail_at: u64) -> Result<ScriptDevice, Fail> {
+        let file = self.file.to_vec(alloc)?;
+        Ok(ScriptDevice::new(file, Some(fail_at)))
+    }
+}
+
+/// What is looked up.
+#[derive(Clone, Copy)]
+pub(crate) enum Sought {
+    Key(&'static [u8]),
+    Number(u64),
+}
+
+/// How many chunks show what was found, and what was: a value, or a key and its value, joined.
+pub(crate) type Shown = (usize, Option<Vec<u8>>);
+
+/// The key and the value of a pair, joined.
+fn joined_pair(alloc: Global, pair: Option<Pair>) -> Result<Option<Vec<u8>>, RootFault> {
+    match pair {
+        Some(pair) => Ok(Some(joined(alloc, &[pair.key(), pair.value()])?)),
+        None => Ok(None),
+    }
+}
+
+pub(crate) fn look_up(
+    alloc: Global,
+    device: &mut ScriptDevice,
+    rooted: &Rooted,
+    sought: Sought,
+) -> Result<Shown, RootFault> {
+    match sought {
+        Sought::Key(key) => {
+            let found = get_by_root(alloc, device, rooted.version, &rooted.root, key)?;
+            Ok((found.way.len(), found.value))
+        }
+        Sought::Number(n) => {
+            let found = nth_by_root(alloc, device, &rooted.root, n)?;
+            Ok((found.way.len(), joined_pair(alloc, found.pair)?))
+        }
+    }
+}
+
+/// Fails unless this was found.
+pub(crate) fn expect_shown(rt: &impl Abort, shown: &Shown, expected: (usize, Option<&[u8]>)) {
+    expect_eq(rt, &(shown.0, shown.1.as_deref()), &expected);
+}
+
+/// Looks up over devices whose first call fails, whose second does, and so on to one none of whose
+/// calls does, and compares what is found. Where a call fails the answer says so, and the next
+/// look-up over the same device finds what is there.
+fn expect_found(
+    rt: &impl Abort,
+    alloc: Global,
+    rooted: &Rooted,
+    sought: Sought,
+    expected: (usize, Option<&[u8]>),
+) -> Result<(), Fail> {
+    for fail_at in 1..=MOST_CALLS {
+        let mut device = rooted.device(alloc, fail_at)?;
+        match look_up(alloc, &mut device, rooted, sought) {
+            Err(fault) => expect_eq(rt, &fault, &RootFault::Read),
+            Ok(shown) => {
+                expect_shown(rt, &shown, expected);
+                assert!(rt; fail_at > 1);
+                return Ok(());
+            }
+        }
+        let shown = look_up(alloc, &mut device, rooted, sought)?;
+        expect_shown(rt, &shown, expected);
+    }
+    Err("too many calls".into())
+}
+
+/// The keys of a file, what is looked up in it, how many chunks show it, and what is there. A key
+/// behind all others is shown to be missing by the root alone.
+const SOUGHT: &[(&[&[u8]], Sought, usize, Option<&[u8]>)] = &[
+    (&[b"a"], Sought::Key(b"a"), 1, Some(b"1")),
+    (&[b"a"], Sought::Key(b"b"), 1, None),
+    (&[b"a", b"b"], Sought::Key(b"b"), 2, Some(b"1")),
+    (&[b"a", b"b"], Sought::Key(b"aa"), 2, None),
+    (&[b"a", b"b"], Sought::Key(b"c"), 1, None),
+    (&[b"a", b"b", b"c"], Sought::Key(b"c"), 3, Some(b"1")),
+    (&[b"a"], Sought::Number(0), 1, Some(b"a1")),
+    (&[b"a", b"b"], Sought::Number(1), 2, Some(b"b1")),
+    (&[b"a", b"b"], Sought::Number(2), 1, None),
+    (&[b"a", b"b", b"c"], Sought::Number(0), 3, Some(b"a1")),
+];
+
+#[test]
+fn finds_keys_and_numbers_also_behind_a_failed_call(rt: HostRuntime) -> Result<(), Fail> {
+    let alloc = rt.alloc();
+    for &(keys, sought, chunks, found) in SOUGHT {
+        let rooted = Rooted::of(alloc, Version::Two, keys)?;
+        expect_found(&rt, alloc, &rooted, sought, (chunks, found))?;
+    }
+    Ok(())
+}
+
+/// Keys from which on the pairs of a leaf are asked for, and the keys of the leaf, of a byte each.
+const LEAVES: [(&[u8], &[u8]); 4] = [(b"", b"a"), (b"a\0", b"b"), (b"b\0", b"c"), (b"c\0", b"")];
+
+/// A reader of the file.
+pub(crate) fn open(
+    alloc: Global,
+    device: &mut ScriptDevice,
+    rooted: &Rooted,
+) -> Result<Reader, RootFault> {
+    Reader::open(alloc, device, rooted.version, &rooted.root)
+}
+
+/// The keys of the pairs of a leaf, from a key on, joined.
+pub(crate) fn keys_from(
+    alloc: Global,
+    device: &mut ScriptDevice,
+    reader: &mut Reader,
+    from: &[u8],
+) -> Result<Vec<u8>, RootFault> {
+    let mut keys = Vec::new(alloc);
+    for pair in &reader.pairs_from(alloc, device, from, MOST_PAIRS)? {
+        keys.extend_from_slice(pair.key())?;
+    }
+    Ok(keys)
+}
+
+/// Fails unless these are the keys of a leaf, and tells whether a call failed, behind which they
+/// are asked for again.
+fn expect_leaf(
+    rt: &impl Abort,
+    alloc: Global,
+    device: &mut ScriptDevice,
+    reader: &mut Reader,
+    from: &[u8],
+    keys: &[u8],
+) -> Result<bool, Fail> {
+    match keys_from(alloc, device, reader, from) {
+        Ok(found) => {
+            expect_bytes(rt, &found, keys);
+            Ok(false)
+        }
+        Err(fault) => {
+            expect_eq(rt, &fault, &RootFault::Read);
+            expect_bytes(rt, &keys_from(alloc, device, reader, from)?, keys);
+            Ok(true)
+        }
+    }
+}
+
+/// Opens a reader, a second time where a call failed, and tells whether one did.
+fn opened(
+    rt: &impl Abort,
+    alloc: Global,
+    device: &mut ScriptDevice,
+    rooted: &Rooted,
+) -> Result<(Reader, bool), Fail> {
+    match open(alloc, device, rooted) {
+        Ok(reader) => Ok((reader, false)),
+        Err(fault) => {
+            expect_eq(rt, &fault, &RootFault::Read);
+            Ok((open(alloc, device, rooted)?, true))
+        }
+    }
+}
+
+/// Fails unless a scan finds the leaves, and tells whether a call failed.
+fn expect_leaves(
+    rt: &impl Abort,
+    alloc: Global,
+    device: &mut ScriptDevice,
+    rooted: &Rooted,
+) -> Result<bool, Fail> {
+    let (mut reader, mut has_failed) = opened(rt, alloc, device, rooted)?;
+    for (from, keys) in &LEAVES {
+        has_failed |= expect_leaf(rt, alloc, device, &mut reader, from, keys)?;
+    }
+    Ok(has_failed)
+}
+
+/// Scans over devices whose first call fails, whose second does, and so on to one none of whose
+/// calls does.
+fn expect_scans(rt: &impl Abort, alloc: Global, rooted: &Rooted) -> Result<(), Fail> {
+    for fail_at in 1..=MOST_CALLS {
+        let mut device = rooted.device(alloc, fail_at)?;
+        if !expect_leaves(rt, alloc, &mut device, rooted)? {
+            assert!(rt; fail_at > 1);
+            return Ok(());
+        }
+    }
+    Err("too many calls".into())
+}
+
+#[test]
+fn a_scan_finds_each_leaf_also_behind_a_failed_call(rt: HostRuntime) -> Result<(), Fail> {
+    let alloc = rt.alloc();
+    for version in [Version::One, Version::Two] {
+        let rooted = Rooted::of(alloc, version, &[b"a", b"b", b"c"])?;
+        expect_scans(&rt, alloc, &rooted)?;
+    }
+    Ok(())
+}
