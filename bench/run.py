@@ -1,7 +1,7 @@
 #!/usr/bin/env python3
 """How long the program takes: `bench/run.py PROGRAM PARTS [TURNS]`.
 
-PARTS is the program that times the parts. Machines are noisy, so what is compared runs in turn, TURNS times (nine, if it
+PARTS is the program that times hashes, links and the walk over two trees. Machines are noisy, so what is compared runs in turn, TURNS times (nine, if it
 is not said), and a ratio is taken within a turn. What is shown are medians; in brackets the least and the most. A ratio
 `of hashes` is beside the hashes alone that the tree takes, in one thread. Switches of threads are those that they asked
 for, by waiting, and those that they did not.
@@ -83,8 +83,7 @@ def main():
         show_long_builds(program, parts, turns)
         show_growth(program, parts, turns)
         show_longest_values(program)
-        show_waiting(program, parts)
-        show_workers(parts, turns)
+        show_waiting(program)
         show_links(parts)
 
 
@@ -373,10 +372,8 @@ def show_longest_values(program):
         remove(names)
 
 
-def show_waiting(program, parts):
-    """The processor time of an end that waits for a second, and of a build that waits for a pipe."""
-    waiting = Command([parts, "wait", "1"]).run()
-    print(f"a receiver that waits for a second: processor {waiting.busy:.3f} s")
+def show_waiting(program):
+    """The processor time of a build that waits for a pipe."""
     value = SHORT_VALUE.to_bytes(4, "big") + b"\x5a" * SHORT_VALUE
     records = [spelled(number, value) for number in range(SECONDS_OF_WAITING)]
     Path("at once").write_bytes(b"".join(records))
@@ -386,26 +383,6 @@ def show_waiting(program, parts):
         f"a build of {SECONDS_OF_WAITING} records, one a second: processor {slowly.busy:.3f} s,"
         f" switches {slowly.given} + {slowly.lost}; from a file {at_once.busy:.3f} s, {at_once.given} + {at_once.lost}"
     )
-
-
-def show_workers(parts, turns):
-    """The workers of a build, over lists in one thread."""
-    write_records("records", range(RECORDS))
-    show_worker(parts, turns, "load", str(RECORDS), "records")
-    for words in (["merge-of-2", str(RECORDS)], ["merge-of-16", str(RECORDS)], ["leaves", "100"]):
-        show_worker(parts, turns, *words)
-    for count in ("100000", "1000000"):
-        print(output(parts, "scratch", count))
-
-
-def show_worker(parts, turns, *words):
-    """A worker, beside the hashes that its part of the tree takes."""
-    lines = [output(parts, *words) for _ in range(turns)]
-    working = [int(re.search(r": (\d+) ms", line)[1]) / 1000 for line in lines]
-    hashing = [int(re.search(r"hash (\d+) ms", line)[1]) / 1000 for line in lines]
-    print(f"{lines[0].split(':')[0]}: {spread(working)}, hashes alone {spread(hashing)}, {ratio(working, hashing)} of it")
-    for note in set(re.findall(r"least read but the last \d+ bytes", lines[0])):
-        print(f"  {note}")
 
 
 def show_links(parts):

@@ -1,5 +1,5 @@
 //! The hashes alone that a tree takes, to compare with.
-use crate::samples::{Entry, VALUE_BYTES};
+use crate::samples::Entry;
 use anyhow::Result;
 use sha2::{Digest, Sha512};
 use std::alloc::{AllocError, Global};
@@ -26,7 +26,7 @@ pub fn time_hashes<R: Print + Clock>(
 }
 
 /// Hashes all, and gives a sum of bytes of the hashes, so that no hash is left out.
-pub fn hash_all(alloc: Global, count: u32, value_bytes: u32) -> Result<u32, AllocError> {
+fn hash_all(alloc: Global, count: u32, value_bytes: u32) -> Result<u32, AllocError> {
     let mut entry = Entry::new(alloc, value_bytes)?;
     let mut sum = 0u32;
     let mut chunk = Sha512::new();
@@ -42,22 +42,4 @@ pub fn hash_all(alloc: Global, count: u32, value_bytes: u32) -> Result<u32, Allo
         }
     }
     Ok(sum.wrapping_add(u32::from(chunk.finalize()[0])))
-}
-
-/// Times the hashing of so many entries: the milliseconds, and a sum of bytes of the hashes.
-pub fn time_entries<R: Clock>(rt: &R, alloc: Global, count: u32) -> Result<(u128, u32)> {
-    let start = Instant::now(rt)?;
-    let sum = hash_entries(alloc, count)?;
-    Ok((start.elapsed(rt)?.as_millis(), sum))
-}
-
-/// Hashes each entry by itself, and gives a sum of bytes of the hashes.
-fn hash_entries(alloc: Global, count: u32) -> Result<u32, AllocError> {
-    let mut entry = Entry::new(alloc, VALUE_BYTES)?;
-    let mut sum = 0u32;
-    for number in 0..count {
-        entry.spell(number)?;
-        sum = sum.wrapping_add(u32::from(Sha512::digest(entry.bytes())[0]));
-    }
-    Ok(sum)
 }

@@ -9,7 +9,7 @@ use std::io::Print;
 use std::sync::Wait;
 use std::thread;
 use std::thread::Threads;
-use std::time::{Clock, Duration, Instant};
+use std::time::{Clock, Instant};
 
 /// How many messages a link holds.
 const CAPACITY: usize = 64;
@@ -81,24 +81,4 @@ fn receive_all<I: In<u64, RunFault>, R: Wait>(rt: &R, input: &mut I) -> u64 {
         }
     }
     sum
-}
-
-/// Receives from a sender that sleeps for a second, to be run under `time`: what it costs is what
-/// waiting costs.
-pub fn wait_a_second<R: Clock + Threads + Wait + Copy + Send + 'static>(
-    rt: R,
-    alloc: Global,
-) -> Result<()> {
-    let Ok((sender, mut receiver)) = link::<u64, RunFault>(alloc, 4) else {
-        bail!("out of memory");
-    };
-    let Ok(child) = thread::spawn(&rt, move || {
-        let _ = thread::sleep(&rt, Duration::from_secs(1));
-        sender.close(&rt, End::Clean)
-    }) else {
-        bail!("no thread");
-    };
-    let _none = receive_all(&rt, &mut receiver);
-    let _closed = child.join(&rt);
-    Ok(())
 }
