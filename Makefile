@@ -1,4 +1,4 @@
-.PHONY: test test-part growths check prolly demo install uninstall bench
+.PHONY: test test-part growths check prolly demo install uninstall dist bench
 
 PREFIX ?= /usr/local
 PROGRAM = crates/prolly/out/prolly
@@ -26,16 +26,20 @@ growths:
 check:
 	rt all check
 
-# Proves and builds the program, and runs it once: the root of the empty map.
+# Proves and builds the program, with a line a crate, and runs it once: the root of the empty map. JOBS=2 proves two crates at once.
 prolly:
-	cd crates/prolly && rt run -- scratch --bits 0 < stdin
+	tools/prove.py $(JOBS)
 
 # From a text to a root.
 demo: prolly
 	demo/run $(PROGRAM)
 
+# Where the program is there, it is taken as it is.
+$(PROGRAM):
+	tools/prove.py $(JOBS)
+
 # The program, its manual page, and what bash, zsh and fish complete its words by. These are made from its helps.
-install: prolly
+install: $(PROGRAM)
 	install -D -m 755 $(PROGRAM) $(DESTDIR)$(PREFIX)/bin/prolly
 	share/words.py $(PROGRAM) $(MADE)
 	install -D -m 644 $(MADE)/man1/prolly.1 $(SHARE)/man/man1/prolly.1
@@ -49,6 +53,10 @@ uninstall:
 	rm -f $(SHARE)/bash-completion/completions/prolly
 	rm -f $(SHARE)/zsh/site-functions/_prolly
 	rm -f $(SHARE)/fish/vendor_completions.d/prolly.fish
+
+# An archive for machines without the kit, made from what `make install` puts there and the documents.
+dist: $(PROGRAM)
+	share/dist.py $(PROGRAM)
 
 # How long the program and its parts take.
 bench: prolly

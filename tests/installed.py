@@ -1,4 +1,5 @@
-"""What `make install` puts on a machine, and takes away again: the program, its manual, and the shells' completions."""
+"""What `make install` puts on a machine, and takes away again: the program, its manual, and the shells' completions. And
+what the archive for other machines has."""
 
 import re
 import shutil
@@ -55,12 +56,34 @@ def all_runs(program, _):
             yield f"completions of {shell}", list(differences(shell, script, told[1], Path(folder) / shell))
         yield "make uninstall", make("uninstall", program, place, made)
         yield "what is left", differs(files_below(place), [])
+        yield "the archive", list(unpacked(program, Path(folder) / "archive"))
 
 
 def make(target, program, place, made):
     """Makes a target, with the program that is there."""
     words = [f"PROGRAM={program}", f"PREFIX={place}", f"MADE={made}"]
-    return silent(["make", "-s", "-C", str(TOP), "-o", "prolly", target, *words])
+    return silent(["make", "-s", "-C", str(TOP), target, *words])
+
+
+def unpacked(program, folder):
+    """How an archive differs from one that has all that is installed, the documents, and the program as it is."""
+    folder.mkdir()
+    archive = packed(program, folder)
+    first = archive.read_bytes()
+    yield from differs(packed(program, folder).read_bytes() == first, True)
+    subprocess.run(["tar", "-xzf", archive, "-C", folder], check=True)
+    root = Path(str(archive).removesuffix(".tar.gz"))
+    wanted = [*INSTALLED, "README.md", "LICENSE", "docs/commands.md", "docs/format.md", "examples/python/prolly_read.py"]
+    yield from (f"{name} is missing" for name in wanted if not (root / name).is_file())
+    yield from differs((root / "bin" / "prolly").read_bytes() == Path(program).read_bytes(), True)
+    told = subprocess.run([root / "bin" / "prolly", "--version"], capture_output=True, text=True, check=False).stdout
+    yield from differs(told.split(",")[0], root.name.removesuffix("-x86_64-linux").replace("-", " "))
+
+
+def packed(program, folder):
+    """Makes the archive in a folder."""
+    words = [str(TOP / "share" / "dist.py"), program, str(folder)]
+    return Path(subprocess.run(words, capture_output=True, text=True, check=True).stdout.strip())
 
 
 def silent(words):

@@ -178,7 +178,7 @@ first and its last key.
 
 Keys are shown in hexadecimal, or with --text as text, with the escapes of
 `pack --text`. With --json all this is one line of JSON; keys are in hexadecimal
-there, and --text says nothing.",
+there, and --text is ignored.",
     example: "Example: the numbers of a tree, level by level
   prolly stat ab.prl",
 };
@@ -192,7 +192,7 @@ With --text the key is taken and the value shown as text, with the escapes of
 `pack --text`.
 
 Without --root the whole file is checked first, as by `check`: that takes time
-linear in it, no file over 1 GiB is read, and --format says nothing. With --root
+linear in it, no file over 1 GiB is read, and --format is ignored. With --root
 only what is needed is read: the lengths and levels of the frames, and one chunk
 a level, each compared with the reference above it, from ROOT down. So what is
 printed is right for ROOT, whatever else the file holds; a chunk that does not
@@ -211,7 +211,7 @@ Each pair is a line, HEXKEY HEXVALUE. With --text KEY is taken and the pairs are
 shown as text, a key, a tab and a value, with the escapes of `pack --text`.
 
 Without --root the whole file is checked first, as by `check`: that takes time
-linear in it, no file over 1 GiB is read, and --format says nothing. With --root
+linear in it, no file over 1 GiB is read, and --format is ignored. With --root
 only what is needed is read: the lengths and levels of the frames, and for each
 leaf that has some of these pairs the chunks on the way to it, each compared
 with the reference above it, from ROOT down. So what is printed is right for
@@ -230,7 +230,7 @@ the exit status is 1. With --text the pair is shown as text, a key, a tab and a
 value, with the escapes of `pack --text`.
 
 Without --root the whole file is checked first, as by `check`: that takes time
-linear in it, no file over 1 GiB is read, and --format says nothing. With --root
+linear in it, no file over 1 GiB is read, and --format is ignored. With --root
 --format 2 has to be given, and only what is needed is read: the lengths and
 levels of the frames, and one chunk a level, each compared with the reference
 above it, from ROOT down. So what is printed is right for ROOT, whatever else
@@ -251,7 +251,7 @@ with --text a key, a tab and a value as text, of which `pack --text` makes the
 record file, and with --hex alone HEXKEY HEXVALUE, of which `pack` makes it.
 
 What is written goes to OUT, or to standard output where OUT is not given; then
---atomic, --sync and --force say nothing. Nothing else is printed.
+--atomic, --sync and --force are ignored. Nothing else is printed.
 
 OUT is replaced once what it is to hold is whole: after a fault it is as it was.
 An OUT that is a file of another kind is refused, unless --force is given.",
@@ -268,7 +268,7 @@ first, as by `check`.
 
 Without --out these are lines that `pack` reads, `HEXKEY HEXVALUE` or, for a key
 that NEW lacks, `HEXKEY -`; with --text they are the lines that
-`pack --text --removals` reads. Then --atomic, --sync and --force say nothing.
+`pack --text --removals` reads. Then --atomic, --sync and --force are ignored.
 With --out, FILE is a record file of them, and nothing is printed. So `build` of
 OLD's pairs and of that file makes NEW's tree again, at equal --bits and
 --format.
