@@ -19,19 +19,23 @@ use std::alloc::{AllocError, Global};
 use std::process::Abort;
 use std::test::Fail;
 
+mod differences;
+mod rooted;
+mod surveys;
+
 /// The line that tells of want of memory.
 const NO_MEMORY: &[u8] = b"prolly: out of memory\n";
 
-/// Fails unless a call answers that it is done, and shows this, or that memory was refused: by its
-/// line, or by an `Err` where there was none for that.
-fn expect_shown(rt: &impl Abort, answer: Result<Answer, AllocError>, out: &[u8]) {
+/// Fails unless a call ends with the status of one that is done, and shows this, or tells that
+/// memory was refused: by its line, or by an `Err` where there was none for that.
+fn expect_shown(rt: &impl Abort, answer: Result<Answer, AllocError>, done: u8, out: &[u8]) {
     let Ok(answer) = answer else {
         return;
     };
     if answer.status == 6 {
         expect_answer(rt, &answer, 6, b"", NO_MEMORY);
     } else {
-        expect_answer(rt, &answer, 0, out, b"");
+        expect_answer(rt, &answer, done, out, b"");
     }
 }
 
@@ -41,14 +45,14 @@ fn a_look_up_is_shown_or_wants_memory(rt: HostRuntime) -> Result<(), Fail> {
     let file = file_of_three(alloc, Version::Two)?;
     let bytes = file.as_slice();
     let value = answer_get(alloc, &mut FromRead::new(bytes), b"b");
-    expect_shown(&rt, value, b"31\n");
+    expect_shown(&rt, value, 0, b"31\n");
     let scan = answer_scan(alloc, &mut FromRead::new(bytes), b"b", 5);
-    expect_shown(&rt, scan, b"62 31\n63 31\n");
+    expect_shown(&rt, scan, 0, b"62 31\n63 31\n");
     let pair = answer_nth(alloc, &mut FromRead::new(bytes), 2);
-    expect_shown(&rt, pair, b"63 31\n");
+    expect_shown(&rt, pair, 0, b"63 31\n");
     let line = b"ok a5ncvh138tevh93qdn92a4mlvku8m62f 0 6\n";
     let check = answer_check(alloc, &mut FromRead::new(bytes));
-    expect_shown(&rt, check, line);
+    expect_shown(&rt, check, 0, line);
     Ok(())
 }
 
@@ -77,6 +81,29 @@ fn expect_written(
         }
         _ => {
             expect_answer(rt, &answer, 0, out, b"");
+            expect_bytes(rt, taken, whole);
+        }
+    }
+}
+
+/// Fails unless a call ends with the status of one that is done, shows nothing and has written
+/// this; or was refused memory, or its sink was, and has written a first part.
+fn expect_begun(
+    rt: &impl Abort,
+    answer: Result<Answer, AllocError>,
+    done: u8,
+    taken: &[u8],
+    whole: &[u8],
+) {
+    expect_eq(rt, &whole.starts_with(taken), &true);
+    let Ok(answer) = answer else {
+        return;
+    };
+    match answer.status {
+        5 => expect_answer(rt, &answer, 5, b"", b"prolly: write failed\n"),
+        6 => expect_answer(rt, &answer, 6, b"", NO_MEMORY),
+        _ => {
+            expect_answer(rt, &answer, done, b"", b"");
             expect_bytes(rt, taken, whole);
         }
     }
@@ -138,7 +165,7 @@ fn a_proof_is_made_and_verified_or_wants_memory(rt: HostRuntime) {
     let mut proof = FromRead::new(PROOF);
     let (version, notation) = (Version::One, Notation::Hex);
     let answer = answer_verify(alloc, &mut proof, notation, version, &root, b"a");
-    expect_shown(&rt, answer, b"31\n");
+    expect_shown(&rt, answer, 0, b"31\n");
 }
 
 /// Packs a line behind bytes, which are as they were where that is refused.
