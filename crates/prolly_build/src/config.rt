@@ -34,7 +34,7 @@ pub enum ConfigFault {
 /// What a build is set to. Bits and version decide what the chunk file holds; stages and the
 /// greatest number of records are limits; capacity and batch change only memory and time: a link
 /// holds at most their product of items, and larger batches cost less an item.
-#[derive(Clone, Copy, Debug, PartialEq, Eq)]
+#[derive(Clone, Copy)]
 pub struct Config {
     bits: u8,
     stages: u8,

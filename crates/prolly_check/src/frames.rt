@@ -13,14 +13,14 @@ use std::alloc::{AllocError, Global};
 const FRAME_START: usize = 9;
 
 /// Where a chunk lies in its file.
-#[derive(Clone, Copy, Debug)]
+#[derive(Clone, Copy)]
 pub(crate) struct Span {
     pub(crate) start: usize,
     pub(crate) len: usize,
 }
 
 /// Where the chunks of a file lie, and where their frames end.
-#[derive(Debug, Drop)]
+#[derive(Drop)]
 pub(crate) struct Frames {
     pub(crate) spans: Vec<Span>,
     pub(crate) end: usize,

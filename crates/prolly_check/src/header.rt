@@ -15,7 +15,7 @@ const VERSION_PLACE: usize = 4;
 pub(crate) const BITS_PLACE: usize = 5;
 
 /// What a header says.
-#[derive(Clone, Copy, Debug)]
+#[derive(Clone, Copy)]
 pub struct Header {
     /// The version of the file.
     pub version: Version,

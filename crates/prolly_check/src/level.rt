@@ -8,7 +8,7 @@ use std::alloc::{AllocError, Global};
 
 /// The chunks of one level of a tree, in numbers. The bytes are those of the chunks, without the
 /// frames that stand around them in a file.
-#[derive(Clone, Copy, Debug, PartialEq, Eq)]
+#[derive(Clone, Copy)]
 pub struct Level {
     /// How many chunks the level has.
     pub chunks: u64,

@@ -9,7 +9,7 @@ use prolly_entry::Ref;
 
 /// The chunks of a tree whose references another tree lacks: what a replica that has the other one
 /// has to fetch.
-#[derive(Clone, Copy, Debug, PartialEq, Eq)]
+#[derive(Clone, Copy, Debug)]
 pub struct Missing {
     /// How many chunks these are.
     pub chunks: u64,

@@ -11,7 +11,7 @@ use crate::leaf::Pairs;
 use prolly_entry::key_rises;
 
 /// A key is not greater than the one before it.
-#[derive(Clone, Copy, Debug)]
+#[derive(Clone, Copy)]
 struct Falls;
 
 /// Tests that the keys of all chunks rise. Takes no memory: it keeps where the last key lies.

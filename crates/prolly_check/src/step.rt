@@ -11,7 +11,7 @@ use crate::whole::is_whole;
 use prolly_entry::{Ref, Version, key_rises};
 
 /// What a look-up comes to at a chunk.
-#[derive(Clone, Copy, Debug, PartialEq, Eq)]
+#[derive(Clone, Copy)]
 pub enum Step<'a> {
     /// It ends there, with the value of the key, or with none.
     End(Option<&'a [u8]>),
@@ -20,7 +20,7 @@ pub enum Step<'a> {
 }
 
 /// Why a chunk can't be read.
-#[derive(Clone, Copy, Debug, PartialEq, Eq)]
+#[derive(Clone, Copy)]
 pub enum ChunkFlaw {
     /// It is not a level, and whole lawful entries of that level's kind.
     Entries,

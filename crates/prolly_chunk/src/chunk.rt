@@ -17,7 +17,7 @@ const KEY_OFFSET: usize = 2;
 ///
 /// The key is that of the last entry, which lies in the bytes already. So it is kept as a place
 /// there, and takes no memory of its own.
-#[derive(Debug, Drop)]
+#[derive(Drop)]
 pub(crate) struct Chunk {
     level: u8,
     bytes: Vec<u8>,

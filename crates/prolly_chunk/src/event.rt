@@ -11,9 +11,8 @@ use std::marker::Model;
 /// of it.
 ///
 /// It may carry its reference, a hash of all its bytes. So that hash can be taken by another thread
-/// than the one that closed the chunk. No contract tells such an event from one that carries none;
-/// `Debug` shows it.
-#[derive(Debug, Drop)]
+/// than the one that closed the chunk. Nothing tells such an event from one that carries none.
+#[derive(Drop)]
 pub struct ChunkEvent {
     chunk: Chunk,
     reference: Option<Ref>,

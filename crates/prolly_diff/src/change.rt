@@ -5,7 +5,7 @@ ghost use Rattle.std.specs.Option.{option_copied};
 /// What a key has in two maps, where that is not the same: a value, or nothing.
 ///
 /// The key is new where there was nothing before, and is removed where there is nothing after.
-#[derive(Clone, Copy, Debug, PartialEq, Eq)]
+#[derive(Clone, Copy)]
 pub struct Change<'a> {
     /// The key.
     pub key: &'a [u8],

@@ -20,7 +20,7 @@ const COUNT_SIZE: usize = 8;
 /// Where the parts of a child entry lie that begins bytes: its key is the bytes `2..key_end`, its
 /// reference the 20 bytes behind it, and the whole entry `0..len`. In version Two the last eight
 /// bytes before `len` are the count.
-#[derive(Clone, Copy, Debug, PartialEq, Eq)]
+#[derive(Clone, Copy)]
 pub struct ChildAt {
     pub key_end: usize,
     pub len: usize,

@@ -37,7 +37,7 @@ pub trait Cut: Copy + Send {
 
 /// The cut of a number of bits q from 0 to 24: an entry is a boundary where its boundary number is
 /// a multiple of 2^q, so about one entry in 2^q is.
-#[derive(Clone, Copy, Debug, PartialEq, Eq)]
+#[derive(Clone, Copy, Debug)]
 pub struct Sha512Cut {
     bits: u8,
 }
@@ -96,7 +96,7 @@ impl Cut for Sha512Cut {
 /// The cut of examples and tests: an entry is a boundary where it holds a key whole, by the length
 /// in its first two bytes, and that key ends with `!`. Its number is 255, which no lawful chunk
 /// file has.
-#[derive(Clone, Copy, Debug, PartialEq, Eq)]
+#[derive(Clone, Copy, Debug)]
 pub struct KeyCut;
 
 impl Cut for KeyCut {

@@ -1,7 +1,7 @@
 //! What may be wrong with a record.
 
 /// What is wrong with the record that follows the good ones of a record file.
-#[derive(Clone, Copy, Debug, PartialEq, Eq, Hash)]
+#[derive(Clone, Copy, Debug, PartialEq, Eq)]
 pub enum Flaw {
     /// The bytes end inside the record.
     Truncated,

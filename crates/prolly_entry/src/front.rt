@@ -9,7 +9,7 @@ use crate::spelling::REMOVAL;
 
 /// The record that bytes begin with. Its key is the bytes `2..key_end`, the value of a put is
 /// `value_start..len`, and its spelling is `0..len`.
-#[derive(Clone, Copy, Debug, PartialEq, Eq)]
+#[derive(Clone, Copy)]
 pub enum FrontRecord {
     /// A pair is put.
     Put {
@@ -32,7 +32,7 @@ pub enum FrontRecord {
 
 /// The pair that bytes begin with. Its key is the bytes `2..key_end`, its value `value_start..len`,
 /// and its spelling `0..len`.
-#[derive(Clone, Copy, Debug, PartialEq, Eq)]
+#[derive(Clone, Copy)]
 pub enum Front {
     /// A whole pair.
     Pair {

@@ -9,7 +9,7 @@ use crate::keys::key_rises;
 /// What bytes say of the next record of a record file, where more bytes may follow them. A record's
 /// key is the bytes `2..key_end`, the value of a put is `value_start..len`, and its spelling is
 /// `0..len`.
-#[derive(Clone, Copy, Debug, PartialEq, Eq)]
+#[derive(Clone, Copy)]
 pub enum NextRecord {
     /// One more good record, which puts a pair.
     Put {

@@ -8,7 +8,7 @@ use std::alloc::{AllocError, Global};
 use std::marker::Model;
 
 /// Why there is no such pair or record.
-#[derive(Clone, Copy, Debug, PartialEq, Eq, Hash)]
+#[derive(Clone, Copy, Debug, PartialEq, Eq)]
 pub enum EntryFault {
     /// The key has more than 1,024 bytes.
     KeyTooLong,
@@ -19,9 +19,9 @@ pub enum EntryFault {
 /// A key of at most 1,024 bytes and the value at it, of at most 65,536 bytes. Either may be empty.
 ///
 /// It may carry its boundary number, by which a [`Sha512Cut`](crate::Sha512Cut) decides whether it
-/// ends a chunk. So that hash can be taken by a thread that has time for it. No contract tells such
-/// a pair from one that carries none; `Debug` shows it.
-#[derive(Debug, Drop)]
+/// ends a chunk. So that hash can be taken by a thread that has time for it. Nothing tells such a
+/// pair from one that carries none.
+#[derive(Drop)]
 pub struct Pair {
     storage: Storage,
     boundary_number: Option<u32>,

@@ -7,12 +7,12 @@ use std::alloc::{AllocError, Global};
 use std::marker::Model;
 
 /// A record puts a value at its key, or removes the key.
-#[derive(Debug, Drop)]
+#[derive(Drop)]
 pub struct Record {
     change: Change,
 }
 
-#[derive(Debug, Drop)]
+#[derive(Drop)]
 enum Change {
     Put(Pair),
     // The key, of at most 1,024 bytes.

@@ -13,7 +13,7 @@ use std::alloc::Global;
 
 /// Why bytes are no record file. A place is the number of good records before the flawed one, so
 /// the flawed one's own number, counted from 0.
-#[derive(Clone, Copy, Debug, PartialEq, Eq, Hash)]
+#[derive(Clone, Copy, Debug, PartialEq, Eq)]
 pub enum RecordFault {
     /// Memory was refused.
     Memory,

@@ -20,7 +20,7 @@ const VALUE_LENGTH_BYTES: usize = 4;
 /// How a pair is kept.
 ///
 /// In a spelling the key is the bytes `2..key_end`, and the value begins four bytes behind it.
-#[derive(Debug, Drop)]
+#[derive(Drop)]
 pub(crate) enum Storage {
     /// As it was given.
     Apart {

@@ -1,7 +1,7 @@
 //! Versions of the chunk file.
 
 /// The version of a chunk file: it says how a child entry is spelled.
-#[derive(Clone, Copy, Debug, PartialEq, Eq, Hash)]
+#[derive(Clone, Copy, Debug, PartialEq, Eq)]
 pub enum Version {
     /// A child entry has its key and its reference.
     One,

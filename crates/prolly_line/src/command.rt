@@ -27,10 +27,10 @@ pub struct WriteMode {
 
 /// What the program is asked to do. File names are the words as they stand. A notation is that of
 /// keys and values, in the words and in the lines that are read or printed.
-#[derive(Debug, Drop)]
+#[derive(Drop)]
 pub enum Command {
     /// Make a record file of the lines of standard input. Where `removals` is set, a line of text
-    /// that is a key alone takes it away; of lines in hexadecimal it says nothing.
+    /// that is a key alone takes it away; for lines in hexadecimal it is ignored.
     Pack {
         out: String,
         notation: Notation,
@@ -38,7 +38,7 @@ pub enum Command {
         mode: WriteMode,
     },
     /// Make the tree of one record file, which comes from standard input. Without an output its
-    /// mode says nothing.
+    /// mode is ignored.
     Scratch {
         bits: u8,
         version: u8,
@@ -68,7 +68,7 @@ pub enum Command {
         file: String,
     },
     /// Print the numbers of a chunk file or of a record file: where `json` is set, in a line of
-    /// JSON, in which keys are in hexadecimal, and then the notation says nothing.
+    /// JSON, in which keys are in hexadecimal, and then the notation is ignored.
     Stat {
         file: String,
         json: bool,
@@ -103,7 +103,7 @@ pub enum Command {
         notation: Notation,
     },
     /// Write the pairs of a file, in lines of the notation `lines`, and else as a record file: to
-    /// standard output where there is no output, and then the mode says nothing.
+    /// standard output where there is no output, and then the mode is ignored.
     Dump {
         file: String,
         out: Option<String>,
@@ -111,7 +111,7 @@ pub enum Command {
         mode: WriteMode,
     },
     /// Say what turns the map of the file `old` into that of the file `new`: in a record file
-    /// where there is an output, and else the mode says nothing. What is printed is how much has
+    /// where there is an output, and else the mode is ignored. What is printed is how much has
     /// changed where `stat` is set, and else the changes, in lines, where there is no output.
     Diff {
         old: String,

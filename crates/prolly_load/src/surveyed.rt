@@ -3,7 +3,7 @@
 use prolly_entry::Flaw;
 
 /// What a record file holds, as far as it is good.
-#[derive(Debug, Drop)]
+#[derive(Drop)]
 pub struct Survey {
     /// How many records are good.
     pub records: u32,
@@ -21,7 +21,7 @@ pub struct Survey {
 }
 
 /// A record that is not good.
-#[derive(Debug, Drop)]
+#[derive(Drop)]
 pub struct FlawedRecord {
     /// What is wrong with it.
     pub flaw: Flaw,

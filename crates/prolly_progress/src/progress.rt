@@ -9,7 +9,7 @@ use std::fmt::{Display, Formatter};
 const MEGABYTE: u64 = 1_000_000;
 
 /// What is shown of a run under way.
-#[derive(Clone, Copy, Debug, PartialEq, Eq)]
+#[derive(Clone, Copy)]
 pub struct Progress {
     /// How many records were read.
     pub records: u64,

@@ -7,7 +7,7 @@ use crate::walk::Walk;
 use prolly_file::Device;
 
 /// The frames below a chunk, as far as they were gone over.
-#[derive(Clone, Copy, Debug)]
+#[derive(Clone, Copy)]
 pub(crate) struct FramesBelow {
     /// Where they begin.
     pub(crate) first: Walk,
@@ -16,7 +16,7 @@ pub(crate) struct FramesBelow {
 }
 
 /// A child that was gone to.
-#[derive(Clone, Copy, Debug)]
+#[derive(Clone, Copy)]
 pub(crate) struct Passed {
     /// Its number among the children, counted from 0.
     number: u64,
@@ -27,7 +27,7 @@ pub(crate) struct Passed {
 }
 
 /// How far one has come: over so many children, to where the frames of the next one begin.
-#[derive(Clone, Copy, Debug)]
+#[derive(Clone, Copy)]
 struct Reached {
     count: u64,
     walk: Walk,

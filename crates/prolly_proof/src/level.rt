@@ -22,7 +22,7 @@ use prolly_file::Device;
 use std::alloc::Global;
 
 /// The chunk that is due next.
-#[derive(Clone, Copy, Debug)]
+#[derive(Clone, Copy)]
 pub(crate) struct Due<'a> {
     /// Its reference.
     pub(crate) reference: Ref,
@@ -33,7 +33,7 @@ pub(crate) struct Due<'a> {
 }
 
 /// What a look-up comes to at a chunk.
-#[derive(Clone, Copy, Debug)]
+#[derive(Clone, Copy)]
 pub(crate) enum Onward<'a> {
     /// It ends there.
     End,

@@ -10,7 +10,7 @@ use prolly_check::{Child, split_first_child};
 use prolly_entry::{Ref, Version, key_order};
 
 /// What a look-up seeks.
-#[derive(Clone, Copy, Debug)]
+#[derive(Clone, Copy)]
 pub(crate) enum Sought<'a> {
     /// A key.
     Key(&'a [u8]),
@@ -19,7 +19,7 @@ pub(crate) enum Sought<'a> {
 }
 
 /// A place between the entries of a node.
-#[derive(Clone, Copy, Debug)]
+#[derive(Clone, Copy)]
 pub(crate) struct Mark {
     /// How many children stand before it.
     pub(crate) number: u64,
@@ -40,7 +40,7 @@ impl Mark {
 }
 
 /// The child of a node that a look-up goes on in.
-#[derive(Clone, Copy, Debug)]
+#[derive(Clone, Copy)]
 pub(crate) struct ChildSought<'a> {
     /// Its number among the children, counted from 0.
     pub(crate) number: u64,

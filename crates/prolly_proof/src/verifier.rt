@@ -42,7 +42,7 @@ pub fn verify<'a>(
 }
 
 /// The chunk that has to come next in a proof.
-#[derive(Clone, Copy, Debug)]
+#[derive(Clone, Copy)]
 struct Awaited {
     /// Its reference.
     reference: Ref,

@@ -1,7 +1,7 @@
 //! The workers of a build.
 
 /// A worker, which has a thread of its own. Each kind is numbered from 0.
-#[derive(Clone, Copy, Debug, PartialEq, Eq, Hash)]
+#[derive(Clone, Copy, Debug, PartialEq, Eq)]
 pub enum Worker {
     /// The loader of the record file of this number.
     Loader(u32),

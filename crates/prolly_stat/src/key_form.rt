@@ -12,7 +12,7 @@ use std::alloc::{AllocError, Global};
 const SHOWN_BYTES: usize = 64;
 
 /// How a key is shown.
-#[derive(Clone, Copy, Debug, PartialEq, Eq)]
+#[derive(Clone, Copy)]
 pub(crate) enum KeyForm {
     /// Whole, however long it is.
     Whole(Notation),

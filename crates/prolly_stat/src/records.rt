@@ -8,7 +8,7 @@ use prolly_text::Notation;
 use std::alloc::{AllocError, Global};
 
 /// A record file, in numbers, as far as it is good.
-#[derive(Clone, Copy, Debug, PartialEq, Eq)]
+#[derive(Clone, Copy)]
 pub struct RecordNumbers<'a> {
     /// How many records are good.
     pub records: u32,

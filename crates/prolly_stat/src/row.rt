@@ -6,7 +6,7 @@ use crate::tree::TreeNumbers;
 use prolly_check::Level;
 
 /// A level with its number, which is 0 for the leaves, and its entries.
-#[derive(Clone, Copy, Debug, PartialEq, Eq)]
+#[derive(Clone, Copy)]
 pub(crate) struct Row {
     pub(crate) number: usize,
     pub(crate) entries: u64,

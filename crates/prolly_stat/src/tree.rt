@@ -4,7 +4,7 @@ use prolly_check::Level;
 use prolly_entry::Version;
 
 /// A chunk file, in numbers.
-#[derive(Clone, Copy, Debug, PartialEq, Eq)]
+#[derive(Clone, Copy)]
 pub struct TreeNumbers<'a> {
     /// The text of the root's reference, 32 characters.
     pub root: &'a [u8],

@@ -9,7 +9,7 @@ use hex::FromHexError;
 use std::alloc::{AllocError, Global};
 
 /// How the bytes of keys and values are written.
-#[derive(Clone, Copy, Debug, PartialEq, Eq)]
+#[derive(Clone, Copy, Debug)]
 pub enum Notation {
     /// Two hexadecimal digits a byte.
     Hex,

@@ -14,7 +14,7 @@ use prolly_text::{Notation, append_name};
 use std::alloc::{AllocError, Global};
 
 /// What the program prints, and the status with which it ends.
-#[derive(Debug, Drop)]
+#[derive(Drop)]
 pub struct Answer {
     /// 0 where the command is done, 1 where a look-up found nothing or `diff` found a change, and
     /// else the status of the fault.

@@ -7,7 +7,7 @@ ghost use Rattle.prolly_tree.specs.LookUp.{find};
 ghost use Rattle.prolly_tool.specs.Counts.{AreCounts, are_some};
 
 /// The numbers of changes of each kind.
-#[derive(Clone, Copy, Debug, PartialEq, Eq)]
+#[derive(Clone, Copy)]
 pub(crate) struct ChangeCounts {
     /// Keys that only the new map has.
     pub(crate) added: u64,

@@ -14,7 +14,7 @@ use prolly_text::{Notation, TextFault};
 use std::alloc::Global;
 
 /// What is wrong with a line.
-#[derive(Clone, Copy, Debug, PartialEq, Eq)]
+#[derive(Clone, Copy)]
 pub(crate) enum LineFlaw {
     Memory,
     Bad,

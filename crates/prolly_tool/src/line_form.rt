@@ -6,11 +6,11 @@ use prolly_text::Notation;
 
 /// How lines are written: `HEXKEY HEXVALUE`, or `HEXKEY -` for a removal; or in text a key, a tab
 /// and a value, or a key alone for a removal.
-#[derive(Clone, Copy, Debug, PartialEq, Eq)]
+#[derive(Clone, Copy)]
 pub struct LineForm {
     /// How keys and values are written.
     pub notation: Notation,
-    /// Whether in text a line that is a key alone is its removal. It says nothing of lines in
+    /// Whether in text a line that is a key alone is its removal. It is ignored for lines in
     /// hexadecimal, where a dash marks a removal.
     pub removals: bool,
 }

@@ -4,7 +4,7 @@ ghost use Rattle.prolly_tool.specs.Names.{name_fault_text};
 
 /// What is wrong with a file that the words name. Its text is the start of a line that ends with
 /// the name; the status is that of a device's fault.
-#[derive(Clone, Copy, Debug, PartialEq, Eq)]
+#[derive(Clone, Copy, Debug)]
 pub enum NameFault {
     /// The file can't be opened, or made.
     CannotOpen,

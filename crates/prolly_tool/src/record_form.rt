@@ -10,7 +10,7 @@ use prolly_text::Notation;
 use std::alloc::{AllocError, Global};
 
 /// How records are written: the value that is put at a key, or that the key is removed.
-#[derive(Clone, Copy, Debug, PartialEq, Eq)]
+#[derive(Clone, Copy)]
 pub enum RecordForm {
     /// A line, as `pack` reads it: in hexadecimal a key, a space, and a value or a dash; in text a
     /// key, a tab and a value, or a key alone.

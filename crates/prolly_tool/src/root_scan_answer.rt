@@ -24,7 +24,7 @@ use prolly_text::Notation;
 use std::alloc::{AllocError, Global};
 
 /// What a scan by the root asks for.
-#[derive(Clone, Copy, Debug)]
+#[derive(Clone, Copy)]
 pub struct RootScan<'a> {
     /// The version of the tree's chunks.
     pub version: Version,

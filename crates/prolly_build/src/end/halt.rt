@@ -6,7 +6,7 @@ use prolly_fault::{BatchReceiver, BatchSender, End, RunFault};
 use std::sync::Wait;
 
 /// Why the workers were not all met.
-#[derive(Clone, Copy, Debug, PartialEq, Eq)]
+#[derive(Clone, Copy)]
 pub(crate) enum Halt {
     /// One could not be started.
     NoThread,

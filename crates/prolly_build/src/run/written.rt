@@ -10,7 +10,7 @@ use prolly_entry::{Ref, Version};
 use prolly_file::{FileWriter, Sink};
 
 /// The reference and the level of a chunk.
-#[derive(Clone, Copy, Debug, PartialEq, Eq)]
+#[derive(Clone, Copy)]
 pub(crate) struct Top {
     pub root: Ref,
     pub level: u8,
