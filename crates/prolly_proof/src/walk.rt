@@ -19,7 +19,7 @@ const READ_BYTES: usize = 10;
 const END_BYTES: u64 = 29;
 
 /// A chunk of a file, of which the level was read.
-#[derive(Clone, Copy)]
+#[derive(Clone, Copy, PartialEq, Eq)]
 pub(crate) struct Frame {
     /// Its number in the file, counted from 0.
     pub(crate) number: u64,
@@ -32,7 +32,7 @@ pub(crate) struct Frame {
 }
 
 /// A place between two frames of a file.
-#[derive(Clone, Copy)]
+#[derive(Clone, Copy, PartialEq, Eq)]
 pub(crate) struct Walk {
     place: u64,
     /// The number of the chunk whose frame is next.
