@@ -36,7 +36,7 @@ fn what_has_a_number_is_shown_or_wants_memory(rt: HostRuntime) -> Result<(), Fai
     let alloc = rt.alloc();
     let root = Ref::from_text(ROOT_OF_THREE).ok_or("the text of a root")?;
     let mut device = ScriptDevice::new(file_of_three(alloc, Version::Two)?, None);
-    let found = nth_by_root(alloc, &mut device, Version::Two, &root, 2);
+    let found = nth_by_root(alloc, &mut device, &root, 2);
     let pair = answer_found_pair(alloc, Notation::Hex, &found);
     expect_shown(&rt, pair, 0, b"63 31\n");
     Ok(())
