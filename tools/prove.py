@@ -50,7 +50,7 @@ def is_proved(jobs, log):
         if line.startswith("== ") and line != "== summary\n":
             done += 1
             minutes, seconds = divmod(int(time.monotonic() - start), 60)
-            print(f"[{done:2} of {every}] after {minutes:2} min {seconds:2} s: {line[3:].strip()}", flush=True)
+            print(f"[{done:2} of {every}] {line[3:].strip():16} done after {minutes} min {seconds:02} s", flush=True)
         elif ": failed (" in line:
             failed.append(line.split(":")[0])
     if proving.wait() != 0:
