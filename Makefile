@@ -1,4 +1,4 @@
-.PHONY: test test-part growths check prolly demo install uninstall dist bench
+.PHONY: test test-part growths check edits prolly demo install uninstall dist bench
 
 PREFIX ?= /usr/local
 PROGRAM = crates/prolly/out/prolly
@@ -25,6 +25,11 @@ growths:
 # The proofs alone, over what earlier runs kept.
 check:
 	rt all check
+
+# All wrong bodies, those that the gate leaves out too, over what `make check` kept: of all crates, or as
+# `make edits CRATE="prolly_stat prolly_text"`. JOBS=2 tries the edits of two crates at once.
+edits:
+	tools/edits.py $(if $(JOBS),--jobs $(JOBS)) $(CRATE)
 
 # Proves and builds the program, with a line a crate, and runs it once: the root of the empty map. JOBS=2 proves two crates at once.
 prolly:
