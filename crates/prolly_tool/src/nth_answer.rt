@@ -1,5 +1,11 @@
 //! The command `nth`: a pair by its number.
+ghost use Rattle.std.specs.Prelude.{◌≡◌, ◌↔◌, ℕ, List, IfOk, IsErr};
+ghost use Rattle.prolly_check.specs.Content.{Content};
+ghost use Rattle.prolly_check.specs.Counted.{pair_of};
+ghost use Rattle.prolly_check.specs.Verdict.{IsFileOf};
+ghost use Rattle.prolly_entry.specs.declared.version.Version.TheVariants.{One};
 ghost use Rattle.prolly_text.specs.declared.notation.Notation.TheVariants.{Hex};
+ghost use Rattle.prolly_tree.specs.LookUp.{nth};
 ghost use Rattle.prolly_tool.specs.LookUps.{AnswersFailedRead, AnswersLookUp, ShowsPlace};
 
 use crate::answer::Answer;
@@ -30,7 +36,25 @@ pub fn answer_nth_as<S: Source>(
         Ok(tree) => tree,
         Err(fault) => return Answer::of_fault(alloc, Fault::Check(fault)),
     };
-    match tree.nth(n) {
+    nth_shown(alloc, notation, tree.nth(n))
+}
+
+/// The answer of a look-up by a number: the line of its pair, that there is none, or that there
+/// are no counts.
+fn nth_shown(
+    alloc: Global,
+    notation: Notation,
+    found: Result<Option<(&[u8], &[u8])>, NoCounts>,
+) -> Result<Answer, AllocError>
+    ensures { (bytes : List ℕ) (n : ℕ) →
+        IfOk found.entry (λ f. (content : Content) → IsFileOf bytes content →
+        pair_of f ≡ nth content.pairs n) →
+        ((content : Content) → IsFileOf bytes content →
+        IsErr found.entry ↔ (content.version ≡ One)) →
+        IfOk result (λ answer. (content : Content) → IsFileOf bytes content →
+        ShowsPlace notation n answer content) }
+{
+    match found {
         Ok(Some((key, value))) => Answer::of_pair(alloc, notation, key, value),
         Ok(None) => Ok(Answer::of_nothing(alloc)),
         Err(NoCounts) => Answer::of_fault(alloc, Fault::NoCounts),
