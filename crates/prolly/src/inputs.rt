@@ -72,3 +72,8 @@ impl Input {
         self.file.read_exact_at(&mut front, 0).is_ok() && front == *letters
     }
 }
+
+/// The chunk file of this name, to be read whole.
+pub fn chunk_file(rt: &HostRuntime, name: &str) -> Result<FromRead<File>, Refusal> {
+    Input::open(rt, name)?.into_chunk_file(rt)
+}

@@ -8,6 +8,9 @@ use std::os::unix::fs::PermissionsExt;
 use std::path::PathBuf;
 use std::{fs, io};
 
+/// How many bytes are written to an output at once.
+pub const OUTPUT_BYTES: usize = 65_536;
+
 /// The greatest status of a command that is done: by it `diff` says that the maps differ.
 const DONE: u8 = 1;
 

@@ -1,0 +1,63 @@
+//! The command `dump`.
+use crate::inputs::Input;
+use crate::output::OUTPUT_BYTES;
+use crate::output_kind::OutputKind;
+use crate::patient::Patient;
+use crate::refusal::Refusal;
+use crate::streams::Stream;
+use crate::target::Target;
+use prolly_file::{Buffered, FromRead, ToWrite};
+use prolly_tool::{Answer, Notation, RecordForm, WriteMode, answer_dump};
+use std::alloc::AllocError;
+use std::fs::File;
+use std::io::Write;
+
+/// How `dump` writes pairs: as lines in this notation, or where there is none as a record file.
+pub fn dump_form(lines: Option<Notation>) -> RecordForm {
+    match lines {
+        Some(notation) => RecordForm::Lines(notation),
+        None => RecordForm::Records,
+    }
+}
+
+/// `dump [--text] [--hex] FILE`
+pub fn dump(rt: &HostRuntime, file: &str, form: RecordForm) -> Result<Answer, Refusal> {
+    let input = Input::open_beside(rt, file, Stream::Output.found(rt)?)?;
+    Ok(dump_into(
+        rt,
+        input.into_chunk_file(rt)?,
+        form,
+        Patient::new(rt, rt.stdout()),
+    )?)
+}
+
+/// `dump [--text] [--hex] FILE OUT [--sync] [--force]`
+pub fn dump_to(
+    rt: &HostRuntime,
+    file: &str,
+    form: RecordForm,
+    out: &str,
+    mode: WriteMode,
+) -> Result<Answer, Refusal> {
+    let kind = match form {
+        RecordForm::Records => OutputKind::RecordFile,
+        RecordForm::Lines(_) => OutputKind::Lines,
+    };
+    let target = Target::look(rt, out, kind, mode)?;
+    let input = Input::open_beside(rt, file, target.found())?;
+    let source = input.into_chunk_file(rt)?;
+    let mut output = target.open(rt)?;
+    let answer = dump_into(rt, source, form, &mut output);
+    Ok(output.finish(rt, out, answer)?)
+}
+
+/// Writes the source's pairs in this form.
+fn dump_into<W: Write + Drop>(
+    rt: &HostRuntime,
+    mut source: FromRead<File>,
+    form: RecordForm,
+    writer: W,
+) -> Result<Answer, AllocError> {
+    let mut sink = Buffered::with_capacity(rt.alloc(), OUTPUT_BYTES, ToWrite::new(writer))?;
+    answer_dump(rt.alloc(), &mut source, form, &mut sink)
+}

@@ -1,0 +1,114 @@
+//! The commands `get`, `scan` and `nth`, each of a file that is checked, and of one of which only a
+//! root is believed.
+use crate::inputs::{Input, chunk_file};
+use crate::patient::Patient;
+use crate::refusal::Refusal;
+use crate::streams::Stream;
+use prolly_entry::{Ref, Version};
+use prolly_file::{Blocks, FromSeek, ToWrite};
+use prolly_proof::{get_by_root, nth_by_root};
+use prolly_tool::{
+    Answer, Fault, Notation, RootScan, answer_found, answer_found_pair, answer_get_as,
+    answer_nth_as, answer_scan_as, answer_scan_by_root,
+};
+use std::fs::File;
+
+/// A file of which nothing is believed but what the root of its tree vouches for, and how what is
+/// found in it is shown.
+#[derive(Clone, Copy)]
+pub struct RootedFile<'a> {
+    file: &'a str,
+    version: Version,
+    root: &'a Ref,
+    notation: Notation,
+}
+
+impl<'a> RootedFile<'a> {
+    /// The file of this name, with the root, the version of the tree's chunks, and the notation.
+    pub fn of(
+        file: &'a str,
+        version: Version,
+        root: &'a Ref,
+        notation: Notation,
+    ) -> RootedFile<'a> {
+        RootedFile {
+            file,
+            version,
+            root,
+            notation,
+        }
+    }
+
+    /// The file as a device.
+    fn device(self, rt: &HostRuntime) -> Result<Blocks<FromSeek<File>>, Refusal> {
+        device_of(rt, Input::open(rt, self.file)?)
+    }
+}
+
+/// A file of which any part is read, by blocks where the parts are short.
+fn device_of(rt: &HostRuntime, input: Input) -> Result<Blocks<FromSeek<File>>, Refusal> {
+    Ok(Blocks::new(rt.alloc(), FromSeek::new(input.into_file()))?)
+}
+
+/// `get [--text] FILE KEY`
+pub fn get(
+    rt: &HostRuntime,
+    file: &str,
+    notation: Notation,
+    key: &[u8],
+) -> Result<Answer, Refusal> {
+    let mut source = chunk_file(rt, file)?;
+    Ok(answer_get_as(rt.alloc(), &mut source, key, notation)?)
+}
+
+/// `get [--text] --root ROOT [--format V] FILE KEY`, which reads no more of the file than it needs.
+pub fn get_from_root(
+    rt: &HostRuntime,
+    tree: RootedFile<'_>,
+    key: &[u8],
+) -> Result<Answer, Refusal> {
+    let mut device = tree.device(rt)?;
+    let found = get_by_root(rt.alloc(), &mut device, tree.version, tree.root, key);
+    Ok(answer_found(rt.alloc(), tree.notation, &found)?)
+}
+
+/// `scan [--text] FILE KEY LIMIT`
+pub fn scan(
+    rt: &HostRuntime,
+    file: &str,
+    notation: Notation,
+    from: &[u8],
+    limit: u32,
+) -> Result<Answer, Refusal> {
+    let mut source = chunk_file(rt, file)?;
+    Ok(answer_scan_as(rt.alloc(), &mut source, from, limit, notation)?)
+}
+
+/// `scan [--text] --root ROOT [--format V] FILE KEY LIMIT`, which prints the pairs of a leaf before
+/// it looks for the next one.
+pub fn scan_from_root(
+    rt: &HostRuntime,
+    file: &str,
+    scan: &RootScan<'_>,
+) -> Result<Answer, Refusal> {
+    let input = Input::open_beside(rt, file, Stream::Output.found(rt)?)?;
+    let mut device = device_of(rt, input)?;
+    let mut sink = ToWrite::new(Patient::new(rt, rt.stdout()));
+    Ok(answer_scan_by_root(rt.alloc(), &mut device, scan, &mut sink)?)
+}
+
+/// `nth [--text] FILE N`
+pub fn nth(rt: &HostRuntime, file: &str, notation: Notation, n: u64) -> Result<Answer, Refusal> {
+    let mut source = chunk_file(rt, file)?;
+    Ok(answer_nth_as(rt.alloc(), &mut source, n, notation)?)
+}
+
+/// `nth [--text] --root ROOT --format 2 FILE N`. Chunks of version One have no counts to go by.
+pub fn nth_from_root(rt: &HostRuntime, tree: RootedFile<'_>, n: u64) -> Result<Answer, Refusal> {
+    if tree.version == Version::One {
+        return Err(Refusal::of_fault(rt, Fault::NoCounts));
+    }
+    let mut device = tree.device(rt)?;
+    let found = nth_by_root(rt.alloc(), &mut device, tree.root, n);
+    Ok(answer_found_pair(rt.alloc(), tree.notation, &found)?)
+}
