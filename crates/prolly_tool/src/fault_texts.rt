@@ -1,5 +1,8 @@
 //! What is said of faults.
-ghost use Rattle.std.specs.Prelude.{Some};
+ghost use Rattle.std.specs.Prelude.{◌≡◌, Some};
+ghost use Rattle.prolly_tool.specs.Faults.{check_fault_text, proof_fault_text, root_fault_text};
+ghost use Rattle.prolly_tool.specs.Faults.{run_text};
+ghost use Rattle.prolly_tool.specs.Messages.{message_text};
 
 use prolly_check::CheckFault;
 use prolly_fault::RunFault;
@@ -17,26 +20,33 @@ impl Display for RunText {
     ghost output = { λ shown. Some (run_text shown.0) };
 
     fn fmt<W: fmt::Write>(&self, f: &mut Formatter<W>) -> fmt::Result {
-        match self.0 {
-            RunFault::Memory => f.write_str("out of memory"),
-            RunFault::Read { file } => write!(f, "file {file}: read failed"),
-            RunFault::Truncated { file, place } => RecordText(file, place, " is cut").fmt(f),
-            RunFault::KeyTooLong { file, place } => {
-                RecordText(file, place, ": key too long").fmt(f)
-            }
-            RunFault::ValueTooLong { file, place } => {
-                RecordText(file, place, ": value too long").fmt(f)
-            }
-            RunFault::OutOfOrder { file, place } => {
-                RecordText(file, place, ": key out of order").fmt(f)
-            }
-            RunFault::TooManyRecords { file } => write!(f, "file {file}: too many records"),
-            RunFault::Write => f.write_str("write failed"),
-            RunFault::TooTall => f.write_str("tree too tall"),
-            RunFault::NoThread => f.write_str("a thread could not be started"),
-            RunFault::Lost => f.write_str("a worker was lost"),
-            RunFault::TooManyFiles => f.write_str("too many files"),
+        run_message(self.0).fmt(f)
+    }
+}
+
+/// What is said of a fault of a run.
+fn run_message(fault: RunFault) -> Message
+    ensures { message_text result ≡ run_text fault }
+{
+    match fault {
+        RunFault::Memory => Message::Plain("out of memory"),
+        RunFault::Read { file } => Message::Holding("file ", u64::from(file), ": read failed"),
+        RunFault::Truncated { file, place } => Message::OfRecord(file, place, " is cut"),
+        RunFault::KeyTooLong { file, place } => Message::OfRecord(file, place, ": key too long"),
+        RunFault::ValueTooLong { file, place } => {
+            Message::OfRecord(file, place, ": value too long")
         }
+        RunFault::OutOfOrder { file, place } => {
+            Message::OfRecord(file, place, ": key out of order")
+        }
+        RunFault::TooManyRecords { file } => {
+            Message::Holding("file ", u64::from(file), ": too many records")
+        }
+        RunFault::Write => Message::Plain("write failed"),
+        RunFault::TooTall => Message::Plain("tree too tall"),
+        RunFault::NoThread => Message::Plain("a thread could not be started"),
+        RunFault::Lost => Message::Plain("a worker was lost"),
+        RunFault::TooManyFiles => Message::Plain("too many files"),
     }
 }
 
@@ -55,6 +65,35 @@ impl Display for RecordText<'_> {
     }
 }
 
+/// What is said of a fault, to be shown: a text, in which the number of a chunk or of a file may
+/// stand, or those of a record.
+#[derive(Clone, Copy)]
+enum Message {
+    /// The text alone.
+    Plain(&'static str),
+    /// The text, and then the number.
+    Ending(&'static str, u64),
+    /// The number between two texts.
+    Holding(&'static str, u64, &'static str),
+    /// What is said of a record: see [`RecordText`].
+    OfRecord(u32, u32, &'static str),
+}
+
+impl Display for Message {
+    ghost use Rattle.prolly_tool.specs.Messages.{message_text};
+
+    ghost output = { λ shown. Some (message_text shown) };
+
+    fn fmt<W: fmt::Write>(&self, f: &mut Formatter<W>) -> fmt::Result {
+        match *self {
+            Message::Plain(text) => f.write_str(text),
+            Message::Ending(text, number) => write!(f, "{text}{number}"),
+            Message::Holding(before, number, behind) => write!(f, "{before}{number}{behind}"),
+            Message::OfRecord(file, place, text) => RecordText(file, place, text).fmt(f),
+        }
+    }
+}
+
 /// Why a file is no lawful chunk file, to be shown.
 #[derive(Clone, Copy)]
 pub struct CheckText(pub CheckFault);
@@ -65,26 +104,38 @@ impl Display for CheckText {
     ghost output = { λ shown. Some (check_fault_text shown.0) };
 
     fn fmt<W: fmt::Write>(&self, f: &mut Formatter<W>) -> fmt::Result {
-        match self.0 {
-            CheckFault::Memory => f.write_str("out of memory"),
-            CheckFault::Read => f.write_str("chunk file: read failed"),
-            CheckFault::TooLong => f.write_str("chunk file: too long"),
-            CheckFault::BadHeader => f.write_str("chunk file: bad header"),
-            CheckFault::BadFrame { chunk } => write!(f, "chunk file: bad frame {chunk}"),
-            CheckFault::Truncated => f.write_str("chunk file: truncated"),
-            CheckFault::Trailing => f.write_str("chunk file: bytes after the end"),
-            CheckFault::BadChunk { chunk } => write!(f, "chunk file: bad chunk {chunk}"),
-            CheckFault::KeysOutOfOrder { chunk } => {
-                write!(f, "chunk file: keys out of order in chunk {chunk}")
-            }
-            CheckFault::NotCanonical { chunk } => {
-                write!(f, "chunk file: chunk {chunk} is not canonical")
-            }
-            CheckFault::BadEnd => f.write_str("chunk file: bad end record"),
-            CheckFault::Collision { chunk } => {
-                write!(f, "chunk file: reference of chunk {chunk} is used twice")
-            }
-        }
+        check_message(self.0).fmt(f)
+    }
+}
+
+/// What is said of why a file is no lawful chunk file.
+fn check_message(fault: CheckFault) -> Message
+    ensures { message_text result ≡ check_fault_text fault }
+{
+    match fault {
+        CheckFault::Memory => Message::Plain("out of memory"),
+        CheckFault::Read => Message::Plain("chunk file: read failed"),
+        CheckFault::TooLong => Message::Plain("chunk file: too long"),
+        CheckFault::BadHeader => Message::Plain("chunk file: bad header"),
+        CheckFault::BadFrame { chunk } => Message::Ending("chunk file: bad frame ", chunk as u64),
+        CheckFault::Truncated => Message::Plain("chunk file: truncated"),
+        CheckFault::Trailing => Message::Plain("chunk file: bytes after the end"),
+        CheckFault::BadChunk { chunk } => Message::Ending("chunk file: bad chunk ", chunk as u64),
+        CheckFault::KeysOutOfOrder { chunk } => Message::Ending(
+            "chunk file: keys out of order in chunk ",
+            chunk as u64,
+        ),
+        CheckFault::NotCanonical { chunk } => Message::Holding(
+            "chunk file: chunk ",
+            chunk as u64,
+            " is not canonical",
+        ),
+        CheckFault::BadEnd => Message::Plain("chunk file: bad end record"),
+        CheckFault::Collision { chunk } => Message::Holding(
+            "chunk file: reference of chunk ",
+            chunk as u64,
+            " is used twice",
+        ),
     }
 }
 
@@ -116,21 +167,34 @@ impl Display for ProofText {
     ghost output = { λ shown. Some (proof_fault_text shown.0) };
 
     fn fmt<W: fmt::Write>(&self, f: &mut Formatter<W>) -> fmt::Result {
-        match self.0 {
-            ProofFault::Header => f.write_str("proof: bad header"),
-            ProofFault::Version => f.write_str("proof: wrong version"),
-            ProofFault::Truncated => f.write_str("proof: truncated"),
-            ProofFault::Frame { chunk } => write!(f, "proof: bad frame {chunk}"),
-            ProofFault::Reference { chunk } => {
-                write!(f, "proof: chunk {chunk} is not the one referred to")
-            }
-            ProofFault::Chunk { chunk } => write!(f, "proof: bad chunk {chunk}"),
-            ProofFault::KeysOutOfOrder { chunk } => {
-                write!(f, "proof: keys out of order in chunk {chunk}")
-            }
-            ProofFault::Level { chunk } => write!(f, "proof: wrong level in chunk {chunk}"),
-            ProofFault::Trailing => f.write_str("proof: bytes after the end"),
-        }
+        proof_message(self.0).fmt(f)
+    }
+}
+
+/// What is said of why bytes are no proof.
+fn proof_message(fault: ProofFault) -> Message
+    ensures { message_text result ≡ proof_fault_text fault }
+{
+    match fault {
+        ProofFault::Header => Message::Plain("proof: bad header"),
+        ProofFault::Version => Message::Plain("proof: wrong version"),
+        ProofFault::Truncated => Message::Plain("proof: truncated"),
+        ProofFault::Frame { chunk } => Message::Ending("proof: bad frame ", chunk as u64),
+        ProofFault::Reference { chunk } => Message::Holding(
+            "proof: chunk ",
+            chunk as u64,
+            " is not the one referred to",
+        ),
+        ProofFault::Chunk { chunk } => Message::Ending("proof: bad chunk ", chunk as u64),
+        ProofFault::KeysOutOfOrder { chunk } => Message::Ending(
+            "proof: keys out of order in chunk ",
+            chunk as u64,
+        ),
+        ProofFault::Level { chunk } => Message::Ending(
+            "proof: wrong level in chunk ",
+            chunk as u64,
+        ),
+        ProofFault::Trailing => Message::Plain("proof: bytes after the end"),
     }
 }
 
@@ -144,23 +208,33 @@ impl Display for RootText {
     ghost output = { λ shown. Some (root_fault_text shown.0) };
 
     fn fmt<W: fmt::Write>(&self, f: &mut Formatter<W>) -> fmt::Result {
-        match self.0 {
-            RootFault::Memory => f.write_str("out of memory"),
-            RootFault::Read => f.write_str("chunk file: read failed"),
-            RootFault::Header => f.write_str("chunk file: bad header"),
-            RootFault::Version => f.write_str("chunk file: wrong version"),
-            RootFault::Truncated => f.write_str("chunk file: truncated"),
-            RootFault::Frame { chunk } => write!(f, "chunk file: bad frame {chunk}"),
-            RootFault::Trailing => f.write_str("chunk file: bytes after the end"),
-            RootFault::Missing => f.write_str("chunk file: chunks are missing"),
-            RootFault::Reference { chunk } => {
-                write!(f, "chunk file: chunk {chunk} is not the one referred to")
-            }
-            RootFault::Chunk { chunk } => write!(f, "chunk file: bad chunk {chunk}"),
-            RootFault::KeysOutOfOrder { chunk } => {
-                write!(f, "chunk file: keys out of order in chunk {chunk}")
-            }
-            RootFault::Level { chunk } => write!(f, "chunk file: wrong level in chunk {chunk}"),
-        }
+        root_message(self.0).fmt(f)
+    }
+}
+
+/// What is said of why a file has no answer to a look-up by a root.
+fn root_message(fault: RootFault) -> Message
+    ensures { message_text result ≡ root_fault_text fault }
+{
+    match fault {
+        RootFault::Memory => Message::Plain("out of memory"),
+        RootFault::Read => Message::Plain("chunk file: read failed"),
+        RootFault::Header => Message::Plain("chunk file: bad header"),
+        RootFault::Version => Message::Plain("chunk file: wrong version"),
+        RootFault::Truncated => Message::Plain("chunk file: truncated"),
+        RootFault::Frame { chunk } => Message::Ending("chunk file: bad frame ", chunk),
+        RootFault::Trailing => Message::Plain("chunk file: bytes after the end"),
+        RootFault::Missing => Message::Plain("chunk file: chunks are missing"),
+        RootFault::Reference { chunk } => Message::Holding(
+            "chunk file: chunk ",
+            chunk,
+            " is not the one referred to",
+        ),
+        RootFault::Chunk { chunk } => Message::Ending("chunk file: bad chunk ", chunk),
+        RootFault::KeysOutOfOrder { chunk } => Message::Ending(
+            "chunk file: keys out of order in chunk ",
+            chunk,
+        ),
+        RootFault::Level { chunk } => Message::Ending("chunk file: wrong level in chunk ", chunk),
     }
 }
