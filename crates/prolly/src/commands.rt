@@ -7,15 +7,14 @@ mod dump;
 mod look_up;
 mod pack;
 mod proof;
+mod report;
 mod scratch;
-mod stat;
 
 ghost use Rattle.prolly_line.specs.Given.{IsWithinLimits};
 
-use crate::inputs::{Input, chunk_file};
 use crate::refusal::Refusal;
 use prolly_entry::Version;
-use prolly_tool::{Answer, Command, Config, LineForm, RootScan, answer_check, answer_explain};
+use prolly_tool::{Answer, Command, Config, LineForm};
 use std::alloc::AllocError;
 use std::sync::Wait;
 use std::thread::Threads;
@@ -57,10 +56,7 @@ fn answer_or_refusal<T: Wait + Threads + Clock + Sync>(
             mode,
         } => {
             let version = Version::of(version).unwrap();
-            match out {
-                None => Ok(scratch::scratch(rt, bits, version)?),
-                Some(out) => scratch::scratch_to(rt, bits, version, &out, mode),
-            }
+            scratch::scratch(rt, bits, version, out, mode)
         }
         Command::Build {
             bits,
@@ -79,36 +75,23 @@ fn answer_or_refusal<T: Wait + Threads + Clock + Sync>(
             let config = config.with_version(version).unwrap();
             build::build_from(rt, threads, &config, &out, &files, quiet, mode)
         }
-        Command::Explain { file, notation } => {
-            let mut source = Input::open(rt, &file)?.into_source();
-            Ok(answer_explain(rt.alloc(), &mut source, notation)?)
-        }
-        Command::Check { file } => {
-            let mut source = chunk_file(rt, &file)?;
-            Ok(answer_check(rt.alloc(), &mut source)?)
-        }
+        Command::Explain { file, notation } => report::explain(rt, file, notation),
+        Command::Check { file } => report::check(rt, file),
         Command::Stat {
             file,
             json,
             notation,
-        } => stat::stat(rt, &file, stat::stat_form(json, notation)),
+        } => report::stat(rt, file, json, notation),
         Command::Get {
             file,
             key,
             root,
             version,
             notation,
-        } => match root {
-            None => look_up::get(rt, &file, notation, &key),
-            Some(root) => {
-                let version = Version::of(version).unwrap();
-                look_up::get_from_root(
-                    rt,
-                    look_up::RootedFile::of(&file, version, &root, notation),
-                    &key,
-                )
-            }
-        },
+        } => {
+            let version = Version::of(version).unwrap();
+            look_up::get(rt, file, root, version, key, notation)
+        }
         Command::Scan {
             file,
             from,
@@ -116,45 +99,26 @@ fn answer_or_refusal<T: Wait + Threads + Clock + Sync>(
             root,
             version,
             notation,
-        } => match root {
-            None => look_up::scan(rt, &file, notation, &from, limit),
-            Some(root) => {
-                let scan = RootScan {
-                    version: Version::of(version).unwrap(),
-                    root: &root,
-                    from: &from,
-                    limit,
-                    notation,
-                };
-                look_up::scan_from_root(rt, &file, &scan)
-            }
-        },
+        } => {
+            let version = Version::of(version).unwrap();
+            look_up::scan(rt, file, root, version, from, limit, notation)
+        }
         Command::Nth {
             file,
             n,
             root,
             version,
             notation,
-        } => match root {
-            None => look_up::nth(rt, &file, notation, n),
-            Some(root) => {
-                let version = Version::of(version).unwrap();
-                look_up::nth_from_root(
-                    rt,
-                    look_up::RootedFile::of(&file, version, &root, notation),
-                    n,
-                )
-            }
-        },
+        } => {
+            let version = Version::of(version).unwrap();
+            look_up::nth(rt, file, root, version, n, notation)
+        }
         Command::Dump {
             file,
             out,
             lines,
             mode,
-        } => match out {
-            None => dump::dump(rt, &file, dump::dump_form(lines)),
-            Some(out) => dump::dump_to(rt, &file, dump::dump_form(lines), &out, mode),
-        },
+        } => dump::dump(rt, file, lines, out, mode),
         Command::Diff {
             old,
             new,
@@ -162,10 +126,7 @@ fn answer_or_refusal<T: Wait + Threads + Clock + Sync>(
             stat,
             notation,
             mode,
-        } => match out {
-            None => diff::diff(rt, &old, &new, notation, stat),
-            Some(out) => diff::diff_to(rt, &old, &new, stat, &out, mode),
-        },
+        } => diff::diff(rt, old, new, stat, notation, out, mode),
         Command::Prove {
             file,
             key,
@@ -180,7 +141,7 @@ fn answer_or_refusal<T: Wait + Threads + Clock + Sync>(
             notation,
         } => {
             let version = Version::of(version).unwrap();
-            proof::verify(rt, notation, version, &root, &key, proof)
+            proof::verify(rt, root, version, key, proof, notation)
         }
     }
 }

@@ -1,4 +1,5 @@
 //! The file that a command writes.
+use crate::refusal::Refusal;
 use prolly_fault::RunFault;
 use prolly_tool::{Answer, Fault, NameFault};
 use std::alloc::AllocError;
@@ -68,17 +69,17 @@ impl Output {
         rt: &HostRuntime,
         name: &str,
         answer: Result<Answer, AllocError>,
-    ) -> Result<Answer, AllocError> {
+    ) -> Result<Answer, Refusal> {
         match answer {
             Ok(done) if done.status <= DONE => match self.keep(rt, name) {
                 Ok(()) => Ok(done),
-                Err(Lost::Memory) => Err(AllocError),
-                Err(Lost::Place) => Answer::of_name(rt.alloc(), NameFault::CannotReplace, name),
-                Err(Lost::Disk) => Answer::of_fault(rt.alloc(), Fault::Run(RunFault::Write)),
+                Err(Lost::Memory) => Err(Refusal::Memory),
+                Err(Lost::Place) => Err(Refusal::of_name(rt, NameFault::CannotReplace, name)),
+                Err(Lost::Disk) => Err(Refusal::of_fault(rt, Fault::Run(RunFault::Write))),
             },
             answer => {
                 self.remove(rt);
-                answer
+                Ok(answer?)
             }
         }
     }

@@ -1,4 +1,5 @@
 //! The command `build`.
+use crate::file_id::Found;
 use crate::inputs::Input;
 use crate::output::{OUTPUT_BYTES, Output};
 use crate::output_kind::OutputKind;
@@ -31,20 +32,11 @@ pub fn build_from<T: Wait + Threads + Clock + Sync>(
         return Err(Refusal::of_fault(rt, Fault::Run(RunFault::TooManyFiles)));
     }
     let target = Target::look(rt, out, OutputKind::ChunkFile, mode)?;
-    let counts = Counts::new();
-    let mut total = Some(0);
-    let mut sources = Vec::with_capacity(rt.alloc(), files.len())?;
-    for name in files {
-        let input = Input::open_beside(rt, name, target.found())?;
-        total = sum_of(total, input.size());
-        let source = CountedSource::new(input.into_source(), &counts);
-        if sources.push(source).is_err() {
-            return Err(Refusal::Memory);
-        }
-    }
     if files.is_empty() {
         target.refuse_full(rt)?;
     }
+    let counts = Counts::new();
+    let (mut sources, total) = sources_of(rt, files, target.found(), &counts)?;
     let mut output = target.open_beside_answer(rt)?;
     let run = Run {
         config,
@@ -53,7 +45,28 @@ pub fn build_from<T: Wait + Threads + Clock + Sync>(
         quiet,
     };
     let answer = build_into(rt, threads, run, &mut sources, &mut output);
-    Ok(output.finish(rt, out, answer)?)
+    output.finish(rt, out, answer)
+}
+
+/// The record files of these names, where none is the output, and how many bytes they have, where
+/// that is known.
+fn sources_of<'a>(
+    rt: &HostRuntime,
+    files: &[String],
+    output: Found,
+    counts: &'a Counts,
+) -> Result<(Vec<CountedSource<'a, FromRead<File>>>, Option<u64>), Refusal> {
+    let mut total = Some(0);
+    let mut sources = Vec::with_capacity(rt.alloc(), files.len())?;
+    for name in files {
+        let input = Input::open_beside(rt, name, output)?;
+        total = sum_of(total, input.size());
+        let source = CountedSource::new(input.into_source(), counts);
+        if sources.push(source).is_err() {
+            return Err(Refusal::Memory);
+        }
+    }
+    Ok((sources, total))
 }
 
 /// The sum of two sizes, where both are known.

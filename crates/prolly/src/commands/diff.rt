@@ -14,25 +14,32 @@ use std::alloc::AllocError;
 use std::fs::File;
 use std::io::Write;
 
-/// `diff [--text] [--stat] OLD NEW`
+/// `diff [--text] [--stat] OLD NEW [--out FILE] [--sync] [--force]`
 pub fn diff(
     rt: &HostRuntime,
-    old: &str,
-    new: &str,
-    notation: Notation,
+    old: String,
+    new: String,
     stat: bool,
+    notation: Notation,
+    out: Option<String>,
+    mode: WriteMode,
 ) -> Result<Answer, Refusal> {
-    let (old, new) = both_chunk_files(rt, old, new, Stream::Output.found(rt)?)?;
-    let form = if stat {
-        None
-    } else {
-        Some(RecordForm::Lines(notation))
-    };
-    Ok(diff_into(rt, old, new, form, stat, Patient::new(rt, rt.stdout()))?)
+    match out {
+        None => {
+            let (old, new) = both_chunk_files(rt, &old, &new, Stream::Output.found(rt)?)?;
+            let form = if stat {
+                None
+            } else {
+                Some(RecordForm::Lines(notation))
+            };
+            Ok(diff_into(rt, old, new, form, stat, Patient::new(rt, rt.stdout()))?)
+        }
+        Some(out) => diff_to(rt, &old, &new, stat, &out, mode),
+    }
 }
 
 /// `diff [--stat] OLD NEW --out FILE [--sync] [--force]`
-pub fn diff_to(
+fn diff_to(
     rt: &HostRuntime,
     old: &str,
     new: &str,
@@ -49,7 +56,7 @@ pub fn diff_to(
     };
     let form = Some(RecordForm::Records);
     let answer = diff_into(rt, old, new, form, stat, &mut output);
-    Ok(output.finish(rt, out, answer)?)
+    output.finish(rt, out, answer)
 }
 
 /// Writes what turns the map of the one source into that of the other, where there is a form, and

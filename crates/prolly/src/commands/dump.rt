@@ -13,26 +13,34 @@ use std::fs::File;
 use std::io::Write;
 
 /// How `dump` writes pairs: as lines in this notation, or where there is none as a record file.
-pub fn dump_form(lines: Option<Notation>) -> RecordForm {
+fn dump_form(lines: Option<Notation>) -> RecordForm {
     match lines {
         Some(notation) => RecordForm::Lines(notation),
         None => RecordForm::Records,
     }
 }
 
-/// `dump [--text] [--hex] FILE`
-pub fn dump(rt: &HostRuntime, file: &str, form: RecordForm) -> Result<Answer, Refusal> {
-    let input = Input::open_beside(rt, file, Stream::Output.found(rt)?)?;
-    Ok(dump_into(
-        rt,
-        input.into_chunk_file(rt)?,
-        form,
-        Patient::new(rt, rt.stdout()),
-    )?)
+/// `dump [--text] [--hex] FILE [OUT] [--sync] [--force]`
+pub fn dump(
+    rt: &HostRuntime,
+    file: String,
+    lines: Option<Notation>,
+    out: Option<String>,
+    mode: WriteMode,
+) -> Result<Answer, Refusal> {
+    let form = dump_form(lines);
+    match out {
+        None => {
+            let input = Input::open_beside(rt, &file, Stream::Output.found(rt)?)?;
+            let source = input.into_chunk_file(rt)?;
+            Ok(dump_into(rt, source, form, Patient::new(rt, rt.stdout()))?)
+        }
+        Some(out) => dump_to(rt, &file, form, &out, mode),
+    }
 }
 
 /// `dump [--text] [--hex] FILE OUT [--sync] [--force]`
-pub fn dump_to(
+fn dump_to(
     rt: &HostRuntime,
     file: &str,
     form: RecordForm,
@@ -48,7 +56,7 @@ pub fn dump_to(
     let source = input.into_chunk_file(rt)?;
     let mut output = target.open(rt)?;
     let answer = dump_into(rt, source, form, &mut output);
-    Ok(output.finish(rt, out, answer)?)
+    output.finish(rt, out, answer)
 }
 
 /// Writes the source's pairs in this form.

@@ -16,7 +16,7 @@ use std::fs::File;
 /// A file of which nothing is believed but what the root of its tree vouches for, and how what is
 /// found in it is shown.
 #[derive(Clone, Copy)]
-pub struct RootedFile<'a> {
+struct RootedFile<'a> {
     file: &'a str,
     version: Version,
     root: &'a Ref,
@@ -25,12 +25,7 @@ pub struct RootedFile<'a> {
 
 impl<'a> RootedFile<'a> {
     /// The file of this name, with the root, the version of the tree's chunks, and the notation.
-    pub fn of(
-        file: &'a str,
-        version: Version,
-        root: &'a Ref,
-        notation: Notation,
-    ) -> RootedFile<'a> {
+    fn of(file: &'a str, version: Version, root: &'a Ref, notation: Notation) -> RootedFile<'a> {
         RootedFile {
             file,
             version,
@@ -50,61 +45,88 @@ fn device_of(rt: &HostRuntime, input: Input) -> Result<Blocks<FromSeek<File>>, R
     Ok(Blocks::new(rt.alloc(), FromSeek::new(input.into_file()))?)
 }
 
-/// `get [--text] FILE KEY`
+/// `get [--text] [--root ROOT] [--format V] FILE KEY`
 pub fn get(
     rt: &HostRuntime,
-    file: &str,
+    file: String,
+    root: Option<Ref>,
+    version: Version,
+    key: Vec<u8>,
     notation: Notation,
-    key: &[u8],
 ) -> Result<Answer, Refusal> {
-    let mut source = chunk_file(rt, file)?;
-    Ok(answer_get_as(rt.alloc(), &mut source, key, notation)?)
+    match root {
+        None => {
+            let mut source = chunk_file(rt, &file)?;
+            Ok(answer_get_as(rt.alloc(), &mut source, &key, notation)?)
+        }
+        Some(root) => { get_from_root(rt, RootedFile::of(&file, version, &root, notation), &key) }
+    }
 }
 
 /// `get [--text] --root ROOT [--format V] FILE KEY`, which reads no more of the file than it needs.
-pub fn get_from_root(
-    rt: &HostRuntime,
-    tree: RootedFile<'_>,
-    key: &[u8],
-) -> Result<Answer, Refusal> {
+fn get_from_root(rt: &HostRuntime, tree: RootedFile<'_>, key: &[u8]) -> Result<Answer, Refusal> {
     let mut device = tree.device(rt)?;
     let found = get_by_root(rt.alloc(), &mut device, tree.version, tree.root, key);
     Ok(answer_found(rt.alloc(), tree.notation, &found)?)
 }
 
-/// `scan [--text] FILE KEY LIMIT`
+/// `scan [--text] [--root ROOT] [--format V] FILE KEY LIMIT`
 pub fn scan(
     rt: &HostRuntime,
-    file: &str,
-    notation: Notation,
-    from: &[u8],
+    file: String,
+    root: Option<Ref>,
+    version: Version,
+    from: Vec<u8>,
     limit: u32,
+    notation: Notation,
 ) -> Result<Answer, Refusal> {
-    let mut source = chunk_file(rt, file)?;
-    Ok(answer_scan_as(rt.alloc(), &mut source, from, limit, notation)?)
+    match root {
+        None => {
+            let mut source = chunk_file(rt, &file)?;
+            Ok(answer_scan_as(rt.alloc(), &mut source, &from, limit, notation)?)
+        }
+        Some(root) => {
+            let scan = RootScan {
+                version,
+                root: &root,
+                from: &from,
+                limit,
+                notation,
+            };
+            scan_from_root(rt, &file, &scan)
+        }
+    }
 }
 
 /// `scan [--text] --root ROOT [--format V] FILE KEY LIMIT`, which prints the pairs of a leaf before
 /// it looks for the next one.
-pub fn scan_from_root(
-    rt: &HostRuntime,
-    file: &str,
-    scan: &RootScan<'_>,
-) -> Result<Answer, Refusal> {
+fn scan_from_root(rt: &HostRuntime, file: &str, scan: &RootScan<'_>) -> Result<Answer, Refusal> {
     let input = Input::open_beside(rt, file, Stream::Output.found(rt)?)?;
     let mut device = device_of(rt, input)?;
     let mut sink = ToWrite::new(Patient::new(rt, rt.stdout()));
     Ok(answer_scan_by_root(rt.alloc(), &mut device, scan, &mut sink)?)
 }
 
-/// `nth [--text] FILE N`
-pub fn nth(rt: &HostRuntime, file: &str, notation: Notation, n: u64) -> Result<Answer, Refusal> {
-    let mut source = chunk_file(rt, file)?;
-    Ok(answer_nth_as(rt.alloc(), &mut source, n, notation)?)
+/// `nth [--text] [--root ROOT] [--format V] FILE N`
+pub fn nth(
+    rt: &HostRuntime,
+    file: String,
+    root: Option<Ref>,
+    version: Version,
+    n: u64,
+    notation: Notation,
+) -> Result<Answer, Refusal> {
+    match root {
+        None => {
+            let mut source = chunk_file(rt, &file)?;
+            Ok(answer_nth_as(rt.alloc(), &mut source, n, notation)?)
+        }
+        Some(root) => nth_from_root(rt, RootedFile::of(&file, version, &root, notation), n),
+    }
 }
 
 /// `nth [--text] --root ROOT --format 2 FILE N`. Chunks of version One have no counts to go by.
-pub fn nth_from_root(rt: &HostRuntime, tree: RootedFile<'_>, n: u64) -> Result<Answer, Refusal> {
+fn nth_from_root(rt: &HostRuntime, tree: RootedFile<'_>, n: u64) -> Result<Answer, Refusal> {
     if tree.version == Version::One {
         return Err(Refusal::of_fault(rt, Fault::NoCounts));
     }

@@ -26,5 +26,5 @@ pub fn pack(
         &mut ToWrite::new(&mut output),
         form,
     );
-    Ok(output.finish(rt, out, answer)?)
+    output.finish(rt, out, answer)
 }

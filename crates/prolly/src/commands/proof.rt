@@ -21,17 +21,17 @@ pub fn prove(
     let mut source = input.into_chunk_file(rt)?;
     let mut output = target.open(rt)?;
     let answer = answer_prove(rt.alloc(), &mut source, key, &mut ToWrite::new(&mut output));
-    Ok(output.finish(rt, out, answer)?)
+    output.finish(rt, out, answer)
 }
 
 /// `verify [--text] [--format V] ROOT KEY [PROOF]`
 pub fn verify(
     rt: &HostRuntime,
-    notation: Notation,
+    root: Ref,
     version: Version,
-    root: &Ref,
-    key: &[u8],
+    key: Vec<u8>,
     proof: Option<String>,
+    notation: Notation,
 ) -> Result<Answer, Refusal> {
     let answer = match proof {
         None => answer_verify(
@@ -39,12 +39,12 @@ pub fn verify(
             &mut FromRead::new(Patient::new(rt, rt.stdin())),
             notation,
             version,
-            root,
-            key,
+            &root,
+            &key,
         ),
         Some(proof) => {
             let mut source = Input::open(rt, &proof)?.into_whole(rt, Fault::InputTooLong)?;
-            answer_verify(rt.alloc(), &mut source, notation, version, root, key)
+            answer_verify(rt.alloc(), &mut source, notation, version, &root, &key)
         }
     };
     Ok(answer?)

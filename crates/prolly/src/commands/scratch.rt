@@ -8,25 +8,30 @@ use crate::target::Target;
 use prolly_entry::Version;
 use prolly_file::{FromRead, ToWrite};
 use prolly_tool::{Answer, WriteMode, answer_scratch};
-use std::alloc::AllocError;
 use std::fs::File;
 
-/// `scratch [--bits Q] [--format V]`
-pub fn scratch(rt: &HostRuntime, bits: u8, version: Version) -> Result<Answer, AllocError>
+/// `scratch [--bits Q] [--format V] [--out FILE] [--atomic] [--sync] [--force]`
+pub fn scratch(
+    rt: &HostRuntime,
+    bits: u8,
+    version: Version,
+    out: Option<String>,
+    mode: WriteMode,
+) -> Result<Answer, Refusal>
     requires bits { bits ≤ 24 }
 {
-    let mut sink: Option<ToWrite<&File>> = None;
-    answer_scratch(
-        rt.alloc(),
-        &mut FromRead::new(Patient::new(rt, rt.stdin())),
-        bits,
-        version,
-        &mut sink,
-    )
+    match out {
+        None => {
+            let mut records = FromRead::new(Patient::new(rt, rt.stdin()));
+            let mut sink: Option<ToWrite<&File>> = None;
+            Ok(answer_scratch(rt.alloc(), &mut records, bits, version, &mut sink)?)
+        }
+        Some(out) => scratch_to(rt, bits, version, &out, mode),
+    }
 }
 
 /// `scratch [--bits Q] [--format V] --out FILE [--atomic] [--sync] [--force]`
-pub fn scratch_to(
+fn scratch_to(
     rt: &HostRuntime,
     bits: u8,
     version: Version,
@@ -45,5 +50,5 @@ pub fn scratch_to(
         version,
         &mut Some(ToWrite::new(&mut output)),
     );
-    Ok(output.finish(rt, out, answer)?)
+    output.finish(rt, out, answer)
 }

@@ -1,0 +1,41 @@
+//! The commands that say how a file is: `explain`, `check` and `stat`.
+use crate::inputs::{Input, chunk_file};
+use crate::refusal::Refusal;
+use prolly_tool::{Answer, Notation, StatForm, answer_check, answer_explain, answer_stat};
+
+/// `explain [--text] FILE`
+pub fn explain(rt: &HostRuntime, file: String, notation: Notation) -> Result<Answer, Refusal> {
+    let mut source = Input::open(rt, &file)?.into_source();
+    Ok(answer_explain(rt.alloc(), &mut source, notation)?)
+}
+
+/// `check FILE`
+pub fn check(rt: &HostRuntime, file: String) -> Result<Answer, Refusal> {
+    let mut source = chunk_file(rt, &file)?;
+    Ok(answer_check(rt.alloc(), &mut source)?)
+}
+
+/// `stat [--json] [--text] FILE`. Of the two kinds of files a chunk file is read whole.
+pub fn stat(
+    rt: &HostRuntime,
+    file: String,
+    json: bool,
+    notation: Notation,
+) -> Result<Answer, Refusal> {
+    let input = Input::open(rt, &file)?;
+    let source = if input.begins_with(b"PRLY") {
+        input.into_chunk_file(rt)?
+    } else {
+        input.into_source()
+    };
+    Ok(answer_stat(rt.alloc(), source, stat_form(json, notation)).answer?)
+}
+
+/// How `stat` shows numbers: as JSON, or as lines with keys in this notation.
+fn stat_form(json: bool, notation: Notation) -> StatForm {
+    if json {
+        StatForm::Json
+    } else {
+        StatForm::Lines(notation)
+    }
+}
