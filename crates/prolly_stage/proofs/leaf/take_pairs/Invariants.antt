@@ -1,0 +1,12 @@
+use Rattle.std.proofs.Common.{◌≡◌}
+use Rattle.prolly_stage.specs.Taking.{SendsLeaves}
+use Rattle.prolly_stage.proofs.leaf.take_pairs.Given as goal
+
+abbrev pub invariant-loop : goal.invariant-loop
+invariant-loop g l = record {
+  input_link : g.I.In.link l.input ≡ g.I.In.link l.fn.input;
+  follows : g.I.In.Follows l.fn.input l.input;
+  out_link : g.O.Out.link l.out ≡ g.O.Out.link l.fn.out;
+  taken : SendsLeaves g.C.Cut.cut l.fn.leaves l.leaves (g.I.In.received l.fn.input l.input)
+      (g.O.Out.sent l.fn.out) (g.O.Out.sent l.out);
+}
