@@ -61,7 +61,7 @@ STANDS_ON = re.compile(r"it stands on `[^`]+`(?:, `[^`]+`)*, which antt refuses"
 """What it says where answers in proofs/ are refused, which may be those of other functions."""
 
 NOT_A_PROOF = re.compile(
-    r"`\w+`: no proof of |`\w+` stopped at its own limit |[a-z ]+, the two types (?:first )?differ |expected type `"
+    r"`\w+`: no proof of |`\w+` stopped at its own limit |[a-z ]+, the two types (?:first differ|differ|are) |expected type `"
 )
 """Why it refuses an answer that does not prove its goal."""
 
