@@ -1,5 +1,6 @@
+use Rattle.std.proofs.Common.{subst, sym}
 use Rattle.prolly_line.proofs.Names.{not_strange}
-use Rattle.prolly_line.specs.Accepted.{rows_in}
+use Rattle.prolly_line.specs.Accepted.{Answers, IsAccepted, rows_in}
 use Rattle.prolly_line.proofs.command.command_of.Goals as goal
 
 pub unreachable-requires : goal.unreachable-requires
@@ -13,3 +14,94 @@ unreachable-requires c =
     c.in_default.not-diff
     c.in_default.not-prove
     c.in_default.not-verify
+
+pub pack-requires : goal.pack-requires
+pack-requires c = subst (λ name. IsAccepted (name, rows_in c.args.given.now)) c.in-pack.is c.requires
+
+pub returns-in-pack : goal.returns-in-pack
+returns-in-pack c = subst (λ name. Answers (name, rows_in c.args.given.now) c.pack.result)
+    (sym c.in-pack.is) c.pack.ensures
+
+pub scratch-requires : goal.scratch-requires
+scratch-requires c = subst (λ name. IsAccepted (name, rows_in c.args.given.now)) c.in-scratch.is c.requires
+
+pub returns-in-scratch : goal.returns-in-scratch
+returns-in-scratch c = subst (λ name. Answers (name, rows_in c.args.given.now) c.scratch.result)
+    (sym c.in-scratch.is) c.scratch.ensures
+
+pub build-requires : goal.build-requires
+build-requires c = subst (λ name. IsAccepted (name, rows_in c.args.given.now)) c.in-build.is c.requires
+
+pub returns-in-build : goal.returns-in-build
+returns-in-build c = subst (λ name. Answers (name, rows_in c.args.given.now) c.build.result)
+    (sym c.in-build.is) c.build.ensures
+
+pub explain-requires : goal.explain-requires
+explain-requires c = subst (λ name. IsAccepted (name, rows_in c.args.given.now)) c.in-explain.is c.requires
+
+pub returns-in-explain : goal.returns-in-explain
+returns-in-explain c = subst (λ name. Answers (name, rows_in c.args.given.now) c.explain.result)
+    (sym c.in-explain.is) c.explain.ensures
+
+pub check-requires : goal.check-requires
+check-requires c = subst (λ name. IsAccepted (name, rows_in c.args.given.now)) c.in-check.is c.requires
+
+pub returns-in-check : goal.returns-in-check
+returns-in-check c = subst (λ name. Answers (name, rows_in c.args.given.now) c.check.result)
+    (sym c.in-check.is) c.check.ensures
+
+pub stat-requires : goal.stat-requires
+stat-requires c = subst (λ name. IsAccepted (name, rows_in c.args.given.now)) c.in-stat.is c.requires
+
+pub returns-in-stat : goal.returns-in-stat
+returns-in-stat c = subst (λ name. Answers (name, rows_in c.args.given.now) c.stat.result)
+    (sym c.in-stat.is) c.stat.ensures
+
+pub get-requires : goal.get-requires
+get-requires c = subst (λ name. IsAccepted (name, rows_in c.args.given.now)) c.in-get.is c.requires
+
+pub returns-in-get : goal.returns-in-get
+returns-in-get c = subst (λ name. Answers (name, rows_in c.args.given.now) c.get.result)
+    (sym c.in-get.is) c.get.ensures
+
+pub scan-requires : goal.scan-requires
+scan-requires c = subst (λ name. IsAccepted (name, rows_in c.args.given.now)) c.in-scan.is c.requires
+
+pub returns-in-scan : goal.returns-in-scan
+returns-in-scan c = subst (λ name. Answers (name, rows_in c.args.given.now) c.scan.result)
+    (sym c.in-scan.is) c.scan.ensures
+
+pub nth-requires : goal.nth-requires
+nth-requires c = subst (λ name. IsAccepted (name, rows_in c.args.given.now)) c.in-nth.is c.requires
+
+pub returns-in-nth : goal.returns-in-nth
+returns-in-nth c = subst (λ name. Answers (name, rows_in c.args.given.now) c.nth.result)
+    (sym c.in-nth.is) c.nth.ensures
+
+pub dump-requires : goal.dump-requires
+dump-requires c = subst (λ name. IsAccepted (name, rows_in c.args.given.now)) c.in-dump.is c.requires
+
+pub returns-in-dump : goal.returns-in-dump
+returns-in-dump c = subst (λ name. Answers (name, rows_in c.args.given.now) c.dump.result)
+    (sym c.in-dump.is) c.dump.ensures
+
+pub diff-requires : goal.diff-requires
+diff-requires c = subst (λ name. IsAccepted (name, rows_in c.args.given.now)) c.in-diff.is c.requires
+
+pub returns-in-diff : goal.returns-in-diff
+returns-in-diff c = subst (λ name. Answers (name, rows_in c.args.given.now) c.diff.result)
+    (sym c.in-diff.is) c.diff.ensures
+
+pub prove-requires : goal.prove-requires
+prove-requires c = subst (λ name. IsAccepted (name, rows_in c.args.given.now)) c.in-prove.is c.requires
+
+pub returns-in-prove : goal.returns-in-prove
+returns-in-prove c = subst (λ name. Answers (name, rows_in c.args.given.now) c.prove.result)
+    (sym c.in-prove.is) c.prove.ensures
+
+pub verify-requires : goal.verify-requires
+verify-requires c = subst (λ name. IsAccepted (name, rows_in c.args.given.now)) c.in-verify.is c.requires
+
+pub returns-in-verify : goal.returns-in-verify
+returns-in-verify c = subst (λ name. Answers (name, rows_in c.args.given.now) c.verify.result)
+    (sym c.in-verify.is) c.verify.ensures
