@@ -1,15 +1,18 @@
 -- What a command answers where writing its file fails, and of a file that was checked.
-use Rattle.std.proofs.Common.{◌≡◌, ◌≤◌, List, ℕ, length, ◌⊎◌, inl, inr, subst, Result, Ok, Err}
-use Rattle.std.specs.Prelude.{IfOk, OnErr}
+use Rattle.std.proofs.Common.{◌≡◌, ◌≤◌, List, ℕ, length, ◌⊎◌, inl, inr, subst, ap, Result, Ok, Err}
+use Rattle.std.specs.Prelude.{◌↔◌, IfOk, IsErrOf, OnErr}
 use Rattle.prolly_entry.specs.Record.{Record}
 use Rattle.prolly_fault.specs.declared.fault.RunFault.{RunFault}
 use Rattle.prolly_fault.specs.declared.fault.RunFault.TheVariants.{Write}
 use Rattle.prolly_tool.specs.declared.answer.Answer.{Answer}
 use Rattle.prolly_tool.specs.declared.fault.Fault.{Fault}
 use Rattle.prolly_tool.specs.declared.fault.Fault.TheVariants.{Run}
+use Rattle.prolly_check.specs.Check.{IsRefusal}
+use Rattle.prolly_check.specs.declared.fault.CheckFault.{CheckFault}
+use Rattle.prolly_check.specs.declared.fault.CheckFault.TheVariants.{Read}
 use Rattle.prolly_tool.specs.Answers.{ShowsFault}
 use Rattle.prolly_tool.specs.Outputs.{IsAnswer, IsCutOff, IsCutShort, IsStopped}
-use Rattle.prolly_tool.specs.LookUps.{IsLookedUp, file_limit}
+use Rattle.prolly_tool.specs.LookUps.{IsLookedUp, IsNoFileAs, file_limit}
 use Rattle.prolly_check.specs.Checked.{IsFile}
 use Rattle.prolly_check.specs.Content.{Content}
 use Rattle.prolly_check.specs.Verdict.{IsFileOf}
@@ -42,6 +45,36 @@ looked_up bytes left failed shows same file within unfailed shown =
       is = file.is;
       shown = shown file.content file.is;
     })
+
+-- The bytes were refused, and the fault is shown.
+pub no_file : {T E : Type 0} (told : CheckFault → Fault) (bytes : List ℕ) (failed : Type 0)
+    (result : Result Answer E) (fault : CheckFault) → IsRefusal bytes file_limit fault →
+    (IsErrOf {T = T} (Err fault) Read ↔ failed) →
+    IfOk result (λ answer. ShowsFault answer (told fault)) →
+    IfOk result (IsNoFileAs told bytes failed)
+no_file told bytes failed (Ok answer) fault is read shows = record {
+  fault = fault;
+  is = is;
+  read = (λ e. read.0 (ap Err e), λ f. let e = read.1 f in cc);
+  shows = shows;
+}
+no_file told bytes failed (Err e) fault is read shows = tt
+
+-- A read failed, and the fault of that is shown.
+pub failed_read : {T E : Type 0} (told : CheckFault → Fault) (failed : Type 0)
+    (result : Result Answer E) (fault : CheckFault) → (IsErrOf {T = T} (Err fault) Read ↔ failed) →
+    failed → IfOk result (λ answer. ShowsFault answer (told fault)) →
+    IfOk result (λ answer. ShowsFault answer (told Read))
+failed_read told failed (Ok answer) fault read f shows =
+    let e = read.1 f in
+    let is : fault ≡ Read = cc in
+    subst (λ fault. ShowsFault answer (told fault)) is shows
+failed_read told failed (Err e) fault read f shows = tt
+
+-- What holds in any case holds of an error.
+pub on_err : {Q : Type 0} {E : Type 0} (result : Result Answer E) → Q → OnErr result Q
+on_err (Ok answer) q = tt
+on_err (Err e) q = q
 
 -- ---- records that are written
 

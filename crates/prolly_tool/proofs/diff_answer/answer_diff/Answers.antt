@@ -1,7 +1,10 @@
-use Rattle.std.proofs.Common.{◌≡◌, refl}
+use Rattle.std.proofs.Common.{◌≡◌, inl, inr, refl}
+use Rattle.std.proofs.lemmas.Result.{IfOk-weaker}
 use Rattle.prolly_tool.specs.Diff.{AreStopped, AreWritten}
 use Rattle.prolly_tool.specs.Outputs.{TookAll, TookUntil}
-use Rattle.prolly_tool.proofs.Answering.{cut_off, stopped}
+use Rattle.prolly_tool.specs.declared.fault.Fault.TheVariants.{CheckOld, CheckNew}
+use Rattle.prolly_tool.proofs.Answering.{cut_off, failed_read, looked_up, no_file, on_err}
+use Rattle.prolly_tool.proofs.Answering.{stopped}
 use Rattle.prolly_tool.proofs.DiffSteps.{all_shown, changes_so, few_changes, unshown}
 use Rattle.prolly_tool.proofs.diff_answer.answer_diff.Goals as goal
 
@@ -61,3 +64,65 @@ returns-clause-err g c = λ honest honest'.
     (λ failed. failed c.in-Ok.ensures.unfailed) (λ failed. failed c.in-Ok-check.ensures.unfailed)
     c.new-changes.ensures.before c.new-changes.ensures.after
     _ c.in-Err-write_changes.ensures.err)
+
+pub returns-in-Err-clause-ok : goal.returns-in-Err-clause-ok
+returns-in-Err-clause-ok g c = λ honest honest'. IfOk-weaker c.of_fault.result _ _
+    (λ answer no. inr (inr (inl no, refl)))
+    (no_file (λ fault. CheckOld fault) _ _ c.of_fault.result c.in-Err.fault
+    (c.in-Err.ensures.refused honest) c.in-Err.ensures.read c.of_fault.ensures)
+
+pub returns-in-Err-clause-err : goal.returns-in-Err-clause-err
+returns-in-Err-clause-err g c = λ honest honest'. on_err c.of_fault.result (inl refl)
+
+pub returns-in-Err-clause-read_old : goal.returns-in-Err-clause-read_old
+returns-in-Err-clause-read_old g c = λ failed. (
+  refl,
+  failed_read (λ fault. CheckOld fault) _ c.of_fault.result c.in-Err.fault
+      c.in-Err.ensures.read failed c.of_fault.ensures,
+)
+
+pub returns-in-Err-check-clause-ok : goal.returns-in-Err-check-clause-ok
+returns-in-Err-check-clause-ok g c = λ honest honest'.
+    IfOk-weaker c.of_fault-in-Err-check.result _ _
+    (λ answer no. inr (inr (
+      inr (
+        looked_up _ _ _ _ (c.in-Ok.ensures.same honest) c.in-Ok.ensures.accepted
+            c.in-Ok.ensures.within (λ failed. failed c.in-Ok.ensures.unfailed) (λ content is. tt),
+        no,
+      ),
+      refl,
+    )))
+    (no_file (λ fault. CheckNew fault) _ _ c.of_fault-in-Err-check.result c.in-Err-check.fault
+    (c.in-Err-check.ensures.refused honest') c.in-Err-check.ensures.read
+    c.of_fault-in-Err-check.ensures)
+
+pub returns-in-Err-check-clause-err : goal.returns-in-Err-check-clause-err
+returns-in-Err-check-clause-err g c = λ honest honest'.
+    on_err c.of_fault-in-Err-check.result (inl refl)
+
+pub returns-in-Err-check-clause-read_new : goal.returns-in-Err-check-clause-read_new
+returns-in-Err-check-clause-read_new g c = λ failed. (
+  refl,
+  failed_read (λ fault. CheckNew fault) _ c.of_fault-in-Err-check.result c.in-Err-check.fault
+      c.in-Err-check.ensures.read failed c.of_fault-in-Err-check.ensures,
+)
+
+pub returns-in-Err-clause-read_new : goal.returns-in-Err-clause-read_new
+returns-in-Err-clause-read_new g c = λ failed. absurd (failed refl)
+
+pub returns-in-Err-check-clause-read_old : goal.returns-in-Err-check-clause-read_old
+returns-in-Err-check-clause-read_old g c = λ failed. absurd (failed c.in-Ok.ensures.unfailed)
+
+pub returns-in-Ok-write_changes-clause-read_old : goal.returns-in-Ok-write_changes-clause-read_old
+returns-in-Ok-write_changes-clause-read_old g c = λ failed.
+    absurd (failed c.in-Ok.ensures.unfailed)
+
+pub returns-in-Ok-write_changes-clause-read_new : goal.returns-in-Ok-write_changes-clause-read_new
+returns-in-Ok-write_changes-clause-read_new g c = λ failed.
+    absurd (failed c.in-Ok-check.ensures.unfailed)
+
+pub returns-clause-read_old : goal.returns-clause-read_old
+returns-clause-read_old g c = λ failed. absurd (failed c.in-Ok.ensures.unfailed)
+
+pub returns-clause-read_new : goal.returns-clause-read_new
+returns-clause-read_new g c = λ failed. absurd (failed c.in-Ok-check.ensures.unfailed)
