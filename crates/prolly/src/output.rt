@@ -73,9 +73,7 @@ impl Output {
         match answer {
             Ok(done) if done.status <= DONE => match self.keep(rt, name) {
                 Ok(()) => Ok(done),
-                Err(Lost::Memory) => Err(Refusal::Memory),
-                Err(Lost::Place) => Err(Refusal::of_name(rt, NameFault::CannotReplace, name)),
-                Err(Lost::Disk) => Err(Refusal::of_fault(rt, Fault::Run(RunFault::Write))),
+                Err(lost) => Err(lost.refusal(rt, name)),
             },
             answer => {
                 self.remove(rt);
@@ -169,6 +167,17 @@ enum Lost {
     Memory,
     Place,
     Disk,
+}
+
+impl Lost {
+    /// What is told of it, for the output of this name.
+    fn refusal(self, rt: &HostRuntime, name: &str) -> Refusal {
+        match self {
+            Lost::Memory => Refusal::Memory,
+            Lost::Place => Refusal::of_name(rt, NameFault::CannotReplace, name),
+            Lost::Disk => Refusal::of_fault(rt, Fault::Run(RunFault::Write)),
+        }
+    }
 }
 
 impl From<io::Error> for Lost {
