@@ -3,13 +3,12 @@
 //! `tests/growths_of_calls.py` refuses these tests each growth in turn. Where it is one for a
 //! test's own values, the test ends in want of memory; where it is one of the calls that are
 //! tested, the test goes on.
-use crate::command_line::answer as parsed;
+use crate::command_line::outcome;
 use crate::expect::{expect_bytes, expect_eq};
 use crate::tools::expect_answer;
 use crate::tools::look_up_answers::file_of_three;
 use prolly_entry::{Ref, Version};
 use prolly_file::{FromRead, ScriptSink};
-use prolly_line::ParseFault;
 use prolly_tool::{
     Answer, LineForm, Notation, PackFault, RecordForm, answer_check, answer_dump, answer_get,
     answer_nth, answer_pack, answer_prove, answer_scan, answer_scratch, answer_verify,
@@ -199,16 +198,19 @@ fn lines_are_packed_or_left(rt: HostRuntime) -> Result<(), Fail> {
     expect_packed(&rt, rt.alloc(), Notation::Text, b"a\t1\n")
 }
 
+/// Words that are a command.
+const GOOD_WORDS: &[&str] = &[
+    "pack a.rec",
+    "build --bits 3 out.prl x.rec y.rec",
+    "get a.prl 61",
+];
+
 #[test]
 fn words_are_taken_or_want_memory(rt: HostRuntime) -> Result<(), Fail> {
-    for line in [
-        "pack a.rec",
-        "build --bits 3 out.prl x.rec y.rec",
-        "get a.prl 61",
-    ] {
-        if let Err(fault) = parsed(rt.alloc(), line)? {
-            assert!(rt; matches!(fault, ParseFault::Memory), "{line}");
-        }
+    for &line in GOOD_WORDS {
+        let outcome = outcome(rt.alloc(), line)?;
+        let is_told = outcome == "taken" || outcome == "memory";
+        expect_eq(&rt, &(line, outcome, is_told), &(line, outcome, true));
     }
     Ok(())
 }
