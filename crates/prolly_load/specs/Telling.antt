@@ -9,7 +9,7 @@ use Rattle.prolly_load.specs.declared.surveyed.FlawedRecord.{FlawedRecord}
 use Rattle.prolly_load.specs.declared.surveyed.Survey.{Survey}
 use Rattle.prolly_load.specs.declared.tally.Tally.{Tally}
 use Rattle.prolly_load.specs.Buffered.{Buffered}
-use Rattle.prolly_load.specs.Survey.{bytes_of, told_key}
+use Rattle.prolly_load.specs.Survey.{IsSurvey, bytes_of, told_key}
 
 -- The key of a record with this flaw is whole, where the flaw lies behind it.
 abbrev pub HasToldKey : Flaw → List ℕ → Type 0
@@ -40,3 +40,15 @@ pub record Tells (tally : Tally) (buffered : Buffered) (flaw : Option Flaw) (sur
   pub flaw_is : option_map (λ flawed. flawed.flaw) survey.flawed ≡ flaw
   pub key_is : IfSome survey.flawed
       (λ flawed. bytes_of flawed.key ≡ told_key flawed.flaw buffered.unparsed)
+
+-- No record was passed yet.
+pub record NonePassed (tally : Tally) (buffered : Buffered) : Type 0 where
+  pub tally_is : tally ≡ record { records = 0; removals = 0; bytes = 0; first_key = None }
+  pub last_key : buffered.last_key ≡ None
+  pub unparsed : buffered.unparsed ≡ []
+
+-- What was counted of the bytes, and the flaw behind it: whatever tells them is a survey of the
+-- bytes.
+abbrev pub IsCounted : List ℕ → ℕ → Tally → Buffered → Option Flaw → Type 0
+IsCounted bytes limit tally buffered flaw = (survey : Survey) → Tells tally buffered flaw survey →
+    IsSurvey bytes limit survey

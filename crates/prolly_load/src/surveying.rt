@@ -1,7 +1,7 @@
 //! Surveying a record file.
 ghost use Rattle.std.specs.Prelude.{◌≡◌, ◌≢◌, true, IfErr, IfOk, IfSome, OnErr, OnOk};
 ghost use Rattle.prolly_load.specs.Survey.{IsSurvey};
-ghost use Rattle.prolly_load.specs.Telling.{HasToldKey, Tells, cut_in};
+ghost use Rattle.prolly_load.specs.Telling.{HasToldKey, IsCounted, NonePassed, Tells, cut_in};
 
 use crate::buffer::Buffer;
 use crate::flawed::flawed_record;
@@ -49,20 +49,48 @@ pub fn survey<S: Source>(
         bytes: 0,
         first_key: None,
     };
+    match pass_records(alloc, source, limit, &mut buffer, &mut tally)? {
+        Ok(flaw) => Ok(Ok(told(alloc, tally, &buffer, flaw)?)),
+        Err(fault) => Ok(Err(fault)),
+    }
+}
+
+/// Passes the good records of what a source has left, counts them, and answers the flaw of what is
+/// behind them, if there is one.
+fn pass_records<S: Source>(
+    alloc: Global,
+    source: &mut S,
+    limit: u32,
+    buffer: &mut Buffer,
+    tally: &mut Tally,
+) -> Result<Result<Option<Flaw>, SourceFault>, AllocError>
+    requires { NonePassed tally.old buffer.old }
+    ensures ok { (S.seen source.old).is_honest ≡ true → IfOk result (λ read. IfOk read
+        (IsCounted (S.seen source.old).left limit tally.new buffer.new)) }
+    ensures keys { IfOk result (λ read. IfOk read (λ flaw. IfSome flaw (λ flaw.
+        HasToldKey flaw buffer.new.unparsed))) }
+    ensures failed { IfOk result (λ read. IfErr read (λ _.
+        (S.seen source.new).failures ≢ (S.seen source.old).failures)) }
+    ensures unfailed { IfOk result (λ read. OnOk read
+        ((S.seen source.new).failures ≡ (S.seen source.old).failures)) }
+    ensures refused { OnErr result
+        ((S.seen source.new).failures ≡ (S.seen source.old).failures) }
+    ensures honest { (S.seen source.old).is_honest ≡ true → (S.seen source.new).is_honest ≡ true }
+    ensures steady { (S.seen source.old).is_steady ≡ true → (S.seen source.new).is_steady ≡ true }
+    ensures never { (S.seen source.old).is_steady ≡ true →
+        (S.seen source.new).failures ≡ (S.seen source.old).failures }
+{
     loop {
-        match pass_record(&mut buffer, limit, tally.records) {
+        match pass_record(buffer, limit, tally.records) {
             Passed::Record { removes, len } => {
                 tally.count(alloc, removes, len, buffer.last_key())?;
             }
             Passed::Nothing => match buffer.fill(source, tally.records) {
-                Ok(0) => {
-                    let cut = cut_in(&buffer);
-                    return Ok(Ok(told(alloc, tally, &buffer, cut)?));
-                }
+                Ok(0) => return Ok(Ok(cut_in(buffer))),
                 Ok(_) => {}
                 Err(fault) => return Ok(Err(fault)),
             },
-            Passed::Flawed(flaw) => return Ok(Ok(told(alloc, tally, &buffer, Some(flaw))?)),
+            Passed::Flawed(flaw) => return Ok(Ok(Some(flaw))),
         }
     }
 }

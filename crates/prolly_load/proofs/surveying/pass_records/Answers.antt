@@ -3,17 +3,20 @@ use Rattle.std.specs.Option.{option_or}
 use Rattle.prolly_load.specs.Buffered.{Buffered}
 use Rattle.prolly_load.specs.Survey.{bytes_of}
 use Rattle.prolly_load.specs.Telling.{HasToldKey, Tells}
-use Rattle.prolly_load.proofs.Surveys.{none_passed, one_passed, more_came, has_room, flaw_told}
+use Rattle.prolly_load.proofs.Surveys.{IsSurveying, none_passed, one_passed, more_came, has_room, flaw_told}
 use Rattle.prolly_load.proofs.Surveys.{end_told}
 use Rattle.prolly_load.proofs.ToldKeys.{has_told_key}
 use Rattle.prolly_load.proofs.UnderWay.{gains_none, still_undecided}
-use Rattle.prolly_load.proofs.surveying.survey.Goals as goal
+use Rattle.prolly_load.proofs.surveying.pass_records.Goals as goal
 
 pub loop-removes-init : goal.loop-removes-init
 loop-removes-init g c = record {
-  surveying = none_passed (g.S.Source.seen c.args.source.now).is_honest c.args.limit
-      c.in_ok-buffer.buffer (g.S.Source.seen c.args.source.now).left
-      c.in_ok-buffer.ensures.last_key c.in_ok-buffer.ensures.unparsed;
+  surveying = subst (λ tally. IsSurveying (g.S.Source.seen c.args.source.now).is_honest
+      c.args.limit tally c.args.buffer.now (g.S.Source.seen c.args.source.now).left
+      (g.S.Source.seen c.args.source.now).left) (sym c.requires.tally_is)
+      (none_passed (g.S.Source.seen c.args.source.now).is_honest c.args.limit
+      c.args.buffer.now (g.S.Source.seen c.args.source.now).left
+      c.requires.last_key c.requires.unparsed);
   honest = λ o. o;
   steady = λ o. o;
   failures = refl;
@@ -39,8 +42,8 @@ count-requires-clause-bytes g c =
     c.in-Record.ensures in
     omega arith
 
-pub loop-removes-preserved-in_ok-count-in-Record : goal.loop-removes-preserved-in_ok-count-in-Record
-loop-removes-preserved-in_ok-count-in-Record g c =
+pub loop-removes-preserved-in-Continue-1 : goal.loop-removes-preserved-in-Continue-1
+loop-removes-preserved-in-Continue-1 g c =
     let l = c.loop-removes in
     let counted = c.in_ok-count-in-Record.ensures in record {
       surveying = one_passed (g.S.Source.seen c.args.source.now).is_honest c.args.limit
@@ -82,9 +85,9 @@ returns-in-Ok-eq0-clause-ok g c =
     let same = gains_none c.in-Ok-eq0.field-0 (g.S.Source.seen l.source).is_honest
     (g.S.Source.seen l.source).left (g.S.Source.seen c.fill.new.source).left
     c.pass_record.new.buffer.unparsed c.fill.new.self.unparsed c.in-Ok-eq0.ensures.fills none in
-    end_told (g.S.Source.seen c.args.source.now).is_honest c.args.limit l.tally c.fill.new.self
-    (g.S.Source.seen c.args.source.now).left (g.S.Source.seen c.fill.new.source).left
-    c.in_ok-told-in-Ok-eq0.field-0
+    λ o survey tells. end_told (g.S.Source.seen c.args.source.now).is_honest c.args.limit l.tally
+    c.fill.new.self (g.S.Source.seen c.args.source.now).left
+    (g.S.Source.seen c.fill.new.source).left survey
     (more_came (g.S.Source.seen c.args.source.now).is_honest
     (g.S.Source.seen l.source).is_honest c.args.limit c.in-Ok-eq0.field-0 l.tally l.buffer
     c.pass_record.new.buffer c.fill.new.self (g.S.Source.seen c.args.source.now).left
@@ -95,13 +98,12 @@ returns-in-Ok-eq0-clause-ok g c =
     (record { undecided = c.in-Nothing.ensures.0; same = c.in-Nothing.ensures.1 })
     c.fill.ensures.last_key same)
     (λ o. c.in-Ok-eq0.ensures.fills.over (l.invariant.honest o) none)
-    (subst (λ flaw. Tells l.tally c.fill.new.self flaw c.in_ok-told-in-Ok-eq0.field-0)
-    c.cut_in-cut.ensures c.in_ok-told-in-Ok-eq0.ensures)
+    (subst (λ flaw. Tells l.tally c.fill.new.self flaw survey) c.cut_in.ensures tells) o
 
 -- ---- a flaw
 
-pub told-requires-in-Flawed : goal.told-requires-in-Flawed
-told-requires-in-Flawed g c =
+pub returns-in-Flawed-clause-keys : goal.returns-in-Flawed-clause-keys
+returns-in-Flawed-clause-keys g c =
     let l = c.loop-removes in
     subst (λ (b : Buffered). HasToldKey c.in-Flawed.flaw b.unparsed) (sym c.in-Flawed.ensures.1)
     (has_told_key c.args.limit l.tally.records l.buffer.last_key l.buffer.unparsed c.in-Flawed.flaw
@@ -110,8 +112,8 @@ told-requires-in-Flawed g c =
 pub returns-in-Flawed-clause-ok : goal.returns-in-Flawed-clause-ok
 returns-in-Flawed-clause-ok g c =
     let l = c.loop-removes in
-    flaw_told (g.S.Source.seen c.args.source.now).is_honest c.args.limit l.tally l.buffer
-    (g.S.Source.seen c.args.source.now).left (g.S.Source.seen l.source).left
-    c.in-Flawed.flaw c.in_ok-told-in-Flawed.field-0 l.invariant.surveying c.in-Flawed.ensures.0
-    (subst (λ (b : Buffered). Tells l.tally b (Some c.in-Flawed.flaw)
-    c.in_ok-told-in-Flawed.field-0) c.in-Flawed.ensures.1 c.in_ok-told-in-Flawed.ensures)
+    λ o survey tells. flaw_told (g.S.Source.seen c.args.source.now).is_honest c.args.limit l.tally
+    l.buffer (g.S.Source.seen c.args.source.now).left (g.S.Source.seen l.source).left
+    c.in-Flawed.flaw survey l.invariant.surveying c.in-Flawed.ensures.0
+    (subst (λ (b : Buffered). Tells l.tally b (Some c.in-Flawed.flaw) survey)
+    c.in-Flawed.ensures.1 tells) o
