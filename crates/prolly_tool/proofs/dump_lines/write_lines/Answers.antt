@@ -1,5 +1,4 @@
-use Rattle.prolly_tool.proofs.DumpSteps.{all_listed, leaf_failed, leaf_stopped, list_unflushed}
-use Rattle.prolly_tool.proofs.DumpSteps.{none_listed, one_listed}
+use Rattle.prolly_tool.proofs.DumpSteps.{leaf_failed, leaf_stopped, none_listed, one_listed}
 use Rattle.prolly_tool.proofs.Writing.{own_writes}
 use Rattle.prolly_tool.proofs.dump_lines.write_lines.Goals as goal
 
@@ -24,14 +23,3 @@ loop-leaf-init g c = none_listed g.W.Sink.seen c.args.notation c.args.leaves c.a
 pub returns-in_default-append_lines-clause-err : goal.returns-in_default-append_lines-clause-err
 returns-in_default-append_lines-clause-err g c = leaf_stopped g.W.Sink.seen c.args.notation _ _
     c.args.sink.now c.loop-leaf.sink c.loop-leaf.invariant
-
-pub returns-in-Ok-flush-clause-ok : goal.returns-in-Ok-flush-clause-ok
-returns-in-Ok-flush-clause-ok g c = all_listed g.W.Sink.seen c.args.notation _ _
-    c.args.sink.now c.loop-leaf.sink c.loop-leaf.invariant c.in_default.ensures.next
-    c.flush.new.self c.in-Ok-flush.ensures.bytes c.in-Ok-flush.ensures.failures
-    c.in-Ok-flush.ensures.settled
-
-pub returns-clause-err : goal.returns-clause-err
-returns-clause-err g c = list_unflushed g.W.Sink.seen c.args.notation _ _
-    c.args.sink.now c.loop-leaf.sink c.loop-leaf.invariant c.in_default.ensures.next
-    c.flush.new.self c.in-Err.ensures.bytes c.in-Err.ensures.failures
