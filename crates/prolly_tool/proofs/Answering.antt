@@ -71,11 +71,6 @@ failed_read told failed (Ok answer) fault read f shows =
     subst (λ fault. ShowsFault answer (told fault)) is shows
 failed_read told failed (Err e) fault read f shows = tt
 
--- What holds in any case holds of an error.
-pub on_err : {Q : Type 0} {E : Type 0} (result : Result Answer E) → Q → OnErr result Q
-on_err (Ok answer) q = tt
-on_err (Err e) q = q
-
 -- ---- records that are written
 
 pub cut_off : {E : Type 0} (are : (List Record → Type 0) → Type 0)

@@ -3,7 +3,7 @@ use Rattle.std.proofs.lemmas.Result.{IfOk-weaker}
 use Rattle.prolly_tool.specs.Diff.{AreStopped, AreWritten}
 use Rattle.prolly_tool.specs.Outputs.{TookAll, TookUntil}
 use Rattle.prolly_tool.specs.declared.fault.Fault.TheVariants.{CheckOld, CheckNew}
-use Rattle.prolly_tool.proofs.Answering.{cut_off, failed_read, looked_up, no_file, on_err}
+use Rattle.prolly_tool.proofs.Answering.{cut_off, failed_read, looked_up, no_file}
 use Rattle.prolly_tool.proofs.Answering.{stopped}
 use Rattle.prolly_tool.proofs.DiffSteps.{all_shown, changes_so, few_changes, unshown}
 use Rattle.prolly_tool.proofs.diff_answer.answer_diff.Goals as goal
@@ -71,9 +71,6 @@ returns-in-Err-clause-ok g c = λ honest honest'. IfOk-weaker c.of_fault.result 
     (no_file (λ fault. CheckOld fault) _ _ c.of_fault.result c.in-Err.fault
     (c.in-Err.ensures.refused honest) c.in-Err.ensures.read c.of_fault.ensures)
 
-pub returns-in-Err-clause-err : goal.returns-in-Err-clause-err
-returns-in-Err-clause-err g c = λ honest honest'. on_err c.of_fault.result (inl refl)
-
 pub returns-in-Err-clause-read_old : goal.returns-in-Err-clause-read_old
 returns-in-Err-clause-read_old g c = λ failed. (
   refl,
@@ -95,10 +92,6 @@ returns-in-Err-check-clause-ok g c = λ honest honest'.
     (no_file (λ fault. CheckNew fault) _ _ c.of_fault-in-Err-check.result c.in-Err-check.fault
     (c.in-Err-check.ensures.refused honest') c.in-Err-check.ensures.read
     c.of_fault-in-Err-check.ensures)
-
-pub returns-in-Err-check-clause-err : goal.returns-in-Err-check-clause-err
-returns-in-Err-check-clause-err g c = λ honest honest'.
-    on_err c.of_fault-in-Err-check.result (inl refl)
 
 pub returns-in-Err-check-clause-read_new : goal.returns-in-Err-check-clause-read_new
 returns-in-Err-check-clause-read_new g c = λ failed. (

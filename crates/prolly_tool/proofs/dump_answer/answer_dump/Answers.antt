@@ -3,7 +3,7 @@ use Rattle.std.proofs.lemmas.Result.{IfOk-weaker}
 use Rattle.prolly_tool.specs.Dump.{IsDumped, IsStoppedDump}
 use Rattle.prolly_tool.specs.Outputs.{TookUntil}
 use Rattle.prolly_tool.specs.declared.fault.Fault.TheVariants.{Check}
-use Rattle.prolly_tool.proofs.Answering.{cut_off, failed_read, looked_up, no_file, on_err, stopped}
+use Rattle.prolly_tool.proofs.Answering.{cut_off, failed_read, looked_up, no_file, stopped}
 use Rattle.prolly_tool.proofs.dump_answer.answer_dump.Goals as goal
 
 pub returns-in-Err-clause-ok : goal.returns-in-Err-clause-ok
@@ -11,9 +11,6 @@ returns-in-Err-clause-ok g c = λ honest. IfOk-weaker c.of_fault.result _ _
     (λ answer no. inr (inr (no, refl)))
     (no_file (λ fault. Check fault) _ _ c.of_fault.result c.in-Err.fault
     (c.in-Err.ensures.refused honest) c.in-Err.ensures.read c.of_fault.ensures)
-
-pub returns-in-Err-clause-err : goal.returns-in-Err-clause-err
-returns-in-Err-clause-err g c = λ honest. on_err c.of_fault.result (inl refl)
 
 pub returns-in-Err-clause-read : goal.returns-in-Err-clause-read
 returns-in-Err-clause-read g c = λ failed. (
