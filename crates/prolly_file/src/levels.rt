@@ -9,7 +9,7 @@ ghost use Rattle.prolly_tree.specs.Events.{clean, has_level, leaf_events, inner_
 ghost use Rattle.prolly_tree.specs.Pipeline.{HasSecond};
 ghost use Rattle.prolly_tree.specs.Tree.{level_count};
 ghost use Rattle.prolly_file.specs.Scratch.{keys_in, FallsAt};
-ghost use Rattle.prolly_file.specs.Levels.{IsLevelFault};
+ghost use Rattle.prolly_file.specs.Levels.{AddsLeaf, AddsNode, IsLevelFault};
 
 use crate::plain::ScratchFault;
 use prolly_chunk::{ChunkEvent, LeafLevel, NodeLevel};
@@ -81,11 +81,24 @@ fn leaves<C: Cut>(alloc: Global, cut: C, pairs: &[Pair]) -> Result<Vec<ChunkEven
     let mut level = LeafLevel::new(alloc, cut)?;
     let mut events = Vec::new(alloc);
     for pair in pairs {
-        let closed = level.push(alloc, pair)?;
-        add(&mut events, closed)?;
+        add_pair(alloc, &mut level, &mut events, pair)?;
     }
     add(&mut events, level.finish())?;
     Ok(events)
+}
+
+/// Takes a pair, and adds the leaf that it closes, if any.
+fn add_pair<C: Cut>(
+    alloc: Global,
+    level: &mut LeafLevel<C>,
+    events: &mut Vec<ChunkEvent>,
+    pair: &Pair,
+) -> Result<(), AllocError>
+    ensures { OnOk result (AddsLeaf C.cut level.old level.new pair.now events.old.items
+        events.new.items) }
+{
+    let closed = level.push(alloc, pair)?;
+    add(events, closed)
 }
 
 /// The chunks below a level, with the nodes of the level put in, each behind its last child.
@@ -103,12 +116,25 @@ fn with_nodes<C: Cut>(
     let mut nodes = NodeLevel::new(alloc, version, level, cut)?;
     let mut more = Vec::new(alloc);
     for event in events {
-        let closed = nodes.push(alloc, &event)?;
-        add(&mut more, Some(event))?;
-        add(&mut more, closed)?;
+        add_event(alloc, &mut nodes, &mut more, event)?;
     }
     add(&mut more, nodes.finish())?;
     Ok(more)
+}
+
+/// Takes an event, and adds it, and then the node that it closes, if any.
+fn add_event<C: Cut>(
+    alloc: Global,
+    nodes: &mut NodeLevel<C>,
+    more: &mut Vec<ChunkEvent>,
+    event: ChunkEvent,
+) -> Result<(), AllocError>
+    ensures { OnOk result (AddsNode C.cut nodes.old nodes.new event more.old.items
+        more.new.items) }
+{
+    let closed = nodes.push(alloc, &event)?;
+    add(more, Some(event))?;
+    add(more, closed)
 }
 
 /// Adds an event, if there is one.
