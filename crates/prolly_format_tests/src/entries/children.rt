@@ -9,36 +9,34 @@ const ENTRY: [u8; 31] = [
     0x20, 0x41, 0x31, 0x12, 0xe6, 0xfa, 0x4e, 0x00, 0x00, 0x00, 0x00, 0x00, 0x00, 0x00, 0x05,
 ];
 
+/// Where the key of a child ends, and where its entry does.
+fn ends(child: Option<ChildAt>) -> Option<(usize, usize)> {
+    match child {
+        Some(child) => Some((child.key_end, child.len)),
+        None => None,
+    }
+}
+
 #[test]
 fn finds_an_entry_once_it_is_whole(rt: HostRuntime) {
-    let without_count = Some(ChildAt {
-        key_end: 3,
-        len: 23,
-    });
-    expect_eq(&rt, &front_child(&ENTRY[..22]), &None);
-    expect_eq(&rt, &front_child(&ENTRY[..23]), &without_count);
-    expect_eq(&rt, &front_child(&ENTRY), &without_count);
+    expect_eq(&rt, &ends(front_child(&ENTRY[..22])), &None);
+    expect_eq(&rt, &ends(front_child(&ENTRY[..23])), &Some((3, 23)));
+    expect_eq(&rt, &ends(front_child(&ENTRY)), &Some((3, 23)));
 }
 
 #[test]
 fn wants_a_count_in_version_two(rt: HostRuntime) {
-    let with_count = Some(ChildAt {
-        key_end: 3,
-        len: 31,
-    });
-    expect_eq(&rt, &front_child_as(Version::Two, &ENTRY[..23]), &None);
-    expect_eq(&rt, &front_child_as(Version::Two, &ENTRY), &with_count);
+    let cut = front_child_as(Version::Two, &ENTRY[..23]);
+    expect_eq(&rt, &ends(cut), &None);
+    let whole = front_child_as(Version::Two, &ENTRY);
+    expect_eq(&rt, &ends(whole), &Some((3, 31)));
 }
 
 #[test]
 fn refuses_a_key_over_the_limit(rt: HostRuntime) {
     let mut bytes = [0; 2_002];
     bytes[0] = 0x04;
-    let longest = Some(ChildAt {
-        key_end: 1_026,
-        len: 1_046,
-    });
-    expect_eq(&rt, &front_child(&bytes), &longest);
+    expect_eq(&rt, &ends(front_child(&bytes)), &Some((1_026, 1_046)));
     bytes[1] = 0x01;
-    expect_eq(&rt, &front_child(&bytes), &None);
+    expect_eq(&rt, &ends(front_child(&bytes)), &None);
 }
