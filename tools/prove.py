@@ -2,22 +2,29 @@
 """Proves and builds the program with the libraries that it stands on, and says a line a crate: `tools/prove.py [JOBS]`.
 
 JOBS crates are proved side by side, each by one job of the prover, since every further job of one crate loads all that it
-stands on once more. Without JOBS there are as many as processors, and fewer where memory is short. What the prover notes
-goes to a log, which is named where a proof fails.
+stands on once more. Without JOBS there are as many as processors, and fewer where memory is short. Once each crate that is
+left stands on the one before it, so that nothing can run beside another, they go on one by one, by two jobs each: a second
+job costs little, and takes a third off the time. What the prover notes goes to a log, which is named where a proof fails.
 """
 
 import os
+import signal
 import subprocess
 import sys
 import time
+from itertools import combinations
 from pathlib import Path
 
 TOP = Path(__file__).resolve().parents[1]
-PROGRAM = TOP / "crates" / "prolly"
-LOG = PROGRAM / "out" / "proofs.log"
+CRATES = TOP / "crates"
+PROGRAM = "prolly"
+LOG = CRATES / PROGRAM / "out" / "proofs.log"
 
 JOB_BYTES = 2_500_000_000
 """What a job takes of memory at most, but for the last ones, which run alone."""
+
+JOBS_ALONE = 2
+"""By how many jobs a crate is proved beside which no other one can be."""
 
 
 def main():
@@ -25,12 +32,11 @@ def main():
     jobs = int(sys.argv[1]) if len(sys.argv) > 1 else most_jobs()
     LOG.parent.mkdir(parents=True, exist_ok=True)
     with open(LOG, "w", encoding="utf-8") as log:
-        if not is_proved(jobs, log):
-            sys.exit(f"what the prover says stands in {LOG.relative_to(TOP)}")
-        root = built(log)
-    if root is None:
-        sys.exit(f"the program can't be built: what was said stands in {LOG.relative_to(TOP)}")
-    print(f"{PROGRAM.relative_to(TOP)}/out/prolly is built; the root of the empty map is {root}")
+        proving = Proving(jobs, log)
+        root = proving.side_by_side() and proving.one_by_one() and proving.built()
+    if not root:
+        sys.exit(f"what the prover says stands in {LOG.relative_to(TOP)}")
+    print(f"crates/{PROGRAM}/out/{PROGRAM} is built; the root of the empty map is {root}")
 
 
 def most_jobs():
@@ -39,45 +45,81 @@ def most_jobs():
     return max(1, min(len(os.sched_getaffinity(0)), free // JOB_BYTES))
 
 
-def is_proved(jobs, log):
-    """Proves the program and what it stands on. Says a line for each crate that is done, and gives whether all are proved."""
-    every, done, failed, start = len(crates_of("prolly")), 0, [], time.monotonic()
-    proving = subprocess.Popen(
-        ["rt", "all", "check", "--jobs", str(jobs)], cwd=PROGRAM, stdout=subprocess.PIPE, stderr=subprocess.STDOUT, text=True
-    )
-    for line in proving.stdout:
-        log.write(line)
-        if line.startswith("== ") and line != "== summary\n":
-            done += 1
-            minutes, seconds = divmod(int(time.monotonic() - start), 60)
-            print(f"[{done:2} of {every}] {line[3:].strip():16} done after {minutes} min {seconds:02} s", flush=True)
-        elif ": failed (" in line:
-            failed.append(line.split(":")[0])
-    if proving.wait() != 0:
-        print(f"NOT PROVED: {', '.join(failed) or 'see the log'}")
-    return proving.returncode == 0
+class Proving:
+    """The proofs of the program's crates."""
+
+    def __init__(self, jobs, log):
+        self.jobs, self.log, self.start = jobs, log, time.monotonic()
+        self.below = {crate: crates_below(crate) for crate in [PROGRAM, *crates_below(PROGRAM)]}
+        self.left = set(self.below)
+
+    def side_by_side(self):
+        """Proves crates beside one another, until none that is left can be. Gives whether none has failed."""
+        words = ["rt", "all", "check", "--jobs", str(self.jobs)]
+        how = {"stdout": subprocess.PIPE, "stderr": subprocess.STDOUT, "text": True, "start_new_session": True}
+        with subprocess.Popen(words, cwd=CRATES / PROGRAM, **how) as proving:
+            crate = ""
+            for line in proving.stdout:
+                self.log.write(line)
+                is_bad = line.startswith("logic=not-proved")
+                if line.startswith("== ") and line != "== summary\n":
+                    crate = line[3:].strip()
+                    self.note(crate)
+                if is_bad or self.is_chain():
+                    os.killpg(proving.pid, signal.SIGTERM)
+                    if is_bad:
+                        print(f"{crate} is not proved")
+                    return not is_bad
+        return proving.returncode == 0
+
+    def is_chain(self):
+        """Whether of any two crates that are left one stands on the other."""
+        return all(one in self.below[other] or other in self.below[one] for one, other in combinations(self.left, 2))
+
+    def one_by_one(self):
+        """Proves the libraries that are left. Gives whether all are proved."""
+        for crate in sorted(self.left - {PROGRAM}, key=lambda crate: len(self.below[crate])):
+            if self.run(crate, "lib") is None:
+                return False
+            self.note(crate)
+        return True
+
+    def built(self):
+        """Proves and builds the program, and runs it. Gives the last word that it prints, or None."""
+        with open(CRATES / PROGRAM / "stdin", "rb") as empty:
+            printed = self.run(PROGRAM, "run", "--", "scratch", "--bits", "0", stdin=empty)
+        if printed is not None and PROGRAM in self.left:
+            self.note(PROGRAM)
+        return printed and printed.split()[-1]
+
+    def run(self, crate, verb, *words, stdin=subprocess.DEVNULL):
+        """Runs rt in a crate. Gives what it prints, or None where that fails."""
+        self.log.flush()
+        jobs = str(min(JOBS_ALONE, self.jobs))
+        how = {"stdin": stdin, "stdout": subprocess.PIPE, "stderr": self.log, "text": True}
+        done = subprocess.run(["rt", verb, "--jobs", jobs, *words], cwd=CRATES / crate, check=False, **how)
+        self.log.write(done.stdout)
+        return done.stdout if done.returncode == 0 else None
+
+    def note(self, crate):
+        """Says that a crate is done."""
+        self.left.discard(crate)
+        done, every = len(self.below) - len(self.left), len(self.below)
+        minutes, seconds = divmod(int(time.monotonic() - self.start), 60)
+        print(f"[{done:2} of {every}] {crate:16} done after {minutes} min {seconds:02} s", flush=True)
 
 
-def crates_of(name):
-    """A crate with all crates of the repository that it stands on."""
+def crates_below(name):
+    """The crates of the repository on which a crate stands."""
     lines = (TOP / "crates.txt").read_text(encoding="utf-8").splitlines()
     uses = {line.split(":")[0].split()[0]: line.split(":")[1].split() for line in lines if ":" in line and line[0] != "#"}
-    found, left = set(), [name]
+    found, left = set(), list(uses[name])
     while left:
         crate = left.pop()
         if crate in uses and crate not in found:
             found.add(crate)
             left += uses[crate]
     return found
-
-
-def built(log):
-    """Builds the program and runs it. Gives what it prints, or None."""
-    with open(PROGRAM / "stdin", "rb") as empty:
-        words = ["rt", "run", "--", "scratch", "--bits", "0"]
-        run = subprocess.run(words, cwd=PROGRAM, stdin=empty, stdout=subprocess.PIPE, stderr=log, text=True, check=False)
-    log.write(run.stdout)
-    return run.stdout.split()[-1] if run.returncode == 0 and run.stdout.strip() else None
 
 
 if __name__ == "__main__":
