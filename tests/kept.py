@@ -2,11 +2,15 @@
 write, and is written over only where it is a file of the same kind."""
 
 import errno
+import fcntl
 import os
 import resource
 import stat
 import subprocess
 import tempfile
+import termios
+import time
+from array import array
 from functools import partial
 from pathlib import Path
 
@@ -210,11 +214,23 @@ def is_busy(place):
     os.mkfifo(place.path("wait"))
     for name in ("out", "new"):
         process = place.start(["build", "--bits", "0", name, "a.rec", "wait"])
-        with open(place.path("wait"), "wb"):
+        with open(place.path("wait"), "wb", buffering=0) as pipe:
+            pipe.write(records(ABC[:1]))
+            wait_until_read(pipe)
             place.answers(place.run("build", name, "a.rec"), refusal(b"another run writes OUT: " + name.encode()))
         out, err = process.communicate(timeout=60)
         place.answers((process.returncode, out, err), (0, report(ABC, 0), b""))
     place.holds(a_rec=records(ABC), wait=None, out=chunk_file(ABC, 0), new=chunk_file(ABC, 0))
+
+
+def wait_until_read(pipe):
+    """Waits, a minute at most, until the other end of a pipe has read all. A build has OUT before it reads."""
+    left = array("i", [1])
+    for _ in range(60_000):
+        fcntl.ioctl(pipe, termios.FIONREAD, left)
+        if left[0] == 0:
+            return
+        time.sleep(0.001)
 
 
 # ---- --atomic, where OUT is whole and the command is not done
