@@ -2,11 +2,12 @@
 """Packs an archive for machines without the Rattle kit: `share/dist.py PROGRAM [FOLDER]`.
 
 The archive `prolly-VERSION-x86_64-linux.tar.gz` has the program, its manual page, the shells' completions, the README, the
-license, docs/ and examples/, which these name. It is made in FOLDER, or else beside PROGRAM, and its name is printed. Equal
-contents give equal bytes.
+license, docs/ and examples/, which these name. It is made in FOLDER, or else beside PROGRAM, and its name is printed. One that
+was there stays until the new one is whole. Equal contents give equal bytes.
 """
 
 import gzip
+import os
 import subprocess
 import sys
 import tarfile
@@ -23,19 +24,20 @@ def main():
     version = subprocess.run([program, "--version"], capture_output=True, text=True, check=True).stdout.split(",")[0].split()[1]
     name = f"prolly-{version}-x86_64-linux"
     archive = folder / f"{name}.tar.gz"
-    with tempfile.TemporaryDirectory() as place:
-        root = Path(place) / name
+    with tempfile.TemporaryDirectory(dir=folder) as place:
+        root, begun = Path(place) / name, Path(place) / "begun"
         install(program, root, Path(place) / "made")
-        with open(archive, "wb") as file, gzip.GzipFile("", "wb", fileobj=file, mtime=0) as packed:
+        with open(begun, "wb") as file, gzip.GzipFile("", "wb", fileobj=file, mtime=0) as packed:
             with tarfile.open(fileobj=packed, mode="w") as tar:
                 for path in contents(root):
                     add(tar, path)
+        os.replace(begun, archive)
     print(archive)
 
 
 def install(program, root, made):
     """Puts the program and what belongs to it below a folder."""
-    words = [f"PROGRAM={program}", f"PREFIX={root}", f"MADE={made}"]
+    words = [f"PROGRAM={program}", "DESTDIR=", f"PREFIX={root}", f"MADE={made}"]
     subprocess.run(["make", "-s", "-C", TOP, "install", *words], check=True)
 
 

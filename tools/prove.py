@@ -40,9 +40,10 @@ def main():
 
 
 def most_jobs():
-    """How many jobs the processors and the free memory allow."""
-    free = os.sysconf("SC_AVPHYS_PAGES") * os.sysconf("SC_PAGE_SIZE")
-    return max(1, min(len(os.sched_getaffinity(0)), free // JOB_BYTES))
+    """How many jobs the processors allow, and the memory that the system can give: what it keeps of files counts as such."""
+    told = Path("/proc/meminfo").read_text(encoding="ascii").splitlines()
+    available = next(int(line.split()[1]) for line in told if line.startswith("MemAvailable:")) * 1024
+    return max(1, min(len(os.sched_getaffinity(0)), available // JOB_BYTES))
 
 
 class Proving:
