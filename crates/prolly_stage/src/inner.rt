@@ -5,8 +5,7 @@ ghost use Rattle.prolly_tree.specs.Events.{inner_events};
 ghost use Rattle.prolly_link.specs.Receipts.{HasEnded};
 ghost use Rattle.prolly_fault.specs.Ends.{end_given};
 ghost use Rattle.prolly_stage.specs.Sends.{closing_of, Sends, GivesUp};
-ghost use Rattle.prolly_stage.specs.Taking.{SendsNode, SendsNodeInPart, SendsNodes};
-ghost use Rattle.prolly_stage.specs.Taking.{SendsNodesInPart};
+ghost use Rattle.prolly_stage.specs.Taking.{SendsNode, SendsNodeInPart};
 
 use crate::sending::{send_closed, send_event};
 use crate::staged::{Staged, give_up};
@@ -98,38 +97,14 @@ fn send_nodes<C: Cut, I: In<ChunkEvent, RunFault>, O: Out<ChunkEvent, RunFault>,
         (I.received input.old input.new) (O.sent out.old) (O.sent out.new)) }
 {
     let mut nodes = NodeLevel::new(alloc, version, level, cut)?;
-    match take_events(rt, alloc, &mut nodes, input, out)? {
-        End::Clean => {
-            send_closed(rt, out, nodes.finish())?;
-            Ok(End::Clean)
-        }
-        End::Fault(fault) => Ok(End::Fault(fault)),
-    }
-}
-
-/// Receives the events to their end, which it answers, and sends them with those of the nodes that
-/// close.
-fn take_events<C: Cut, I: In<ChunkEvent, RunFault>, O: Out<ChunkEvent, RunFault>, R: Wait>(
-    rt: &R,
-    alloc: Global,
-    nodes: &mut NodeLevel<C>,
-    input: &mut I,
-    out: &mut O,
-) -> Result<End, AllocError>
-    ensures input_link { I.link input.new ≡ I.link input.old }
-    ensures follows { I.Follows input.old input.new }
-    ensures out_link { O.link out.new ≡ O.link out.old }
-    ensures ended { IfOk result (λ end. HasEnded (I.progress input.new) ×
-        (end_given (I.progress input.new) ≡ end)) }
-    ensures taken { IfOk result (λ _. SendsNodes C.cut nodes.old nodes.new
-        (I.received input.old input.new) (O.sent out.old) (O.sent out.new)) }
-    ensures err { OnErr result (SendsNodesInPart C.cut nodes.old
-        (I.received input.old input.new) (O.sent out.old) (O.sent out.new)) }
-{
     for _ in rt.forever() {
         match input.recv(rt) {
-            Next::Item(event) => take_event(rt, alloc, nodes, out, event)?,
-            Next::End(end) => return Ok(end),
+            Next::Item(event) => take_event(rt, alloc, &mut nodes, out, event)?,
+            Next::End(End::Clean) => {
+                send_closed(rt, out, nodes.finish())?;
+                return Ok(End::Clean);
+            }
+            Next::End(End::Fault(fault)) => return Ok(End::Fault(fault)),
             Next::Lost => return Ok(End::Fault(RunFault::Lost)),
         }
     }

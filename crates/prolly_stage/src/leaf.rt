@@ -5,7 +5,7 @@ ghost use Rattle.prolly_tree.specs.Events.{leaf_events};
 ghost use Rattle.prolly_link.specs.Receipts.{HasEnded};
 ghost use Rattle.prolly_fault.specs.Ends.{end_given};
 ghost use Rattle.prolly_stage.specs.Sends.{closing_of, Sends, GivesUp};
-ghost use Rattle.prolly_stage.specs.Taking.{SendsLeaf, SendsLeaves, SendsLeavesInPart};
+ghost use Rattle.prolly_stage.specs.Taking.{SendsLeaf};
 
 use crate::sending::send_closed;
 use crate::staged::{Staged, give_up};
@@ -68,37 +68,14 @@ fn send_leaves<C: Cut, I: In<Pair, RunFault>, O: Out<ChunkEvent, RunFault>, R: W
         (I.received input.old input.new) (O.sent out.old) (O.sent out.new)) }
 {
     let mut leaves = LeafLevel::new(alloc, cut)?;
-    match take_pairs(rt, alloc, &mut leaves, input, out)? {
-        End::Clean => {
-            send_closed(rt, out, leaves.finish())?;
-            Ok(End::Clean)
-        }
-        End::Fault(fault) => Ok(End::Fault(fault)),
-    }
-}
-
-/// Receives the pairs to their end, which it answers, and sends each leaf that closes.
-fn take_pairs<C: Cut, I: In<Pair, RunFault>, O: Out<ChunkEvent, RunFault>, R: Wait>(
-    rt: &R,
-    alloc: Global,
-    leaves: &mut LeafLevel<C>,
-    input: &mut I,
-    out: &mut O,
-) -> Result<End, AllocError>
-    ensures input_link { I.link input.new ≡ I.link input.old }
-    ensures follows { I.Follows input.old input.new }
-    ensures out_link { O.link out.new ≡ O.link out.old }
-    ensures ended { IfOk result (λ end. HasEnded (I.progress input.new) ×
-        (end_given (I.progress input.new) ≡ end)) }
-    ensures taken { IfOk result (λ _. SendsLeaves C.cut leaves.old leaves.new
-        (I.received input.old input.new) (O.sent out.old) (O.sent out.new)) }
-    ensures err { OnErr result (SendsLeavesInPart C.cut leaves.old
-        (I.received input.old input.new) (O.sent out.old) (O.sent out.new)) }
-{
     for _ in rt.forever() {
         match input.recv(rt) {
-            Next::Item(pair) => take_pair(rt, alloc, leaves, out, pair)?,
-            Next::End(end) => return Ok(end),
+            Next::Item(pair) => take_pair(rt, alloc, &mut leaves, out, pair)?,
+            Next::End(End::Clean) => {
+                send_closed(rt, out, leaves.finish())?;
+                return Ok(End::Clean);
+            }
+            Next::End(End::Fault(fault)) => return Ok(End::Fault(fault)),
             Next::Lost => return Ok(End::Fault(RunFault::Lost)),
         }
     }
