@@ -1,17 +1,24 @@
 -- What is left of a map from a key on, leaf by leaf.
-use Rattle.std.proofs.Common.{◌≡◌, ℕ, ◌+◌, ◌<◌, inl, inr, ◌⊎◌, List, [], ◌++◌, length, drop}
-use Rattle.std.proofs.Common.{take, get_or, refl, sym, ap, ◌∙◌, subst, arith, take-append-drop}
+use Rattle.std.proofs.Common.{◌≡◌, ℕ, ◌+◌, ◌<◌, Bool, true, false, not, cond, List, [], ◌∷◌, ◌++◌}
+use Rattle.std.proofs.Common.{length, drop, take, get_or, refl, sym, ap, ◌∙◌, subst, arith}
+use Rattle.std.proofs.Common.{take-append-drop}
+use Rattle.std.specs.Ordering.{is_lt}
 use Rattle.std.specs.List.{flat_map}
 use Rattle.std.proofs.lemmas.List.{drop_all}
 use Rattle.std.proofs.lemmas.List.Concat.{flat_map-append}
+use Rattle.prolly_entry.specs.Keys.{KeyBelow, key_order}
 use Rattle.prolly_entry.specs.Pair.{Pair}
+use Rattle.prolly_entry.specs.lemmas.Lists.{all_back, all_front}
+use Rattle.prolly_entry.specs.lemmas.Orders.{less_self}
 use Rattle.prolly_tree.specs.Difference.{IsMap}
-use Rattle.prolly_tree.specs.lemmas.Maps.{Rises, rises, rises_back, rises_front}
+use Rattle.prolly_tree.specs.Tree.{last_key}
+use Rattle.prolly_tree.specs.lemmas.Maps.{Above, Rises, rises, rises_back, rises_front}
 use Rattle.prolly_check.specs.Checked.{HasFile, chunks_of}
 use Rattle.prolly_check.specs.Content.{Content}
 use Rattle.prolly_check.specs.Entries.{pairs_in}
 use Rattle.prolly_check.specs.Held.{pairs_held}
-use Rattle.prolly_check.specs.Leaves.{pairs_from, IsLeafOf, IsBeyond}
+use Rattle.prolly_check.specs.Leaves.{pairs_from}
+use Rattle.prolly_check.specs.ScanWay.{AreFirstFrom, next_key}
 use Rattle.prolly_check.proofs.HeldPairs.{map_holds}
 use Rattle.prolly_check.proofs.Lookups.{rising_is}
 use Rattle.prolly_check.proofs.RebuildSteps.{held_next}
@@ -22,20 +29,61 @@ pub no_pairs : pairs_in [] ≡ []
 unfolding pairs_in
 no_pairs = refl
 
+-- the first of rising pairs from a key on are those of a part that has some: so none stands before it
+above_from : (x key : List ℕ) (ps : List Pair) → Above x ps → Above x (pairs_from key ps)
+above_from x key [] h = tt
+above_from x key (p ∷ ps) h = go (is_lt (key_order p.key key)) (above_from x key ps h.1)
+  where
+    go : (b : Bool) → Above x (pairs_from key ps) →
+        Above x (cond (not b) (p ∷ pairs_from key ps) (pairs_from key ps))
+    go true rest = rest
+    go false rest = (h.0, rest)
+
+not_first : (x : Pair) (found xs rest : List Pair) → Above x.key found → x ∷ xs ≡ found ++ rest →
+    (found ≡ [] → ⊥) → ⊥
+not_first x [] xs rest above e some = some refl
+not_first x (p ∷ ps) xs rest above e some = less_self x.key
+    (subst (λ q. KeyBelow x.key q.key) (sym (same x p xs (ps ++ rest) e)) above.0)
+  where
+    same : (x y : Pair) (xs ys : List Pair) → x ∷ xs ≡ y ∷ ys → x ≡ y
+    same x y xs ys e = cc
+
+first_leaf : (key : List ℕ) (xs leaf ys rest : List Pair) → Rises (xs ++ (leaf ++ ys)) →
+    pairs_from key (xs ++ (leaf ++ ys)) ≡ pairs_from key leaf ++ rest →
+    (pairs_from key leaf ≡ [] → ⊥) → pairs_from key xs ≡ []
+first_leaf key [] leaf ys rest r e some = refl
+first_leaf key (x ∷ xs) leaf ys rest r e some = go (is_lt (key_order x.key key))
+    (λ e. first_leaf key xs leaf ys rest r.1 e some) e
+  where
+    go : (b : Bool) → (pairs_from key (xs ++ (leaf ++ ys)) ≡ pairs_from key leaf ++ rest →
+        pairs_from key xs ≡ []) →
+        cond (not b) (x ∷ pairs_from key (xs ++ (leaf ++ ys)))
+        (pairs_from key (xs ++ (leaf ++ ys))) ≡ pairs_from key leaf ++ rest →
+        cond (not b) (x ∷ pairs_from key xs) (pairs_from key xs) ≡ []
+    go true more e = more e
+    go false more e = absurd (not_first x (pairs_from key leaf)
+        (pairs_from key (xs ++ (leaf ++ ys))) rest (above_from x.key key leaf
+        (all_front (λ p. KeyBelow x.key p.key) leaf ys
+        (all_back (λ p. KeyBelow x.key p.key) xs (leaf ++ ys) r.0))) e some)
+
 -- the chunks from a number on hold the last pairs of the map
 module _ (content : Content) (f : HasFile content) (number : ℕ) where
   abbrev behind : ℕ → List Pair
   behind n = flat_map pairs_held (drop n (chunks_of content))
 
-  rest_rises : Rises (behind number)
-  rest_rises =
+  abbrev front : List Pair
+  front = flat_map pairs_held (take number (chunks_of content))
+
+  in_front : content.pairs ≡ front ++ behind number
+  in_front =
       let cs = chunks_of content in
-      rises_back (flat_map pairs_held (take number cs)) (behind number)
-      (subst Rises
-      (sym (map_holds content.version content.bits content.pairs f.is.lawful).are ∙
+      sym (map_holds content.version content.bits content.pairs f.is.lawful).are ∙
       ap (flat_map pairs_held) (sym (take-append-drop number cs)) ∙
-      flat_map-append pairs_held (take number cs) (drop number cs))
-      (rises content.pairs f.is.rising))
+      flat_map-append pairs_held (take number cs) (drop number cs)
+
+  rest_rises : Rises (behind number)
+  rest_rises = rises_back front (behind number)
+      (subst Rises in_front (rises content.pairs f.is.rising))
 
   module _ (within : number < length (chunks_of content)) (leaf : List Pair)
       (is : leaf ≡ pairs_held (get_or (chunks_of content) number [])) where
@@ -46,25 +94,58 @@ module _ (content : Content) (f : HasFile content) (number : ℕ) where
     leaf_is_map = rising_is leaf
         (rises_front leaf (behind (number + 1)) (subst Rises parts rest_rises))
 
-    -- those from a key on are those of the leaf to which it leads, and all behind it
-    pub from_leaf : (key : List ℕ) → IsLeafOf content key number →
-        pairs_from key leaf ++ behind (number + 1) ≡ pairs_from key content.pairs
-    from_leaf key l = sym (l.same ∙ ap (pairs_from key) parts ∙
-        pairs_from-append key leaf (behind (number + 1)) ∙
-        ap (λ ps. pairs_from key leaf ++ ps) (all l.here))
-      where
-        all : (drop (number + 1) (chunks_of content) ≡ []) ⊎
-            (pairs_from key (pairs_held (get_or (chunks_of content) number [])) ≡ [] → ⊥) →
-            pairs_from key (behind (number + 1)) ≡ behind (number + 1)
-        all (inl last) = ap (λ cs. pairs_from key (flat_map pairs_held cs)) last ∙
-            ap (flat_map pairs_held) (sym last)
-        all (inr some) = from_behind key leaf (behind (number + 1))
-            (subst Rises parts rest_rises) (λ none. some (ap (pairs_from key) (sym is) ∙ none))
+    -- what the leaf has from a key on are the first that the map has: none before it, and all
+    -- behind it; and where it has none, there are none
+    module _ (key : List ℕ)
+        (first : AreFirstFrom key content.pairs (pairs_from key leaf)) where
+      whole : content.pairs ≡ front ++ (leaf ++ behind (number + 1))
+      whole = in_front ∙ ap (λ ps. front ++ ps) parts
 
--- where the key is beyond all keys of the map, there are none
-pub from_none : (content : Content) (key : List ℕ) (number : ℕ) →
-    number ≡ length (chunks_of content) → IsBeyond content key →
-    flat_map pairs_held (drop number (chunks_of content)) ≡ pairs_from key content.pairs
-from_none content key number e beyond =
-    ap (flat_map pairs_held) (drop_all number (chunks_of content) (omega (arith, e))) ∙
-    sym beyond.past
+      found : pairs_from key content.pairs ≡
+          pairs_from key front ++ (pairs_from key leaf ++ pairs_from key (behind (number + 1)))
+      found = ap (pairs_from key) whole ∙
+          pairs_from-append key front (leaf ++ behind (number + 1)) ∙
+          ap (λ ps. pairs_from key front ++ ps)
+          (pairs_from-append key leaf (behind (number + 1)))
+
+      none_found : pairs_from key leaf ≡ [] → pairs_from key content.pairs ≡ []
+      none_found none = subst (AreFirstFrom key content.pairs) none first
+
+      none_before : pairs_from key front ≡ []
+      none_before = by_first (pairs_from key leaf) refl first
+        where
+          nothing : (xs ys : List Pair) → xs ++ ys ≡ [] → xs ≡ []
+          nothing [] ys e = refl
+          nothing (x ∷ xs) ys e = cc
+
+          some : (p : Pair) (ps : List Pair) → p ∷ ps ≡ [] → ⊥
+          some p ps e = cc
+
+          by_first : (ps : List Pair) → pairs_from key leaf ≡ ps → AreFirstFrom key content.pairs ps →
+              pairs_from key front ≡ []
+          by_first [] is none = nothing (pairs_from key front)
+              (pairs_from key leaf ++ pairs_from key (behind (number + 1))) (sym found ∙ none)
+          by_first (p ∷ ps) is e = first_leaf key front leaf (behind (number + 1))
+              (pairs_from (next_key (last_key (p ∷ ps))) content.pairs)
+              (subst Rises whole (rises content.pairs f.is.rising))
+              (ap (pairs_from key) (sym whole) ∙ e ∙
+              ap (λ qs. qs ++ pairs_from (next_key (last_key (p ∷ ps))) content.pairs) (sym is))
+              (λ none. some p ps (sym is ∙ none))
+
+      pub from_number : pairs_from key content.pairs ≡ pairs_from key (behind number)
+      from_number = found ∙ ap (λ ps. ps ++ (pairs_from key leaf ++
+          pairs_from key (behind (number + 1)))) none_before ∙
+          sym (ap (pairs_from key) parts ∙ pairs_from-append key leaf (behind (number + 1)))
+
+      pub from_leaf : (pairs_from key leaf ≡ [] → ⊥) →
+          pairs_from key leaf ++ behind (number + 1) ≡ pairs_from key content.pairs
+      from_leaf some = sym (found ∙ ap (λ ps. ps ++ (pairs_from key leaf ++
+          pairs_from key (behind (number + 1)))) none_before ∙
+          ap (λ ps. pairs_from key leaf ++ ps)
+          (from_behind key leaf (behind (number + 1)) (subst Rises parts rest_rises) some))
+
+      pub from_none : (end : ℕ) → end ≡ length (chunks_of content) → pairs_from key leaf ≡ [] →
+          pairs_from key leaf ++ behind end ≡ pairs_from key content.pairs
+      from_none end is none = ap (λ ps. ps ++ behind end) none ∙
+          ap (flat_map pairs_held) (drop_all end (chunks_of content) (omega (arith, is))) ∙
+          sym (none_found none)

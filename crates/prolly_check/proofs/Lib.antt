@@ -40,10 +40,6 @@ pub mod FewPairs
 pub mod FileSteps
 -- The way down the tree of a file, chunk by chunk.
 pub mod WayDown
--- The leaf that a key leads to.
-pub mod LeafSteps
--- Going down to the pair of a number, by the counts.
-pub mod CountSteps
 -- Scanning pairs from a key on, in a leaf and over chunks.
 pub mod Scans
 -- What is left of a map from a key on, leaf by leaf.
@@ -56,24 +52,26 @@ pub mod Rebuilds
 pub mod RebuildSteps
 -- The end of the rebuilt chunks.
 pub mod FinishSteps
--- The ways of look-ups down a tree, of whatever kind, for who knows the root alone.
-pub mod TreeWays
--- The way of a look-up that knows the root alone.
-pub mod Ways
 -- The least key above another.
 pub mod NextKeys
--- The way of a scan that knows the root alone.
-pub mod ScanWays
+-- The child of a node that a look-up goes on in.
+pub mod Chosen
+-- The first pairs of a map from a key on.
+pub mod FirstPairs
+-- What a look-up seeks in a map, and below a tree to which it has come.
+pub mod Standing
+-- The ways of look-ups down a tree, for who knows the root alone.
+pub mod TreeWays
 -- Scans that go on leaf by leaf, for who knows the root alone.
 pub mod ScanRuns
--- The way of a look-up by a number that knows the root alone.
-pub mod CountWays
--- Reading the keys of one chunk, one after another.
-pub mod StepLemmas
--- Going down the way of a look-up in a file that was checked.
-pub mod WaySteps
+-- Going on among the children of a node from where a look-up came to before.
+pub mod Marks
 -- The chunks of the tops of trees can be read.
 pub mod TreeTops
+-- Going down the tree of a file that was checked.
+pub mod FileDescents
+-- Reading the keys of one chunk, one after another.
+pub mod StepLemmas
 -- Sizes in their order, and the numbers of chunks that have these sizes.
 pub mod SizeSteps
 -- The levels of the chunks of a tree.

@@ -40,7 +40,7 @@ apart_from c d [] h k e = k
 apart_from c d (x ∷ cs) h (inl f) e = h.0 (e ∙ ap reference_of f)
 apart_from c d (x ∷ cs) h (inr k) e = apart_from c d cs h.1 k e
 
-one_chunk : (cs : List (List ℕ)) (c d : List ℕ) → AllApart cs → IsIn c cs → IsIn d cs →
+pub one_chunk : (cs : List (List ℕ)) (c d : List ℕ) → AllApart cs → IsIn c cs → IsIn d cs →
     reference_of c ≡ reference_of d → c ≡ d
 one_chunk [] c d h k l e = absurd k
 one_chunk (x ∷ cs) c d h (inl f) (inl g) e = f ∙ sym g
@@ -94,18 +94,18 @@ trees_below level (t ∷ ts) key h k =
     all_append (λ p. KeyBelow p.key key) own rest (all_below own key (rises_front own rest h) k.0)
     (trees_below level ts key (rises_back own rest h) k.1)
 
-find_above : (ps : List Pair) (key : List ℕ) → Above key ps → find ps key ≡ None
+pub find_above : (ps : List Pair) (key : List ℕ) → Above key ps → find ps key ≡ None
 find_above [] key h = refl
 find_above (p ∷ ps) key h = cond-false (is_eq (key_order p.key key)) (Some p.value) (find ps key)
     (not_eq_above key p.key h.0) ∙ find_above ps key h.1
 
-find_over : (xs ys : List Pair) (key : List ℕ) → AllByRecursion (λ p. KeyBelow p.key key) xs →
+pub find_over : (xs ys : List Pair) (key : List ℕ) → AllByRecursion (λ p. KeyBelow p.key key) xs →
     find (xs ++ ys) key ≡ find ys key
 find_over [] ys key h = refl
 find_over (p ∷ xs) ys key h = cond-false (is_eq (key_order p.key key)) (Some p.value)
     (find (xs ++ ys) key) (not_eq_below p.key key h.0) ∙ find_over xs ys key h.1
 
-find_first : (xs ys : List Pair) (key : List ℕ) → find ys key ≡ None →
+pub find_first : (xs ys : List Pair) (key : List ℕ) → find ys key ≡ None →
     find (xs ++ ys) key ≡ find xs key
 find_first [] ys key h = h
 find_first (p ∷ xs) ys key h = ap (cond (is_eq (key_order p.key key)) (Some p.value))
@@ -147,13 +147,13 @@ find_in_child level before after t key h some past here =
 
 -- ---- places
 
-nth_front : (xs ys : List Pair) (n : ℕ) → n < length xs → slice_get (xs ++ ys) n ≡ slice_get xs n
+pub nth_front : (xs ys : List Pair) (n : ℕ) → n < length xs → slice_get (xs ++ ys) n ≡ slice_get xs n
 nth_front [] ys n h = absurd (omega arith)
 nth_front (x ∷ xs) ys zero h = refl
 nth_front (x ∷ xs) ys (suc n) h = let h' : suc n < suc (length xs) = h in
     nth_front xs ys n (omega arith)
 
-nth_back : (xs ys : List Pair) (n : ℕ) → slice_get (xs ++ ys) (length xs + n) ≡ slice_get ys n
+pub nth_back : (xs ys : List Pair) (n : ℕ) → slice_get (xs ++ ys) (length xs + n) ≡ slice_get ys n
 nth_back [] ys n = let e : 0 + n ≡ n = omega arith in rw e refl
 nth_back (x ∷ xs) ys n = let e : suc (length xs) + n ≡ suc (length xs + n) = omega arith in
     rw e (nth_back xs ys n)

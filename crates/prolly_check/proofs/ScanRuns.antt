@@ -8,7 +8,7 @@ use Rattle.prolly_check.specs.Leaves.{pairs_from}
 use Rattle.prolly_check.specs.ScanWay.{AreFirstFrom, HaveFirstFrom}
 use Rattle.prolly_check.specs.ScanWay.{ScansGoOn, from_behind, joined}
 use Rattle.prolly_check.specs.Way.{Clash}
-use Rattle.prolly_check.proofs.ScanWays.{scans_are_right}
+use Rattle.prolly_check.proofs.TreeWays.{scans_are_right}
 
 module _ (cs : List (List ℕ)) where
   clash_front : (way : List (List ℕ)) (ways : List (List (List ℕ))) → Clash way cs →

@@ -13,7 +13,8 @@ use Rattle.std.proofs.lemmas.List.Sorted.{IsPermutation-filter_both, length_perm
 use Rattle.std.proofs.lemmas.List.Sorted.{sum_by-IsPermutation}
 use Rattle.std.proofs.lemmas.List.Sums.{count_by-le-length, count_by_more_yes, sum-map}
 use Rattle.std.proofs.lemmas.List.Sums.{sum_by-append, sum_by-le, sum_by-take-drop, sum_by-take-le}
-use Rattle.prolly_check.specs.Levels.{IsAtPlace, IsLevel, at_level, level_of}
+use Rattle.prolly_check.specs.Levels.{IsAtPlace, IsLevel, at_level}
+use Rattle.prolly_check.specs.Way.{level_of}
 use Rattle.prolly_check.specs.Missing.{size_of}
 use Rattle.prolly_check.specs.declared.level.Level.{Level}
 

@@ -1,20 +1,61 @@
 -- The chunks of the tops of trees can be read.
-use Rattle.std.proofs.Common.{◌≡◌, ℕ, zero, suc, List, [], ◌∷◌, sym, ap, subst}
+use Rattle.std.proofs.Common.{◌≡◌, ℕ, zero, suc, ◌<◌, List, [], ◌∷◌, ◌++◌, length, map, sym, ap, subst}
+use Rattle.std.proofs.Common.{arith}
 use Rattle.std.specs.List.{flat_map, AllByRecursion}
-use Rattle.prolly_entry.specs.Keys.{Rising}
-use Rattle.prolly_entry.specs.Pair.{IsPair}
+use Rattle.prolly_entry.specs.Keys.{KeyBelow, Rising, RisingFrom}
+use Rattle.prolly_entry.specs.Pair.{Pair, IsPair}
 use Rattle.prolly_entry.specs.declared.version.Version.{Version}
-use Rattle.prolly_entry.specs.lemmas.Lists.{all_back}
+use Rattle.prolly_entry.specs.lemmas.Lists.{all_back, all_front}
 use Rattle.prolly_tree.specs.Chunk.{chunk_of, post_order}
-use Rattle.prolly_tree.specs.Tree.{Tree, bytes_of, pairs_below}
-use Rattle.prolly_check.specs.Descent.{IsTreeOf, TopIsRead, entries_below}
+use Rattle.prolly_tree.specs.Tree.{Tree, bytes_of, last_key, pairs_below}
+use Rattle.prolly_tree.specs.lemmas.Maps.{Above, HasKey, Rises, above_key, has_last, rises}
+use Rattle.prolly_tree.specs.lemmas.Maps.{rises_back}
+use Rattle.prolly_check.specs.Descent.{IsTreeOf, NodeFull, TopIsRead, child_of, entries_below}
 use Rattle.prolly_check.specs.Kinds.{kind_of}
 use Rattle.prolly_check.specs.Way.{keys_of}
 use Rattle.prolly_check.specs.Whole.{IsWhole}
 use Rattle.prolly_check.specs.declared.entries.Entries.TheVariants.{Leaf, Node}
 use Rattle.prolly_check.proofs.HeldPairs.{bytes_append, bytes_in, tree_holds}
 use Rattle.prolly_check.proofs.WayDown.{children_are, own_pairs}
-use Rattle.prolly_check.proofs.WaySteps.{tops_rise}
+use Rattle.prolly_check.proofs.Lookups.{above_last}
+
+-- ---- the keys of a chunk
+
+some_last : (ps : List Pair) → 0 < length ps → HasKey (last_key ps) ps
+some_last [] some = absurd (omega arith)
+some_last (p ∷ ps) some = has_last p ps
+
+module _ (version : Version) (level : ℕ) where
+  abbrev tops : List (Tree level) → List (List ℕ)
+  tops ts = map (λ c. c.key) (map (child_of version level) ts)
+
+  abbrev AreFull : List (Tree level) → Type 0
+  AreFull ts = AllByRecursion (λ t. (0 < length (pairs_below level t)) × NodeFull level t) ts
+
+  -- the greatest keys below trees rise
+  tops_from : (key : List ℕ) (ts : List (Tree level)) → AreFull ts →
+      Above key (flat_map (pairs_below level) ts) → Rises (flat_map (pairs_below level) ts) →
+      RisingFrom key (tops ts)
+  tops_from key [] full above r = tt
+  tops_from key (t ∷ ts) full above r =
+      let own = pairs_below level t in
+      let rest = flat_map (pairs_below level) ts in (
+        above_key key (last_key own) own (all_front (λ p. KeyBelow key p.key) own rest above)
+            (some_last own full.0.0),
+        tops_from (last_key own) ts full.1 (above_last own rest full.0.0 r)
+            (rises_back own rest r),
+      )
+
+  pub tops_rise : (ts : List (Tree level)) → AreFull ts →
+      Rising (map (λ p. p.key) (flat_map (pairs_below level) ts)) → Rising (tops ts)
+  tops_rise [] full h = tt
+  tops_rise (t ∷ ts) full h =
+      let own = pairs_below level t in
+      let rest = flat_map (pairs_below level) ts in
+      let r = rises (own ++ rest) h in
+      tops_from (last_key own) ts full.1 (above_last own rest full.0.0 r) (rises_back own rest r)
+
+-- ---- the entries of a top
 
 top_is_whole : (version : Version) (level : ℕ) (t : Tree level) →
     AllByRecursion IsPair (pairs_below level t) → IsWhole version (bytes_of version level t)

@@ -1,15 +1,12 @@
 -- The levels of a tree, in numbers.
-use Rattle.std.specs.Prelude.{◌≡◌, ℕ, ◌-◌, ◌/◌, ◌<◌, ◌≤◌, ◌==◌, List, length, map, slice_index}
+use Rattle.std.specs.Prelude.{◌≡◌, ℕ, ◌-◌, ◌/◌, ◌<◌, ◌≤◌, ◌==◌, List, length, map}
 use Rattle.std.specs.Prelude.{slice_get, Some, nat_lt, nat_le, count_by}
 use Rattle.std.specs.List.{filter, AllByRecursion}
 use Rattle.prolly_check.specs.declared.level.Level.{Level}
 use Rattle.prolly_check.specs.Checked.{chunks_of}
 use Rattle.prolly_check.specs.Content.{Content}
 use Rattle.prolly_check.specs.Missing.{size_of}
-
--- The level of a chunk: its first byte.
-abbrev pub level_of : List ℕ → ℕ
-level_of chunk = slice_index chunk 0
+use Rattle.prolly_check.specs.Way.{level_of}
 
 -- Those of the chunks that are of a level, in their order.
 abbrev pub at_level : ℕ → List (List ℕ) → List (List ℕ)

@@ -40,19 +40,21 @@ pub mod Check
 pub mod Root
 -- How a look-up goes down a tree.
 pub mod Descent
--- Pairs and children that were found by a number.
+-- Pairs that were found by a number.
 pub mod Counted
--- The leaf that a key leads to.
+-- The pairs of a map from a key on.
 pub mod Leaves
 -- Rebuilding the chunks of pairs one by one, by levels that stand one above another.
 pub mod Rebuilt
+-- What a look-up seeks, and which child of a node it goes on in.
+pub mod Sought
 -- The way of a look-up down a tree, by the references of its chunks.
 pub mod Way
 -- The way of a scan down a tree, for who knows the root alone.
 pub mod ScanWay
--- The way of a look-up by a number, for who knows the root alone.
-pub mod CountWay
 -- What a look-up comes to at a chunk.
 pub mod Steps
+-- Look-ups in a file that was checked.
+pub mod FileWays
 -- Lemmas for the crates above, by subject.
 pub mod lemmas

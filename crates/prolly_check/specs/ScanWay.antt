@@ -1,5 +1,5 @@
 -- The way of a scan down a tree, for who knows the root alone. (This project's rules.)
-use Rattle.std.specs.Prelude.{◌≡◌, ℕ, ◌⊎◌, List, [], ◌∷◌, ◌++◌, None}
+use Rattle.std.specs.Prelude.{◌≡◌, ℕ, ◌⊎◌, List, [], ◌∷◌, ◌++◌}
 use Rattle.std.specs.List.{AllByRecursion, flat_map}
 use Rattle.prolly_entry.specs.Cut.{sha512_cut}
 use Rattle.prolly_entry.specs.Pair.{Pair, IsPair}
@@ -7,24 +7,18 @@ use Rattle.prolly_entry.specs.declared.version.Version.{Version}
 use Rattle.prolly_tree.specs.Difference.{IsMap}
 use Rattle.prolly_tree.specs.File.{root_reference}
 use Rattle.prolly_tree.specs.Tree.{last_key}
-use Rattle.prolly_check.specs.Children.{child_for}
+use Rattle.prolly_check.specs.Held.{pairs_held}
 use Rattle.prolly_check.specs.Judged.{chunk_bytes}
 use Rattle.prolly_check.specs.Leaves.{pairs_from}
+use Rattle.prolly_check.specs.Sought.Sought.{Key}
 use Rattle.prolly_check.specs.Way.{Clash, IsWayTo}
-use Rattle.prolly_check.specs.declared.entries.Entries.{Entries}
-use Rattle.prolly_check.specs.declared.entries.Entries.TheVariants.{Leaf, Node}
 
--- A look-up of the key ends at these entries with these pairs: at a leaf with those of its pairs
--- whose key is not below it, and at a node all of whose children are below the key with none.
-abbrev pub EndsWithPairs : List ℕ → Entries → List Pair → Type 0
-EndsWithPairs key (Leaf pairs) found = found ≡ pairs_from key pairs
-EndsWithPairs key (Node children) found = (child_for key children ≡ None) × (found ≡ [])
-
--- The chunks are the way of a look-up of the key from the root of this reference to its end, where
--- it finds these pairs.
-abbrev pub IsScanWay : Version → List ℕ → List ℕ → List (List ℕ) → List Pair → Type 0
-IsScanWay version root key chunks found =
-    IsWayTo version root key chunks (λ entries. EndsWithPairs key entries found)
+-- The chunks are the way of a look-up of the key, which finds these pairs: those of the last one
+-- whose key is not below the key. (A node holds no pairs.)
+pub record IsScanWay (version : Version) (root key : List ℕ) (chunks : List (List ℕ))
+    (found : List Pair) : Type 0 where
+  pub way : IsWayTo version root (Key key) chunks
+  pub found_is : found ≡ pairs_from key (pairs_held way.last)
 
 -- The least key that is greater than this one.
 abbrev pub next_key : List ℕ → List ℕ

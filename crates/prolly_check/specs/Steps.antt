@@ -1,27 +1,35 @@
 -- What a look-up comes to at a chunk.
-use Rattle.std.specs.Prelude.{ℕ, List}
-use Rattle.std.specs.Option.{option_copied}
+use Rattle.std.specs.Prelude.{◌≡◌, ℕ, List, Option, Some}
 use Rattle.prolly_entry.specs.Keys.{Rising}
 use Rattle.prolly_entry.specs.Pair.{Pair}
+use Rattle.prolly_entry.specs.Reference.{reference_of}
 use Rattle.prolly_entry.specs.declared.version.Version.{Version}
 use Rattle.prolly_check.specs.Entries.{Holds}
+use Rattle.prolly_check.specs.Held.{pairs_held}
 use Rattle.prolly_check.specs.Kinds.{kind_of}
-use Rattle.prolly_check.specs.Way.{EndsWith, LeadsOn, keys_of}
+use Rattle.prolly_check.specs.Sought.{Sought, EndsAt, LeadsOn, sought_of}
+use Rattle.prolly_check.specs.Way.{FallsTo, IsNamed, keys_of, level_of}
 use Rattle.prolly_check.specs.Whole.{IsWhole}
-use Rattle.prolly_check.specs.declared.entries.Entries.{Entries}
-use Rattle.prolly_check.specs.declared.step.ChunkFlaw.{ChunkFlaw}
-use Rattle.prolly_check.specs.declared.step.ChunkFlaw.TheVariants.{Entries as BadEntries, Order}
-use Rattle.prolly_check.specs.declared.step.Step.{Step}
-use Rattle.prolly_check.specs.declared.step.Step.TheVariants.{End, Below}
+use Rattle.prolly_check.specs.declared.look_up.step.ChunkFlaw.{ChunkFlaw}
+use Rattle.prolly_check.specs.declared.look_up.step.ChunkFlaw.TheVariants.{Entries, Level, Order}
+use Rattle.prolly_check.specs.declared.look_up.step.ChunkFlaw.TheVariants.{Reference}
+use Rattle.prolly_check.specs.declared.look_up.step.Step.{Step}
+use Rattle.prolly_check.specs.declared.look_up.step.Step.TheVariants.{End, Below}
 
--- The look-up of the key ends at the entries with this value or none, or goes on at this reference.
-abbrev pub IsStep : List ℕ → Entries → Step → Type 0
-IsStep key entries (End value) = EndsWith key entries (option_copied value)
-IsStep key entries (Below reference) = LeadsOn key entries reference.0
+-- The look-up ends at the chunk, and these are the pairs that it holds; or goes on from it at the
+-- chunk that is due.
+abbrev pub IsStep : Version → Sought → List ℕ → Step → Type 0
+IsStep version sought chunk (End pairs) = EndsAt sought (kind_of version chunk) ×
+    (pairs ≡ pairs_held chunk)
+IsStep version sought chunk (Below due) =
+    LeadsOn sought (kind_of version chunk) due.reference.0 (sought_of due.sought) ×
+    (due.above ≡ Some (level_of chunk))
 
--- This is wrong with the chunk: it is no level with whole lawful entries; or it is, and their keys
--- do not rise.
-abbrev pub IsFlawed : Version → List ℕ → ChunkFlaw → Type 0
-IsFlawed version chunk BadEntries = (pairs : List Pair) → Holds version chunk pairs → ⊥
-IsFlawed version chunk Order = IsWhole version chunk × (Rising (keys_of (kind_of version chunk)) →
-    ⊥)
+-- This is wrong with the chunk first, where one with this reference is due below this level.
+abbrev pub IsFlawed : Version → List ℕ → Option ℕ → List ℕ → ChunkFlaw → Type 0
+IsFlawed version due above chunk Reference = reference_of chunk ≡ due → ⊥
+IsFlawed version due above chunk Entries = (reference_of chunk ≡ due) ×
+    ((pairs : List Pair) → Holds version chunk pairs → ⊥)
+IsFlawed version due above chunk Order = (reference_of chunk ≡ due) × IsWhole version chunk ×
+    (Rising (keys_of (kind_of version chunk)) → ⊥)
+IsFlawed version due above chunk Level = IsNamed version due chunk × (FallsTo above chunk → ⊥)

@@ -1,6 +1,6 @@
 -- The way of a look-up down a tree, by the references of its chunks. (This project's rules.)
-use Rattle.std.specs.Prelude.{◌≡◌, ℕ, suc, ◌⊎◌, slice_index, All, List, [], ◌∷◌, ◌++◌, map, Option}
-use Rattle.std.specs.Prelude.{Some, None, option_map}
+use Rattle.std.specs.Prelude.{◌≡◌, ℕ, suc, ◌^◌, ◌<◌, ◌⊎◌, slice_index, All, List, [], ◌∷◌, ◌++◌, length}
+use Rattle.std.specs.Prelude.{map, Option, Some, None}
 use Rattle.std.specs.List.{AllByRecursion}
 use Rattle.prolly_entry.specs.Byte.{IsByte}
 use Rattle.prolly_entry.specs.Cut.{sha512_cut}
@@ -8,13 +8,16 @@ use Rattle.prolly_entry.specs.Keys.{Rising}
 use Rattle.prolly_entry.specs.Pair.{Pair, IsPair}
 use Rattle.prolly_entry.specs.Reference.{reference_of}
 use Rattle.prolly_entry.specs.declared.version.Version.{Version}
+use Rattle.prolly_entry.specs.declared.version.Version.TheVariants.{Two}
 use Rattle.prolly_tree.specs.Chunk.{IsIn}
 use Rattle.prolly_tree.specs.Difference.{IsMap}
 use Rattle.prolly_tree.specs.File.{root_reference}
-use Rattle.prolly_tree.specs.LookUp.{find}
-use Rattle.prolly_check.specs.Children.{child_for}
+use Rattle.prolly_tree.specs.LookUp.{find, nth}
+use Rattle.prolly_check.specs.Held.{pairs_held}
 use Rattle.prolly_check.specs.Judged.{chunk_bytes}
 use Rattle.prolly_check.specs.Kinds.{kind_of}
+use Rattle.prolly_check.specs.Sought.{Sought, EndsAt, LeadsOn}
+use Rattle.prolly_check.specs.Sought.Sought.{Key, Number}
 use Rattle.prolly_check.specs.Whole.{IsWhole}
 use Rattle.prolly_check.specs.declared.entries.Entries.{Entries}
 use Rattle.prolly_check.specs.declared.entries.Entries.TheVariants.{Leaf, Node}
@@ -31,25 +34,6 @@ pub record IsOrdered (version : Version) (chunk : List ℕ) : Type 0 where
   pub whole : IsWhole version chunk
   pub rising : Rising (keys_of (kind_of version chunk))
 
--- A look-up of the key goes on from these entries at the chunk with this reference: that of the
--- first child whose greatest key is not below the key.
-abbrev pub LeadsOn : List ℕ → Entries → List ℕ → Type 0
-LeadsOn key (Leaf pairs) reference = ⊥
-LeadsOn key (Node children) reference =
-    option_map (λ c. c.reference) (child_for key children) ≡ Some reference
-
--- It ends at these entries, with this value or none: at a leaf with what its pairs say of the key,
--- and at a node all of whose children are below the key with none.
-abbrev pub EndsWith : List ℕ → Entries → Option (List ℕ) → Type 0
-EndsWith key (Leaf pairs) value = value ≡ find pairs key
-EndsWith key (Node children) value = (child_for key children ≡ None) × (value ≡ None)
-
--- ---- chunks one below another
-
--- The first byte of a chunk.
-abbrev pub level_of : List ℕ → ℕ
-level_of chunk = slice_index chunk 0
-
 -- The chunk has the reference, and is one that can be read. It is bytes, as chunks in memory always
 -- are: lists of other numbers have references too, and for them two different ones with one
 -- reference are found by hand, so without this a clash would say nothing.
@@ -58,12 +42,16 @@ pub record IsNamed (version : Version) (reference chunk : List ℕ) : Type 0 whe
   pub is : reference_of chunk ≡ reference
   pub ordered : IsOrdered version chunk
 
--- The chunks lead a look-up of the key from the one reference to the other: each has the reference
--- at which the look-up goes on in the one before it.
-abbrev pub Lead : Version → List ℕ → List ℕ → List (List ℕ) → List ℕ → Type 0
-Lead version key from [] to = from ≡ to
-Lead version key from (chunk ∷ chunks) to = IsNamed version from chunk × (next : List ℕ) ×
-    LeadsOn key (kind_of version chunk) next × Lead version key next chunks to
+-- ---- chunks one below another
+
+-- The first byte of a chunk.
+abbrev pub level_of : List ℕ → ℕ
+level_of chunk = slice_index chunk 0
+
+-- The chunk stands one level below this one; it is the first, where there is none above.
+abbrev pub FallsTo : Option ℕ → List ℕ → Type 0
+FallsTo None chunk = Unit {0}
+FallsTo (Some above) chunk = above ≡ suc (level_of chunk)
 
 -- Each chunk stands one level below the one before it.
 abbrev pub LevelsFall : List (List ℕ) → Type 0
@@ -72,23 +60,45 @@ LevelsFall (chunk ∷ []) = Unit {0}
 LevelsFall (chunk ∷ below ∷ chunks) = (level_of chunk ≡ suc (level_of below)) ×
     LevelsFall (below ∷ chunks)
 
--- The chunks are the way of a look-up of the key from the root of this reference to its end, and
--- this is so of the entries where it ends.
-pub record IsWayTo (version : Version) (root key : List ℕ) (chunks : List (List ℕ))
-    (Ends : Entries → Type 0) : Type 0 where
+-- The chunks lead a look-up from the one reference, with what is sought there, to the other, with
+-- what is sought there: each has the reference at which it goes on in the one before it.
+abbrev pub Lead : Version → Sought → List ℕ → List (List ℕ) → List ℕ → Sought → Type 0
+Lead version sought from [] to there = (from ≡ to) × (sought ≡ there)
+Lead version sought from (chunk ∷ chunks) to there = IsNamed version from chunk ×
+    (reference : List ℕ) × (next : Sought) × LeadsOn sought (kind_of version chunk) reference next ×
+    Lead version next reference chunks to there
+
+-- The chunks are the way of a look-up from the root of this reference to its end, where `there` is
+-- sought in the last of them.
+pub record IsWayTo (version : Version) (root : List ℕ) (sought : Sought) (chunks : List (List ℕ))
+    : Type 0 where
   pub before : List (List ℕ)
   pub last : List ℕ
   pub reference : List ℕ
+  pub there : Sought
   pub are : chunks ≡ before ++ last ∷ []
-  pub lead : Lead version key root before reference
+  pub lead : Lead version sought root before reference there
   pub named : IsNamed version reference last
   pub down : LevelsFall chunks
-  pub ends : Ends (kind_of version last)
+  pub ends : EndsAt there (kind_of version last)
 
--- Such a way, where the look-up finds this value or none.
-abbrev pub IsWay : Version → List ℕ → List ℕ → List (List ℕ) → Option (List ℕ) → Type 0
-IsWay version root key chunks value =
-    IsWayTo version root key chunks (λ entries. EndsWith key entries value)
+-- The pair that is sought by a number among these.
+abbrev pub nth_sought : Sought → List Pair → Option Pair
+nth_sought (Key key) pairs = None
+nth_sought (Number n) pairs = nth pairs n
+
+-- The chunks are the way of a look-up of the key, which finds this value or none among the pairs of
+-- the last one. (A node holds no pairs.)
+pub record IsWay (version : Version) (root key : List ℕ) (chunks : List (List ℕ))
+    (value : Option (List ℕ)) : Type 0 where
+  pub way : IsWayTo version root (Key key) chunks
+  pub value_is : value ≡ find (pairs_held way.last) key
+
+-- The same of the pair of a number, or none. Only chunks of version Two have counts.
+pub record IsCountWay (root : List ℕ) (n : ℕ) (chunks : List (List ℕ)) (pair : Option Pair) : Type 0
+  where
+    pub way : IsWayTo Two root (Number n) chunks
+    pub pair_is : pair ≡ nth_sought way.there (pairs_held way.last)
 
 -- ---- what it proves
 
@@ -109,3 +119,11 @@ WaysAreRight = (version : Version) (bits : ℕ) (m : List Pair) (key : List ℕ)
     (chunks : List (List ℕ)) (value : Option (List ℕ)) → IsMap m → AllByRecursion IsPair m →
     IsWay version (root_reference (sha512_cut bits) version m) key chunks value →
     (value ≡ find m key) ⊎ Clash chunks (chunk_bytes version bits m)
+
+-- Law: so does who knows the reference of the root of a map of fewer than 2 ^ 64 pairs know the
+-- pair that the map has at the number.
+abbrev pub CountWaysAreRight : Type 0
+CountWaysAreRight = (bits : ℕ) (m : List Pair) (n : ℕ) (chunks : List (List ℕ))
+    (pair : Option Pair) → length m < 2 ^ 64 → IsMap m → AllByRecursion IsPair m →
+    IsCountWay (root_reference (sha512_cut bits) Two m) n chunks pair →
+    (pair ≡ nth m n) ⊎ Clash chunks (chunk_bytes Two bits m)

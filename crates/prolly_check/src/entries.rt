@@ -10,16 +10,15 @@ use prolly_entry::Version;
 
 /// The entries of a chunk that was tested, or those of them that are left.
 #[derive(Drop)]
-pub enum Entries<'a> {
+pub(crate) enum Entries<'a> {
     /// The pairs of a leaf.
     Leaf(Pairs<'a>),
     /// The children of a node.
     Node(Children<'a>),
 }
 
-/// The entries of a chunk that was tested, as by [`entries_in`](crate::entries_in). Takes no memory,
-/// and reads none of them yet.
-pub fn entries_of(version: Version, chunk: &[u8]) -> Entries<'_>
+/// The entries of a chunk that was tested. Takes no memory, and reads none of them yet.
+pub(crate) fn entries_of(version: Version, chunk: &[u8]) -> Entries<'_>
     requires { IsWhole version chunk.now }
     ensures { result ≡ kind_of version chunk.now }
 {
@@ -30,8 +29,9 @@ pub fn entries_of(version: Version, chunk: &[u8]) -> Entries<'_>
     Entries::Node(Children::new(version, entries))
 }
 
-/// The pairs of a chunk that was tested. A node has none.
-pub(crate) fn pairs_of(version: Version, chunk: &[u8]) -> Pairs<'_>
+/// The pairs of a chunk that was tested, as by [`test_chunk`](crate::test_chunk). A node has none.
+/// Takes no memory, and reads none of them yet.
+pub fn pairs_of(version: Version, chunk: &[u8]) -> Pairs<'_>
     requires { IsWhole version chunk.now }
     ensures { result ≡ pairs_held chunk.now }
 {

@@ -35,7 +35,7 @@ impl<'a> Model for FileChunks<'a> {
 }
 
 impl<'a> FileChunks<'a> {
-    ghost use Rattle.prolly_check.specs.Levels.{level_of};
+    ghost use Rattle.prolly_check.specs.Way.{level_of};
 
     /// The chunks that lie there. Takes no memory.
     pub(crate) fn new(version: Version, bytes: &'a [u8], spans: &'a [Span]) -> FileChunks<'a>

@@ -6,9 +6,8 @@ ghost use Rattle.prolly_check.specs.Descent.{StandsAtRoot, FirstEntry, StepsDown
 ghost use Rattle.prolly_check.specs.Descent.{RootIsTree, ChildIsTree, TopIsRead};
 ghost use Rattle.prolly_check.specs.Entries.{NoLeaf, NoNode};
 ghost use Rattle.prolly_check.specs.Verdict.{OneVerdict, AcceptsFiles};
-ghost use Rattle.prolly_check.specs.CountWay.{CountWaysAreRight};
 ghost use Rattle.prolly_check.specs.ScanWay.{ScansAreRight, ScansGoOn};
-ghost use Rattle.prolly_check.specs.Way.{WaysAreRight};
+ghost use Rattle.prolly_check.specs.Way.{CountWaysAreRight, WaysAreRight};
 
 /// Bytes have one verdict, and are accepted exactly where they are the file of a map.
 pub fn files_are_accepted()

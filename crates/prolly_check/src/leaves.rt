@@ -5,8 +5,8 @@ ghost use Rattle.prolly_check.specs.Leaves.{pairs_from};
 ghost use Rattle.prolly_tree.specs.Difference.{IsMap};
 
 use crate::file::CheckedFile;
-use crate::find::leaf_for;
 use crate::leaf::Pairs;
+use crate::look_up::{Sought, descend};
 use prolly_entry::key_order;
 use std::marker::Model;
 use std::mem;
@@ -53,21 +53,18 @@ impl<'a> Leaves<'a> {
         requires { HasFile file }
         ensures { result ≡ pairs_from from.now file.entry.pairs }
     {
-        let end = file.len();
-        match leaf_for(&file, from) {
-            Some(number) => {
-                let first = rest_from(file.pairs(number), from);
-                Leaves {
-                    file,
-                    first,
-                    number: number + 1,
-                }
-            }
-            None => Leaves {
-                file,
-                first: Pairs::new(&[]),
-                number: end,
-            },
+        let end = descend(&file, Sought::Key(from));
+        let first = rest_from(file.pairs(end.number), from);
+        // Where that leaf has none of them, the map has none.
+        let number = if first.is_empty() {
+            file.len()
+        } else {
+            end.number + 1
+        };
+        Leaves {
+            file,
+            first,
+            number,
         }
     }
 

@@ -7,8 +7,8 @@ ghost use Rattle.prolly_check.specs.Held.{pairs_held};
 ghost use Rattle.prolly_check.specs.Leaves.{pairs_from};
 
 use crate::file::CheckedFile;
-use crate::find::leaf_for;
 use crate::leaf::Pairs;
+use crate::look_up::{Sought, descend};
 use prolly_entry::{Pair, key_order};
 use std::alloc::{AllocError, Global};
 
@@ -100,8 +100,6 @@ pub(crate) fn scan_pairs(
 ) -> Result<Vec<Pair>, AllocError>
     ensures { IfOk result (λ pairs. pairs.items ≡ scan file.now.pairs from.now limit) }
 {
-    match leaf_for(file, from) {
-        Some(first) => scan_chunks(alloc, file, first, from, limit),
-        None => Ok(Vec::new(alloc)),
-    }
+    let end = descend(file, Sought::Key(from));
+    scan_chunks(alloc, file, end.number, from, limit)
 }

@@ -2,7 +2,7 @@
 use crate::expect::{expect_bytes, expect_eq};
 use prolly_entry::{Pair, Ref, Sha512Cut, Version};
 use prolly_file::{ScriptDevice, scratch_as};
-use prolly_proof::{Reader, RootFault, get_by_root, nth_by_root};
+use prolly_proof::{Reader, RootFault};
 use prolly_test_parts::{joined, pairs_of};
 use std::alloc::Global;
 use std::process::Abort;
@@ -67,16 +67,12 @@ pub(crate) fn look_up(
     rooted: &Rooted,
     sought: Sought,
 ) -> Result<Shown, RootFault> {
-    match sought {
-        Sought::Key(key) => {
-            let found = get_by_root(alloc, device, rooted.version, &rooted.root, key)?;
-            Ok((found.way.len(), found.value))
-        }
-        Sought::Number(n) => {
-            let found = nth_by_root(alloc, device, &rooted.root, n)?;
-            Ok((found.way.len(), joined_pair(alloc, found.pair)?))
-        }
-    }
+    let mut reader = open(alloc, device, rooted)?;
+    let found = match sought {
+        Sought::Key(key) => reader.get(alloc, device, key)?,
+        Sought::Number(n) => joined_pair(alloc, reader.nth(alloc, device, n)?)?,
+    };
+    Ok((reader.chunks(), found))
 }
 
 /// Fails unless this was found.

@@ -6,24 +6,25 @@ use Rattle.std.specs.List.{AllByRecursion}
 use Rattle.std.specs.Option.{option_to_list}
 use Rattle.std.proofs.lemmas.List.{map-append}
 use Rattle.prolly_check.specs.Content.{Content}
-use Rattle.prolly_check.specs.Way.{IsNamed, LevelsFall, level_of}
+use Rattle.prolly_check.specs.Sought.{Sought, sought_of}
+use Rattle.prolly_check.specs.Way.{FallsTo, IsNamed, Lead, LevelsFall, level_of}
+use Rattle.prolly_check.specs.declared.look_up.step.Due.{Due}
+use Rattle.prolly_check.specs.lemmas.Ways.{lead_more}
 use Rattle.prolly_entry.specs.declared.version.Version.{Version}
 use Rattle.prolly_file.specs.Device.{DeviceView}
 use Rattle.prolly_tree.specs.Tree.{bytes_of}
-use Rattle.prolly_proof.specs.Descents.{IsOnward, StandsAtTree, StepsDown, chunks_in}
-use Rattle.prolly_proof.specs.Faults.{FallsTo, last_level}
+use Rattle.prolly_proof.specs.Descents.{IsDescent, IsOnward, StandsAtTree, StepsDown, chunks_in}
+use Rattle.prolly_proof.specs.Descents.{levels_of}
+use Rattle.prolly_proof.specs.Faults.{last_level}
 use Rattle.prolly_proof.specs.Kept.{KeepsLevel}
-use Rattle.prolly_proof.specs.Sought.{Leads, LeadsToEnd}
 use Rattle.prolly_proof.specs.Walks.{HoldsFile, StaysSame}
-use Rattle.prolly_proof.specs.declared.level.Due.{Due}
+use Rattle.prolly_proof.specs.declared.descent.Descent.{Descent}
 use Rattle.prolly_proof.specs.declared.level.Level.{Level}
 use Rattle.prolly_proof.specs.declared.level.Onward.{Onward}
 use Rattle.prolly_proof.specs.declared.level.Onward.TheVariants.{End, Below}
 use Rattle.prolly_proof.specs.declared.place.Place.{Place}
 use Rattle.prolly_proof.specs.declared.root_fault.RootFault.{RootFault}
-use Rattle.prolly_proof.specs.declared.sought.Sought.{Sought}
 use Rattle.prolly_proof.proofs.GoingDown.{kept_is}
-use Rattle.prolly_proof.proofs.Seeking.{leads_more}
 use Rattle.prolly_proof.proofs.Walking.{holds_still, same_size}
 
 -- ---- the levels
@@ -41,12 +42,18 @@ falls_more (c ∷ []) chunk down falls = (falls, tt)
 falls_more (c ∷ d ∷ passed) chunk down falls =
     (down.0, falls_more (d ∷ passed) chunk down.1 falls)
 
+-- the chunks of those that were met, of which one more was kept
+pub one_more : (levels new : List Level) (level : Level) → new ≡ levels ++ level ∷ [] →
+    chunks_in new ≡ chunks_in levels ++ level.chunk.items ∷ []
+one_more levels new level kept = ap chunks_in kept ∙
+    map-append (λ level. level.chunk.items) levels (level ∷ [])
+
 -- ---- where a look-up stands
 
 -- these chunks led it to the one that is due
 pub record Descended (version : Version) (root : List ℕ) (sought : Sought)
     (passed : List (List ℕ)) (due : Due) : Type 0 where
-  pub lead : Leads version sought root passed due.reference.0 due.sought
+  pub lead : Lead version sought root passed due.reference.0 (sought_of due.sought)
   pub down : LevelsFall passed
   pub above : due.above ≡ last_level passed
 
@@ -56,7 +63,7 @@ room_below None = 256
 room_below (Some level) = level
 
 pub begins : (version : Version) (root : List ℕ) (sought : Sought) (due : Due) →
-    root ≡ due.reference.0 → due.above ≡ None → sought ≡ due.sought →
+    root ≡ due.reference.0 → due.above ≡ None → sought ≡ sought_of due.sought →
     Descended version root sought [] due
 begins version root sought due reference above same =
     record { lead = (reference, same); down = tt; above = above }
@@ -64,36 +71,44 @@ begins version root sought due reference above same =
 module _ (version : Version) (root : List ℕ) (sought : Sought) (passed : List (List ℕ)) (due : Due)
     (d : Descended version root sought passed due) (chunk : List ℕ)
     (named : IsNamed version due.reference.0 chunk) (falls : FallsTo due.above chunk)
-    (step : Onward) (is : IsOnward version due.sought chunk step) where
+    (step : Onward) (is : IsOnward version (sought_of due.sought) chunk step) where
   down : LevelsFall (passed ++ chunk ∷ [])
   down = falls_more passed chunk d.down (subst (λ l. FallsTo l chunk) d.above falls)
 
-  pub ends_here : step ≡ End → LeadsToEnd version root sought passed chunk due.sought
-  ends_here e = record {
-    reference = due.reference.0;
-    lead = d.lead;
-    named = named;
-    down = down;
-    ends = subst (IsOnward version due.sought chunk) e is;
-  }
+  pub ends_here : (descent : Descent) → step ≡ End → chunks_in descent.above.items ≡ passed →
+      descent.last.chunk.items ≡ chunk → descent.sought ≡ due.sought →
+      IsDescent version root sought descent
+  ends_here descent e above last there =
+      let all : chunks_in (levels_of descent) ≡ passed ++ chunk ∷ [] =
+      one_more descent.above.items (levels_of descent) descent.last refl ∙
+      ap (λ cs. cs ++ descent.last.chunk.items ∷ []) above ∙ ap (λ c. passed ++ c ∷ []) last in
+      record {
+        way = record {
+          before = passed;
+          last = chunk;
+          reference = due.reference.0;
+          there = sought_of due.sought;
+          are = all;
+          lead = d.lead;
+          named = named;
+          down = subst LevelsFall (sym all) down;
+          ends = subst (IsOnward version (sought_of due.sought) chunk) e is;
+        };
+        last = sym last;
+        there = ap sought_of (sym there);
+      }
 
   pub goes_on : (next : Due) (there : Place) → step ≡ Below next there →
       Descended version root sought (passed ++ chunk ∷ []) next
   goes_on next there e =
-      let on : IsOnward version due.sought chunk (Below next there) =
-      subst (IsOnward version due.sought chunk) e is in
+      let on : IsOnward version (sought_of due.sought) chunk (Below next there) =
+      subst (IsOnward version (sought_of due.sought) chunk) e is in
       record {
-        lead = leads_more version sought root passed due.reference.0 due.sought chunk
-            next.reference.0 next.sought d.lead named on.0;
+        lead = lead_more version sought root passed due.reference.0 (sought_of due.sought) chunk
+            next.reference.0 (sought_of next.sought) d.lead named on.0;
         down = down;
         above = on.1 ∙ sym (last_more passed chunk);
       }
-
--- the chunks of those that were met, of which one more was kept
-pub one_more : (levels new : List Level) (level : Level) → new ≡ levels ++ level ∷ [] →
-    chunks_in new ≡ chunks_in levels ++ level.chunk.items ∷ []
-one_more levels new level kept = ap chunks_in kept ∙
-    map-append (λ level. level.chunk.items) levels (level ∷ [])
 
 -- ---- in a lawful file
 

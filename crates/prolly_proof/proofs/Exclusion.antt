@@ -10,21 +10,30 @@ use Rattle.std.proofs.lemmas.List.{length-append}
 use Rattle.std.specs.List.{AllByRecursion, flat_map}
 use Rattle.prolly_check.specs.Frames.{has_no_frame, IsSmall}
 use Rattle.prolly_check.specs.Kinds.{kind_of}
-use Rattle.prolly_check.specs.Way.{EndsWith, IsNamed, Lead, LeadsOn, LevelsFall}
+use Rattle.prolly_check.specs.Held.{pairs_held}
+use Rattle.prolly_check.specs.Sought.{Sought, EndsAt, LeadsOn}
+use Rattle.prolly_check.specs.Sought.Sought.{Key}
+use Rattle.prolly_check.specs.Steps.{IsFlawed}
+use Rattle.prolly_check.specs.Way.{FallsTo, IsNamed, Lead, LevelsFall}
+use Rattle.prolly_check.specs.declared.look_up.step.ChunkFlaw.{ChunkFlaw}
+use Rattle.prolly_check.specs.declared.look_up.step.ChunkFlaw.TheVariants.{Entries, Level, Order}
+use Rattle.prolly_check.specs.declared.look_up.step.ChunkFlaw.TheVariants.{Reference}
 use Rattle.prolly_check.specs.lemmas.Frames.{begins_frame, one_front}
-use Rattle.prolly_check.specs.lemmas.Ways.{no_way_on, one_value, one_way_on}
+use Rattle.prolly_check.specs.lemmas.Ways.{no_way_on, one_way_on}
 use Rattle.prolly_entry.specs.declared.version.Version.{Version}
 use Rattle.prolly_entry.specs.declared.version.Version.TheVariants.{One, Two}
 use Rattle.prolly_entry.specs.lemmas.Lists.{all_back, all_front}
 use Rattle.prolly_file.specs.Frame.{framed}
-use Rattle.prolly_proof.specs.Faults.{EndsWithin, FallsTo, HasPassed}
-use Rattle.prolly_proof.specs.Faults.{IsChunkFault, IsFault, IsFrameFault, IsStartFault}
+use Rattle.prolly_tree.specs.LookUp.{find}
+use Rattle.prolly_proof.specs.Faults.{EndsWithin, HasPassed, IsFault, IsFrameFault, IsStartFault}
 use Rattle.prolly_proof.specs.Faults.{IsWrongChunk, last_level}
 use Rattle.prolly_proof.specs.ProofFile.{IsProof, ProofsSayOne, proof_file, proof_start}
 use Rattle.prolly_proof.specs.declared.fault.ProofFault.{ProofFault}
 use Rattle.prolly_proof.specs.declared.fault.ProofFault.TheVariants.{Header, Truncated, Frame}
 use Rattle.prolly_proof.specs.declared.fault.ProofFault.TheVariants.{Version as OtherVersion}
-use Rattle.prolly_proof.specs.declared.fault.ProofFault.TheVariants.{Reference, Chunk, Level}
+use Rattle.prolly_proof.specs.declared.fault.ProofFault.TheVariants.{Chunk}
+use Rattle.prolly_proof.specs.declared.fault.ProofFault.TheVariants.{Level as BadLevel}
+use Rattle.prolly_proof.specs.declared.fault.ProofFault.TheVariants.{Reference as BadReference}
 use Rattle.prolly_proof.specs.declared.fault.ProofFault.TheVariants.{KeysOutOfOrder, Trailing}
 
 behind_start : (version : Version) (x y : List ℕ) →
@@ -56,27 +65,38 @@ last_apart start before last follows =
     ap (λ x. x ++ follows) (sym (append_assoc start front (framed last))) ∙
     append_assoc (start ++ front) (framed last) follows
 
+last_same : (xs ys : List (List ℕ)) (x y : List ℕ) → xs ++ x ∷ [] ≡ ys ++ y ∷ [] → x ≡ y
+last_same [] [] x y e = cc
+last_same [] (b ∷ []) x y e = cc
+last_same [] (b ∷ c ∷ ys) x y e = cc
+last_same (a ∷ []) [] x y e = cc
+last_same (a ∷ c ∷ xs) [] x y e = cc
+last_same (a ∷ xs) (b ∷ ys) x y e = last_same xs ys x y cc
+
 -- ---- the chunk behind those that were passed
 
-module _ (version : Version) (key : List ℕ) (value : Option (List ℕ)) where
+module _ (version : Version) where
   -- the look-up ends at the chunk, behind which there is no other, or goes on
-  abbrev Then : List ℕ → List (List ℕ) → Type 0
-  Then chunk more = ((more ≡ []) × EndsWith key (kind_of version chunk) value) ⊎
-      ((next : List ℕ) × LeadsOn key (kind_of version chunk) next)
+  abbrev Then : Sought → List ℕ → List (List ℕ) → Type 0
+  Then sought chunk more = ((more ≡ []) × EndsAt sought (kind_of version chunk)) ⊎
+      ((reference : List ℕ) × (next : Sought) ×
+      LeadsOn sought (kind_of version chunk) reference next)
 
   -- the chunk whose frame begins the rest, behind those of the chunks that were passed
-  pub record Due (chunks passed : List (List ℕ)) (due rest : List ℕ) : Type 0 where
+  pub record DueChunk (chunks passed : List (List ℕ)) (due : List ℕ) (there : Sought)
+      (rest : List ℕ) : Type 0 where
     pub chunk : List ℕ
     pub more : List (List ℕ)
     pub are : chunks ≡ passed ++ chunk ∷ more
     pub small : IsSmall chunk
     pub is : rest ≡ framed chunk ++ flat_map framed more
     pub named : IsNamed version due chunk
-    pub then : Then chunk more
+    pub then : Then there chunk more
 
-  further : (p : List ℕ) (chunks passed : List (List ℕ)) (due rest : List ℕ) →
-      Due chunks passed due rest → Due (p ∷ chunks) (p ∷ passed) due rest
-  further p chunks passed due rest d = record {
+  further : (p : List ℕ) (chunks passed : List (List ℕ)) (due : List ℕ) (there : Sought)
+      (rest : List ℕ) → DueChunk chunks passed due there rest →
+      DueChunk (p ∷ chunks) (p ∷ passed) due there rest
+  further p chunks passed due there rest d = record {
     chunk = d.chunk;
     more = d.more;
     are = ap (λ x. p ∷ x) d.are;
@@ -86,58 +106,62 @@ module _ (version : Version) (key : List ℕ) (value : Option (List ℕ)) where
     then = d.then;
   }
 
-  due_at : (passed before : List (List ℕ)) (last reference due rest from : List ℕ) →
-      AllByRecursion IsSmall passed → AllByRecursion IsSmall (before ++ last ∷ []) →
-      flat_map framed passed ++ rest ≡ flat_map framed (before ++ last ∷ []) →
-      Lead version key from passed due → Lead version key from before reference →
-      IsNamed version reference last → EndsWith key (kind_of version last) value →
-      Due (before ++ last ∷ []) passed due rest
-  due_at [] [] last reference due rest from small all e lead to named ends = record {
-    chunk = last;
-    more = [];
-    are = refl;
-    small = all.0;
-    is = e;
-    named = subst (λ r. IsNamed version r last) (sym to ∙ lead) named;
-    then = inl (refl, ends);
-  }
-  due_at [] (b ∷ before) last reference due rest from small all e lead to named ends = record {
-    chunk = b;
-    more = before ++ last ∷ [];
-    are = refl;
-    small = all.0;
-    is = e;
-    named = subst (λ r. IsNamed version r b) lead to.0;
-    then = inr (to.1, to.2);
-  }
-  due_at (p ∷ passed) [] last reference due rest from small all e lead to named ends =
-      let one = one_front p last (flat_map framed passed ++ rest) [] small.0 all.0
-      (sym (regroup p passed rest) ∙ e) in
-      absurd (no_way_on key (kind_of version last) value lead.1 ends
-      (subst (λ c. LeadsOn key (kind_of version c) lead.1) one.front lead.2))
-  due_at (p ∷ passed) (b ∷ before) last reference due rest from small all e lead to named ends =
-      let one = one_front p b (flat_map framed passed ++ rest)
-      (flat_map framed (before ++ last ∷ [])) small.0 all.0 (sym (regroup p passed rest) ∙ e) in
-      let same : lead.1 ≡ to.1 = one_way_on key (kind_of version b) lead.1 to.1
-      (subst (λ c. LeadsOn key (kind_of version c) lead.1) one.front lead.2) to.2 in
-      subst (λ c. Due (c ∷ (before ++ last ∷ [])) (p ∷ passed) due rest) one.front
-      (further p (before ++ last ∷ []) passed due rest
-      (due_at passed before last reference due rest lead.1 small.1 all.1 one.rest lead.3
-      (subst (λ r. Lead version key r before reference) (sym same) to.3) named ends))
+  module _ (last reference : List ℕ) (end : Sought) (named : IsNamed version reference last)
+      (ends : EndsAt end (kind_of version last)) where
+    due_at : (passed before : List (List ℕ)) (due rest from : List ℕ) (sought there : Sought) →
+        AllByRecursion IsSmall passed → AllByRecursion IsSmall (before ++ last ∷ []) →
+        flat_map framed passed ++ rest ≡ flat_map framed (before ++ last ∷ []) →
+        Lead version sought from passed due there → Lead version sought from before reference end →
+        DueChunk (before ++ last ∷ []) passed due there rest
+    due_at [] [] due rest from sought there small all e lead to = record {
+      chunk = last;
+      more = [];
+      are = refl;
+      small = all.0;
+      is = e;
+      named = subst (λ r. IsNamed version r last) (sym to.0 ∙ lead.0) named;
+      then = inl (refl, subst (λ s. EndsAt s (kind_of version last)) (sym to.1 ∙ lead.1) ends);
+    }
+    due_at [] (b ∷ before) due rest from sought there small all e lead to = record {
+      chunk = b;
+      more = before ++ last ∷ [];
+      are = refl;
+      small = all.0;
+      is = e;
+      named = subst (λ r. IsNamed version r b) lead.0 to.0;
+      then = inr (to.1, to.2, subst (λ s. LeadsOn s (kind_of version b) to.1 to.2) lead.1 to.3);
+    }
+    due_at (p ∷ passed) [] due rest from sought there small all e lead to =
+        let one = one_front p last (flat_map framed passed ++ rest) [] small.0 all.0
+        (sym (regroup p passed rest) ∙ e) in
+        absurd (no_way_on sought (kind_of version last) lead.1 lead.2
+        (subst (λ s. EndsAt s (kind_of version last)) (sym to.1) ends)
+        (subst (λ c. LeadsOn sought (kind_of version c) lead.1 lead.2) one.front lead.3))
+    due_at (p ∷ passed) (b ∷ before) due rest from sought there small all e lead to =
+        let one = one_front p b (flat_map framed passed ++ rest)
+        (flat_map framed (before ++ last ∷ [])) small.0 all.0 (sym (regroup p passed rest) ∙ e) in
+        let same = one_way_on sought (kind_of version b) (lead.1, lead.2) (to.1, to.2)
+        (subst (λ c. LeadsOn sought (kind_of version c) lead.1 lead.2) one.front lead.3) to.3 in
+        subst (λ c. DueChunk (c ∷ (before ++ last ∷ [])) (p ∷ passed) due there rest) one.front
+        (further p (before ++ last ∷ []) passed due there rest
+        (due_at passed before due rest lead.1 lead.2 there small.1 all.1 one.rest lead.4
+        (subst (λ x. Lead version x.1 x.0 before reference end) (sym same) to.4)))
 
 module _ (version : Version) (root key bytes : List ℕ) (value : Option (List ℕ))
     (p : IsProof version root key bytes value) where
   -- where a proof's first chunks were passed, the next is due
-  pub due_in : (passed : List (List ℕ)) (due rest : List ℕ) →
-      HasPassed version root key bytes passed due rest →
-      Due version key value p.chunks passed due rest
-  due_in passed due rest h = subst (λ cs. Due version key value cs passed due rest)
-      (sym p.way.are) (due_at version key value passed p.way.before p.way.last p.way.reference due
-      rest root h.small (subst (AllByRecursion IsSmall) p.way.are p.small)
+  pub due_in : (passed : List (List ℕ)) (due rest : List ℕ)
+      (h : HasPassed version root key bytes passed due rest) →
+      DueChunk version p.chunks passed due h.there rest
+  due_in passed due rest h =
+      let way = p.way.way in
+      subst (λ cs. DueChunk version cs passed due h.there rest) (sym way.are)
+      (due_at version way.last way.reference way.there way.named way.ends passed way.before due
+      rest root (Key key) h.there h.small (subst (AllByRecursion IsSmall) way.are p.small)
       (behind_start version (flat_map framed passed ++ rest)
-      (flat_map framed (p.way.before ++ p.way.last ∷ []))
+      (flat_map framed (way.before ++ way.last ∷ []))
       (sym (append_assoc (proof_start version) (flat_map framed passed) rest) ∙ sym h.is ∙ p.is ∙
-      ap (proof_file version) p.way.are)) h.lead p.way.lead p.way.named p.way.ends)
+      ap (proof_file version) way.are)) h.lead way.lead)
 
   -- ---- each fault
 
@@ -162,48 +186,43 @@ module _ (version : Version) (root key bytes : List ℕ) (value : Option (List �
       (flat_map framed p.chunks) (sym h.begins.is ∙ p.is))
   start_fine Truncated h = no_end_within h
   start_fine (Frame n) h = h
-  start_fine (Reference n) h = h
+  start_fine (BadReference n) h = h
   start_fine (Chunk n) h = h
   start_fine (KeysOutOfOrder n) h = h
-  start_fine (Level n) h = h
+  start_fine (BadLevel n) h = h
   start_fine Trailing h = h
 
-  frame_there : (passed : List (List ℕ)) (due rest : List ℕ) (number : ℕ) (fault : ProofFault) →
-      Due version key value p.chunks passed due rest → IsFrameFault number rest fault → ⊥
-  frame_there passed due rest number Truncated d h = false≢true
+  frame_there : (passed : List (List ℕ)) (due : List ℕ) (there : Sought) (rest : List ℕ)
+      (number : ℕ) (fault : ProofFault) → DueChunk version p.chunks passed due there rest →
+      IsFrameFault number rest fault → ⊥
+  frame_there passed due there rest number Truncated d h = false≢true
       (sym (begins_frame d.chunk (flat_map framed d.more) d.small) ∙
       ap has_no_frame (sym d.is) ∙ h.1)
-  frame_there passed due rest number (Frame n) d h = h.2 (record { rest = _; is = d.is })
-  frame_there passed due rest number Header d h = h
-  frame_there passed due rest number OtherVersion d h = h
-  frame_there passed due rest number (Reference n) d h = h
-  frame_there passed due rest number (Chunk n) d h = h
-  frame_there passed due rest number (KeysOutOfOrder n) d h = h
-  frame_there passed due rest number (Level n) d h = h
-  frame_there passed due rest number Trailing d h = h
+  frame_there passed due there rest number (Frame n) d h = h.2 (record { rest = _; is = d.is })
+  frame_there passed due there rest number Header d h = h
+  frame_there passed due there rest number OtherVersion d h = h
+  frame_there passed due there rest number (BadReference n) d h = h
+  frame_there passed due there rest number (Chunk n) d h = h
+  frame_there passed due there rest number (KeysOutOfOrder n) d h = h
+  frame_there passed due there rest number (BadLevel n) d h = h
+  frame_there passed due there rest number Trailing d h = h
 
-  chunk_fine : (chunk due : List ℕ) (above : Option ℕ) (number : ℕ) (fault : ProofFault) →
-      IsNamed version due chunk → FallsTo above chunk →
-      IsChunkFault version due above chunk number fault → ⊥
-  chunk_fine chunk due above number (Reference n) named falls h = h.1 named.is
-  chunk_fine chunk due above number (Chunk n) named falls h =
-      h.2 named.ordered.whole.pairs named.ordered.whole.holds
-  chunk_fine chunk due above number (KeysOutOfOrder n) named falls h = h.2.1 named.ordered.rising
-  chunk_fine chunk due above number (Level n) named falls h = h.2 falls
-  chunk_fine chunk due above number Header named falls h = h
-  chunk_fine chunk due above number OtherVersion named falls h = h
-  chunk_fine chunk due above number Truncated named falls h = h
-  chunk_fine chunk due above number (Frame n) named falls h = h
-  chunk_fine chunk due above number Trailing named falls h = h
+  chunk_fine : (chunk due : List ℕ) (above : Option ℕ) (flaw : ChunkFlaw) →
+      IsNamed version due chunk → FallsTo above chunk → IsFlawed version due above chunk flaw → ⊥
+  chunk_fine chunk due above Reference named falls h = h named.is
+  chunk_fine chunk due above Entries named falls h =
+      h.1 named.ordered.whole.pairs named.ordered.whole.holds
+  chunk_fine chunk due above Order named falls h = h.2 named.ordered.rising
+  chunk_fine chunk due above Level named falls h = h.1 falls
 
   chunk_there : (fault : ProofFault) → IsWrongChunk version root key bytes fault → ⊥
   chunk_there fault w =
       let d = due_in w.passed w.due (framed w.chunk ++ w.rest) w.has in
       let one = one_front w.chunk d.chunk w.rest (flat_map framed d.more) w.small d.small d.is in
-      chunk_fine w.chunk w.due (last_level w.passed) (length w.passed) fault
+      chunk_fine w.chunk w.due (last_level w.passed) w.is.flaw
       (subst (IsNamed version w.due) (sym one.front) d.named)
       (subst (FallsTo (last_level w.passed)) (sym one.front)
-      (falls_at w.passed d.chunk d.more (subst LevelsFall d.are p.way.down))) w.is
+      (falls_at w.passed d.chunk d.more (subst LevelsFall d.are p.way.way.down))) w.is.so
 
   -- ---- a proof that goes on behind another, or says another thing
 
@@ -215,44 +234,51 @@ module _ (version : Version) (root key bytes : List ℕ) (value : Option (List �
   ended : (proof follows : List ℕ) (other : Option (List ℕ)) → bytes ≡ proof ++ follows →
       IsProof version root key proof other → Ended other follows
   ended proof follows other e q =
-      let way = q.way in
+      let way = q.way.way in
       let all = subst (AllByRecursion IsSmall) way.are q.small in
       let rest = framed way.last ++ follows in
       let d = due_in way.before way.reference rest passed_in in
       let one = one_front way.last d.chunk follows (flat_map framed d.more)
       (last_small way.before way.last all) d.small d.is in
-      at_last follows d.more one.rest other way.last
-      (subst (λ c. Then version key value c d.more) (sym one.front) d.then) way.ends
+      at_last d.more d.chunk one.rest one.front d.are
+      (subst (λ c. Then version way.there c d.more) (sym one.front) d.then)
     where
       last_small : (before : List (List ℕ)) (last : List ℕ) →
           AllByRecursion IsSmall (before ++ last ∷ []) → IsSmall last
       last_small before last all = (all_back IsSmall before (last ∷ []) all).0
 
-      passed_in : HasPassed version root key bytes q.way.before q.way.reference
-          (framed q.way.last ++ follows)
-      passed_in = record {
-        small = all_front IsSmall q.way.before (q.way.last ∷ [])
-            (subst (AllByRecursion IsSmall) q.way.are q.small);
-        is = e ∙ ap (λ x. x ++ follows) (q.is ∙ ap (proof_file version) q.way.are) ∙
-            last_apart (proof_start version) q.way.before q.way.last follows;
-        lead = q.way.lead;
-        down = falls_front q.way.before (q.way.last ∷ [])
-            (subst LevelsFall q.way.are q.way.down);
-      }
+      passed_in : HasPassed version root key bytes q.way.way.before q.way.way.reference
+          (framed q.way.way.last ++ follows)
+      passed_in =
+          let way = q.way.way in
+          record {
+            there = way.there;
+            small = all_front IsSmall way.before (way.last ∷ [])
+                (subst (AllByRecursion IsSmall) way.are q.small);
+            is = e ∙ ap (λ x. x ++ follows) (q.is ∙ ap (proof_file version) way.are) ∙
+                last_apart (proof_start version) way.before way.last follows;
+            lead = way.lead;
+            down = falls_front way.before (way.last ∷ []) (subst LevelsFall way.are way.down);
+          }
 
-      at_last : (follows : List ℕ) (more : List (List ℕ)) → follows ≡ flat_map framed more →
-          (other : Option (List ℕ)) (last : List ℕ) → Then version key value last more →
-          EndsWith key (kind_of version last) other → Ended other follows
-      at_last follows more e other last (inl h) ends = record {
-        none = e ∙ ap (flat_map framed) h.0;
-        same = one_value key (kind_of version last) value other h.1 ends;
+      at_last : (more : List (List ℕ)) (chunk : List ℕ) → follows ≡ flat_map framed more →
+          q.way.way.last ≡ chunk → p.chunks ≡ q.way.way.before ++ chunk ∷ more →
+          Then version q.way.way.there q.way.way.last more → Ended other follows
+      at_last more chunk rest front are (inl h) = record {
+        none = rest ∙ ap (flat_map framed) h.0;
+        same = p.way.value_is ∙ ap (λ c. find (pairs_held c) key)
+            (last_same p.way.way.before q.way.way.before p.way.way.last chunk
+            (sym p.way.way.are ∙ are ∙ ap (λ more. q.way.way.before ++ chunk ∷ more) h.0) ∙
+            sym front) ∙ sym q.way.value_is;
       }
-      at_last follows more e other last (inr h) ends =
-          absurd (no_way_on key (kind_of version last) other h.0 ends h.1)
+      at_last more chunk rest front are (inr h) =
+          absurd (no_way_on q.way.way.there (kind_of version q.way.way.last) h.0 h.1
+          q.way.way.ends h.2)
 
   pub excluded : (fault : ProofFault) → IsFault version root key bytes fault → ⊥
   excluded fault (inl h) = start_fine fault h
-  excluded fault (inr (inl h)) = frame_there h.passed h.due h.rest (length h.passed) fault
+  excluded fault (inr (inl h)) = frame_there h.passed h.due h.has.there h.rest (length h.passed)
+      fault
       (due_in h.passed h.due h.rest h.has) h.is
   excluded fault (inr (inr (inl h))) = chunk_there fault h
   excluded fault (inr (inr (inr h))) =

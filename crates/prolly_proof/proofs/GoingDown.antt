@@ -13,7 +13,7 @@ use Rattle.prolly_check.specs.Descent.{entries_below}
 use Rattle.prolly_check.specs.Entries.{Child}
 use Rattle.prolly_check.specs.Kinds.{kind_of}
 use Rattle.prolly_check.specs.Verdict.{IsFileOf}
-use Rattle.prolly_check.specs.Way.{IsOrdered, level_of}
+use Rattle.prolly_check.specs.Way.{FallsTo, IsOrdered, level_of}
 use Rattle.prolly_check.specs.declared.entries.Entries.{Entries}
 use Rattle.prolly_check.specs.declared.entries.Entries.TheVariants.{Node}
 use Rattle.prolly_entry.specs.Cut.{sha512_cut}
@@ -26,11 +26,10 @@ use Rattle.prolly_tree.specs.File.{root_reference}
 use Rattle.prolly_tree.specs.Tree.{Tree, bytes_of, tree_of}
 use Rattle.prolly_proof.specs.Descents.{GoesAmong, IsPlaceOf, LeadsAmong, LeadsToOne}
 use Rattle.prolly_proof.specs.Descents.{StandsAtTree, StepsDown, chunks_of_trees}
-use Rattle.prolly_proof.specs.Faults.{FallsTo}
 use Rattle.prolly_proof.specs.Kept.{KeepsLevel}
 use Rattle.prolly_proof.specs.Walks.{IsFrameOf, StandsBehind}
 use Rattle.prolly_proof.specs.Walks.{chunks_below, chunks_of_tree, place_behind}
-use Rattle.prolly_proof.specs.declared.level.Due.{Due}
+use Rattle.prolly_check.specs.declared.look_up.step.Due.{Due}
 use Rattle.prolly_proof.specs.declared.level.Level.{Level}
 use Rattle.prolly_proof.specs.declared.level.Onward.{Onward}
 use Rattle.prolly_proof.specs.declared.level.Onward.TheVariants.{End, Below}

@@ -14,14 +14,13 @@ use Rattle.prolly_tree.specs.Chunk.{post_order}
 use Rattle.prolly_tree.specs.Tree.{Tree}
 use Rattle.prolly_proof.specs.Descents.{GoesAmong, IsPlaceOf, chunks_of_trees}
 use Rattle.prolly_proof.specs.Kept.{IsPlaceAmong, IsReached, StandsAmong}
-use Rattle.prolly_proof.specs.Sought.{IsChildSought}
+use Rattle.prolly_check.specs.Sought.{Sought, IsChildSought}
 use Rattle.prolly_proof.specs.Walks.{GoesOverTree, OnlyRead, StandsBehind, chunks_of_tree}
-use Rattle.prolly_proof.specs.declared.level.Due.{Due}
+use Rattle.prolly_check.specs.declared.look_up.step.Due.{Due}
 use Rattle.prolly_proof.specs.declared.level.Onward.TheVariants.{Below}
 use Rattle.prolly_proof.specs.declared.place.Place.{Place}
 use Rattle.prolly_proof.specs.declared.root_fault.RootFault.{RootFault}
-use Rattle.prolly_proof.specs.declared.sought.ChildSought.{ChildSought}
-use Rattle.prolly_proof.specs.declared.sought.Sought.{Sought}
+use Rattle.prolly_check.specs.declared.look_up.sought.ChildSought.{ChildSought}
 use Rattle.prolly_proof.specs.declared.walk.Frame.{Frame}
 use Rattle.prolly_proof.specs.declared.walk.Walk.{Walk}
 

@@ -8,8 +8,6 @@ pub mod Exclusion
 pub mod Rightness
 -- Appending the frames of chunks one after another.
 pub mod Appending
--- What leads a look-up by a root, in the words of each kind of look-up.
-pub mod Seeking
 -- Going down from the root, from each chunk to the one that it refers to.
 pub mod Descending
 -- Going over the frames of a file.
@@ -18,5 +16,3 @@ pub mod Walking
 pub mod GoingDown
 -- What is kept of the frames below a chunk.
 pub mod Keeping
--- Going on among the children of a node from where a look-up came to before.
-pub mod Marks

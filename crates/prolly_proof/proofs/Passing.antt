@@ -10,18 +10,22 @@ use Rattle.std.specs.Int.{w64, to_be_bytes}
 use Rattle.std.specs.List.{AllByRecursion, flat_map}
 use Rattle.prolly_check.specs.Frames.{IsSmall}
 use Rattle.prolly_check.specs.Kinds.{kind_of}
-use Rattle.prolly_check.specs.Way.{EndsWith, IsNamed, Lead, LeadsOn, LevelsFall, level_of}
+use Rattle.prolly_check.specs.Held.{pairs_held}
+use Rattle.prolly_check.specs.Sought.{EndsAt, LeadsOn, sought_of}
+use Rattle.prolly_check.specs.Sought.Sought.{Key}
+use Rattle.prolly_check.specs.Way.{FallsTo, IsNamed, Lead, LevelsFall, level_of}
+use Rattle.prolly_check.specs.declared.look_up.step.Due.{Due}
 use Rattle.prolly_check.specs.lemmas.Ways.{lead_more}
 use Rattle.prolly_entry.specs.declared.version.Version.{Version}
 use Rattle.prolly_entry.specs.lemmas.Lists.{all_append}
 use Rattle.prolly_file.specs.Frame.{framed}
-use Rattle.prolly_proof.specs.Faults.{FallsTo, HasPassed, IsChunkFault, IsFault, IsFrameFault}
+use Rattle.prolly_proof.specs.Faults.{HasPassed, IsChunkFault, IsFault, IsFrameFault}
 use Rattle.prolly_proof.specs.Faults.{HasMore, last_level}
 use Rattle.prolly_proof.proofs.Descending.{falls_more, last_more}
 use Rattle.prolly_proof.specs.ProofFile.{IsProof, proof_file, proof_start}
 use Rattle.prolly_proof.specs.declared.fault.ProofFault.{ProofFault}
 use Rattle.prolly_proof.specs.declared.fault.ProofFault.TheVariants.{Trailing}
-use Rattle.prolly_proof.specs.declared.verifier.Awaited.{Awaited}
+use Rattle.prolly_tree.specs.LookUp.{find}
 
 -- ---- what is left
 
@@ -34,40 +38,41 @@ some_left xs r e h none = false≢true (sym h ∙ e ∙ ap (λ ys. length ys == 
 
 -- ---- where the reading stands
 
--- some chunks were read and lead to the awaited one, whose frame is due at the rest
-pub record Stands (version : Version) (root key chunks : List ℕ) (awaited : Awaited)
+-- some chunks were read and lead to the one that is due, whose frame comes next in the rest
+pub record Stands (version : Version) (root key chunks : List ℕ) (due : Due) (count : ℕ)
     (rest : List ℕ) : Type 0 where
   pub passed : List (List ℕ)
   pub small : AllByRecursion IsSmall passed
   pub is : chunks ≡ flat_map framed passed ++ rest
-  pub lead : Lead version key root passed awaited.reference.0
+  pub lead : Lead version (Key key) root passed due.reference.0 (sought_of due.sought)
   pub down : LevelsFall passed
-  pub above : awaited.above ≡ last_level passed
-  pub number : awaited.number ≡ length passed
-  pub few : awaited.number + length rest ≤ length chunks
+  pub above : due.above ≡ last_level passed
+  pub number : count ≡ length passed
+  pub few : count + length rest ≤ length chunks
 
-pub begins : (version : Version) (root key chunks : List ℕ) (awaited : Awaited) →
-    root ≡ awaited.reference.0 → awaited.above ≡ None → awaited.number ≡ 0 →
-    Stands version root key chunks awaited chunks
-begins version root key chunks awaited reference above number = record {
+pub begins : (version : Version) (root key chunks : List ℕ) (due : Due) (count : ℕ) →
+    root ≡ due.reference.0 → due.above ≡ None → sought_of due.sought ≡ Key key → count ≡ 0 →
+    Stands version root key chunks due count chunks
+begins version root key chunks due count reference above sought number = record {
   passed = [];
   small = tt;
   is = refl;
-  lead = reference;
+  lead = (reference, sym sought);
   down = tt;
   above = above;
   number = number;
-  few = omega arith;
+  few = omega (arith, number);
 }
 
-module _ (version : Version) (root key chunks : List ℕ) (awaited : Awaited) (rest : List ℕ)
-    (s : Stands version root key chunks awaited rest) where
+module _ (version : Version) (root key chunks : List ℕ) (due : Due) (count : ℕ) (rest : List ℕ)
+    (s : Stands version root key chunks due count rest) where
   abbrev bytes : List ℕ
   bytes = proof_start version ++ chunks
 
   has_passed : (left : List ℕ) → rest ≡ left →
-      HasPassed version root key bytes s.passed awaited.reference.0 left
+      HasPassed version root key bytes s.passed due.reference.0 left
   has_passed left e = record {
+    there = sought_of due.sought;
     small = s.small;
     is = ap (λ x. proof_start version ++ x) (s.is ∙ ap (λ x. flat_map framed s.passed ++ x) e) ∙
         sym (append_assoc (proof_start version) (flat_map framed s.passed) left);
@@ -75,11 +80,11 @@ module _ (version : Version) (root key chunks : List ℕ) (awaited : Awaited) (r
     down = s.down;
   }
 
-  pub no_frame : (fault : ProofFault) → IsFrameFault awaited.number rest fault →
+  pub no_frame : (fault : ProofFault) → IsFrameFault count rest fault →
       IsFault version root key bytes fault
   no_frame fault h = inr (inl (record {
     passed = s.passed;
-    due = awaited.reference.0;
+    due = due.reference.0;
     rest = rest;
     has = has_passed rest refl;
     is = subst (λ n. IsFrameFault n rest fault) s.number h;
@@ -88,18 +93,18 @@ module _ (version : Version) (root key chunks : List ℕ) (awaited : Awaited) (r
   module _ (chunk behind : List ℕ) (small : IsSmall chunk) (is : rest ≡ framed chunk ++ behind)
     where
       pub wrong_chunk : (fault : ProofFault) →
-          IsChunkFault version awaited.reference.0 awaited.above chunk awaited.number fault →
+          IsChunkFault version due.reference.0 due.above chunk count fault →
           IsFault version root key bytes fault
       wrong_chunk fault h = inr (inr (inl (record {
         passed = s.passed;
-        due = awaited.reference.0;
+        due = due.reference.0;
         chunk = chunk;
         rest = behind;
         has = has_passed (framed chunk ++ behind) is;
         small = small;
-        is = subst (λ n. IsChunkFault version awaited.reference.0 (last_level s.passed) chunk n
-            fault) s.number (subst (λ l. IsChunkFault version awaited.reference.0 l chunk
-            awaited.number fault) s.above h);
+        is = subst (λ n. IsChunkFault version due.reference.0 (last_level s.passed) chunk n
+            fault) s.number (subst (λ l. IsChunkFault version due.reference.0 l chunk
+            count fault) s.above h);
       })))
 
       spelled : chunks ≡ flat_map framed (s.passed ++ chunk ∷ []) ++ behind
@@ -119,68 +124,71 @@ module _ (version : Version) (root key chunks : List ℕ) (awaited : Awaited) (r
           let all : length rest ≡ suc (length (front ++ behind)) = ap length is in
           omega arith
 
-      module _ (named : IsNamed version awaited.reference.0 chunk)
-          (falls : FallsTo awaited.above chunk) where
+      module _ (named : IsNamed version due.reference.0 chunk)
+          (falls : FallsTo due.above chunk) where
         down : LevelsFall (s.passed ++ chunk ∷ [])
         down = falls_more s.passed chunk s.down (subst (λ l. FallsTo l chunk) s.above falls)
 
-        proves : (value : Option (List ℕ)) → EndsWith key (kind_of version chunk) value →
-            IsProof version root key (proof_file version (s.passed ++ chunk ∷ [])) value
-        proves value ends = record {
-          chunks = s.passed ++ chunk ∷ [];
-          small = all_small;
-          is = refl;
-          way = record {
-            before = s.passed;
-            last = chunk;
-            reference = awaited.reference.0;
-            are = refl;
-            lead = s.lead;
-            named = named;
-            down = down;
-            ends = ends;
-          };
-        }
+        module _ (ends : EndsAt (sought_of due.sought) (kind_of version chunk)) where
+          proves : IsProof version root key (proof_file version (s.passed ++ chunk ∷ []))
+              (find (pairs_held chunk) key)
+          proves = record {
+            chunks = s.passed ++ chunk ∷ [];
+            small = all_small;
+            is = refl;
+            way = record {
+              way = record {
+                before = s.passed;
+                last = chunk;
+                reference = due.reference.0;
+                there = sought_of due.sought;
+                are = refl;
+                lead = s.lead;
+                named = named;
+                down = down;
+                ends = ends;
+              };
+              value_is = refl;
+            };
+          }
 
-        pub ends_here : (value : Option (List ℕ)) → EndsWith key (kind_of version chunk) value →
-            behind ≡ [] → IsProof version root key bytes value
-        ends_here value ends none = subst (λ x. IsProof version root key x value)
-            (ap (λ x. proof_start version ++ x) (sym (spelled ∙
-            ap (λ x. flat_map framed (s.passed ++ chunk ∷ []) ++ x) none ∙
-            append-nil (flat_map framed (s.passed ++ chunk ∷ [])))))
-            (proves value ends)
+          pub ends_here : behind ≡ [] →
+              IsProof version root key bytes (find (pairs_held chunk) key)
+          ends_here none = subst (λ x. IsProof version root key x (find (pairs_held chunk) key))
+              (ap (λ x. proof_start version ++ x) (sym (spelled ∙
+              ap (λ x. flat_map framed (s.passed ++ chunk ∷ []) ++ x) none ∙
+              append-nil (flat_map framed (s.passed ++ chunk ∷ []))))) proves
 
-        more_from : (value : Option (List ℕ)) → EndsWith key (kind_of version chunk) value →
-            (left : List ℕ) → behind ≡ left → (left ≡ [] → ⊥) → HasMore version root key bytes
-        more_from value ends [] e some = absurd (some refl)
-        more_from value ends (b ∷ left) e some = record {
-          proof = proof_file version (s.passed ++ chunk ∷ []);
-          value = value;
-          byte = b;
-          more = left;
-          is = ap (λ x. proof_start version ++ x) (spelled ∙
-              ap (λ x. flat_map framed (s.passed ++ chunk ∷ []) ++ x) e) ∙
-              sym (append_assoc (proof_start version)
-              (flat_map framed (s.passed ++ chunk ∷ [])) (b ∷ left));
-          proves = proves value ends;
-        }
+          more_from : (left : List ℕ) → behind ≡ left → (left ≡ [] → ⊥) →
+              HasMore version root key bytes
+          more_from [] e some = absurd (some refl)
+          more_from (b ∷ left) e some = record {
+            proof = proof_file version (s.passed ++ chunk ∷ []);
+            value = find (pairs_held chunk) key;
+            byte = b;
+            more = left;
+            is = ap (λ x. proof_start version ++ x) (spelled ∙
+                ap (λ x. flat_map framed (s.passed ++ chunk ∷ []) ++ x) e) ∙
+                sym (append_assoc (proof_start version)
+                (flat_map framed (s.passed ++ chunk ∷ [])) (b ∷ left));
+            proves = proves;
+          }
 
-        pub has_more : (value : Option (List ℕ)) → EndsWith key (kind_of version chunk) value →
-            (behind ≡ [] → ⊥) → IsFault version root key bytes Trailing
-        has_more value ends some =
-            inr (inr (inr (refl, more_from value ends behind refl some)))
+          pub has_more : (behind ≡ [] → ⊥) → IsFault version root key bytes Trailing
+          has_more some = inr (inr (inr (refl, more_from behind refl some)))
 
-        pub goes_on : (next : Awaited) → LeadsOn key (kind_of version chunk) next.reference.0 →
-            next.above ≡ Some (level_of chunk) → next.number ≡ awaited.number + 1 →
-            Stands version root key chunks next behind
-        goes_on next on above number = record {
+        pub goes_on : (next : Due) (further : ℕ) →
+            LeadsOn (sought_of due.sought) (kind_of version chunk) next.reference.0
+            (sought_of next.sought) → next.above ≡ Some (level_of chunk) → further ≡ count + 1 →
+            Stands version root key chunks next further behind
+        goes_on next further on above number = record {
           passed = s.passed ++ chunk ∷ [];
           small = all_small;
           is = spelled;
-          lead = lead_more version key root s.passed awaited.reference.0 chunk next.reference.0
-              s.lead named on;
+          lead = lead_more version (Key key) root s.passed due.reference.0 (sought_of due.sought)
+              chunk next.reference.0 (sought_of next.sought) s.lead named on;
           down = down;
           above = above ∙ sym (last_more s.passed chunk);
           number = number ∙ ap (λ n. n + 1) s.number ∙ sym (length-append s.passed (chunk ∷ []));
-          few = omega (arith, s.few, shorter);
+          few = omega (arith, number, s.few, shorter);
         }

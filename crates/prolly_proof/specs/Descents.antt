@@ -7,8 +7,9 @@ use Rattle.prolly_check.specs.Content.{Content}
 use Rattle.prolly_check.specs.Descent.{IsTreeOf, child_of}
 use Rattle.prolly_check.specs.Entries.{Child}
 use Rattle.prolly_check.specs.Kinds.{kind_of}
-use Rattle.prolly_check.specs.Way.{level_of}
-use Rattle.prolly_check.specs.declared.entries.Entries.{Entries}
+use Rattle.prolly_check.specs.Sought.{Sought, EndsAt, LeadsOn, sought_of}
+use Rattle.prolly_check.specs.Way.{FallsTo, IsWayTo, level_of}
+use Rattle.prolly_check.specs.declared.look_up.step.Due.{Due}
 use Rattle.prolly_entry.specs.Cut.{sha512_cut}
 use Rattle.prolly_entry.specs.Reference.{reference_of}
 use Rattle.prolly_entry.specs.declared.version.Version.{Version}
@@ -16,19 +17,15 @@ use Rattle.prolly_file.specs.Device.{DeviceView}
 use Rattle.prolly_tree.specs.Chunk.{post_order}
 use Rattle.prolly_tree.specs.File.{root_reference}
 use Rattle.prolly_tree.specs.Tree.{Tree, bytes_of}
-use Rattle.prolly_proof.specs.Faults.{FallsTo}
-use Rattle.prolly_proof.specs.Sought.{EndsFor, LeadsFor, LeadsToEnd}
 use Rattle.prolly_proof.specs.Walks.{HoldsFile, IsFrameOfTop, OnlyRead, StandsBehind}
 use Rattle.prolly_proof.specs.Walks.{chunks_of_tree}
 use Rattle.prolly_proof.specs.declared.descent.Descent.{Descent}
-use Rattle.prolly_proof.specs.declared.level.Due.{Due}
 use Rattle.prolly_proof.specs.declared.level.Level.{Level}
 use Rattle.prolly_proof.specs.declared.level.Onward.{Onward}
 use Rattle.prolly_proof.specs.declared.level.Onward.TheVariants.{End, Below}
 use Rattle.prolly_proof.specs.declared.place.Place.{Place}
 use Rattle.prolly_proof.specs.declared.root_fault.RootFault.{RootFault}
 use Rattle.prolly_proof.specs.declared.root_fault.RootFault.TheVariants.{Memory, Read}
-use Rattle.prolly_proof.specs.declared.sought.Sought.{Sought}
 use Rattle.prolly_proof.specs.declared.walk.Walk.{Walk}
 
 -- The bytes of the chunks.
@@ -39,22 +36,20 @@ chunks_in levels = map (λ level. level.chunk.items) levels
 abbrev pub levels_of : Descent → List Level
 levels_of descent = descent.above.items ++ descent.last ∷ []
 
--- The chunks of the descent lead a look-up from the root of this reference to where it ends.
-abbrev pub IsDescent : Version → List ℕ → Sought → Descent → Type 0
-IsDescent version root sought descent = LeadsToEnd version root sought
-    (chunks_in descent.above.items) descent.last.chunk.items descent.sought
+-- The chunks of the descent are the way of a look-up from the root of this reference to its end, and
+-- this is what it seeks in the last one.
+pub record IsDescent (version : Version) (root : List ℕ) (sought : Sought) (descent : Descent)
+    : Type 0 where
+  pub way : IsWayTo version root sought (chunks_in (levels_of descent))
+  pub last : way.last ≡ descent.last.chunk.items
+  pub there : way.there ≡ sought_of descent.sought
 
--- The look-up ends at the entries, or goes on from them, which are those of a node of this level,
--- at the chunk that is due.
-abbrev pub LooksOn : Sought → ℕ → Entries → Onward → Type 0
-LooksOn sought level entries End = EndsFor sought entries
-LooksOn sought level entries (Below due place) =
-    LeadsFor sought entries due.reference.0 due.sought × (due.above ≡ Some level)
-
--- The same of the entries of a chunk.
+-- The look-up ends at the chunk, or goes on from it at the one that is due.
 abbrev pub IsOnward : Version → Sought → List ℕ → Onward → Type 0
-IsOnward version sought chunk onward =
-    LooksOn sought (level_of chunk) (kind_of version chunk) onward
+IsOnward version sought chunk End = EndsAt sought (kind_of version chunk)
+IsOnward version sought chunk (Below due place) =
+    LeadsOn sought (kind_of version chunk) due.reference.0 (sought_of due.sought) ×
+    (due.above ≡ Some (level_of chunk))
 
 -- There is no fault but want of memory, or that a read failed.
 abbrev pub MayFail : RootFault → Type 0

@@ -4,9 +4,14 @@ use Rattle.std.specs.Prelude.{None}
 use Rattle.std.specs.List.{AllByRecursion}
 use Rattle.prolly_check.specs.Frames.{has_no_frame, IsSmall}
 use Rattle.prolly_check.specs.Steps.{IsFlawed}
-use Rattle.prolly_check.specs.Way.{IsNamed, Lead, LevelsFall, level_of}
-use Rattle.prolly_check.specs.declared.step.ChunkFlaw.TheVariants.{Entries, Order}
-use Rattle.prolly_entry.specs.Reference.{reference_of}
+use Rattle.prolly_check.specs.Sought.{Sought}
+use Rattle.prolly_check.specs.Sought.Sought.{Key}
+use Rattle.prolly_check.specs.Way.{Lead, LevelsFall, level_of}
+use Rattle.prolly_check.specs.declared.look_up.step.ChunkFlaw.{ChunkFlaw}
+use Rattle.prolly_check.specs.declared.look_up.step.ChunkFlaw.TheVariants.{Entries as BadEntries}
+use Rattle.prolly_check.specs.declared.look_up.step.ChunkFlaw.TheVariants.{Level as BadLevel}
+use Rattle.prolly_check.specs.declared.look_up.step.ChunkFlaw.TheVariants.{Order as BadOrder}
+use Rattle.prolly_check.specs.declared.look_up.step.ChunkFlaw.TheVariants.{Reference as BadReference}
 use Rattle.prolly_entry.specs.declared.version.Version.{Version}
 use Rattle.prolly_file.specs.Frame.{framed}
 use Rattle.prolly_proof.specs.ProofFile.{IsProof, proof_file, proof_start}
@@ -66,23 +71,20 @@ last_level [] = None
 last_level (chunk ∷ []) = Some (level_of chunk)
 last_level (chunk ∷ below ∷ chunks) = last_level (below ∷ chunks)
 
--- The chunk stands one level below this one; it is the first, where there is none above.
-abbrev pub FallsTo : Option ℕ → List ℕ → Type 0
-FallsTo None chunk = Unit {0}
-FallsTo (Some above) chunk = above ≡ suc (level_of chunk)
+-- The fault that the chunk of this number has where it is flawed so.
+abbrev pub fault_of : ℕ → ChunkFlaw → ProofFault
+fault_of number BadReference = Reference number
+fault_of number BadEntries = Chunk number
+fault_of number BadOrder = KeysOutOfOrder number
+fault_of number BadLevel = Level number
 
 -- What is wrong with the chunk of this number, where one with this reference is due below this
 -- level.
-abbrev pub IsChunkFault : Version → List ℕ → Option ℕ → List ℕ → ℕ → ProofFault → Type 0
-IsChunkFault version due above chunk number (Reference n) = (n ≡ number) ×
-    (reference_of chunk ≡ due → ⊥)
-IsChunkFault version due above chunk number (Chunk n) = (n ≡ number) ×
-    (reference_of chunk ≡ due) × IsFlawed version chunk Entries
-IsChunkFault version due above chunk number (KeysOutOfOrder n) = (n ≡ number) ×
-    (reference_of chunk ≡ due) × IsFlawed version chunk Order
-IsChunkFault version due above chunk number (Level n) = (n ≡ number) ×
-    IsNamed version due chunk × (FallsTo above chunk → ⊥)
-IsChunkFault version due above chunk number fault = ⊥
+pub record IsChunkFault (version : Version) (due : List ℕ) (above : Option ℕ) (chunk : List ℕ)
+    (number : ℕ) (fault : ProofFault) : Type 0 where
+  pub flaw : ChunkFlaw
+  pub is : fault ≡ fault_of number flaw
+  pub so : IsFlawed version due above chunk flaw
 
 -- ---- all
 
@@ -90,9 +92,10 @@ IsChunkFault version due above chunk number fault = ⊥
 -- the chunk with this reference; and then there is this rest.
 pub record HasPassed (version : Version) (root key bytes : List ℕ) (passed : List (List ℕ))
     (due rest : List ℕ) : Type 0 where
+  pub there : Sought
   pub small : AllByRecursion IsSmall passed
   pub is : bytes ≡ proof_file version passed ++ rest
-  pub lead : Lead version key root passed due
+  pub lead : Lead version (Key key) root passed due there
   pub down : LevelsFall passed
 
 -- No frame begins where the next chunk is due.

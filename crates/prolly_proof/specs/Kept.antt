@@ -2,15 +2,14 @@
 use Rattle.std.specs.Prelude.{◌≡◌, ℕ, suc, ◌-◌, List, ◌∷◌, ◌++◌, length, Option, None, Some}
 use Rattle.prolly_check.specs.Checked.{chunks_of}
 use Rattle.prolly_check.specs.Content.{Content}
-use Rattle.prolly_check.specs.Way.{IsNamed, level_of}
+use Rattle.prolly_check.specs.Sought.{IsMark}
+use Rattle.prolly_check.specs.Way.{FallsTo, IsNamed, level_of}
+use Rattle.prolly_check.specs.declared.look_up.step.Due.{Due}
 use Rattle.prolly_entry.specs.declared.version.Version.{Version}
 use Rattle.prolly_tree.specs.Tree.{Tree}
 use Rattle.prolly_proof.specs.Descents.{IsPlaceOf, chunks_of_trees}
-use Rattle.prolly_proof.specs.Faults.{FallsTo}
-use Rattle.prolly_proof.specs.Sought.{IsMark}
 use Rattle.prolly_proof.specs.Walks.{IsFrameOf, StandsBehind, chunks_of_tree}
 use Rattle.prolly_proof.specs.declared.below.Passed.{Passed}
-use Rattle.prolly_proof.specs.declared.level.Due.{Due}
 use Rattle.prolly_proof.specs.declared.level.Level.{Level}
 use Rattle.prolly_proof.specs.declared.place.Place.{Place}
 use Rattle.prolly_proof.specs.declared.walk.Frame.{Frame}

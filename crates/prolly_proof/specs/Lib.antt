@@ -1,9 +1,5 @@
 -- The file of a proof, and what it proves.
 pub mod ProofFile
--- What a look-up by a root has found.
-pub mod ByRoot
--- What a look-up by a root seeks, and where that leads it.
-pub mod Sought
 -- What is wrong with bytes that are no proof.
 pub mod Faults
 -- Going over the frames of a chunk file on a device.

@@ -1,7 +1,9 @@
 -- A reader that looks up by the root again and again.
-use Rattle.std.specs.Prelude.{◌≡◌, ℕ, List, None}
+use Rattle.std.specs.Prelude.{◌≡◌, ℕ, List, None, take}
 use Rattle.std.specs.List.{AllByRecursion}
 use Rattle.prolly_check.specs.Content.{Content}
+use Rattle.prolly_check.specs.ScanWay.{IsScanWay}
+use Rattle.prolly_entry.specs.Pair.{Pair}
 use Rattle.prolly_entry.specs.declared.version.Version.{Version}
 use Rattle.prolly_proof.specs.Descents.{StandsAtTree, chunks_in}
 use Rattle.prolly_proof.specs.Kept.{KeepsLevel}
@@ -25,3 +27,11 @@ pub record IsReaderOf (content : Content) (size : ℕ) (reader : ReaderView) : T
   pub version : reader.version ≡ content.version
   pub top : StandsAtTree content size reader.root None reader.top
   pub levels : AllByRecursion (KeepsLevel content size) reader.levels
+
+-- These are the first pairs, at most so many, of those that a look-up of the key from the root of
+-- this reference finds by these chunks.
+pub record AreFirstFound (version : Version) (root key : List ℕ) (most : ℕ)
+    (chunks : List (List ℕ)) (pairs : List Pair) : Type 0 where
+  pub found : List Pair
+  pub way : IsScanWay version root key chunks found
+  pub are : pairs ≡ take most found

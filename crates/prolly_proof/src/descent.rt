@@ -2,6 +2,7 @@
 ghost use Rattle.std.specs.Prelude.{◌≡◌, ℕ, List, [], ◌∷◌, ◌++◌, length, IfOk, IfErr, OnOk, None};
 ghost use Rattle.std.specs.List.{AllByRecursion};
 ghost use Rattle.prolly_check.specs.Content.{Content};
+ghost use Rattle.prolly_check.specs.Sought.{sought_of};
 ghost use Rattle.prolly_entry.specs.Cut.{sha512_cut};
 ghost use Rattle.prolly_proof.specs.Descents.{IsDescent, MayFail, ReadsLawful, StandsAtTree};
 ghost use Rattle.prolly_proof.specs.Descents.{levels_of};
@@ -9,12 +10,12 @@ ghost use Rattle.prolly_proof.specs.Kept.{IsLevel, KeepsLevel};
 ghost use Rattle.prolly_proof.specs.Walks.{HoldsFile, StaysSame, TellsReads};
 ghost use Rattle.prolly_tree.specs.File.{root_reference};
 
-use crate::level::{Due, Level, Onward, level_at};
+use crate::level::{Level, Onward, level_at};
 use crate::place::Place;
 use crate::root_fault::RootFault;
-use crate::sought::Sought;
 use crate::walk::Walk;
 use prolly_check::laws::tops_are_read;
+use prolly_check::{Due, Sought};
 use prolly_entry::{Ref, Version};
 use prolly_file::Device;
 use std::alloc::{AllocError, Global};
@@ -63,7 +64,7 @@ pub(crate) fn go_down<'a, D: Device>(
     sought: Sought<'a>,
 ) -> Result<Descent<'a>, RootFault>
     requires { AllByRecursion (IsLevel version) kept.items }
-    ensures found { IfOk result (IsDescent version root.now.0 sought.entry) }
+    ensures found { IfOk result (IsDescent version root.now.0 (sought_of sought.entry)) }
     ensures levels { IfOk result (λ descent. AllByRecursion (IsLevel version) (levels_of descent)) }
     ensures keeps { (content : Content) → HoldsFile (D.seen device.old) content →
         version ≡ content.version →

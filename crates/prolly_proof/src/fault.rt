@@ -1,4 +1,7 @@
 //! Why bytes prove nothing.
+ghost use Rattle.prolly_proof.specs.Faults.{fault_of};
+
+use prolly_check::ChunkFlaw;
 
 /// The first fault of bytes that are no proof. Chunks are numbered from 0, which is the root's.
 #[derive(Clone, Copy, Debug, PartialEq, Eq)]
@@ -26,4 +29,20 @@ pub enum ProofFault {
     Level { chunk: usize },
     /// Bytes follow the proof.
     Trailing,
+}
+
+impl ProofFault {
+    ghost use Rattle.std.specs.Prelude.{◌≡◌};
+
+    /// The fault that the chunk of this number has.
+    pub(crate) fn of_flaw(flaw: ChunkFlaw, chunk: usize) -> ProofFault
+        ensures { result ≡ fault_of chunk flaw }
+    {
+        match flaw {
+            ChunkFlaw::Reference => ProofFault::Reference { chunk },
+            ChunkFlaw::Entries => ProofFault::Chunk { chunk },
+            ChunkFlaw::Order => ProofFault::KeysOutOfOrder { chunk },
+            ChunkFlaw::Level => ProofFault::Level { chunk },
+        }
+    }
 }

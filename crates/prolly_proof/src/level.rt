@@ -3,6 +3,8 @@ ghost use Rattle.std.specs.Prelude.{◌≡◌, ◌<◌, ◌∷◌, ◌++◌, ℕ
 ghost use Rattle.std.specs.Prelude.{IfSome, IsOk, OnOk};
 ghost use Rattle.prolly_check.specs.Checked.{chunks_of};
 ghost use Rattle.prolly_check.specs.Content.{Content};
+ghost use Rattle.prolly_check.specs.Held.{pairs_held};
+ghost use Rattle.prolly_check.specs.Sought.{sought_of};
 ghost use Rattle.prolly_check.specs.Way.{IsNamed, IsOrdered};
 ghost use Rattle.prolly_entry.specs.Reference.{reference_of};
 ghost use Rattle.prolly_proof.specs.Descents.{MayFail, StandsAtTree};
@@ -12,25 +14,12 @@ ghost use Rattle.prolly_proof.specs.Walks.{HoldsFile, IsFrameOf, StaysSame, Tell
 use crate::below::FramesBelow;
 use crate::place::Place;
 use crate::root_fault::RootFault;
-use crate::sought::{Mark, Sought, child_sought};
-use crate::verifier::falls_to;
 use crate::walk::Frame;
 use prolly_check::laws::tops_are_read;
-use prolly_check::{ChunkFlaw, Entries, entries_in, entries_of};
+use prolly_check::{Due, Mark, Pairs, Sought, falls_to, pairs_of, step_of, test_chunk};
 use prolly_entry::{Ref, Version};
 use prolly_file::Device;
 use std::alloc::Global;
-
-/// The chunk that is due next.
-#[derive(Clone, Copy)]
-pub(crate) struct Due<'a> {
-    /// Its reference.
-    pub(crate) reference: Ref,
-    /// The level of the chunk above it; none is above the root.
-    pub(crate) above: Option<u8>,
-    /// What is sought there.
-    pub(crate) sought: Sought<'a>,
-}
 
 /// What a look-up comes to at a chunk.
 #[derive(Clone, Copy)]
@@ -99,6 +88,14 @@ impl Level {
         })
     }
 
+    /// Its pairs. A node has none.
+    pub(crate) fn pairs(&self, version: Version) -> Pairs<'_>
+        requires { IsLevel version self.now }
+        ensures { result ≡ pairs_held self.now.chunk.items }
+    {
+        pairs_of(version, &self.chunk)
+    }
+
     /// Whether it is the chunk of this reference in this place.
     fn is_at(&self, reference: &Ref, place: &Place) -> bool
         ensures { result ≡ true → (self.now.reference ≡ reference.now) ×
@@ -115,7 +112,8 @@ impl Level {
         sought: Sought<'a>,
     ) -> Result<Onward<'a>, RootFault>
         requires { IsLevel version self.old }
-        ensures is { IfOk result (IsOnward version sought.entry self.old.chunk.items) }
+        ensures is { IfOk result
+            (IsOnward version (sought_of sought.entry) self.old.chunk.items) }
         ensures stays { (self.new.reference ≡ self.old.reference) ×
             (self.new.chunk ≡ self.old.chunk) }
         ensures level { IsLevel version self.new }
@@ -136,10 +134,7 @@ impl Level {
     {
         // By this law the children of a chunk of a lawful file are the trees below it.
         tops_are_read();
-        let Entries::Node(_) = entries_of(version, &self.chunk) else {
-            return Ok(Onward::End);
-        };
-        let Some(child) = child_sought(version, &self.chunk, self.mark, sought) else {
+        let Some(child) = step_of(version, &self.chunk, self.mark, sought) else {
             return Ok(Onward::End);
         };
         self.mark = child.passed;
@@ -215,12 +210,8 @@ fn test(version: Version, chunk: &[u8], reference: &Ref, number: u64) -> Result<
         IsOk result }
     ensures read { IfErr result (λ fault. fault ≡ RootFault.Read → ⊥) }
 {
-    if Ref::of(chunk) != *reference {
-        return Err(RootFault::Reference { chunk: number });
-    }
-    match entries_in(version, chunk) {
-        Ok(_) => Ok(()),
-        Err(ChunkFlaw::Entries) => Err(RootFault::Chunk { chunk: number }),
-        Err(ChunkFlaw::Order) => Err(RootFault::KeysOutOfOrder { chunk: number }),
+    match test_chunk(version, chunk, reference) {
+        Ok(()) => Ok(()),
+        Err(flaw) => Err(RootFault::of_flaw(flaw, number)),
     }
 }

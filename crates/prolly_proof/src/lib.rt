@@ -5,22 +5,18 @@
 #![tactic(auto)]
 
 mod below;
-mod by_root;
 mod descent;
 mod fault;
-mod last_chunk;
 pub mod laws;
 mod level;
 mod place;
 mod prover;
 mod reader;
 mod root_fault;
-mod sought;
 mod start;
 mod verifier;
 mod walk;
 
-pub use by_root::{Found, FoundPair, get_by_root, nth_by_root};
 pub use fault::ProofFault;
 pub use prover::prove;
 pub use reader::Reader;

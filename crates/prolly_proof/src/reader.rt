@@ -1,26 +1,39 @@
 //! Looking up by the root again and again, in a file of which no more is read than that wants.
-ghost use Rattle.std.specs.Prelude.{◌≡◌, [], length, IfOk, IfErr, OnErr};
+ghost use Rattle.std.specs.Prelude.{◌≡◌, ◌≤◌, [], length, option_map, IfOk, IfErr, IfSome, OnErr};
+ghost use Rattle.std.specs.List.{AllByRecursion};
+ghost use Rattle.std.specs.Option.{option_copied};
 ghost use Rattle.prolly_check.specs.Content.{Content};
+ghost use Rattle.prolly_check.specs.Counted.{pair_of};
+ghost use Rattle.prolly_check.specs.Sought.{sought_of};
+ghost use Rattle.prolly_check.specs.Way.{IsCountWay, IsWay};
 ghost use Rattle.prolly_entry.specs.Cut.{sha512_cut};
-ghost use Rattle.prolly_proof.specs.ByRoot.{AreFirstFound};
-ghost use Rattle.prolly_proof.specs.Descents.{MayFail, ReadsLawful};
-ghost use Rattle.prolly_proof.specs.Readers.{IsReaderOf, way_of};
+ghost use Rattle.prolly_entry.specs.declared.version.Version.TheVariants.{Two};
+ghost use Rattle.prolly_proof.specs.Descents.{IsDescent, MayFail, ReadsLawful, levels_of};
+ghost use Rattle.prolly_proof.specs.Kept.{IsLevel, KeepsLevel};
+ghost use Rattle.prolly_proof.specs.Readers.{AreFirstFound, IsReaderOf, way_of};
 ghost use Rattle.prolly_proof.specs.Walks.{HoldsFile, StaysSame, TellsReads};
 ghost use Rattle.prolly_tree.specs.File.{root_reference};
 
-use crate::descent::{go_down, top_of, with};
-use crate::last_chunk::pairs_at;
+use crate::descent::{Descent, go_down, top_of, with};
 use crate::level::Level;
 use crate::place::Place;
 use crate::root_fault::RootFault;
-use crate::sought::Sought;
+use prolly_check::{Sought, first_pairs_from, pair_sought, value_in};
 use prolly_entry::{Pair, Ref, Version};
 use prolly_file::Device;
-use std::alloc::Global;
+use std::alloc::{AllocError, Global};
 use std::marker::Model;
 use std::mem;
 
 /// Looks up by the root, in one file, one look-up after another.
+///
+/// What is answered is what any map with this root has, unless a chunk of the way and another one
+/// have one reference: see [`laws::ways_are_right`](prolly_check::laws::ways_are_right). That holds
+/// whatever the device does, and whatever else the file holds, for nothing of it is believed: each
+/// chunk is compared with the reference in the one above it, and the first with the root.
+///
+/// Of the file the starts of its frames are read, ten bytes each, once to find the root, and once
+/// more for each level, there only among the frames below one chunk; and one chunk a level.
 ///
 /// It keeps the chunks of the last look-up, from the root down, and how far the frames below each
 /// were gone over. So look-ups of rising keys go over the frames of the file once, and read each
@@ -89,6 +102,71 @@ impl Reader {
         })
     }
 
+    /// What the tree with the reader's root has at the key: its value, or none.
+    ///
+    /// The chunks that show it are kept until the next look-up. Takes memory for them and for the
+    /// value. After an `Err` nothing is kept, and the next look-up reads its chunks anew.
+    pub fn get<D: Device>(
+        &mut self,
+        alloc: Global,
+        device: &mut D,
+        key: &[u8],
+    ) -> Result<Option<Vec<u8>>, RootFault>
+        ensures of { (self.new.version ≡ self.old.version) × (self.new.root ≡ self.old.root) }
+        ensures found { IfOk result (λ value. IsWay self.old.version self.old.root key.now
+            (way_of self.new) (option_map (λ v. v.items) value)) }
+        ensures none { OnErr result (self.new.levels ≡ []) }
+        ensures keeps { (content : Content) → HoldsFile (D.seen device.old) content →
+            IsReaderOf content (length (D.seen device.old).bytes) self.old →
+            IsReaderOf content (length (D.seen device.old).bytes) self.new }
+
+        // The file that the reader was opened for is never refused.
+        ensures lawful { (content : Content) → HoldsFile (D.seen device.old) content →
+            IsReaderOf content (length (D.seen device.old).bytes) self.old →
+            IfErr result MayFail }
+        ensures reads { TellsReads (D.seen device.old).failures (D.seen device.new).failures
+            result }
+        ensures same { StaysSame (D.seen device.old) (D.seen device.new) }
+    {
+        let descent = self.descend(alloc, device, Sought::Key(key))?;
+        let value = copied(alloc, value_in(descent.last.pairs(self.version), key))?;
+        self.levels = with(descent.above, descent.last)?;
+        Ok(value)
+    }
+
+    /// The pair of this number, counted from 0 in the order of keys, that the tree with the reader's
+    /// root has, or none. Only chunks of version Two have the counts that this goes by.
+    ///
+    /// The chunks that show it are kept until the next look-up. Takes memory for them and for the
+    /// pair. After an `Err` nothing is kept, and the next look-up reads its chunks anew.
+    pub fn nth<D: Device>(
+        &mut self,
+        alloc: Global,
+        device: &mut D,
+        n: u64,
+    ) -> Result<Option<Pair>, RootFault>
+        requires { self.old.version ≡ Two }
+        ensures of { (self.new.version ≡ self.old.version) × (self.new.root ≡ self.old.root) }
+        ensures found { IfOk result (IsCountWay self.old.root n (way_of self.new)) }
+        ensures none { OnErr result (self.new.levels ≡ []) }
+        ensures keeps { (content : Content) → HoldsFile (D.seen device.old) content →
+            IsReaderOf content (length (D.seen device.old).bytes) self.old →
+            IsReaderOf content (length (D.seen device.old).bytes) self.new }
+
+        // The file that the reader was opened for is never refused.
+        ensures lawful { (content : Content) → HoldsFile (D.seen device.old) content →
+            IsReaderOf content (length (D.seen device.old).bytes) self.old →
+            IfErr result MayFail }
+        ensures reads { TellsReads (D.seen device.old).failures (D.seen device.new).failures
+            result }
+        ensures same { StaysSame (D.seen device.old) (D.seen device.new) }
+    {
+        let descent = self.descend(alloc, device, Sought::Number(n))?;
+        let pair = copy_of(alloc, pair_sought(descent.last.pairs(self.version), descent.sought))?;
+        self.levels = with(descent.above, descent.last)?;
+        Ok(pair)
+    }
+
     /// The first pairs that the tree with the reader's root has from the key on: those of one leaf,
     /// at most `most` of them. The others are those from behind the last of these on, at which the
     /// next look-up begins; where there are none, and `most` is not 0, the tree has none.
@@ -118,9 +196,45 @@ impl Reader {
             result }
         ensures same { StaysSame (D.seen device.old) (D.seen device.new) }
     {
+        let descent = self.descend(alloc, device, Sought::Key(from))?;
+        let pairs = first_pairs_from(alloc, descent.last.pairs(self.version), from, most)?;
+        self.levels = with(descent.above, descent.last)?;
+        Ok(pairs)
+    }
+
+    /// How many chunks show what the last look-up has found.
+    pub fn chunks(&self) -> usize
+        ensures { result ≡ length (way_of self.now) }
+    {
+        self.levels.len()
+    }
+
+    /// Goes down from the root. What was kept is taken out of the reader.
+    fn descend<'a, D: Device>(
+        &mut self,
+        alloc: Global,
+        device: &mut D,
+        sought: Sought<'a>,
+    ) -> Result<Descent<'a>, RootFault>
+        ensures of { (self.new.version ≡ self.old.version) × (self.new.root ≡ self.old.root) ×
+            (self.new.top ≡ self.old.top) × (self.new.levels ≡ []) }
+        ensures found { IfOk result
+            (IsDescent self.old.version self.old.root (sought_of sought.entry)) }
+        ensures levels { IfOk result (λ descent.
+            AllByRecursion (IsLevel self.old.version) (levels_of descent)) }
+        ensures keeps { (content : Content) → HoldsFile (D.seen device.old) content →
+            IsReaderOf content (length (D.seen device.old).bytes) self.old →
+            IfOk result (λ descent. AllByRecursion
+            (KeepsLevel content (length (D.seen device.old).bytes)) (levels_of descent)) }
+        ensures only { (content : Content) → HoldsFile (D.seen device.old) content →
+            IsReaderOf content (length (D.seen device.old).bytes) self.old →
+            IfErr result MayFail }
+        ensures reads { TellsReads (D.seen device.old).failures (D.seen device.new).failures
+            result }
+        ensures same { StaysSame (D.seen device.old) (D.seen device.new) }
+    {
         let kept = mem::replace(&mut self.levels, Vec::new(alloc));
-        let sought = Sought::Key(from);
-        let descent = go_down(
+        go_down(
             alloc,
             device,
             self.version,
@@ -128,9 +242,28 @@ impl Reader {
             self.top,
             kept,
             sought,
-        )?;
-        let pairs = pairs_at(alloc, self.version, &descent.last.chunk, from, most)?;
-        self.levels = with(descent.above, descent.last)?;
-        Ok(pairs)
+        )
+    }
+}
+
+/// A copy of the value.
+fn copied(alloc: Global, value: Option<&[u8]>) -> Result<Option<Vec<u8>>, AllocError>
+    ensures { IfOk result (λ copy. option_map (λ v. v.items) copy ≡ option_copied value.entry) }
+{
+    match value {
+        None => Ok(None),
+        Some(value) => Ok(Some(Vec::from_slice(alloc, value)?)),
+    }
+}
+
+/// A copy of the pair.
+fn copy_of(alloc: Global, pair: Option<(&[u8], &[u8])>) -> Result<Option<Pair>, AllocError>
+    requires { IfSome pair (λ pair. (length pair.0.now ≤ 1024) ×
+        (length pair.1.now ≤ 65536)) }
+    ensures { IfOk result (λ copy. copy ≡ pair_of pair.entry) }
+{
+    match pair {
+        None => Ok(None),
+        Some((key, value)) => Ok(Some(Pair::copy_of(alloc, key, value)?)),
     }
 }

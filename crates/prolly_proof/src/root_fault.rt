@@ -1,6 +1,7 @@
 //! Why a look-up by a root has no answer.
 ghost use Rattle.std.specs.Prelude.{◌≡◌};
 
+use prolly_check::ChunkFlaw;
 use prolly_file::SourceFault;
 use std::alloc::AllocError;
 
@@ -35,6 +36,20 @@ pub enum RootFault {
     /// This chunk is the one that is referred to, but does not stand one level below the one above
     /// it: no tree has it there.
     Level { chunk: u64 },
+}
+
+impl RootFault {
+    /// The fault that the chunk of this number has.
+    pub(crate) fn of_flaw(flaw: ChunkFlaw, chunk: u64) -> RootFault
+        ensures { result ≡ RootFault.Read → ⊥ }
+    {
+        match flaw {
+            ChunkFlaw::Reference => RootFault::Reference { chunk },
+            ChunkFlaw::Entries => RootFault::Chunk { chunk },
+            ChunkFlaw::Order => RootFault::KeysOutOfOrder { chunk },
+            ChunkFlaw::Level => RootFault::Level { chunk },
+        }
+    }
 }
 
 impl From<AllocError> for RootFault {

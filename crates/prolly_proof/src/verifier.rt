@@ -1,18 +1,17 @@
 //! What a proof says, for who knows the root alone.
-ghost use Rattle.std.specs.Prelude.{◌≡◌, ◌↔◌, ◌<◌, ◌++◌, true, length, Option, List, ℕ, IsTrue};
-ghost use Rattle.std.specs.Prelude.{IfOk, IfErr};
+ghost use Rattle.std.specs.Prelude.{◌≡◌, ◌++◌, true, Option, List, ℕ, IfOk, IfErr, OnOk};
 ghost use Rattle.std.specs.Option.{option_copied};
 ghost use Rattle.prolly_check.specs.Frames.{IsSmall, has_no_frame};
-ghost use Rattle.prolly_check.specs.Kinds.{kind_of};
+ghost use Rattle.prolly_check.specs.Sought.{sought_of};
 ghost use Rattle.prolly_check.specs.Steps.{IsStep};
-ghost use Rattle.prolly_check.specs.Way.{IsNamed};
+ghost use Rattle.prolly_check.specs.Way.{FallsTo, IsNamed};
 ghost use Rattle.prolly_file.specs.Frame.{framed};
-ghost use Rattle.prolly_proof.specs.Faults.{FallsTo, IsChunkFault, IsFault, IsFrameFault};
+ghost use Rattle.prolly_proof.specs.Faults.{IsChunkFault, IsFault, IsFrameFault};
 ghost use Rattle.prolly_proof.specs.ProofFile.{IsProof, proof_start};
 
 use crate::fault::ProofFault;
 use crate::start::behind_start;
-use prolly_check::{ChunkFlaw, Step, front_frame, step_in};
+use prolly_check::{Due, Sought, Step, front_frame, step_at, value_in};
 use prolly_entry::{Ref, Version};
 
 /// The value that the proof shows for the key in the tree with this root, or none where it shows
@@ -41,17 +40,6 @@ pub fn verify<'a>(
     go_down(version, root, key, chunks)
 }
 
-/// The chunk that has to come next in a proof.
-#[derive(Clone, Copy)]
-struct Awaited {
-    /// Its reference.
-    reference: Ref,
-    /// The level of the chunk above it; none is above the root.
-    above: Option<u8>,
-    /// Its number.
-    number: usize,
-}
-
 /// What the frames of chunks, which stand behind the start of a proof, show for the key.
 fn go_down<'a>(
     version: Version,
@@ -64,30 +52,26 @@ fn go_down<'a>(
     ensures err { IfErr result (IsFault version root.now.0 key.now
         (proof_start version ++ chunks.now)) }
 {
-    let mut awaited = Awaited {
+    let mut due = Due {
         reference: *root,
         above: None,
-        number: 0,
+        sought: Sought::Key(key),
     };
+    let mut number = 0;
     let mut rest = chunks;
     loop {
-        let (chunk, behind) = next_chunk(rest, awaited.number)?;
-        match step_at(version, chunk, key, &awaited)? {
-            Step::End(value) => {
+        let (chunk, behind) = next_chunk(rest, number)?;
+        match step_due(version, chunk, &due, number)? {
+            Step::End(pairs) => {
                 return if behind.is_empty() {
-                    Ok(value)
+                    Ok(value_in(pairs, key))
                 } else {
                     Err(ProofFault::Trailing)
                 };
             }
-            Step::Below(reference) => {
-                awaited = Awaited {
-                    reference,
-                    above: Some(chunk[0]),
-                    number: awaited.number + 1,
-                };
-            }
+            Step::Below(next) => due = next,
         }
+        number += 1;
         rest = behind;
     }
 }
@@ -114,39 +98,21 @@ fn frame_fault(rest: &[u8], number: usize) -> ProofFault
     }
 }
 
-/// The step of the look-up at a chunk, where it is the awaited one and one that a tree may have
-/// there.
-fn step_at<'a>(
+/// The step of the look-up at the chunk of this number, where it is the one that is due.
+fn step_due<'c, 'a>(
     version: Version,
-    chunk: &'a [u8],
-    key: &[u8],
-    awaited: &Awaited,
-) -> Result<Step<'a>, ProofFault>
-    ensures named { IfOk result (λ step. IsNamed version awaited.now.reference.0 chunk.now) }
-    ensures falls { IfOk result (λ step. FallsTo awaited.now.above chunk.now) }
-    ensures step { IfOk result (IsStep key.now (kind_of version chunk.now)) }
-    ensures err { IfErr result (IsChunkFault version awaited.now.reference.0 awaited.now.above
-        chunk.now awaited.now.number) }
+    chunk: &'c [u8],
+    due: &Due<'a>,
+    number: usize,
+) -> Result<Step<'c, 'a>, ProofFault>
+    ensures named { OnOk result (IsNamed version due.now.reference.0 chunk.now) }
+    ensures falls { OnOk result (FallsTo due.now.above chunk.now) }
+    ensures step { IfOk result (IsStep version (sought_of due.now.sought) chunk.now) }
+    ensures err { IfErr result (IsChunkFault version due.now.reference.0 due.now.above chunk.now
+        number) }
 {
-    let number = awaited.number;
-    if Ref::of(chunk) != awaited.reference {
-        return Err(ProofFault::Reference { chunk: number });
-    }
-    match step_in(version, chunk, key) {
-        Ok(step) if falls_to(awaited.above, chunk) => Ok(step),
-        Ok(_) => Err(ProofFault::Level { chunk: number }),
-        Err(ChunkFlaw::Entries) => Err(ProofFault::Chunk { chunk: number }),
-        Err(ChunkFlaw::Order) => Err(ProofFault::KeysOutOfOrder { chunk: number }),
-    }
-}
-
-/// Whether the chunk, which has a level, may stand below one of the level `above`.
-pub(crate) fn falls_to(above: Option<u8>, chunk: &[u8]) -> bool
-    requires { 0 < length chunk.now }
-    ensures { IsTrue result ↔ FallsTo above chunk.now }
-{
-    match above {
-        None => true,
-        Some(above) => u16::from(above) == u16::from(chunk[0]) + 1,
+    match step_at(version, chunk, due) {
+        Ok(step) => Ok(step),
+        Err(flaw) => Err(ProofFault::of_flaw(flaw, number)),
     }
 }

@@ -3,6 +3,7 @@ use Rattle.std.specs.Prelude.{◌≡◌, ◌↔◌, ◌⊎◌, ℕ, List, [], �
 use Rattle.std.specs.Prelude.{codes, option_map, Result, Ok, Err, IfOk, ◌≢◌, true}
 use Rattle.std.specs.declared.alloc.AllocError.{AllocError}
 use Rattle.std.specs.Fmt.{decimal}
+use Rattle.std.specs.Global.{Vec}
 use Rattle.std.specs.List.{flat_map}
 use Rattle.prolly_check.specs.Check.{IsRefusal}
 use Rattle.prolly_check.specs.Content.{Content}
@@ -12,8 +13,6 @@ use Rattle.prolly_check.specs.declared.fault.CheckFault.TheVariants.{Read}
 use Rattle.prolly_entry.specs.declared.version.Version.{Version}
 use Rattle.prolly_entry.specs.declared.version.Version.TheVariants.{One, Two}
 use Rattle.prolly_file.specs.Source.{SourceView}
-use Rattle.prolly_proof.specs.declared.by_root.Found.{Found}
-use Rattle.prolly_proof.specs.declared.by_root.FoundPair.{FoundPair}
 use Rattle.prolly_proof.specs.declared.root_fault.RootFault.{RootFault}
 use Rattle.prolly_text.specs.Notations.{separator, written}
 use Rattle.prolly_text.specs.declared.notation.Notation.{Notation}
@@ -122,12 +121,12 @@ AnswersFailedRead seen old new result = (seen new).failures ≢ (seen old).failu
     IfOk result ShowsFailedRead
 
 -- What a look-up by a root came to is shown: the value that it found, or none; or its fault.
-abbrev pub ShowsFound : Notation → Answer → Result Found RootFault → Type 0
+abbrev pub ShowsFound : Notation → Answer → Result (Option (Vec ℕ)) RootFault → Type 0
 ShowsFound notation answer (Ok found) =
-    ShowsValue notation answer (option_map (λ value. value.items) found.value)
+    ShowsValue notation answer (option_map (λ value. value.items) found)
 ShowsFound notation answer (Err fault) = ShowsFault answer (Root fault)
 
 -- The same of the pair that it found, or none.
-abbrev pub ShowsFoundPair : Notation → Answer → Result FoundPair RootFault → Type 0
-ShowsFoundPair notation answer (Ok found) = ShowsPair notation answer found.pair
+abbrev pub ShowsFoundPair : Notation → Answer → Result (Option Pair) RootFault → Type 0
+ShowsFoundPair notation answer (Ok found) = ShowsPair notation answer found
 ShowsFoundPair notation answer (Err fault) = ShowsFault answer (Root fault)

@@ -4,7 +4,7 @@ ghost use Rattle.prolly_tool.specs.LookUps.{ShowsFound};
 
 use crate::answer::Answer;
 use crate::fault::Fault;
-use prolly_proof::{Found, RootFault};
+use prolly_proof::RootFault;
 use prolly_text::Notation;
 use std::alloc::{AllocError, Global};
 
@@ -13,16 +13,16 @@ use std::alloc::{AllocError, Global};
 /// was found out. An `Err` is want of memory for that text.
 ///
 /// What a value or none says of the map with the root is said where the look-up is made: see
-/// [`get_by_root`](prolly_proof::get_by_root).
+/// [`Reader::get`](prolly_proof::Reader::get).
 pub fn answer_found(
     alloc: Global,
     notation: Notation,
-    found: &Result<Found, RootFault>,
+    found: &Result<Option<Vec<u8>>, RootFault>,
 ) -> Result<Answer, AllocError>
     ensures { IfOk result (λ answer. ShowsFound notation answer found.now) }
 {
     match found {
-        Ok(found) => Answer::of_value(alloc, notation, found.value.as_deref()),
+        Ok(value) => Answer::of_value(alloc, notation, value.as_deref()),
         Err(fault) => Answer::of_fault(alloc, Fault::Root(*fault)),
     }
 }

@@ -5,7 +5,7 @@ ghost use Rattle.prolly_tool.specs.LookUps.{ShowsFoundPair, ShowsPair};
 use crate::answer::Answer;
 use crate::fault::Fault;
 use prolly_entry::Pair;
-use prolly_proof::{FoundPair, RootFault};
+use prolly_proof::RootFault;
 use prolly_text::Notation;
 use std::alloc::{AllocError, Global};
 
@@ -14,16 +14,16 @@ use std::alloc::{AllocError, Global};
 /// fault for which nothing was found out. An `Err` is want of memory for that text.
 ///
 /// What a pair or none says of the map with the root is said where the look-up is made: see
-/// [`nth_by_root`](prolly_proof::nth_by_root).
+/// [`Reader::nth`](prolly_proof::Reader::nth).
 pub fn answer_found_pair(
     alloc: Global,
     notation: Notation,
-    found: &Result<FoundPair, RootFault>,
+    found: &Result<Option<Pair>, RootFault>,
 ) -> Result<Answer, AllocError>
     ensures shown { IfOk result (λ answer. ShowsFoundPair notation answer found.now) }
 {
     match found {
-        Ok(found) => pair_shown(alloc, notation, &found.pair),
+        Ok(pair) => pair_shown(alloc, notation, pair),
         Err(fault) => Answer::of_fault(alloc, Fault::Root(*fault)),
     }
 }

@@ -4,9 +4,9 @@ use crate::inputs::{Input, chunk_file};
 use crate::patient::Patient;
 use crate::refusal::Refusal;
 use crate::streams::Stream;
-use prolly_entry::{Ref, Version};
-use prolly_file::{Blocks, FromSeek, ToWrite};
-use prolly_proof::{get_by_root, nth_by_root};
+use prolly_entry::{Pair, Ref, Version};
+use prolly_file::{Blocks, Device, FromSeek, ToWrite};
+use prolly_proof::{Reader, RootFault};
 use prolly_tool::{
     Answer, Fault, Notation, RootScan, answer_found, answer_found_pair, answer_get_as,
     answer_nth_as, answer_scan_as, answer_scan_by_root,
@@ -66,8 +66,19 @@ pub fn get(
 /// `get [--text] --root ROOT [--format V] FILE KEY`, which reads no more of the file than it needs.
 fn get_from_root(rt: &HostRuntime, tree: RootedFile<'_>, key: &[u8]) -> Result<Answer, Refusal> {
     let mut device = tree.device(rt)?;
-    let found = get_by_root(rt.alloc(), &mut device, tree.version, tree.root, key);
+    let found = value_in(rt, &mut device, tree, key);
     Ok(answer_found(rt.alloc(), tree.notation, &found)?)
+}
+
+/// The value of the key, or none.
+fn value_in<D: Device>(
+    rt: &HostRuntime,
+    device: &mut D,
+    tree: RootedFile<'_>,
+    key: &[u8],
+) -> Result<Option<Vec<u8>>, RootFault> {
+    let mut reader = Reader::open(rt.alloc(), device, tree.version, tree.root)?;
+    reader.get(rt.alloc(), device, key)
 }
 
 /// `scan [--text] [--root ROOT] [--format V] FILE KEY LIMIT`
@@ -131,6 +142,19 @@ fn nth_from_root(rt: &HostRuntime, tree: RootedFile<'_>, n: u64) -> Result<Answe
         return Err(Refusal::of_fault(rt, Fault::NoCounts));
     }
     let mut device = tree.device(rt)?;
-    let found = nth_by_root(rt.alloc(), &mut device, tree.root, n);
+    let found = pair_in(rt, &mut device, tree, n);
     Ok(answer_found_pair(rt.alloc(), tree.notation, &found)?)
+}
+
+/// The pair of the number, or none.
+fn pair_in<D: Device>(
+    rt: &HostRuntime,
+    device: &mut D,
+    tree: RootedFile<'_>,
+    n: u64,
+) -> Result<Option<Pair>, RootFault>
+    requires { tree.version ≡ Two }
+{
+    let mut reader = Reader::open(rt.alloc(), device, tree.version, tree.root)?;
+    reader.nth(rt.alloc(), device, n)
 }

@@ -1,50 +1,63 @@
 -- Where a look-up goes on, and where it ends.
-use Rattle.std.proofs.Common.{◌≡◌, ℕ, List, [], ◌∷◌, ◌++◌, Option, Some, None, refl, sym, ◌∙◌}
+use Rattle.std.proofs.Common.{◌≡◌, ℕ, List, [], ◌∷◌, ◌++◌, Option, Some, None, refl, sym, ap, ◌∙◌}
 use Rattle.std.proofs.Common.{subst}
 use Rattle.std.specs.Prelude.{option_map}
 use Rattle.prolly_entry.specs.declared.version.Version.{Version}
-use Rattle.prolly_check.specs.Children.{child_for}
 use Rattle.prolly_check.specs.Entries.{Child}
 use Rattle.prolly_check.specs.Kinds.{kind_of}
-use Rattle.prolly_check.specs.Way.{EndsWith, IsNamed, Lead, LeadsOn}
+use Rattle.prolly_check.specs.Sought.{Sought, EndsAt, IsChildOf, LeadsOn, child_sought}
+use Rattle.prolly_check.specs.Sought.{reference_and_sought, sought_of}
+use Rattle.prolly_check.specs.Way.{IsNamed, Lead}
 use Rattle.prolly_check.specs.declared.entries.Entries.{Entries}
 use Rattle.prolly_check.specs.declared.entries.Entries.TheVariants.{Leaf, Node}
+use Rattle.prolly_check.specs.declared.look_up.sought.ChildSought.{ChildSought}
 
 -- A look-up that ends at entries does not go on from them.
-pub no_way_on : (key : List ℕ) (entries : Entries) (value : Option (List ℕ)) (next : List ℕ) →
-    EndsWith key entries value → LeadsOn key entries next → ⊥
-no_way_on key (Leaf pairs) value next ends on = on
-no_way_on key (Node children) value next ends on =
-    none_leads (child_for key children) ends.0 on
+pub no_way_on : (sought : Sought) (entries : Entries) (reference : List ℕ) (next : Sought) →
+    EndsAt sought entries → LeadsOn sought entries reference next → ⊥
+no_way_on sought (Leaf pairs) reference next ends on = on
+no_way_on sought (Node children) reference next ends on =
+    none_leads (child_sought sought children) ends on
   where
-    none_leads : (o : Option Child) → o ≡ None →
-        option_map (λ c. c.reference) o ≡ Some next → ⊥
+    none_leads : (o : Option (Child × Sought)) → o ≡ None →
+        option_map reference_and_sought o ≡ Some (reference, next) → ⊥
     none_leads o none on = cc
 
--- It goes on at one reference.
-pub one_way_on : (key : List ℕ) (entries : Entries) (next other : List ℕ) →
-    LeadsOn key entries next → LeadsOn key entries other → next ≡ other
-one_way_on key (Leaf pairs) next other on too = absurd on
-one_way_on key (Node children) next other on too = one (sym on ∙ too)
+-- It goes on at one reference, and seeks one thing there.
+pub one_way_on : (sought : Sought) (entries : Entries) (x y : List ℕ × Sought) →
+    LeadsOn sought entries x.0 x.1 → LeadsOn sought entries y.0 y.1 → x ≡ y
+one_way_on sought (Leaf pairs) x y on too = absurd on
+one_way_on sought (Node children) x y on too = one (sym on ∙ too)
   where
-    one : Some next ≡ Some other → next ≡ other
+    one : ◌≡◌ {A = Option (List ℕ × Sought)} (Some (x.0, x.1)) (Some (y.0, y.1)) → x ≡ y
     one e = cc
 
--- It ends with one value, or with none.
-pub one_value : (key : List ℕ) (entries : Entries) (value other : Option (List ℕ)) →
-    EndsWith key entries value → EndsWith key entries other → value ≡ other
-one_value key (Leaf pairs) value other ends too = ends ∙ sym too
-one_value key (Node children) value other ends too = ends.1 ∙ sym too.1
+-- It goes on at the child that was found.
+pub child_leads : (sought : Sought) (entries : Entries) (child : ChildSought) →
+    IsChildOf sought entries child →
+    LeadsOn sought entries child.reference.0 (sought_of child.sought)
+child_leads sought (Leaf pairs) child is = is
+child_leads sought (Node children) child is =
+    ap (option_map reference_and_sought) is.sought_there ∙
+    ap (λ r. Some (r, sought_of child.sought)) (sym is.reference)
 
 -- One more chunk leads on.
-pub lead_more : (version : Version) (key from : List ℕ) (chunks : List (List ℕ))
-    (to chunk next : List ℕ) → Lead version key from chunks to → IsNamed version to chunk →
-    LeadsOn key (kind_of version chunk) next → Lead version key from (chunks ++ chunk ∷ []) next
-lead_more version key from [] to chunk next lead named on =
-    (subst (λ r. IsNamed version r chunk) (sym lead) named, next, on, refl)
-lead_more version key from (c ∷ chunks) to chunk next lead named on = (
+pub lead_more : (version : Version) (sought : Sought) (from : List ℕ) (chunks : List (List ℕ))
+    (to : List ℕ) (there : Sought) (chunk reference : List ℕ) (next : Sought) →
+    Lead version sought from chunks to there → IsNamed version to chunk →
+    LeadsOn there (kind_of version chunk) reference next →
+    Lead version sought from (chunks ++ chunk ∷ []) reference next
+lead_more version sought from [] to there chunk reference next lead named on = (
+  subst (λ r. IsNamed version r chunk) (sym lead.0) named,
+  reference,
+  next,
+  subst (λ s. LeadsOn s (kind_of version chunk) reference next) (sym lead.1) on,
+  (refl, refl),
+)
+lead_more version sought from (c ∷ chunks) to there chunk reference next lead named on = (
   lead.0,
   lead.1,
   lead.2,
-  lead_more version key lead.1 chunks to chunk next lead.3 named on,
+  lead.3,
+  lead_more version lead.2 lead.1 chunks to there chunk reference next lead.4 named on,
 )

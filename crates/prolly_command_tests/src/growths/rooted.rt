@@ -1,9 +1,9 @@
 //! What look-ups and a scan by the root show where they are refused memory.
 use super::{FILE_OF_ONE, expect_begun, expect_shown};
 use crate::tools::look_up_answers::file_of_three;
-use prolly_entry::{Ref, Version};
+use prolly_entry::{Pair, Ref, Version};
 use prolly_file::{ScriptDevice, ScriptSink};
-use prolly_proof::{get_by_root, nth_by_root};
+use prolly_proof::{Reader, RootFault};
 use prolly_tool::{Notation, RootScan, answer_found, answer_found_pair, answer_scan_by_root};
 use std::alloc::{AllocError, Global};
 use std::test::Fail;
@@ -18,11 +18,27 @@ fn device_of_one(alloc: Global) -> Result<ScriptDevice, AllocError> {
     Ok(ScriptDevice::new(FILE_OF_ONE.to_vec(alloc)?, None))
 }
 
+/// The value of the key a.
+fn value_of_a(alloc: Global, device: &mut ScriptDevice) -> Result<Option<Vec<u8>>, RootFault> {
+    let mut reader = Reader::open(alloc, device, Version::One, &root_of_one())?;
+    reader.get(alloc, device, b"a")
+}
+
+/// The pair of the number 2.
+fn third_pair(
+    alloc: Global,
+    device: &mut ScriptDevice,
+    root: &Ref,
+) -> Result<Option<Pair>, RootFault> {
+    let mut reader = Reader::open(alloc, device, Version::Two, root)?;
+    reader.nth(alloc, device, 2)
+}
+
 #[test]
 fn what_is_found_is_shown_or_wants_memory(rt: HostRuntime) -> Result<(), Fail> {
     let alloc = rt.alloc();
     let mut device = device_of_one(alloc)?;
-    let found = get_by_root(alloc, &mut device, Version::One, &root_of_one(), b"a");
+    let found = value_of_a(alloc, &mut device);
     let value = answer_found(alloc, Notation::Hex, &found);
     expect_shown(&rt, value, 0, b"31\n");
     Ok(())
@@ -36,7 +52,7 @@ fn what_has_a_number_is_shown_or_wants_memory(rt: HostRuntime) -> Result<(), Fai
     let alloc = rt.alloc();
     let root = Ref::from_text(ROOT_OF_THREE).ok_or("the text of a root")?;
     let mut device = ScriptDevice::new(file_of_three(alloc, Version::Two)?, None);
-    let found = nth_by_root(alloc, &mut device, &root, 2);
+    let found = third_pair(alloc, &mut device, &root);
     let pair = answer_found_pair(alloc, Notation::Hex, &found);
     expect_shown(&rt, pair, 0, b"63 31\n");
     Ok(())

@@ -1,7 +1,5 @@
-use Rattle.prolly_check.proofs.CountWays.{count_ways_are_right}
 use Rattle.prolly_check.proofs.ScanRuns.{scans_go_on}
-use Rattle.prolly_check.proofs.ScanWays.{scans_are_right}
-use Rattle.prolly_check.proofs.Ways.{ways_are_right}
+use Rattle.prolly_check.proofs.TreeWays.{count_ways_are_right, scans_are_right, ways_are_right}
 use Rattle.prolly_check.proofs.laws.ways_are_right.Goals as goal
 
 pub returns-clause-found : goal.returns-clause-found

@@ -1,0 +1,261 @@
+-- Going down the tree of a file that was checked.
+use Rattle.std.proofs.Common.{◌≡◌, ℕ, suc, ◌+◌, ◌<◌, ◌≤◌, ◌^◌, inl, inr, ◌⊎◌, List, [], ◌∷◌, ◌++◌}
+use Rattle.std.proofs.Common.{length}
+use Rattle.std.proofs.Common.{map, get_or, All, refl, sym, ap, ◌∙◌, subst, arith}
+use Rattle.std.specs.Borrow.{Bor}
+use Rattle.std.specs.List.{AllByRecursion}
+use Rattle.std.proofs.lemmas.List.{length-append, map-append}
+use Rattle.prolly_entry.specs.Byte.{IsByte}
+use Rattle.prolly_entry.specs.Pair.{Pair}
+use Rattle.prolly_entry.specs.Reference.{reference_of}
+use Rattle.prolly_entry.specs.lemmas.Lists.{all_append}
+use Rattle.prolly_laws.specs.Trees.{top_in}
+use Rattle.prolly_tree.specs.Chunk.{IsIn, chunk_of}
+use Rattle.prolly_tree.specs.Tree.{bytes_of, pairs_below}
+use Rattle.prolly_check.specs.Checked.{HasFile, HasReference, chunks_of}
+use Rattle.prolly_check.specs.Content.{Content}
+use Rattle.prolly_check.specs.FileWays.{IsCounted, IsEnd, IsNamedAt, IsNext, IsTop, nth_chunk}
+use Rattle.prolly_check.specs.Held.{pairs_held}
+use Rattle.prolly_check.specs.Index.{HasAt}
+use Rattle.prolly_check.specs.Kinds.{kind_of}
+use Rattle.prolly_check.specs.Root.{root_bytes}
+use Rattle.prolly_check.specs.Sought.{Sought, EndsAt, LeadsOn, sought_of}
+use Rattle.prolly_check.specs.Sought.Sought.{Key, Number}
+use Rattle.prolly_check.specs.Way.{Clash, IsOrdered, IsWayTo, Lead, LevelsFall, level_of}
+use Rattle.prolly_check.specs.declared.look_up.descent.At.{At}
+use Rattle.prolly_check.specs.lemmas.Ways.{lead_more}
+use Rattle.prolly_check.proofs.Chosen.{CanCount}
+use Rattle.prolly_check.proofs.FewPairs.{few_pairs}
+use Rattle.prolly_check.proofs.Lookups.{one_chunk, reference_leads, root_is}
+use Rattle.prolly_check.proofs.Standing.{Tells, stands_in_all}
+use Rattle.prolly_check.proofs.TreeTops.{top_is_read}
+use Rattle.prolly_check.proofs.TreeWays.{GoesTo, goes_to, way_right}
+use Rattle.prolly_check.proofs.WayDown.{height_is, is_there, root_of, root_pairs}
+
+-- ---- from one chunk to the next
+
+can_count : (content : Content) (there : Sought) (number : ℕ) (top : IsTop content number) →
+    IsCounted content.version there →
+    CanCount content.version there (pairs_below top.level top.tree)
+can_count content (Key key) number top counted = tt
+can_count content (Number n) number top counted = (counted, top.few)
+
+module _ (content : Content) (f : HasFile content) (number : ℕ) (top : IsTop content number) where
+  pub is_ordered : IsOrdered content.version (nth_chunk content number)
+  is_ordered = subst (IsOrdered content.version) (sym top.is)
+      (top_is_read content.version (chunks_of content) top.level top.tree top.of).0
+
+  module _ (there next : Sought) (reference : List ℕ) (counted : IsCounted content.version there)
+      (on : LeadsOn there (kind_of content.version (nth_chunk content number)) reference next) where
+    to : GoesTo content.version (chunks_of content) (pairs_below top.level top.tree) there next
+        reference top.level
+    to = goes_to content.version (chunks_of content) (pairs_below top.level top.tree) there there
+        next reference top.level top.tree (record {
+          of = top.of;
+          stands = stands_in_all there (pairs_below top.level top.tree)
+              (pairs_below top.level top.tree) refl;
+          can = can_count content there number top counted;
+        })
+        (subst (λ c. LeadsOn there (kind_of content.version c) reference next) top.is on)
+
+    pub is_there_below : HasReference (chunks_of content) reference
+    is_there_below = record {
+      chunk = bytes_of content.version to.level to.t;
+      is_in = to.at.of.has (chunk_of content.version to.level to.t)
+          (top_in content.version to.level to.t);
+      is = sym to.named;
+    }
+
+    counted_still : IsCounted content.version next
+    counted_still = still next to.at.can
+      where
+        still : (s : Sought) → CanCount content.version s (pairs_below to.level to.t) →
+            IsCounted content.version s
+        still (Key key) can = tt
+        still (Number n) can = can.0
+
+    pub one_below : (n : ℕ) → HasAt (chunks_of content) n reference →
+        IsTop content n × (level_of (nth_chunk content number) ≡ suc (level_of (nth_chunk content n)))
+        × IsCounted content.version next
+    one_below n at =
+        let is : nth_chunk content n ≡ bytes_of content.version to.level to.t =
+        (reference_leads content.version).0 (chunks_of content) to.level to.t (nth_chunk content n)
+        f.is.apart to.at.of.has (is_there (chunks_of content) n at.within) (at.is ∙ to.named) in
+        let few : length (pairs_below to.level to.t) ≤ length (pairs_below top.level top.tree) =
+        part to.at.stands.before (pairs_below to.level to.t) to.at.stands.after
+        (pairs_below top.level top.tree) to.at.stands.are in (
+          record {
+            within = at.within;
+            level = to.level;
+            tree = to.t;
+            is = is;
+            of = to.at.of;
+            few = let all = top.few in omega (arith, few);
+          },
+          ap level_of top.is ∙ height_is content.version top.level top.tree ∙ to.lower ∙
+              ap suc (sym (ap level_of is ∙ height_is content.version to.level to.t)),
+          counted_still,
+        )
+      where
+        part : (before own after m : List Pair) → m ≡ before ++ (own ++ after) →
+            length own ≤ length m
+        part before own after m e = omega (
+          arith,
+          ap length e,
+          length-append before (own ++ after),
+          length-append own after,
+        )
+
+pub next_is : (content : Content) (f : HasFile content) (at next : At)
+    (top : IsTop content at.number) (reference : List ℕ) →
+    IsCounted content.version (sought_of at.sought) →
+    LeadsOn (sought_of at.sought) (kind_of content.version (nth_chunk content at.number)) reference
+    (sought_of next.sought) → HasAt (chunks_of content) next.number reference →
+    IsNext content at next
+next_is content f at next top reference counted on has =
+    let below = one_below content f at.number top (sought_of at.sought) (sought_of next.sought)
+    reference counted on next.number has in
+    record {
+      leads = subst (λ r. LeadsOn (sought_of at.sought)
+          (kind_of content.version (nth_chunk content at.number)) r (sought_of next.sought))
+          (sym has.is) on;
+      falls = below.1;
+      top = below.0;
+      counted = below.2;
+    }
+
+-- ---- chunks one below another
+
+-- one more level down
+falls_more : (chunks : List (List ℕ)) (chunk below : List ℕ) → LevelsFall (chunks ++ chunk ∷ []) →
+    level_of chunk ≡ suc (level_of below) → LevelsFall ((chunks ++ chunk ∷ []) ++ below ∷ [])
+falls_more [] chunk below down one = (one, tt)
+falls_more (c ∷ []) chunk below down one = (down.0, falls_more [] chunk below down.1 one)
+falls_more (c ∷ d ∷ chunks) chunk below down one =
+    (down.0, falls_more (d ∷ chunks) chunk below down.1 one)
+
+-- the chunks behind references, of which one more was kept
+pub pushed : (items new : List (Bor (List ℕ))) (one : Bor (List ℕ)) (chunk : List ℕ) →
+    new ≡ items ++ one ∷ [] → one.now ≡ chunk →
+    map (λ c. c.now) new ≡ map (λ c. c.now) items ++ chunk ∷ []
+pushed items new one chunk is at = ap (map (λ c. c.now)) is ∙
+    map-append (λ c. c.now) items (one ∷ []) ∙ ap (λ c. map (λ c. c.now) items ++ c ∷ []) at
+
+-- these chunks of the file led a look-up to the chunk of this number
+pub record OnWay (content : Content) (sought : Sought) (above : List (List ℕ)) (number : ℕ)
+    (there : Sought) : Type 0 where
+  pub top : IsTop content number
+  pub counted : IsCounted content.version there
+  pub lead : Lead content.version sought (reference_of (root_bytes content)) above
+      (reference_of (nth_chunk content number)) there
+  pub down : LevelsFall (above ++ nth_chunk content number ∷ [])
+  pub inside : AllByRecursion (λ c. IsIn c (chunks_of content)) above
+
+-- some chunks did
+pub record IsOnWay (content : Content) (sought : Sought) (number : ℕ) (there : Sought) : Type 0
+  where
+    pub above : List (List ℕ)
+    pub on : OnWay content sought above number there
+
+pub way_begins : (content : Content) (sought : Sought) (number : ℕ) → HasFile content →
+    number < length (chunks_of content) → nth_chunk content number ≡ root_bytes content →
+    IsCounted content.version sought → OnWay content sought [] number sought
+way_begins content sought number f within is counted = record {
+  top = record {
+    within = within;
+    level = (root_of content).level;
+    tree = (root_of content).tree;
+    is = is;
+    of = root_is content.version content.bits content.pairs f.is.lawful f.is.rising;
+    few = let short = f.short in omega (
+      arith,
+      few_pairs f.bytes content f.is,
+      ap length (root_pairs content),
+    );
+  };
+  counted = counted;
+  lead = (ap reference_of (sym is), refl);
+  down = tt;
+  inside = tt;
+}
+
+module _ (content : Content) (sought : Sought) (above : List (List ℕ)) (at : At)
+    (on : OnWay content sought above at.number (sought_of at.sought))
+    (named : IsNamedAt content at.number) where
+  abbrev chunk : List ℕ
+  chunk = nth_chunk content at.number
+
+  all_inside : AllByRecursion (λ c. IsIn c (chunks_of content)) (above ++ chunk ∷ [])
+  all_inside = all_append (λ c. IsIn c (chunks_of content)) above (chunk ∷ []) on.inside
+      (is_there (chunks_of content) at.number on.top.within, tt)
+
+  pub way_goes_on : (next : At) → IsNext content at next →
+      OnWay content sought (above ++ chunk ∷ []) next.number (sought_of next.sought)
+  way_goes_on next to = record {
+    top = to.top;
+    counted = to.counted;
+    lead = lead_more content.version sought (reference_of (root_bytes content)) above
+        (reference_of chunk) (sought_of at.sought) chunk
+        (reference_of (nth_chunk content next.number)) (sought_of next.sought) on.lead named
+        to.leads;
+    down = falls_more above chunk (nth_chunk content next.number) on.down to.falls;
+    inside = all_inside;
+  }
+
+  pub way_ends : EndsAt (sought_of at.sought) (kind_of content.version chunk) →
+      IsEnd content sought at
+  way_ends ends = record {
+    chunks = above ++ chunk ∷ [];
+    inside = all_inside;
+    way = record {
+      before = above;
+      last = chunk;
+      reference = reference_of chunk;
+      there = sought_of at.sought;
+      are = refl;
+      lead = on.lead;
+      named = named;
+      down = on.down;
+      ends = ends;
+    };
+    within = on.top.within;
+    last = refl;
+    there = refl;
+  }
+
+-- ---- what is found there is what the map has
+
+module _ (content : Content) (f : HasFile content) where
+  no_clash : (chunks : List (List ℕ)) → AllByRecursion (λ c. IsIn c (chunks_of content)) chunks →
+      Clash chunks (chunks_of content) → ⊥
+  no_clash chunks inside c = c.differ (one_chunk (chunks_of content) c.one c.other f.is.apart
+      (is_inside chunks inside c.in_one) c.in_other c.same)
+    where
+      is_inside : (cs : List (List ℕ)) → AllByRecursion (λ c. IsIn c (chunks_of content)) cs →
+          IsIn c.one cs → IsIn c.one (chunks_of content)
+      is_inside [] all is_in = absurd is_in
+      is_inside (d ∷ cs) all (inl e) = subst (λ c. IsIn c (chunks_of content)) (sym e) all.0
+      is_inside (d ∷ cs) all (inr is_in) = is_inside cs all.1 is_in
+
+  can_in : (sought : Sought) → IsCounted content.version sought →
+      CanCount content.version sought content.pairs
+  can_in (Key key) counted = tt
+  can_in (Number n) counted = (
+    counted,
+    let short = f.short in omega (arith, few_pairs f.bytes content f.is),
+  )
+
+  pub end_tells : (sought : Sought) → IsCounted content.version sought → (at : At) →
+      IsEnd content sought at → Tells sought content.pairs (sought_of at.sought)
+      (pairs_held (nth_chunk content at.number))
+  end_tells sought counted at end =
+      subst (λ c. Tells sought content.pairs (sought_of at.sought) (pairs_held c)) end.last
+      (subst (λ s. Tells sought content.pairs s (pairs_held end.way.last)) end.there
+      (tells (way_right content.version content.bits content.pairs sought end.chunks f.is.rising
+      f.is.lawful (can_in sought counted) end.way)))
+    where
+      tells : Tells sought content.pairs end.way.there (pairs_held end.way.last) ⊎
+          Clash end.chunks (chunks_of content) →
+          Tells sought content.pairs end.way.there (pairs_held end.way.last)
+      tells (inl told) = told
+      tells (inr clash) = absurd (no_clash end.chunks end.inside clash)

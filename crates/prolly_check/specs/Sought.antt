@@ -1,0 +1,78 @@
+-- What a look-up seeks, and which child of a node it goes on in. (This project's rules.)
+use Rattle.std.specs.Prelude.{◌≡◌, ◌<◌, ◌≤◌, ℕ, List, [], ◌∷◌, ◌++◌, length, drop, Option, Some, None}
+use Rattle.std.specs.Prelude.{option_map}
+use Rattle.prolly_entry.specs.declared.version.Version.{Version}
+use Rattle.prolly_check.specs.Children.{child_for, child_with}
+use Rattle.prolly_check.specs.Entries.{Child, IsNode, children_in}
+use Rattle.prolly_check.specs.declared.entries.Entries.{Entries}
+use Rattle.prolly_check.specs.declared.entries.Entries.TheVariants.{Leaf, Node}
+use Rattle.prolly_check.specs.declared.look_up.sought.ChildSought.{ChildSought}
+use Rattle.prolly_check.specs.declared.look_up.sought.Mark.{Mark}
+use Rattle.prolly_check.specs.declared.look_up.sought.Sought.{Sought as Asked}
+use Rattle.prolly_check.specs.declared.look_up.sought.Sought.TheVariants.{Key as AskedKey}
+use Rattle.prolly_check.specs.declared.look_up.sought.Sought.TheVariants.{Number as AskedNumber}
+
+-- What a look-up seeks: a key, or the pair of this number, counted from 0 in the order of keys.
+pub data Sought : Type 0 where
+  Key : List ℕ → Sought
+  Number : ℕ → Sought
+
+-- The same of what a call was asked for.
+abbrev pub sought_of : Asked → Sought
+sought_of (AskedKey key) = Key key.now
+sought_of (AskedNumber n) = Number n
+
+-- A child, and what is sought below it.
+abbrev pub found_child : List ℕ → Child → Child × Sought
+found_child key child = (child, Key key)
+
+abbrev pub counted_child : Child × ℕ → Child × Sought
+counted_child c = (c.0, Number c.1)
+
+-- The child that a look-up goes on in: for a key the first whose greatest key is not below it, for
+-- a pair's number the first that has the pair below it, by the counts.
+abbrev pub child_sought : Sought → List Child → Option (Child × Sought)
+child_sought (Key key) children = option_map (found_child key) (child_for key children)
+child_sought (Number n) children = option_map counted_child (child_with n children)
+
+-- The reference of a child, and what is sought below it.
+abbrev pub reference_and_sought : Child × Sought → List ℕ × Sought
+reference_and_sought c = (c.0.reference, c.1)
+
+-- A look-up goes on from these entries at the chunk with this reference, and seeks this there.
+abbrev pub LeadsOn : Sought → Entries → List ℕ → Sought → Type 0
+LeadsOn sought (Leaf pairs) reference next = ⊥
+LeadsOn sought (Node children) reference next =
+    option_map reference_and_sought (child_sought sought children) ≡ Some (reference, next)
+
+-- It ends at these entries: those of a leaf, or of a node none of whose children it goes on in.
+abbrev pub EndsAt : Sought → Entries → Type 0
+EndsAt sought (Leaf pairs) = Unit {0}
+EndsAt sought (Node children) = child_sought sought children ≡ None
+
+-- This is the child of these that a look-up goes on in: its number, its reference, and what is
+-- sought below it.
+pub record IsChildSought (sought : Sought) (children : List Child) (is : ChildSought) : Type 0 where
+  pub before : List Child
+  pub child : Child
+  pub after : List Child
+  pub are : children ≡ before ++ child ∷ after
+  pub number : is.number ≡ length before
+  pub reference : is.reference.0 ≡ child.reference
+  pub sought_there : child_sought sought children ≡ Some (child, sought_of is.sought)
+
+-- The same of entries, which are those of a node.
+abbrev pub IsChildOf : Sought → Entries → ChildSought → Type 0
+IsChildOf sought (Leaf pairs) is = ⊥
+IsChildOf sought (Node children) is = IsChildSought sought children is
+
+-- The mark stands between the entries of the chunk, where that is a node: before it are so many
+-- children, and behind it the others.
+pub record IsMark (version : Version) (chunk : List ℕ) (mark : Mark) : Type 0 where
+  pub before : List Child
+  pub are : children_in version (drop 1 chunk) ≡
+      before ++ children_in version (drop mark.offset chunk)
+  pub number : mark.number ≡ length before
+  pub node : IsNode version (drop 1 chunk) [] → IsNode version (drop mark.offset chunk) []
+  pub few : mark.number < mark.offset
+  pub within : mark.offset ≤ length chunk

@@ -1,0 +1,162 @@
+//! The step of a look-up at one chunk.
+ghost use Rattle.std.specs.Prelude.{◌≡◌, ◌↔◌, ℕ, [], ◌∷◌, ◌<◌, All, length, Option, IsTrue, IfSome};
+ghost use Rattle.std.specs.Prelude.{IfNone};
+ghost use Rattle.std.specs.Prelude.{IfOk, IfErr, OnOk, MatchOption};
+ghost use Rattle.prolly_entry.specs.Byte.{IsByte};
+ghost use Rattle.prolly_entry.specs.Keys.{Rising};
+ghost use Rattle.prolly_check.specs.Kinds.{kind_of};
+ghost use Rattle.prolly_check.specs.Sought.{IsChildOf, IsMark, EndsAt, sought_of};
+ghost use Rattle.prolly_check.specs.Steps.{IsFlawed, IsStep};
+ghost use Rattle.prolly_check.specs.Way.{FallsTo, IsNamed, IsOrdered, keys_of};
+
+use crate::entries::{Entries, entries_of, pairs_of};
+use crate::leaf::Pairs;
+use crate::look_up::sought::{ChildSought, Mark, Sought, child_sought};
+use crate::whole::is_whole;
+use prolly_entry::{Ref, Version, key_rises};
+
+/// The chunk that is due next on the way of a look-up.
+#[derive(Clone, Copy)]
+pub struct Due<'a> {
+    /// Its reference.
+    pub reference: Ref,
+    /// The level of the chunk above it; none is above the root.
+    pub above: Option<u8>,
+    /// What is sought there.
+    pub sought: Sought<'a>,
+}
+
+/// What a look-up comes to at a chunk.
+#[derive(Drop)]
+pub enum Step<'c, 'a> {
+    /// It ends there, with these pairs: those of a leaf, or none at a node.
+    End(Pairs<'c>),
+    /// It goes on at the chunk that is due next.
+    Below(Due<'a>),
+}
+
+/// Why a chunk is not the one that is due, or none that a tree has there.
+#[derive(Clone, Copy)]
+pub enum ChunkFlaw {
+    /// It has another reference.
+    Reference,
+    /// It is not a level, and whole lawful entries of that level's kind.
+    Entries,
+    /// One of its keys is not greater than the one before it.
+    Order,
+    /// It does not stand one level below the chunk above it.
+    Level,
+}
+
+/// The step of a look-up at a chunk that may have come from anywhere.
+///
+/// Takes no memory. Hashes the chunk and reads it three times, so in time linear in its length.
+pub fn step_at<'c, 'a>(
+    version: Version,
+    chunk: &'c [u8],
+    due: &Due<'a>,
+) -> Result<Step<'c, 'a>, ChunkFlaw>
+    ensures named { OnOk result (IsNamed version due.now.reference.0 chunk.now) }
+    ensures falls { OnOk result (FallsTo due.now.above chunk.now) }
+    ensures step { IfOk result (IsStep version (sought_of due.now.sought) chunk.now) }
+    ensures err { IfErr result (IsFlawed version due.now.reference.0 due.now.above chunk.now) }
+{
+    test_chunk(version, chunk, &due.reference)?;
+    if !falls_to(due.above, chunk) {
+        return Err(ChunkFlaw::Level);
+    }
+    match step_of(version, chunk, Mark::first(), due.sought) {
+        Some(child) => Ok(Step::Below(Due {
+            reference: child.reference,
+            above: Some(chunk[0]),
+            sought: child.sought,
+        })),
+        None => Ok(Step::End(pairs_of(version, chunk))),
+    }
+}
+
+/// Tests whether a chunk has the reference, and is a level and whole lawful entries of that level's
+/// kind, whose keys rise.
+///
+/// Takes no memory. Hashes the chunk and reads it twice, so in time linear in its length.
+pub fn test_chunk(version: Version, chunk: &[u8], reference: &Ref) -> Result<(), ChunkFlaw>
+    ensures ok { OnOk result (IsNamed version reference.now.0 chunk.now) }
+    ensures err { IfErr result (λ flaw. (above : Option ℕ) →
+        IsFlawed version reference.now.0 above chunk.now flaw) }
+{
+    if Ref::of(chunk) != *reference {
+        return Err(ChunkFlaw::Reference);
+    }
+    if !is_whole(version, chunk) {
+        return Err(ChunkFlaw::Entries);
+    }
+    if !keys_rise(entries_of(version, chunk)) {
+        return Err(ChunkFlaw::Order);
+    }
+    Ok(())
+}
+
+/// Whether the chunk, which has a level, may stand below one of the level `above`.
+pub fn falls_to(above: Option<u8>, chunk: &[u8]) -> bool
+    requires { 0 < length chunk.now }
+    ensures { IsTrue result ↔ FallsTo above chunk.now }
+{
+    match above {
+        None => true,
+        Some(above) => u16::from(above) == u16::from(chunk[0]) + 1,
+    }
+}
+
+/// The child in which a look-up goes on from a chunk that was tested; none where it ends there: at
+/// a leaf, or at a node of whose children it goes on in none. Where the child behind the mark is
+/// below the key that is sought, it reads on from there.
+///
+/// Takes no memory, and time linear in the part of the chunk that is read.
+pub fn step_of<'a>(
+    version: Version,
+    chunk: &[u8],
+    mark: Mark,
+    sought: Sought<'a>,
+) -> Option<ChildSought<'a>>
+    requires ordered { IsOrdered version chunk.now }
+    requires mark { IsMark version chunk.now mark }
+    ensures on { IfSome result (IsChildOf (sought_of sought.entry) (kind_of version chunk.now)) }
+    ensures ends { IfNone result (EndsAt (sought_of sought.entry) (kind_of version chunk.now)) }
+    ensures bytes { All IsByte chunk.now }
+{
+    match entries_of(version, chunk) {
+        Entries::Leaf(_) => None,
+        Entries::Node(_) => child_sought(version, chunk, mark, sought),
+    }
+}
+
+/// Whether each key of the entries is greater than the one before it.
+fn keys_rise(mut entries: Entries) -> bool
+    ensures { IsTrue result ↔ Rising (keys_of entries.entry) }
+{
+    let mut last = None;
+    while let Some(key) = next_key(&mut entries) {
+        if !key_rises(last, key) {
+            return false;
+        }
+        last = Some(key);
+    }
+    true
+}
+
+/// The key of the next entry.
+fn next_key<'a>(entries: &mut Entries<'a>) -> Option<&'a [u8]>
+    ensures { MatchOption result (keys_of entries.old ≡ [])
+        (λ key. keys_of entries.old ≡ key.now ∷ keys_of entries.new) }
+{
+    match entries {
+        Entries::Leaf(pairs) => {
+            let (key, _) = pairs.next()?;
+            Some(key)
+        }
+        Entries::Node(children) => {
+            let child = children.next()?;
+            Some(child.key)
+        }
+    }
+}
