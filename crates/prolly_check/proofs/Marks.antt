@@ -114,17 +114,10 @@ pub none_sought : (sought : Sought) → child_sought sought [] ≡ None
 none_sought (Key key) = refl
 none_sought (Number n) = refl
 
--- the first one stands before all of them
-pub first_mark : (version : Version) (chunk : List ℕ) (mark : Mark) → mark.number ≡ 0 →
-    mark.offset ≡ 1 → 0 < length chunk → IsMark version chunk mark
-first_mark version chunk mark number offset some = record {
-  before = [];
-  are = ap (λ n. children_in version (drop n chunk)) (sym offset);
-  number = number;
-  node = λ node. subst (λ n. IsNode version (drop n chunk) []) (sym offset) node;
-  few = omega (arith, number, offset);
-  within = omega (arith, offset, some);
-}
+-- a chunk that was tested has a level
+pub has_level : (version : Version) (chunk : List ℕ) → IsWhole version chunk → 0 < length chunk
+has_level version [] whole = absurd whole.holds
+has_level version (level ∷ entries) whole = omega arith
 
 -- ---- the children of a node
 

@@ -36,8 +36,10 @@ pub use header::{HEADER_SIZE, Header, read_header};
 pub use leaf::Pairs;
 pub use leaves::Leaves;
 pub use level::Level;
-pub use look_up::{ChildSought, ChunkFlaw, Due, Mark, Sought, Step};
-pub use look_up::{falls_to, pair_sought, step_at, step_of, test_chunk, value_in};
+pub use look_up::{
+    ChildSought, ChunkFlaw, Due, Mark, Sought, Step, falls_to, pair_sought, step_at, step_of,
+    test_chunk, value_in,
+};
 pub use missing::Missing;
 pub use scan::first_pairs_from;
 pub use tree::{NoCounts, Tree};

@@ -63,6 +63,7 @@ pub(crate) fn way_to<'f>(
 
 /// Where it goes on from a chunk; none where it ends there.
 fn below<'a>(file: &CheckedFile<'_>, at: At<'a>) -> Option<At<'a>>
+    requires file { HasFile file.now }
     requires top { IsTop file.now at.number }
     requires counted { IsCounted file.now.version (sought_of at.sought) }
     ensures named { IsNamedAt file.now at.entry.number }
@@ -70,7 +71,12 @@ fn below<'a>(file: &CheckedFile<'_>, at: At<'a>) -> Option<At<'a>>
     ensures ends { IfNone result (EndsAt (sought_of at.entry.sought)
         (kind_of file.now.version (nth_chunk file.now at.entry.number))) }
 {
-    let child = step_of(file.version(), file.chunk(at.number), Mark::first(), at.sought)?;
+    let child = step_of(
+        file.version(),
+        file.chunk(at.number),
+        Mark::first(),
+        at.sought,
+    )?;
     Some(At {
         number: file.child(&child.reference),
         sought: child.sought,
