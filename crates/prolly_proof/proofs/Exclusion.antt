@@ -13,13 +13,9 @@ use Rattle.prolly_check.specs.Kinds.{kind_of}
 use Rattle.prolly_check.specs.Held.{pairs_held}
 use Rattle.prolly_check.specs.Sought.{Sought, EndsAt, LeadsOn}
 use Rattle.prolly_check.specs.Sought.Sought.{Key}
-use Rattle.prolly_check.specs.Steps.{IsFlawed}
 use Rattle.prolly_check.specs.Way.{FallsTo, IsNamed, Lead, LevelsFall}
-use Rattle.prolly_check.specs.declared.look_up.step.ChunkFlaw.{ChunkFlaw}
-use Rattle.prolly_check.specs.declared.look_up.step.ChunkFlaw.TheVariants.{Entries, Level, Order}
-use Rattle.prolly_check.specs.declared.look_up.step.ChunkFlaw.TheVariants.{Reference}
 use Rattle.prolly_check.specs.lemmas.Frames.{begins_frame, one_front}
-use Rattle.prolly_check.specs.lemmas.Ways.{no_way_on, one_way_on}
+use Rattle.prolly_check.specs.lemmas.Ways.{no_flaw, no_way_on, one_way_on}
 use Rattle.prolly_entry.specs.declared.version.Version.{Version}
 use Rattle.prolly_entry.specs.declared.version.Version.TheVariants.{One, Two}
 use Rattle.prolly_entry.specs.lemmas.Lists.{all_back, all_front}
@@ -207,20 +203,12 @@ module _ (version : Version) (root key bytes : List ℕ) (value : Option (List �
   frame_there passed due there rest number (BadLevel n) d h = h
   frame_there passed due there rest number Trailing d h = h
 
-  chunk_fine : (chunk due : List ℕ) (above : Option ℕ) (flaw : ChunkFlaw) →
-      IsNamed version due chunk → FallsTo above chunk → IsFlawed version due above chunk flaw → ⊥
-  chunk_fine chunk due above Reference named falls h = h named.is
-  chunk_fine chunk due above Entries named falls h =
-      h.1 named.ordered.whole.pairs named.ordered.whole.holds
-  chunk_fine chunk due above Order named falls h = h.2 named.ordered.rising
-  chunk_fine chunk due above Level named falls h = h.1 falls
-
   chunk_there : (fault : ProofFault) → IsWrongChunk version root key bytes fault → ⊥
   chunk_there fault w =
       let d = due_in w.passed w.due (framed w.chunk ++ w.rest) w.has in
       let one = one_front w.chunk d.chunk w.rest (flat_map framed d.more) w.small d.small d.is in
-      chunk_fine w.chunk w.due (last_level w.passed) w.is.flaw
-      (subst (IsNamed version w.due) (sym one.front) d.named)
+      let named = subst (IsNamed version w.due) (sym one.front) d.named in
+      no_flaw version w.due (last_level w.passed) w.chunk w.is.flaw named.is named.ordered
       (subst (FallsTo (last_level w.passed)) (sym one.front)
       (falls_at w.passed d.chunk d.more (subst LevelsFall d.are p.way.way.down))) w.is.so
 

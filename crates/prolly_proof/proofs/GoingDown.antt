@@ -1,21 +1,19 @@
 -- Going down from the root of a lawful file on a device.
 use Rattle.std.proofs.Common.{◌≡◌, ℕ, zero, suc, ◌+◌, ◌-◌, ◌<◌, ◌≤◌, inr, List, [], ◌∷◌}
-use Rattle.std.proofs.Common.{◌++◌, length, take, drop, map, Result, Ok, Err, None}
-use Rattle.std.proofs.Common.{Option, sym, ap, ◌∙◌, subst, arith, append_assoc}
+use Rattle.std.proofs.Common.{◌++◌, length, take, drop, map, None}
+use Rattle.std.proofs.Common.{Option, Some, refl, sym, ap, ◌∙◌, subst, arith, append_assoc}
 use Rattle.std.proofs.Common.{append-nil}
 use Rattle.std.specs.List.{AllByRecursion, flat_map}
 use Rattle.std.proofs.Math.Seq.{drop-append-add, take-append_seam}
 use Rattle.std.proofs.lemmas.List.{length-take-le, take_all}
 use Rattle.prolly_check.specs.Checked.{chunks_of}
 use Rattle.prolly_check.specs.Content.{Content}
-use Rattle.prolly_check.specs.Descent.{ChildIsTree, IsTreeOf, RootIsTree, TopIsRead, child_of}
-use Rattle.prolly_check.specs.Descent.{entries_below}
-use Rattle.prolly_check.specs.Entries.{Child}
+use Rattle.prolly_check.specs.Descent.{ChildIsTree, IsTreeOf, RootIsTree, TopIsRead}
 use Rattle.prolly_check.specs.Kinds.{kind_of}
 use Rattle.prolly_check.specs.Verdict.{IsFileOf}
 use Rattle.prolly_check.specs.Way.{FallsTo, IsOrdered, level_of}
-use Rattle.prolly_check.specs.declared.entries.Entries.{Entries}
-use Rattle.prolly_check.specs.declared.entries.Entries.TheVariants.{Node}
+use Rattle.prolly_check.specs.Sought.{Sought, IsChildOf}
+use Rattle.prolly_check.specs.declared.look_up.sought.ChildSought.{ChildSought}
 use Rattle.prolly_entry.specs.Cut.{sha512_cut}
 use Rattle.prolly_entry.specs.Keys.{Rising}
 use Rattle.prolly_entry.specs.Pair.{IsPair}
@@ -24,17 +22,15 @@ use Rattle.prolly_entry.specs.declared.version.Version.{Version}
 use Rattle.prolly_file.specs.Frame.{framed}
 use Rattle.prolly_tree.specs.File.{root_reference}
 use Rattle.prolly_tree.specs.Tree.{Tree, bytes_of, tree_of}
-use Rattle.prolly_proof.specs.Descents.{GoesAmong, IsPlaceOf, LeadsAmong, LeadsToOne}
-use Rattle.prolly_proof.specs.Descents.{StandsAtTree, StepsDown, chunks_of_trees}
-use Rattle.prolly_proof.specs.Kept.{KeepsLevel}
+use Rattle.prolly_proof.specs.Descents.{IsPlaceOf, StandsAtTree, chunks_of_trees}
+use Rattle.prolly_proof.specs.Kept.{KeepsLevel, StandsAmong}
 use Rattle.prolly_proof.specs.Walks.{IsFrameOf, StandsBehind}
 use Rattle.prolly_proof.specs.Walks.{chunks_below, chunks_of_tree, place_behind}
 use Rattle.prolly_check.specs.declared.look_up.step.Due.{Due}
 use Rattle.prolly_proof.specs.declared.level.Level.{Level}
-use Rattle.prolly_proof.specs.declared.level.Onward.{Onward}
-use Rattle.prolly_proof.specs.declared.level.Onward.TheVariants.{End, Below}
 use Rattle.prolly_proof.specs.declared.place.Place.{Place}
-use Rattle.prolly_proof.specs.declared.root_fault.RootFault.{RootFault}
+use Rattle.prolly_proof.specs.declared.walk.Walk.{Walk}
+use Rattle.prolly_proof.proofs.Keeping.{tree_at}
 use Rattle.prolly_proof.proofs.Walking.{apart, ending, front_length, level_is, start, top_last}
 
 -- ---- the bytes of a chunk
@@ -76,88 +72,94 @@ read_whole count len buf chunk more e long same all = ap (λ n. take n (buf ++ m
 
 -- ---- one level down
 
+-- the tree of the child that a look-up goes on in, one level below this one, whose frames stand
+-- among those that begin at the walk
+pub record ChildBelow (content : Content) (size : ℕ) (walk : Walk) (child : ChildSought)
+    (above level : ℕ) : Type 0 where
+  pub t : Tree level
+  pub below : IsTreeOf content.version (chunks_of content) level t
+  pub lower : above ≡ suc level
+  pub named : child.reference.0 ≡ reference_of (bytes_of content.version level t)
+  pub among : StandsAmong content size level t walk child.number
+
 one_less : (n : ℕ) → suc n - 1 ≡ n
 one_less n = omega arith
 
-leaf_node : (content : Content) (leaf : Tree 0) (children : List Child) →
-    ◌≡◌ {A = Entries} (entries_below content.version 0 leaf) (Node children) → ⊥
-leaf_node content leaf children e = cc
-
-same_children : (xs ys : List Child) → ◌≡◌ {A = Entries} (Node xs) (Node ys) → xs ≡ ys
-same_children xs ys e = cc
-
-pub node_level : (version : Version) (chunk : List ℕ) (children : List Child) →
-    ◌≡◌ {A = Entries} (Node children) (kind_of version chunk) → 0 < level_of chunk
-node_level version [] children node = cc
-node_level version (zero ∷ entries) children node = cc
-node_level version (suc level ∷ entries) children node = omega arith
-
 module _ (content : Content) (size : ℕ)
     (child_tree : (version : Version) → ChildIsTree version)
-    (read : (version : Version) → TopIsRead version) where
-  -- from one child that is led to
-  down_to : (level : ℕ) (ts : List (Tree level)) →
-      IsTreeOf content.version (chunks_of content) (suc level) ts → (due : Due) (place : Place) →
-      LeadsToOne content level ts size due place →
-      StandsAtTree content size due.reference.0 due.above place
-  down_to level ts below due place to = record {
+    (read : (version : Version) → TopIsRead version)
+    (reference : List ℕ) (above : Option ℕ) (place : Place)
+    (at : StandsAtTree content size reference above place) (chunk : List ℕ)
+    (is : chunk ≡ bytes_of content.version at.level at.t) where
+  pub child_below : (sought : Sought) (child : ChildSought) →
+      IsChildOf sought (kind_of content.version chunk) child →
+      ChildBelow content size place.below child (level_of chunk) (level_of chunk - 1)
+  child_below sought child on = by_level at.level at.t at.below at.stands is
+    where
+      by_level : (level : ℕ) (t : Tree level) →
+          IsTreeOf content.version (chunks_of content) level t →
+          IsPlaceOf content level t size place → chunk ≡ bytes_of content.version level t →
+          ChildBelow content size place.below child (level_of chunk) (level_of chunk - 1)
+      by_level zero leaf below stands is = absurd (subst (λ entries. IsChildOf sought entries child)
+          (ap (kind_of content.version) is ∙ (read content.version (chunks_of content) 0 leaf
+          below).1) on)
+      by_level (suc level) ts below stands is =
+          let high : level_of chunk ≡ suc level = ap level_of is ∙ level_is content.version
+          (suc level) ts in
+          let c = subst (λ entries. IsChildOf sought entries child)
+          (ap (kind_of content.version) is ∙ (read content.version (chunks_of content) (suc level) ts
+          below).1) on in
+          let found = tree_at content.version level ts c.before c.child c.after (sym c.are) in
+          subst (λ n. ChildBelow content size place.below child n (n - 1)) (sym high)
+          (subst (ChildBelow content size place.below child (suc level)) (sym (one_less level))
+          (record {
+            t = found.t;
+            below = child_tree content.version (chunks_of content) level found.front found.after
+                found.t
+                (subst (IsTreeOf content.version (chunks_of content) (suc level)) found.are below);
+            lower = refl;
+            named = c.reference ∙ ap (λ c. c.reference) found.is;
+            among = record {
+              front = found.front;
+              after = found.after;
+              before = stands.before;
+              left = bytes_of content.version (suc level) ts ∷ stands.left;
+              number = found.number ∙ sym c.number;
+              are = subst (λ trees. chunks_of content ≡ stands.before ++
+                  (chunks_of_trees content level trees ++
+                  bytes_of content.version (suc level) ts ∷ stands.left)) found.are
+                  (stands.are ∙ ap (λ cs. stands.before ++ cs)
+                  (ap (λ cs. cs ++ stands.left) (top_last content.version (suc level) ts) ∙
+                  append_assoc (chunks_of_trees content level ts)
+                  (bytes_of content.version (suc level) ts ∷ []) stands.left));
+              stands = stands.below;
+            };
+          }))
+
+  -- in its place the look-up stands again
+  pub lands : (walk : Walk) (child : ChildSought) (l level : ℕ) →
+      (b : ChildBelow content size walk child l level) → (due : Due) (there : Place) →
+      due.reference ≡ child.reference → due.above ≡ Some l →
+      IsPlaceOf content level b.t size there →
+      StandsAtTree content size due.reference.0 due.above there
+  lands walk child l level b due there named high stands = record {
     level = level;
-    t = to.t;
-    below = child_tree content.version (chunks_of content) level to.before to.after to.t
-        (subst (IsTreeOf content.version (chunks_of content) (suc level)) to.are below);
-    named = to.named;
-    falls = subst (λ above. FallsTo above (bytes_of content.version level to.t)) (sym to.above)
-        (ap suc (sym (level_is content.version level to.t)));
-    stands = to.stands;
+    t = b.t;
+    below = b.below;
+    named = ap (λ r. r.0) named ∙ b.named;
+    falls = subst (λ above. FallsTo above (bytes_of content.version level b.t)) (sym high)
+        (b.lower ∙ ap suc (sym (level_is content.version level b.t)));
+    stands = stands;
   }
 
-  steps : (level : ℕ) (ts : List (Tree level)) →
-      IsTreeOf content.version (chunks_of content) (suc level) ts →
-      (result : Result Onward RootFault) → LeadsAmong content level ts size result →
-      StepsDown content size result
-  steps level ts below (Ok End) leads = tt
-  steps level ts below (Ok (Below due place)) leads = down_to level ts below due place leads
-  steps level ts below (Err fault) leads = inr leads
-
-  module _ (reference : List ℕ) (above : Option ℕ) (place : Place)
-      (at : StandsAtTree content size reference above place) (chunk : List ℕ)
-      (is : chunk ≡ bytes_of content.version at.level at.t) where
-    -- from the children of a node whose place this is
-    pub node_steps : (children : List Child) (result : Result Onward RootFault) →
-        ◌≡◌ {A = Entries} (Node children) (kind_of content.version chunk) →
-        GoesAmong content size children place.below result (level_of chunk - 1) →
-        StepsDown content size result
-    node_steps children result node goes = by_level at.level at.t at.below at.stands is
-      where
-        by_level : (level : ℕ) (t : Tree level) →
-            IsTreeOf content.version (chunks_of content) level t →
-            IsPlaceOf content level t size place → chunk ≡ bytes_of content.version level t →
-            StepsDown content size result
-        by_level zero leaf below stands is = absurd (leaf_node content leaf children
-            (sym (node ∙ ap (kind_of content.version) is ∙
-            (read content.version (chunks_of content) 0 leaf below).1)))
-        by_level (suc level) ts below stands is =
-            let first : level_of chunk - 1 ≡ level = ap (λ c. level_of c - 1) is ∙
-            one_less level in
-            steps level ts below result
-            (subst (GoesAmong content size children place.below result) first goes ts stands.before
-            (bytes_of content.version (suc level) ts ∷ stands.left)
-            (same_children children (map (child_of content.version level) ts)
-            (node ∙ ap (kind_of content.version) is ∙
-            (read content.version (chunks_of content) (suc level) ts below).1))
-            (stands.are ∙ ap (λ cs. stands.before ++ cs)
-            (ap (λ cs. cs ++ stands.left) (top_last content.version (suc level) ts) ∙
-            append_assoc (chunks_of_trees content level ts)
-            (bytes_of content.version (suc level) ts ∷ []) stands.left)) stands.below)
-
-    -- the chunk in this place is the one that is due
-    pub is_due : (version : Version) → version ≡ content.version →
-        (reference_of chunk ≡ reference) × IsOrdered version chunk
-    is_due version same = (
-      ap reference_of is ∙ sym at.named,
-      subst (λ v. IsOrdered v chunk) (sym same) (subst (IsOrdered content.version)
-          (sym is) (read content.version (chunks_of content) at.level at.t at.below).0),
-    )
+  -- the chunk in this place is the one that is due
+  pub is_due : (version : Version) → version ≡ content.version →
+      (reference_of chunk ≡ reference) × IsOrdered version chunk
+  is_due version same = (
+    ap reference_of is ∙ sym at.named,
+    subst (λ v. IsOrdered v chunk) (sym same) (subst (IsOrdered content.version)
+        (sym is) (read content.version (chunks_of content) at.level at.t at.below).0),
+  )
 
 -- ---- at the root
 

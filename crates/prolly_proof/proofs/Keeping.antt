@@ -12,15 +12,10 @@ use Rattle.prolly_check.specs.Entries.{Child}
 use Rattle.prolly_entry.specs.declared.version.Version.{Version}
 use Rattle.prolly_tree.specs.Chunk.{post_order}
 use Rattle.prolly_tree.specs.Tree.{Tree}
-use Rattle.prolly_proof.specs.Descents.{GoesAmong, IsPlaceOf, chunks_of_trees}
+use Rattle.prolly_proof.specs.Descents.{IsPlaceOf, chunks_of_trees}
 use Rattle.prolly_proof.specs.Kept.{IsPlaceAmong, IsReached, StandsAmong}
-use Rattle.prolly_check.specs.Sought.{Sought, IsChildSought}
-use Rattle.prolly_proof.specs.Walks.{GoesOverTree, OnlyRead, StandsBehind, chunks_of_tree}
-use Rattle.prolly_check.specs.declared.look_up.step.Due.{Due}
-use Rattle.prolly_proof.specs.declared.level.Onward.TheVariants.{Below}
+use Rattle.prolly_proof.specs.Walks.{GoesOverTree, StandsBehind, chunks_of_tree}
 use Rattle.prolly_proof.specs.declared.place.Place.{Place}
-use Rattle.prolly_proof.specs.declared.root_fault.RootFault.{RootFault}
-use Rattle.prolly_check.specs.declared.look_up.sought.ChildSought.{ChildSought}
 use Rattle.prolly_proof.specs.declared.walk.Frame.{Frame}
 use Rattle.prolly_proof.specs.declared.walk.Walk.{Walk}
 
@@ -204,7 +199,7 @@ module _ (content : Content) (size level : ℕ) (first : Walk) where
 -- ---- the child of a node
 
 -- the tree of a child of these
-record IsTreeAt (version : Version) (level : ℕ) (ts : List (Tree level)) (n : ℕ) (child : Child)
+pub record IsTreeAt (version : Version) (level : ℕ) (ts : List (Tree level)) (n : ℕ) (child : Child)
     : Type 0 where
   pub front : List (Tree level)
   pub t : Tree level
@@ -213,7 +208,7 @@ record IsTreeAt (version : Version) (level : ℕ) (ts : List (Tree level)) (n : 
   pub number : length front ≡ n
   pub is : child ≡ child_of version level t
 
-tree_at : (version : Version) (level : ℕ) (ts : List (Tree level)) (before : List Child)
+pub tree_at : (version : Version) (level : ℕ) (ts : List (Tree level)) (before : List Child)
     (child : Child) (after : List Child) →
     before ++ child ∷ after ≡ map (child_of version level) ts →
     IsTreeAt version level ts (length before) child
@@ -236,45 +231,3 @@ tree_at version level (t ∷ ts) (b ∷ before) child after e =
       number = ap suc rest.number;
       is = rest.is;
     }
-
-module _ (content : Content) (size level : ℕ) (children : List Child) (walk : Walk)
-    (sought : Sought) (child : ChildSought) (c : IsChildSought sought children child) where
-  module _ (ts : List (Tree level)) (before left : List (List ℕ))
-      (all : children ≡ map (child_of content.version level) ts)
-      (are : chunks_of content ≡ before ++ (chunks_of_trees content level ts ++ left))
-      (stands : StandsBehind size before walk) where
-    at : IsTreeAt content.version level ts (length c.before) c.child
-    at = tree_at content.version level ts c.before c.child c.after (sym c.are ∙ all)
-
-    among : StandsAmong content size level at.t walk child.number
-    among = record {
-      front = at.front;
-      after = at.after;
-      before = before;
-      left = left;
-      number = at.number ∙ sym c.number;
-      are = subst (λ ts. chunks_of content ≡ before ++ (chunks_of_trees content level ts ++ left))
-          at.are are;
-      stands = stands;
-    }
-
-  pub goes_to : (due : Due) (place : Place) → due.reference ≡ child.reference →
-      due.above ≡ Some (suc level) → ((t : Tree level) →
-      StandsAmong content size level t walk child.number → IsPlaceOf content level t size place) →
-      GoesAmong content size children walk (Ok (Below due place)) level
-  goes_to due place named above found ts before left all are stands =
-      let here = at ts before left all are stands in record {
-        before = here.front;
-        t = here.t;
-        after = here.after;
-        are = here.are;
-        named = ap (λ r. r.0) named ∙ c.reference ∙ ap (λ c. c.reference) here.is;
-        above = above;
-        stands = found here.t (among ts before left all are stands);
-      }
-
-  pub goes_wrong : (fault : RootFault) → ((t : Tree level) →
-      StandsAmong content size level t walk child.number → OnlyRead fault) →
-      GoesAmong content size children walk (Err fault) level
-  goes_wrong fault only ts before left all are stands =
-      only (at ts before left all are stands).t (among ts before left all are stands)

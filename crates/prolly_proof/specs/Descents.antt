@@ -5,7 +5,6 @@ use Rattle.std.specs.List.{flat_map}
 use Rattle.prolly_check.specs.Checked.{chunks_of}
 use Rattle.prolly_check.specs.Content.{Content}
 use Rattle.prolly_check.specs.Descent.{IsTreeOf, child_of}
-use Rattle.prolly_check.specs.Entries.{Child}
 use Rattle.prolly_check.specs.Kinds.{kind_of}
 use Rattle.prolly_check.specs.Sought.{Sought, EndsAt, LeadsOn, sought_of}
 use Rattle.prolly_check.specs.Way.{FallsTo, IsWayTo, level_of}
@@ -26,7 +25,6 @@ use Rattle.prolly_proof.specs.declared.level.Onward.TheVariants.{End, Below}
 use Rattle.prolly_proof.specs.declared.place.Place.{Place}
 use Rattle.prolly_proof.specs.declared.root_fault.RootFault.{RootFault}
 use Rattle.prolly_proof.specs.declared.root_fault.RootFault.TheVariants.{Memory, Read}
-use Rattle.prolly_proof.specs.declared.walk.Walk.{Walk}
 
 -- The bytes of the chunks.
 abbrev pub chunks_in : List Level → List (List ℕ)
@@ -80,37 +78,10 @@ pub record IsPlaceOf (content : Content) (level : ℕ) (t : Tree level) (size : 
   pub below : StandsBehind size before place.below
   pub frame : IsFrameOfTop content.version level t before place.frame
 
--- The chunk that is due is the top of one of these trees, and this is its place.
-pub record LeadsToOne (content : Content) (level : ℕ) (ts : List (Tree level)) (size : ℕ)
-    (due : Due) (place : Place) : Type 0 where
-  pub before : List (Tree level)
-  pub t : Tree level
-  pub after : List (Tree level)
-  pub are : ts ≡ before ++ t ∷ after
-  pub named : due.reference.0 ≡ reference_of (bytes_of content.version level t)
-  pub above : due.above ≡ Some (suc level)
-  pub stands : IsPlaceOf content level t size place
-
-abbrev pub LeadsAmong : (content : Content) (level : ℕ) → List (Tree level) → ℕ →
-    Result Onward RootFault → Type 0
-LeadsAmong content level ts size (Ok End) = Unit {0}
-LeadsAmong content level ts size (Ok (Below due place)) =
-    LeadsToOne content level ts size due place
-LeadsAmong content level ts size (Err fault) = OnlyRead fault
-
 -- The chunks of trees in the order of the file.
 abbrev pub chunks_of_trees : Content → (level : ℕ) → List (Tree level) → List (List ℕ)
 chunks_of_trees content level ts =
     map (λ c. c.bytes) (flat_map (post_order content.version level) ts)
-
--- From the children of a node of the file, whose frames begin where the walk stands, it goes on to
--- one of them.
-abbrev pub GoesAmong : Content → ℕ → List Child → Walk → Result Onward RootFault → ℕ → Type 0
-GoesAmong content size children walk result level =
-    (ts : List (Tree level)) (before left : List (List ℕ)) →
-    children ≡ map (child_of content.version level) ts →
-    chunks_of content ≡ before ++ (chunks_of_trees content level ts ++ left) →
-    StandsBehind size before walk → LeadsAmong content level ts size result
 
 -- The chunk with this reference, which stands below this level, is the top of a tree of the file,
 -- and this is its place.

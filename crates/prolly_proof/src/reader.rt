@@ -162,7 +162,10 @@ impl Reader {
         ensures same { StaysSame (D.seen device.old) (D.seen device.new) }
     {
         let descent = self.descend(alloc, device, Sought::Number(n))?;
-        let pair = copy_of(alloc, pair_sought(descent.last.pairs(self.version), descent.sought))?;
+        let pair = copy_of(
+            alloc,
+            pair_sought(descent.last.pairs(self.version), descent.sought),
+        )?;
         self.levels = with(descent.above, descent.last)?;
         Ok(pair)
     }

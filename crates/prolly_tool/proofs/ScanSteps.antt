@@ -21,7 +21,7 @@ use Rattle.prolly_fault.specs.declared.fault.RunFault.TheVariants.{Memory, Write
 use Rattle.prolly_file.specs.Device.{DeviceView}
 use Rattle.prolly_file.specs.Failures.{CountsFailure, after_failure}
 use Rattle.prolly_file.specs.Sink.{IsSettled, SinkView}
-use Rattle.prolly_proof.specs.ByRoot.{AreFirstFound}
+use Rattle.prolly_proof.specs.Readers.{AreFirstFound}
 use Rattle.prolly_proof.specs.Descents.{AnswersLawful, MayFail, ReadsLawful}
 use Rattle.prolly_proof.specs.Readers.{IsReaderOf, ReaderView}
 use Rattle.prolly_proof.specs.Walks.{HoldsFile, StaysSame, TellsReads}

@@ -2,18 +2,23 @@
 use Rattle.std.proofs.Common.{◌≡◌, ℕ, List, [], ◌∷◌, ◌++◌, Option, Some, None, refl, sym, ap, ◌∙◌}
 use Rattle.std.proofs.Common.{subst}
 use Rattle.std.specs.Prelude.{option_map}
+use Rattle.prolly_entry.specs.Reference.{reference_of}
 use Rattle.prolly_entry.specs.declared.version.Version.{Version}
 use Rattle.prolly_check.specs.Entries.{Child}
 use Rattle.prolly_check.specs.Kinds.{kind_of}
 use Rattle.prolly_check.specs.Sought.{Sought, EndsAt, IsChildOf, LeadsOn, child_sought}
 use Rattle.prolly_check.specs.Sought.{reference_and_sought, sought_of}
-use Rattle.prolly_check.specs.Way.{IsNamed, Lead}
-use Rattle.prolly_check.specs.declared.entries.Entries.{Entries}
+use Rattle.prolly_check.specs.Steps.{IsFlawed}
+use Rattle.prolly_check.specs.Way.{FallsTo, IsNamed, IsOrdered, Lead}
+use Rattle.prolly_check.specs.declared.entries.Entries.{Entries as EntriesOf}
 use Rattle.prolly_check.specs.declared.entries.Entries.TheVariants.{Leaf, Node}
 use Rattle.prolly_check.specs.declared.look_up.sought.ChildSought.{ChildSought}
+use Rattle.prolly_check.specs.declared.look_up.step.ChunkFlaw.{ChunkFlaw}
+use Rattle.prolly_check.specs.declared.look_up.step.ChunkFlaw.TheVariants.{Entries, Level, Order}
+use Rattle.prolly_check.specs.declared.look_up.step.ChunkFlaw.TheVariants.{Reference}
 
 -- A look-up that ends at entries does not go on from them.
-pub no_way_on : (sought : Sought) (entries : Entries) (reference : List ℕ) (next : Sought) →
+pub no_way_on : (sought : Sought) (entries : EntriesOf) (reference : List ℕ) (next : Sought) →
     EndsAt sought entries → LeadsOn sought entries reference next → ⊥
 no_way_on sought (Leaf pairs) reference next ends on = on
 no_way_on sought (Node children) reference next ends on =
@@ -24,7 +29,7 @@ no_way_on sought (Node children) reference next ends on =
     none_leads o none on = cc
 
 -- It goes on at one reference, and seeks one thing there.
-pub one_way_on : (sought : Sought) (entries : Entries) (x y : List ℕ × Sought) →
+pub one_way_on : (sought : Sought) (entries : EntriesOf) (x y : List ℕ × Sought) →
     LeadsOn sought entries x.0 x.1 → LeadsOn sought entries y.0 y.1 → x ≡ y
 one_way_on sought (Leaf pairs) x y on too = absurd on
 one_way_on sought (Node children) x y on too = one (sym on ∙ too)
@@ -33,13 +38,23 @@ one_way_on sought (Node children) x y on too = one (sym on ∙ too)
     one e = cc
 
 -- It goes on at the child that was found.
-pub child_leads : (sought : Sought) (entries : Entries) (child : ChildSought) →
+pub child_leads : (sought : Sought) (entries : EntriesOf) (child : ChildSought) →
     IsChildOf sought entries child →
     LeadsOn sought entries child.reference.0 (sought_of child.sought)
 child_leads sought (Leaf pairs) child is = is
 child_leads sought (Node children) child is =
     ap (option_map reference_and_sought) is.sought_there ∙
     ap (λ r. Some (r, sought_of child.sought)) (sym is.reference)
+
+-- A chunk that has the reference, can be read and stands where it may has no flaw.
+pub no_flaw : (version : Version) (due : List ℕ) (above : Option ℕ) (chunk : List ℕ)
+    (flaw : ChunkFlaw) → reference_of chunk ≡ due → IsOrdered version chunk → FallsTo above chunk →
+    IsFlawed version due above chunk flaw → ⊥
+no_flaw version due above chunk Reference is ordered falls h = h is
+no_flaw version due above chunk Entries is ordered falls h =
+    h.1 ordered.whole.pairs ordered.whole.holds
+no_flaw version due above chunk Order is ordered falls h = h.2 ordered.rising
+no_flaw version due above chunk Level is ordered falls h = h.1 falls
 
 -- One more chunk leads on.
 pub lead_more : (version : Version) (sought : Sought) (from : List ℕ) (chunks : List (List ℕ))

@@ -122,6 +122,7 @@ pub fn step_of<'a>(
     requires mark { IsMark version chunk.now mark }
     ensures on { IfSome result (IsChildOf (sought_of sought.entry) (kind_of version chunk.now)) }
     ensures ends { IfNone result (EndsAt (sought_of sought.entry) (kind_of version chunk.now)) }
+    ensures passed { IfSome result (λ child. IsMark version chunk.now child.passed) }
     ensures bytes { All IsByte chunk.now }
 {
     match entries_of(version, chunk) {

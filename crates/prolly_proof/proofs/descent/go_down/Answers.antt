@@ -1,11 +1,12 @@
-use Rattle.std.proofs.Common.{[], ◌∷◌, ◌++◌, length, Ok, Err, Some, sym, subst, ◌∙◌, ap, rules}
+use Rattle.std.proofs.Common.{[], ◌∷◌, ◌++◌, length, Ok, Err, Some, refl, sym, subst, ◌∙◌, ap}
+use Rattle.std.proofs.Common.{rules}
 use Rattle.std.specs.List.{AllByRecursion}
 use Rattle.std.specs.Vec.Iter.{into_iter_items}
+use Rattle.prolly_check.specs.Sought.{sought_of}
 use Rattle.prolly_check.specs.Way.{IsNamed}
 use Rattle.prolly_entry.specs.lemmas.Lists.{all_append}
 use Rattle.prolly_proof.specs.Descents.{MayFail, StepsDown, chunks_in}
 use Rattle.prolly_proof.specs.Kept.{IsLevel, KeepsLevel}
-use Rattle.prolly_proof.specs.Sought.{LeadsToEnd}
 use Rattle.prolly_proof.proofs.Descending.{Descended, ends_here, goes_on, level_kept, next_kept}
 use Rattle.prolly_proof.proofs.Descending.{one_more, step_lands}
 use Rattle.prolly_proof.proofs.Walking.{stays}
@@ -36,14 +37,14 @@ pub returns-in-End-clause-found : goal.returns-in-End-clause-found
 returns-in-End-clause-found g c =
     let version = c.args.version in
     let due = c.loop-above.due in
-    let above = chunks_in c.loop-above.above.items in
     let level = c.in_ok-level.level in
     let is = c.in_ok-level.ensures.is in
-    subst (λ chunk. LeadsToEnd version c.args.root.now.0 c.args.sought above chunk.items due.sought)
-    (sym c.in_ok-step.ensures.stays.1)
-    (ends_here version c.args.root.now.0 c.args.sought above due c.loop-above.invariant.way
-    level.chunk.items (subst (λ r. IsNamed version r.0 level.chunk.items) is.reference is.is.named)
-    is.falls c.in_ok-step.field-0 c.in_ok-step.ensures.is c.in-End.is)
+    ends_here version c.args.root.now.0 (sought_of c.args.sought)
+    (chunks_in c.loop-above.above.items) due c.loop-above.invariant.way level.chunk.items
+    (subst (λ r. IsNamed version r.0 level.chunk.items) is.reference is.is.named) is.falls
+    c.in_ok-step.field-0 c.in_ok-step.ensures.is
+    (record { above = c.loop-above.above; last = c.step.new.self; sought = due.sought })
+    c.in-End.is refl (ap (λ chunk. chunk.items) c.in_ok-step.ensures.stays.1) refl
 
 pub returns-in-End-clause-keeps : goal.returns-in-End-clause-keeps
 returns-in-End-clause-keeps g c content holds same top keeps =
@@ -79,10 +80,10 @@ loop-above-preserved g c =
     let is = c.in_ok-level.ensures.is in
     let stepped = c.in_ok-step.ensures in
     let more = c.in_ok-keep-in-Below.ensures in record {
-      way = subst (λ chunks. Descended version root c.args.sought chunks c.in-Below.next)
+      way = subst (λ chunks. Descended version root (sought_of c.args.sought) chunks c.in-Below.next)
           (ap (λ chunk. chunks_in above ++ chunk.items ∷ []) (sym stepped.stays.1) ∙
           sym (one_more above c.keep.new.list.items c.step.new.self more))
-          (goes_on version root c.args.sought (chunks_in above) due before.way level.chunk.items
+          (goes_on version root (sought_of c.args.sought) (chunks_in above) due before.way level.chunk.items
           (subst (λ r. IsNamed version r.0 level.chunk.items) is.reference is.is.named) is.falls
           c.in_ok-step.field-0 stepped.is c.in-Below.next c.in-Below.there c.in-Below.is);
       levels = subst (AllByRecursion (IsLevel version)) (sym more)

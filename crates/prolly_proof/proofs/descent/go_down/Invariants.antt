@@ -2,6 +2,7 @@ use Rattle.std.proofs.Common.{◌≡◌, None, length}
 use Rattle.std.specs.List.{AllByRecursion}
 use Rattle.std.specs.Vec.Iter.{into_iter_items}
 use Rattle.prolly_check.specs.Content.{Content}
+use Rattle.prolly_check.specs.Sought.{sought_of}
 use Rattle.prolly_proof.specs.Descents.{StandsAtTree, chunks_in}
 use Rattle.prolly_proof.specs.Kept.{IsLevel, KeepsLevel}
 use Rattle.prolly_proof.specs.Walks.{HoldsFile, StaysSame}
@@ -10,7 +11,7 @@ use Rattle.prolly_proof.proofs.descent.go_down.Given as goal
 
 abbrev pub invariant-loop-above : goal.invariant-loop-above
 invariant-loop-above g l = record {
-  way : Descended l.version l.root.0 l.fn.sought (chunks_in l.above.items) l.due;
+  way : Descended l.version l.root.0 (sought_of l.fn.sought) (chunks_in l.above.items) l.due;
   levels : AllByRecursion (IsLevel l.version) l.above.items;
   kept : AllByRecursion (IsLevel l.version) (into_iter_items l.kept);
   same : StaysSame (g.D.Device.seen l.fn.device) (g.D.Device.seen l.device);

@@ -1,7 +1,7 @@
 use Rattle.std.proofs.Common.{◌≡◌, length, sym, subst, ◌∙◌, rules}
 use Rattle.std.proofs.lemmas.Bool.{false≢true}
 use Rattle.prolly_proof.specs.Descents.{MayFail}
-use Rattle.prolly_proof.specs.Faults.{FallsTo}
+use Rattle.prolly_check.specs.Way.{FallsTo}
 use Rattle.prolly_proof.specs.Kept.{KeepsLevel}
 use Rattle.prolly_proof.proofs.GoingDown.{kept_is}
 use Rattle.prolly_proof.proofs.level.level_at.Goals as goal

@@ -1,83 +1,63 @@
-use Rattle.std.proofs.Common.{◌≡◌, ◌<◌, ◌-◌, ℕ, List, [], length, map, drop, Some, Result, Ok, Err, refl}
-use Rattle.std.proofs.Common.{sym, ap, ◌∙◌, subst, arith, rules}
-use Rattle.prolly_check.specs.Entries.{Child, IsNode, children_in}
+use Rattle.std.proofs.Common.{◌≡◌, ◌-◌, ℕ, List, length, Some, Err, refl, sym, ap, ◌∙◌, subst, inr, rules}
+use Rattle.prolly_check.specs.Content.{Content}
 use Rattle.prolly_check.specs.Kinds.{kind_of}
+use Rattle.prolly_check.specs.Sought.{IsChildOf, IsMark, sought_of}
 use Rattle.prolly_check.specs.Way.{level_of}
-use Rattle.prolly_check.specs.declared.entries.Entries.{Entries}
-use Rattle.prolly_check.specs.declared.entries.Entries.TheVariants.{Node}
-use Rattle.prolly_entry.specs.Keys.{Rising}
+use Rattle.prolly_check.specs.declared.look_up.sought.ChildSought.{ChildSought}
+use Rattle.prolly_check.specs.declared.look_up.sought.Sought.{Sought}
 use Rattle.prolly_entry.specs.declared.version.Version.{Version}
-use Rattle.prolly_proof.specs.Descents.{GoesAmong, StepsDown}
+use Rattle.prolly_proof.specs.Descents.{StepsDown}
 use Rattle.prolly_proof.specs.Kept.{KeepsPassed}
-use Rattle.prolly_proof.specs.Sought.{IsChildSought, IsMark}
-use Rattle.prolly_proof.specs.declared.level.Due.{Due}
-use Rattle.prolly_proof.specs.declared.level.Onward.{Onward}
-use Rattle.prolly_proof.specs.declared.level.Onward.TheVariants.{Below}
-use Rattle.prolly_proof.specs.declared.root_fault.RootFault.{RootFault}
-use Rattle.prolly_proof.specs.declared.sought.ChildSought.{ChildSought}
-use Rattle.prolly_proof.specs.declared.sought.Sought.{Sought}
-use Rattle.prolly_proof.proofs.GoingDown.{node_level, node_steps}
-use Rattle.prolly_proof.proofs.Keeping.{goes_to, goes_wrong}
-use Rattle.prolly_proof.proofs.Marks.{node_children, node_entries, node_rises}
+use Rattle.prolly_proof.specs.declared.walk.Walk.{Walk}
+use Rattle.prolly_proof.proofs.GoingDown.{ChildBelow, child_below, lands}
 use Rattle.prolly_proof.proofs.level.Level.step.Goals as goal
 
-pub child_sought-requires-clause-rising : goal.child_sought-requires-clause-rising
-child_sought-requires-clause-rising g c =
-    let version = c.args.version in
-    let chunk = c.args.self.now.chunk.items in
-    subst (λ bytes. Rising (map (λ c. c.key) (children_in version (drop 1 bytes))))
-    (sym c.deref-2.ensures.value) (node_rises version chunk c.in-Node.field-0
-    (c.in-Node.ensures ∙ ap (kind_of version) c.deref.ensures.value)
-    c.requires.named.ordered.rising)
+pub returns-in_err-place-clause-level : goal.returns-in_err-place-clause-level
+returns-in_err-place-clause-level g c = record {
+  named = c.requires.named;
+  mark = subst (λ bytes. IsMark c.args.version bytes c.in-Some.child.passed) c.deref.ensures.value
+      c.in-Some.ensures.passed;
+}
 
-pub child_sought-requires-clause-node : goal.child_sought-requires-clause-node
-child_sought-requires-clause-node g c =
-    let version = c.args.version in
-    let chunk = c.args.self.now.chunk.items in
-    subst (λ bytes. IsNode version (drop 1 bytes) []) (sym c.deref-2.ensures.value)
-    (node_entries version chunk c.in-Node.field-0
-    (c.in-Node.ensures ∙ ap (kind_of version) c.deref.ensures.value)
-    c.requires.named.ordered.whole)
+pub returns-clause-level : goal.returns-clause-level
+returns-clause-level g c = record {
+  named = c.requires.named;
+  mark = subst (λ bytes. IsMark c.args.version bytes c.in-Some.child.passed) c.deref.ensures.value
+      c.in-Some.ensures.passed;
+}
 
-pub child_sought-requires-clause-mark : goal.child_sought-requires-clause-mark
-child_sought-requires-clause-mark g c =
-    subst (λ bytes. IsMark c.args.version bytes c.args.self.now.mark) (sym c.deref-2.ensures.value)
-    c.requires.mark
+-- The child is one of those of the chunk, as the file's version has them.
+on : (version other : Version) (read chunk : List ℕ) (sought : Sought) (child : ChildSought) →
+    version ≡ other → read ≡ chunk → IsChildOf (sought_of sought) (kind_of version read) child →
+    IsChildOf (sought_of sought) (kind_of other chunk) child
+on version other read chunk sought child same is h =
+    subst (λ v. IsChildOf (sought_of sought) (kind_of v chunk) child) same
+    (subst (λ bytes. IsChildOf (sought_of sought) (kind_of version bytes) child) is h)
 
--- The child is one of those that the chunk is read to have.
-among : (version : Version) (chunk read again : List ℕ) (children : List Child) (sought : Sought)
-    (child : ChildSought) → ◌≡◌ {A = Entries} (Node children) (kind_of version read) →
-    read ≡ chunk → again ≡ chunk →
-    IsChildSought sought (children_in version (drop 1 again)) child →
-    IsChildSought sought children child
-among version chunk read again children sought child node same also is =
-    subst (λ cs. IsChildSought sought cs child)
-    (ap (λ bytes. children_in version (drop 1 bytes)) also ∙
-    sym (node_children version chunk children (node ∙ ap (kind_of version) same))) is
+-- What is below it is looked for where the chunk's own frames begin.
+moved : (content : Content) (size : ℕ) (child : ChildSought) (walk first : Walk) (l high : ℕ) →
+    l ≡ high → first ≡ walk → ChildBelow content size walk child high (high - 1) →
+    ChildBelow content size first child l (l - 1)
+moved content size child walk first l high level same b =
+    subst (λ w. ChildBelow content size w child l (l - 1)) (sym same)
+    (subst (λ n. ChildBelow content size walk child n (n - 1)) (sym level) b)
 
 pub returns-in_err-place-clause-down : goal.returns-in_err-place-clause-down
 returns-in_err-place-clause-down g c content reference above place holds same keeps at first is =
     let size = length (g.D.Device.seen c.args.device.now).bytes in
     let chunk = c.args.self.now.chunk.items in
     let walk = c.args.self.now.below.first in
-    let children = c.in-Node.field-0 in
+    let child = c.in-Some.child in
     let l = c.index-level.result.now in
-    let fault = c.in_err-place.field-0.0 in
     let level_is : l ≡ level_of chunk = search rules in
-    let node : ◌≡◌ {A = Entries} (Node children) (kind_of content.version chunk) =
-    c.in-Node.ensures ∙ ap (kind_of c.args.version) c.deref.ensures.value ∙
-    ap (λ v. kind_of v chunk) same in
+    let b = moved content size child place.below walk l (level_of chunk) level_is first
+    (child_below content size c.tops_are_read.ensures.child c.tops_are_read.ensures.read reference
+    above place at chunk is (sought_of c.args.sought) child
+    (on c.args.version content.version c.deref.result.now chunk c.args.sought child same
+    c.deref.ensures.value c.in-Some.ensures.on)) in
     let kept = subst (λ n. KeepsPassed content size (n - 1) walk c.args.self.now.below.last)
     (sym level_is) keeps.passed in
-    let goes = goes_wrong content size (l - 1) children walk c.args.sought c.in-Some.child
-    (among c.args.version chunk c.deref.result.now c.deref-2.result.now children c.args.sought
-    c.in-Some.child c.in-Node.ensures c.deref.ensures.value c.deref-2.ensures.value
-    c.in-Some.ensures.some) fault (λ t. c.in_err-place.ensures.only content t holds kept) in
-    let down : StepsDown content size (Err fault) =
-    node_steps content size c.tops_are_read.ensures.child c.tops_are_read.ensures.read reference
-    above place at chunk is children (Err fault) node
-    (subst (λ n. GoesAmong content size children n (Err fault) (level_of chunk - 1)) first
-    (subst (λ n. GoesAmong content size children walk (Err fault) (n - 1)) level_is goes)) in
+    let only = c.in_err-place.ensures.only content b.t holds kept b.among in
     search rules
 
 pub returns-clause-down : goal.returns-clause-down
@@ -85,27 +65,17 @@ returns-clause-down g c content reference above place holds same keeps at first 
     let size = length (g.D.Device.seen c.args.device.now).bytes in
     let chunk = c.args.self.now.chunk.items in
     let walk = c.args.self.now.below.first in
-    let children = c.in-Node.field-0 in
+    let child = c.in-Some.child in
     let l = c.index-level.result.now in
-    let due : Due = record {
-      reference = c.in-Some.child.reference;
-      above = Some l;
-      sought = c.in-Some.child.sought;
-    } in
-    let to : Result Onward RootFault = Ok (Below due c.in_ok-place.place) in
     let level_is : l ≡ level_of chunk = search rules in
-    let node : ◌≡◌ {A = Entries} (Node children) (kind_of content.version chunk) =
-    c.in-Node.ensures ∙ ap (kind_of c.args.version) c.deref.ensures.value ∙
-    ap (λ v. kind_of v chunk) same in
-    let some : 0 < l = omega (arith, node_level content.version chunk children node, level_is) in
+    let b = moved content size child place.below walk l (level_of chunk) level_is first
+    (child_below content size c.tops_are_read.ensures.child c.tops_are_read.ensures.read reference
+    above place at chunk is (sought_of c.args.sought) child
+    (on c.args.version content.version c.deref.result.now chunk c.args.sought child same
+    c.deref.ensures.value c.in-Some.ensures.on)) in
     let kept = subst (λ n. KeepsPassed content size (n - 1) walk c.args.self.now.below.last)
     (sym level_is) keeps.passed in
-    let goes = goes_to content size (l - 1) children walk c.args.sought c.in-Some.child
-    (among c.args.version chunk c.deref.result.now c.deref-2.result.now children c.args.sought
-    c.in-Some.child c.in-Node.ensures c.deref.ensures.value c.deref-2.ensures.value
-    c.in-Some.ensures.some) due c.in_ok-place.place refl (ap Some (omega (arith, some)))
-    (λ t. c.in_ok-place.ensures.place content t holds kept) in
-    node_steps content size c.tops_are_read.ensures.child c.tops_are_read.ensures.read reference
-    above place at chunk is children to node
-    (subst (λ n. GoesAmong content size children n to (level_of chunk - 1)) first
-    (subst (λ n. GoesAmong content size children walk to (n - 1)) level_is goes))
+    lands content size c.tops_are_read.ensures.child c.tops_are_read.ensures.read reference above
+    place at chunk is walk child l (l - 1) b
+    (record { reference = child.reference; above = Some l; sought = child.sought })
+    c.in_ok-place.place refl refl (c.in_ok-place.ensures.place content b.t holds kept b.among)
