@@ -142,19 +142,17 @@ fn nth_from_root(rt: &HostRuntime, tree: RootedFile<'_>, n: u64) -> Result<Answe
         return Err(Refusal::of_fault(rt, Fault::NoCounts));
     }
     let mut device = tree.device(rt)?;
-    let found = pair_in(rt, &mut device, tree, n);
+    let found = pair_in(rt, &mut device, tree.root, n);
     Ok(answer_found_pair(rt.alloc(), tree.notation, &found)?)
 }
 
-/// The pair of the number, or none.
+/// The pair of the number, or none. The chunks are of version Two.
 fn pair_in<D: Device>(
     rt: &HostRuntime,
     device: &mut D,
-    tree: RootedFile<'_>,
+    root: &Ref,
     n: u64,
-) -> Result<Option<Pair>, RootFault>
-    requires { tree.version ≡ Two }
-{
-    let mut reader = Reader::open(rt.alloc(), device, tree.version, tree.root)?;
+) -> Result<Option<Pair>, RootFault> {
+    let mut reader = Reader::open(rt.alloc(), device, Version::Two, root)?;
     reader.nth(rt.alloc(), device, n)
 }
