@@ -1,7 +1,5 @@
 -- What a chunk file says.
 pub mod Content
--- The header of a chunk file, its first six bytes.
-pub mod Header
 -- The frames of a chunk file, and what follows them.
 pub mod Frames
 -- Where the chunks of a file lie in its bytes.

@@ -2,18 +2,18 @@
 ghost use Rattle.std.specs.Prelude.{◌≡◌, ◌↔◌, ◌<◌, ◌++◌, true, length, Option, List, ℕ, IsTrue};
 ghost use Rattle.std.specs.Prelude.{IfOk, IfErr};
 ghost use Rattle.std.specs.Option.{option_copied};
-ghost use Rattle.prolly_check.specs.Frames.{IsSmall, has_no_frame};
 ghost use Rattle.prolly_check.specs.Kinds.{kind_of};
 ghost use Rattle.prolly_check.specs.Steps.{IsStep};
 ghost use Rattle.prolly_check.specs.Way.{IsNamed};
-ghost use Rattle.prolly_file.specs.Frame.{framed};
+ghost use Rattle.prolly_file.specs.Frame.{framed, has_no_frame, IsSmall};
 ghost use Rattle.prolly_proof.specs.Faults.{FallsTo, IsChunkFault, IsFault, IsFrameFault};
 ghost use Rattle.prolly_proof.specs.ProofFile.{IsProof, proof_start};
 
 use crate::fault::ProofFault;
 use crate::start::behind_start;
-use prolly_check::{ChunkFlaw, Step, front_frame, step_in};
+use prolly_check::{ChunkFlaw, Step, step_in};
 use prolly_entry::{Ref, Version};
+use prolly_file::front_frame;
 
 /// The value that the proof shows for the key in the tree with this root, or none where it shows
 /// that the key has none.

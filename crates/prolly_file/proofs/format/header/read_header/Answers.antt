@@ -1,7 +1,7 @@
 use Rattle.std.proofs.Common.{sym, ◌∙◌, arith}
-use Rattle.prolly_check.specs.Header.{header_tests}
-use Rattle.prolly_check.proofs.HeaderBytes.{goes_on, stops, ends}
-use Rattle.prolly_check.proofs.header.read_header.Goals as goal
+use Rattle.prolly_file.specs.Header.{header_tests}
+use Rattle.prolly_file.proofs.HeaderBytes.{goes_on, stops, ends}
+use Rattle.prolly_file.proofs.format.header.read_header.Goals as goal
 
 pub returns-then-place-bytes-clause-err : goal.returns-then-place-bytes-clause-err
 returns-then-place-bytes-clause-err c = c.loop-place.invariant.0 ∙

@@ -1,8 +1,8 @@
 //! The header of a chunk file.
 ghost use Rattle.std.specs.Prelude.{◌≡◌, ◌<◌, ◌≤◌, None, Some, length, slice_index, IfOk, IfErr};
-ghost use Rattle.prolly_check.specs.Header.{header_tests, header_fault, test_at, version_of};
+ghost use Rattle.prolly_tree.specs.File.{header};
+ghost use Rattle.prolly_file.specs.Header.{header_tests, header_fault, test_at, version_of};
 
-use crate::fault::CheckFault;
 use prolly_entry::{BITS_LIMIT, Version};
 
 /// The size of a header, in bytes.
@@ -12,21 +12,39 @@ pub const HEADER_SIZE: usize = 6;
 const VERSION_PLACE: usize = 4;
 
 /// Where the byte of the number of bits stands.
-pub(crate) const BITS_PLACE: usize = 5;
+pub const BITS_PLACE: usize = 5;
 
 /// What a header says.
 #[derive(Clone, Copy)]
 pub struct Header {
     /// The version of the file.
     pub version: Version,
-    /// The number of bits by which its entries were cut, from 0 to 24.
+    /// The number of bits by which its entries were cut, from 0 to 24 where it was read.
     pub bits: u8,
+}
+
+/// Why bytes do not begin with a header.
+#[derive(Clone, Copy, Debug, PartialEq, Eq)]
+pub enum HeaderFault {
+    /// They end inside the header.
+    Truncated,
+    /// One of the first six bytes may not stand there.
+    BadByte,
+}
+
+impl Header {
+    /// What a file begins with.
+    pub(crate) fn to_bytes(self) -> [u8; HEADER_SIZE]
+        ensures { result ≡ header self.version self.bits }
+    {
+        [b'P', b'R', b'L', b'Y', self.version.to_byte(), self.bits]
+    }
 }
 
 /// The header that begins the bytes of a chunk file. Takes no memory, and constant time.
 ///
 /// Bytes that do not begin as a file does are told before bytes that end too early.
-pub fn read_header(bytes: &[u8]) -> Result<Header, CheckFault>
+pub fn read_header(bytes: &[u8]) -> Result<Header, HeaderFault>
     ensures found { IfOk result (λ r. header_fault header_tests bytes.now ≡ None) }
     ensures version { IfOk result (λ r. r.version ≡ version_of (slice_index bytes.now 4)) }
     ensures bits { IfOk result (λ r. r.bits ≡ slice_index bytes.now 5) }
@@ -35,10 +53,10 @@ pub fn read_header(bytes: &[u8]) -> Result<Header, CheckFault>
 {
     for place in 0..HEADER_SIZE {
         if place >= bytes.len() {
-            return Err(CheckFault::Truncated);
+            return Err(HeaderFault::Truncated);
         }
         if !may_stand(place, bytes[place]) {
-            return Err(CheckFault::BadHeader);
+            return Err(HeaderFault::BadByte);
         }
     }
     Ok(Header {

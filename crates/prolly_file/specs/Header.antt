@@ -3,8 +3,8 @@ use Rattle.std.specs.Prelude.{ℕ, Bool, true, nat_le, ◌||◌, ◌==◌, get_o
 use Rattle.std.specs.Prelude.{Some, None, if◌then◌else◌}
 use Rattle.prolly_entry.specs.declared.version.Version.{Version}
 use Rattle.prolly_entry.specs.declared.version.Version.TheVariants.{One, Two}
-use Rattle.prolly_check.specs.declared.fault.CheckFault.{CheckFault}
-use Rattle.prolly_check.specs.declared.fault.CheckFault.TheVariants.{BadHeader, Truncated}
+use Rattle.prolly_file.specs.declared.format.header.HeaderFault.{HeaderFault}
+use Rattle.prolly_file.specs.declared.format.header.HeaderFault.TheVariants.{BadByte, Truncated}
 
 -- Which bytes may stand at each of its places: the letters PRLY, a version, at most 24 bits.
 abbrev pub header_tests : List (ℕ → Bool)
@@ -17,11 +17,11 @@ test_at place = get_or header_tests place (λ b. true)
 
 -- What is wrong: a byte that may not stand at its place, or else that the bytes end before the last
 -- place.
-abbrev pub header_fault : List (ℕ → Bool) → List ℕ → Option CheckFault
+abbrev pub header_fault : List (ℕ → Bool) → List ℕ → Option HeaderFault
 header_fault [] bytes = None
 header_fault (test ∷ tests) [] = Some Truncated
 header_fault (test ∷ tests) (b ∷ bytes) = if test b then header_fault tests bytes else Some
-    BadHeader
+    BadByte
 
 -- The version that the byte of a lawful header stands for.
 abbrev pub version_of : ℕ → Version

@@ -9,10 +9,9 @@ use Rattle.std.proofs.lemmas.List.{length-append}
 use Rattle.std.proofs.lemmas.Bool.{or_from, le-ltb}
 use Rattle.prolly_entry.specs.lemmas.Lists.{Apart, apart, cells}
 use Rattle.prolly_entry.specs.lemmas.Spellings.{eight_bytes}
-use Rattle.prolly_file.specs.Frame.{framed}
 use Rattle.prolly_tree.specs.Chunk.{Chunk}
 use Rattle.prolly_tree.specs.File.{frame}
-use Rattle.prolly_check.specs.Frames.{has_no_frame, IsSmall}
+use Rattle.prolly_file.specs.Frame.{framed, has_no_frame, IsSmall}
 
 long_enough : (long read size : ℕ) → read ≡ size → 8 + size ≤ long →
     (nat_lt long 8 || nat_lt long (8 + read)) ≡ false
