@@ -2,7 +2,7 @@
 use Rattle.std.specs.Prelude.{ℕ, List, Option, option_map}
 use Rattle.std.specs.Borrow.{Bor}
 use Rattle.prolly_entry.specs.Pair.{Pair}
-use Rattle.prolly_check.specs.declared.node.Child.{Child}
+use Rattle.prolly_entry.specs.declared.child.Child.{Child}
 use Rattle.prolly_check.specs.Children.{value_of}
 use Rattle.prolly_check.specs.Entries.{Child as ChildValue}
 

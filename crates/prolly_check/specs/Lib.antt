@@ -6,7 +6,7 @@ pub mod Frames
 pub mod Spans
 -- The entries that chunks hold.
 pub mod Entries
--- Children of a node, as they are read, and which of them a look-up goes on in.
+-- Which of the children of a node a look-up goes on in.
 pub mod Children
 -- The pairs that chunks hold.
 pub mod Held

@@ -8,8 +8,8 @@ ghost use Rattle.prolly_check.specs.Leaves.{IsLeafOf, IsBeyond};
 use crate::entries::Entries;
 use crate::file::CheckedFile;
 use crate::leaf::Pairs;
-use crate::node::{Child, Children};
-use prolly_entry::key_order;
+use crate::node::Children;
+use prolly_entry::{Child, key_order};
 
 /// The value of the key among the pairs of a leaf. Takes no memory, and time linear in the leaf.
 pub fn value_in<'a>(mut pairs: Pairs<'a>, key: &[u8]) -> Option<&'a [u8]>

@@ -38,7 +38,7 @@ pub use leaf::Pairs;
 pub use leaves::Leaves;
 pub use level::Level;
 pub use missing::Missing;
-pub use node::{Child, Children, split_first_child};
+pub use node::{Children, split_first_child};
 pub use nth::pair_at;
 pub use scan::first_pairs_from;
 pub use step::{ChunkFlaw, Step, entries_in, step_in};

@@ -8,7 +8,8 @@ ghost use Rattle.prolly_check.specs.Counted.{pair_of, counted_of};
 use crate::entries::Entries;
 use crate::file::CheckedFile;
 use crate::leaf::Pairs;
-use crate::node::{Child, Children};
+use crate::node::Children;
+use prolly_entry::Child;
 
 /// The pair of this number, counted from 0, among the pairs of a leaf. Takes no memory, and time
 /// linear in the number.

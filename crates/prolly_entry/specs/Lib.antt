@@ -13,6 +13,8 @@ pub mod Version
 -- How pairs, records and child entries are spelled as bytes. Numbers are big-endian. (This
 -- project's format.)
 pub mod Spelling
+-- Children of a node, as their entries say them. (This project's format.)
+pub mod Child
 -- A child entry that bytes begin with.
 pub mod ChildAt
 -- Bytes are seen as numbers.

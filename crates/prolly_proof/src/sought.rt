@@ -6,8 +6,8 @@ ghost use Rattle.prolly_check.specs.Entries.{Child as ChildValue, IsNode, childr
 ghost use Rattle.prolly_entry.specs.Keys.{Rising};
 ghost use Rattle.prolly_proof.specs.Sought.{IsChildSought, IsMark, child_sought, found_child};
 
-use prolly_check::{Child, split_first_child};
-use prolly_entry::{Ref, Version, key_order};
+use prolly_check::split_first_child;
+use prolly_entry::{Child, Ref, Version, key_order};
 
 /// What a look-up seeks.
 #[derive(Clone, Copy)]
