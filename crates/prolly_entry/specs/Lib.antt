@@ -32,6 +32,8 @@ pub mod Storage
 pub mod Reading
 -- What bytes begin with: a record, a pair, or no whole one. (This project's format.)
 pub mod Front
+-- Where the parts of a record lie in the bytes that it begins.
+pub mod RecordAt
 -- What the bytes at hand say of the next record, where more bytes may follow them. (This project's
 -- rules.)
 pub mod NextRecord
