@@ -16,17 +16,18 @@ use Rattle.prolly_entry.specs.Cut.{sha512_cut}
 use Rattle.prolly_tree.specs.Tree.{bytes_of, tree_of}
 use Rattle.prolly_tree.specs.Chunk.{chunks}
 use Rattle.prolly_tree.specs.File.{header, frame, file, root_reference}
-use Rattle.prolly_file.specs.Frame.{framed}
+use Rattle.prolly_file.specs.Frame.{framed, IsSmall}
+use Rattle.prolly_file.specs.FrameLaws.{frames_bytes}
+use Rattle.prolly_file.specs.declared.format.header.HeaderFault.TheVariants.{BadByte}
 use Rattle.prolly_check.specs.declared.fault.CheckFault.{CheckFault}
-use Rattle.prolly_check.specs.declared.fault.CheckFault.TheVariants.{BadHeader, Truncated, Trailing}
-use Rattle.prolly_check.specs.declared.fault.CheckFault.TheVariants.{NotCanonical}
+use Rattle.prolly_check.specs.declared.fault.CheckFault.TheVariants.{NotCanonical, Trailing}
+use Rattle.prolly_check.specs.declared.fault.CheckFault.TheVariants.{Truncated}
 use Rattle.prolly_check.specs.Content.{Content}
 use Rattle.prolly_check.specs.Held.{pairs_held}
-use Rattle.prolly_check.specs.Frames.{ending_of, IsSmall, IsFramed}
+use Rattle.prolly_check.specs.Frames.{ending_of, IsFramed}
 use Rattle.prolly_check.specs.Judged.{difference, chunk_bytes, ending_for, judged}
 use Rattle.prolly_check.specs.Verdict.{FramesVerdict, HeaderVerdict, IsVerdict, AllApart, IsFileOf}
 use Rattle.prolly_check.specs.Verdict.{AcceptsFiles}
-use Rattle.prolly_check.specs.lemmas.Frames.{frames_bytes}
 use Rattle.prolly_tree.specs.lemmas.Splits.{flat}
 use Rattle.prolly_entry.specs.lemmas.Spellings.{reference_length}
 use Rattle.prolly_check.proofs.HeldPairs.{flat_held, all_hold, map_holds}
@@ -68,9 +69,9 @@ header_verdict : (version : Version) (bits : ℕ) (rest : List ℕ)
     (verdict : Result Content CheckFault) → bits ≤ 24 → FramesVerdict version bits rest verdict →
     IsVerdict (header version bits ++ rest) verdict
 header_verdict One bits rest verdict h f = subst (λ o. HeaderVerdict o (header One bits ++ rest)
-    verdict) (sym (cond-true (nat_le bits 24) None (Some BadHeader) (le-leb bits 24 h))) f
+    verdict) (sym (cond-true (nat_le bits 24) None (Some BadByte) (le-leb bits 24 h))) f
 header_verdict Two bits rest verdict h f = subst (λ o. HeaderVerdict o (header Two bits ++ rest)
-    verdict) (sym (cond-true (nat_le bits 24) None (Some BadHeader) (le-leb bits 24 h))) f
+    verdict) (sym (cond-true (nat_le bits 24) None (Some BadByte) (le-leb bits 24 h))) f
 
 pub ending_clean : (number : ℕ) (ending : List ℕ) → length ending ≡ 28 →
     ending_of number (0x45 ∷ ending) ≡ Ok ending

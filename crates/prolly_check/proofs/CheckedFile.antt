@@ -12,8 +12,9 @@ use Rattle.prolly_tree.specs.lemmas.Splits.{flat}
 use Rattle.prolly_check.specs.declared.fault.CheckFault.{CheckFault}
 use Rattle.prolly_check.specs.declared.frames.Span.{Span}
 use Rattle.prolly_check.specs.Content.{Content}
-use Rattle.prolly_check.specs.Header.{header_tests, header_fault, version_of}
-use Rattle.prolly_check.specs.Frames.{has_no_frame, ending_of, IsFramed}
+use Rattle.prolly_file.specs.Frame.{has_no_frame}
+use Rattle.prolly_file.specs.Header.{header_tests, header_fault, version_of}
+use Rattle.prolly_check.specs.Frames.{ending_of, IsFramed}
 use Rattle.prolly_check.specs.Spans.{chunk_in, chunks_in, FramesTo}
 use Rattle.prolly_check.specs.Entries.{IsBad, IsRead}
 use Rattle.prolly_check.specs.Whole.{AreWhole}

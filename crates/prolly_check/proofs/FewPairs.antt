@@ -11,6 +11,7 @@ use Rattle.prolly_entry.specs.Spelling.{pair_spelling}
 use Rattle.prolly_tree.specs.Chunk.{chunks}
 use Rattle.prolly_tree.specs.File.{header, frame, end_record, root_reference}
 use Rattle.prolly_file.specs.Frame.{framed}
+use Rattle.prolly_file.specs.FrameLaws.{frames_bytes}
 use Rattle.prolly_check.specs.declared.frames.Span.{Span}
 use Rattle.prolly_check.specs.Checked.{chunks_of}
 use Rattle.prolly_check.specs.Content.{Content}
@@ -21,7 +22,6 @@ use Rattle.prolly_check.proofs.LeafPairs.{leaf_pairs}
 use Rattle.prolly_check.proofs.HeldPairs.{map_holds}
 use Rattle.prolly_check.specs.Spans.{chunks_in, FramesTo}
 use Rattle.prolly_check.specs.Verdict.{IsFileOf}
-use Rattle.prolly_check.specs.lemmas.Frames.{frames_bytes}
 
 each_has_bytes : (pairs : List Pair) → length pairs ≤ length (flat_map pair_spelling pairs)
 each_has_bytes [] = omega arith

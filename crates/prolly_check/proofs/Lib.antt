@@ -4,9 +4,7 @@ pub mod Verdicts
 pub mod Acceptance
 -- Bytes have one verdict.
 pub mod OneVerdict
--- The header, place by place.
-pub mod HeaderBytes
--- The bytes of a frame.
+-- One more frame of a file.
 pub mod FrameBytes
 -- Entries that bytes spell, read one after another.
 pub mod EntryLists

@@ -2,11 +2,9 @@
 use Rattle.std.proofs.Common.{◌≡◌, ℕ, ◌+◌, ◌-◌, List, [], ◌∷◌, ◌++◌, length, take, drop, refl, sym, ap}
 use Rattle.std.proofs.Common.{◌∙◌, arith, append_assoc, length-drop}
 use Rattle.std.proofs.lemmas.List.{length-append, take_at, drop-drop}
-use Rattle.prolly_entry.specs.ChildAt.{tail_length, key_at, reference_at, count_at, IsChildAt}
-use Rattle.prolly_entry.specs.ChildAt.{NoChildAt}
+use Rattle.prolly_entry.specs.ChildAt.{tail_length, NoChildAt}
 use Rattle.prolly_entry.specs.Reading.{key_length}
 use Rattle.prolly_entry.specs.Spelling.{key_spelling, count_spelling}
-use Rattle.prolly_entry.specs.declared.child.ChildAt.{ChildAt}
 use Rattle.prolly_entry.specs.declared.version.Version.{Version}
 use Rattle.prolly_entry.specs.declared.version.Version.TheVariants.{One, Two}
 use Rattle.prolly_entry.specs.lemmas.Spellings.{found_key, key_there, after_two}
@@ -161,39 +159,3 @@ pub no_next_child : (version : Version) (entries : List ℕ) → NoChildAt versi
 unfolding children_in
 no_next_child version entries none n = ap (entries_in (first_child version) (behind_child version))
     (node_left version entries none n)
-
--- ---- the child that is found there
-
-pub child_found : (version : Version) (entries tail reference rest : List ℕ) (count : ℕ)
-    (at : ChildAt) → IsChildAt version entries at → tail ≡ drop at.key_end entries →
-    reference ≡ take 20 tail →
-    count ≡ first_count version (drop 20 tail) → rest ≡ drop at.len entries →
-    BeginsWith (entry_of version) IsChild entries
-    (record { key = key_at entries at; reference = reference; count = count }) rest
-child_found version entries tail reference rest count at h behind named counted left =
-    let same : reference_at entries at ≡ reference = sym (named ∙ ap (take 20) behind) in
-    let spelled : count_spelling version (count_at entries at) ≡ count_spelling version count =
-    one_count version entries at ∙ ap (count_spelling version)
-    (sym (counted ∙ ap (λ t. first_count version (drop 20 t)) behind ∙
-    ap (first_count version) (drop-drop 20 at.key_end entries))) in
-    record {
-      lawful = record { key = h.key; reference = ap length (sym same) ∙ h.reference };
-      is = h.spelled ∙ ap (λ r. entry_of version (record {
-        key = key_at entries at;
-        reference = r;
-        count = count_at entries at;
-      }) ++ drop at.len entries) same
-          ∙ ap (λ n. (key_spelling (key_at entries at) ++ reference ++ n) ++ drop at.len entries)
-          spelled
-          ∙ ap (λ r. entry_of version (record {
-            key = key_at entries at;
-            reference = reference;
-            count = count;
-          }) ++ r) (sym left);
-    }
-  where
-    one_count : (version : Version) (entries : List ℕ) (at : ChildAt) →
-        count_spelling version (count_at entries at) ≡ count_spelling version
-        (first_count version (drop (at.key_end + 20) entries))
-    one_count One entries at = refl
-    one_count Two entries at = refl

@@ -7,18 +7,19 @@ use Rattle.std.proofs.lemmas.Bool.{false≢true}
 use Rattle.std.specs.List.{flat_map, AllByRecursion}
 use Rattle.prolly_entry.specs.Pair.{Pair}
 use Rattle.prolly_entry.specs.declared.version.Version.{Version}
-use Rattle.prolly_file.specs.Frame.{framed}
+use Rattle.prolly_file.specs.Frame.{framed, has_no_frame, IsSmall}
+use Rattle.prolly_file.specs.FrameLaws.{begins_frame, one_front}
+use Rattle.prolly_file.specs.Header.{header_tests, header_fault, version_of}
+use Rattle.prolly_file.specs.declared.format.header.HeaderFault.{HeaderFault}
 use Rattle.prolly_check.specs.declared.fault.CheckFault.{CheckFault}
 use Rattle.prolly_check.specs.declared.fault.CheckFault.TheVariants.{BadChunk}
 use Rattle.prolly_check.specs.Content.{Content}
-use Rattle.prolly_check.specs.Header.{header_tests, header_fault, version_of}
-use Rattle.prolly_check.specs.Frames.{has_no_frame, ending_of, IsSmall}
+use Rattle.prolly_check.specs.Frames.{ending_of}
 use Rattle.prolly_check.specs.Entries.{Holds, IsRead}
 use Rattle.prolly_check.specs.Verdict.{ReadVerdict, EndVerdict, FramesVerdict, HeaderVerdict}
 use Rattle.prolly_check.specs.Verdict.{OneVerdict}
 use Rattle.prolly_entry.specs.lemmas.Lists.{all_back}
 use Rattle.prolly_check.specs.Whole.{IsWhole, AreWhole}
-use Rattle.prolly_check.specs.lemmas.Frames.{begins_frame, one_front}
 use Rattle.prolly_check.proofs.HeldPairs.{lists_are, are_whole}
 
 head_is : {A : Type 0} (x y : A) (xs ys : List A) → x ∷ xs ≡ y ∷ ys → x ≡ y
@@ -125,7 +126,7 @@ frames_same version bits bytes v w h k =
 pub one_verdict : OneVerdict
 one_verdict bytes v w h k = go (header_fault header_tests bytes) h k
   where
-    go : (fault : Option CheckFault) → HeaderVerdict fault bytes v → HeaderVerdict fault bytes w →
+    go : (fault : Option HeaderFault) → HeaderVerdict fault bytes v → HeaderVerdict fault bytes w →
         v ≡ w
     go (Some f) h k = h ∙ sym k
     go None h k = frames_same (version_of (slice_index bytes 4)) (slice_index bytes 5)

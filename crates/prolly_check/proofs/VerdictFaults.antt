@@ -1,5 +1,5 @@
 -- A verdict is never want of memory, a failed read, or that there are too many bytes.
-use Rattle.std.proofs.Common.{◌≡◌, ℕ, suc, ◌≤◌, Bool, not, ◌==◌, nat_lt, List, [], ◌∷◌, length}
+use Rattle.std.proofs.Common.{◌≡◌, ℕ, suc, ◌≤◌, not, ◌==◌, nat_lt, List, [], ◌∷◌, length}
 use Rattle.std.proofs.Common.{Option, Some, None, Result, Ok, Err, inl, inr, sym, subst}
 use Rattle.std.specs.Prelude.{slice_index, IfSome, IfErr}
 use Rattle.std.proofs.lemmas.Bool.{cond_both}
@@ -14,13 +14,15 @@ use Rattle.prolly_check.specs.declared.fault.CheckFault.{CheckFault}
 use Rattle.prolly_check.specs.declared.fault.CheckFault.TheVariants as faults
 use Rattle.prolly_check.specs.Content.{Content}
 use Rattle.prolly_check.specs.Check.{IsRefusal}
-use Rattle.prolly_check.specs.Header.{header_tests, header_fault, version_of}
+use Rattle.prolly_file.specs.Header.{header_tests, header_fault, version_of}
+use Rattle.prolly_file.specs.declared.format.header.HeaderFault.{HeaderFault}
+use Rattle.prolly_file.specs.declared.format.header.HeaderFault.TheVariants as header
 use Rattle.prolly_check.specs.Frames.{ending_of}
 use Rattle.prolly_check.specs.Entries.{IsRead}
 use Rattle.prolly_check.specs.Order.{rises_behind, last_behind}
 use Rattle.prolly_check.specs.Judged.{order_fault, difference, end_fault, reuse, chunk_bytes}
 use Rattle.prolly_check.specs.Judged.{ending_for, canonical_fault, or_content}
-use Rattle.prolly_check.specs.Refusal.{UnlessMemory}
+use Rattle.prolly_check.specs.Refusal.{UnlessMemory, fault_of_header}
 use Rattle.prolly_check.specs.Verdict.{ReadVerdict, EndVerdict, HeaderVerdict, IsVerdict}
 use Rattle.prolly_tree.specs.lemmas.Splits.{flat}
 
@@ -40,11 +42,9 @@ then : (a b : Option CheckFault) → AnyOfBytes a → AnyOfBytes b → AnyOfByte
 then None b h k = k
 then (Some fault) b h k = h
 
-of_header : (tests : List (ℕ → Bool)) (bytes : List ℕ) → AnyOfBytes (header_fault tests bytes)
-of_header [] bytes = tt
-of_header (test ∷ tests) [] = tt
-of_header (test ∷ tests) (b ∷ bytes) = cond_both (test b) (header_fault tests bytes)
-    (Some faults.BadHeader) AnyOfBytes (λ _. of_header tests bytes) (λ _. tt)
+of_header : (fault : HeaderFault) → OfBytes (fault_of_header fault)
+of_header header.Truncated = tt
+of_header header.BadByte = tt
 
 of_ending : (number : ℕ) (bytes : List ℕ) → ErrOfBytes (ending_of number bytes)
 of_ending number [] = tt
@@ -111,12 +111,11 @@ of_end version bits cs (Err fault) verdict h so = subst ErrOfBytes (sym so) h
 
 pub verdict_of_bytes : (bytes : List ℕ) (fault : CheckFault) → IsVerdict bytes (Err fault) →
     OfBytes fault
-verdict_of_bytes bytes fault v = go (header_fault header_tests bytes) (of_header header_tests bytes)
-    v
+verdict_of_bytes bytes fault v = go (header_fault header_tests bytes) v
   where
-    go : (o : Option CheckFault) → AnyOfBytes o → HeaderVerdict o bytes (Err fault) → OfBytes fault
-    go (Some f) h v = subst ErrOfBytes (sym v) h
-    go None h v = of_end (version_of (slice_index bytes 4)) (slice_index bytes 5) v.chunks v.ending
+    go : (o : Option HeaderFault) → HeaderVerdict o bytes (Err fault) → OfBytes fault
+    go (Some f) v = subst ErrOfBytes (sym v) (of_header f)
+    go None v = of_end (version_of (slice_index bytes 4)) (slice_index bytes 5) v.chunks v.ending
         (Err fault) (subst ErrOfBytes v.is.is (of_ending (length v.chunks) v.is.tail)) v.so
 
 -- ---- refusals of the bytes that were read

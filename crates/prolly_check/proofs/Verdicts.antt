@@ -24,13 +24,16 @@ use Rattle.prolly_tree.specs.Chunk.{chunks}
 use Rattle.prolly_tree.specs.File.{header, frame}
 use Rattle.prolly_entry.specs.Overlay.{or_else}
 use Rattle.prolly_file.specs.Frame.{framed}
+use Rattle.prolly_file.specs.FrameLaws.{frames_bytes}
+use Rattle.prolly_file.specs.Header.{header_tests, header_fault, version_of}
+use Rattle.prolly_file.specs.declared.format.header.HeaderFault.{HeaderFault}
+use Rattle.prolly_file.specs.declared.format.header.HeaderFault.TheVariants.{BadByte}
 use Rattle.prolly_check.specs.declared.fault.CheckFault.{CheckFault}
-use Rattle.prolly_check.specs.declared.fault.CheckFault.TheVariants.{BadHeader, Truncated, Trailing}
+use Rattle.prolly_check.specs.declared.fault.CheckFault.TheVariants.{Truncated, Trailing}
 use Rattle.prolly_check.specs.declared.fault.CheckFault.TheVariants.{BadEnd, BadFrame}
 use Rattle.prolly_check.specs.declared.fault.CheckFault.TheVariants.{KeysOutOfOrder, NotCanonical}
 use Rattle.prolly_check.specs.declared.fault.CheckFault.TheVariants.{Collision}
 use Rattle.prolly_check.specs.Content.{Content}
-use Rattle.prolly_check.specs.Header.{header_tests, header_fault, version_of}
 use Rattle.prolly_check.specs.Frames.{ending_of, IsFramed}
 use Rattle.prolly_check.specs.Entries.{Holds, AllHold, IsRead}
 use Rattle.prolly_check.specs.Order.{rises_behind, last_behind}
@@ -38,7 +41,6 @@ use Rattle.prolly_check.specs.Judged.{order_fault, difference, end_fault, reuse,
 use Rattle.prolly_check.specs.Judged.{ending_for, canonical_fault, or_content, judged}
 use Rattle.prolly_check.specs.Verdict.{ReadVerdict, EndVerdict, HeaderVerdict, IsVerdict, AllApart}
 use Rattle.prolly_check.specs.Verdict.{IsFileOf}
-use Rattle.prolly_check.specs.lemmas.Frames.{frames_bytes}
 use Rattle.prolly_tree.specs.lemmas.Splits.{flat}
 use Rattle.prolly_entry.specs.lemmas.Lists.{all_append}
 
@@ -57,7 +59,7 @@ pub if_ok : {A : Type 0} (t : Bool) (f : CheckFault) (r : Result A CheckFault) (
 if_ok true f r x e = absurd (err_ok e)
 if_ok false f r x e = (refl, e)
 
-pub if_none : (t : Bool) (f : CheckFault) (o : Option CheckFault) → cond t o (Some f) ≡ None →
+pub if_none : {F : Type 0} (t : Bool) (f : F) (o : Option F) → cond t o (Some f) ≡ None →
     (t ≡ true) × (o ≡ None)
 if_none true f o e = (refl, e)
 if_none false f o e = absurd (some_none e)
@@ -81,7 +83,7 @@ passes : (test : ℕ → Bool) (tests : List (ℕ → Bool)) (bytes : List ℕ) 
     header_fault (test ∷ tests) bytes ≡ None → Passes test tests bytes
 passes test tests [] h = absurd (some_none h)
 passes test tests (b ∷ bytes) h =
-    let s = if_none (test b) BadHeader (header_fault tests bytes) h in
+    let s = if_none (test b) BadByte (header_fault tests bytes) h in
     record { byte = b; rest = bytes; is = refl; so = s.0; more = s.1 }
 
 pub record HeaderIs (bytes : List ℕ) : Type 0 where
@@ -349,7 +351,7 @@ pub accepted_is_file : (bytes : List ℕ) (content : Content) → IsVerdict byte
     IsFileOf bytes content
 accepted_is_file bytes content v = go (header_fault header_tests bytes) refl v
   where
-    go : (fault : Option CheckFault) → header_fault header_tests bytes ≡ fault →
+    go : (fault : Option HeaderFault) → header_fault header_tests bytes ≡ fault →
         HeaderVerdict fault bytes (Ok content) → IsFileOf bytes content
     go (Some fault) e v = absurd (err_ok (sym v))
     go None e v = end_file bytes content (header_ok bytes e) v.chunks v.ending v.is v.so

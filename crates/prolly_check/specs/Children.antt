@@ -1,13 +1,9 @@
--- Children of a node, as they are read, and which of them a look-up goes on in.
+-- Which of the children of a node a look-up goes on in.
 use Rattle.std.specs.Prelude.{ℕ, ◌-◌, nat_lt, List, [], ◌∷◌, Option, Some, None, if◌then◌else◌}
 use Rattle.std.specs.Ordering.{is_lt}
 use Rattle.prolly_entry.specs.Keys.{key_order}
-use Rattle.prolly_check.specs.declared.node.Child.{Child}
-use Rattle.prolly_check.specs.Entries.{Child as ChildValue}
-
--- What a child that was read says.
-abbrev pub value_of : Child → ChildValue
-value_of child = record { key = child.key.now; reference = child.reference.0; count = child.count }
+use Rattle.prolly_entry.specs.Child.{Child as ChildValue}
+pub use Rattle.prolly_entry.specs.Child.{value_of}
 
 -- The first child whose greatest key is not below the key.
 abbrev pub child_for : List ℕ → List ChildValue → Option ChildValue

@@ -1,43 +1,21 @@
 -- The entries that chunks hold.
-use Rattle.std.specs.Prelude.{◌≡◌, ℕ, zero, suc, ◌+◌, ◌≤◌, List, [], ◌∷◌, ◌++◌, length, take, drop}
+use Rattle.std.specs.Prelude.{◌≡◌, ℕ, zero, suc, ◌+◌, List, [], ◌∷◌, ◌++◌, length, take, drop}
 use Rattle.std.specs.Prelude.{Result, Ok, Err}
 use Rattle.std.specs.List.{flat_map, AllByRecursion}
-use Rattle.std.specs.Int.{w64, from_be_bytes}
 use Rattle.prolly_entry.specs.declared.version.Version.{Version}
-use Rattle.prolly_entry.specs.declared.version.Version.TheVariants.{One, Two}
+pub use Rattle.prolly_entry.specs.Child.{Child, IsChild, entry_of, first_count}
 use Rattle.prolly_entry.specs.ChildAt.{tail_length}
 use Rattle.prolly_entry.specs.Pair.{Pair, IsPair}
 use Rattle.prolly_entry.specs.Reading.{key_length, value_length}
-use Rattle.prolly_entry.specs.Spelling.{pair_spelling, child_spelling}
+pub use Rattle.prolly_entry.specs.Spelling.{BeginsWith}
+use Rattle.prolly_entry.specs.Spelling.{pair_spelling}
 use Rattle.prolly_check.specs.declared.fault.CheckFault.{CheckFault}
 use Rattle.prolly_check.specs.declared.fault.CheckFault.TheVariants.{BadChunk}
-
--- What a child entry says: the greatest key below the child, its reference, the number of pairs
--- below it.
-pub record Child : Type 0 where
-  pub key : List ℕ
-  pub reference : List ℕ
-  pub count : ℕ
-
--- The child entry is lawful.
-pub record IsChild (child : Child) : Type 0 where
-  pub key : length child.key ≤ 1024
-  pub reference : length child.reference ≡ 20
-
--- Its spelling.
-abbrev pub entry_of : Version → Child → List ℕ
-entry_of version child = child_spelling version child.key child.reference child.count
 
 -- The entries of a leaf are the spellings of these pairs.
 pub record IsLeaf (entries : List ℕ) (pairs : List Pair) : Type 0 where
   pub is : entries ≡ flat_map pair_spelling pairs
   pub lawful : AllByRecursion IsPair pairs
-
--- The spelling of a lawful entry begins the bytes, and the rest follows.
-pub record BeginsWith {A : Type 0} (spelling : A → List ℕ) (Lawful : A → Type 0) (bytes : List ℕ)
-    (entry : A) (rest : List ℕ) : Type 0 where
-  pub lawful : Lawful entry
-  pub is : bytes ≡ spelling entry ++ rest
 
 -- The entries that bytes hold, where a function tells the first one and another what is behind it:
 -- so many at most, and all.
@@ -63,11 +41,7 @@ behind_pair entries = drop (6 + key_length entries + value_length entries) entri
 unfoldable pub pairs_in : List ℕ → List Pair
 pairs_in entries = entries_in first_pair behind_pair entries
 
--- The same of a node's entries. Version One has no count: it stands as 0.
-abbrev pub first_count : Version → List ℕ → ℕ
-first_count One bytes = 0
-first_count Two bytes = from_be_bytes w64 (take 8 bytes)
-
+-- The same of a node's entries.
 abbrev pub first_child : Version → List ℕ → Child
 first_child version entries = record {
   key = take (key_length entries) (drop 2 entries);

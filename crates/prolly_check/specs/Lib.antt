@@ -1,14 +1,12 @@
 -- What a chunk file says.
 pub mod Content
--- The header of a chunk file, its first six bytes.
-pub mod Header
 -- The frames of a chunk file, and what follows them.
 pub mod Frames
 -- Where the chunks of a file lie in its bytes.
 pub mod Spans
 -- The entries that chunks hold.
 pub mod Entries
--- Children of a node, as they are read, and which of them a look-up goes on in.
+-- Which of the children of a node a look-up goes on in.
 pub mod Children
 -- The pairs that chunks hold.
 pub mod Held

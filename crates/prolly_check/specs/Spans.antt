@@ -1,9 +1,8 @@
 -- Where the chunks of a file lie in its bytes.
-use Rattle.std.specs.Prelude.{◌≡◌, ℕ, ◌+◌, ◌<◌, ◌≤◌, ◌^◌, List, ◌++◌, length, take, drop, map}
+use Rattle.std.specs.Prelude.{◌≡◌, ℕ, ◌+◌, ◌≤◌, List, ◌++◌, length, take, drop, map}
 use Rattle.std.specs.List.{flat_map, AllByRecursion}
-use Rattle.prolly_file.specs.Frame.{framed}
+use Rattle.prolly_file.specs.Frame.{framed, IsSmall}
 use Rattle.prolly_check.specs.declared.frames.Span.{Span}
-use Rattle.prolly_check.specs.Frames.{IsSmall}
 
 -- The chunk that lies there.
 abbrev pub chunk_in : List ℕ → Span → List ℕ
@@ -16,12 +15,6 @@ chunks_in bytes spans = map (chunk_in bytes) spans
 -- The chunk lies within the bytes.
 abbrev pub IsWithin : List ℕ → Span → Type 0
 IsWithin bytes span = span.start + span.len ≤ length bytes
-
--- A whole frame begins the bytes, of a chunk of this length.
-pub record BeginsFrame (bytes : List ℕ) (len : ℕ) : Type 0 where
-  pub within : 9 + len ≤ length bytes
-  pub small : len < 2 ^ 64
-  pub is : bytes ≡ framed (take len (drop 9 bytes)) ++ drop (9 + len) bytes
 
 -- Behind the header the frames of the chunks go up to the place.
 pub record FramesTo (bytes : List ℕ) (spans : List Span) (place : ℕ) : Type 0 where

@@ -10,10 +10,12 @@ use Rattle.prolly_entry.specs.Reference.{reference_of}
 use Rattle.prolly_tree.specs.File.{file}
 use Rattle.prolly_check.specs.declared.fault.CheckFault.{CheckFault}
 use Rattle.prolly_check.specs.Content.{Content}
-use Rattle.prolly_check.specs.Header.{header_tests, header_fault, version_of}
+use Rattle.prolly_file.specs.Header.{header_tests, header_fault, version_of}
+use Rattle.prolly_file.specs.declared.format.header.HeaderFault.{HeaderFault}
 use Rattle.prolly_check.specs.Frames.{IsFramed}
 use Rattle.prolly_check.specs.Entries.{IsRead}
 use Rattle.prolly_check.specs.Judged.{judged, chunk_bytes}
+use Rattle.prolly_check.specs.Refusal.{fault_of_header}
 
 -- ---- The faults, step by step.
 
@@ -46,8 +48,8 @@ pub record FramesVerdict (version : Version) (bits : ℕ) (bytes : List ℕ)
   pub is : IsFramed bytes chunks ending
   pub so : EndVerdict version bits chunks ending verdict
 
-abbrev pub HeaderVerdict : Option CheckFault → List ℕ → Result Content CheckFault → Type 0
-HeaderVerdict (Some fault) bytes verdict = verdict ≡ Err fault
+abbrev pub HeaderVerdict : Option HeaderFault → List ℕ → Result Content CheckFault → Type 0
+HeaderVerdict (Some fault) bytes verdict = verdict ≡ Err (fault_of_header fault)
 HeaderVerdict None bytes verdict =
     FramesVerdict (version_of (slice_index bytes 4)) (slice_index bytes 5) (drop 6 bytes) verdict
 

@@ -1,5 +1,3 @@
--- Lemmas for the crates above, by subject: what a proof may use of frames and of ways.
--- A frame, and what stands behind it.
-pub mod Frames
+-- Lemmas for the crates above, by subject: what a proof may use of ways.
 -- Where a look-up goes on, and where it ends.
 pub mod Ways

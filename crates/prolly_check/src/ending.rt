@@ -3,9 +3,7 @@ ghost use Rattle.std.specs.Prelude.{◌≡◌, Ok, Err, drop, IfOk, IfErr};
 ghost use Rattle.prolly_check.specs.Frames.{ending_of};
 
 use crate::fault::CheckFault;
-
-/// The size of an end record.
-const END_SIZE: usize = 29;
+use prolly_file::{END_LETTER, END_SIZE, FRAME_LETTER};
 
 /// Tests that the bytes, which no whole frame begins, are an end record. So many frames stand
 /// before.
@@ -16,10 +14,10 @@ pub(crate) fn test_ending(bytes: &[u8], frames: usize) -> Result<(), CheckFault>
     if bytes.len() == 0 {
         return Err(CheckFault::Truncated);
     }
-    if bytes[0] == b'C' {
+    if bytes[0] == FRAME_LETTER {
         return Err(CheckFault::Truncated);
     }
-    if bytes[0] != b'E' {
+    if bytes[0] != END_LETTER {
         return Err(CheckFault::BadFrame { chunk: frames });
     }
     if bytes.len() < END_SIZE {

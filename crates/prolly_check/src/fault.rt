@@ -1,6 +1,6 @@
 //! Why bytes are no chunk file.
 
-use prolly_file::WholeFault;
+use prolly_file::{HeaderFault, WholeFault};
 use std::alloc::AllocError;
 
 /// Why a chunk file is refused. Chunks are numbered from 0, in the order of the file.
@@ -55,6 +55,20 @@ impl From<WholeFault> for CheckFault {
             WholeFault::Memory => CheckFault::Memory,
             WholeFault::Read => CheckFault::Read,
             WholeFault::TooLong => CheckFault::TooLong,
+        }
+    }
+}
+
+impl From<HeaderFault> for CheckFault {
+    ghost use Rattle.std.specs.Prelude.{◌≡◌};
+    ghost use Rattle.prolly_check.specs.Refusal.{fault_of_header};
+
+    ghost from_gives = { λ header fault. fault ≡ fault_of_header header };
+
+    fn from(header: HeaderFault) -> Self {
+        match header {
+            HeaderFault::Truncated => CheckFault::Truncated,
+            HeaderFault::BadByte => CheckFault::BadHeader,
         }
     }
 }

@@ -10,10 +10,10 @@ ghost use Rattle.prolly_check.specs.Checked.{IsChecked, HasFile, HasReference, c
 
 use crate::entries::{Entries, entries_of, pairs_of};
 use crate::frames::{Span, chunk_at};
-use crate::header::BITS_PLACE;
 use crate::index::Index;
 use crate::leaf::Pairs;
 use prolly_entry::{Ref, Version};
+use prolly_file::BITS_PLACE;
 use std::marker::Model;
 
 /// A file that was checked: its bytes, its version, where its chunks lie, and how they are found by

@@ -1,16 +1,10 @@
 //! The frames of a chunk file.
-ghost use Rattle.std.specs.Prelude.{◌≡◌, ◌+◌, ◌≤◌, ◌++◌, true, None, length, take, drop};
-ghost use Rattle.std.specs.Prelude.{IfSome, IfOk};
-ghost use Rattle.std.specs.Int.{w64, from_be_bytes};
-ghost use Rattle.prolly_file.specs.Frame.{framed};
-ghost use Rattle.prolly_check.specs.Frames.{has_no_frame, IsSmall};
-ghost use Rattle.prolly_check.specs.Spans.{BeginsFrame, FramesTo, IsWithin, chunk_in};
+ghost use Rattle.std.specs.Prelude.{◌≡◌, ◌≤◌, true, length, drop, IfOk};
+ghost use Rattle.prolly_file.specs.Frame.{has_no_frame};
+ghost use Rattle.prolly_check.specs.Spans.{FramesTo, IsWithin, chunk_in};
 
-use crate::header::HEADER_SIZE;
+use prolly_file::{FRAME_START, HEADER_SIZE, frame_at};
 use std::alloc::{AllocError, Global};
-
-/// What stands before a chunk: a letter and the chunk's length.
-const FRAME_START: usize = 9;
 
 /// Where a chunk lies in its file.
 #[derive(Clone, Copy)]
@@ -46,52 +40,6 @@ pub(crate) fn find_frames(alloc: Global, bytes: &[u8]) -> Result<Frames, AllocEr
         })?;
         end = end + FRAME_START + len;
     }
-}
-
-/// The length of the chunk whose whole frame begins the bytes.
-fn frame_at(bytes: &[u8]) -> Option<usize>
-    ensures found { IfSome result (λ len. BeginsFrame bytes.now len) }
-    ensures none { result ≡ None → has_no_frame bytes.now ≡ true }
-{
-    if bytes.len() < FRAME_START {
-        return None;
-    }
-    if bytes[0] != b'C' {
-        return None;
-    }
-    let len = length_field(bytes);
-    // The length is compared, and never added to: it may be any number.
-    if len > (bytes.len() - FRAME_START) as u64 {
-        return None;
-    }
-    Some(len as usize)
-}
-
-/// The chunk whose whole frame begins the bytes, and what stands behind the frame; none where no
-/// whole frame begins them. Takes no memory, and constant time.
-///
-/// A frame is the letter C, the length of the chunk in eight bytes, the most significant first, and
-/// the chunk.
-pub fn front_frame(bytes: &[u8]) -> Option<(&[u8], &[u8])>
-    ensures found { IfSome result (λ r. IsSmall r.0.now × (bytes.now ≡ framed r.0.now ++
-        r.1.now)) }
-    ensures none { result ≡ None → has_no_frame bytes.now ≡ true }
-{
-    let len = frame_at(bytes)?;
-    let (_, rest) = bytes.split_at(FRAME_START);
-    Some(rest.split_at(len))
-}
-
-/// The number behind the first byte.
-fn length_field(bytes: &[u8]) -> u64
-    requires { FRAME_START ≤ length bytes.now }
-    ensures { result ≡ from_be_bytes w64 (take 8 (drop 1 bytes.now)) }
-{
-    let (_, rest) = bytes.split_at(1);
-    let (front, _) = rest.split_at(8);
-    u64::from_be_bytes([
-        front[0], front[1], front[2], front[3], front[4], front[5], front[6], front[7],
-    ])
 }
 
 /// The chunk that lies there.

@@ -11,10 +11,10 @@ use crate::ending::test_ending;
 use crate::fault::CheckFault;
 use crate::file_chunks::FileChunks;
 use crate::frames::{Span, find_frames};
-use crate::header::read_header;
 use crate::index::{Index, index_chunks};
 use crate::whole::test_chunks;
 use prolly_entry::{Ref, Sha512Cut, Version};
+use prolly_file::read_header;
 use std::alloc::Global;
 
 /// Where the chunks of a file lie, the reference of each, and how they are found by these.

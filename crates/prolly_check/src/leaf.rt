@@ -1,41 +1,16 @@
 //! The entries of leaves.
 ghost use Rattle.std.specs.Prelude.{◌≡◌, ◌↔◌, ◌==◌, ◌≤◌, [], ◌∷◌, true, false, List, length};
 ghost use Rattle.std.specs.Prelude.{IsTrue, IfSome, IfNone, MatchOption};
-ghost use Rattle.prolly_entry.specs.Front.{NoPairAt};
-ghost use Rattle.prolly_entry.specs.Pair.{Pair as PairValue, IsPair};
-ghost use Rattle.prolly_entry.specs.Spelling.{pair_spelling};
+ghost use Rattle.prolly_entry.specs.Pair.{Pair as PairValue};
 ghost use Rattle.prolly_tree.specs.RecordFile.{record_file};
-ghost use Rattle.prolly_check.specs.Entries.{IsLeaf, BeginsWith, pairs_in};
+ghost use Rattle.prolly_check.specs.Entries.{IsLeaf, pairs_in};
 ghost use Rattle.prolly_check.specs.Whole.{IsSomeLeaf};
 
-use prolly_entry::{Front, front_pair};
+use prolly_entry::split_pair;
 use std::marker::Model;
 
 /// The first byte of a leaf: its level.
 pub(crate) const LEAF: u8 = 0;
-
-/// Where a key begins in its entry, of a leaf or of a node: behind its length.
-pub(crate) const KEY_START: usize = 2;
-
-/// The key and the value of the pair that begins the entries, and the entries behind it.
-fn split_pair(entries: &[u8]) -> Option<(&[u8], &[u8], &[u8])>
-    ensures some { IfSome result (λ r. BeginsWith pair_spelling IsPair entries.now
-        (record { key = r.0.now; value = r.1.now }) r.2.now) }
-    ensures none { IfNone result (NoPairAt entries.now) }
-{
-    match front_pair(entries) {
-        Front::Pair {
-            key_end,
-            value_start,
-            len,
-        } => Some((
-            &entries[KEY_START..key_end],
-            &entries[value_start..len],
-            &entries[len..],
-        )),
-        _ => None,
-    }
-}
 
 /// Whether the entries are those of a leaf.
 pub(crate) fn is_leaf(mut entries: &[u8]) -> bool

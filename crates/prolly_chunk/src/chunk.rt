@@ -5,13 +5,10 @@ ghost use Rattle.prolly_tree.specs.Tree.{pair_is_boundary};
 ghost use Rattle.prolly_chunk.specs.Chunk.{empty_chunk, with_pair, with_child};
 
 use crate::event::ChunkEvent;
-use prolly_entry::{Cut, Pair, Version, append_child_as, append_pair};
+use prolly_entry::{Cut, KEY_START, Pair, Version, append_child_as, append_pair};
 use std::alloc::{AllocError, Global};
 use std::marker::Model;
 use std::mem;
-
-/// How many bytes of an entry stand before its key.
-const KEY_OFFSET: usize = 2;
 
 /// A chunk of the entries so far, as it would be if it closed now.
 ///
@@ -69,7 +66,7 @@ impl Chunk {
     {
         let start = self.bytes.len();
         append_pair(&mut self.bytes, pair)?;
-        self.key_start = start + KEY_OFFSET;
+        self.key_start = start + KEY_START;
         self.key_length = pair.key().len();
         self.count = self.count.saturating_add(1);
         Ok(cut.is_boundary_pair(pair, &self.bytes[start..]))
@@ -97,7 +94,7 @@ impl Chunk {
             &event.reference(),
             event.count(),
         )?;
-        self.key_start = start + KEY_OFFSET;
+        self.key_start = start + KEY_START;
         self.key_length = key.len();
         // The count stays at the greatest number, since more pairs than that are not told apart.
         self.count = self.count.saturating_add(event.count());

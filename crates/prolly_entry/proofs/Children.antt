@@ -1,14 +1,16 @@
 -- What is read as a child entry is spelled there.
 use Rattle.std.proofs.Common.{◌≡◌, ℕ, ◌+◌, ◌-◌, ◌≤◌, List, ◌++◌, length, take, drop, refl, sym, ap}
 use Rattle.std.proofs.Common.{◌∙◌, subst, arith, append_assoc}
-use Rattle.std.proofs.lemmas.List.{length-take}
+use Rattle.std.proofs.lemmas.List.{length-take, drop-drop}
 use Rattle.std.proofs.lemmas.Nat.{be_bytes_8}
 use Rattle.std.specs.Int.{w64, to_be_bytes, from_be_bytes}
 use Rattle.prolly_entry.specs.declared.version.Version.{Version}
 use Rattle.prolly_entry.specs.declared.version.Version.TheVariants.{One, Two}
-use Rattle.prolly_entry.specs.Spelling.{key_spelling, count_spelling, child_spelling}
+use Rattle.prolly_entry.specs.Spelling.{BeginsWith, key_spelling, count_spelling, child_spelling}
 use Rattle.prolly_entry.specs.Reading.{key_length}
-use Rattle.prolly_entry.specs.ChildAt.{tail_length, IsChildAt}
+use Rattle.prolly_entry.specs.declared.child.ChildAt.{ChildAt}
+use Rattle.prolly_entry.specs.Child.{IsChild, entry_of, first_count}
+use Rattle.prolly_entry.specs.ChildAt.{tail_length, key_at, reference_at, IsChildAt}
 use Rattle.prolly_entry.proofs.ByteLists.{AreBytes, AreBytes-drop, AreBytes-take, cut_at}
 use Rattle.prolly_entry.proofs.ByteLists.{length_of_cut, key_is_spelled}
 
@@ -76,3 +78,20 @@ child_is_there version bytes n h e k w =
       ends = refl;
       within = w;
     }
+
+-- What is read behind the key is what the entry says.
+pub child_found : (version : Version) (bytes : List ℕ) (at : ChildAt) → IsChildAt version bytes at →
+    BeginsWith (entry_of version) IsChild bytes (record {
+      key = key_at bytes at;
+      reference = reference_at bytes at;
+      count = first_count version (drop 20 (drop at.key_end bytes));
+    }) (drop at.len bytes)
+child_found One bytes at h = record {
+  lawful = record { key = h.key; reference = h.reference };
+  is = h.spelled;
+}
+child_found Two bytes at h = record {
+  lawful = record { key = h.key; reference = h.reference };
+  is = h.spelled ∙ ap (λ tail. child_spelling Two (key_at bytes at) (reference_at bytes at)
+      (from_be_bytes w64 (take 8 tail)) ++ drop at.len bytes) (sym (drop-drop 20 at.key_end bytes));
+}

@@ -13,6 +13,8 @@ pub mod Version
 -- How pairs, records and child entries are spelled as bytes. Numbers are big-endian. (This
 -- project's format.)
 pub mod Spelling
+-- Children of a node, as their entries say them. (This project's format.)
+pub mod Child
 -- A child entry that bytes begin with.
 pub mod ChildAt
 -- Bytes are seen as numbers.
@@ -30,6 +32,8 @@ pub mod Storage
 pub mod Reading
 -- What bytes begin with: a record, a pair, or no whole one. (This project's format.)
 pub mod Front
+-- Where the parts of a record lie in the bytes that it begins.
+pub mod RecordAt
 -- What the bytes at hand say of the next record, where more bytes may follow them. (This project's
 -- rules.)
 pub mod NextRecord

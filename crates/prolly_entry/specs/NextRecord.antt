@@ -1,14 +1,15 @@
 -- What the bytes at hand say of the next record, where more bytes may follow them. (This project's
 -- rules.)
-use Rattle.std.specs.Prelude.{◌≡◌, ◌≢◌, ℕ, ◌<◌, ◌≤◌, true, List, ◌++◌, length, Some}
+use Rattle.std.specs.Prelude.{◌≡◌, ◌≢◌, ℕ, ◌<◌, true, List, ◌++◌, length, Some}
 use Rattle.prolly_entry.specs.declared.flaw.Flaw.{Flaw}
 use Rattle.prolly_entry.specs.declared.flaw.Flaw.TheVariants.{Truncated}
 use Rattle.prolly_entry.specs.declared.next.NextRecord.{NextRecord}
-use Rattle.prolly_entry.specs.declared.next.NextRecord.TheVariants.{Put, Remove, More, Flawed}
+use Rattle.prolly_entry.specs.declared.next.NextRecord.TheVariants as next
 use Rattle.prolly_entry.specs.Record.{Record}
 use Rattle.prolly_entry.specs.Position.{Position, is_before}
 use Rattle.prolly_entry.specs.Reading.{next_flaw}
-use Rattle.prolly_entry.specs.Front.{IsRecordAt, put_at, removal_at}
+use Rattle.prolly_entry.specs.Front.{IsRecordAt}
+use Rattle.prolly_entry.specs.RecordAt.{LiesIn, record_at}
 
 -- The record is the next good one, whatever follows it.
 pub record IsNext (limit count : ℕ) (position : Position) (bytes : List ℕ) (r : Record) (len : ℕ)
@@ -32,11 +33,8 @@ pub record IsFlawed (limit count : ℕ) (position : Position) (bytes : List ℕ)
 -- What the bytes say of the next record behind `count` good ones, at most `limit`, of which the
 -- last stands at the position.
 abbrev pub IsNextRecord : ℕ → ℕ → Position → List ℕ → NextRecord → Type 0
-IsNextRecord limit count position bytes (Put key_end value_start len) =
-    IsNext limit count position bytes (put_at bytes key_end value_start len) len ×
-    (key_end ≤ value_start) × (value_start ≤ len) × (2 ≤ key_end)
-IsNextRecord limit count position bytes (Remove key_end len) =
-    IsNext limit count position bytes (removal_at bytes key_end) len × (key_end ≤ len) ×
-    (2 ≤ key_end)
-IsNextRecord limit count position bytes More = IsUndecided limit count position bytes
-IsNextRecord limit count position bytes (Flawed flaw) = IsFlawed limit count position bytes flaw
+IsNextRecord limit count position bytes (next.Record at) =
+    IsNext limit count position bytes (record_at bytes at) at.len × LiesIn bytes at
+IsNextRecord limit count position bytes next.More = IsUndecided limit count position bytes
+IsNextRecord limit count position bytes (next.Flawed flaw) =
+    IsFlawed limit count position bytes flaw

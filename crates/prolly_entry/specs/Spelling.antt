@@ -40,6 +40,12 @@ abbrev pub child_spelling : Version → List ℕ → List ℕ → ℕ → List �
 child_spelling version key reference count = key_spelling key ++ reference ++ count_spelling version
     count
 
+-- The spelling of a lawful entry begins the bytes, and the rest follows.
+pub record BeginsWith {A : Type 0} (spelling : A → List ℕ) (Lawful : A → Type 0) (bytes : List ℕ)
+    (entry : A) (rest : List ℕ) : Type 0 where
+  pub lawful : Lawful entry
+  pub is : bytes ≡ spelling entry ++ rest
+
 -- Laws: no spelling is a proper prefix of another of its kind. Where two spellings begin the same
 -- bytes, they are one, and what follows them is the same.
 abbrev pub PairSpellingsApart : Type 0

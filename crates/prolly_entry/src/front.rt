@@ -1,11 +1,13 @@
 //! What bytes begin with.
-ghost use Rattle.std.specs.Prelude.{◌≡◌, ◌+◌, ◌≤◌, length, take, drop};
+ghost use Rattle.std.specs.Prelude.{◌≡◌, ◌+◌, ◌≤◌, length, take, drop, IfSome, IfNone};
 ghost use Rattle.std.specs.Int.{w16, w32, from_be_bytes};
-ghost use Rattle.prolly_entry.specs.Front.{IsFrontRecord, IsFrontPair, front_of, as_pair};
+ghost use Rattle.prolly_entry.specs.Front.{IsFrontRecord, IsFrontPair, NoPairAt, front_of, as_pair};
+ghost use Rattle.prolly_entry.specs.Pair.{IsPair};
+ghost use Rattle.prolly_entry.specs.Spelling.{BeginsWith, pair_spelling};
 
 use crate::limits::{KEY_LIMIT, VALUE_LIMIT};
 use crate::numbers::{number_of_four, number_of_two};
-use crate::spelling::REMOVAL;
+use crate::spelling::{KEY_START, REMOVAL, VALUE_LENGTH_SIZE};
 
 /// The record that bytes begin with. Its key is the bytes `2..key_end`, the value of a put is
 /// `value_start..len`, and its spelling is `0..len`.
@@ -64,6 +66,27 @@ pub fn front_pair(bytes: &[u8]) -> Front
     front_record(bytes).as_pair()
 }
 
+/// The key and the value of the pair that begins the bytes, and what stands behind it; none where
+/// [`front_pair`] finds none.
+pub fn split_pair(bytes: &[u8]) -> Option<(&[u8], &[u8], &[u8])>
+    ensures some { IfSome result (λ r. BeginsWith pair_spelling IsPair bytes.now
+        (record { key = r.0.now; value = r.1.now }) r.2.now) }
+    ensures none { IfNone result (NoPairAt bytes.now) }
+{
+    match front_pair(bytes) {
+        Front::Pair {
+            key_end,
+            value_start,
+            len,
+        } => Some((
+            &bytes[KEY_START..key_end],
+            &bytes[value_start..len],
+            &bytes[len..],
+        )),
+        _ => None,
+    }
+}
+
 impl FrontRecord {
     /// The same where only a put is a pair.
     fn as_pair(self) -> Front
@@ -90,15 +113,15 @@ impl FrontRecord {
 fn front_at(bytes: &[u8]) -> FrontRecord
     ensures { result ≡ front_of bytes.now }
 {
-    if bytes.len() < 2 {
+    if bytes.len() < KEY_START {
         return FrontRecord::More;
     }
     let key_length = number_of_two(bytes) as usize;
     if key_length > KEY_LIMIT {
         return FrontRecord::KeyTooLong;
     }
-    let key_end = 2 + key_length;
-    let value_start = 6 + key_length;
+    let key_end = KEY_START + key_length;
+    let value_start = key_end + VALUE_LENGTH_SIZE;
     if bytes.len() < value_start {
         return FrontRecord::More;
     }

@@ -1,14 +1,16 @@
 //! All records of bytes.
 ghost use Rattle.std.specs.Prelude.{◌≡◌, ◌≤◌, ◌++◌, ◌∷◌, [], length, take, drop, ◌-◌, IfOk, IfErr};
 ghost use Rattle.std.specs.Prelude.{OnOk};
-ghost use Rattle.prolly_entry.specs.Front.{pair_at};
-ghost use Rattle.prolly_entry.specs.Pair.{IsPair};
+ghost use Rattle.prolly_entry.specs.Overlay.{pairs_of_change};
+ghost use Rattle.prolly_entry.specs.Record.{IsRecord};
+ghost use Rattle.prolly_entry.specs.RecordAt.{LiesIn, record_at};
 ghost use Rattle.prolly_entry.specs.RecordList.{ArePairsOf, IsFaultOf, fault_of};
 ghost use Rattle.prolly_entry.specs.declared.record_file.RecordFault.TheVariants.{Memory};
 
 use crate::flaw::Flaw;
 use crate::next::{NextRecord, next_record};
 use crate::pair::Pair;
+use crate::record_at::RecordAt;
 use std::alloc::Global;
 
 /// Why bytes are no record file. A place is the number of good records before the flawed one, so
@@ -44,23 +46,10 @@ pub fn records(alloc: Global, bytes: &[u8], limit: u32) -> Result<Vec<Pair>, Rec
     let mut rest = bytes;
     loop {
         match next_record(limit, count, last_key, rest) {
-            NextRecord::Put {
-                key_end,
-                value_start,
-                len,
-            } => {
-                push_copy(
-                    &mut pairs,
-                    alloc,
-                    &rest[2..key_end],
-                    &rest[value_start..len],
-                )?;
-                last_key = Some(&rest[2..key_end]);
-                rest = &rest[len..];
-            }
-            NextRecord::Remove { key_end, len } => {
-                last_key = Some(&rest[2..key_end]);
-                rest = &rest[len..];
+            NextRecord::Record(at) => {
+                push_put(&mut pairs, alloc, rest, at)?;
+                last_key = Some(at.key(rest));
+                rest = &rest[at.len..];
             }
             NextRecord::More => {
                 if rest.is_empty() {
@@ -74,20 +63,23 @@ pub fn records(alloc: Global, bytes: &[u8], limit: u32) -> Result<Vec<Pair>, Rec
     }
 }
 
-/// Adds a pair of copies of these bytes.
-fn push_copy(
+/// Adds a copy of the pair that the record puts which lies there, if it puts one.
+fn push_put(
     pairs: &mut Vec<Pair>,
     alloc: Global,
-    key: &[u8],
-    value: &[u8],
+    bytes: &[u8],
+    at: RecordAt,
 ) -> Result<(), RecordFault>
-    requires key { length key.now ≤ 1024 }
-    requires value { length value.now ≤ 65536 }
+    requires lies { LiesIn bytes.now at }
+    requires lawful { IsRecord (record_at bytes.now at) }
     ensures added { OnOk result (pairs.new.items ≡ pairs.old.items ++
-        record { key = key.now; value = value.now } ∷ []) }
+        pairs_of_change (record_at bytes.now at).key (record_at bytes.now at).value) }
     ensures refused { IfErr result (λ fault. fault ≡ Memory) }
 {
-    let Ok(pair) = Pair::copy_of(alloc, key, value) else {
+    let Some(value) = at.value(bytes) else {
+        return Ok(());
+    };
+    let Ok(pair) = Pair::copy_of(alloc, at.key(bytes), value) else {
         return Err(RecordFault::Memory);
     };
     if pairs.push(pair).is_err() {

@@ -5,17 +5,12 @@ ghost use Rattle.prolly_entry.specs.Storage.{pair_in, IsStored};
 
 use crate::appending::{append_parts, joined_parts};
 use crate::numbers::{four_bytes, two_bytes};
+use crate::spelling::{KEY_START, VALUE_LENGTH_SIZE};
 use std::alloc::{AllocError, Global};
 
 /// The longest spelling that is kept in place. Up to it a pair is no larger than two vectors make
 /// it.
 const IN_PLACE_LIMIT: usize = 46;
-
-/// How many bytes of a spelling lie before the key.
-const KEY_START: usize = 2;
-
-/// How many bytes of a spelling lie between the key and the value.
-const VALUE_LENGTH_BYTES: usize = 4;
 
 /// How a pair is kept.
 ///
@@ -53,7 +48,7 @@ impl Storage {
         let key_length = two_bytes(key.len() as u16);
         let value_length = four_bytes(value.len() as u32);
         let key_end = KEY_START + key.len();
-        let len = key_end + VALUE_LENGTH_BYTES + value.len();
+        let len = key_end + VALUE_LENGTH_SIZE + value.len();
         if len <= IN_PLACE_LIMIT {
             return Ok(Storage::InPlace {
                 bytes: joined_parts(&key_length, key, &value_length, value),
@@ -103,12 +98,12 @@ impl Storage {
     {
         match self {
             Storage::Apart { value, .. } => value,
-            Storage::Block { spelling, key_end } => &spelling[*key_end + VALUE_LENGTH_BYTES..],
+            Storage::Block { spelling, key_end } => &spelling[*key_end + VALUE_LENGTH_SIZE..],
             Storage::InPlace {
                 bytes,
                 key_end,
                 len,
-            } => &bytes[..*len as usize][*key_end as usize + VALUE_LENGTH_BYTES..],
+            } => &bytes[..*len as usize][*key_end as usize + VALUE_LENGTH_SIZE..],
         }
     }
 }

@@ -14,3 +14,7 @@ pub mod Fronts
 pub mod BlockReads
 -- A buffer that is filled part by part.
 pub mod Filled
+-- The header, place by place.
+pub mod HeaderBytes
+-- The bytes of a frame.
+pub mod FrameBytes

@@ -24,8 +24,12 @@ pub mod ToWrite
 pub mod Buffered
 -- The devices in memory that follow a script.
 pub mod Script
+-- The header of a chunk file, its first six bytes.
+pub mod Header
 -- The frame of a chunk, over the chunk's bytes.
 pub mod Frame
+-- A frame, and what stands behind it.
+pub mod FrameLaws
 -- How far a writer of a chunk file is.
 pub mod Writer
 -- What the plain builder answers.

@@ -1,11 +1,11 @@
-//! The devices that bytes come from and go to, and the writer of chunk files.
+//! The devices that bytes come from and go to, the format of chunk files, and their writer.
 #![tactic(auto)]
 
 mod block_device;
 mod buffered;
 mod countdown;
 mod device;
-mod frame;
+mod format;
 mod from_read;
 mod from_seek;
 mod front;
@@ -27,7 +27,12 @@ mod writer;
 pub use block_device::Blocks;
 pub use buffered::Buffered;
 pub use device::Device;
-pub use frame::{end_record, frame_start};
+pub use format::end_record::{END_LETTER, END_SIZE, end_record};
+pub use format::frame::{
+    FRAME_FRONT, FRAME_LETTER, FRAME_START, FrameFault, FrameStart, frame_at, frame_start,
+    front_frame, read_start,
+};
+pub use format::header::{BITS_PLACE, HEADER_SIZE, Header, HeaderFault, read_header};
 pub use from_read::FromRead;
 pub use from_seek::FromSeek;
 pub use front::take_front;

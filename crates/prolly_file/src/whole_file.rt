@@ -3,7 +3,9 @@ ghost use Rattle.std.specs.Prelude.{◌≡◌, ◌++◌, length, take, OnOk, OnE
 ghost use Rattle.std.specs.List.{flat_map};
 ghost use Rattle.prolly_tree.specs.File.{header, frame, end_record};
 
-use crate::frame::{end_record, frame_start, header};
+use crate::format::end_record::end_record;
+use crate::format::frame::frame_start;
+use crate::format::header::Header;
 use prolly_chunk::ChunkEvent;
 use prolly_entry::{Ref, Version};
 use std::alloc::AllocError;
@@ -21,7 +23,7 @@ pub(crate) fn append_file(
     ensures err { OnErr result (out.new.items ≡ out.old.items) }
 {
     let start = out.len();
-    let header = header(version, bits);
+    let header = Header { version, bits }.to_bytes();
     let end = end_record(root, chunks.len() as u64);
     if append_parts(out, &header, chunks, &end).is_err() {
         out.truncate(start);

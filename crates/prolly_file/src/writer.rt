@@ -10,7 +10,9 @@ ghost use Rattle.prolly_file.specs.Failures.{CountsFailure};
 ghost use Rattle.prolly_file.specs.Frame.{framed};
 ghost use Rattle.prolly_file.specs.Sink.{IsSettled, TakesPrefix};
 
-use crate::frame::{end_record, frame_start, header};
+use crate::format::end_record::end_record;
+use crate::format::frame::frame_start;
+use crate::format::header::Header;
 use crate::sink::Sink;
 use prolly_entry::{Ref, Version};
 use std::marker::Model;
@@ -58,7 +60,7 @@ impl FileWriter {
     ) -> Result<FileWriter, WriteFault>
         ensures { Begins version bits (W.seen sink.old) (W.seen sink.new) result }
     {
-        write_all(sink, &header(version, bits))?;
+        write_all(sink, &Header { version, bits }.to_bytes())?;
         Ok(FileWriter {
             chunks: 0,
             has_failed: false,

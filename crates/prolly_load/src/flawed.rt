@@ -4,7 +4,7 @@ ghost use Rattle.prolly_entry.specs.Reading.{key_length};
 ghost use Rattle.prolly_load.specs.Telling.{HasToldKey, TellsFlawed};
 
 use crate::surveyed::FlawedRecord;
-use prolly_entry::Flaw;
+use prolly_entry::{Flaw, KEY_START};
 use std::alloc::{AllocError, Global};
 
 /// The record that the bytes begin with, which has this flaw.
@@ -29,5 +29,5 @@ fn front_key(bytes: &[u8]) -> &[u8]
     ensures { result.now ≡ take (key_length bytes.now) (drop 2 bytes.now) }
 {
     let key_length = usize::from(u16::from_be_bytes([bytes[0], bytes[1]]));
-    &bytes[2..2 + key_length]
+    &bytes[KEY_START..KEY_START + key_length]
 }

@@ -22,16 +22,12 @@ pub(crate) fn pass_record(buffer: &mut Buffer, limit: u32, count: u32) -> Passed
     ensures { Passes limit count buffer.old buffer.new result }
 {
     match next_record(limit, count, buffer.last_key(), buffer.unparsed()) {
-        NextRecord::Put { key_end, len, .. } => {
-            buffer.consume(key_end, len);
+        NextRecord::Record(at) => {
+            buffer.consume(at.key_end, at.len);
             Passed::Record {
-                removes: false,
-                len,
+                removes: at.value_start.is_none(),
+                len: at.len,
             }
-        }
-        NextRecord::Remove { key_end, len } => {
-            buffer.consume(key_end, len);
-            Passed::Record { removes: true, len }
         }
         NextRecord::More => Passed::Nothing,
         NextRecord::Flawed(flaw) => Passed::Flawed(flaw),

@@ -1,9 +1,11 @@
 //! Taking records out of a buffer.
-ghost use Rattle.std.specs.Prelude.{IfOk};
+ghost use Rattle.std.specs.Prelude.{◌≡◌, IfOk};
+ghost use Rattle.prolly_entry.specs.Record.{IsRecord};
+ghost use Rattle.prolly_entry.specs.RecordAt.{LiesIn, record_at};
 ghost use Rattle.prolly_load.specs.Taking.{Takes};
 
 use crate::buffer::Buffer;
-use prolly_entry::{Flaw, NextRecord, Pair, Record, next_record};
+use prolly_entry::{Flaw, NextRecord, Pair, Record, RecordAt, next_record};
 use std::alloc::{AllocError, Global};
 
 /// What could be taken out of a buffer.
@@ -29,22 +31,24 @@ pub(crate) fn take_record(
     ensures { IfOk result (λ taken. Takes limit count buffer.old buffer.new taken) }
 {
     match next_record(limit, count, buffer.last_key(), buffer.unparsed()) {
-        NextRecord::Put {
-            key_end,
-            value_start,
-            len,
-        } => {
-            let unparsed = buffer.unparsed();
-            let pair = Pair::copy_of(alloc, &unparsed[2..key_end], &unparsed[value_start..len])?;
-            buffer.consume(key_end, len);
-            Ok(Taken::Record(Record::put(pair)))
-        }
-        NextRecord::Remove { key_end, len } => {
-            let record = Record::removal_of(alloc, &buffer.unparsed()[2..key_end])?;
-            buffer.consume(key_end, len);
+        NextRecord::Record(at) => {
+            let record = copy_of(alloc, buffer.unparsed(), at)?;
+            buffer.consume(at.key_end, at.len);
             Ok(Taken::Record(record))
         }
         NextRecord::More => Ok(Taken::Nothing),
         NextRecord::Flawed(flaw) => Ok(Taken::Flawed(flaw)),
+    }
+}
+
+/// A copy of the record that lies there.
+fn copy_of(alloc: Global, bytes: &[u8], at: RecordAt) -> Result<Record, AllocError>
+    requires lies { LiesIn bytes.now at }
+    requires lawful { IsRecord (record_at bytes.now at) }
+    ensures { IfOk result (λ r. r ≡ record_at bytes.now at) }
+{
+    match at.value(bytes) {
+        Some(value) => Ok(Record::put(Pair::copy_of(alloc, at.key(bytes), value)?)),
+        None => Record::removal_of(alloc, at.key(bytes)),
     }
 }

@@ -4,9 +4,8 @@ use Rattle.std.proofs.Common.{get_or, sym, ap, ◌∙◌, subst, append_assoc, a
 use Rattle.std.specs.List.{AllByRecursion, flat_map}
 use Rattle.std.proofs.lemmas.List.{take_all, take_more}
 use Rattle.std.proofs.lemmas.List.Concat.{flat_map-append}
-use Rattle.prolly_check.specs.Frames.{IsSmall}
 use Rattle.prolly_entry.specs.lemmas.Lists.{all_append}
-use Rattle.prolly_file.specs.Frame.{framed}
+use Rattle.prolly_file.specs.Frame.{framed, IsSmall}
 
 -- the frames of so many of the chunks stand behind the start
 pub record HasFrames (start : List ℕ) (chunks : List (List ℕ)) (n : ℕ) (out : List ℕ) : Type 0

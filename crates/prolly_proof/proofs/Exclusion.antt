@@ -8,18 +8,17 @@ use Rattle.std.proofs.lemmas.List.Concat.{flat_map-append}
 use Rattle.std.proofs.lemmas.Bool.{false≢true}
 use Rattle.std.proofs.lemmas.List.{length-append}
 use Rattle.std.specs.List.{AllByRecursion, flat_map}
-use Rattle.prolly_check.specs.Frames.{has_no_frame, IsSmall}
 use Rattle.prolly_check.specs.Kinds.{kind_of}
 use Rattle.prolly_check.specs.Held.{pairs_held}
 use Rattle.prolly_check.specs.Sought.{Sought, EndsAt, LeadsOn}
 use Rattle.prolly_check.specs.Sought.Sought.{Key}
 use Rattle.prolly_check.specs.Way.{FallsTo, IsNamed, Lead, LevelsFall}
-use Rattle.prolly_check.specs.lemmas.Frames.{begins_frame, one_front}
 use Rattle.prolly_check.specs.lemmas.Ways.{no_flaw, no_way_on, one_way_on}
 use Rattle.prolly_entry.specs.declared.version.Version.{Version}
 use Rattle.prolly_entry.specs.declared.version.Version.TheVariants.{One, Two}
 use Rattle.prolly_entry.specs.lemmas.Lists.{all_back, all_front}
-use Rattle.prolly_file.specs.Frame.{framed}
+use Rattle.prolly_file.specs.Frame.{framed, has_no_frame, IsSmall}
+use Rattle.prolly_file.specs.FrameLaws.{begins_frame, one_front}
 use Rattle.prolly_tree.specs.LookUp.{find}
 use Rattle.prolly_proof.specs.Faults.{EndsWithin, HasPassed, IsFault, IsFrameFault, IsStartFault}
 use Rattle.prolly_proof.specs.Faults.{IsWrongChunk, last_level}

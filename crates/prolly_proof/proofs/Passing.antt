@@ -8,7 +8,6 @@ use Rattle.std.proofs.lemmas.List.{length-append}
 use Rattle.std.proofs.lemmas.List.Concat.{flat_map-append}
 use Rattle.std.specs.Int.{w64, to_be_bytes}
 use Rattle.std.specs.List.{AllByRecursion, flat_map}
-use Rattle.prolly_check.specs.Frames.{IsSmall}
 use Rattle.prolly_check.specs.Kinds.{kind_of}
 use Rattle.prolly_check.specs.Held.{pairs_held}
 use Rattle.prolly_check.specs.Sought.{EndsAt, LeadsOn, sought_of}
@@ -18,7 +17,7 @@ use Rattle.prolly_check.specs.declared.look_up.step.Due.{Due}
 use Rattle.prolly_check.specs.lemmas.Ways.{lead_more}
 use Rattle.prolly_entry.specs.declared.version.Version.{Version}
 use Rattle.prolly_entry.specs.lemmas.Lists.{all_append}
-use Rattle.prolly_file.specs.Frame.{framed}
+use Rattle.prolly_file.specs.Frame.{framed, IsSmall}
 use Rattle.prolly_proof.specs.Faults.{HasPassed, IsChunkFault, IsFault, IsFrameFault}
 use Rattle.prolly_proof.specs.Faults.{HasMore, last_level}
 use Rattle.prolly_proof.proofs.Descending.{falls_more, last_more}

@@ -11,13 +11,15 @@ use Rattle.prolly_check.specs.Checked.{chunks_of}
 use Rattle.prolly_check.specs.Content.{Content}
 use Rattle.prolly_check.specs.Verdict.{IsFileOf}
 use Rattle.prolly_check.specs.Way.{level_of}
-use Rattle.prolly_check.specs.lemmas.Frames.{frames_bytes}
 use Rattle.prolly_entry.specs.Cut.{sha512_cut}
 use Rattle.prolly_entry.specs.declared.version.Version.{Version}
 use Rattle.prolly_entry.specs.lemmas.Lists.{all_append, all_back}
 use Rattle.prolly_entry.specs.lemmas.Spellings.{reference_length}
 use Rattle.prolly_file.specs.Device.{DeviceView}
 use Rattle.prolly_file.specs.Frame.{framed}
+use Rattle.prolly_file.specs.FrameLaws.{frames_bytes}
+use Rattle.prolly_file.specs.declared.format.frame.FrameStart.{FrameStart}
+use Rattle.prolly_file.specs.declared.format.frame.FrameStart.TheVariants.{Chunk as ChunkStart, End}
 use Rattle.prolly_tree.specs.Chunk.{Chunk, chunk_of, chunks, post_order}
 use Rattle.prolly_tree.specs.File.{end_record, header, root_reference}
 use Rattle.prolly_tree.specs.Tree.{Tree, bytes_of, tree_of}
@@ -27,8 +29,6 @@ use Rattle.prolly_proof.specs.Walks.{StandsBehind, StaysSame, chunks_below, chun
 use Rattle.prolly_proof.specs.Walks.{place_behind}
 use Rattle.prolly_proof.specs.declared.root_fault.RootFault.{RootFault}
 use Rattle.prolly_proof.specs.declared.walk.Frame.{Frame}
-use Rattle.prolly_proof.specs.declared.walk.Start.{Start}
-use Rattle.prolly_proof.specs.declared.walk.Start.TheVariants.{Chunk as ChunkStart, End}
 use Rattle.prolly_proof.specs.declared.walk.Walk.{Walk}
 
 -- ---- the chunks of a tree
@@ -162,7 +162,7 @@ module _ (bytes : List ℕ) (content : Content) (f : IsFileOf bytes content)
       each_some level (c ∷ cs) h = (h.0.some, each_some level cs h.1)
 
   -- what is told of bytes is told of the first ten that are left
-  module _ (bytes_read : List ℕ) (result : Result Start RootFault)
+  module _ (bytes_read : List ℕ) (result : Result FrameStart RootFault)
       (read : bytes_read ≡ take 10 (flat_map framed left ++ ending))
       (ends : (more : List ℕ) → bytes_read ≡ 0x45 ∷ more → result ≡ Ok End)
       (begins : (len level : ℕ) → len < 2 ^ 64 →
@@ -192,7 +192,7 @@ module _ (bytes : List ℕ) (content : Content) (f : IsFileOf bytes content)
 
 pub what_starts : (bytes : List ℕ) (content : Content) → IsFileOf bytes content →
     length bytes < 2 ^ 64 → (before left : List (List ℕ)) → chunks_of content ≡ before ++ left →
-    (place count : ℕ) (buf : List ℕ) (result : Result Start RootFault) →
+    (place count : ℕ) (buf : List ℕ) (result : Result FrameStart RootFault) →
     place ≡ place_behind before → length buf ≡ 10 →
     take count buf ≡ take (length buf) (drop place bytes) →
     ((more : List ℕ) → take count buf ≡ 0x45 ∷ more → result ≡ Ok End) →

@@ -2,7 +2,6 @@
 use Rattle.std.specs.Prelude.{◌≡◌, ℕ, suc, ◌⊎◌, true, List, [], ◌∷◌, ◌++◌, length, Option, Some}
 use Rattle.std.specs.Prelude.{None}
 use Rattle.std.specs.List.{AllByRecursion}
-use Rattle.prolly_check.specs.Frames.{has_no_frame, IsSmall}
 use Rattle.prolly_check.specs.Steps.{IsFlawed}
 use Rattle.prolly_check.specs.Sought.{Sought}
 use Rattle.prolly_check.specs.Sought.Sought.{Key}
@@ -13,7 +12,7 @@ use Rattle.prolly_check.specs.declared.look_up.step.ChunkFlaw.TheVariants.{Level
 use Rattle.prolly_check.specs.declared.look_up.step.ChunkFlaw.TheVariants.{Order as BadOrder}
 use Rattle.prolly_check.specs.declared.look_up.step.ChunkFlaw.TheVariants.{Reference as BadReference}
 use Rattle.prolly_entry.specs.declared.version.Version.{Version}
-use Rattle.prolly_file.specs.Frame.{framed}
+use Rattle.prolly_file.specs.Frame.{framed, has_no_frame, IsSmall}
 use Rattle.prolly_proof.specs.ProofFile.{IsProof, proof_file, proof_start}
 use Rattle.prolly_proof.specs.declared.fault.ProofFault.{ProofFault}
 use Rattle.prolly_proof.specs.declared.fault.ProofFault.TheVariants.{Header, Truncated, Frame}

@@ -2,14 +2,13 @@
 use Rattle.std.specs.Prelude.{◌≡◌, ℕ, ◌⊎◌, List, [], ◌∷◌, ◌++◌, Option}
 use Rattle.std.specs.List.{AllByRecursion, flat_map}
 use Rattle.prolly_check.specs.Content.{Content}
-use Rattle.prolly_check.specs.Frames.{IsSmall}
 use Rattle.prolly_check.specs.Judged.{chunk_bytes}
 use Rattle.prolly_check.specs.Way.{Clash, IsWay}
 use Rattle.prolly_entry.specs.Cut.{sha512_cut}
 use Rattle.prolly_entry.specs.Pair.{Pair, IsPair}
 use Rattle.prolly_entry.specs.Version.{version_byte}
 use Rattle.prolly_entry.specs.declared.version.Version.{Version}
-use Rattle.prolly_file.specs.Frame.{framed}
+use Rattle.prolly_file.specs.Frame.{framed, IsSmall}
 use Rattle.prolly_tree.specs.Difference.{IsMap}
 use Rattle.prolly_tree.specs.File.{root_reference}
 use Rattle.prolly_tree.specs.LookUp.{find}

@@ -10,11 +10,11 @@ use Rattle.prolly_entry.specs.declared.version.Version.{Version}
 use Rattle.prolly_file.specs.Device.{DeviceView}
 use Rattle.prolly_file.specs.Failures.{after_failure}
 use Rattle.prolly_file.specs.Frame.{framed}
+use Rattle.prolly_file.specs.declared.format.frame.FrameStart.{FrameStart}
+use Rattle.prolly_file.specs.declared.format.frame.FrameStart.TheVariants.{Chunk, End}
 use Rattle.prolly_proof.specs.declared.root_fault.RootFault.{RootFault}
 use Rattle.prolly_proof.specs.declared.root_fault.RootFault.TheVariants.{Read}
 use Rattle.prolly_proof.specs.declared.walk.Frame.{Frame}
-use Rattle.prolly_proof.specs.declared.walk.Start.{Start}
-use Rattle.prolly_proof.specs.declared.walk.Start.TheVariants.{Chunk, End}
 use Rattle.prolly_proof.specs.declared.walk.Walk.{Walk}
 use Rattle.prolly_tree.specs.Chunk.{post_order}
 use Rattle.prolly_tree.specs.Tree.{Tree, bytes_of}
@@ -45,7 +45,7 @@ OnlyRead fault = fault ≡ Read
 
 -- The first part of the file behind some chunks, where these are left: what the end record begins
 -- with, or the length and the level of a chunk.
-abbrev pub IsStartOf : List (List ℕ) → Result Start RootFault → Type 0
+abbrev pub IsStartOf : List (List ℕ) → Result FrameStart RootFault → Type 0
 IsStartOf left (Err fault) = OnlyRead fault
 IsStartOf [] (Ok End) = Unit {0}
 IsStartOf [] (Ok (Chunk len level)) = ⊥

@@ -1,9 +1,8 @@
 //! The proof of what a map has at a key.
 ghost use Rattle.std.specs.Prelude.{◌≡◌, ◌++◌, OnOk, IfOk};
 ghost use Rattle.prolly_check.specs.Content.{Content};
-ghost use Rattle.prolly_check.specs.Frames.{IsSmall};
 ghost use Rattle.prolly_check.specs.Verdict.{IsFileOf};
-ghost use Rattle.prolly_file.specs.Frame.{framed};
+ghost use Rattle.prolly_file.specs.Frame.{framed, IsSmall};
 ghost use Rattle.prolly_proof.specs.ProofFile.{IsProofOf};
 
 use crate::start::proof_start;

@@ -1,18 +1,18 @@
 //! What a proof says, for who knows the root alone.
 ghost use Rattle.std.specs.Prelude.{◌≡◌, ◌++◌, true, Option, List, ℕ, IfOk, IfErr, OnOk};
 ghost use Rattle.std.specs.Option.{option_copied};
-ghost use Rattle.prolly_check.specs.Frames.{IsSmall, has_no_frame};
 ghost use Rattle.prolly_check.specs.Sought.{sought_of};
 ghost use Rattle.prolly_check.specs.Steps.{IsStep};
 ghost use Rattle.prolly_check.specs.Way.{FallsTo, IsNamed};
-ghost use Rattle.prolly_file.specs.Frame.{framed};
+ghost use Rattle.prolly_file.specs.Frame.{framed, has_no_frame, IsSmall};
 ghost use Rattle.prolly_proof.specs.Faults.{IsChunkFault, IsFault, IsFrameFault};
 ghost use Rattle.prolly_proof.specs.ProofFile.{IsProof, proof_start};
 
 use crate::fault::ProofFault;
 use crate::start::behind_start;
-use prolly_check::{Due, Sought, Step, front_frame, step_at, value_in};
+use prolly_check::{Due, Sought, Step, step_at, value_in};
 use prolly_entry::{Ref, Version};
+use prolly_file::front_frame;
 
 /// The value that the proof shows for the key in the tree with this root, or none where it shows
 /// that the key has none.

@@ -1,22 +1,14 @@
 //! The frames of a chunk file on a device, one after another.
 ghost use Rattle.std.specs.Prelude.{◌≡◌, ◌+◌, ◌^◌, ◌<◌, ◌≤◌, ℕ, [], ◌∷◌, ◌++◌, List, length, Ok};
 ghost use Rattle.std.specs.Prelude.{None, OnOk, IfOk, IfErr, IsOk, IfSome};
-ghost use Rattle.std.specs.Int.{w64, to_be_bytes};
+ghost use Rattle.prolly_file.specs.Frame.{frame_start};
 
 use crate::root_fault::RootFault;
-use byteorder::{BigEndian, ByteOrder};
-use prolly_check::{CheckFault, HEADER_SIZE, read_header};
 use prolly_entry::Version;
-use prolly_file::Device;
-
-/// The size of what stands before a chunk: a letter and the chunk's length.
-const FRAME_START: u64 = 9;
-
-/// How much is read of a frame to go over it: what stands before the chunk, and the chunk's level.
-const READ_BYTES: usize = 10;
-
-/// The size of the end record.
-const END_BYTES: u64 = 29;
+use prolly_file::{
+    Device, END_LETTER, END_SIZE, FRAME_FRONT, FRAME_START, FrameFault, FrameStart, HEADER_SIZE,
+    HeaderFault, read_header, read_start,
+};
 
 /// A chunk of a file, of which the level was read.
 #[derive(Clone, Copy, PartialEq, Eq)]
@@ -39,15 +31,6 @@ pub(crate) struct Walk {
     number: u64,
     /// The size of the file.
     size: u64,
-}
-
-/// What is read where a frame, or the end record, begins.
-#[derive(Clone, Copy)]
-enum Start {
-    /// The end record.
-    End,
-    /// A chunk of this length and level.
-    Chunk(u64, u8),
 }
 
 impl Walk {
@@ -78,8 +61,8 @@ impl Walk {
                 size: device.len()?,
             }),
             Ok(_) => Err(RootFault::Version),
-            Err(CheckFault::Truncated) => Err(RootFault::Truncated),
-            Err(_) => Err(RootFault::Header),
+            Err(HeaderFault::Truncated) => Err(RootFault::Truncated),
+            Err(HeaderFault::BadByte) => Err(RootFault::Header),
         }
     }
 
@@ -99,8 +82,8 @@ impl Walk {
             GoesOver (length (D.seen device.old).bytes) before left self.new result }
     {
         match self.start(device)? {
-            Start::End => self.end(),
-            Start::Chunk(len, level) => Ok(Some(self.pass(len, level)?)),
+            FrameStart::End => self.end(),
+            FrameStart::Chunk(len, level) => Ok(Some(self.pass(len, level)?)),
         }
     }
 
@@ -152,7 +135,7 @@ impl Walk {
     }
 
     /// What begins here.
-    fn start<D: Device>(&self, device: &mut D) -> Result<Start, RootFault>
+    fn start<D: Device>(&self, device: &mut D) -> Result<FrameStart, RootFault>
         ensures same { StaysSame (D.seen device.old) (D.seen device.new) }
         ensures reads { TellsReads (D.seen device.old).failures (D.seen device.new).failures
             result }
@@ -161,7 +144,7 @@ impl Walk {
             StandsBehind (length (D.seen device.old).bytes) before self.now →
             IsStartOf left result }
     {
-        let mut start = [0; READ_BYTES];
+        let mut start = [0; FRAME_FRONT];
         let count = device.read_at(self.place, &mut start)?;
         start_in(&start[..count], self.number)
     }
@@ -169,14 +152,14 @@ impl Walk {
     /// None, where the end record, which begins here, ends where the file does.
     fn end(&self) -> Result<Option<Frame>, RootFault>
         ensures none { IfOk result (λ next. next ≡ None) }
-        ensures end { self.now.place + END_BYTES ≡ self.now.size → result ≡ Ok None }
+        ensures end { self.now.place + END_SIZE ≡ self.now.size → result ≡ Ok None }
         ensures read { IfErr result (λ fault. fault ≡ RootFault.Read → ⊥) }
     {
         let left = self.size.saturating_sub(self.place);
-        if left < END_BYTES {
+        if left < END_SIZE as u64 {
             return Err(RootFault::Truncated);
         }
-        if left > END_BYTES {
+        if left > END_SIZE as u64 {
             return Err(RootFault::Trailing);
         }
         Ok(None)
@@ -199,13 +182,13 @@ impl Walk {
         let room = self
             .size
             .saturating_sub(self.place)
-            .saturating_sub(FRAME_START);
+            .saturating_sub(FRAME_START as u64);
         if len > room {
             return Err(RootFault::Truncated);
         }
         let frame = Frame {
             number: self.number,
-            start: self.place + FRAME_START,
+            start: self.place + FRAME_START as u64,
             len,
             level,
         };
@@ -215,21 +198,16 @@ impl Walk {
     }
 }
 
-/// What these bytes begin, of which there are ten where the file has them, in the place of the
-/// chunk of this number.
-fn start_in(bytes: &[u8], number: u64) -> Result<Start, RootFault>
-    ensures end { (more : List ℕ) → bytes.now ≡ 0x45 ∷ more → result ≡ Ok Start.End }
-    ensures chunk { (len level : ℕ) → len < 2 ^ 64 →
-        bytes.now ≡ 0x43 ∷ (to_be_bytes w64 len ++ level ∷ []) →
-        result ≡ Ok (Start.Chunk len level) }
+/// What these bytes tell, in the place of the chunk of this number.
+fn start_in(bytes: &[u8], number: u64) -> Result<FrameStart, RootFault>
+    ensures end { (more : List ℕ) → bytes.now ≡ END_LETTER ∷ more → result ≡ Ok FrameStart.End }
+    ensures chunk { (len level : ℕ) → len < 2 ^ 64 → bytes.now ≡ frame_start len ++ level ∷ [] →
+        result ≡ Ok (FrameStart.Chunk len level) }
     ensures read { IfErr result (λ fault. fault ≡ RootFault.Read → ⊥) }
 {
-    match bytes {
-        [b'E', ..] => Ok(Start::End),
-        [b'C', len @ .., level] if len.len() == 8 => {
-            Ok(Start::Chunk(BigEndian::read_u64(len), *level))
-        }
-        [] | [b'C', ..] => Err(RootFault::Truncated),
-        _ => Err(RootFault::Frame { chunk: number }),
+    match read_start(bytes) {
+        Ok(start) => Ok(start),
+        Err(FrameFault::Truncated) => Err(RootFault::Truncated),
+        Err(FrameFault::BadLetter) => Err(RootFault::Frame { chunk: number }),
     }
 }

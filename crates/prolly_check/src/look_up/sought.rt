@@ -6,8 +6,8 @@ ghost use Rattle.prolly_check.specs.Entries.{Child as ChildValue, IsNode, childr
 ghost use Rattle.prolly_check.specs.Sought.{IsChildSought, IsMark, child_sought, sought_of};
 ghost use Rattle.prolly_entry.specs.Keys.{Rising};
 
-use crate::node::{Child, split_first_child};
-use prolly_entry::{Ref, Version, key_order};
+use crate::node::split_first_child;
+use prolly_entry::{Child, Ref, Version, key_order};
 
 /// What a look-up seeks.
 #[derive(Clone, Copy)]

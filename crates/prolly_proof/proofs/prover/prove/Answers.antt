@@ -1,8 +1,7 @@
 use Rattle.std.proofs.Common.{◌≡◌, [], ◌∙◌, ◌++◌, map, sym, ap, arith, subst}
 use Rattle.std.proofs.lemmas.List.{length-map}
 use Rattle.std.proofs.Math.ListN.{get_or-map}
-use Rattle.prolly_check.specs.Frames.{IsSmall}
-use Rattle.prolly_file.specs.Frame.{framed}
+use Rattle.prolly_file.specs.Frame.{framed, IsSmall}
 use Rattle.std.specs.List.{flat_map}
 use Rattle.prolly_proof.specs.ProofFile.{proof_start}
 use Rattle.prolly_proof.proofs.Appending.{all_frames, no_frames, one_frame}

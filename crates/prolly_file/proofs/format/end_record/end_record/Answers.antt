@@ -1,0 +1,5 @@
+use Rattle.std.proofs.Common.{rules}
+use Rattle.prolly_file.proofs.format.end_record.end_record.Goals as goal
+
+pub returns : goal.returns
+returns c = search rules

@@ -1,5 +1,0 @@
-use Rattle.std.proofs.Common.{rules}
-use Rattle.prolly_file.proofs.frame.end_record.Goals as goal
-
-pub returns : goal.returns
-returns c = search rules

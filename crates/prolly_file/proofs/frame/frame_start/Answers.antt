@@ -1,5 +1,0 @@
-use Rattle.std.proofs.Common.{rules}
-use Rattle.prolly_file.proofs.frame.frame_start.Goals as goal
-
-pub returns : goal.returns
-returns c = search rules

@@ -1,0 +1,106 @@
+//! The frame of a chunk: a letter, the chunk's length in eight bytes, and the chunk.
+ghost use Rattle.std.specs.Prelude.{◌≡◌, ◌^◌, ◌<◌, ◌≤◌, ◌++◌, ◌∷◌, ℕ, List, [], true, None, Ok};
+ghost use Rattle.std.specs.Prelude.{length, take, drop, IfSome};
+ghost use Rattle.std.specs.Int.{w64, from_be_bytes};
+ghost use Rattle.prolly_file.specs.Frame.{frame_start, framed, has_no_frame, IsSmall, BeginsFrame};
+
+use crate::format::end_record::END_LETTER;
+use byteorder::{BigEndian, ByteOrder};
+
+/// What a frame begins with.
+pub const FRAME_LETTER: u8 = b'C';
+
+/// The size of what stands before a chunk, in bytes: the letter and the chunk's length.
+pub const FRAME_START: usize = 9;
+
+/// How many bytes tell what stands where a frame is due: of a frame, its start and the chunk's
+/// level.
+pub const FRAME_FRONT: usize = FRAME_START + 1;
+
+/// What stands where a frame is due.
+#[derive(Clone, Copy)]
+pub enum FrameStart {
+    /// The end record.
+    End,
+    /// The frame of a chunk of this length and level.
+    Chunk(u64, u8),
+}
+
+/// Why neither a frame nor the end record stands where a frame is due.
+#[derive(Clone, Copy, Debug, PartialEq, Eq)]
+pub enum FrameFault {
+    /// The bytes end too early.
+    Truncated,
+    /// They begin with another letter.
+    BadLetter,
+}
+
+/// What stands before the bytes of a chunk of this length.
+pub fn frame_start(len: u64) -> [u8; FRAME_START]
+    ensures { result ≡ frame_start len }
+{
+    let mut start = [FRAME_LETTER; FRAME_START];
+    BigEndian::write_u64(&mut start[1..], len);
+    start
+}
+
+/// What these bytes tell, of which there are [`FRAME_FRONT`] where the file has them. The length of
+/// a chunk may be any number.
+pub fn read_start(bytes: &[u8]) -> Result<FrameStart, FrameFault>
+    ensures end { (more : List ℕ) → bytes.now ≡ END_LETTER ∷ more → result ≡ Ok FrameStart.End }
+    ensures chunk { (len level : ℕ) → len < 2 ^ 64 → bytes.now ≡ frame_start len ++ level ∷ [] →
+        result ≡ Ok (FrameStart.Chunk len level) }
+{
+    match bytes {
+        [END_LETTER, ..] => Ok(FrameStart::End),
+        [FRAME_LETTER, len @ .., level] if len.len() == 8 => {
+            Ok(FrameStart::Chunk(BigEndian::read_u64(len), *level))
+        }
+        [] | [FRAME_LETTER, ..] => Err(FrameFault::Truncated),
+        _ => Err(FrameFault::BadLetter),
+    }
+}
+
+/// The length of the chunk whose whole frame begins the bytes.
+pub fn frame_at(bytes: &[u8]) -> Option<usize>
+    ensures found { IfSome result (λ len. BeginsFrame bytes.now len) }
+    ensures none { result ≡ None → has_no_frame bytes.now ≡ true }
+{
+    if bytes.len() < FRAME_START {
+        return None;
+    }
+    if bytes[0] != FRAME_LETTER {
+        return None;
+    }
+    let len = length_field(bytes);
+    // The length is compared, and never added to: it may be any number.
+    if len > (bytes.len() - FRAME_START) as u64 {
+        return None;
+    }
+    Some(len as usize)
+}
+
+/// The number behind the first byte.
+fn length_field(bytes: &[u8]) -> u64
+    requires { FRAME_START ≤ length bytes.now }
+    ensures { result ≡ from_be_bytes w64 (take 8 (drop 1 bytes.now)) }
+{
+    let mut len = [0; 8];
+    len.copy_from_slice(&bytes[1..FRAME_START]);
+    u64::from_be_bytes(len)
+}
+
+/// The chunk whose whole frame begins the bytes, and what stands behind the frame; none where no
+/// whole frame begins them. Takes no memory, and constant time.
+///
+/// A frame is the letter C, the length of the chunk in eight bytes, the most significant first, and
+/// the chunk.
+pub fn front_frame(bytes: &[u8]) -> Option<(&[u8], &[u8])>
+    ensures found { IfSome result (λ r. IsSmall r.0.now × (bytes.now ≡ framed r.0.now ++
+        r.1.now)) }
+    ensures none { result ≡ None → has_no_frame bytes.now ≡ true }
+{
+    let len = frame_at(bytes)?;
+    let (_, rest) = bytes.split_at(FRAME_START);
+    Some(rest.split_at(len))
+}
