@@ -10,7 +10,7 @@ use Rattle.prolly_entry.specs.Pair.{Pair}
 use Rattle.prolly_entry.specs.Overlay.{or_else}
 use Rattle.prolly_tree.specs.lemmas.Splits.{flat}
 use Rattle.prolly_check.specs.declared.fault.CheckFault.{CheckFault}
-use Rattle.prolly_check.specs.declared.frames.Span.{Span}
+use Rattle.std.specs.declared.ops.Range.{Range}
 use Rattle.prolly_check.specs.Content.{Content}
 use Rattle.prolly_check.specs.Header.{header_tests, header_fault, version_of}
 use Rattle.prolly_check.specs.Frames.{has_no_frame, ending_of, IsFramed}
@@ -32,7 +32,7 @@ use Rattle.prolly_check.proofs.FewPairs.{few_held}
 use Rattle.prolly_check.proofs.HeldPairs.{all_hold, flat_held}
 
 -- the header is lawful, and the frames are found
-pub record Begun (bytes : List ℕ) (version : Version) (bits : ℕ) (spans : List Span) (place : ℕ)
+pub record Begun (bytes : List ℕ) (version : Version) (bits : ℕ) (spans : List (Range ℕ)) (place : ℕ)
     : Type 0 where
   pub header : header_fault header_tests bytes ≡ None
   pub version_is : version ≡ version_of (slice_index bytes 4)
@@ -43,7 +43,7 @@ pub record Begun (bytes : List ℕ) (version : Version) (bits : ℕ) (spans : Li
 abbrev pub Refused : List ℕ → CheckFault → Type 0
 Refused bytes fault = UnlessMemory (λ fault. IsVerdict bytes (Err fault)) fault
 
-module _ (bytes : List ℕ) (version : Version) (bits : ℕ) (spans : List Span) (place : ℕ)
+module _ (bytes : List ℕ) (version : Version) (bits : ℕ) (spans : List (Range ℕ)) (place : ℕ)
     (b : Begun bytes version bits spans place) where
   abbrev cs : List (List ℕ)
   cs = chunks_in bytes spans

@@ -14,13 +14,13 @@ use Rattle.prolly_check.specs.Root.{root_bytes}
 use Rattle.prolly_check.specs.Spans.{chunk_in, chunks_in}
 use Rattle.prolly_check.specs.Verdict.{IsFileOf}
 use Rattle.prolly_check.specs.Whole.{AreWhole, IsWhole}
-use Rattle.prolly_check.specs.declared.frames.Span.{Span}
+use Rattle.std.specs.declared.ops.Range.{Range}
 use Rattle.std.proofs.lemmas.List.{length-map}
 use Rattle.prolly_check.proofs.CheckedTree.{chunks_last, one_content}
 use Rattle.prolly_check.proofs.HeldPairs.{each_whole, map_holds}
 
 -- they are whole
-pub all_whole : (bytes : List ℕ) (version : Version) (spans : List Span) (index : BTreeMap Ref ℕ) →
+pub all_whole : (bytes : List ℕ) (version : Version) (spans : List (Range ℕ)) (index : BTreeMap Ref ℕ) →
     IsChecked bytes version spans index → AreWhole version (chunks_in bytes spans)
 all_whole bytes version spans index checked =
     let content = content_in bytes version spans in
@@ -28,14 +28,14 @@ all_whole bytes version spans index checked =
     (map_holds version content.bits content.pairs checked.is.lawful).whole
 
 -- the index is one of the file's chunks
-pub index_is : (bytes : List ℕ) (version : Version) (spans : List Span) (index : BTreeMap Ref ℕ) →
+pub index_is : (bytes : List ℕ) (version : Version) (spans : List (Range ℕ)) (index : BTreeMap Ref ℕ) →
     IsChecked bytes version spans index → (content : Content) → length bytes < 2 ^ 64 →
     IsFileOf bytes content → IsIndex index (chunks_of content)
 index_is bytes version spans index checked content short is =
     subst (IsIndex index) (checked.chunks_are ∙ ap chunks_of (one_content bytes
     (content_in bytes version spans) content short checked.is is)) checked.indexed
 
-module _ (bytes : List ℕ) (version : Version) (spans : List Span) (index : BTreeMap Ref ℕ)
+module _ (bytes : List ℕ) (version : Version) (spans : List (Range ℕ)) (index : BTreeMap Ref ℕ)
     (checked : IsChecked bytes version spans index) (content : Content)
     (same : content_in bytes version spans ≡ content) where
   chunks_so : chunks_in bytes spans ≡ chunks_of content

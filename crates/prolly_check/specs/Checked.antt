@@ -6,7 +6,7 @@ use Rattle.prolly_tree.specs.Chunk.{IsIn}
 use Rattle.prolly_entry.specs.Reference.{reference_of}
 use Rattle.prolly_entry.specs.declared.version.Version.{Version}
 use Rattle.prolly_entry.specs.declared.reference.Ref.{Ref}
-use Rattle.prolly_check.specs.declared.frames.Span.{Span}
+use Rattle.std.specs.declared.ops.Range.{Range}
 use Rattle.prolly_check.specs.Content.{Content}
 use Rattle.prolly_check.specs.Held.{pairs_held}
 use Rattle.prolly_check.specs.Index.{IsIndex}
@@ -20,7 +20,7 @@ pub record IsFile (bytes : List ℕ) : Type 0 where
   pub is : IsFileOf bytes content
 
 -- What a file says whose chunks lie there: its bits are the last byte of the header.
-abbrev pub content_in : List ℕ → Version → List Span → Content
+abbrev pub content_in : List ℕ → Version → List (Range ℕ) → Content
 content_in bytes version spans = record {
   version = version;
   bits = slice_index bytes 5;
@@ -32,7 +32,7 @@ abbrev pub chunks_of : Content → List (List ℕ)
 chunks_of content = chunk_bytes content.version content.bits content.pairs
 
 -- The version, the places of the chunks and the index are those of the file.
-pub record IsChecked (bytes : List ℕ) (version : Version) (spans : List Span)
+pub record IsChecked (bytes : List ℕ) (version : Version) (spans : List (Range ℕ))
     (index : BTreeMap Ref ℕ) : Type 0 where
   pub is : IsFileOf bytes (content_in bytes version spans)
   pub chunks_are : chunks_in bytes spans ≡ chunks_of (content_in bytes version spans)

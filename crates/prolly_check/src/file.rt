@@ -9,12 +9,13 @@ ghost use Rattle.prolly_check.specs.Verdict.{IsFileOf};
 ghost use Rattle.prolly_check.specs.Checked.{IsChecked, HasFile, HasReference, chunks_of};
 
 use crate::entries::{Entries, entries_of, pairs_of};
-use crate::frames::{Span, chunk_at};
+use crate::frames::chunk_at;
 use crate::header::BITS_PLACE;
 use crate::index::Index;
 use crate::leaf::Pairs;
 use prolly_entry::{Ref, Version};
 use std::marker::Model;
+use std::ops::Range;
 
 /// A file that was checked: its bytes, its version, where its chunks lie, and how they are found by
 /// their references.
@@ -22,7 +23,7 @@ use std::marker::Model;
 pub(crate) struct CheckedFile<'a> {
     bytes: &'a [u8],
     version: Version,
-    spans: &'a [Span],
+    spans: &'a [Range<usize>],
     index: &'a Index,
 }
 
@@ -45,7 +46,7 @@ impl<'a> CheckedFile<'a> {
     pub(crate) fn new(
         bytes: &'a [u8],
         version: Version,
-        spans: &'a [Span],
+        spans: &'a [Range<usize>],
         index: &'a Index,
     ) -> CheckedFile<'a>
         requires checked { IsChecked bytes.now version spans.now index.now }
@@ -97,7 +98,7 @@ impl<'a> CheckedFile<'a> {
         requires { number < length (chunks_of self.now) }
         ensures { result.now ≡ get_or (chunks_of self.now) number [] }
     {
-        chunk_at(self.bytes, self.spans[number])
+        chunk_at(self.bytes, &self.spans[number])
     }
 
     /// The entries of the chunk of this number.

@@ -6,10 +6,11 @@ ghost use Rattle.prolly_check.specs.Spans.{IsWithin, chunks_in};
 ghost use Rattle.prolly_check.specs.Whole.{AreWhole};
 
 use crate::entries::pairs_of;
-use crate::frames::{Span, chunk_at};
+use crate::frames::chunk_at;
 use crate::leaf::Pairs;
 use prolly_entry::Version;
 use std::marker::Model;
+use std::ops::Range;
 
 /// The chunks of a file, which were tested: its version, its bytes, and where the chunks lie in
 /// them.
@@ -17,7 +18,7 @@ use std::marker::Model;
 pub(crate) struct FileChunks<'a> {
     version: Version,
     bytes: &'a [u8],
-    spans: &'a [Span],
+    spans: &'a [Range<usize>],
 }
 
 impl<'a> Model for FileChunks<'a> {
@@ -38,7 +39,11 @@ impl<'a> FileChunks<'a> {
     ghost use Rattle.prolly_check.specs.Levels.{level_of};
 
     /// The chunks that lie there. Takes no memory.
-    pub(crate) fn new(version: Version, bytes: &'a [u8], spans: &'a [Span]) -> FileChunks<'a>
+    pub(crate) fn new(
+        version: Version,
+        bytes: &'a [u8],
+        spans: &'a [Range<usize>],
+    ) -> FileChunks<'a>
         requires within { AllByRecursion (IsWithin bytes.now) spans.now }
         requires whole { AreWhole version (chunks_in bytes.now spans.now) }
         ensures { result ≡ chunks_in bytes.now spans.now }
@@ -62,7 +67,7 @@ impl<'a> FileChunks<'a> {
         requires { number < length self.now }
         ensures { result.now ≡ get_or self.now number [] }
     {
-        chunk_at(self.bytes, self.spans[number])
+        chunk_at(self.bytes, &self.spans[number])
     }
 
     /// The level of the chunk of this number.
@@ -70,7 +75,7 @@ impl<'a> FileChunks<'a> {
         requires { number < length self.now }
         ensures { result ≡ level_of (get_or self.now number []) }
     {
-        chunk_at(self.bytes, self.spans[number])[0]
+        chunk_at(self.bytes, &self.spans[number])[0]
     }
 
     /// The pairs of the chunk of this number. A node has none.

@@ -8,21 +8,15 @@ ghost use Rattle.prolly_check.specs.Spans.{BeginsFrame, FramesTo, IsWithin, chun
 
 use crate::header::HEADER_SIZE;
 use std::alloc::{AllocError, Global};
+use std::ops::Range;
 
 /// What stands before a chunk: a letter and the chunk's length.
 const FRAME_START: usize = 9;
 
-/// Where a chunk lies in its file.
-#[derive(Clone, Copy)]
-pub(crate) struct Span {
-    pub(crate) start: usize,
-    pub(crate) len: usize,
-}
-
 /// Where the chunks of a file lie, and where their frames end.
 #[derive(Drop)]
 pub(crate) struct Frames {
-    pub(crate) spans: Vec<Span>,
+    pub(crate) spans: Vec<Range<usize>>,
     pub(crate) end: usize,
 }
 
@@ -40,11 +34,9 @@ pub(crate) fn find_frames(alloc: Global, bytes: &[u8]) -> Result<Frames, AllocEr
             Some(len) => len,
             None => return Ok(Frames { spans, end }),
         };
-        spans.push(Span {
-            start: end + FRAME_START,
-            len,
-        })?;
-        end = end + FRAME_START + len;
+        let start = end + FRAME_START;
+        end = start + len;
+        spans.push(start..end)?;
     }
 }
 
@@ -95,9 +87,9 @@ fn length_field(bytes: &[u8]) -> u64
 }
 
 /// The chunk that lies there.
-pub(crate) fn chunk_at(bytes: &[u8], span: Span) -> &[u8]
-    requires { IsWithin bytes.now span }
-    ensures { result.now ≡ chunk_in bytes.now span }
+pub(crate) fn chunk_at<'a>(bytes: &'a [u8], span: &Range<usize>) -> &'a [u8]
+    requires { IsWithin bytes.now span.now }
+    ensures { result.now ≡ chunk_in bytes.now span.now }
 {
-    &bytes[span.start..span.start + span.len]
+    &bytes[span.start..span.end]
 }

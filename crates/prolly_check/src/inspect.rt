@@ -10,18 +10,19 @@ use crate::canonical::test_canonical;
 use crate::ending::test_ending;
 use crate::fault::CheckFault;
 use crate::file_chunks::FileChunks;
-use crate::frames::{Span, find_frames};
+use crate::frames::find_frames;
 use crate::header::read_header;
 use crate::index::{Index, index_chunks};
 use crate::whole::test_chunks;
 use prolly_entry::{Ref, Sha512Cut, Version};
 use std::alloc::Global;
+use std::ops::Range;
 
 /// Where the chunks of a file lie, the reference of each, and how they are found by these.
 #[derive(Drop)]
 pub(crate) struct Layout {
     pub(crate) version: Version,
-    pub(crate) spans: Vec<Span>,
+    pub(crate) spans: Vec<Range<usize>>,
     pub(crate) references: Vec<Ref>,
     pub(crate) index: Index,
 }

@@ -20,7 +20,6 @@ use crate::fault::CheckFault;
 use crate::file::CheckedFile;
 use crate::file_chunks::FileChunks;
 use crate::find::find_value;
-use crate::frames::Span;
 use crate::index::Index;
 use crate::inspect::{Layout, inspect};
 use crate::leaves::Leaves;
@@ -33,6 +32,7 @@ use prolly_entry::{Pair, Ref, Version};
 use prolly_file::{Sink, WriteFault};
 use std::alloc::{AllocError, Global};
 use std::marker::Model;
+use std::ops::Range;
 
 /// A file of version One says nothing of how many pairs are below a child.
 #[derive(Clone, Copy, Debug, PartialEq, Eq)]
@@ -43,7 +43,7 @@ pub struct NoCounts;
 pub struct Tree {
     bytes: Vec<u8>,
     version: Version,
-    spans: Vec<Span>,
+    spans: Vec<Range<usize>>,
     references: Vec<Ref>,
     index: Index,
 }
