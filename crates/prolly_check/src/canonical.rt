@@ -6,8 +6,8 @@ ghost use Rattle.prolly_check.specs.Held.{pairs_held};
 ghost use Rattle.prolly_check.specs.Index.{AreReferences};
 ghost use Rattle.prolly_check.specs.Refusal.{UnlessMemory};
 
+use crate::chunks::Chunks;
 use crate::fault::CheckFault;
-use crate::file_chunks::FileChunks;
 use crate::order::test_order;
 use crate::rebuild::test_rebuilt;
 use prolly_entry::{Ref, Sha512Cut, Version};
@@ -20,7 +20,7 @@ pub(crate) fn test_canonical(
     alloc: Global,
     cut: Sha512Cut,
     version: Version,
-    chunks: &FileChunks,
+    chunks: &Chunks,
     end: &[u8],
 ) -> Result<Vec<Ref>, CheckFault>
     requires { length (flat_map pairs_held chunks.now) < 2 ^ 64 }
@@ -37,7 +37,7 @@ pub(crate) fn test_canonical(
 }
 
 /// Tests that an end record has the reference of the last chunk and the number of chunks.
-fn test_end(found: &[u8], chunks: &FileChunks, references: &[Ref]) -> Result<(), CheckFault>
+fn test_end(found: &[u8], chunks: &Chunks, references: &[Ref]) -> Result<(), CheckFault>
     requires some { 0 < length chunks.now }
     requires references { AreReferences chunks.now references.now }
     ensures ok { OnOk result (found.now ≡ 0x45 ∷ ending_of_chunks chunks.now) }

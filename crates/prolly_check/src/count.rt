@@ -2,7 +2,7 @@
 ghost use Rattle.std.specs.Prelude.{◌≡◌, ◌<◌, ◌^◌, length};
 ghost use Rattle.prolly_check.specs.Missing.{size_of};
 
-use crate::file_chunks::FileChunks;
+use crate::chunks::Chunks;
 use crate::leaf::Pairs;
 use crate::leaves::Leaves;
 
@@ -31,7 +31,7 @@ fn count_in(mut leaf: Pairs) -> u64
 }
 
 /// How many bytes the chunks have together. Takes no memory.
-pub(crate) fn size_in(chunks: &FileChunks) -> u64
+pub(crate) fn size_in(chunks: &Chunks) -> u64
     requires { size_of chunks.now < 2 ^ 64 }
     ensures { result ≡ size_of chunks.now }
 {

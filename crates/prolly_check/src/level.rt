@@ -3,7 +3,7 @@ ghost use Rattle.std.specs.Prelude.{◌≡◌, ◌<◌, ◌^◌, ℕ, List, leng
 ghost use Rattle.prolly_check.specs.Levels.{AreLevels, AreOfMap, IsLevel, at_level};
 ghost use Rattle.prolly_check.specs.Missing.{size_of};
 
-use crate::file_chunks::FileChunks;
+use crate::chunks::Chunks;
 use std::alloc::{AllocError, Global};
 
 /// The chunks of one level of a tree, in numbers. The bytes are those of the chunks, without the
@@ -25,7 +25,7 @@ pub struct Level {
 
 /// The levels of the chunks of a file, from the leaves to the root, which is the last chunk.
 /// Takes memory for the sizes of one level's chunks at a time, and goes over the chunks for each.
-pub(crate) fn levels_in(alloc: Global, chunks: &FileChunks) -> Result<Vec<Level>, AllocError>
+pub(crate) fn levels_in(alloc: Global, chunks: &Chunks) -> Result<Vec<Level>, AllocError>
     requires tree { AreOfMap chunks.now }
     requires small { size_of chunks.now < 2 ^ 64 }
     ensures { IfOk result (λ levels. AreLevels chunks.now levels.items) }
@@ -41,7 +41,7 @@ pub(crate) fn levels_in(alloc: Global, chunks: &FileChunks) -> Result<Vec<Level>
 
 /// The sizes of the chunks of a level, in their order. Takes memory for the sizes, and reads one
 /// byte of each chunk.
-fn sizes_at(alloc: Global, level: u8, chunks: &FileChunks) -> Result<Vec<u64>, AllocError>
+fn sizes_at(alloc: Global, level: u8, chunks: &Chunks) -> Result<Vec<u64>, AllocError>
     ensures { IfOk result (λ sizes. sizes.items ≡ map length (at_level level chunks.now)) }
 {
     let mut sizes = Vec::new(alloc);

@@ -3,13 +3,13 @@
 
 mod canonical;
 mod checker;
+mod chunks;
 mod count;
 mod dump;
 mod ending;
 mod entries;
 mod fault;
 mod file;
-mod file_chunks;
 mod find;
 mod frames;
 mod header;

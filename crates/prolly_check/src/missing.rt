@@ -3,7 +3,7 @@ ghost use Rattle.std.specs.Prelude.{◌<◌, ◌^◌, ℕ, List};
 ghost use Rattle.prolly_check.specs.Index.{AreReferences, IsIndex};
 ghost use Rattle.prolly_check.specs.Missing.{AreSo, lacking, size_of};
 
-use crate::file_chunks::FileChunks;
+use crate::chunks::Chunks;
 use crate::index::Index;
 use prolly_entry::Ref;
 
@@ -19,7 +19,7 @@ pub struct Missing {
 
 /// The chunks whose references the index lacks. Takes no memory and no hash, and looks each
 /// reference up.
-pub(crate) fn missing_in(index: &Index, chunks: &FileChunks, references: &[Ref]) -> Missing
+pub(crate) fn missing_in(index: &Index, chunks: &Chunks, references: &[Ref]) -> Missing
     requires small { size_of chunks.now < 2 ^ 64 }
     requires references { AreReferences chunks.now references.now }
     ensures { (others : List (List ℕ)) → IsIndex index.now others →

@@ -2,8 +2,8 @@
 ghost use Rattle.std.specs.Prelude.{◌≡◌, length, IfOk};
 ghost use Rattle.prolly_check.specs.Rebuilt.{IsExpected, Passes};
 
+use crate::chunks::Chunks;
 use crate::fault::CheckFault;
-use crate::file_chunks::FileChunks;
 use prolly_chunk::{ChunkEvent, NodeLevel};
 use prolly_entry::{Ref, Sha512Cut};
 use std::alloc::Global;
@@ -11,7 +11,7 @@ use std::alloc::Global;
 /// Tests that the next chunk of a file, behind those whose references are there, is that of the
 /// event, and adds its reference. Answers the event, which carries it from then on.
 fn expect_chunk(
-    chunks: &FileChunks,
+    chunks: &Chunks,
     references: &mut Vec<Ref>,
     event: ChunkEvent,
 ) -> Result<ChunkEvent, CheckFault>
@@ -42,7 +42,7 @@ pub(crate) fn pass(
     alloc: Global,
     levels: &mut [NodeLevel<Sha512Cut>],
     event: Option<ChunkEvent>,
-    chunks: &FileChunks,
+    chunks: &Chunks,
     references: &mut Vec<Ref>,
 ) -> Result<(), CheckFault>
     ensures passed { Passes chunks.now levels.old levels.new event references.old.items

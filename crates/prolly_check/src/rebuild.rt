@@ -8,8 +8,8 @@ ghost use Rattle.prolly_check.specs.Index.{AreReferences};
 ghost use Rattle.prolly_check.specs.Rebuilt.{AreUnused, HasTaken, Takes, Ends, node_levels};
 ghost use Rattle.prolly_check.specs.Refusal.{UnlessMemory};
 
+use crate::chunks::Chunks;
 use crate::fault::CheckFault;
-use crate::file_chunks::FileChunks;
 use crate::leaf::Pairs;
 use crate::passing::pass;
 use prolly_chunk::{LeafLevel, NodeLevel};
@@ -62,7 +62,7 @@ fn add_copy(
     rebuild: &mut Rebuild,
     key: &[u8],
     value: &[u8],
-    chunks: &FileChunks,
+    chunks: &Chunks,
 ) -> Result<(), CheckFault>
     requires key { length key.now ≤ 1024 }
     requires value { length value.now ≤ 65536 }
@@ -85,7 +85,7 @@ fn add_leaf(
     alloc: Global,
     rebuild: &mut Rebuild,
     mut leaf: Pairs,
-    chunks: &FileChunks,
+    chunks: &Chunks,
 ) -> Result<(), CheckFault>
     ensures { Takes chunks.now rebuild.old rebuild.new leaf.entry result }
 {
@@ -96,7 +96,7 @@ fn add_leaf(
 }
 
 /// Takes the pairs of all chunks of a file.
-fn add_chunks(alloc: Global, rebuild: &mut Rebuild, chunks: &FileChunks) -> Result<(), CheckFault>
+fn add_chunks(alloc: Global, rebuild: &mut Rebuild, chunks: &Chunks) -> Result<(), CheckFault>
     ensures { Takes chunks.now rebuild.old rebuild.new (flat_map pairs_held chunks.now) result }
 {
     for number in 0..chunks.len() {
@@ -107,7 +107,7 @@ fn add_chunks(alloc: Global, rebuild: &mut Rebuild, chunks: &FileChunks) -> Resu
 
 /// Closes what is left open, level by level from the leaves up, and answers the references of all
 /// chunks.
-fn finish(alloc: Global, rebuild: Rebuild, chunks: &FileChunks) -> Result<Vec<Ref>, CheckFault>
+fn finish(alloc: Global, rebuild: Rebuild, chunks: &Chunks) -> Result<Vec<Ref>, CheckFault>
     ensures { Ends chunks.now rebuild result }
 {
     let Rebuild {
@@ -134,7 +134,7 @@ pub(crate) fn test_rebuilt(
     alloc: Global,
     cut: Sha512Cut,
     version: Version,
-    chunks: &FileChunks,
+    chunks: &Chunks,
 ) -> Result<Vec<Ref>, CheckFault>
     requires { length (flat_map pairs_held chunks.now) < 2 ^ 64 }
     ensures ok { OnOk result (CompareAs version cut chunks.now None) }

@@ -14,14 +14,14 @@ ghost use Rattle.prolly_check.specs.Checked.{IsChecked, IsFile, HasFile, chunks_
 ghost use Rattle.prolly_check.specs.Levels.{AreLevels, AreOfMap};
 ghost use Rattle.prolly_check.specs.Missing.{AreSo, lacking, size_of};
 
+use crate::chunks::{Chunks, Layout};
 use crate::count::{count_pairs, size_in};
 use crate::dump::write_records;
 use crate::fault::CheckFault;
 use crate::file::CheckedFile;
-use crate::file_chunks::FileChunks;
 use crate::find::find_value;
 use crate::index::Index;
-use crate::inspect::{Layout, inspect};
+use crate::inspect::inspect;
 use crate::leaves::Leaves;
 use crate::level::{Level, levels_in};
 use crate::missing::{Missing, missing_in};
@@ -32,7 +32,6 @@ use prolly_entry::{Pair, Ref, Version};
 use prolly_file::{Sink, WriteFault};
 use std::alloc::{AllocError, Global};
 use std::marker::Model;
-use std::ops::Range;
 
 /// A file of version One says nothing of how many pairs are below a child.
 #[derive(Clone, Copy, Debug, PartialEq, Eq)]
@@ -42,8 +41,7 @@ pub struct NoCounts;
 #[derive(Drop)]
 pub struct Tree {
     bytes: Vec<u8>,
-    version: Version,
-    spans: Vec<Range<usize>>,
+    layout: Layout,
     references: Vec<Ref>,
     index: Index,
 }
@@ -61,8 +59,9 @@ impl Model for Tree {
     ghost view = { λ tree. tree.bytes.items };
 
     ghost invariant = { λ tree.
-        IsChecked tree.bytes.items tree.version tree.spans.items tree.index
-        × AreReferences (chunks_in tree.bytes.items tree.spans.items) tree.references.items };
+        IsChecked tree.bytes.items tree.layout.header tree.layout.spans.items tree.index
+        × AreReferences (chunks_in tree.bytes.items tree.layout.spans.items)
+        tree.references.items };
 }
 
 impl Tree {
@@ -80,16 +79,10 @@ impl Tree {
         ensures file { IfOk result (λ tree. IsFile tree) }
         ensures err { IfErr result (UnlessMemory (λ fault. IsVerdict bytes.items (Err fault))) }
     {
-        let Layout {
-            version,
-            spans,
-            references,
-            index,
-        } = inspect(alloc, &bytes)?;
+        let (layout, references, index) = inspect(alloc, &bytes)?;
         Ok(Tree {
             bytes,
-            version,
-            spans,
+            layout,
             references,
             index,
         })
@@ -125,7 +118,7 @@ impl Tree {
         ensures { (content : Content) → IsFileOf self.now content →
             result ≡ size_of (chunks_of content) }
     {
-        size_in(&self.file_chunks())
+        size_in(self.file().chunks())
     }
 
     /// How many pairs the map has. Takes no memory, and goes over all pairs, leaf by leaf.
@@ -144,7 +137,7 @@ impl Tree {
         ensures { IfOk result (λ levels. (content : Content) → IsFileOf self.now content →
             AreLevels (chunks_of content) levels.items) }
     {
-        levels_in(alloc, &self.file_chunks())
+        levels_in(alloc, self.file().chunks())
     }
 
     /// The value of the key, or none, found by references from the root. Takes no memory, and reads
@@ -249,7 +242,7 @@ impl Tree {
             IsFileOf other.now others →
             AreSo (lacking (chunks_of others) (chunks_of content)) result }
     {
-        missing_in(&other.index, &self.file_chunks(), &self.references)
+        missing_in(&other.index, self.file().chunks(), &self.references)
     }
 
     /// The version of the file.
@@ -259,21 +252,12 @@ impl Tree {
         self.file().version()
     }
 
-    /// The chunks of the file.
-    fn file_chunks(&self) -> FileChunks<'_>
-        ensures chunks { (content : Content) → IsFileOf self.now content →
-            result ≡ chunks_of content }
-        ensures tree { AreOfMap result }
-        ensures small { size_of result < 2 ^ 64 }
-    {
-        FileChunks::new(self.version, &self.bytes, &self.spans)
-    }
-
-    /// The same, as look-ups see it.
+    /// The file, as look-ups see it.
     fn file(&self) -> CheckedFile<'_>
         ensures is { (content : Content) → IsFileOf self.now content → result ≡ content }
         ensures file { HasFile result }
     {
-        CheckedFile::new(&self.bytes, self.version, &self.spans, &self.index)
+        let chunks = Chunks::new(&self.bytes, &self.layout);
+        CheckedFile::new(self.layout.header, chunks, &self.index)
     }
 }

@@ -2,26 +2,33 @@
 ghost use Rattle.std.specs.Prelude.{◌≡◌, ◌<◌, [], get_or, length};
 ghost use Rattle.std.specs.List.{AllByRecursion};
 ghost use Rattle.prolly_check.specs.Held.{pairs_held};
+ghost use Rattle.prolly_check.specs.Levels.{level_of};
 ghost use Rattle.prolly_check.specs.Spans.{IsWithin, chunks_in};
 ghost use Rattle.prolly_check.specs.Whole.{AreWhole};
 
 use crate::entries::pairs_of;
 use crate::frames::chunk_at;
+use crate::header::Header;
 use crate::leaf::Pairs;
-use prolly_entry::Version;
 use std::marker::Model;
 use std::ops::Range;
 
-/// The chunks of a file, which were tested: its version, its bytes, and where the chunks lie in
-/// them.
+/// What is known of a file whose frames were found and whose entries were tested: its header, and
+/// where its chunks lie in its bytes.
 #[derive(Drop)]
-pub(crate) struct FileChunks<'a> {
-    version: Version,
-    bytes: &'a [u8],
-    spans: &'a [Range<usize>],
+pub(crate) struct Layout {
+    pub(crate) header: Header,
+    pub(crate) spans: Vec<Range<usize>>,
 }
 
-impl<'a> Model for FileChunks<'a> {
+/// The chunks of such a file: its bytes, and its layout.
+#[derive(Drop)]
+pub(crate) struct Chunks<'a> {
+    bytes: &'a [u8],
+    layout: &'a Layout,
+}
+
+impl<'a> Model for Chunks<'a> {
     ghost use Rattle.std.specs.Prelude.{ℕ, List};
     ghost use Rattle.std.specs.List.{AllByRecursion};
     ghost use Rattle.prolly_check.specs.Spans.{IsWithin, chunks_in};
@@ -29,45 +36,37 @@ impl<'a> Model for FileChunks<'a> {
 
     ghost Value = { List (List ℕ) };
 
-    ghost view = { λ c. chunks_in c.bytes.now c.spans.now };
+    ghost view = { λ c. chunks_in c.bytes.now c.layout.now.spans.items };
 
-    ghost invariant = { λ c. AllByRecursion (IsWithin c.bytes.now) c.spans.now
-        × AreWhole c.version (chunks_in c.bytes.now c.spans.now) };
+    ghost invariant = { λ c. AllByRecursion (IsWithin c.bytes.now) c.layout.now.spans.items
+        × AreWhole c.layout.now.header.version
+        (chunks_in c.bytes.now c.layout.now.spans.items) };
 }
 
-impl<'a> FileChunks<'a> {
-    ghost use Rattle.prolly_check.specs.Levels.{level_of};
-
+impl<'a> Chunks<'a> {
     /// The chunks that lie there. Takes no memory.
-    pub(crate) fn new(
-        version: Version,
-        bytes: &'a [u8],
-        spans: &'a [Range<usize>],
-    ) -> FileChunks<'a>
-        requires within { AllByRecursion (IsWithin bytes.now) spans.now }
-        requires whole { AreWhole version (chunks_in bytes.now spans.now) }
-        ensures { result ≡ chunks_in bytes.now spans.now }
+    pub(crate) fn new(bytes: &'a [u8], layout: &'a Layout) -> Chunks<'a>
+        requires within { AllByRecursion (IsWithin bytes.now) layout.now.spans.items }
+        requires whole { AreWhole layout.now.header.version
+            (chunks_in bytes.now layout.now.spans.items) }
+        ensures { result ≡ chunks_in bytes.now layout.now.spans.items }
     {
-        FileChunks {
-            version,
-            bytes,
-            spans,
-        }
+        Chunks { bytes, layout }
     }
 
     /// The number of chunks.
     pub(crate) fn len(&self) -> usize
         ensures { result ≡ length self.now }
     {
-        self.spans.len()
+        self.layout.spans.len()
     }
 
     /// The chunk of this number, counted from 0.
-    pub(crate) fn chunk(&self, number: usize) -> &[u8]
+    pub(crate) fn chunk(&self, number: usize) -> &'a [u8]
         requires { number < length self.now }
         ensures { result.now ≡ get_or self.now number [] }
     {
-        chunk_at(self.bytes, &self.spans[number])
+        chunk_at(self.bytes, &self.layout.spans[number])
     }
 
     /// The level of the chunk of this number.
@@ -75,14 +74,14 @@ impl<'a> FileChunks<'a> {
         requires { number < length self.now }
         ensures { result ≡ level_of (get_or self.now number []) }
     {
-        chunk_at(self.bytes, &self.spans[number])[0]
+        chunk_at(self.bytes, &self.layout.spans[number])[0]
     }
 
     /// The pairs of the chunk of this number. A node has none.
-    pub(crate) fn pairs(&self, number: usize) -> Pairs<'_>
+    pub(crate) fn pairs(&self, number: usize) -> Pairs<'a>
         requires { number < length self.now }
         ensures { result ≡ pairs_held (get_or self.now number []) }
     {
-        pairs_of(self.version, self.chunk(number))
+        pairs_of(self.layout.header.version, self.chunk(number))
     }
 }
