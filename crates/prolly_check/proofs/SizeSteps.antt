@@ -15,7 +15,7 @@ use Rattle.std.proofs.lemmas.List.Sums.{count_by-le-length, count_by_more_yes, s
 use Rattle.std.proofs.lemmas.List.Sums.{sum_by-append, sum_by-le, sum_by-take-drop, sum_by-take-le}
 use Rattle.prolly_check.specs.Levels.{IsAtPlace, IsLevel, at_level, level_of}
 use Rattle.prolly_check.specs.Missing.{size_of}
-use Rattle.prolly_check.specs.declared.level.Level.{Level}
+use Rattle.prolly_check.specs.declared.count.Level.{Level}
 
 -- ---- the places of sizes that were sorted
 

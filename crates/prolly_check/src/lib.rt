@@ -1,7 +1,6 @@
 //! The checker of chunk files, and look-ups in what it accepted.
 #![tactic(auto)]
 
-mod canonical;
 mod checker;
 mod chunks;
 mod count;
@@ -14,16 +13,12 @@ mod find;
 mod frames;
 mod header;
 mod index;
-mod inspect;
 pub mod laws;
 mod leaf;
 mod leaves;
-mod level;
-mod missing;
 mod node;
 mod nth;
 mod order;
-mod passing;
 mod rebuild;
 mod scan;
 mod step;
@@ -32,6 +27,7 @@ mod way;
 mod whole;
 
 pub use checker::check;
+pub use count::{Level, Missing};
 pub use entries::{Entries, entries_of};
 pub use fault::CheckFault;
 pub use find::value_in;
@@ -39,8 +35,6 @@ pub use frames::front_frame;
 pub use header::{HEADER_SIZE, Header, read_header};
 pub use leaf::Pairs;
 pub use leaves::Leaves;
-pub use level::Level;
-pub use missing::Missing;
 pub use node::{Child, Children, split_first_child};
 pub use nth::pair_at;
 pub use scan::first_pairs_from;

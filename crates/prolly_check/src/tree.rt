@@ -14,17 +14,15 @@ ghost use Rattle.prolly_check.specs.Checked.{IsChecked, IsFile, HasFile, chunks_
 ghost use Rattle.prolly_check.specs.Levels.{AreLevels, AreOfMap};
 ghost use Rattle.prolly_check.specs.Missing.{AreSo, lacking, size_of};
 
+use crate::checker::inspect;
 use crate::chunks::{Chunks, Layout};
-use crate::count::{count_pairs, size_in};
+use crate::count::{Level, Missing, count_pairs, levels_in, missing_in, size_in};
 use crate::dump::write_records;
 use crate::fault::CheckFault;
 use crate::file::CheckedFile;
 use crate::find::find_value;
 use crate::index::Index;
-use crate::inspect::inspect;
 use crate::leaves::Leaves;
-use crate::level::{Level, levels_in};
-use crate::missing::{Missing, missing_in};
 use crate::nth::find_nth;
 use crate::scan::scan_pairs;
 use crate::way::way_to;

@@ -2,7 +2,7 @@ use Rattle.std.proofs.Common.{inr, sym, ap, ◌∙◌, arith}
 use Rattle.prolly_entry.specs.Reference.{reference_of}
 use Rattle.prolly_check.proofs.CanonicalSteps.{equal, unequal}
 use Rattle.prolly_check.proofs.Rebuilds.{is_past, is_other, is_same}
-use Rattle.prolly_check.proofs.passing.expect_chunk.Goals as goal
+use Rattle.prolly_check.proofs.rebuild.expect_chunk.Goals as goal
 
 pub returns-then-number-len-clause-expected : goal.returns-then-number-len-clause-expected
 returns-then-number-len-clause-expected c =

@@ -5,7 +5,7 @@ use Rattle.prolly_check.specs.Entries.{IsBad}
 use Rattle.prolly_check.specs.Spans.{chunks_in}
 use Rattle.prolly_check.specs.Whole.{AreWhole}
 use Rattle.prolly_check.proofs.CheckedFile.{at_ending, at_entries, at_read}
-use Rattle.prolly_check.proofs.inspect.lay_out.Goals as goal
+use Rattle.prolly_check.proofs.checker.lay_out.Goals as goal
 
 pub returns-in_err-test_ending-clause-err : goal.returns-in_err-test_ending-clause-err
 returns-in_err-test_ending-clause-err c =

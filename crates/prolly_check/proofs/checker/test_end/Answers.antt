@@ -1,6 +1,6 @@
 use Rattle.std.proofs.Common.{refl, sym, ◌∙◌}
 use Rattle.prolly_check.proofs.CanonicalSteps.{ends_so, equal, unequal}
-use Rattle.prolly_check.proofs.canonical.test_end.Goals as goal
+use Rattle.prolly_check.proofs.checker.test_end.Goals as goal
 
 pub returns-then-ne-clause-err : goal.returns-then-ne-clause-err
 returns-then-ne-clause-err c =

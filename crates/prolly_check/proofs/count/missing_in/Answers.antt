@@ -5,8 +5,8 @@ use Rattle.prolly_check.specs.Index.{number_of}
 use Rattle.prolly_check.proofs.IndexSteps.{as_many, reference_at}
 use Rattle.prolly_check.proofs.MissingSteps.{CountedTo, copied, counted, passed}
 use Rattle.prolly_check.proofs.MissingSteps.{size_more, size_up_to}
-use Rattle.prolly_check.proofs.missing.missing_in.Goals.{then-is_none, else-is_none}
-use Rattle.prolly_check.proofs.missing.missing_in.Goals as goal
+use Rattle.prolly_check.proofs.count.missing_in.Goals.{then-is_none, else-is_none}
+use Rattle.prolly_check.proofs.count.missing_in.Goals as goal
 
 pub overflow_add-missing-then-is_none : goal.overflow_add-missing-then-is_none
 overflow_add-missing-then-is_none c =

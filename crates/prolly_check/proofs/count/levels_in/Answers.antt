@@ -4,7 +4,7 @@ use Rattle.std.proofs.lemmas.List.{length-map}
 use Rattle.prolly_check.specs.Levels.{at_level}
 use Rattle.prolly_check.proofs.SizeSteps.{size_within, sizes_sum}
 use Rattle.prolly_check.proofs.TreeLevels.{IsTower, all_levels, is_tower, one_more}
-use Rattle.prolly_check.proofs.level.levels_in.Goals as goal
+use Rattle.prolly_check.proofs.count.levels_in.Goals as goal
 
 pub numbers_of-requires-clause-some : goal.numbers_of-requires-clause-some
 numbers_of-requires-clause-some c =

@@ -3,7 +3,7 @@ use Rattle.std.proofs.lemmas.Result.{err_from_is_err_and}
 use Rattle.prolly_entry.specs.lemmas.Lists.{rest_is}
 use Rattle.prolly_check.specs.Index.{AreReferences}
 use Rattle.prolly_check.proofs.CheckedFile.{at_canonical, at_references, at_end}
-use Rattle.prolly_check.proofs.inspect.inspect.Goals as goal
+use Rattle.prolly_check.proofs.checker.inspect.Goals as goal
 
 pub returns-in_err-references-clause-err : goal.returns-in_err-references-clause-err
 returns-in_err-references-clause-err c =

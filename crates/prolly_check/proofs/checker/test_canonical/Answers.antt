@@ -2,7 +2,7 @@ use Rattle.std.proofs.Common.{inr}
 use Rattle.std.proofs.lemmas.Result.{err_from_is_err_and}
 use Rattle.prolly_check.proofs.CanonicalSteps.{chunks_say, some_chunks, end_says, all_say}
 use Rattle.std.proofs.Math.Logic.{⊎_map}
-use Rattle.prolly_check.proofs.canonical.test_canonical.Goals as goal
+use Rattle.prolly_check.proofs.checker.test_canonical.Goals as goal
 
 pub returns-in_err-references-clause-err : goal.returns-in_err-references-clause-err
 returns-in_err-references-clause-err c =

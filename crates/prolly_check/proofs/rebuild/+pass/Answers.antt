@@ -1,7 +1,7 @@
 use Rattle.std.proofs.lemmas.Result.{err_from_is_err_and}
 use Rattle.prolly_tree.specs.Chunk.{Chunk}
 use Rattle.prolly_check.proofs.Rebuilds.{is_refused, one_level}
-use Rattle.prolly_check.proofs.passing.+pass.Goals as goal
+use Rattle.prolly_check.proofs.rebuild.+pass.Goals as goal
 
 pub returns-in_err-event-clause-passed : goal.returns-in_err-event-clause-passed
 returns-in_err-event-clause-passed t c =
