@@ -12,7 +12,7 @@ use Rattle.prolly_tree.specs.Chunk.{chunks}
 use Rattle.prolly_tree.specs.File.{header, frame, end_record, root_reference}
 use Rattle.prolly_file.specs.Frame.{framed}
 use Rattle.prolly_file.specs.FrameLaws.{frames_bytes}
-use Rattle.prolly_check.specs.declared.frames.Span.{Span}
+use Rattle.std.specs.declared.ops.Range.{Range}
 use Rattle.prolly_check.specs.Checked.{chunks_of}
 use Rattle.prolly_check.specs.Content.{Content}
 use Rattle.prolly_check.specs.Held.{pairs_held}
@@ -50,7 +50,7 @@ few_in_frames version (c ∷ cs) w =
     let frame = length-append (0x43 ∷ to_be_bytes w64 (length c)) c in
     omega arith
 
-pub few_held : (version : Version) (bytes : List ℕ) (spans : List Span) (place : ℕ) →
+pub few_held : (version : Version) (bytes : List ℕ) (spans : List (Range ℕ)) (place : ℕ) →
     FramesTo bytes spans place → AreWhole version (chunks_in bytes spans) →
     length (flat_map pairs_held (chunks_in bytes spans)) ≤ length bytes
 few_held version bytes spans place frames whole =

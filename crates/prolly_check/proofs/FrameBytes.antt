@@ -4,22 +4,24 @@ use Rattle.std.proofs.Common.{sym, ap, ◌∙◌, subst, arith, append_assoc, ap
 use Rattle.std.proofs.lemmas.List.{map_push, length-take-le, drop-drop}
 use Rattle.std.proofs.lemmas.List.Concat.{flat_map-append}
 use Rattle.std.specs.List.{flat_map, AllByRecursion}
+use Rattle.std.specs.declared.ops.Range.{Range}
 use Rattle.prolly_entry.specs.lemmas.Lists.{all_append}
 use Rattle.prolly_file.specs.Frame.{framed, IsSmall, BeginsFrame}
-use Rattle.prolly_check.specs.declared.frames.Span.{Span}
 use Rattle.prolly_check.specs.Spans.{chunk_in, chunks_in, IsWithin, FramesTo}
 
-pub one_more : (bytes : List ℕ) (spans : List Span) (place len : ℕ) → FramesTo bytes spans place →
+pub one_more : (bytes : List ℕ) (spans : List (Range ℕ)) (place len : ℕ) → FramesTo bytes spans place →
     BeginsFrame (drop place bytes) len →
-    FramesTo bytes (spans ++ record { start = place + 9; len = len } ∷ []) (place + 9 + len)
+    FramesTo bytes (spans ++ record { start = place + 9; end = place + 9 + len } ∷ []) (place + 9 + len)
 one_more bytes spans place len f b =
-    let span : Span = record { start = place + 9; len = len } in
+    let span : Range ℕ = record { start = place + 9; end = place + 9 + len } in
     let rest = drop place bytes in
     let long : length rest ≡ length bytes - place = length-drop place bytes in
     let inside : 9 + len ≤ length rest = b.within in
     let reached : place ≤ length bytes = f.reached in
     let chunk : take len (drop 9 rest) ≡ chunk_in bytes span =
-    ap (take len) (drop-drop 9 place bytes) in
+    ap (take len) (drop-drop 9 place bytes) ∙
+    ap (λ n. take n (drop (place + 9) bytes)) (let e : len ≡ place + 9 + len - (place + 9) =
+    omega arith in e) in
     let behind : drop (9 + len) rest ≡ drop (place + 9 + len) bytes =
     drop-drop (9 + len) place bytes ∙ ap (λ n. drop n bytes) (let e : place + (9 + len) ≡ place +
     9 + len = omega arith in e) in
@@ -42,5 +44,5 @@ one_more bytes spans place len f b =
       small = subst (AllByRecursion IsSmall) (sym (map_push (chunk_in bytes) spans span))
           (all_append IsSmall cs (chunk_in bytes span ∷ []) f.small
           (subst IsSmall chunk (let s : len < 2 ^ 64 = b.small in omega arith), tt));
-      within = all_append (IsWithin bytes) spans (span ∷ []) f.within (fits, tt);
+      within = all_append (IsWithin bytes) spans (span ∷ []) f.within ((omega arith, fits), tt);
     }

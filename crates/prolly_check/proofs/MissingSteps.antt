@@ -22,7 +22,7 @@ use Rattle.prolly_tree.specs.Chunk.{IsIn}
 use Rattle.prolly_check.specs.Checked.{HasReference}
 use Rattle.prolly_check.specs.Index.{IsIndex, number_of}
 use Rattle.prolly_check.specs.Missing.{AreSo, has_reference, lacking, size_of}
-use Rattle.prolly_check.specs.declared.missing.Missing.{Missing}
+use Rattle.prolly_check.specs.declared.count.Missing.{Missing}
 
 -- ---- whether a reference is there
 

@@ -16,7 +16,7 @@ use Rattle.std.proofs.lemmas.List.Sums.{sum_by-append, sum_by-le, sum_by-take-dr
 use Rattle.prolly_check.specs.Levels.{IsAtPlace, IsLevel, at_level}
 use Rattle.prolly_check.specs.Way.{level_of}
 use Rattle.prolly_check.specs.Missing.{size_of}
-use Rattle.prolly_check.specs.declared.level.Level.{Level}
+use Rattle.prolly_check.specs.declared.count.Level.{Level}
 
 -- ---- the places of sizes that were sorted
 

@@ -19,7 +19,7 @@ use Rattle.prolly_tree.specs.Tree.{LeveledTree, Tree, bytes_of, tree_of}
 use Rattle.prolly_tree.specs.lemmas.Trees.{Full}
 use Rattle.prolly_check.specs.Levels.{AreLevels, AreOfMap, IsLevel, at_level}
 use Rattle.prolly_check.specs.Way.{level_of}
-use Rattle.prolly_check.specs.declared.level.Level.{Level}
+use Rattle.prolly_check.specs.declared.count.Level.{Level}
 use Rattle.prolly_check.proofs.CheckedTree.{chunks_last}
 use Rattle.prolly_check.proofs.HeldPairs.{bytes_append, bytes_in}
 use Rattle.prolly_check.proofs.WayDown.{height_is}

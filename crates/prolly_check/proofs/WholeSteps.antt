@@ -7,14 +7,14 @@ use Rattle.prolly_entry.specs.declared.version.Version.{Version}
 use Rattle.prolly_entry.specs.Pair.{Pair}
 use Rattle.prolly_entry.specs.lemmas.Lists.{all_append}
 use Rattle.prolly_check.specs.declared.fault.CheckFault.TheVariants as faults
-use Rattle.prolly_check.specs.declared.frames.Span.{Span}
+use Rattle.std.specs.declared.ops.Range.{Range}
 use Rattle.prolly_check.specs.Entries.{Holds, IsBad}
 use Rattle.prolly_check.specs.Held.{pairs_held}
 use Rattle.prolly_check.specs.Spans.{chunk_in, chunks_in}
 use Rattle.prolly_check.specs.Whole.{IsWhole, AreWhole}
 use Rattle.prolly_check.proofs.HeldPairs.{all_hold}
 
-module _ (version : Version) (bytes : List ℕ) (spans : List Span) (n : ℕ) (other : Span)
+module _ (version : Version) (bytes : List ℕ) (spans : List (Range ℕ)) (n : ℕ) (other : Range ℕ)
     (chunk : List ℕ) (within : n < length spans)
     (is : chunk ≡ chunk_in bytes (get_or spans n other))
     (before : AreWhole version (chunks_in bytes (take n spans))) where

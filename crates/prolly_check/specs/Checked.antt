@@ -1,42 +1,60 @@
 -- What is kept of a file that was accepted.
-use Rattle.std.specs.Prelude.{◌≡◌, ◌<◌, ◌^◌, ℕ, List, length, slice_index}
+use Rattle.std.specs.Prelude.{◌≡◌, ℕ, ◌<◌, ◌≤◌, ◌^◌, List, ◌∷◌, length, map, drop, Result}
 use Rattle.std.specs.List.{flat_map, AllByRecursion}
 use Rattle.std.specs.BTreeMap.{BTreeMap}
+use Rattle.std.specs.declared.ops.Range.{Range}
 use Rattle.prolly_tree.specs.Chunk.{IsIn}
 use Rattle.prolly_entry.specs.Reference.{reference_of}
-use Rattle.prolly_entry.specs.declared.version.Version.{Version}
 use Rattle.prolly_entry.specs.declared.reference.Ref.{Ref}
-use Rattle.prolly_check.specs.declared.frames.Span.{Span}
+use Rattle.prolly_check.specs.declared.fault.CheckFault.{CheckFault}
+use Rattle.prolly_file.specs.declared.format.header.Header.{Header}
 use Rattle.prolly_check.specs.Content.{Content}
 use Rattle.prolly_check.specs.Held.{pairs_held}
 use Rattle.prolly_check.specs.Index.{IsIndex}
-use Rattle.prolly_check.specs.Judged.{chunk_bytes}
+use Rattle.prolly_check.specs.Judged.{chunk_bytes, judged}
 use Rattle.prolly_check.specs.Spans.{IsWithin, chunks_in}
-use Rattle.prolly_check.specs.Verdict.{IsFileOf}
+use Rattle.prolly_check.specs.Verdict.{IsFileOf, IsVerdict}
+use Rattle.prolly_check.specs.Whole.{AreWhole}
 
 -- The bytes are the file of some map, no two of whose chunks have one reference.
 pub record IsFile (bytes : List ℕ) : Type 0 where
   pub content : Content
   pub is : IsFileOf bytes content
 
--- What a file says whose chunks lie there: its bits are the last byte of the header.
-abbrev pub content_in : List ℕ → Version → List Span → Content
-content_in bytes version spans = record {
-  version = version;
-  bits = slice_index bytes 5;
-  pairs = flat_map pairs_held (chunks_in bytes spans);
+-- What a file says that has this header and these chunks.
+abbrev pub content_of : Header → List (List ℕ) → Content
+content_of header chunks = record {
+  version = header.version;
+  bits = header.bits;
+  pairs = flat_map pairs_held chunks;
 }
 
 -- The chunks of the file of a map.
 abbrev pub chunks_of : Content → List (List ℕ)
 chunks_of content = chunk_bytes content.version content.bits content.pairs
 
--- The version, the places of the chunks and the index are those of the file.
-pub record IsChecked (bytes : List ℕ) (version : Version) (spans : List Span)
-    (index : BTreeMap Ref ℕ) : Type 0 where
-  pub is : IsFileOf bytes (content_in bytes version spans)
-  pub chunks_are : chunks_in bytes spans ≡ chunks_of (content_in bytes version spans)
+-- The header, the frames up to the place, the end record and the entries are as a file has them, so
+-- the verdict on the bytes is what is judged of the chunks.
+pub record IsLaidOut (bytes : List ℕ) (header : Header) (spans : List (Range ℕ)) (place : ℕ)
+    : Type 0 where
   pub within : AllByRecursion (IsWithin bytes) spans
+  pub whole : AreWhole header.version (chunks_in bytes spans)
+  pub few : length (flat_map pairs_held (chunks_in bytes spans)) ≤ length bytes
+  pub bits : header.bits ≤ 24
+  pub reached : place ≤ length bytes
+  pub ending : List ℕ
+  pub behind : drop place bytes ≡ 0x45 ∷ ending
+  pub so : (verdict : Result Content CheckFault) →
+      verdict ≡ judged header.version header.bits (chunks_in bytes spans) ending
+      (map pairs_held (chunks_in bytes spans)) → IsVerdict bytes verdict
+
+-- The header, the places of the chunks and the index are those of the file.
+pub record IsChecked (bytes : List ℕ) (header : Header) (spans : List (Range ℕ))
+    (index : BTreeMap Ref ℕ) : Type 0 where
+  pub is : IsFileOf bytes (content_of header (chunks_in bytes spans))
+  pub chunks_are : chunks_in bytes spans ≡ chunks_of (content_of header (chunks_in bytes spans))
+  pub within : AllByRecursion (IsWithin bytes) spans
+  pub whole : AreWhole header.version (chunks_in bytes spans)
   pub indexed : IsIndex index (chunks_in bytes spans)
 
 -- Some file of fewer than 2^64 bytes is that of the content.

@@ -2,7 +2,7 @@
 use Rattle.std.specs.Prelude.{◌≡◌, ℕ, ◌-◌, ◌/◌, ◌<◌, ◌≤◌, ◌==◌, List, length, map}
 use Rattle.std.specs.Prelude.{slice_get, Some, nat_lt, nat_le, count_by}
 use Rattle.std.specs.List.{filter, AllByRecursion}
-use Rattle.prolly_check.specs.declared.level.Level.{Level}
+use Rattle.prolly_check.specs.declared.count.Level.{Level}
 use Rattle.prolly_check.specs.Checked.{chunks_of}
 use Rattle.prolly_check.specs.Content.{Content}
 use Rattle.prolly_check.specs.Missing.{size_of}

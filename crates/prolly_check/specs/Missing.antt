@@ -3,7 +3,7 @@ use Rattle.std.specs.Prelude.{◌≡◌, ℕ, not, Bool, List, length}
 use Rattle.std.specs.List.{filter, flat_map, list_any}
 use Rattle.std.specs.Str.{bytes_eq}
 use Rattle.prolly_entry.specs.Reference.{reference_of}
-use Rattle.prolly_check.specs.declared.missing.Missing.{Missing}
+use Rattle.prolly_check.specs.declared.count.Missing.{Missing}
 
 -- Whether one of the chunks has the reference.
 abbrev pub has_reference : List (List ℕ) → List ℕ → Bool

@@ -1,14 +1,28 @@
-//! The checker.
-ghost use Rattle.std.specs.Prelude.{◌≡◌, ◌≢◌, ◌↔◌, ◌⊎◌, ◌≤◌, true, length, IfOk, OnOk, IfErr};
-ghost use Rattle.std.specs.Prelude.{IsErrOf};
+//! The checker: its steps, in the order in which their faults are named.
+ghost use Rattle.std.specs.Prelude.{◌≡◌, ◌≢◌, ◌↔◌, ◌⊎◌, ◌∷◌, ◌<◌, ◌≤◌, ◌^◌, true, None, Some, length};
+ghost use Rattle.std.specs.Prelude.{Err, IfOk, OnOk, IfErr, IsErrOf};
+ghost use Rattle.std.specs.List.{flat_map};
+ghost use Rattle.prolly_check.specs.Canonical.{Says, ending_of_chunks};
 ghost use Rattle.prolly_check.specs.Check.{IsRefusal};
-ghost use Rattle.prolly_check.specs.Checked.{IsFile};
+ghost use Rattle.prolly_check.specs.Checked.{IsChecked, IsFile, IsLaidOut};
 ghost use Rattle.prolly_check.specs.Content.{Content};
-ghost use Rattle.prolly_check.specs.Verdict.{IsFileOf};
+ghost use Rattle.prolly_check.specs.Held.{pairs_held};
+ghost use Rattle.prolly_check.specs.Index.{AreReferences};
+ghost use Rattle.prolly_check.specs.Refusal.{UnlessMemory};
+ghost use Rattle.prolly_check.specs.Spans.{chunks_in};
+ghost use Rattle.prolly_check.specs.Verdict.{IsFileOf, IsVerdict};
 
+use crate::chunks::{Chunks, Layout};
+use crate::ending::test_ending;
 use crate::fault::CheckFault;
+use crate::frames::find_frames;
+use crate::index::{Index, index_chunks};
+use crate::order::test_order;
+use crate::rebuild::test_rebuilt;
 use crate::tree::Tree;
-use prolly_file::{Source, read_whole};
+use crate::whole::test_chunks;
+use prolly_entry::{Ref, Sha512Cut, Version};
+use prolly_file::{Source, end_record, read_header, read_whole};
 use std::alloc::Global;
 
 /// Reads a source to its end, and accepts its bytes exactly where they are the file of a map, of a
@@ -53,4 +67,78 @@ pub fn check<S: Source>(alloc: Global, source: &mut S, max_bytes: u32) -> Result
         Err(fault) => return Err(CheckFault::from(fault)),
     };
     Tree::of(alloc, bytes)
+}
+
+/// Checks the bytes of a file. Answers its layout, the reference of each chunk, and the index of
+/// these.
+pub(crate) fn inspect(alloc: Global, bytes: &[u8]) -> Result<(Layout, Vec<Ref>, Index), CheckFault>
+    requires { length bytes.now < 2 ^ 64 }
+    ensures ok { IfOk result (λ r. IsChecked bytes.now r.0.header r.0.spans.items r.2) }
+    ensures references { IfOk result (λ r.
+        AreReferences (chunks_in bytes.now r.0.spans.items) r.1.items) }
+    ensures err { IfErr result (UnlessMemory (λ fault. IsVerdict bytes.now (Err fault))) }
+{
+    let (layout, end) = lay_out(alloc, bytes)?;
+    let cut = match Sha512Cut::new(layout.header.bits) {
+        Some(cut) => cut,
+        None => unreachable!(),
+    };
+    let chunks = Chunks::new(bytes, &layout);
+    let references = test_canonical(alloc, cut, layout.header.version, &chunks, &bytes[end..])?;
+    let index = index_chunks(alloc, &references)?;
+    Ok((layout, references, index))
+}
+
+/// The layout of a file, and where its frames end: the header, the frames, the end record and the
+/// entries are tested.
+fn lay_out(alloc: Global, bytes: &[u8]) -> Result<(Layout, usize), CheckFault>
+    ensures ok { IfOk result (λ r. IsLaidOut bytes.now r.0.header r.0.spans.items r.1) }
+    ensures err { IfErr result (UnlessMemory (λ fault. IsVerdict bytes.now (Err fault))) }
+{
+    let header = read_header(bytes)?;
+    let frames = find_frames(alloc, bytes)?;
+    test_ending(&bytes[frames.end..], frames.spans.len())?;
+    test_chunks(header.version, bytes, &frames.spans)?;
+    let layout = Layout {
+        header,
+        spans: frames.spans,
+    };
+    Ok((layout, frames.end))
+}
+
+/// Tests that the keys rise, and that the chunks and the end record are those of the file of the
+/// pairs. Answers the reference of each chunk.
+fn test_canonical(
+    alloc: Global,
+    cut: Sha512Cut,
+    version: Version,
+    chunks: &Chunks,
+    end: &[u8],
+) -> Result<Vec<Ref>, CheckFault>
+    requires { length (flat_map pairs_held chunks.now) < 2 ^ 64 }
+    ensures ok { OnOk result (Says version cut chunks.now end.now None) }
+    ensures references { IfOk result (λ references.
+        AreReferences chunks.now references.items) }
+    ensures err { IfErr result (UnlessMemory (λ fault.
+        Says version cut chunks.now end.now (Some fault))) }
+{
+    test_order(chunks)?;
+    let references = test_rebuilt(alloc, cut, version, chunks)?;
+    test_end(end, chunks, &references)?;
+    Ok(references)
+}
+
+/// Tests that an end record has the reference of the last chunk and the number of chunks.
+fn test_end(found: &[u8], chunks: &Chunks, references: &[Ref]) -> Result<(), CheckFault>
+    requires some { 0 < length chunks.now }
+    requires references { AreReferences chunks.now references.now }
+    ensures ok { OnOk result (found.now ≡ 0x45 ∷ ending_of_chunks chunks.now) }
+    ensures err { IfErr result (λ fault. (fault ≡ CheckFault.BadEnd)
+        × (found.now ≡ 0x45 ∷ ending_of_chunks chunks.now → ⊥)) }
+{
+    let count = chunks.len();
+    if found != end_record(&references[count - 1], count as u64).as_slice() {
+        return Err(CheckFault::BadEnd);
+    }
+    Ok(())
 }

@@ -1,62 +1,54 @@
 //! A file that was checked, as look-ups see it.
 ghost use Rattle.std.specs.Prelude.{◌≡◌, ◌<◌, ◌^◌, [], length, get_or};
-ghost use Rattle.prolly_check.specs.Content.{Content};
 ghost use Rattle.prolly_check.specs.Held.{pairs_held};
-ghost use Rattle.prolly_check.specs.Index.{HasAt};
-ghost use Rattle.prolly_check.specs.Kinds.{kind_of};
+ghost use Rattle.prolly_check.specs.Index.{HasAt, IsIndex};
+ghost use Rattle.prolly_check.specs.Levels.{AreOfMap};
+ghost use Rattle.prolly_check.specs.Missing.{size_of};
 ghost use Rattle.prolly_check.specs.Root.{root_bytes};
-ghost use Rattle.prolly_check.specs.Verdict.{IsFileOf};
-ghost use Rattle.prolly_check.specs.Checked.{IsChecked, HasFile, HasReference, chunks_of};
+ghost use Rattle.prolly_check.specs.Checked.{HasFile, HasReference, chunks_of, content_of};
 
-use crate::entries::{Entries, entries_of, pairs_of};
-use crate::frames::{Span, chunk_at};
+use crate::chunks::Chunks;
 use crate::index::Index;
 use crate::leaf::Pairs;
 use prolly_entry::{Ref, Version};
-use prolly_file::BITS_PLACE;
+use prolly_file::Header;
 use std::marker::Model;
 
-/// A file that was checked: its bytes, its version, where its chunks lie, and how they are found by
-/// their references.
+/// A file that was checked: its header, its chunks, and how they are found by their references.
 #[derive(Drop)]
 pub(crate) struct CheckedFile<'a> {
-    bytes: &'a [u8],
-    version: Version,
-    spans: &'a [Span],
+    header: Header,
+    chunks: Chunks<'a>,
     index: &'a Index,
 }
 
 // A file is seen as what it says.
 impl<'a> Model for CheckedFile<'a> {
-    ghost use Rattle.std.specs.Prelude.{◌<◌, ◌^◌, length};
-    ghost use Rattle.prolly_check.specs.Checked.{IsChecked, content_in};
+    ghost use Rattle.std.specs.Prelude.{◌≡◌};
+    ghost use Rattle.prolly_check.specs.Checked.{HasFile, chunks_of, content_of};
     ghost use Rattle.prolly_check.specs.Content.{Content};
+    ghost use Rattle.prolly_check.specs.Index.{IsIndex};
 
     ghost Value = { Content };
 
-    ghost view = { λ f. content_in f.bytes.now f.version f.spans.now };
+    ghost view = { λ f. content_of f.header f.chunks };
 
-    ghost invariant = { λ f. IsChecked f.bytes.now f.version f.spans.now f.index.now
-        × (length f.bytes.now < 2 ^ 64) };
+    ghost invariant = { λ f. HasFile (content_of f.header f.chunks)
+        × (f.chunks ≡ chunks_of (content_of f.header f.chunks)) × IsIndex f.index.now f.chunks };
 }
 
 impl<'a> CheckedFile<'a> {
-    /// The file of these bytes.
-    pub(crate) fn new(
-        bytes: &'a [u8],
-        version: Version,
-        spans: &'a [Span],
-        index: &'a Index,
-    ) -> CheckedFile<'a>
-        requires checked { IsChecked bytes.now version spans.now index.now }
-        requires short { length bytes.now < 2 ^ 64 }
-        ensures is { (content : Content) → IsFileOf bytes.now content → result ≡ content }
+    /// The file that has these chunks.
+    pub(crate) fn new(header: Header, chunks: Chunks<'a>, index: &'a Index) -> CheckedFile<'a>
+        requires file { HasFile (content_of header chunks) }
+        requires are { chunks ≡ chunks_of (content_of header chunks) }
+        requires indexed { IsIndex index.now chunks }
+        ensures is { result ≡ content_of header chunks.entry }
         ensures file { HasFile result }
     {
         CheckedFile {
-            bytes,
-            version,
-            spans,
+            header,
+            chunks,
             index,
         }
     }
@@ -65,14 +57,23 @@ impl<'a> CheckedFile<'a> {
     pub(crate) fn version(&self) -> Version
         ensures { result ≡ self.now.version }
     {
-        self.version
+        self.header.version
     }
 
-    /// The number of bits, the last byte of the header.
+    /// The number of bits.
     pub(crate) fn bits(&self) -> u8
         ensures { result ≡ self.now.bits }
     {
-        self.bytes[BITS_PLACE]
+        self.header.bits
+    }
+
+    /// The chunks.
+    pub(crate) fn chunks(&self) -> &Chunks<'a>
+        ensures chunks { result.now ≡ chunks_of self.now }
+        ensures tree { AreOfMap result.now }
+        ensures small { size_of result.now < 2 ^ 64 }
+    {
+        &self.chunks
     }
 
     /// The number of chunks.
@@ -80,7 +81,7 @@ impl<'a> CheckedFile<'a> {
         ensures count { result ≡ length (chunks_of self.now) }
         ensures file { HasFile self.now }
     {
-        self.spans.len()
+        self.chunks.len()
     }
 
     /// The number of the root, which is the last chunk.
@@ -89,7 +90,7 @@ impl<'a> CheckedFile<'a> {
         ensures is { get_or (chunks_of self.now) result [] ≡ root_bytes self.now }
         ensures file { HasFile self.now }
     {
-        self.spans.len() - 1
+        self.chunks.len() - 1
     }
 
     /// The chunk of this number.
@@ -97,15 +98,7 @@ impl<'a> CheckedFile<'a> {
         requires { number < length (chunks_of self.now) }
         ensures { result.now ≡ get_or (chunks_of self.now) number [] }
     {
-        chunk_at(self.bytes, self.spans[number])
-    }
-
-    /// The entries of the chunk of this number.
-    pub(crate) fn entries(&self, number: usize) -> Entries<'a>
-        requires { number < length (chunks_of self.now) }
-        ensures { result ≡ kind_of self.now.version (get_or (chunks_of self.now) number []) }
-    {
-        entries_of(self.version, self.chunk(number))
+        self.chunks.chunk(number)
     }
 
     /// The pairs of the chunk of this number. A node has none.
@@ -113,7 +106,7 @@ impl<'a> CheckedFile<'a> {
         requires { number < length (chunks_of self.now) }
         ensures { result ≡ pairs_held (get_or (chunks_of self.now) number []) }
     {
-        pairs_of(self.version, self.chunk(number))
+        self.chunks.pairs(number)
     }
 
     /// The number of the chunk that has the reference.

@@ -5,18 +5,12 @@ ghost use Rattle.prolly_check.specs.Spans.{FramesTo, IsWithin, chunk_in};
 
 use prolly_file::{FRAME_START, HEADER_SIZE, frame_at};
 use std::alloc::{AllocError, Global};
-
-/// Where a chunk lies in its file.
-#[derive(Clone, Copy)]
-pub(crate) struct Span {
-    pub(crate) start: usize,
-    pub(crate) len: usize,
-}
+use std::ops::Range;
 
 /// Where the chunks of a file lie, and where their frames end.
 #[derive(Drop)]
 pub(crate) struct Frames {
-    pub(crate) spans: Vec<Span>,
+    pub(crate) spans: Vec<Range<usize>>,
     pub(crate) end: usize,
 }
 
@@ -34,18 +28,16 @@ pub(crate) fn find_frames(alloc: Global, bytes: &[u8]) -> Result<Frames, AllocEr
             Some(len) => len,
             None => return Ok(Frames { spans, end }),
         };
-        spans.push(Span {
-            start: end + FRAME_START,
-            len,
-        })?;
-        end = end + FRAME_START + len;
+        let start = end + FRAME_START;
+        end = start + len;
+        spans.push(start..end)?;
     }
 }
 
 /// The chunk that lies there.
-pub(crate) fn chunk_at(bytes: &[u8], span: Span) -> &[u8]
-    requires { IsWithin bytes.now span }
-    ensures { result.now ≡ chunk_in bytes.now span }
+pub(crate) fn chunk_at<'a>(bytes: &'a [u8], span: &Range<usize>) -> &'a [u8]
+    requires { IsWithin bytes.now span.now }
+    ensures { result.now ≡ chunk_in bytes.now span.now }
 {
-    &bytes[span.start..span.start + span.len]
+    &bytes[span.start..span.end]
 }

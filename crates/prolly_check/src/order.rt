@@ -5,8 +5,8 @@ ghost use Rattle.prolly_check.specs.Held.{pairs_held};
 ghost use Rattle.prolly_check.specs.Judged.{order_fault};
 ghost use Rattle.prolly_check.specs.Order.{rises_behind, RisesTo};
 
+use crate::chunks::Chunks;
 use crate::fault::CheckFault;
-use crate::file_chunks::FileChunks;
 use crate::leaf::Pairs;
 use prolly_entry::key_rises;
 
@@ -15,7 +15,7 @@ use prolly_entry::key_rises;
 struct Falls;
 
 /// Tests that the keys of all chunks rise. Takes no memory: it keeps where the last key lies.
-pub(crate) fn test_order(chunks: &FileChunks) -> Result<(), CheckFault>
+pub(crate) fn test_order(chunks: &Chunks) -> Result<(), CheckFault>
     ensures ok { OnOk result (order_fault None 0 (map pairs_held chunks.now) ≡ None) }
     ensures err { IfErr result (λ fault.
         order_fault None 0 (map pairs_held chunks.now) ≡ Some fault) }

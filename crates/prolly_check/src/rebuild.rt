@@ -1,18 +1,18 @@
-//! Rebuilding the chunks of pairs that come one by one.
+//! Rebuilding the chunks of pairs that come one by one, and comparing each with that of a file.
 ghost use Rattle.std.specs.Prelude.{◌≡◌, [], ◌∷◌, ◌<◌, ◌≤◌, ◌^◌, None, Some, List, ℕ, length, OnOk};
 ghost use Rattle.std.specs.Prelude.{IfOk, IfErr};
 ghost use Rattle.std.specs.List.{flat_map};
 ghost use Rattle.prolly_check.specs.Canonical.{CompareAs};
 ghost use Rattle.prolly_check.specs.Held.{pairs_held};
 ghost use Rattle.prolly_check.specs.Index.{AreReferences};
-ghost use Rattle.prolly_check.specs.Rebuilt.{AreUnused, HasTaken, Takes, Ends, node_levels};
+ghost use Rattle.prolly_check.specs.Rebuilt.{AreUnused, Ends, HasTaken, IsExpected, Passes, Takes};
+ghost use Rattle.prolly_check.specs.Rebuilt.{node_levels};
 ghost use Rattle.prolly_check.specs.Refusal.{UnlessMemory};
 
+use crate::chunks::Chunks;
 use crate::fault::CheckFault;
-use crate::file_chunks::FileChunks;
 use crate::leaf::Pairs;
-use crate::passing::pass;
-use prolly_chunk::{LeafLevel, NodeLevel};
+use prolly_chunk::{ChunkEvent, LeafLevel, NodeLevel};
 use prolly_entry::{Pair, Ref, Sha512Cut, Version};
 use std::alloc::{AllocError, Global};
 
@@ -56,13 +56,67 @@ fn begin(alloc: Global, cut: Sha512Cut, version: Version) -> Result<Rebuild, All
     })
 }
 
+/// Tests that the next chunk of a file, behind those whose references are there, is that of the
+/// event, and adds its reference. Answers the event, which carries it from then on.
+fn expect_chunk(
+    chunks: &Chunks,
+    references: &mut Vec<Ref>,
+    event: ChunkEvent,
+) -> Result<ChunkEvent, CheckFault>
+    ensures expected { IsExpected chunks.now references.old.items references.new.items event
+        result }
+    ensures same { IfOk result (λ same. same ≡ event) }
+{
+    let number = references.len();
+    if number >= chunks.len() {
+        return Err(CheckFault::NotCanonical { chunk: number });
+    }
+    if chunks.chunk(number) != event.bytes() {
+        return Err(CheckFault::NotCanonical { chunk: number });
+    }
+    let event = event.with_reference();
+    let Ok(()) = references.push(event.reference()) else {
+        return Err(CheckFault::Memory);
+    };
+    Ok(event)
+}
+
+/// Lets an event pass the levels, if there is one, and compares what leaves the last one with the
+/// next chunks of a file, behind those whose references are there. Adds theirs.
+///
+/// The event leaves the last level first: the first level takes it, and those above let it pass.
+/// Then the node that the first level closes, if it does, passes those above in the same way.
+fn pass(
+    alloc: Global,
+    levels: &mut [NodeLevel<Sha512Cut>],
+    event: Option<ChunkEvent>,
+    chunks: &Chunks,
+    references: &mut Vec<Ref>,
+) -> Result<(), CheckFault>
+    ensures passed { Passes chunks.now levels.old levels.new event references.old.items
+        references.new.items result }
+    ensures size { length levels.new ≡ length levels.old }
+{
+    let Some(event) = event else {
+        return Ok(());
+    };
+    let event = expect_chunk(chunks, references, event)?;
+    match levels.split_first_mut() {
+        None => Ok(()),
+        Some((level, above)) => {
+            let closed = level.push(alloc, &event)?;
+            pass(alloc, above, closed, chunks, references)
+        }
+    }
+}
+
 /// Takes a copy of a pair, and compares the chunks that it closes.
 fn add_copy(
     alloc: Global,
     rebuild: &mut Rebuild,
     key: &[u8],
     value: &[u8],
-    chunks: &FileChunks,
+    chunks: &Chunks,
 ) -> Result<(), CheckFault>
     requires key { length key.now ≤ 1024 }
     requires value { length value.now ≤ 65536 }
@@ -85,7 +139,7 @@ fn add_leaf(
     alloc: Global,
     rebuild: &mut Rebuild,
     mut leaf: Pairs,
-    chunks: &FileChunks,
+    chunks: &Chunks,
 ) -> Result<(), CheckFault>
     ensures { Takes chunks.now rebuild.old rebuild.new leaf.entry result }
 {
@@ -96,7 +150,7 @@ fn add_leaf(
 }
 
 /// Takes the pairs of all chunks of a file.
-fn add_chunks(alloc: Global, rebuild: &mut Rebuild, chunks: &FileChunks) -> Result<(), CheckFault>
+fn add_chunks(alloc: Global, rebuild: &mut Rebuild, chunks: &Chunks) -> Result<(), CheckFault>
     ensures { Takes chunks.now rebuild.old rebuild.new (flat_map pairs_held chunks.now) result }
 {
     for number in 0..chunks.len() {
@@ -107,7 +161,7 @@ fn add_chunks(alloc: Global, rebuild: &mut Rebuild, chunks: &FileChunks) -> Resu
 
 /// Closes what is left open, level by level from the leaves up, and answers the references of all
 /// chunks.
-fn finish(alloc: Global, rebuild: Rebuild, chunks: &FileChunks) -> Result<Vec<Ref>, CheckFault>
+fn finish(alloc: Global, rebuild: Rebuild, chunks: &Chunks) -> Result<Vec<Ref>, CheckFault>
     ensures { Ends chunks.now rebuild result }
 {
     let Rebuild {
@@ -134,7 +188,7 @@ pub(crate) fn test_rebuilt(
     alloc: Global,
     cut: Sha512Cut,
     version: Version,
-    chunks: &FileChunks,
+    chunks: &Chunks,
 ) -> Result<Vec<Ref>, CheckFault>
     requires { length (flat_map pairs_held chunks.now) < 2 ^ 64 }
     ensures ok { OnOk result (CompareAs version cut chunks.now None) }

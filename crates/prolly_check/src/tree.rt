@@ -14,18 +14,15 @@ ghost use Rattle.prolly_check.specs.Checked.{IsChecked, IsFile, HasFile, chunks_
 ghost use Rattle.prolly_check.specs.Levels.{AreLevels, AreOfMap};
 ghost use Rattle.prolly_check.specs.Missing.{AreSo, lacking, size_of};
 
-use crate::count::{count_pairs, size_in};
+use crate::checker::inspect;
+use crate::chunks::{Chunks, Layout};
+use crate::count::{Level, Missing, count_pairs, levels_in, missing_in, size_in};
 use crate::dump::write_records;
 use crate::fault::CheckFault;
 use crate::file::CheckedFile;
-use crate::file_chunks::FileChunks;
-use crate::frames::Span;
 use crate::index::Index;
-use crate::inspect::{Layout, inspect};
 use crate::leaves::Leaves;
-use crate::level::{Level, levels_in};
 use crate::look_up::{find_nth, find_value, way_to};
-use crate::missing::{Missing, missing_in};
 use crate::scan::scan_pairs;
 use prolly_entry::{Pair, Ref, Version};
 use prolly_file::{Sink, WriteFault};
@@ -40,8 +37,7 @@ pub struct NoCounts;
 #[derive(Drop)]
 pub struct Tree {
     bytes: Vec<u8>,
-    version: Version,
-    spans: Vec<Span>,
+    layout: Layout,
     references: Vec<Ref>,
     index: Index,
 }
@@ -59,8 +55,9 @@ impl Model for Tree {
     ghost view = { λ tree. tree.bytes.items };
 
     ghost invariant = { λ tree.
-        IsChecked tree.bytes.items tree.version tree.spans.items tree.index
-        × AreReferences (chunks_in tree.bytes.items tree.spans.items) tree.references.items };
+        IsChecked tree.bytes.items tree.layout.header tree.layout.spans.items tree.index
+        × AreReferences (chunks_in tree.bytes.items tree.layout.spans.items)
+        tree.references.items };
 }
 
 impl Tree {
@@ -78,16 +75,10 @@ impl Tree {
         ensures file { IfOk result (λ tree. IsFile tree) }
         ensures err { IfErr result (UnlessMemory (λ fault. IsVerdict bytes.items (Err fault))) }
     {
-        let Layout {
-            version,
-            spans,
-            references,
-            index,
-        } = inspect(alloc, &bytes)?;
+        let (layout, references, index) = inspect(alloc, &bytes)?;
         Ok(Tree {
             bytes,
-            version,
-            spans,
+            layout,
             references,
             index,
         })
@@ -123,7 +114,7 @@ impl Tree {
         ensures { (content : Content) → IsFileOf self.now content →
             result ≡ size_of (chunks_of content) }
     {
-        size_in(&self.file_chunks())
+        size_in(self.file().chunks())
     }
 
     /// How many pairs the map has. Takes no memory, and goes over all pairs, leaf by leaf.
@@ -142,7 +133,7 @@ impl Tree {
         ensures { IfOk result (λ levels. (content : Content) → IsFileOf self.now content →
             AreLevels (chunks_of content) levels.items) }
     {
-        levels_in(alloc, &self.file_chunks())
+        levels_in(alloc, self.file().chunks())
     }
 
     /// The value of the key, or none, found by references from the root. Takes no memory, and reads
@@ -247,7 +238,7 @@ impl Tree {
             IsFileOf other.now others →
             AreSo (lacking (chunks_of others) (chunks_of content)) result }
     {
-        missing_in(&other.index, &self.file_chunks(), &self.references)
+        missing_in(&other.index, self.file().chunks(), &self.references)
     }
 
     /// The version of the file.
@@ -257,21 +248,12 @@ impl Tree {
         self.file().version()
     }
 
-    /// The chunks of the file.
-    fn file_chunks(&self) -> FileChunks<'_>
-        ensures chunks { (content : Content) → IsFileOf self.now content →
-            result ≡ chunks_of content }
-        ensures tree { AreOfMap result }
-        ensures small { size_of result < 2 ^ 64 }
-    {
-        FileChunks::new(self.version, &self.bytes, &self.spans)
-    }
-
-    /// The same, as look-ups see it.
+    /// The file, as look-ups see it.
     fn file(&self) -> CheckedFile<'_>
         ensures is { (content : Content) → IsFileOf self.now content → result ≡ content }
         ensures file { HasFile result }
     {
-        CheckedFile::new(&self.bytes, self.version, &self.spans, &self.index)
+        let chunks = Chunks::new(&self.bytes, &self.layout);
+        CheckedFile::new(self.layout.header, chunks, &self.index)
     }
 }

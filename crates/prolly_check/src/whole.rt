@@ -7,20 +7,25 @@ ghost use Rattle.prolly_check.specs.Spans.{IsWithin, chunks_in};
 ghost use Rattle.prolly_check.specs.Whole.{IsWhole, AreWhole};
 
 use crate::fault::CheckFault;
-use crate::frames::{Span, chunk_at};
+use crate::frames::chunk_at;
 use crate::leaf::{LEAF, is_leaf};
 use crate::node::is_node;
 use prolly_entry::Version;
+use std::ops::Range;
 
 /// Tests that each chunk is a level and whole lawful entries of that level's kind, or names the
 /// first that is not. Takes no memory.
-pub(crate) fn test_chunks(version: Version, bytes: &[u8], spans: &[Span]) -> Result<(), CheckFault>
+pub(crate) fn test_chunks(
+    version: Version,
+    bytes: &[u8],
+    spans: &[Range<usize>],
+) -> Result<(), CheckFault>
     requires { AllByRecursion (IsWithin bytes.now) spans.now }
     ensures ok { OnOk result (AreWhole version (chunks_in bytes.now spans.now)) }
     ensures err { IfErr result (IsBad version (chunks_in bytes.now spans.now)) }
 {
     for (number, span) in spans.iter().enumerate() {
-        if !is_whole(version, chunk_at(bytes, *span)) {
+        if !is_whole(version, chunk_at(bytes, span)) {
             return Err(CheckFault::BadChunk { chunk: number });
         }
     }

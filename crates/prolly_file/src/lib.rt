@@ -32,7 +32,7 @@ pub use format::frame::{
     FRAME_FRONT, FRAME_LETTER, FRAME_START, FrameFault, FrameStart, frame_at, frame_start,
     front_frame, read_start,
 };
-pub use format::header::{BITS_PLACE, HEADER_SIZE, Header, HeaderFault, read_header};
+pub use format::header::{HEADER_SIZE, Header, HeaderFault, read_header};
 pub use from_read::FromRead;
 pub use from_seek::FromSeek;
 pub use front::take_front;

@@ -12,7 +12,7 @@ pub const HEADER_SIZE: usize = 6;
 const VERSION_PLACE: usize = 4;
 
 /// Where the byte of the number of bits stands.
-pub const BITS_PLACE: usize = 5;
+const BITS_PLACE: usize = 5;
 
 /// What a header says.
 #[derive(Clone, Copy)]

@@ -1,25 +1,28 @@
-use Rattle.std.proofs.Common.{sym, ◌∙◌, subst, arith}
-use Rattle.prolly_check.specs.Checked.{chunks_of, content_in}
-use Rattle.prolly_check.specs.Index.{AreReferences}
+use Rattle.std.proofs.Common.{◌∙◌, sym, ap, subst, arith}
+use Rattle.prolly_check.specs.Checked.{chunks_of, content_of}
+use Rattle.prolly_check.specs.Index.{AreReferences, IsIndex}
 use Rattle.prolly_check.specs.Missing.{AreSo, lacking}
+use Rattle.prolly_check.specs.Spans.{chunks_in}
 use Rattle.prolly_check.specs.Verdict.{IsFileOf}
-use Rattle.prolly_check.proofs.FileSteps.{index_is}
+use Rattle.prolly_check.proofs.FileSteps.{chunks_are}
 use Rattle.prolly_check.proofs.tree.Tree.missing_from.Goals as goal
 
 -- the references are those of the chunks
 pub missing_in-requires-clause-references : goal.missing_in-requires-clause-references
 missing_in-requires-clause-references c =
-    let said = content_in c.self.inside.bytes.items c.self.inside.version
-    c.self.inside.spans.items in
-    let are = c.self.invariant.0.chunks_are ∙ sym (c.file_chunks.ensures.chunks said
-    (subst (λ b. IsFileOf b said) c.self.view_is c.self.invariant.0.is)) in
+    let checked = c.self.invariant.0 in
+    let said = content_of c.self.inside.layout.header
+    (chunks_in c.self.inside.bytes.items c.self.inside.layout.spans.items) in
+    let are = checked.chunks_are ∙ sym (c.chunks.ensures.chunks ∙ ap chunks_of
+    (c.file.ensures.is said (subst (λ b. IsFileOf b said) c.self.view_is checked.is))) in
     rw c.deref.ensures.value
     (subst (λ cs. AreReferences cs c.self.inside.references.items) are c.self.invariant.1)
 
 pub returns : goal.returns
 returns c = λ content others f g.
     subst (λ cs. AreSo (lacking (chunks_of others) cs) c.missing_in.result)
-    (c.file_chunks.ensures.chunks content f) (c.missing_in.ensures (chunks_of others)
-    (index_is c.other.inside.bytes.items c.other.inside.version c.other.inside.spans.items
-    c.other.inside.index c.other.invariant.0 others (omega arith)
-    (subst (λ b. IsFileOf b others) (sym c.other.view_is) g)))
+    (c.chunks.ensures.chunks ∙ ap chunks_of (c.file.ensures.is content f))
+    (c.missing_in.ensures (chunks_of others) (subst (IsIndex c.other.inside.index)
+    (chunks_are c.other.inside.bytes.items c.other.inside.layout.header
+    c.other.inside.layout.spans.items c.other.inside.index c.other.invariant.0 others (omega arith)
+    (subst (λ b. IsFileOf b others) (sym c.other.view_is) g)) c.other.invariant.0.indexed))

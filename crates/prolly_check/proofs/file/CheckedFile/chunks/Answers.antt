@@ -1,0 +1,12 @@
+use Rattle.std.proofs.Common.{ap, arith}
+use Rattle.prolly_check.specs.Checked.{content_of}
+use Rattle.prolly_check.specs.Missing.{size_of}
+use Rattle.prolly_check.proofs.FewPairs.{few_bytes}
+use Rattle.prolly_check.proofs.file.CheckedFile.chunks.Goals as goal
+
+pub returns-clause-small : goal.returns-clause-small
+returns-clause-small c =
+    let has = c.self.invariant.0 in
+    let few = few_bytes has.bytes (content_of c.self.inside.header c.self.inside.chunks) has.is in
+    let short = has.short in
+    omega (arith, ap size_of c.self.invariant.1)

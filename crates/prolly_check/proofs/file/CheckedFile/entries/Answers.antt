@@ -1,7 +1,0 @@
-use Rattle.prolly_check.proofs.FileSteps.{chunk_whole}
-use Rattle.prolly_check.proofs.file.CheckedFile.entries.Goals as goal
-
-pub entries_of-requires : goal.entries_of-requires
-entries_of-requires c = chunk_whole c.self.inside.bytes.now c.self.inside.version
-    c.self.inside.spans.now c.self.inside.index.now c.self.invariant.0 c.args.self.now
-    c.self.view_is c.chunk.result.now c.args.number c.requires c.chunk.ensures
