@@ -1,5 +1,5 @@
 -- The pairs of a leaf, read one after another.
-use Rattle.std.proofs.Common.{◌≡◌, ℕ, ◌+◌, ◌==◌, List, [], ◌∷◌, ◌++◌, length, take, drop, Some}
+use Rattle.std.proofs.Common.{◌≡◌, ℕ, ◌+◌, ◌==◌, List, [], ◌∷◌, ◌++◌, length, drop, Some}
 use Rattle.std.proofs.Common.{refl, sym, ap, ◌∙◌, arith, append_assoc, length-drop}
 use Rattle.std.specs.Int.{w32, to_be_bytes}
 use Rattle.std.proofs.lemmas.Bool.Decides.{nat_tests}
@@ -83,21 +83,10 @@ pair_reads p h = record {
         ) in
         let left : drop (6 + length p.key) entries ≡ p.value ++ more =
         ap (drop (6 + length p.key)) parts ∙
-        drop_front front (p.value ++ more) (6 + length p.key) size in
-        let value : take (value_length entries) (drop (6 + key_length entries) entries) ≡ p.value =
-        ap (λ k. take (value_length entries) (drop (6 + k) entries)) n.key ∙
-        ap (λ m. take m (drop (6 + length p.key) entries)) n.value
-        ∙ ap (take (length p.value)) left ∙ take_at p.value more (length p.value) refl in (
-          ap (λ k. record {
-            key = k;
-            value = take (value_length entries)
-                (drop (6 + key_length entries) entries);
-          }) n.there
-              ∙ ap (λ v. record { key = p.key; value = v }) value,
-          ap (λ k. drop (6 + k + value_length entries) entries) n.key ∙
-              ap (λ m. drop (6 + length p.key + m) entries) n.value
-              ∙ sym (drop-drop (length p.value) (6 + length p.key) entries) ∙
-              ap (drop (length p.value)) left ∙ drop_front p.value more (length p.value) refl,
+        drop_front front (p.value ++ more) (6 + length p.key) size in (
+          rw (n.there, n.value, n.key, left, take_at p.value more (length p.value) refl) refl,
+          rw (n.value, n.key) (sym (drop-drop (length p.value) (6 + length p.key) entries) ∙
+              ap (drop (length p.value)) left ∙ drop_front p.value more (length p.value) refl),
         )
 
 pub leaf_pairs : (entries : List ℕ) (pairs : List Pair) → IsLeaf entries pairs →

@@ -107,40 +107,26 @@ child_reads version c h = record {
     both : (more : List ℕ) → (first_child version (entry_of version c ++ more) ≡ as_read version c)
         × (behind_child version (entry_of version c ++ more) ≡ more)
     both more =
+        let size = length c.key in
         let tail = count_spelling version c.count in
-        let parts : entry_of version c ++ more ≡ key_spelling c.key ++
-        (c.reference ++ (tail ++ more)) = simp append_assoc in
-        let bytes = key_spelling c.key ++ (c.reference ++ (tail ++ more)) in
-        let found : key_length bytes ≡ length c.key =
-        found_key c.key (c.reference ++ (tail ++ more)) h.key in
-        let behind : drop (2 + key_length bytes) bytes ≡ c.reference ++ (tail ++ more) =
-        after_two c.key (c.reference ++ (tail ++ more)) (key_length bytes) found in
-        let key : take (key_length bytes) (drop 2 bytes) ≡ c.key =
-        key_there c.key (c.reference ++ (tail ++ more)) (key_length bytes) found in
-        let reference : take 20 (drop (2 + key_length bytes) bytes) ≡ c.reference =
-        ap (take 20) behind ∙ take_at c.reference (tail ++ more) 20 h.reference in
-        let counted : drop (2 + key_length bytes + 20) bytes ≡ tail ++ more =
-        sym (drop-drop 20 (2 + key_length bytes) bytes) ∙ ap (drop 20) behind ∙
+        let rest = c.reference ++ (tail ++ more) in
+        let bytes = key_spelling c.key ++ rest in
+        let parts : entry_of version c ++ more ≡ bytes = simp append_assoc in
+        let found : key_length bytes ≡ size = found_key c.key rest h.key in
+        let behind : drop (2 + size) bytes ≡ rest = after_two c.key rest size refl in
+        let reference : take 20 rest ≡ c.reference = take_at c.reference (tail ++ more) 20 h.reference
+        in
+        let counted : drop (2 + size + 20) bytes ≡ tail ++ more =
+        sym (drop-drop 20 (2 + size) bytes) ∙ ap (drop 20) behind ∙
         drop_front c.reference (tail ++ more) 20 (sym h.reference) in
-        let left : drop (2 + key_length bytes + tail_length version) bytes ≡ more =
-        sym (drop-drop (tail_length version) (2 + key_length bytes) bytes) ∙
+        let left : drop (2 + size + tail_length version) bytes ≡ more =
+        sym (drop-drop (tail_length version) (2 + size) bytes) ∙
         ap (drop (tail_length version)) (behind ∙ sym (append_assoc c.reference tail more))
         ∙ drop_front (c.reference ++ tail) more (tail_length version) (tail_size version c.count ∙
         omega (arith, length-append c.reference tail, h.reference)) in (
-          ap (first_child version) parts
-              ∙ ap (λ k. record {
-                key = k;
-                reference = take 20 (drop (2 + key_length bytes) bytes);
-                count = first_count version (drop (2 + key_length bytes + 20) bytes);
-              }) key
-              ∙ ap (λ r. record {
-                key = c.key;
-                reference = r;
-                count = first_count version (drop (2 + key_length bytes + 20) bytes);
-              }) reference
-              ∙ ap (λ n. record { key = c.key; reference = c.reference; count = n })
-              (ap (first_count version) counted ∙ count_in_front version c.count more),
-          ap (behind_child version) parts ∙ left,
+          ap (first_child version) parts ∙
+              rw (found, key_there c.key rest size refl, behind, reference, counted, count_in_front version c.count more) refl,
+          ap (behind_child version) parts ∙ rw found left,
         )
 
 pub next_child : (version : Version) (entries rest : List ℕ) (c : Child) →

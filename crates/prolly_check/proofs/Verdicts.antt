@@ -97,15 +97,6 @@ version_ok v h = go (v == 1) refl h
     go true e k = (Decides-eqb v 1).0 e ∙ sym (ap (λ t. version_byte (cond t One Two)) e)
     go false e k = (Decides-eqb v 2).0 k ∙ sym (ap (λ t. version_byte (cond t One Two)) e)
 
-six_is : (bytes : List ℕ) (v q : ℕ) (rest : List ℕ) →
-    bytes ≡ 0x50 ∷ 0x52 ∷ 0x4C ∷ 0x59 ∷ v ∷ q ∷ rest → v ≡ version_byte (version_of v) → q ≤ 24 →
-    HeaderIs bytes
-six_is bytes v q rest e is few =
-    subst HeaderIs (sym e) (record {
-      bits = few;
-      is = ap (λ w. 0x50 ∷ 0x52 ∷ 0x4C ∷ 0x59 ∷ w ∷ q ∷ rest) is;
-    })
-
 pub header_ok : (bytes : List ℕ) → header_fault header_tests bytes ≡ None → HeaderIs bytes
 header_ok bytes h =
     let p = passes (λ b. b == 0x50) (drop 1 header_tests) bytes h in
@@ -114,7 +105,7 @@ header_ok bytes h =
     let y = passes (λ b. b == 0x59) (drop 4 header_tests) l.rest l.more in
     let v = passes (λ b. (b == 1) || (b == 2)) (drop 5 header_tests) y.rest y.more in
     let q = passes (λ b. nat_le b 24) [] v.rest v.more in
-    let front : bytes ≡ 0x50 ∷ 0x52 ∷ 0x4C ∷ 0x59 ∷ v.byte ∷ q.byte ∷ q.rest =
+    let front : 0x50 ∷ 0x52 ∷ 0x4C ∷ 0x59 ∷ v.byte ∷ q.byte ∷ q.rest ≡ bytes =
     cc (
       p.is,
       r.is,
@@ -127,29 +118,22 @@ header_ok bytes h =
       (Decides-eqb l.byte 0x4C).0 l.so,
       (Decides-eqb y.byte 0x59).0 y.so,
     ) in
-    six_is bytes v.byte q.byte q.rest front (version_ok v.byte v.so) (leb-true q.byte 24 q.so)
+    subst HeaderIs front (record {
+      bits = leb-true q.byte 24 q.so;
+      is = ap (λ w. 0x50 ∷ 0x52 ∷ 0x4C ∷ 0x59 ∷ w ∷ q.byte ∷ q.rest) (version_ok v.byte v.so);
+    })
 
 -- ---- the end
-
-end_same : (b : ℕ) (rest ending : List ℕ) → b ≡ 0x45 →
-    ◌≡◌ {A = Result (List ℕ) CheckFault} (Ok rest) (Ok ending) →
-    ◌≡◌ {A = List ℕ} (b ∷ rest) (0x45 ∷ ending)
-end_same b rest ending e f = cc
 
 pub ending_ok : (number : ℕ) (tail ending : List ℕ) → ending_of number tail ≡ Ok ending →
     tail ≡ 0x45 ∷ ending
 ending_ok number [] ending e = absurd (err_ok e)
 ending_ok number (b ∷ rest) ending e =
-    let s1 = if_ok (b == 0x43) Truncated (cond (not (b == 0x45)) (Err (BadFrame number))
-    (cond (nat_lt (length rest) 28) (Err Truncated)
-    (cond (nat_lt 28 (length rest)) (Err Trailing) (Ok rest)))) ending e in
-    let s2 = if_ok (not (b == 0x45)) (BadFrame number)
-    (cond (nat_lt (length rest) 28) (Err Truncated)
-    (cond (nat_lt 28 (length rest)) (Err Trailing) (Ok rest))) ending s1.1 in
-    let s3 = if_ok (nat_lt (length rest) 28) Truncated
-    (cond (nat_lt 28 (length rest)) (Err Trailing) (Ok rest)) ending s2.1 in
-    let s4 = if_ok (nat_lt 28 (length rest)) Trailing (Ok rest) ending s3.1 in
-    end_same b rest ending ((Decides-eqb b 0x45).0 (not-false (b == 0x45) s2.0)) s4.1
+    let s1 = if_ok (b == 0x43) Truncated _ ending e in
+    let s2 = if_ok (not (b == 0x45)) (BadFrame number) _ ending s1.1 in
+    let s3 = if_ok (nat_lt (length rest) 28) Truncated _ ending s2.1 in
+    let s4 = if_ok (nat_lt 28 (length rest)) Trailing _ ending s3.1 in
+    cc ((Decides-eqb b 0x45).0 (not-false (b == 0x45) s2.0), s4.1)
 
 -- ---- the pairs
 

@@ -11,20 +11,11 @@ pub(crate) fn test_ending(bytes: &[u8], frames: usize) -> Result<(), CheckFault>
     ensures found { IfOk result (λ r. ending_of frames bytes.now ≡ Ok (drop 1 bytes.now)) }
     ensures err { IfErr result (λ fault. ending_of frames bytes.now ≡ Err fault) }
 {
-    if bytes.len() == 0 {
-        return Err(CheckFault::Truncated);
+    match bytes {
+        [] | [FRAME_LETTER, ..] => Err(CheckFault::Truncated),
+        [END_LETTER, ..] if bytes.len() < END_SIZE => Err(CheckFault::Truncated),
+        [END_LETTER, ..] if bytes.len() > END_SIZE => Err(CheckFault::Trailing),
+        [END_LETTER, ..] => Ok(()),
+        _ => Err(CheckFault::BadFrame { chunk: frames }),
     }
-    if bytes[0] == FRAME_LETTER {
-        return Err(CheckFault::Truncated);
-    }
-    if bytes[0] != END_LETTER {
-        return Err(CheckFault::BadFrame { chunk: frames });
-    }
-    if bytes.len() < END_SIZE {
-        return Err(CheckFault::Truncated);
-    }
-    if bytes.len() > END_SIZE {
-        return Err(CheckFault::Trailing);
-    }
-    Ok(())
 }

@@ -67,7 +67,7 @@ impl<'a> Children<'a> {
         ensures { MatchOption result (self.old ≡ [])
             (λ child. self.old ≡ value_of child ∷ self.new) }
     {
-        let (child, rest) = Child::split(self.version, self.entries)?;
+        let (child, rest) = split_first_child(self.version, self.entries)?;
         self.entries = rest;
         Some(child)
     }

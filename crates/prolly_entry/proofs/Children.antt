@@ -32,12 +32,6 @@ count_is_spelled Two a bytes h w =
     ∙ (ap (λ k. eight ++ drop k bytes) there
     ∙ ap (λ (t : List ℕ). t ++ drop (a + 28) bytes) (sym back))
 
--- The parts of a child entry, one behind the other, are its spelling.
-joined : (version : Version) (key reference : List ℕ) (count : ℕ) (more : List ℕ) →
-    key_spelling key ++ (reference ++ (count_spelling version count ++ more)) ≡
-    child_spelling version key reference count ++ more
-joined version key reference count more = simp append_assoc
-
 -- The key, the reference and the count together.
 child_is_spelled : (version : Version) (bytes : List ℕ) (n : ℕ) → AreBytes bytes →
     n ≡ key_length bytes → 2 + n + tail_length version ≤ length bytes →
@@ -52,7 +46,7 @@ child_is_spelled version bytes n h e w =
     ∙ (ap (λ (t : List ℕ). key_spelling key ++ t) (cut_at (2 + n) 20 bytes)
     ∙ (ap (λ (t : List ℕ). key_spelling key ++ (reference ++ t))
     (count_is_spelled version (2 + n) bytes h w)
-    ∙ joined version key reference count (drop (2 + n + tail_length version) bytes)))
+    ∙ simp append_assoc))
 
 -- A reference follows each key.
 least_tail : (version : Version) → 20 ≤ tail_length version

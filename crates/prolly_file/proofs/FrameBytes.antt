@@ -20,9 +20,6 @@ IsBytes-take n bytes h i =
           (omega arith)
     ]
 
-IsBytes-tail : (b : ℕ) (rest : List ℕ) → IsBytes (b ∷ rest) → IsBytes rest
-IsBytes-tail b rest h i = h (suc i)
-
 frame_here : (rest : List ℕ) (size : ℕ) → IsBytes rest → 8 + size ≤ length rest →
     size ≡ from_be_bytes w64 (take 8 rest) →
     rest ≡ to_be_bytes w64 (length (take size (drop 8 rest))) ++
@@ -50,7 +47,7 @@ frame_found (b ∷ rest) size h first le small e =
       within = le;
       small = small;
       is = ap (λ x. x ∷ rest) first ∙ ap (λ x. 0x43 ∷ x)
-          (frame_here rest size (IsBytes-tail b rest h) (omega arith) e)
+          (frame_here rest size (λ i. h (suc i)) (omega arith) e)
           ∙ sym (append_assoc (0x43 ∷ to_be_bytes w64 (length chunk)) chunk
           (drop size (drop 8 rest))) ∙ ap (λ x. framed chunk ++ x) there;
     }

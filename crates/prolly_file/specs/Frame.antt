@@ -1,9 +1,7 @@
 -- The frame of a chunk, over the chunk's bytes.
 use Rattle.std.specs.Prelude.{◌≡◌, ℕ, ◌+◌, ◌<◌, ◌≤◌, ◌^◌, Bool, true, not, ◌||◌, ◌==◌, nat_lt, List}
-use Rattle.std.specs.Prelude.{[], ◌∷◌, ◌++◌, length, take, drop, refl}
+use Rattle.std.specs.Prelude.{[], ◌∷◌, ◌++◌, length, take, drop}
 use Rattle.std.specs.Int.{w64, to_be_bytes, from_be_bytes}
-use Rattle.prolly_tree.specs.Chunk.{Chunk}
-use Rattle.prolly_tree.specs.File.{frame}
 
 -- What a frame begins with: the letter C and the chunk's length in eight bytes.
 abbrev pub frame_start : ℕ → List ℕ
@@ -12,10 +10,6 @@ frame_start len = 0x43 ∷ to_be_bytes w64 len
 -- The frame of a chunk of these bytes.
 abbrev pub framed : List ℕ → List ℕ
 framed bytes = frame_start (length bytes) ++ bytes
-
--- It is what a file has for a chunk.
-pub frame-framed : (chunk : Chunk) → frame chunk ≡ framed chunk.bytes
-frame-framed chunk = refl
 
 -- The length of the bytes can be written in eight bytes.
 abbrev pub IsSmall : List ℕ → Type 0

@@ -127,7 +127,7 @@ module _ (bytes : List ℕ) (content : Content) (f : IsFileOf bytes content)
   front_length = length-append start (flat_map framed before)
 
   -- what stands behind the frames before
-  behind : (place : ℕ) → place ≡ place_behind before →
+  pub behind : (place : ℕ) → place ≡ place_behind before →
       drop place bytes ≡ flat_map framed left ++ ending
   behind place at = ap (λ p. drop p bytes) (at ∙ sym front_length) ∙
       ap (drop (length (start ++ flat_map framed before))) apart ∙
@@ -189,20 +189,6 @@ module _ (bytes : List ℕ) (content : Content) (f : IsFileOf bytes content)
 
     pub is_start : IsStartOf left result
     is_start = by_what_is_left left refl all_some
-
-pub what_starts : (bytes : List ℕ) (content : Content) → IsFileOf bytes content →
-    length bytes < 2 ^ 64 → (before left : List (List ℕ)) → chunks_of content ≡ before ++ left →
-    (place count : ℕ) (buf : List ℕ) (result : Result FrameStart RootFault) →
-    place ≡ place_behind before → length buf ≡ 10 →
-    take count buf ≡ take (length buf) (drop place bytes) →
-    ((more : List ℕ) → take count buf ≡ 0x45 ∷ more → result ≡ Ok End) →
-    ((len level : ℕ) → len < 2 ^ 64 →
-    take count buf ≡ 0x43 ∷ (to_be_bytes w64 len ++ level ∷ []) →
-    result ≡ Ok (ChunkStart len level)) → IsStartOf left result
-what_starts bytes content f short before left are place count buf result at room gives ends begins =
-    is_start bytes content f before left are (take count buf) result
-    (gives ∙ ap (λ n. take n (drop place bytes)) room ∙
-    ap (take 10) (behind bytes content f before left are place at)) ends begins short
 
 -- ---- over a frame
 

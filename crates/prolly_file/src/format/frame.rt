@@ -66,10 +66,7 @@ pub fn frame_at(bytes: &[u8]) -> Option<usize>
     ensures found { IfSome result (λ len. BeginsFrame bytes.now len) }
     ensures none { result ≡ None → has_no_frame bytes.now ≡ true }
 {
-    if bytes.len() < FRAME_START {
-        return None;
-    }
-    if bytes[0] != FRAME_LETTER {
+    if bytes.len() < FRAME_START || bytes[0] != FRAME_LETTER {
         return None;
     }
     let len = length_field(bytes);
