@@ -2,10 +2,8 @@
 use Rattle.std.proofs.Common.{◌≡◌, ℕ, ◌≤◌, ◌^◌, ◌<◌, true, List, [], length, map, drop, Option}
 use Rattle.std.proofs.Common.{Some, None, Result, Ok, Err, inr, refl, sym, ap, ◌∙◌, subst, arith}
 use Rattle.std.specs.Prelude.{slice_index}
-use Rattle.std.specs.BTreeMap.{BTreeMap}
 use Rattle.std.specs.List.{flat_map}
 use Rattle.std.specs.declared.ops.Range.{Range}
-use Rattle.prolly_entry.specs.declared.reference.Ref.{Ref}
 use Rattle.prolly_entry.specs.Pair.{Pair}
 use Rattle.prolly_entry.specs.Overlay.{or_else}
 use Rattle.prolly_tree.specs.lemmas.Splits.{flat}
@@ -21,6 +19,7 @@ use Rattle.prolly_check.specs.Whole.{AreWhole}
 use Rattle.prolly_check.specs.Held.{pairs_held}
 use Rattle.prolly_check.specs.Judged.{reuse, canonical_fault, or_content, judged}
 use Rattle.prolly_check.specs.Canonical.{Says}
+use Rattle.prolly_check.specs.declared.index.Index.{Index}
 use Rattle.prolly_check.specs.Index.{IsIndex}
 use Rattle.prolly_check.specs.Checked.{IsChecked, IsLaidOut, content_of, chunks_of}
 use Rattle.prolly_check.specs.Verdict.{ReadVerdict, FramesVerdict, HeaderVerdict, IsVerdict}
@@ -146,7 +145,7 @@ module _ (bytes : List ℕ) (header : Header) (spans : List (Range ℕ)) (place 
             at_references fault = ⊎_map (λ memory. memory)
                 (λ h. l.so (Err fault) (sym (then_reuse ∙ ap (or_content it) h)))
 
-            pub at_end : (index : BTreeMap Ref ℕ) → reuse [] 0 chunks ≡ None →
+            pub at_end : (index : Index) → reuse [] 0 chunks ≡ None →
                 IsIndex index chunks → IsChecked bytes header spans index
             at_end index apart indexed =
                 let content : it ≡ content_of header cs =

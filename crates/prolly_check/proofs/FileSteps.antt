@@ -1,14 +1,13 @@
 -- The chunks of a file that was checked, found by their numbers and their references.
-use Rattle.std.proofs.Common.{◌≡◌, ℕ, ◌-◌, ◌<◌, ◌^◌, List, [], length, get_or, None, sym, ap}
-use Rattle.std.proofs.Common.{◌∙◌}
-use Rattle.std.specs.Prelude.{is_some}
-use Rattle.std.specs.BTreeMap.{BTreeMap}
+use Rattle.std.proofs.Common.{◌≡◌, ℕ, ◌-◌, ◌<◌, ◌^◌, List, [], length, get_or, ap}
+use Rattle.std.proofs.Common.{◌∙◌, ◌∷◌, suc, inl, inr, sym, arith}
 use Rattle.std.specs.declared.ops.Range.{Range}
-use Rattle.std.proofs.lemmas.Bool.{false≢true}
-use Rattle.prolly_entry.specs.declared.reference.Ref.{Ref}
-use Rattle.prolly_check.specs.Checked.{HasFile, HasReference, IsChecked, chunks_of, content_of}
+use Rattle.prolly_tree.specs.Chunk.{IsIn}
+use Rattle.prolly_entry.specs.Reference.{reference_of}
+use Rattle.prolly_check.specs.Index.{HasAt}
+use Rattle.prolly_check.specs.Checked.{HasFile, IsChecked, chunks_of, content_of}
 use Rattle.prolly_check.specs.Content.{Content}
-use Rattle.prolly_check.specs.Index.{IsIndex, number_of}
+use Rattle.prolly_check.specs.declared.index.Index.{Index}
 use Rattle.prolly_check.specs.Root.{root_bytes}
 use Rattle.prolly_check.specs.Spans.{chunks_in}
 use Rattle.prolly_check.specs.Verdict.{IsFileOf}
@@ -19,7 +18,7 @@ use Rattle.prolly_check.proofs.HeldPairs.{each_whole, map_holds}
 
 -- the chunks are those of whatever the bytes are a file of
 pub chunks_are : (bytes : List ℕ) (header : Header) (spans : List (Range ℕ))
-    (index : BTreeMap Ref ℕ) → IsChecked bytes header spans index → (content : Content) →
+    (index : Index) → IsChecked bytes header spans index → (content : Content) →
     length bytes < 2 ^ 64 → IsFileOf bytes content → chunks_in bytes spans ≡ chunks_of content
 chunks_are bytes header spans index checked content short is =
     checked.chunks_are ∙ ap chunks_of (one_content bytes
@@ -38,9 +37,13 @@ pub chunk_whole : (content : Content) (number : ℕ) → HasFile content →
 chunk_whole content number has within = each_whole content.version (chunks_of content) number
     (map_holds content.version content.bits content.pairs has.is.lawful).whole within
 
--- each reference is found
-module _ (index : BTreeMap Ref ℕ) (chunks : List (List ℕ)) (indexed : IsIndex index chunks)
-    (reference : List ℕ) where
-  pub reference_there : HasReference chunks reference → number_of index reference ≡ None → ⊥
-  reference_there h none = false≢true (sym (ap is_some none) ∙
-      ap (λ r. is_some (number_of index r)) (sym h.is) ∙ indexed.whole h.chunk h.is_in)
+-- a chunk that has a reference has a number
+pub number_of : (chunks : List (List ℕ)) (reference : List ℕ) (chunk : List ℕ) →
+    IsIn chunk chunks → reference_of chunk ≡ reference → (n : ℕ) × HasAt chunks n reference
+number_of [] reference chunk is_in is = absurd is_in
+number_of (c ∷ cs) reference chunk (inl e) is =
+    (0, record { within = omega arith; is = ap reference_of (sym e) ∙ is })
+number_of (c ∷ cs) reference chunk (inr there) is =
+    let at = number_of cs reference chunk there is in
+    let within = at.1.within in
+    (suc at.0, record { within = omega arith; is = at.1.is })

@@ -1,25 +1,30 @@
--- The references of the chunks of a file, and an index of them, made chunk by chunk.
-use Rattle.std.proofs.Common.{◌≡◌, ℕ, suc, ◌+◌, ◌<◌, ◌≤◌, Bool, true, false, ◌||◌, cond, List, []}
-use Rattle.std.proofs.Common.{◌∷◌, ◌++◌, length, take, drop, get_or, Option, Some, None, inl, inr}
-use Rattle.std.proofs.Common.{refl, sym, ap, ◌∙◌, subst, arith}
-use Rattle.std.specs.Prelude.{is_some}
-use Rattle.std.specs.Ordering.{nat_cmp, is_eq}
+-- The references of the chunks of a file, and an index of them.
+use Rattle.std.proofs.Common.{◌≡◌, ℕ, suc, ◌+◌, ◌<◌, ◌≤◌, Bool, true, false, ◌||◌, List, []}
+use Rattle.std.proofs.Common.{◌∷◌, length, take, drop, get_or, Some, None, inl, inr, refl, sym, ap}
+use Rattle.std.proofs.Common.{◌∙◌, subst, arith}
+use Rattle.std.specs.Ordering.{nat_cmp, is_lt, ordering_index}
+use Rattle.std.specs.declared.cmp.Ordering.TheVariants.{Less, Equal, Greater}
 use Rattle.std.specs.Cmp.Lexicographic.{slice_cmp}
 use Rattle.std.specs.Str.{bytes_eq}
-use Rattle.std.specs.List.{list_any}
-use Rattle.std.specs.BTreeMap.{BTreeMap}
-use Rattle.std.proofs.lemmas.Slice.Eq.{bytes_eq-Decides}
+use Rattle.std.specs.List.{All, list_any}
+use Rattle.std.specs.List.Sorted.{IsNonDecreasingBy, IsPartitionPoint}
 use Rattle.std.proofs.Math.Seq.{drop-cons}
-use Rattle.std.proofs.lemmas.Bool.{cond-true, cond-false, or_right}
-use Rattle.std.proofs.lemmas.Bool.Decides.{same_from_decides}
-use Rattle.std.proofs.lemmas.List.{take_more, take_all, drop_all, length-map, get_or-map}
+use Rattle.std.proofs.lemmas.Bool.{cond-true, cond-false, cases_lt, false≢true}
+use Rattle.std.proofs.lemmas.Cmp.{nat_list_cmp_total}
+use Rattle.std.proofs.lemmas.List.{drop_all, length-map, get_or-map, get_or_default}
+use Rattle.std.proofs.lemmas.List.Elements.{recursion_from_All}
+use Rattle.std.proofs.lemmas.List.Folds.{list_any_more}
+use Rattle.std.proofs.lemmas.List.Sorted.{All-permutation, Contains-permutation, ranks_by}
+use Rattle.std.proofs.lemmas.List.Sorted.{searchable_from_sorted, sorted_far}
 use Rattle.prolly_entry.specs.declared.reference.Ref.{Ref}
 use Rattle.prolly_entry.specs.Reference.{reference_of}
-use Rattle.prolly_tree.specs.Chunk.{IsIn}
-use Rattle.prolly_entry.specs.lemmas.Orders.{order_same, order_self, eq_true}
+use Rattle.prolly_entry.specs.lemmas.Orders.{order_self}
 use Rattle.prolly_check.specs.declared.fault.CheckFault.TheVariants.{Collision}
+use Rattle.prolly_check.specs.declared.index.Index.{Index}
+use Rattle.prolly_check.specs.Index.{AreReferences, HasAt, IsIndex}
 use Rattle.prolly_check.specs.Judged.{reuse}
-use Rattle.prolly_check.specs.Index.{AreReferences, number_of, HasAt, IsIndex}
+use Rattle.prolly_check.specs.Verdict.{AllApart}
+use Rattle.prolly_check.proofs.Verdicts.{reuse_is}
 
 -- ---- references
 
@@ -38,109 +43,173 @@ reference_at chunks references n other are h =
     sym (get_or-map (λ r. r.0) references n other [] h) ∙ ap (λ rs. get_or rs n []) are ∙
     get_or-map reference_of chunks n [] [] (omega (arith, count))
 
--- ---- the index
+-- where no two have one reference, each is apart from those behind it
+apart : (cs : List (List ℕ)) → ((i j : ℕ) → i < j → j < length cs →
+    reference_of (get_or cs i []) ≡ reference_of (get_or cs j []) → ⊥) → AllApart cs
+apart [] h = tt
+apart (c ∷ cs) h = (
+  recursion_from_All (λ d. reference_of c ≡ reference_of d → ⊥) cs
+      (λ k d within e. h 0 (suc k) (omega arith) (omega arith)
+      (e ∙ ap reference_of (get_or_default cs k d [] within))),
+  apart cs (λ i j lt within. h (suc i) (suc j) (omega arith) (omega arith)),
+)
 
--- to be equal in order is to be the same
-eq_is : (a b : List ℕ) → is_eq (slice_cmp nat_cmp a b) ≡ bytes_eq a b
-eq_is a b = same_from_decides (is_eq (slice_cmp nat_cmp a b)) (bytes_eq a b) (
-  (λ e. order_same a b (eq_true (slice_cmp nat_cmp a b) e)),
-  (λ e. ap is_eq (ap (slice_cmp nat_cmp a) (sym e) ∙ order_self a)),
-) (bytes_eq-Decides a b)
+-- ---- the entries in their order
 
--- the first n chunks are in the index
-pub record IndexBegun (index : BTreeMap Ref ℕ) (chunks : List (List ℕ)) (n : ℕ) : Type 0 where
+some_entry : Ref × ℕ
+some_entry = (record { 0 = [] }, 0)
+
+module _ (index : Index) (chunks : List (List ℕ)) (i : IsIndex index chunks) where
+  abbrev entries : List (Ref × ℕ)
+  entries = index.entries.items
+
+  -- each entry tells of a chunk
+  pub each_right : All (λ e. HasAt chunks e.1 e.0.0) entries
+  each_right = All-permutation (λ e. HasAt chunks e.1 e.0.0) i.numbered entries i.moved
+      (λ k d h.
+      let within : k < length i.references = omega (arith, i.in_turn.many) in
+      subst (λ e. HasAt chunks e.1 e.0.0) (sym (i.in_turn.each k d within))
+      (record {
+        within = omega (arith, as_many chunks i.references i.are);
+        is = sym (reference_at chunks i.references k d.0 i.are within);
+      }))
+
+  -- each chunk has an entry
+  entry_of : (k : ℕ) → k < length chunks → (place : ℕ) × (place < length entries) ×
+      ((d : Ref × ℕ) → ((get_or entries place d).1 ≡ k) ×
+      ((get_or entries place d).0.0 ≡ reference_of (get_or chunks k [])))
+  entry_of k h =
+      let within : k < length i.references = omega (arith, as_many chunks i.references i.are) in
+      let inside : k < length i.numbered = omega (arith, i.in_turn.many) in
+      let x = get_or i.numbered k some_entry in
+      let at = Contains-permutation i.numbered entries x i.moved
+      (k, inside, get_or_default i.numbered k x some_entry inside) in (
+        at.0,
+        at.1,
+        λ d.
+            let e = get_or_default entries at.0 d x at.1 ∙ at.2 ∙
+            i.in_turn.each k some_entry within in (
+              ap (λ e. e.1) e,
+              ap (λ e. e.0.0) e ∙
+                  reference_at chunks i.references k some_entry.0 i.are within,
+            ),
+      )
+
+  -- a search does not miss what is there
+  pub search_ends : (reference : List ℕ) (place number : ℕ) →
+      (IsNonDecreasingBy (λ e. ordering_index (slice_cmp nat_cmp e.0.0 reference)) entries →
+      IsPartitionPoint (λ e. slice_cmp nat_cmp e.0.0 reference ≡ Less)
+      (λ e. slice_cmp nat_cmp e.0.0 reference ≡ Greater) entries place) →
+      HasAt chunks number reference → ⊥
+  search_ends reference place number parted has =
+      let at = entry_of number has.within in
+      let points = parted (searchable_from_sorted nat_list_cmp_total (λ e. e.0.0) entries
+      reference i.sorted) in
+      let same : slice_cmp nat_cmp (get_or entries at.0 some_entry).0.0 reference ≡ Equal =
+      ap (λ r. slice_cmp nat_cmp r reference) ((at.2 some_entry).1 ∙ has.is) ∙
+      order_self reference in
+      elim (cases_lt at.0 place) [
+        | inl lt ↦
+            let e : Less ≡ Equal = sym (points.0 at.0 some_entry (omega arith) lt) ∙ same in cc
+        | inr le ↦
+            let e : Greater ≡ Equal = sym (points.1 at.0 some_entry le at.1) ∙ same in cc
+      ]
+
+  -- where each reference is above the one before it, no two chunks have one
+  module _ (rises : (k : ℕ) (d : Ref × ℕ) → k + 1 < length entries →
+      true ≡ is_lt (slice_cmp nat_cmp (get_or entries k d).0.0 (get_or entries (k + 1) d).0.0))
+    where
+      far : (p q : ℕ) → p < q → q < length entries →
+          (get_or entries p some_entry).0.0 ≡ (get_or entries q some_entry).0.0 → ⊥
+      far p q h within e = false≢true
+          (sym (sorted_far (λ x y. is_lt (slice_cmp nat_cmp x.0.0 y.0.0))
+          (ranks_by nat_list_cmp_total (λ e. e.0.0)) entries i.sorted (p + 1) q some_entry
+          (omega arith) within) ∙
+          ap (λ r. is_lt (slice_cmp nat_cmp r (get_or entries (p + 1) some_entry).0.0)) (sym e) ∙
+          sym (rises p some_entry (omega arith)))
+
+      chunks_differ : (j k : ℕ) → j < k → k < length chunks →
+          reference_of (get_or chunks j []) ≡ reference_of (get_or chunks k []) → ⊥
+      chunks_differ j k h within e =
+          let a = entry_of j (omega arith) in
+          let b = entry_of k within in
+          let same = (a.2 some_entry).1 ∙ e ∙ sym (b.2 some_entry).1 in
+          elim (cases_lt a.0 b.0) [
+            | inl lt ↦ far a.0 b.0 lt b.1 same
+            | inr le ↦ elim (cases_lt b.0 a.0) [
+              | inl lt ↦ far b.0 a.0 lt a.1 (sym same)
+              | inr ge ↦
+                  let one : a.0 ≡ b.0 = omega arith in
+                  let number : j ≡ k = sym (a.2 some_entry).0 ∙
+                  ap (λ p. (get_or entries p some_entry).1) one ∙ (b.2 some_entry).0 in
+                  omega arith
+            ]
+          ]
+
+      pub none_reused : reuse [] 0 chunks ≡ None
+      none_reused = (reuse_is [] 0 chunks).1
+          (recursion_from_All (λ c. Unit {0}) chunks (λ k d h. tt), apart chunks chunks_differ)
+
+-- ---- the first chunk whose reference an earlier one has
+
+turned : (a b : Bool) → (a || b) ≡ (b || a)
+turned true true = refl
+turned true false = refl
+turned false true = refl
+turned false false = refl
+
+-- none of the first n chunks is it
+pub record Passed (chunks : List (List ℕ)) (references : List Ref) (n : ℕ) : Type 0 where
   pub before : List (List ℕ)
   pub same : reuse [] 0 chunks ≡ reuse before n (drop n chunks)
   pub known : (reference : List ℕ) → list_any (λ d. bytes_eq (reference_of d) reference) before ≡
-      is_some (number_of index reference)
-  pub right : (reference : List ℕ) (number : ℕ) → number_of index reference ≡ Some number →
-      HasAt chunks number reference
-  pub held : (chunk : List ℕ) → IsIn chunk (take n chunks) → IsIn chunk before
+      list_any (λ r. bytes_eq r.0 reference) (take n references)
 
-in_last : (chunk : List ℕ) (xs : List (List ℕ)) (x : List ℕ) (ys : List (List ℕ)) →
-    ((c : List ℕ) → IsIn c xs → IsIn c ys) → IsIn chunk (xs ++ x ∷ []) → IsIn chunk (x ∷ ys)
-in_last chunk [] x ys f (inl e) = inl e
-in_last chunk [] x ys f (inr h) = absurd h
-in_last chunk (y ∷ xs) x ys f (inl e) = inr (f chunk (inl e))
-in_last chunk (y ∷ xs) x ys f (inr h) = in_last chunk xs x ys (λ c i. f c (inr i)) h
+pub none_passed : (chunks : List (List ℕ)) (references : List Ref) → Passed chunks references 0
+none_passed chunks references = record { before = []; same = refl; known = λ reference. refl }
 
-some_of : (b : Bool) (n : ℕ) (o : Option ℕ) → is_some (cond b (Some n) o) ≡ (b || is_some o)
-some_of true n o = refl
-some_of false n o = refl
+module _ (chunks : List (List ℕ)) (references : List Ref) (are : AreReferences chunks references)
+    (n : ℕ) (p : Passed chunks references n) where
+  pub all_passed : length chunks ≤ n → reuse [] 0 chunks ≡ None
+  all_passed h = p.same ∙ ap (reuse p.before n) (drop_all n chunks h)
 
-pub index_goes_on : (index index' : BTreeMap Ref ℕ) (chunks : List (List ℕ)) (n : ℕ) (key : Ref)
-    (chunk : List ℕ) → n < length chunks → chunk ≡ get_or chunks n [] → key.0 ≡ reference_of chunk →
-    IndexBegun index chunks n → number_of index key.0 ≡ None →
-    ((q : Ref) → number_of index' q.0 ≡ cond (is_eq (slice_cmp nat_cmp key.0 q.0)) (Some n)
-    (number_of index q.0)) → IndexBegun index' chunks (n + 1)
-index_goes_on index index' chunks n key chunk h e k b none new =
-    let at : (reference : List ℕ) → number_of index' reference ≡
-    cond (bytes_eq (reference_of chunk) reference) (Some n) (number_of index reference) =
-    λ reference. new (record { 0 = reference }) ∙
-    ap (λ t. cond t (Some n) (number_of index reference)) (eq_is key.0 reference ∙
-    ap (λ r. bytes_eq r reference) k) in
-    let unknown : list_any (λ d. bytes_eq (reference_of d) (reference_of chunk)) b.before ≡ false =
-    b.known (reference_of chunk) ∙ ap (λ r. is_some (number_of index r)) (sym k) ∙
-    ap is_some none in
-    let f : suc n ≡ n + 1 = omega arith in
-    record {
-      before = chunk ∷ b.before;
-      same = b.same ∙ ap (reuse b.before n) (drop-cons chunks n [] h ∙
-          ap (λ c. c ∷ drop (suc n) chunks) (sym e))
-          ∙ cond-false (list_any (λ d. bytes_eq (reference_of d) (reference_of chunk)) b.before)
-          (Some (Collision n)) (reuse (chunk ∷ b.before) (suc n) (drop (suc n) chunks)) unknown
-          ∙ ap (λ m. reuse (chunk ∷ b.before) m (drop m chunks)) f;
-      known = λ reference. ap (λ t. bytes_eq (reference_of chunk) reference || t)
-          (b.known reference)
-          ∙ sym (ap is_some (at reference) ∙ some_of (bytes_eq (reference_of chunk) reference) n
-          (number_of index reference));
-      right = λ reference number g. found reference number (bytes_eq (reference_of chunk) reference)
-          refl (sym (at reference) ∙ g);
-      held = λ c i. in_last c (take n chunks) chunk b.before b.held
-          (subst (IsIn c) (take_more chunks n [] h ∙ ap (λ x. take n chunks ++ x ∷ []) (sym e)) i);
-    }
-  where
-    found : (reference : List ℕ) (number : ℕ) (t : Bool) →
-        bytes_eq (reference_of chunk) reference ≡ t → cond t (Some n) (number_of index reference) ≡
-        Some number → HasAt chunks number reference
-    found reference number true same g =
-        let m : n ≡ number = cc in
-        subst (λ i. HasAt chunks i reference) m
-        (record {
-          within = h;
-          is = ap reference_of (sym e) ∙
-              (bytes_eq-Decides (reference_of chunk) reference).0 same;
-        })
-    found reference number false same g = b.right reference number g
+  module _ (other : Ref) (within : n < length references) where
+    abbrev chunk : List ℕ
+    chunk = get_or chunks n []
 
-pub index_ends : (index : BTreeMap Ref ℕ) (chunks : List (List ℕ)) (n : ℕ) → length chunks ≤ n →
-    IndexBegun index chunks n → IsIndex index chunks × (reuse [] 0 chunks ≡ None)
-index_ends index chunks n h b = (
-  record {
-    right = b.right;
-    whole = λ chunk i. sym (b.known (reference_of chunk)) ∙
-        is_known chunk b.before (b.held chunk (subst (IsIn chunk) (sym (take_all n chunks h)) i));
-  },
-  b.same ∙ ap (reuse b.before n) (drop_all n chunks h),
-)
-  where
-    is_known : (chunk : List ℕ) (cs : List (List ℕ)) → IsIn chunk cs →
-        list_any (λ d. bytes_eq (reference_of d) (reference_of chunk)) cs ≡ true
-    is_known chunk [] i = absurd i
-    is_known chunk (c ∷ cs) (inl e) = ap (λ t. t || list_any
-        (λ d. bytes_eq (reference_of d) (reference_of chunk)) cs)
-        ((bytes_eq-Decides (reference_of c) (reference_of chunk)).1 (ap reference_of (sym e)))
-    is_known chunk (c ∷ cs) (inr i) = or_right (bytes_eq (reference_of c) (reference_of chunk))
-        (list_any (λ d. bytes_eq (reference_of d) (reference_of chunk)) cs) (is_known chunk cs i)
+    abbrev known : Bool
+    known = list_any (λ d. bytes_eq (reference_of d) (reference_of chunk)) p.before
 
-pub index_collides : (index : BTreeMap Ref ℕ) (chunks : List (List ℕ)) (n : ℕ) (key : Ref)
-    (chunk : List ℕ) (number : ℕ) → n < length chunks → chunk ≡ get_or chunks n [] →
-    key.0 ≡ reference_of chunk →
-    IndexBegun index chunks n → number_of index key.0 ≡ Some number →
-    reuse [] 0 chunks ≡ Some (Collision n)
-index_collides index chunks n key chunk number h e k b some =
-    b.same ∙ ap (reuse b.before n) (drop-cons chunks n [] h ∙
-    ap (λ c. c ∷ drop (suc n) chunks) (sym e))
-    ∙ cond-true (list_any (λ d. bytes_eq (reference_of d) (reference_of chunk)) b.before)
-    (Some (Collision n)) (reuse (chunk ∷ b.before) (suc n) (drop (suc n) chunks))
-    (b.known (reference_of chunk) ∙ ap (λ r. is_some (number_of index r)) (sym k) ∙ ap is_some some)
+    reuse_here : reuse [] 0 chunks ≡ reuse p.before n (chunk ∷ drop (suc n) chunks)
+    reuse_here = p.same ∙ ap (reuse p.before n)
+        (drop-cons chunks n [] (omega (arith, as_many chunks references are)))
+
+    known_is : known ≡ list_any (λ r. bytes_eq r.0 (get_or references n other).0)
+        (take n references)
+    known_is = p.known (reference_of chunk) ∙
+        ap (λ x. list_any (λ r. bytes_eq r.0 x) (take n references))
+        (sym (reference_at chunks references n other are within))
+
+    pub is_reused : list_any (λ r. bytes_eq r.0 (get_or references n other).0)
+        (take n references) ≡ true → reuse [] 0 chunks ≡ Some (Collision n)
+    is_reused e = reuse_here ∙ cond-true known (Some (Collision n))
+        (reuse (chunk ∷ p.before) (suc n) (drop (suc n) chunks)) (known_is ∙ e)
+
+    pub is_passed : list_any (λ r. bytes_eq r.0 (get_or references n other).0)
+        (take n references) ≡ false → Passed chunks references (n + 1)
+    is_passed e =
+        let next : suc n ≡ n + 1 = omega arith in
+        record {
+          before = chunk ∷ p.before;
+          same = reuse_here ∙ cond-false known (Some (Collision n))
+              (reuse (chunk ∷ p.before) (suc n) (drop (suc n) chunks)) (known_is ∙ e) ∙
+              ap (λ m. reuse (chunk ∷ p.before) m (drop m chunks)) next;
+          known = λ reference.
+              let here = ap (λ x. bytes_eq x reference)
+              (reference_at chunks references n other are within) in
+              ap (λ b. bytes_eq (reference_of chunk) reference || b) (p.known reference) ∙
+              turned (bytes_eq (reference_of chunk) reference)
+              (list_any (λ r. bytes_eq r.0 reference) (take n references)) ∙
+              ap (λ b. list_any (λ r. bytes_eq r.0 reference) (take n references) || b) (sym here) ∙
+              sym (list_any_more (λ r. bytes_eq r.0 reference) references n other within);
+        }

@@ -1,91 +1,54 @@
 -- Counting the chunks that others lack, one after another.
-use Rattle.std.proofs.Common.{◌≡◌, ℕ, ◌+◌, ◌<◌, ◌≤◌, Bool, true, false, ◌||◌, cond, List}
-use Rattle.std.proofs.Common.{[], ◌∷◌, ◌++◌, length, take, drop, get_or, Option, Some, None, inl}
-use Rattle.std.proofs.Common.{inr}
-use Rattle.std.proofs.Common.{refl, sym, ap, ◌∙◌, subst, arith, append-nil}
-use Rattle.std.specs.Prelude.{is_some, not}
-use Rattle.std.specs.BTreeMap.{BTreeMap}
-use Rattle.std.specs.Borrow.{Bor}
+use Rattle.std.proofs.Common.{◌≡◌, ℕ, ◌+◌, ◌<◌, ◌≤◌, Bool, true, false, cond, List}
+use Rattle.std.proofs.Common.{[], ◌∷◌, ◌++◌, length, take, drop, get_or, Option, Some, None}
+use Rattle.std.proofs.Common.{sym, ap, ◌∙◌, subst, arith, append-nil}
+use Rattle.std.specs.Prelude.{MatchOption, is_some, not}
 use Rattle.std.specs.List.{flat_map}
-use Rattle.std.specs.Option.{option_copied}
 use Rattle.std.specs.Str.{bytes_eq}
-use Rattle.std.proofs.lemmas.Bool.{false≢true, or_right}
-use Rattle.std.proofs.lemmas.Bool.Decides.{same_from_decides}
+use Rattle.std.proofs.lemmas.Bool.{false_from_ne_true}
 use Rattle.std.proofs.lemmas.Grind.{flat_map-append}
-use Rattle.std.proofs.lemmas.List.{length-append, take-append-drop, take_more}
+use Rattle.std.proofs.lemmas.List.{get_or_default, length-append, take-append-drop, take_more}
 use Rattle.std.proofs.lemmas.List.Elements.{filter-append}
-use Rattle.std.proofs.lemmas.List.Folds.{list_any_at}
+use Rattle.std.proofs.lemmas.List.Folds.{Any-from_list_any, list_any_at}
 use Rattle.std.proofs.lemmas.Slice.Eq.{bytes_eq-Decides}
-use Rattle.prolly_entry.specs.declared.reference.Ref.{Ref}
 use Rattle.prolly_entry.specs.Reference.{reference_of}
-use Rattle.prolly_tree.specs.Chunk.{IsIn}
-use Rattle.prolly_check.specs.Checked.{HasReference}
-use Rattle.prolly_check.specs.Index.{IsIndex, number_of}
+use Rattle.prolly_check.specs.declared.index.Index.{Index}
+use Rattle.prolly_check.specs.Index.{HasAt, IsIndex}
 use Rattle.prolly_check.specs.Missing.{AreSo, has_reference, lacking, size_of}
 use Rattle.prolly_check.specs.declared.count.Missing.{Missing}
 
 -- ---- whether a reference is there
 
--- the first of the chunks that has the reference
-having : (chunks : List (List ℕ)) (reference : List ℕ) → has_reference chunks reference ≡ true →
-    HasReference chunks reference
-having [] reference h = absurd (false≢true h)
-having (c ∷ cs) reference h = first (bytes_eq (reference_of c) reference) refl h
-    (having cs reference)
-  where
-    first : (b : Bool) → bytes_eq (reference_of c) reference ≡ b →
-        (b || has_reference cs reference) ≡ true →
-        (has_reference cs reference ≡ true → HasReference cs reference) →
-        HasReference (c ∷ cs) reference
-    first true e h more = record {
-      chunk = c;
-      is_in = inl refl;
-      is = (bytes_eq-Decides (reference_of c) reference).0 e;
-    }
-    first false e h more =
-        let rest = more h in
-        record { chunk = rest.chunk; is_in = inr rest.is_in; is = rest.is }
-
-is_had : (chunks : List (List ℕ)) (reference : List ℕ) → HasReference chunks reference →
-    has_reference chunks reference ≡ true
-is_had [] reference h = absurd h.is_in
-is_had (c ∷ cs) reference h = here h.is_in (is_had cs reference)
-  where
-    here : IsIn h.chunk (c ∷ cs) → (HasReference cs reference →
-        has_reference cs reference ≡ true) → has_reference (c ∷ cs) reference ≡ true
-    here (inl e) more = ap (λ b. b || has_reference cs reference)
-        ((bytes_eq-Decides (reference_of c) reference).1 (ap reference_of (sym e) ∙ h.is))
-    here (inr i) more = or_right (bytes_eq (reference_of c) reference)
-        (has_reference cs reference) (more (record { chunk = h.chunk; is_in = i; is = h.is }))
-
--- an index tells whether it is
-pub index_tells : (index : BTreeMap Ref ℕ) (chunks : List (List ℕ)) (reference : List ℕ) →
-    IsIndex index chunks → has_reference chunks reference ≡ is_some (number_of index reference)
-index_tells index chunks reference is =
-    same_from_decides (has_reference chunks reference) (is_some (number_of index reference))
-    (having chunks reference, is_had chunks reference) (
-      found (number_of index reference) refl,
-      λ h. subst (λ r. is_some (number_of index r) ≡ true) h.is (is.whole h.chunk h.is_in),
-    )
-  where
-    found : (o : Option ℕ) → number_of index reference ≡ o → is_some o ≡ true →
-        HasReference chunks reference
-    found None e h = absurd (false≢true h)
-    found (Some number) e h =
-        let at = is.right reference number e in
-        having chunks reference (list_any_at (λ c. bytes_eq (reference_of c) reference) chunks
-        number [] at.within ((bytes_eq-Decides (reference_of (get_or chunks number []))
-        reference).1 at.is))
+-- who finds chunks by their references tells whether it is
+pub search_tells : (chunks : List (List ℕ)) (reference : List ℕ) (found : Option ℕ) →
+    MatchOption found ((n : ℕ) → HasAt chunks n reference → ⊥) (λ n. HasAt chunks n reference) →
+    has_reference chunks reference ≡ is_some found
+search_tells chunks reference None none = false_from_ne_true (has_reference chunks reference)
+    (λ h.
+    let any = Any-from_list_any (λ c. bytes_eq (reference_of c) reference) chunks h in
+    none any.0 (record {
+      within = any.2;
+      is = ap reference_of (get_or_default chunks any.0 [] any.1 any.2 ∙ any.3) ∙
+          (bytes_eq-Decides (reference_of any.1) reference).0 any.4;
+    }))
+search_tells chunks reference (Some number) at =
+    list_any_at (λ c. bytes_eq (reference_of c) reference) chunks number [] at.within
+    ((bytes_eq-Decides (reference_of (get_or chunks number [])) reference).1 at.is)
 
 -- ---- step by step
 
 -- those of the first n chunks that others lack are counted
-pub record CountedTo (index : BTreeMap Ref ℕ) (chunks : List (List ℕ)) (n : ℕ) (missing : Missing)
+pub record CountedTo (index : Index) (chunks : List (List ℕ)) (n : ℕ) (missing : Missing)
     : Type 0 where
   pub so : (others : List (List ℕ)) → IsIndex index others →
       AreSo (lacking others (take n chunks)) missing
   pub few : missing.chunks ≤ n
   pub small : missing.bytes ≤ size_of (take n chunks)
+
+-- of whatever chunks the index is, the reference is one of theirs or not
+abbrev pub Tells : Index → List ℕ → Bool → Type 0
+Tells index reference there = (others : List (List ℕ)) → IsIndex index others →
+    has_reference others reference ≡ there
 
 -- the first n + 1 are the first n, and one
 module _ (chunks : List (List ℕ)) (n : ℕ) (h : n < length chunks) where
@@ -126,8 +89,8 @@ module _ (chunks : List (List ℕ)) (n : ℕ) (h : n < length chunks) where
     lacked e = parted ∙ ap (λ cs. lacking others (take n chunks) ++ cs) (last false e)
 
 -- one that is had is passed over
-pub passed : (index : BTreeMap Ref ℕ) (chunks : List (List ℕ)) (n : ℕ) (missing : Missing) →
-    n < length chunks → is_some (number_of index (reference_of (get_or chunks n []))) ≡ true →
+pub passed : (index : Index) (chunks : List (List ℕ)) (n : ℕ) (missing : Missing) →
+    n < length chunks → Tells index (reference_of (get_or chunks n [])) true →
     CountedTo index chunks n missing → CountedTo index chunks (n + 1) missing
 passed index chunks n missing h e c =
     let more = size_more chunks n h in
@@ -135,15 +98,15 @@ passed index chunks n missing h e c =
     let small = c.small in
     record {
       so = λ others is. subst (λ cs. AreSo cs missing)
-          (sym (had chunks n h others (index_tells index others _ is ∙ e)))
+          (sym (had chunks n h others (e others is)))
           (c.so others is);
       few = omega arith;
       small = omega arith;
     }
 
 -- one that is lacked is counted
-pub counted : (index : BTreeMap Ref ℕ) (chunks : List (List ℕ)) (n : ℕ) (missing new : Missing) →
-    n < length chunks → is_some (number_of index (reference_of (get_or chunks n []))) ≡ false →
+pub counted : (index : Index) (chunks : List (List ℕ)) (n : ℕ) (missing new : Missing) →
+    n < length chunks → Tells index (reference_of (get_or chunks n [])) false →
     new.chunks ≡ missing.chunks + 1 → new.bytes ≡ missing.bytes + length (get_or chunks n []) →
     CountedTo index chunks n missing → CountedTo index chunks (n + 1) new
 counted index chunks n missing new h e chunks_are bytes_are c =
@@ -152,7 +115,7 @@ counted index chunks n missing new h e chunks_are bytes_are c =
     let small = c.small in
     record {
       so = λ others is.
-          let one_more = lacked chunks n h others (index_tells index others _ is ∙ e) in
+          let one_more = lacked chunks n h others (e others is) in
           let so = c.so others is in
           let number = so.chunks_are in
           let size = so.bytes_are in
@@ -183,8 +146,3 @@ size_up_to chunks n =
     ap length (flat_map-append (λ c. c) (take n chunks) (drop n chunks)) ∙
     length-append (flat_map (λ c. c) (take n chunks)) (flat_map (λ c. c) (drop n chunks)) in
     omega arith
-
--- what is behind a reference is there where that is
-pub copied : {A : Type 0} (o : Option (Bor A)) → is_some (option_copied o) ≡ is_some o
-copied None = refl
-copied (Some x) = refl

@@ -1,15 +1,14 @@
 -- What is kept of a file that was accepted.
 use Rattle.std.specs.Prelude.{◌≡◌, ℕ, ◌<◌, ◌≤◌, ◌^◌, List, ◌∷◌, length, map, drop, Result}
 use Rattle.std.specs.List.{flat_map, AllByRecursion}
-use Rattle.std.specs.BTreeMap.{BTreeMap}
 use Rattle.std.specs.declared.ops.Range.{Range}
 use Rattle.prolly_tree.specs.Chunk.{IsIn}
 use Rattle.prolly_entry.specs.Reference.{reference_of}
-use Rattle.prolly_entry.specs.declared.reference.Ref.{Ref}
 use Rattle.prolly_check.specs.declared.fault.CheckFault.{CheckFault}
 use Rattle.prolly_file.specs.declared.format.header.Header.{Header}
 use Rattle.prolly_check.specs.Content.{Content}
 use Rattle.prolly_check.specs.Held.{pairs_held}
+use Rattle.prolly_check.specs.declared.index.Index.{Index}
 use Rattle.prolly_check.specs.Index.{IsIndex}
 use Rattle.prolly_check.specs.Judged.{chunk_bytes, judged}
 use Rattle.prolly_check.specs.Spans.{IsWithin, chunks_in}
@@ -50,7 +49,7 @@ pub record IsLaidOut (bytes : List ℕ) (header : Header) (spans : List (Range �
 
 -- The header, the places of the chunks and the index are those of the file.
 pub record IsChecked (bytes : List ℕ) (header : Header) (spans : List (Range ℕ))
-    (index : BTreeMap Ref ℕ) : Type 0 where
+    (index : Index) : Type 0 where
   pub is : IsFileOf bytes (content_of header (chunks_in bytes spans))
   pub chunks_are : chunks_in bytes spans ≡ chunks_of (content_of header (chunks_in bytes spans))
   pub within : AllByRecursion (IsWithin bytes) spans

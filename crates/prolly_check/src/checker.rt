@@ -16,7 +16,7 @@ use crate::chunks::{Chunks, Layout};
 use crate::ending::test_ending;
 use crate::fault::CheckFault;
 use crate::frames::find_frames;
-use crate::index::{Index, index_chunks};
+use crate::index::Index;
 use crate::order::test_order;
 use crate::rebuild::test_rebuilt;
 use crate::tree::Tree;
@@ -85,7 +85,7 @@ pub(crate) fn inspect(alloc: Global, bytes: &[u8]) -> Result<(Layout, Vec<Ref>, 
     };
     let chunks = Chunks::new(bytes, &layout);
     let references = test_canonical(alloc, cut, layout.header.version, &chunks, &bytes[end..])?;
-    let index = index_chunks(alloc, &references)?;
+    let index = Index::new(alloc, &references)?;
     Ok((layout, references, index))
 }
 

@@ -136,7 +136,7 @@ pub(crate) fn missing_in(index: &Index, chunks: &Chunks, references: &[Ref]) -> 
         bytes: 0,
     };
     for number in 0..chunks.len() {
-        if index.get(&references[number]).is_none() {
+        if index.find(&references[number]).is_none() {
             missing.chunks += 1;
             missing.bytes += chunks.chunk(number).len() as u64;
         }

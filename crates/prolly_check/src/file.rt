@@ -114,8 +114,8 @@ impl<'a> CheckedFile<'a> {
         requires { HasReference (chunks_of self.now) reference.now.0 }
         ensures { HasAt (chunks_of self.now) result reference.now.0 }
     {
-        match self.index.get(reference) {
-            Some(number) => *number,
+        match self.index.find(reference) {
+            Some(number) => number,
             None => unreachable!(),
         }
     }
