@@ -47,7 +47,6 @@ impl<T, F: Copy> Receiver<T, F> {
 
     /// The next item, or the end, waiting for a message. An end, or `Lost`, is given again and
     /// again.
-    #[tactic(auto, using(crate::proofs::MessageLemmas::messages))]
     pub fn recv<R: Wait>(&mut self, rt: &R) -> Next<T, F>
         ensures link { self.new.link ≡ self.old.link }
         ensures items { self.new.items ≡ self.old.items ++ given_items result }

@@ -32,7 +32,6 @@ impl<T, F> Model for Sender<T, F> {
 
 impl<T, F: Copy> Sender<T, F> {
     // Sends an item, waiting for room.
-    #[tactic(auto, using(crate::proofs::MessageLemmas::messages))]
     pub(crate) fn put<R: Wait>(&mut self, rt: &R, item: T, wake: Wake)
         ensures link { self.new.link ≡ self.old.link }
         ensures items { self.new.items ≡ self.old.items ++ item ∷ [] }
@@ -61,7 +60,6 @@ impl<T, F: Copy> Sender<T, F> {
     }
 
     /// Sends the end, waiting for room.
-    #[tactic(auto, using(crate::proofs::MessageLemmas::messages))]
     pub fn close<R: Wait>(self, rt: &R, end: End<F>) -> ClosedSender<T, F>
         ensures link { result.link ≡ self.link }
         ensures items { result.items ≡ self.items }

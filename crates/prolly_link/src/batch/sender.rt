@@ -77,7 +77,6 @@ fn take_room<T: Drop>(
 
 // Sends a batch where it has items. A large one waits until no more than the link's bound is in
 // flight with it.
-#[tactic(auto, using(crate::proofs::BatchLemmas::items_of_push))]
 fn send_items<T: Drop, F: Copy, R: Wait>(
     rt: &R,
     sender: &mut Sender<Batch<T>, F>,

@@ -5,6 +5,7 @@ use Rattle.prolly_merge.specs.PeekedInputs.{peeked_of}
 use Rattle.prolly_merge.proofs.Counts.{count_none, count_more}
 use Rattle.prolly_merge.proofs.Places.{pairs_more}
 use Rattle.prolly_merge.proofs.Steps.{all_stay, start, step_sends, step_advances, step_stops}
+use Rattle.prolly_merge.proofs.Steps.{stop_advances}
 use Rattle.prolly_merge.proofs.many.send_many.Goals as goal
 
 pub loop-init : goal.loop-init
@@ -48,43 +49,51 @@ loop-preserved g c =
       );
     }
 
-pub returns-in-Err-clause-advance : goal.returns-in-Err-clause-advance
-returns-in-Err-clause-advance g c =
-    let os = peeked_of c.args.inputs.now c.args.heads.now in
-    let ms = peeked_of c.loop.inputs c.loop.heads in
-    let ns = peeked_of c.next_of_many.new.inputs c.next_of_many.new.heads in
-    step_advances g.I.In.link g.I.In.progress g.I.In.Follows g.I.In.received g.met.I.In.goes_on
-    g.met.I.In.received_both os ms ns c.in-Send.record c.loop.invariant.advance
-    c.in-Send.ensures
-
-pub returns-in-Err-clause-halts : goal.returns-in-Err-clause-halts
-returns-in-Err-clause-halts g c =
+pub returns-in-Err : goal.returns-in-Err
+returns-in-Err g c =
     let i = c.loop.invariant in
     let os = peeked_of c.args.inputs.now c.args.heads.now in
     let ms = peeked_of c.loop.inputs c.loop.heads in
     let ns = peeked_of c.next_of_many.new.inputs c.next_of_many.new.heads in
-    let r = c.in-Send.record in (
-      i.first.0,
-      c.in-Err.ensures.refused ∙ i.first.1,
-      inr (
-        refl,
-        (
-          r ∷ [],
-          step_sends g.I.In.link g.I.In.progress g.I.In.Follows g.I.In.received g.met.I.In.goes_on
-              g.met.I.In.received_both os ms ns i.first.0 r i.advance i.first.2 c.in-Send.ensures,
+    let r = c.in-Send.record in
+    let refused = c.in-Err.ensures.refused in
+    record {
+      advance = step_advances g.I.In.link g.I.In.progress g.I.In.Follows g.I.In.received
+          g.met.I.In.goes_on g.met.I.In.received_both os ms ns r i.advance c.in-Send.ensures;
+      out_link = c.send_put.ensures.link ∙ i.out_link;
+      pairs = (i.pairs.0, refused ∙ i.pairs.1, i.pairs.2);
+      halts = (
+        i.first.0,
+        refused ∙ i.first.1,
+        inr (
+          refl,
+          (
+            r ∷ [],
+            step_sends g.I.In.link g.I.In.progress g.I.In.Follows g.I.In.received
+                g.met.I.In.goes_on g.met.I.In.received_both os ms ns i.first.0 r i.advance
+                i.first.2 c.in-Send.ensures,
+          ),
         ),
-      ),
-    )
+      );
+    }
 
-pub returns-in-Stop-clause-halts : goal.returns-in-Stop-clause-halts
-returns-in-Stop-clause-halts g c =
+pub returns-in-Stop : goal.returns-in-Stop
+returns-in-Stop g c =
     let i = c.loop.invariant in
     let os = peeked_of c.args.inputs.now c.args.heads.now in
     let ms = peeked_of c.loop.inputs c.loop.heads in
-    let ns = peeked_of c.next_of_many.new.inputs c.next_of_many.new.heads in (
-      i.first.0,
-      i.first.1,
-      inl (step_stops g.I.In.link g.I.In.progress g.I.In.Follows g.I.In.received g.met.I.In.goes_on
-          g.met.I.In.received_both os ms ns i.first.0 c.in-Stop.end i.advance i.first.2
-          c.in-Stop.ensures),
-    )
+    let ns = peeked_of c.next_of_many.new.inputs c.next_of_many.new.heads in
+    record {
+      advance = stop_advances g.I.In.link g.I.In.progress g.I.In.Follows g.I.In.received
+          g.met.I.In.goes_on g.met.I.In.received_both os ms ns c.in-Stop.end i.advance
+          c.in-Stop.ensures;
+      out_link = i.out_link;
+      pairs = i.pairs;
+      halts = (
+        i.first.0,
+        i.first.1,
+        inl (step_stops g.I.In.link g.I.In.progress g.I.In.Follows g.I.In.received
+            g.met.I.In.goes_on g.met.I.In.received_both os ms ns i.first.0 c.in-Stop.end i.advance
+            i.first.2 c.in-Stop.ensures),
+      );
+    }

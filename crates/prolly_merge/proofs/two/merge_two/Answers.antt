@@ -5,11 +5,11 @@ use Rattle.prolly_merge.specs.Inputs.{lists_of, stop_end}
 use Rattle.prolly_merge.specs.PeekedInputs.{places_after}
 use Rattle.prolly_merge.specs.Sent.{Sends}
 use Rattle.prolly_merge.proofs.Places.{sends_records}
-use Rattle.prolly_merge.proofs.Finishes.{rest_of, rest_fits, wholes_are}
+use Rattle.prolly_merge.proofs.Finishes.{all_end, rest_of, rest_fits, wholes_are}
 use Rattle.prolly_merge.proofs.two.merge_two.Goals as goal
 
-pub returns-clause-merged : goal.returns-clause-merged
-returns-clause-merged g c =
+pub returns : goal.returns
+returns g c =
     let e = c.send_two-items.ensures in
     let es = c.args.left ∷ c.args.right ∷ [] in
     let os = c.new-left.result ∷ c.new-right.result ∷ [] in
@@ -17,17 +17,26 @@ returns-clause-merged g c =
     let ns = c.finish.result ∷ c.finish-2.result ∷ [] in
     let all = wholes_are g.I.In.link g.I.In.progress g.I.In.Follows g.I.In.received
     g.met.I.In.goes_on g.met.I.In.received_both es os ms ns
-    (c.new-left.ensures, (c.new-right.ensures, tt)) e.advance (
-      c.finish.ensures,
-      (c.finish-2.ensures, tt),
-    ) in
-    subst (λ is. AllRising (lists_of is) → Sends (g.O.Out.sent c.args.out) (raw_merged_part is)
-    (stop_end is) (g.O.Out.all_sent c.close-out.result) (g.O.Out.end_sent c.close-out.result))
-    all
-    (sends_records (places_after g.I.In.received os ms) (g.O.Out.sent c.args.out)
-    (g.O.Out.all_sent c.close-out.result) e.halts.0 c.send_two-items.result.1
-    (g.O.Out.end_sent c.close-out.result)
-    e.halts.2 (c.close-out.ensures.sent ∙ e.halts.1) c.close-out.ensures.end
-    (rest_of g.I.In.link g.I.In.progress g.I.In.Follows g.I.In.received ms ns)
-    (rest_fits g.I.In.link g.I.In.progress g.I.In.Follows g.I.In.received os ms ns e.advance
-    (c.finish.ensures, (c.finish-2.ensures, tt))))
+    (c.new-left.ensures, (c.new-right.ensures, tt)) e.advance
+    (c.finish.ensures, (c.finish-2.ensures, tt)) in
+    let ends = all_end g.I.In.link g.I.In.progress g.I.In.Follows g.I.In.received
+    g.met.I.In.goes_on g.met.I.In.received_both es os ms ns
+    (c.new-left.ensures, (c.new-right.ensures, tt)) e.advance
+    (c.finish.ensures, (c.finish-2.ensures, tt)) in
+    let sent = g.O.Out.sent c.args.out in
+    let all_sent = g.O.Out.all_sent c.close-out.result in
+    let end_sent = g.O.Out.end_sent c.close-out.result in
+    record {
+      left = ends.0;
+      right = ends.1.0;
+      out_link = c.close-out.ensures.link ∙ e.out_link;
+      items = (e.items.0, c.close-out.ensures.sent ∙ e.items.1, e.items.2);
+      merged = subst (λ is. AllRising (lists_of is) → Sends sent (raw_merged_part is) (stop_end is)
+          all_sent end_sent) all
+          (sends_records (places_after g.I.In.received os ms) sent all_sent e.halts.0
+          c.send_two-items.result.1 end_sent e.halts.2
+          (c.close-out.ensures.sent ∙ e.halts.1) c.close-out.ensures.end
+          (rest_of g.I.In.link g.I.In.progress g.I.In.Follows g.I.In.received ms ns)
+          (rest_fits g.I.In.link g.I.In.progress g.I.In.Follows g.I.In.received os ms ns e.advance
+          (c.finish.ensures, (c.finish-2.ensures, tt))));
+    }
