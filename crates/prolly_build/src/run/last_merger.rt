@@ -39,7 +39,6 @@ fn meet_all<R: Wait>(
 }
 
 /// Starts the last merger, then all workers below it, writes, joins them, and meets their links.
-#[tactic(auto, using(crate::proofs::RanSteps::nothing_begun))]
 pub(crate) fn gather<'s, E, R: Runtime, G: Gate, P: Permit, S: Input + 's, W: Sink>(
     site: &Site<'s, '_, E, R, G, P>,
     feed: Feed,

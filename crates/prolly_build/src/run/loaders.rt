@@ -14,7 +14,6 @@ use prolly_load::Loaded;
 use prolly_stage::Gate;
 
 /// Starts a loader for each source, from file number `file` on, then writes, and joins them.
-#[tactic(auto, using(crate::proofs::RanSteps::nothing_begun))]
 pub(crate) fn load_all<'s, E, R: Runtime, G: Gate, P: Permit, S: Input + 's, W: Sink>(
     site: &Site<'s, '_, E, R, G, P>,
     file: u32,

@@ -18,7 +18,6 @@ use prolly_stage::Gate;
 
 /// Starts a merger of two for each fork, the last one first, then loads and writes, joins the
 /// mergers, and meets the links into them. The outputs are those that feed the last merger.
-#[tactic(auto, using(crate::proofs::RanSteps::nothing_begun))]
 pub(crate) fn merge_tree<'s, E, R: Runtime, G: Gate, P: Permit, S: Input + 's, W: Sink>(
     site: &Site<'s, '_, E, R, G, P>,
     mut forks: Vec<Fork>,

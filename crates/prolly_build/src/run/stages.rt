@@ -16,7 +16,6 @@ use prolly_stage::Gate;
 
 /// Starts the stage of the leaves, then all workers below it, writes, joins it, and meets the link
 /// into it.
-#[tactic(auto, using(crate::proofs::RanSteps::nothing_begun))]
 fn run_from_leaves<'s, E, R: Runtime, G: Gate, P: Permit, S: Input + 's, W: Sink>(
     site: &Site<'s, '_, E, R, G, P>,
     pairs: NewLink<Pair>,
@@ -47,7 +46,6 @@ fn run_from_leaves<'s, E, R: Runtime, G: Gate, P: Permit, S: Input + 's, W: Sink
 /// Starts a stage of nodes for each link, the highest one first, then all workers below them,
 /// writes, joins the stages, and meets the links into them. The output is that of the highest
 /// stage, whose level is the number of the links.
-#[tactic(auto, using(crate::proofs::RanSteps::nothing_begun))]
 pub(crate) fn run_from_top<'s, E, R: Runtime, G: Gate, P: Permit, S: Input + 's, W: Sink>(
     site: &Site<'s, '_, E, R, G, P>,
     mut events: Vec<NewLink<ChunkEvent>>,

@@ -1,5 +1,5 @@
 use Rattle.std.proofs.Common.{ap, ◌∙◌, sym, arith, refl}
-use Rattle.std.proofs.lemmas.Result.{on_ok_weaker}
+use Rattle.std.proofs.lemmas.Result.{err_from_is_err_and, on_ok_weaker}
 use Rattle.prolly_entry.specs.Record.{Record}
 use Rattle.prolly_link.specs.Views.{Batching}
 use Rattle.prolly_fault.specs.Ends.{Whole}
@@ -90,3 +90,70 @@ pub returns-in_err-meet-2-clause-hands_on : goal.returns-in_err-meet-2-clause-ha
 returns-in_err-meet-2-clause-hands_on g t c =
     unmet_hands_on _ _ _ _ _ _ _ _ _ c.in_ok-wrote.ensures.hands_on.written
     c.from_residual-in_err-meet-2.ensures.1 c.in_err-meet-2.ensures.lost
+
+pub load_all-requires-clause-numbers : goal.load_all-requires-clause-numbers
+load_all-requires-clause-numbers g t c κs within = omega (arith, c.requires.each, c.requires.few)
+
+pub load_all-requires-clause-room : goal.load_all-requires-clause-room
+load_all-requires-clause-room g t c κs within =
+    (c.requires.room.0, omega (arith, c.requires.room.1, c.requires.each))
+
+pub returns-in_default-clause-hands_on : goal.returns-in_default-clause-hands_on
+returns-in_default-clause-hands_on g t c = c.load_all.ensures.hands_on
+
+pub fork_at-out-requires-clause-place : goal.fork_at-out-requires-clause-place
+fork_at-out-requires-clause-place g t c =
+    omega (
+      arith,
+      c.place_of_merger-place.ensures,
+      c.len.ensures,
+      c.len-number.ensures,
+      c.requires.each,
+      c.requires.two,
+      c.in-Some.ensures.len,
+      c.in-Some.ensures.cases,
+    )
+
+pub fork_at-out-requires-clause-room : goal.fork_at-out-requires-clause-room
+fork_at-out-requires-clause-room g t c =
+    let popped = c.in-Some.ensures in
+    omega (arith, c.requires.each, c.requires.room.2, popped.len, popped.cases)
+
+pub overflow_cast-number : goal.overflow_cast-number
+overflow_cast-number g t c =
+    let popped = c.in-Some.ensures in
+    omega (arith, c.len-number.ensures, c.requires.each, c.requires.few, popped.len, popped.cases)
+
+pub merge_tree-wrote-requires-clause-few : goal.merge_tree-wrote-requires-clause-few
+merge_tree-wrote-requires-clause-few g t c κs within = c.requires.few
+
+pub merge_tree-wrote-requires-clause-each : goal.merge_tree-wrote-requires-clause-each
+merge_tree-wrote-requires-clause-each g t c κs within =
+    let popped = c.in-Some.ensures in
+    omega (arith, c.requires.each, c.fork_at-out.ensures.len, popped.len, popped.cases)
+
+pub merge_tree-wrote-requires-clause-two : goal.merge_tree-wrote-requires-clause-two
+merge_tree-wrote-requires-clause-two g t c κs within more =
+    let popped = c.in-Some.ensures in
+    omega (arith, more, c.requires.two, c.fork_at-out.ensures.len, popped.len, popped.cases)
+
+pub merge_tree-wrote-requires-clause-room : goal.merge_tree-wrote-requires-clause-room
+merge_tree-wrote-requires-clause-room g t c κs within = (
+  c.requires.room.0,
+  c.requires.room.1,
+  omega (arith, c.requires.room.2, c.fork_at-out.ensures.capacity),
+)
+
+pub returns-in_err-meet-clause-fed : goal.returns-in_err-meet-clause-fed
+returns-in_err-meet-clause-fed g t c =
+    let residual = c.from_residual-in_err-meet in
+    rw (err_from_is_err_and residual.result residual.ensures.1).1 tt
+
+pub returns-in_err-meet-2-clause-fed : goal.returns-in_err-meet-2-clause-fed
+returns-in_err-meet-2-clause-fed g t c =
+    let residual = c.from_residual-in_err-meet-2 in
+    rw (err_from_is_err_and residual.result residual.ensures.1).1 tt
+
+pub returns-clause-hands_on : goal.returns-clause-hands_on
+returns-clause-hands_on g t c =
+    record { written = c.in_ok-wrote.ensures.hands_on.written; refused = tt; begun = tt }

@@ -1,4 +1,4 @@
-use Rattle.std.proofs.Common.{ap, ◌∙◌, vec_len, arith, refl}
+use Rattle.std.proofs.Common.{ap, ◌∙◌, sym, vec_len, arith, refl}
 use Rattle.std.proofs.lemmas.Result.{IfOk-weaker}
 use Rattle.prolly_build.proofs.RanSteps.{met_hands_on, nothing_begun, of_made}
 use Rattle.prolly_build.proofs.StagingSteps.{nodes_staged}
@@ -31,3 +31,35 @@ returns-clause-hands_on g t c =
     met_hands_on _ _ _ _ _ _ _ c.up_to_stage.result c.in_ok-ran.ensures.hands_on.written
     (IfOk-weaker c.up_to_stage.result _ _ (λ ran is. ap (λ r. r.wrote) is)
     c.up_to_stage.ensures.ran) c.up_to_stage.ensures.lost
+
+pub returns-in_default-clause-link : goal.returns-in_default-clause-link
+returns-in_default-clause-link g t c = c.run_from_leaves.ensures.link
+
+pub returns-in_default-clause-hands_on : goal.returns-in_default-clause-hands_on
+returns-in_default-clause-hands_on g t c = c.run_from_leaves.ensures.hands_on
+
+pub overflow_cast-level : goal.overflow_cast-level
+overflow_cast-level g t c =
+    let popped = c.in-Some.ensures in
+    omega (arith, c.len.ensures, c.requires.levels, popped.len, popped.cases)
+
+pub overflow_add-level : goal.overflow_add-level
+overflow_add-level g t c =
+    let popped = c.in-Some.ensures in
+    omega (arith, c.len.ensures, c.requires.levels, popped.len, popped.cases)
+
+pub run_from_top-ran-requires-clause-levels : goal.run_from_top-ran-requires-clause-levels
+run_from_top-ran-requires-clause-levels g t c κs within =
+    let popped = c.in-Some.ensures in
+    omega (arith, c.requires.levels, popped.len, popped.cases)
+
+pub up_to_stage-requires : goal.up_to_stage-requires
+up_to_stage-requires g t c =
+    c.in_ok-ran.ensures.link ∙ (c.in-Some.link.paired ∙
+    sym (c.join-stage.ensures.reads ∙ ap (λ r. r.link) c.in-Some-start_nodes.ensures.input))
+
+pub returns-clause-link : goal.returns-clause-link
+returns-clause-link g t c =
+    IfOk-weaker c.up_to_stage.result _ _ (λ ran is. ap (λ r. r.out.link) is ∙
+    (c.join-stage.ensures.writes ∙ ap (λ o. o.link) c.in-Some-start_nodes.ensures.out))
+    c.up_to_stage.ensures.ran
