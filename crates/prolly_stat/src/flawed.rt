@@ -12,7 +12,6 @@ use std::alloc::{AllocError, Global};
 /// Appends the lines that explain the flaw of the record behind the good ones of a file, which has
 /// this key, if it can be read; of each key at most the first 64 bytes. They may part a character;
 /// its bytes are then shown as escapes. An `Err` may leave a part of the lines behind.
-#[tactic(auto, unfolding(crate::specs::Flawed::flawed_text))]
 pub fn append_flaw(
     alloc: Global,
     out: &mut Vec<u8>,

@@ -18,9 +18,6 @@ invariant_of-self-in-Some-Last g c =
     agrees_last before.progress (popped before.ring) (popped c.pop_waiting.new.ring)
     c.in-Some-Last.end c.in-Open.is c.self.invariant.open_is came
 
-pub returns-in-Ended-clause-items : goal.returns-in-Ended-clause-items
-returns-in-Ended-clause-items g c = grind (arith, messages) steps 2000000
-
 pub returns-in-Lost-clause-items : goal.returns-in-Lost-clause-items
 returns-in-Lost-clause-items g c = grind (arith, messages) steps 2000000
 
