@@ -1,3 +1,5 @@
+use Rattle.std.proofs.Common.{arith}
+use Rattle.std.proofs.lemmas.Grind.{common_steps}
 use Rattle.std.proofs.Common.{rules}
 use Rattle.std.proofs.KnownBytes.{Keeps-trans}
 use Rattle.prolly_file.proofs.Filled.{more_filled}
@@ -16,3 +18,9 @@ loop-filled-preserved g c = record {
       (g.R.Seek.stream_bytes c.loop-filled.reader) (g.R.Seek.stream_bytes c.read_on.new.self)
       c.loop-filled.invariant.same c.in_ok-count.ensures.same;
 }
+
+pub returns-then-count-eq0-clause-bytes : goal.returns-then-count-eq0-clause-bytes
+returns-then-count-eq0-clause-bytes g c = grind (arith, common_steps)
+
+pub returns-clause-bytes : goal.returns-clause-bytes
+returns-clause-bytes g c = grind (arith, common_steps)

@@ -1,3 +1,4 @@
+use Rattle.std.proofs.lemmas.Grind.{common_steps}
 use Rattle.std.proofs.Common.{◌∙◌, ◌-◌, ◌++◌, length, take, sym, ap, arith, rules}
 use Rattle.std.proofs.lemmas.List.{length-take-le}
 use Rattle.std.proofs.lemmas.Result.{err_from_is_err_and}
@@ -32,3 +33,12 @@ returns-in_err-given-clause-fewer g c =
         length-take-le c.loop-count.count c.loop-count.front c.loop-count.invariant.within,
       );
     })
+
+pub returns-then-given-eq0-clause-joined : goal.returns-then-given-eq0-clause-joined
+returns-then-given-eq0-clause-joined g c = grind (arith, common_steps)
+
+pub returns-then-given-eq0-clause-first : goal.returns-then-given-eq0-clause-first
+returns-then-given-eq0-clause-first g c = grind (arith, common_steps)
+
+pub returns-clause-first : goal.returns-clause-first
+returns-clause-first g c = grind (arith, common_steps)

@@ -1,3 +1,4 @@
+use Rattle.std.proofs.lemmas.Grind.{common_steps}
 use Rattle.std.proofs.Common.{arith}
 use Rattle.prolly_file.proofs.buffered.BufferedSink.write.Goals as goal
 use Rattle.prolly_file.proofs.buffered.BufferedSink.write.Goals.{then-buf-capacity+in_ok-hand_on, else-buf-capacity}
@@ -16,3 +17,9 @@ returns-clause-emptied g c full = elim c.if-buf-capacity.branch [
     c.len.ensures,
   ))
 ]
+
+pub pass-requires : goal.pass-requires
+pass-requires g c = grind (arith, common_steps)
+
+pub returns-clause-bytes : goal.returns-clause-bytes
+returns-clause-bytes g c = grind (arith, common_steps)
