@@ -18,8 +18,5 @@ returns-clause-emptied g c full = elim c.if-buf-capacity.branch [
   ))
 ]
 
-pub pass-requires : goal.pass-requires
-pass-requires g c = grind (arith, common_steps)
-
 pub returns-clause-bytes : goal.returns-clause-bytes
 returns-clause-bytes g c = grind (arith, common_steps)
