@@ -1,3 +1,5 @@
+use Rattle.std.proofs.Common.{arith}
+use Rattle.std.proofs.lemmas.Grind.{common_steps}
 use Rattle.std.proofs.Common.{◌∙◌, ◌+◌, min, refl, ap}
 use Rattle.prolly_tree.specs.Events.{greatest_count}
 use Rattle.prolly_chunk.proofs.Keys.{child_added}
@@ -11,3 +13,15 @@ returns-clause-added g c =
     c.in_ok-append_child_as.ensures.ok
     (c.saturating_add-self-inside.ensures ∙ ap (λ n. min (c.self.inside.count + n) greatest_count)
     c.count-2.ensures)
+
+pub slice_bounds-is_boundary-count : goal.slice_bounds-is_boundary-count
+slice_bounds-is_boundary-count g c = grind (arith, common_steps)
+
+pub slice_bounds-is_boundary-start : goal.slice_bounds-is_boundary-start
+slice_bounds-is_boundary-start g c = grind (arith, common_steps)
+
+pub invariant_of-self-2 : goal.invariant_of-self-2
+invariant_of-self-2 g c = grind (arith, common_steps)
+
+pub returns-clause-boundary : goal.returns-clause-boundary
+returns-clause-boundary g c = grind (arith, common_steps)

@@ -13,3 +13,12 @@ is_boundary_pair-requires g c = grind (arith, common_steps) steps 2000000
 
 pub returns-clause-boundary : goal.returns-clause-boundary
 returns-clause-boundary g c = grind (arith, common_steps) steps 2000000
+
+pub slice_bounds-is_boundary_pair-count : goal.slice_bounds-is_boundary_pair-count
+slice_bounds-is_boundary_pair-count g c = grind (arith, common_steps)
+
+pub slice_bounds-is_boundary_pair-start : goal.slice_bounds-is_boundary_pair-start
+slice_bounds-is_boundary_pair-start g c = grind (arith, common_steps)
+
+pub invariant_of-self-2 : goal.invariant_of-self-2
+invariant_of-self-2 g c = grind (arith, common_steps)
