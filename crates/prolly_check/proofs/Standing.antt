@@ -1,26 +1,25 @@
 -- What a look-up seeks in a map, and below a tree to which it has come.
-use Rattle.std.proofs.Common.{◌≡◌, ℕ, zero, suc, ◌+◌, ◌<◌, ◌≤◌, inl, inr, ◌⊎◌, Bool, true, false, not}
-use Rattle.std.proofs.Common.{List, [], ◌∷◌, ◌++◌, length, None, refl, sym, ap, ◌∙◌, subst, arith}
+use Rattle.std.proofs.Common.{◌≡◌, ℕ, ◌<◌, inl, inr, ◌⊎◌}
+use Rattle.std.proofs.Common.{List, [], ◌∷◌, ◌++◌, length, refl, sym, ap, ◌∙◌, subst, arith}
 use Rattle.std.proofs.Common.{append_assoc, append-nil}
 use Rattle.std.specs.List.{AllByRecursion, flat_map}
-use Rattle.std.specs.Ordering.{is_lt}
 use Rattle.std.proofs.lemmas.List.{length-append}
 use Rattle.std.proofs.lemmas.List.Concat.{flat_map-append}
 use Rattle.std.proofs.lemmas.Option.{slice_get_past}
-use Rattle.prolly_entry.specs.Keys.{key_order, KeyBelow}
+use Rattle.prolly_entry.specs.Keys.{KeyBelow}
 use Rattle.prolly_entry.specs.Pair.{Pair}
 use Rattle.prolly_entry.specs.declared.version.Version.{Version}
 use Rattle.prolly_entry.specs.lemmas.Lists.{all_append}
 use Rattle.prolly_tree.specs.LookUp.{find, nth}
 use Rattle.prolly_tree.specs.Tree.{Tree, pairs_below}
-use Rattle.prolly_tree.specs.lemmas.Maps.{Rises, rises_back}
+use Rattle.prolly_tree.specs.lemmas.Maps.{Rises}
 use Rattle.prolly_check.specs.Leaves.{pairs_from}
 use Rattle.prolly_check.specs.ScanWay.{AreFirstFrom}
 use Rattle.prolly_check.specs.Sought.{Sought}
 use Rattle.prolly_check.specs.Sought.Sought.{Key, Number}
 use Rattle.prolly_check.specs.Way.{nth_sought}
 use Rattle.prolly_check.proofs.Chosen.{AllPast, CanCount, ChosenIn, Has, IsPast}
-use Rattle.prolly_check.proofs.FirstPairs.{above_some, find_in_part, first_in_part}
+use Rattle.prolly_check.proofs.FirstPairs.{find_in_part, first_in_part}
 use Rattle.prolly_check.proofs.Lookups.{find_over, nth_back, nth_front}
 use Rattle.prolly_check.proofs.Scans.{none_from}
 

@@ -1,14 +1,13 @@
 -- Going down from the root in a file on a device.
-use Rattle.std.specs.Prelude.{◌≡◌, ℕ, suc, ◌⊎◌, List, [], ◌∷◌, ◌++◌, map, Option, Some, Result, Ok}
+use Rattle.std.specs.Prelude.{◌≡◌, ℕ, ◌⊎◌, List, [], ◌∷◌, ◌++◌, map, Option, Some, Result, Ok}
 use Rattle.std.specs.Prelude.{Err, IfErr}
 use Rattle.std.specs.List.{flat_map}
 use Rattle.prolly_check.specs.Checked.{chunks_of}
 use Rattle.prolly_check.specs.Content.{Content}
-use Rattle.prolly_check.specs.Descent.{IsTreeOf, child_of}
+use Rattle.prolly_check.specs.Descent.{IsTreeOf}
 use Rattle.prolly_check.specs.Kinds.{kind_of}
 use Rattle.prolly_check.specs.Sought.{Sought, EndsAt, LeadsOn, sought_of}
 use Rattle.prolly_check.specs.Way.{FallsTo, IsWayTo, level_of}
-use Rattle.prolly_check.specs.declared.look_up.step.Due.{Due}
 use Rattle.prolly_entry.specs.Cut.{sha512_cut}
 use Rattle.prolly_entry.specs.Reference.{reference_of}
 use Rattle.prolly_entry.specs.declared.version.Version.{Version}

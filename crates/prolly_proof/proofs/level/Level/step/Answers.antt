@@ -1,4 +1,4 @@
-use Rattle.std.proofs.Common.{◌≡◌, ◌-◌, ℕ, List, length, Some, Err, refl, sym, ap, ◌∙◌, subst, inr, rules}
+use Rattle.std.proofs.Common.{◌≡◌, ◌-◌, ℕ, List, length, Some, refl, sym, subst, rules}
 use Rattle.prolly_check.specs.Content.{Content}
 use Rattle.prolly_check.specs.Kinds.{kind_of}
 use Rattle.prolly_check.specs.Sought.{IsChildOf, IsMark, sought_of}
@@ -6,7 +6,6 @@ use Rattle.prolly_check.specs.Way.{level_of}
 use Rattle.prolly_check.specs.declared.look_up.sought.ChildSought.{ChildSought}
 use Rattle.prolly_check.specs.declared.look_up.sought.Sought.{Sought}
 use Rattle.prolly_entry.specs.declared.version.Version.{Version}
-use Rattle.prolly_proof.specs.Descents.{StepsDown}
 use Rattle.prolly_proof.specs.Kept.{KeepsPassed}
 use Rattle.prolly_proof.specs.declared.walk.Walk.{Walk}
 use Rattle.prolly_proof.proofs.GoingDown.{ChildBelow, child_below, lands}
