@@ -1,14 +1,17 @@
 -- Going over the frames of a file.
 use Rattle.std.proofs.Common.{◌≡◌, ℕ, zero, suc, ◌+◌, ◌^◌, ◌<◌, ◌≤◌, List, [], ◌∷◌, ◌++◌, length}
-use Rattle.std.proofs.Common.{take, drop, map, Result, Ok, refl, sym, ap, ◌∙◌, subst, arith}
-use Rattle.std.proofs.Common.{append_assoc, append-nil, Option, Some, None}
+use Rattle.std.proofs.Common.{take, drop, map, get_or, inl, inr, ◌⊎◌, Result, Ok, refl, sym, ap, ◌∙◌}
+use Rattle.std.proofs.Common.{subst, arith, append_assoc, Option, Some, None}
+use Rattle.std.proofs.Common.{take-append-drop}
 use Rattle.std.specs.Int.{w64, to_be_bytes}
 use Rattle.std.specs.List.{AllByRecursion, flat_map}
 use Rattle.std.proofs.Math.Seq.{drop-append_seam}
+use Rattle.std.proofs.lemmas.Bool.{cases_lt}
 use Rattle.std.proofs.lemmas.List.{length-append, map-append}
 use Rattle.std.proofs.lemmas.List.Concat.{flat_map-append}
 use Rattle.prolly_check.specs.Checked.{chunks_of}
 use Rattle.prolly_check.specs.Content.{Content}
+use Rattle.prolly_check.specs.FileWays.{nth_chunk}
 use Rattle.prolly_check.specs.Verdict.{IsFileOf}
 use Rattle.prolly_check.specs.Way.{level_of}
 use Rattle.prolly_entry.specs.Cut.{sha512_cut}
@@ -23,10 +26,9 @@ use Rattle.prolly_file.specs.declared.format.frame.FrameStart.TheVariants.{Chunk
 use Rattle.prolly_tree.specs.Chunk.{Chunk, chunk_of, chunks, post_order}
 use Rattle.prolly_tree.specs.File.{end_record, header, root_reference}
 use Rattle.prolly_tree.specs.Tree.{Tree, bytes_of, tree_of}
-use Rattle.prolly_proof.specs.Walks.{GoesOver, GoesOverTree, HoldsFile}
-use Rattle.prolly_proof.specs.Walks.{IsFrameOf, IsFrameOfTop, IsStartOf}
-use Rattle.prolly_proof.specs.Walks.{StandsBehind, StaysSame, chunks_below, chunks_of_tree}
-use Rattle.prolly_proof.specs.Walks.{place_behind}
+use Rattle.prolly_proof.specs.Walks.{GoesOver, GoesToLevel, HoldsFile, IsFrame, IsStartOf, IsWalk}
+use Rattle.prolly_proof.specs.Walks.{NoneBetween, StaysSame, chunks_below, chunks_of_tree}
+use Rattle.prolly_proof.specs.Walks.{offset_of}
 use Rattle.prolly_proof.specs.declared.root_fault.RootFault.{RootFault}
 use Rattle.prolly_proof.specs.declared.walk.Frame.{Frame}
 use Rattle.prolly_proof.specs.declared.walk.Walk.{Walk}
@@ -106,6 +108,10 @@ module _ (version : Version) where
       (all_trees level (tree_up_to level) ts)
 
 -- ---- the bytes of a file
+
+-- where the frame behind these chunks begins
+abbrev pub place_behind : List (List ℕ) → ℕ
+place_behind before = 6 + length (flat_map framed before)
 
 module _ (bytes : List ℕ) (content : Content) (f : IsFileOf bytes content)
     (before left : List (List ℕ)) (are : chunks_of content ≡ before ++ left) where
@@ -192,38 +198,140 @@ module _ (bytes : List ℕ) (content : Content) (f : IsFileOf bytes content)
 
 -- ---- over a frame
 
-module _ (bytes : List ℕ) (content : Content) (f : IsFileOf bytes content)
-    (before left : List (List ℕ)) (are : chunks_of content ≡ before ++ left) (walk : Walk)
-    (stands : StandsBehind (length bytes) before walk) where
+-- the chunk of a number, where one begins there
+starts_chunk : (cs : List (List ℕ)) (n len level : ℕ) →
+    IsStartOf (drop n cs) (Ok (ChunkStart len level)) →
+    (n < length cs) × (len ≡ length (get_or cs n [])) × (level ≡ level_of (get_or cs n []))
+starts_chunk [] zero len level is = absurd is
+starts_chunk [] (suc n) len level is = absurd is
+starts_chunk (c ∷ cs) zero len level is = (omega arith, is.0, is.1)
+starts_chunk (c ∷ cs) (suc n) len level is =
+    let rest = starts_chunk cs n len level is in (omega (arith, rest.0), rest.1, rest.2)
+
+ends_list : (cs : List (List ℕ)) (n : ℕ) → n ≤ length cs → IsStartOf (drop n cs) (Ok End) →
+    n ≡ length cs
+ends_list [] zero within is = refl
+ends_list [] (suc n) within is = absurd (omega (arith, within))
+ends_list (c ∷ cs) zero within is = absurd is
+ends_list (c ∷ cs) (suc n) within is = ap suc (ends_list cs n (omega (arith, within)) is)
+
+-- one more frame
+framed_length : (c : List ℕ) → length (framed c) ≡ 9 + length c
+framed_length c = omega (arith, length-append (to_be_bytes w64 (length c)) c)
+
+frames_next : (cs : List (List ℕ)) (n : ℕ) → n < length cs →
+    length (flat_map framed (take (suc n) cs)) ≡
+    length (flat_map framed (take n cs)) + 9 + length (get_or cs n [])
+frames_next [] n within = absurd (omega (arith, within))
+frames_next (c ∷ cs) zero within =
+    omega (arith, length-append (framed c) [], framed_length c)
+frames_next (c ∷ cs) (suc n) within = omega (
+  arith,
+  length-append (framed c) (flat_map framed (take (suc n) cs)),
+  length-append (framed c) (flat_map framed (take n cs)),
+  frames_next cs n (omega (arith, within)),
+)
+
+-- as many bytes as chunks, or more
+frames_long : (cs : List (List ℕ)) (n : ℕ) → n ≤ length cs →
+    n ≤ length (flat_map framed (take n cs))
+frames_long cs zero within = omega arith
+frames_long [] (suc n) within = absurd (omega (arith, within))
+frames_long (c ∷ cs) (suc n) within = omega (
+  arith,
+  length-append (framed c) (flat_map framed (take n cs)),
+  framed_length c,
+  frames_long cs n (omega (arith, within)),
+)
+
+module _ (bytes : List ℕ) (content : Content) (f : IsFileOf bytes content) (walk : Walk)
+    (at : IsWalk content (length bytes) walk) where
+  abbrev cs : List (List ℕ)
+  cs = chunks_of content
+
+  parted : cs ≡ take walk.number cs ++ drop walk.number cs
+  parted = sym (take-append-drop walk.number cs)
+
+  -- what is told of the bytes there is told of the chunk
+  pub begins_there : (bytes_read : List ℕ) (result : Result FrameStart RootFault) →
+      bytes_read ≡ take 10 (drop walk.offset bytes) →
+      ((more : List ℕ) → bytes_read ≡ 0x45 ∷ more → result ≡ Ok End) →
+      ((len level : ℕ) → len < 2 ^ 64 →
+      bytes_read ≡ 0x43 ∷ (to_be_bytes w64 len ++ level ∷ []) →
+      result ≡ Ok (ChunkStart len level)) → length bytes < 2 ^ 64 →
+      IsStartOf (drop walk.number cs) result
+  begins_there bytes_read result read ends begins short =
+      is_start bytes content f (take walk.number cs) (drop walk.number cs) parted bytes_read result
+      (read ∙ ap (take 10) (behind bytes content f (take walk.number cs) (drop walk.number cs)
+      parted walk.offset at.offset)) ends begins short
+
+  abbrev long : length bytes ≡ place_behind (take walk.number cs) +
+      (length (flat_map framed (drop walk.number cs)) + 29)
+  long = how_long bytes content f (take walk.number cs) (drop walk.number cs) parted
+
   -- the frame of a chunk that begins there fits
-  pub fits : (len level : ℕ) → IsStartOf left (Ok (ChunkStart len level)) →
-      (0 < len) × (walk.place + 9 + len ≤ walk.size)
-  fits len level = by_what_is_left left refl (all_some bytes content f before left are)
+  pub fits : (len level : ℕ) → IsStartOf (drop walk.number cs) (Ok (ChunkStart len level)) →
+      (0 < len) × (walk.offset + 9 + len ≤ walk.size)
+  fits len level is = by_what_is_left (drop walk.number cs) refl
+      (all_some bytes content f (take walk.number cs) (drop walk.number cs) parted) is
     where
-      by_what_is_left : (rest : List (List ℕ)) → left ≡ rest →
+      by_what_is_left : (rest : List (List ℕ)) → drop walk.number cs ≡ rest →
           AllByRecursion (λ c. 0 < length c) rest → IsStartOf rest (Ok (ChunkStart len level)) →
-          (0 < len) × (walk.place + 9 + len ≤ walk.size)
+          (0 < len) × (walk.offset + 9 + len ≤ walk.size)
       by_what_is_left [] e some is = absurd is
       by_what_is_left (c ∷ rest) e some is =
-          let long = how_long bytes content f before left are in
           let same = ap (λ cs. length (flat_map framed cs)) e in
-          let all = length-append (framed c) (flat_map framed rest) in
-          let one = length-append (to_be_bytes w64 (length c)) c in (
+          let all = length-append (framed c) (flat_map framed rest) in (
             omega (arith, some.0, is.0),
-            omega (arith, long, same, all, one, is.0, stands.place, stands.whole),
+            omega (arith, long, same, all, framed_length c, is.0, at.offset, at.whole),
           )
 
   -- the end record that begins there is the end
-  pub ends_there : IsStartOf left (Ok End) → (left ≡ []) × (walk.place + 29 ≡ walk.size)
-  ends_there = by_what_is_left left refl
+  pub ends_there : IsStartOf (drop walk.number cs) (Ok End) →
+      (walk.number ≡ length cs) × (walk.offset + 29 ≡ walk.size)
+  ends_there is = (ends_list cs walk.number at.within is, by_what_is_left (drop walk.number cs) refl is)
     where
-      by_what_is_left : (rest : List (List ℕ)) → left ≡ rest → IsStartOf rest (Ok End) →
-          (left ≡ []) × (walk.place + 29 ≡ walk.size)
+      by_what_is_left : (rest : List (List ℕ)) → drop walk.number cs ≡ rest →
+          IsStartOf rest (Ok End) → walk.offset + 29 ≡ walk.size
       by_what_is_left [] e is =
-          let long = how_long bytes content f before left are in
           let same = ap (λ cs. length (flat_map framed cs)) e in
-          (e, omega (arith, long, same, stands.place, stands.whole))
+          omega (arith, long, same, at.offset, at.whole)
       by_what_is_left (c ∷ rest) e is = absurd is
+
+  -- its number has one above it
+  pub number_fits : length bytes < 2 ^ 64 → walk.number + 1 < 2 ^ 64
+  number_fits short = omega (arith, short, long, frames_long cs walk.number at.within)
+
+  -- over it
+  pub goes_over : (len level : ℕ) → IsStartOf (drop walk.number cs) (Ok (ChunkStart len level)) →
+      (new : Walk) (frame : Frame) → new.size ≡ walk.size → new.offset ≡ walk.offset + 9 + len →
+      new.number ≡ walk.number + 1 → frame.number ≡ walk.number →
+      frame.start ≡ walk.offset + 9 → frame.len ≡ len → frame.level ≡ level →
+      GoesOver content (length bytes) walk.number new (Ok (Some frame))
+  goes_over len level is new frame size offset number same start len_is level_is =
+      let here = starts_chunk cs walk.number len level is in
+      let next : new.number ≡ suc walk.number = omega (arith, number) in (
+        record {
+          within = omega (arith, here.0, same);
+          start = start ∙ ap (λ n. n + 9) (at.offset ∙ ap (offset_of content) (sym same));
+          len = len_is ∙ here.1 ∙ ap (λ n. length (nth_chunk content n)) (sym same);
+          level = level_is ∙ here.2 ∙ ap (λ n. level_of (nth_chunk content n)) (sym same);
+        },
+        same,
+        record {
+          within = omega (arith, here.0, number);
+          offset = omega (
+            arith,
+            offset,
+            at.offset,
+            here.1,
+            frames_next cs walk.number here.0,
+            ap (offset_of content) next,
+          );
+          whole = size ∙ at.whole;
+        },
+        number,
+      )
 
 -- ---- the device
 
@@ -250,213 +358,61 @@ same_size old new content same holds = ap length (sym (same holds.honest).1)
 
 -- what was said of the next frame by a later device
 pub over_from : (old mid : DeviceView) (content : Content) (walk new : Walk)
-    (result : Result (Option Frame) RootFault) → StaysSame old mid → HoldsFile old content →
-    ((content : Content) (before left : List (List ℕ)) → HoldsFile mid content →
-    chunks_of content ≡ before ++ left → StandsBehind (length mid.bytes) before walk →
-    GoesOver (length mid.bytes) before left new result) →
-    (before left : List (List ℕ)) → chunks_of content ≡ before ++ left →
-    StandsBehind (length old.bytes) before walk →
-    GoesOver (length old.bytes) before left new result
-over_from old mid content walk new result same holds goes before left are stands =
+    (given next : Result (Option Frame) RootFault) → given ≡ next → StaysSame old mid →
+    HoldsFile old content → ((content : Content) → HoldsFile mid content →
+    IsWalk content (length mid.bytes) walk →
+    GoesOver content (length mid.bytes) walk.number new given) →
+    IsWalk content (length old.bytes) walk →
+    GoesOver content (length old.bytes) walk.number new next
+over_from old mid content walk new given next e same holds goes at =
     let size = same_size old mid content same holds in
-    subst (λ n. GoesOver n before left new result) (sym size)
-    (goes content before left (holds_still old mid content same holds) are
-    (subst (λ n. StandsBehind n before walk) size stands))
+    subst (GoesOver content (length old.bytes) walk.number new) e
+    (subst (λ n. GoesOver content n walk.number new given) (sym size)
+    (goes content (holds_still old mid content same holds)
+    (subst (λ n. IsWalk content n walk) size at)))
 
--- and of what it was
-pub over_ok : (old mid : DeviceView) (content : Content) (walk new : Walk)
-    (given next : Option Frame) → given ≡ next → StaysSame old mid → HoldsFile old content →
-    ((content : Content) (before left : List (List ℕ)) → HoldsFile mid content →
-    chunks_of content ≡ before ++ left → StandsBehind (length mid.bytes) before walk →
-    GoesOver (length mid.bytes) before left new (Ok given)) →
-    (before left : List (List ℕ)) → chunks_of content ≡ before ++ left →
-    StandsBehind (length old.bytes) before walk →
-    GoesOver (length old.bytes) before left new (Ok next)
-over_ok old mid content walk new given next e same holds goes before left are stands =
-    subst (λ o. GoesOver (length old.bytes) before left new (Ok o)) e
-    (over_from old mid content walk new (Ok given) same holds goes before left are stands)
-
--- and of the frame of a tree's top
-pub tree_from : (old mid : DeviceView) (content : Content) (level : ℕ) (t : Tree level)
-    (walk new : Walk) (result : Result Frame RootFault) → StaysSame old mid →
-    HoldsFile old content → ((content : Content) (t : Tree level) (before left : List (List ℕ)) →
-    HoldsFile mid content →
-    chunks_of content ≡ before ++ (chunks_of_tree content.version level t ++ left) →
-    StandsBehind (length mid.bytes) before walk →
-    GoesOverTree (length mid.bytes) content.version level t before new result) →
-    (before left : List (List ℕ)) →
-    chunks_of content ≡ before ++ (chunks_of_tree content.version level t ++ left) →
-    StandsBehind (length old.bytes) before walk →
-    GoesOverTree (length old.bytes) content.version level t before new result
-tree_from old mid content level t walk new result same holds goes before left are stands =
+-- and of the first one of a level
+pub level_from : (old mid : DeviceView) (content : Content) (level : ℕ) (walk new : Walk)
+    (result : Result Frame RootFault) → StaysSame old mid → HoldsFile old content →
+    ((content : Content) → HoldsFile mid content → IsWalk content (length mid.bytes) walk →
+    GoesToLevel content (length mid.bytes) level walk.number new result) →
+    IsWalk content (length old.bytes) walk →
+    GoesToLevel content (length old.bytes) level walk.number new result
+level_from old mid content level walk new result same holds goes at =
     let size = same_size old mid content same holds in
-    subst (λ n. GoesOverTree n content.version level t before new result) (sym size)
-    (goes content t before left (holds_still old mid content same holds) are
-    (subst (λ n. StandsBehind n before walk) size stands))
+    subst (λ n. GoesToLevel content n level walk.number new result) (sym size)
+    (goes content (holds_still old mid content same holds)
+    (subst (λ n. IsWalk content n walk) size at))
 
 -- ---- to the last frame
 
--- the frame is that of the last chunk of these, and there is none where there is no chunk
-abbrev pub IsLast : List (List ℕ) → Option Frame → Type 0
-IsLast before None = before ≡ []
-IsLast before (Some frame) = (front : List (List ℕ)) × (chunk : List ℕ) ×
-    (before ≡ front ++ chunk ∷ []) × IsFrameOf front chunk frame
-
--- the walk has come so far
-pub record Came (content : Content) (size : ℕ) (walk : Walk) (last : Option Frame) : Type 0 where
-  pub before : List (List ℕ)
-  pub left : List (List ℕ)
-  pub are : chunks_of content ≡ before ++ left
-  pub stands : StandsBehind size before walk
-  pub is : IsLast before last
-
-pub comes : (content : Content) (size : ℕ) (walk : Walk) → StandsBehind size [] walk →
-    Came content size walk None
-comes content size walk stands = record {
-  before = [];
-  left = chunks_of content;
-  are = refl;
-  stands = stands;
-  is = refl;
-}
-
-pub comes_on : (content : Content) (size : ℕ) (walk new : Walk) (last : Option Frame)
-    (frame : Frame) (came : Came content size walk last) →
-    GoesOver size came.before came.left new (Ok (Some frame)) →
-    Came content size new (Some frame)
-comes_on content size walk new last frame came = by_what_is_left came.left came.are
-  where
-    by_what_is_left : (left : List (List ℕ)) → chunks_of content ≡ came.before ++ left →
-        GoesOver size came.before left new (Ok (Some frame)) → Came content size new (Some frame)
-    by_what_is_left [] are over = absurd over
-    by_what_is_left (c ∷ left) are over = record {
-      before = came.before ++ c ∷ [];
-      left = left;
-      are = are ∙ sym (append_assoc came.before (c ∷ []) left);
-      stands = over.1;
-      is = (came.before, c, refl, over.0);
-    }
-
--- the last chunk of a list is one
-one_last : (xs ys : List (List ℕ)) (x y : List ℕ) → xs ++ x ∷ [] ≡ ys ++ y ∷ [] →
-    (xs ≡ ys) × (x ≡ y)
-one_last [] [] x y e = (refl, cc)
-one_last [] (b ∷ ys) x y e = absurd (omega (arith, ap length e, length-append ys (y ∷ [])))
-one_last (a ∷ xs) [] x y e = absurd (omega (arith, ap length e, length-append xs (x ∷ [])))
-one_last (a ∷ xs) (b ∷ ys) x y e = let one = one_last xs ys x y (ap (drop 1) e) in (cc, one.1)
-
-pub last_is : (content : Content) (size : ℕ) (walk : Walk) (frame : Frame)
-    (came : Came content size walk (Some frame)) → came.left ≡ [] →
-    (before : List (List ℕ)) (chunk : List ℕ) → chunks_of content ≡ before ++ chunk ∷ [] →
-    IsFrameOf before chunk frame
-last_is content size walk frame came none before chunk are =
-    let all = sym (came.are ∙ ap (λ left. came.before ++ left) none ∙
-    append-nil came.before ∙ came.is.2) ∙ are in
-    let one = one_last came.is.0 before came.is.1 chunk all in
-    subst (λ b. IsFrameOf b chunk frame) one.0 (subst (λ c. IsFrameOf came.is.0 c frame) one.1
-    came.is.3)
+-- the walk has come from a number to behind this frame, if it went over any
+abbrev pub CameTo : Content → ℕ → ℕ → Option Frame → Type 0
+CameTo content from number None = number ≡ from
+CameTo content from number (Some frame) = IsFrame content frame × (number ≡ frame.number + 1)
 
 -- a file has a chunk
-pub some_chunk : (content : Content) (size : ℕ) (walk : Walk) (came : Came content size walk None) →
-    came.left ≡ [] → ⊥
-some_chunk content size walk came none =
-    let tree = tree_of (sha512_cut content.bits) content.version content.pairs in
-    let top = ap length (top_last content.version tree.level tree.tree) in
-    let long = length-append (chunks_below content.version tree.level tree.tree)
-    (bytes_of content.version tree.level tree.tree ∷ []) in
-    let are = ap length (came.are ∙ ap (λ left. came.before ++ left) none ∙
-    append-nil came.before ∙ came.is) in
-    omega (arith, top, long, are)
+pub some_chunk : (content : Content) → 0 < length (chunks_of content)
+some_chunk content =
+    let tree = tree_of (sha512_cut content.bits) content.version content.pairs in omega (
+      arith,
+      ap length (top_last content.version tree.level tree.tree),
+      length-append (chunks_below content.version tree.level tree.tree)
+          (bytes_of content.version tree.level tree.tree ∷ []),
+    )
 
--- ---- over the chunks of a tree
+-- ---- to a level
 
--- the walk is among those below the top
-pub record IsAmid (version : Version) (level : ℕ) (t : Tree level) (size : ℕ)
-    (before : List (List ℕ)) (walk : Walk) : Type 0 where
-  pub passed : List (List ℕ)
-  pub rest : List (List ℕ)
-  pub below : chunks_below version level t ≡ passed ++ rest
-  pub stands : StandsBehind size (before ++ passed) walk
-
-module _ (content : Content) (level : ℕ) (t : Tree level) (size : ℕ)
-    (before left : List (List ℕ))
-    (are : chunks_of content ≡ before ++ (chunks_of_tree content.version level t ++ left)) where
-  abbrev version : Version
-  version = content.version
-
-  abbrev top : List ℕ
-  top = bytes_of version level t
-
-  pub amid_first : (walk : Walk) → StandsBehind size before walk →
-      IsAmid version level t size before walk
-  amid_first walk stands = record {
-    passed = [];
-    rest = chunks_below version level t;
-    below = refl;
-    stands = subst (λ b. StandsBehind size b walk) (sym (append-nil before)) stands;
-  }
-
-  module _ (walk : Walk) (amid : IsAmid version level t size before walk) where
-    -- what is left from there on
-    abbrev ahead : List (List ℕ) → List (List ℕ)
-    ahead rest = rest ++ (top ∷ left)
-
-    pub parts : chunks_of content ≡ (before ++ amid.passed) ++ ahead amid.rest
-    parts = are ∙ ap (λ cs. before ++ (cs ++ left)) (top_last version level t ∙
-        ap (λ cs. cs ++ top ∷ []) amid.below) ∙
-        ap (λ cs. before ++ cs) (append_assoc (amid.passed ++ amid.rest) (top ∷ []) left ∙
-        append_assoc amid.passed amid.rest (top ∷ left)) ∙
-        sym (append_assoc before amid.passed (ahead amid.rest))
-
-    -- there is a chunk
-    pub not_over : (new : Walk) →
-        GoesOver size (before ++ amid.passed) (ahead amid.rest) new (Ok None) → ⊥
-    not_over new = by_what_is_left amid.rest
-      where
-        by_what_is_left : (rest : List (List ℕ)) → ahead rest ≡ [] → ⊥
-        by_what_is_left [] e = cc
-        by_what_is_left (r ∷ rest) e = cc
-
-    module _ (new : Walk) (frame : Frame)
-        (over : GoesOver size (before ++ amid.passed) (ahead amid.rest) new (Ok (Some frame)))
-      where
-        -- of the level of the top is the top alone
-        pub over_top : frame.level ≡ level → IsFrameOfTop version level t before frame ×
-            StandsBehind size (before ++ chunks_of_tree version level t) new
-        over_top same = by_what_is_left amid.rest amid.below over
-          where
-            by_what_is_left : (rest : List (List ℕ)) →
-                chunks_below version level t ≡ amid.passed ++ rest →
-                GoesOver size (before ++ amid.passed) (ahead rest) new (Ok (Some frame)) →
-                IsFrameOfTop version level t before frame ×
-                StandsBehind size (before ++ chunks_of_tree version level t) new
-            by_what_is_left [] below over =
-                let all = sym (below ∙ append-nil amid.passed) in (
-                  subst (λ cs. IsFrameOf (before ++ cs) top frame) all over.0,
-                  subst (λ cs. StandsBehind size cs new)
-                      (append_assoc before amid.passed (top ∷ []) ∙
-                      ap (λ cs. before ++ (cs ++ top ∷ [])) all ∙
-                      ap (λ cs. before ++ cs) (sym (top_last version level t))) over.1,
-                )
-            by_what_is_left (r ∷ rest) below over =
-                let low = (all_back (IsLower version level) amid.passed (r ∷ rest)
-                (subst (AllByRecursion (IsLower version level)) below
-                (all_lower version level t))).0
-                in absurd (omega (arith, low, over.0.level, same))
-
-        -- of another one is a chunk below it
-        pub over_lower : (frame.level ≡ level → ⊥) → IsAmid version level t size before new
-        over_lower other = by_what_is_left amid.rest amid.below over
-          where
-            by_what_is_left : (rest : List (List ℕ)) →
-                chunks_below version level t ≡ amid.passed ++ rest →
-                GoesOver size (before ++ amid.passed) (ahead rest) new (Ok (Some frame)) →
-                IsAmid version level t size before new
-            by_what_is_left [] below over = absurd (other (over.0.level ∙ level_is version level t))
-            by_what_is_left (r ∷ rest) below over = record {
-              passed = amid.passed ++ r ∷ [];
-              rest = rest;
-              below = below ∙ sym (append_assoc amid.passed (r ∷ []) rest);
-              stands = subst (λ cs. StandsBehind size cs new)
-                  (append_assoc before amid.passed (r ∷ [])) over.1;
-            }
+-- no chunk before the next one is of the level, nor is that one
+pub none_more : (content : Content) (level from number : ℕ) →
+    NoneBetween content level from number →
+    (level_of (nth_chunk content number) ≡ level → ⊥) →
+    NoneBetween content level from (number + 1)
+none_more content level from number none other n above below same =
+    by_order (cases_lt n number)
+  where
+    by_order : (n < number) ⊎ (number ≤ n) → ⊥
+    by_order (inl before) = none n above before same
+    by_order (inr behind) =
+        let e : n ≡ number = omega (arith, behind, below) in
+        other (subst (λ n. level_of (nth_chunk content n) ≡ level) e same)

@@ -1,6 +1,6 @@
 -- Going down from the root in a file on a device.
 use Rattle.std.specs.Prelude.{◌≡◌, ℕ, ◌⊎◌, List, [], ◌∷◌, ◌++◌, map, Option, Some, Result, Ok}
-use Rattle.std.specs.Prelude.{Err, IfErr}
+use Rattle.std.specs.Prelude.{Err, IfErr, ◌+◌, length}
 use Rattle.std.specs.List.{flat_map}
 use Rattle.prolly_check.specs.Checked.{chunks_of}
 use Rattle.prolly_check.specs.Content.{Content}
@@ -15,7 +15,7 @@ use Rattle.prolly_file.specs.Device.{DeviceView}
 use Rattle.prolly_tree.specs.Chunk.{post_order}
 use Rattle.prolly_tree.specs.File.{root_reference}
 use Rattle.prolly_tree.specs.Tree.{Tree, bytes_of}
-use Rattle.prolly_proof.specs.Walks.{HoldsFile, IsFrameOfTop, OnlyRead, StandsBehind}
+use Rattle.prolly_proof.specs.Walks.{HoldsFile, IsFrame, IsWalk, OnlyRead, chunks_below}
 use Rattle.prolly_proof.specs.Walks.{chunks_of_tree}
 use Rattle.prolly_proof.specs.declared.descent.Descent.{Descent}
 use Rattle.prolly_proof.specs.declared.level.Level.{Level}
@@ -68,14 +68,16 @@ ReadsLawful device version root result = (content : Content) → HoldsFile devic
     root ≡ root_reference (sha512_cut content.bits) content.version content.pairs →
     IfErr result OnlyRead
 
--- The place is that of the top of this tree of the file, and where the frames of the tree begin.
+-- The place is that of the top of this tree of the file, and of where the frames of the tree begin.
 pub record IsPlaceOf (content : Content) (level : ℕ) (t : Tree level) (size : ℕ) (place : Place)
     : Type 0 where
   pub before : List (List ℕ)
   pub left : List (List ℕ)
   pub are : chunks_of content ≡ before ++ (chunks_of_tree content.version level t ++ left)
-  pub below : StandsBehind size before place.below
-  pub frame : IsFrameOfTop content.version level t before place.frame
+  pub below : IsWalk content size place.below
+  pub first : place.below.number ≡ length before
+  pub frame : IsFrame content place.frame
+  pub top : place.frame.number ≡ length before + length (chunks_below content.version level t)
 
 -- The chunks of trees in the order of the file.
 abbrev pub chunks_of_trees : Content → (level : ℕ) → List (Tree level) → List (List ℕ)

@@ -1,9 +1,11 @@
 -- Going over the frames of a chunk file on a device.
-use Rattle.std.specs.Prelude.{◌≡◌, ℕ, zero, suc, ◌+◌, ◌^◌, ◌<◌, true, List, [], ◌∷◌, ◌++◌, length}
-use Rattle.std.specs.Prelude.{map, Option}
+use Rattle.std.specs.Prelude.{◌≡◌, ℕ, zero, suc, ◌+◌, ◌^◌, ◌<◌, ◌≤◌, ◌⊎◌, true, List, [], ◌∷◌, length}
+use Rattle.std.specs.Prelude.{map, take, Option}
 use Rattle.std.specs.Prelude.{Some, None, Result, Ok, Err}
 use Rattle.std.specs.List.{flat_map}
+use Rattle.prolly_check.specs.Checked.{chunks_of}
 use Rattle.prolly_check.specs.Content.{Content}
+use Rattle.prolly_check.specs.FileWays.{nth_chunk}
 use Rattle.prolly_check.specs.Verdict.{IsFileOf}
 use Rattle.prolly_check.specs.Way.{level_of}
 use Rattle.prolly_entry.specs.declared.version.Version.{Version}
@@ -17,7 +19,7 @@ use Rattle.prolly_proof.specs.declared.root_fault.RootFault.TheVariants.{Read}
 use Rattle.prolly_proof.specs.declared.walk.Frame.{Frame}
 use Rattle.prolly_proof.specs.declared.walk.Walk.{Walk}
 use Rattle.prolly_tree.specs.Chunk.{post_order}
-use Rattle.prolly_tree.specs.Tree.{Tree, bytes_of}
+use Rattle.prolly_tree.specs.Tree.{Tree}
 
 -- ---- the device
 
@@ -54,29 +56,65 @@ IsStartOf (chunk ∷ left) (Ok (Chunk len level)) = (len ≡ length chunk) × (l
 
 -- ---- the frames
 
--- Where the frame behind these chunks begins.
-abbrev pub place_behind : List (List ℕ) → ℕ
-place_behind before = 6 + length (flat_map framed before)
+-- Where the frame of the chunk of this number begins.
+abbrev pub offset_of : Content → ℕ → ℕ
+offset_of content number = 6 + length (flat_map framed (take number (chunks_of content)))
 
--- The walk stands behind these chunks of a file with so many bytes.
-pub record StandsBehind (size : ℕ) (before : List (List ℕ)) (walk : Walk) : Type 0 where
-  pub place : walk.place ≡ place_behind before
+-- The walk stands before the chunk of its number, or behind the last one, of a file with so many
+-- bytes.
+pub record IsWalk (content : Content) (size : ℕ) (walk : Walk) : Type 0 where
+  pub within : walk.number ≤ length (chunks_of content)
+  pub offset : walk.offset ≡ offset_of content walk.number
   pub whole : walk.size ≡ size
 
--- The frame is that of the chunk that stands behind these.
-pub record IsFrameOf (before : List (List ℕ)) (chunk : List ℕ) (frame : Frame) : Type 0 where
-  pub start : frame.start ≡ place_behind before + 9
-  pub len : frame.len ≡ length chunk
-  pub level : frame.level ≡ level_of chunk
+-- The frame is that of the chunk of its number.
+pub record IsFrame (content : Content) (frame : Frame) : Type 0 where
+  pub within : frame.number < length (chunks_of content)
+  pub start : frame.start ≡ offset_of content frame.number + 9
+  pub len : frame.len ≡ length (nth_chunk content frame.number)
+  pub level : frame.level ≡ level_of (nth_chunk content frame.number)
 
--- The walk went over the frame of the first chunk that was left, or none was left.
-abbrev pub GoesOver : ℕ → List (List ℕ) → List (List ℕ) → Walk → Result (Option Frame) RootFault →
-    Type 0
-GoesOver size before left walk (Err fault) = OnlyRead fault
-GoesOver size before left walk (Ok None) = left ≡ []
-GoesOver size before [] walk (Ok (Some frame)) = ⊥
-GoesOver size before (chunk ∷ left) walk (Ok (Some frame)) = IsFrameOf before chunk frame ×
-    StandsBehind size (before ++ chunk ∷ []) walk
+-- The walk went over the frame of the chunk of this number; or it stood behind the last one.
+abbrev pub GoesOver : Content → ℕ → ℕ → Walk → Result (Option Frame) RootFault → Type 0
+GoesOver content size number walk (Err fault) = OnlyRead fault
+GoesOver content size number walk (Ok None) = number ≡ length (chunks_of content)
+GoesOver content size number walk (Ok (Some frame)) = IsFrame content frame ×
+    (frame.number ≡ number) × IsWalk content size walk × (walk.number ≡ number + 1)
+
+-- ---- the chunks of a level
+
+-- From the one number up to, and without, the other no chunk is of the level.
+abbrev pub NoneBetween : Content → ℕ → ℕ → ℕ → Type 0
+NoneBetween content level from to = (n : ℕ) → from ≤ n → n < to →
+    level_of (nth_chunk content n) ≡ level → ⊥
+
+-- The chunk of this number is the first of the level from the one number on.
+pub record IsFirst (content : Content) (level from n : ℕ) : Type 0 where
+  pub from_on : from ≤ n
+  pub within : n < length (chunks_of content)
+  pub is : level_of (nth_chunk content n) ≡ level
+  pub none : NoneBetween content level from n
+
+-- It is the one with k of the level before it, from the one number on.
+abbrev pub IsNth : Content → ℕ → ℕ → ℕ → ℕ → Type 0
+IsNth content level from zero n = IsFirst content level from n
+IsNth content level from (suc k) n = (m : ℕ) × IsNth content level from k m ×
+    IsFirst content level (suc m) n
+
+-- The number is the one behind k chunks of the level from the one number on, of which the last is
+-- right before it.
+abbrev pub IsBehind : Content → ℕ → ℕ → ℕ → ℕ → Type 0
+IsBehind content level from zero n = n ≡ from
+IsBehind content level from (suc k) n = (m : ℕ) × IsNth content level from k m × (n ≡ suc m)
+
+-- The walk went over the frame of the first chunk of the level from this number on; or there is
+-- none.
+abbrev pub GoesToLevel : Content → ℕ → ℕ → ℕ → Walk → Result Frame RootFault → Type 0
+GoesToLevel content size level number walk (Ok frame) = IsFrame content frame ×
+    IsFirst content level number frame.number × IsWalk content size walk ×
+    (walk.number ≡ suc frame.number)
+GoesToLevel content size level number walk (Err fault) =
+    NoneBetween content level number (length (chunks_of content)) ⊎ OnlyRead fault
 
 -- ---- the trees
 
@@ -89,16 +127,3 @@ chunks_below version (suc level) ts =
 -- Those of the tree.
 abbrev pub chunks_of_tree : Version → (level : ℕ) → Tree level → List (List ℕ)
 chunks_of_tree version level t = map (λ c. c.bytes) (post_order version level t)
-
--- The frame is that of the top of the tree whose chunks stand behind these.
-abbrev pub IsFrameOfTop : Version → (level : ℕ) → Tree level → List (List ℕ) → Frame → Type 0
-IsFrameOfTop version level t before frame =
-    IsFrameOf (before ++ chunks_below version level t) (bytes_of version level t) frame
-
--- The walk went over the chunks of the tree that stand behind these, and the frame is that of the
--- tree's top.
-abbrev pub GoesOverTree : ℕ → Version → (level : ℕ) → Tree level → List (List ℕ) → Walk →
-    Result Frame RootFault → Type 0
-GoesOverTree size version level t before walk (Ok frame) = IsFrameOfTop version level t before frame
-    × StandsBehind size (before ++ chunks_of_tree version level t) walk
-GoesOverTree size version level t before walk (Err fault) = OnlyRead fault

@@ -1,5 +1,5 @@
 //! The places of the children of a node, which are found one behind another.
-ghost use Rattle.std.specs.Prelude.{◌≡◌, ◌≤◌, ℕ, List, length, IfOk, IfErr};
+ghost use Rattle.std.specs.Prelude.{◌≡◌, ◌≤◌, ℕ, length, IfOk, IfErr};
 
 use crate::place::Place;
 use crate::root_fault::RootFault;
@@ -34,12 +34,10 @@ struct Reached {
 }
 
 impl FramesBelow {
-    ghost use Rattle.prolly_check.specs.Checked.{chunks_of};
     ghost use Rattle.prolly_check.specs.Content.{Content};
-    ghost use Rattle.prolly_proof.specs.Descents.{IsPlaceOf};
-    ghost use Rattle.prolly_proof.specs.Kept.{IsReached, KeepsPassed, StandsAmong};
-    ghost use Rattle.prolly_proof.specs.Walks.{HoldsFile, OnlyRead, StaysSame, TellsReads};
-    ghost use Rattle.prolly_tree.specs.Tree.{Tree};
+    ghost use Rattle.prolly_proof.specs.Kept.{IsPlaceNth, KeepsPassed};
+    ghost use Rattle.prolly_proof.specs.Walks.{HoldsFile, IsBehind, IsNth, IsWalk, OnlyRead};
+    ghost use Rattle.prolly_proof.specs.Walks.{StaysSame, TellsReads};
 
     /// The place of the child of this number. The children are of this level.
     ///
@@ -59,17 +57,15 @@ impl FramesBelow {
             KeepsPassed content (length (D.seen device.old).bytes) level self.old.first
             self.old.last → KeepsPassed content (length (D.seen device.old).bytes) level
             self.new.first self.new.last }
-        ensures place { (content : Content) (t : Tree level) →
-            HoldsFile (D.seen device.old) content →
+        ensures place { (content : Content) → HoldsFile (D.seen device.old) content →
             KeepsPassed content (length (D.seen device.old).bytes) level self.old.first
-            self.old.last → StandsAmong content (length (D.seen device.old).bytes) level t
-            self.old.first number →
-            IfOk result (IsPlaceOf content level t (length (D.seen device.old).bytes)) }
-        ensures only { (content : Content) (t : Tree level) →
-            HoldsFile (D.seen device.old) content →
+            self.old.last → IsWalk content (length (D.seen device.old).bytes) self.old.first →
+            IfOk result (IsPlaceNth content (length (D.seen device.old).bytes) level
+            self.old.first.number number) }
+        ensures only { (content : Content) (n : ℕ) → HoldsFile (D.seen device.old) content →
             KeepsPassed content (length (D.seen device.old).bytes) level self.old.first
-            self.old.last → StandsAmong content (length (D.seen device.old).bytes) level t
-            self.old.first number → IfErr result OnlyRead }
+            self.old.last → IsWalk content (length (D.seen device.old).bytes) self.old.first →
+            IsNth content level self.old.first.number number n → IfErr result OnlyRead }
     {
         if let Some(passed) = self.last {
             if passed.number == number {
@@ -100,7 +96,8 @@ impl FramesBelow {
         ensures near { result.count ≤ number }
         ensures reached { (content : Content) (size level : ℕ) →
             KeepsPassed content size level self.now.first self.now.last →
-            IsReached content size level self.now.first result.count result.walk }
+            IsWalk content size self.now.first → IsWalk content size result.walk ×
+            IsBehind content level self.now.first.number result.count result.walk.number }
     {
         match self.last {
             Some(passed) if passed.number < number => Reached {

@@ -1,15 +1,15 @@
 //! A chunk on the way of a look-up by the root.
 ghost use Rattle.std.specs.Prelude.{◌≡◌, ◌<◌, ◌∷◌, ◌++◌, ℕ, List, Option, length, IfOk, IfErr};
 ghost use Rattle.std.specs.Prelude.{IfSome, IsOk, OnOk};
-ghost use Rattle.prolly_check.specs.Checked.{chunks_of};
 ghost use Rattle.prolly_check.specs.Content.{Content};
+ghost use Rattle.prolly_check.specs.FileWays.{nth_chunk};
 ghost use Rattle.prolly_check.specs.Held.{pairs_held};
 ghost use Rattle.prolly_check.specs.Sought.{sought_of};
 ghost use Rattle.prolly_check.specs.Way.{IsNamed, IsOrdered};
 ghost use Rattle.prolly_entry.specs.Reference.{reference_of};
 ghost use Rattle.prolly_proof.specs.Descents.{MayFail, StandsAtTree};
 ghost use Rattle.prolly_proof.specs.Kept.{IsAtDue, IsLevel, KeepsLevel};
-ghost use Rattle.prolly_proof.specs.Walks.{HoldsFile, IsFrameOf, StaysSame, TellsReads};
+ghost use Rattle.prolly_proof.specs.Walks.{HoldsFile, IsFrame, StaysSame, TellsReads};
 
 use crate::below::FramesBelow;
 use crate::place::Place;
@@ -188,12 +188,11 @@ pub(crate) fn level_at<D: Device>(
 fn read_chunk<D: Device>(alloc: Global, device: &mut D, frame: &Frame) -> Result<Vec<u8>, RootFault>
     ensures same { StaysSame (D.seen device.old) (D.seen device.new) }
     ensures reads { TellsReads (D.seen device.old).failures (D.seen device.new).failures result }
-    ensures is { (content : Content) (before left : List (List ℕ)) (chunk : List ℕ) →
-        HoldsFile (D.seen device.old) content → chunks_of content ≡ before ++ chunk ∷ left →
-        IsFrameOf before chunk frame.now → IfOk result (λ bytes. bytes.items ≡ chunk) }
-    ensures only { (content : Content) (before left : List (List ℕ)) (chunk : List ℕ) →
-        HoldsFile (D.seen device.old) content → chunks_of content ≡ before ++ chunk ∷ left →
-        IsFrameOf before chunk frame.now → IfErr result MayFail }
+    ensures is { (content : Content) → HoldsFile (D.seen device.old) content →
+        IsFrame content frame.now →
+        IfOk result (λ bytes. bytes.items ≡ nth_chunk content frame.now.number) }
+    ensures only { (content : Content) → HoldsFile (D.seen device.old) content →
+        IsFrame content frame.now → IfErr result MayFail }
 {
     let mut chunk = vec![in alloc; 0; frame.len as usize]?;
     let count = device.read_at(frame.start, &mut chunk)?;

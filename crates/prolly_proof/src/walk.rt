@@ -1,5 +1,5 @@
 //! The frames of a chunk file on a device, one after another.
-ghost use Rattle.std.specs.Prelude.{◌≡◌, ◌+◌, ◌^◌, ◌<◌, ◌≤◌, ℕ, [], ◌∷◌, ◌++◌, List, length, Ok};
+ghost use Rattle.std.specs.Prelude.{◌≡◌, ◌+◌, ◌-◌, ◌^◌, ◌<◌, ◌≤◌, ℕ, [], ◌∷◌, ◌++◌, List, length, drop, Ok};
 ghost use Rattle.std.specs.Prelude.{None, OnOk, IfOk, IfErr, IsOk, IfSome};
 ghost use Rattle.prolly_file.specs.Frame.{frame_start};
 
@@ -23,10 +23,10 @@ pub(crate) struct Frame {
     pub(crate) level: u8,
 }
 
-/// A place between two frames of a file.
+/// A place between two frames of a file: where the next one begins.
 #[derive(Clone, Copy, PartialEq, Eq)]
 pub(crate) struct Walk {
-    place: u64,
+    offset: u64,
     /// The number of the chunk whose frame is next.
     number: u64,
     /// The size of the file.
@@ -36,10 +36,8 @@ pub(crate) struct Walk {
 impl Walk {
     ghost use Rattle.prolly_check.specs.Checked.{chunks_of};
     ghost use Rattle.prolly_check.specs.Content.{Content};
-    ghost use Rattle.prolly_proof.specs.Walks.{HoldsFile, StaysSame, TellsReads, StandsBehind};
-    ghost use Rattle.prolly_proof.specs.Walks.{IsStartOf, GoesOver, GoesOverTree, IsFrameOf};
-    ghost use Rattle.prolly_proof.specs.Walks.{OnlyRead, chunks_of_tree};
-    ghost use Rattle.prolly_tree.specs.Tree.{Tree};
+    ghost use Rattle.prolly_proof.specs.Walks.{GoesOver, GoesToLevel, HoldsFile, IsFrame, IsStartOf};
+    ghost use Rattle.prolly_proof.specs.Walks.{IsWalk, OnlyRead, StaysSame, TellsReads};
 
     /// The place before the first frame of a chunk file of this version.
     pub(crate) fn begin<D: Device>(device: &mut D, version: Version) -> Result<Walk, RootFault>
@@ -47,8 +45,8 @@ impl Walk {
         ensures reads { TellsReads (D.seen device.old).failures (D.seen device.new).failures
             result }
         ensures begins { (content : Content) → HoldsFile (D.seen device.old) content →
-            version ≡ content.version →
-            IfOk result (StandsBehind (length (D.seen device.old).bytes) []) }
+            version ≡ content.version → IfOk result (λ walk. (walk.number ≡ 0) ×
+            IsWalk content (length (D.seen device.old).bytes) walk) }
         ensures only { (content : Content) → HoldsFile (D.seen device.old) content →
             version ≡ content.version → IfErr result OnlyRead }
     {
@@ -56,7 +54,7 @@ impl Walk {
         let count = device.read_at(0, &mut start)?;
         match read_header(&start[..count]) {
             Ok(header) if header.version == version => Ok(Walk {
-                place: HEADER_SIZE as u64,
+                offset: HEADER_SIZE as u64,
                 number: 0,
                 size: device.len()?,
             }),
@@ -72,14 +70,13 @@ impl Walk {
         ensures reads { TellsReads (D.seen device.old).failures (D.seen device.new).failures
             result }
         ensures size { self.new.size ≡ self.old.size }
-        ensures within { IfOk result (λ next. IfSome next (λ frame. self.new.place ≤
+        ensures within { IfOk result (λ next. IfSome next (λ frame. self.new.offset ≤
             self.new.size)) }
-        ensures forward { IfOk result (λ next. IfSome next (λ frame. self.old.place <
-            self.new.place)) }
-        ensures goes { (content : Content) (before left : List (List ℕ)) →
-            HoldsFile (D.seen device.old) content → chunks_of content ≡ before ++ left →
-            StandsBehind (length (D.seen device.old).bytes) before self.old →
-            GoesOver (length (D.seen device.old).bytes) before left self.new result }
+        ensures forward { IfOk result (λ next. IfSome next (λ frame. self.old.offset <
+            self.new.offset)) }
+        ensures goes { (content : Content) → HoldsFile (D.seen device.old) content →
+            IsWalk content (length (D.seen device.old).bytes) self.old →
+            GoesOver content (length (D.seen device.old).bytes) self.old.number self.new result }
     {
         match self.start(device)? {
             FrameStart::End => self.end(),
@@ -96,11 +93,9 @@ impl Walk {
         ensures same { StaysSame (D.seen device.old) (D.seen device.new) }
         ensures reads { TellsReads (D.seen device.old).failures (D.seen device.new).failures
             result }
-        ensures goes { (content : Content) (t : Tree level) (before left : List (List ℕ)) →
-            HoldsFile (D.seen device.old) content →
-            chunks_of content ≡ before ++ (chunks_of_tree content.version level t ++ left) →
-            StandsBehind (length (D.seen device.old).bytes) before self.old →
-            GoesOverTree (length (D.seen device.old).bytes) content.version level t before self.new
+        ensures goes { (content : Content) → HoldsFile (D.seen device.old) content →
+            IsWalk content (length (D.seen device.old).bytes) self.old →
+            GoesToLevel content (length (D.seen device.old).bytes) level self.old.number self.new
             result }
     {
         loop {
@@ -117,12 +112,13 @@ impl Walk {
         ensures same { StaysSame (D.seen device.old) (D.seen device.new) }
         ensures reads { TellsReads (D.seen device.old).failures (D.seen device.new).failures
             result }
-        ensures last { (content : Content) (before : List (List ℕ)) (chunk : List ℕ) →
-            HoldsFile (D.seen device.old) content → chunks_of content ≡ before ++ chunk ∷ [] →
-            StandsBehind (length (D.seen device.old).bytes) [] self →
-            IfOk result (IsFrameOf before chunk) }
+        ensures last { (content : Content) → HoldsFile (D.seen device.old) content →
+            IsWalk content (length (D.seen device.old).bytes) self →
+            IfOk result (λ frame. IsFrame content frame ×
+            (frame.number ≡ length (chunks_of content) - 1)) }
         ensures only { (content : Content) → HoldsFile (D.seen device.old) content →
-            StandsBehind (length (D.seen device.old).bytes) [] self → IfErr result OnlyRead }
+            IsWalk content (length (D.seen device.old).bytes) self → self.number ≡ 0 →
+            IfErr result OnlyRead }
     {
         let mut last = None;
         while let Some(frame) = self.next(device)? {
@@ -139,23 +135,22 @@ impl Walk {
         ensures same { StaysSame (D.seen device.old) (D.seen device.new) }
         ensures reads { TellsReads (D.seen device.old).failures (D.seen device.new).failures
             result }
-        ensures is { (content : Content) (before left : List (List ℕ)) →
-            HoldsFile (D.seen device.old) content → chunks_of content ≡ before ++ left →
-            StandsBehind (length (D.seen device.old).bytes) before self.now →
-            IsStartOf left result }
+        ensures is { (content : Content) → HoldsFile (D.seen device.old) content →
+            IsWalk content (length (D.seen device.old).bytes) self.now →
+            IsStartOf (drop self.now.number (chunks_of content)) result }
     {
         let mut start = [0; FRAME_FRONT];
-        let count = device.read_at(self.place, &mut start)?;
+        let count = device.read_at(self.offset, &mut start)?;
         start_in(&start[..count], self.number)
     }
 
     /// None, where the end record, which begins here, ends where the file does.
     fn end(&self) -> Result<Option<Frame>, RootFault>
         ensures none { IfOk result (λ next. next ≡ None) }
-        ensures end { self.now.place + END_SIZE ≡ self.now.size → result ≡ Ok None }
+        ensures end { self.now.offset + END_SIZE ≡ self.now.size → result ≡ Ok None }
         ensures read { IfErr result (λ fault. fault ≡ RootFault.Read → ⊥) }
     {
-        let left = self.size.saturating_sub(self.place);
+        let left = self.size.saturating_sub(self.offset);
         if left < END_SIZE as u64 {
             return Err(RootFault::Truncated);
         }
@@ -168,12 +163,14 @@ impl Walk {
     /// Goes over the frame of a chunk of this length and level.
     fn pass(&mut self, len: u64, level: u8) -> Result<Frame, RootFault>
         ensures size { self.new.size ≡ self.old.size }
-        ensures within { OnOk result (self.new.place ≤ self.new.size) }
-        ensures forward { OnOk result (self.old.place < self.new.place) }
-        ensures place { OnOk result (self.new.place ≡ self.old.place + 9 + len) }
-        ensures frame { IfOk result (λ frame. (frame.start ≡ self.old.place + 9) ×
-            (frame.len ≡ len) × (frame.level ≡ level)) }
-        ensures fits { 0 < len → self.old.place + 9 + len ≤ self.old.size → IsOk result }
+        ensures within { OnOk result (self.new.offset ≤ self.new.size) }
+        ensures forward { OnOk result (self.old.offset < self.new.offset) }
+        ensures offset { OnOk result (self.new.offset ≡ self.old.offset + 9 + len) }
+        ensures number { self.old.number + 1 < 2 ^ 64 →
+            OnOk result (self.new.number ≡ self.old.number + 1) }
+        ensures frame { IfOk result (λ frame. (frame.number ≡ self.old.number) ×
+            (frame.start ≡ self.old.offset + 9) × (frame.len ≡ len) × (frame.level ≡ level)) }
+        ensures fits { 0 < len → self.old.offset + 9 + len ≤ self.old.size → IsOk result }
         ensures read { IfErr result (λ fault. fault ≡ RootFault.Read → ⊥) }
     {
         if len == 0 {
@@ -181,18 +178,18 @@ impl Walk {
         }
         let room = self
             .size
-            .saturating_sub(self.place)
+            .saturating_sub(self.offset)
             .saturating_sub(FRAME_START as u64);
         if len > room {
             return Err(RootFault::Truncated);
         }
         let frame = Frame {
             number: self.number,
-            start: self.place + FRAME_START as u64,
+            start: self.offset + FRAME_START as u64,
             len,
             level,
         };
-        self.place = frame.start + len;
+        self.offset = frame.start + len;
         self.number = self.number.saturating_add(1);
         Ok(frame)
     }

@@ -1,8 +1,7 @@
-use Rattle.std.proofs.Common.{◌≡◌, length, Ok, Err, refl, ◌∙◌, subst, arith, rules}
-use Rattle.prolly_proof.specs.Kept.{IsReached}
-use Rattle.prolly_proof.specs.Walks.{OnlyRead}
-use Rattle.prolly_proof.proofs.Keeping.{has_tree, place_among, place_found, reached_more}
-use Rattle.prolly_proof.proofs.Walking.{stays, tree_from}
+use Rattle.std.proofs.Common.{◌≡◌, inl, inr, length, Ok, Err, refl, ◌∙◌, subst, arith, rules}
+use Rattle.prolly_proof.specs.Walks.{IsBehind, OnlyRead}
+use Rattle.prolly_proof.proofs.Keeping.{behind_next, not_none, nth_next}
+use Rattle.prolly_proof.proofs.Walking.{level_from, stays}
 use Rattle.prolly_proof.proofs.below.FramesBelow.child.Goals as goal
 
 pub loop-count-init : goal.loop-count-init
@@ -10,21 +9,23 @@ loop-count-init g c = record {
   near = c.nearest-count.ensures.near;
   same = λ honest. (honest, refl);
   reads = refl;
-  reached = λ content holds keeps. c.nearest-count.ensures.reached content
-      (length (g.D.Device.seen c.args.device.now).bytes) c.args.level keeps;
+  reached = λ content holds keeps first. c.nearest-count.ensures.reached content
+      (length (g.D.Device.seen c.args.device.now).bytes) c.args.level keeps first;
 }
 
 pub returns-in_err-next_of_level-clause-only : goal.returns-in_err-next_of_level-clause-only
-returns-in_err-next_of_level-clause-only g c content t holds keeps among =
+returns-in_err-next_of_level-clause-only g c content n holds keeps first nth =
     let old = g.D.Device.seen c.args.device.now in
-    let at = has_tree content (length old.bytes) c.args.level c.args.self.now.first t c.args.number
-    among c.loop-count.count c.loop-count.walk c.loop-count.invariant.near
-    (c.loop-count.invariant.reached content holds keeps) in
-    let only : OnlyRead c.in_err-next_of_level.field-0.0 =
-    tree_from old (g.D.Device.seen c.loop-count.device) content c.args.level at.next
-    c.loop-count.walk c.next_of_level.new.self (Err c.in_err-next_of_level.field-0.0)
-    c.loop-count.invariant.same holds c.in_err-next_of_level.ensures.goes at.before at.left at.are
-    at.stands in
+    let at = c.loop-count.invariant.reached content holds keeps first in
+    let only : OnlyRead c.in_err-next_of_level.field-0.0 = elim (level_from old
+    (g.D.Device.seen c.loop-count.device) content c.args.level c.loop-count.walk
+    c.next_of_level.new.self (Err c.in_err-next_of_level.field-0.0) c.loop-count.invariant.same
+    holds c.in_err-next_of_level.ensures.goes at.0) [
+      | inl none ↦ absurd (not_none content c.args.level c.args.number c.loop-count.count
+          c.args.self.now.first.number c.loop-count.walk.number n c.loop-count.invariant.near at.1
+          nth none)
+      | inr only ↦ only
+    ] in
     search rules
 
 pub loop-count-preserved : goal.loop-count-preserved
@@ -36,52 +37,52 @@ loop-count-preserved g c =
       near = omega (arith, c.loop-count-test.true);
       same = stays old mid (g.D.Device.seen c.next_of_level.new.device) before.same over.same;
       reads = over.reads ∙ before.reads;
-      reached = λ content holds keeps ts front left long are stands.
-          reached_more content (length old.bytes) c.args.level c.args.self.now.first
-          c.loop-count.count c.loop-count.walk c.next_of_level.new.self
-          c.in_ok-next_of_level.field-0 (before.reached content holds keeps)
-          (λ t front left. tree_from old mid content c.args.level t c.loop-count.walk
+      reached = λ content holds keeps first.
+          let at = before.reached content holds keeps first in
+          let goes = level_from old mid content c.args.level c.loop-count.walk
           c.next_of_level.new.self (Ok c.in_ok-next_of_level.field-0) before.same holds over.goes
-          front left) ts front left (omega (arith, long)) are stands;
+          at.0 in (
+            goes.2,
+            behind_next content c.args.level c.args.self.now.first.number c.loop-count.count
+                c.loop-count.walk.number c.in_ok-next_of_level.field-0.number
+                c.next_of_level.new.self.number at.1 goes.1 goes.3,
+          );
     }
 
 pub returns-in_err-frame-clause-only : goal.returns-in_err-frame-clause-only
-returns-in_err-frame-clause-only g c content t holds keeps among =
+returns-in_err-frame-clause-only g c content n holds keeps first nth =
     let old = g.D.Device.seen c.args.device.now in
-    let at = has_tree content (length old.bytes) c.args.level c.args.self.now.first t c.args.number
-    among c.loop-count.count c.loop-count.walk c.loop-count.invariant.near
-    (c.loop-count.invariant.reached content holds keeps) in
-    let only : OnlyRead c.in_err-frame.field-0.0 =
-    tree_from old (g.D.Device.seen c.loop-count.device) content c.args.level at.next
-    c.loop-count.walk c.next_of_level-2.new.self (Err c.in_err-frame.field-0.0)
-    c.loop-count.invariant.same holds c.in_err-frame.ensures.goes at.before at.left at.are
-    at.stands in
+    let at = c.loop-count.invariant.reached content holds keeps first in
+    let only : OnlyRead c.in_err-frame.field-0.0 = elim (level_from old
+    (g.D.Device.seen c.loop-count.device) content c.args.level c.loop-count.walk
+    c.next_of_level-2.new.self (Err c.in_err-frame.field-0.0) c.loop-count.invariant.same
+    holds c.in_err-frame.ensures.goes at.0) [
+      | inl none ↦ absurd (not_none content c.args.level c.args.number c.loop-count.count
+          c.args.self.now.first.number c.loop-count.walk.number n c.loop-count.invariant.near at.1
+          nth none)
+      | inr only ↦ only
+    ] in
     search rules
 
 pub returns-clause-keeps : goal.returns-clause-keeps
-returns-clause-keeps g c content holds keeps =
+returns-clause-keeps g c content holds keeps first =
     let old = g.D.Device.seen c.args.device.now in
-    let first = c.args.self.now.first in
+    let from = c.args.self.now.first.number in
     let walk = c.loop-count.walk in
+    let at = c.loop-count.invariant.reached content holds keeps first in
     let there : c.loop-count.count ≡ c.args.number =
     omega (arith, c.loop-count.invariant.near, c.loop-count-test.false) in
-    let reached = subst (λ n. IsReached content (length old.bytes) c.args.level first n walk) there
-    (c.loop-count.invariant.reached content holds keeps) in (
-      place_among content (length old.bytes) c.args.level first c.args.number walk
-          c.next_of_level-2.new.self c.in_ok-frame.frame reached
-          (λ t before left. tree_from old (g.D.Device.seen c.loop-count.device) content c.args.level
-          t walk c.next_of_level-2.new.self (Ok c.in_ok-frame.frame) c.loop-count.invariant.same
-          holds c.in_ok-frame.ensures.goes before left),
-      reached_more content (length old.bytes) c.args.level first c.args.number walk
-          c.next_of_level-2.new.self c.in_ok-frame.frame reached
-          (λ t before left. tree_from old (g.D.Device.seen c.loop-count.device) content c.args.level
-          t walk c.next_of_level-2.new.self (Ok c.in_ok-frame.frame) c.loop-count.invariant.same
-          holds c.in_ok-frame.ensures.goes before left),
+    let behind = subst (λ k. IsBehind content c.args.level from k walk.number) there at.1 in
+    let goes = level_from old (g.D.Device.seen c.loop-count.device) content c.args.level walk
+    c.next_of_level-2.new.self (Ok c.in_ok-frame.frame) c.loop-count.invariant.same holds
+    c.in_ok-frame.ensures.goes at.0 in
+    let nth = nth_next content c.args.level c.args.number from walk.number
+    c.in_ok-frame.frame.number behind goes.1 in (
+      record { frame = goes.0; nth = nth; below = at.0; behind = behind },
+      goes.2,
+      (c.in_ok-frame.frame.number, nth, goes.3),
     )
 
 pub returns-clause-place : goal.returns-clause-place
-returns-clause-place g c content t holds keeps among =
-    place_found content (length (g.D.Device.seen c.args.device.now).bytes) c.args.level
-    c.args.self.now.first t c.args.number among
-    (record { frame = c.in_ok-frame.frame; below = c.loop-count.walk })
-    (returns-clause-keeps g c content holds keeps).0
+returns-clause-place g c content holds keeps first =
+    (returns-clause-keeps g c content holds keeps first).0

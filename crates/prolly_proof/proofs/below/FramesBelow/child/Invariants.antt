@@ -1,7 +1,7 @@
 use Rattle.std.proofs.Common.{◌≡◌, ◌≤◌, ◌-◌, length}
 use Rattle.prolly_check.specs.Content.{Content}
-use Rattle.prolly_proof.specs.Kept.{IsReached, KeepsPassed}
-use Rattle.prolly_proof.specs.Walks.{HoldsFile, StaysSame}
+use Rattle.prolly_proof.specs.Kept.{KeepsPassed}
+use Rattle.prolly_proof.specs.Walks.{HoldsFile, IsBehind, IsWalk, StaysSame}
 use Rattle.prolly_proof.proofs.below.FramesBelow.child.Given as goal
 
 abbrev pub invariant-loop-count : goal.invariant-loop-count
@@ -12,8 +12,9 @@ invariant-loop-count g l = record {
   reached : (content : Content) → HoldsFile (g.D.Device.seen l.initial.device) content →
       KeepsPassed content (length (g.D.Device.seen l.initial.device).bytes) l.level
       l.initial.self.first l.initial.self.last →
-      IsReached content (length (g.D.Device.seen l.initial.device).bytes) l.level
-      l.initial.self.first l.count l.walk;
+      IsWalk content (length (g.D.Device.seen l.initial.device).bytes) l.initial.self.first →
+      IsWalk content (length (g.D.Device.seen l.initial.device).bytes) l.walk ×
+      IsBehind content l.level l.initial.self.first.number l.count l.walk.number;
 }
 
 abbrev pub decreases-loop-count : goal.decreases-loop-count

@@ -1,4 +1,4 @@
-use Rattle.std.proofs.Common.{◌≡◌, ◌-◌, ℕ, List, length, Some, refl, sym, subst, rules}
+use Rattle.std.proofs.Common.{◌≡◌, ◌-◌, ℕ, List, length, Some, refl, sym, ap, subst, rules}
 use Rattle.prolly_check.specs.Content.{Content}
 use Rattle.prolly_check.specs.Kinds.{kind_of}
 use Rattle.prolly_check.specs.Sought.{IsChildOf, IsMark, sought_of}
@@ -7,8 +7,9 @@ use Rattle.prolly_check.specs.declared.look_up.sought.ChildSought.{ChildSought}
 use Rattle.prolly_check.specs.declared.look_up.sought.Sought.{Sought}
 use Rattle.prolly_entry.specs.declared.version.Version.{Version}
 use Rattle.prolly_proof.specs.Kept.{KeepsPassed}
-use Rattle.prolly_proof.specs.declared.walk.Walk.{Walk}
+use Rattle.prolly_proof.specs.Walks.{IsWalk}
 use Rattle.prolly_proof.proofs.GoingDown.{ChildBelow, child_below, lands}
+use Rattle.prolly_proof.proofs.Keeping.{place_found, top_nth}
 use Rattle.prolly_proof.proofs.level.Level.step.Goals as goal
 
 pub returns-in_err-place-clause-level : goal.returns-in_err-place-clause-level
@@ -34,12 +35,12 @@ on version other read chunk sought child same is h =
     (subst (λ bytes. IsChildOf (sought_of sought) (kind_of version bytes) child) is h)
 
 -- What is below it is looked for where the chunk's own frames begin.
-moved : (content : Content) (size : ℕ) (child : ChildSought) (walk first : Walk) (l high : ℕ) →
-    l ≡ high → first ≡ walk → ChildBelow content size walk child high (high - 1) →
-    ChildBelow content size first child l (l - 1)
-moved content size child walk first l high level same b =
-    subst (λ w. ChildBelow content size w child l (l - 1)) (sym same)
-    (subst (λ n. ChildBelow content size walk child n (n - 1)) (sym level) b)
+moved : (content : Content) (child : ChildSought) (from first l high : ℕ) → l ≡ high →
+    first ≡ from → ChildBelow content from child high (high - 1) →
+    ChildBelow content first child l (l - 1)
+moved content child from first l high level same b =
+    subst (λ n. ChildBelow content n child l (l - 1)) (sym same)
+    (subst (λ n. ChildBelow content from child n (n - 1)) (sym level) b)
 
 pub returns-in_err-place-clause-down : goal.returns-in_err-place-clause-down
 returns-in_err-place-clause-down g c content reference above place holds same keeps at first is =
@@ -49,14 +50,17 @@ returns-in_err-place-clause-down g c content reference above place holds same ke
     let child = c.in-Some.child in
     let l = c.index-level.result.now in
     let level_is : l ≡ level_of chunk = search rules in
-    let b = moved content size child place.below walk l (level_of chunk) level_is first
+    let b = moved content child place.below.number walk.number l (level_of chunk) level_is
+    (ap (λ w. w.number) first)
     (child_below content size c.tops_are_read.ensures.child c.tops_are_read.ensures.read reference
     above place at chunk is (sought_of c.args.sought) child
     (on c.args.version content.version c.deref.result.now chunk c.args.sought child same
     c.deref.ensures.value c.in-Some.ensures.on)) in
     let kept = subst (λ n. KeepsPassed content size (n - 1) walk c.args.self.now.below.last)
     (sym level_is) keeps.passed in
-    let only = c.in_err-place.ensures.only content b.t holds kept b.among in
+    let only = c.in_err-place.ensures.only content _ holds kept
+    (subst (IsWalk content size) (sym first) at.stands.below)
+    (top_nth content (l - 1) b.t walk.number child.number b.among) in
     search rules
 
 pub returns-clause-down : goal.returns-clause-down
@@ -67,7 +71,8 @@ returns-clause-down g c content reference above place holds same keeps at first 
     let child = c.in-Some.child in
     let l = c.index-level.result.now in
     let level_is : l ≡ level_of chunk = search rules in
-    let b = moved content size child place.below walk l (level_of chunk) level_is first
+    let b = moved content child place.below.number walk.number l (level_of chunk) level_is
+    (ap (λ w. w.number) first)
     (child_below content size c.tops_are_read.ensures.child c.tops_are_read.ensures.read reference
     above place at chunk is (sought_of c.args.sought) child
     (on c.args.version content.version c.deref.result.now chunk c.args.sought child same
@@ -75,6 +80,9 @@ returns-clause-down g c content reference above place holds same keeps at first 
     let kept = subst (λ n. KeepsPassed content size (n - 1) walk c.args.self.now.below.last)
     (sym level_is) keeps.passed in
     lands content size c.tops_are_read.ensures.child c.tops_are_read.ensures.read reference above
-    place at chunk is walk child l (l - 1) b
+    place at chunk is walk.number child l (l - 1) b
     (record { reference = child.reference; above = Some l; sought = child.sought })
-    c.in_ok-place.place refl refl (c.in_ok-place.ensures.place content b.t holds kept b.among)
+    c.in_ok-place.place refl refl
+    (place_found content (l - 1) b.t walk.number child.number b.among size c.in_ok-place.place
+    (c.in_ok-place.ensures.place content holds kept
+    (subst (IsWalk content size) (sym first) at.stands.below)))

@@ -1,22 +1,18 @@
-use Rattle.std.proofs.Common.{◌≡◌, ◌-◌, ◌++◌, List, ℕ, length}
-use Rattle.prolly_check.specs.Checked.{chunks_of}
+use Rattle.std.proofs.Common.{◌≡◌, ◌≤◌, ◌-◌, length}
 use Rattle.prolly_check.specs.Content.{Content}
-use Rattle.prolly_tree.specs.Tree.{Tree}
-use Rattle.prolly_proof.specs.Walks.{HoldsFile, StandsBehind, StaysSame, chunks_of_tree}
-use Rattle.prolly_proof.proofs.Walking.{IsAmid}
+use Rattle.prolly_proof.specs.Walks.{HoldsFile, IsWalk, NoneBetween, StaysSame}
 use Rattle.prolly_proof.proofs.walk.Walk.next_of_level.Given as goal
 
 abbrev pub invariant-loop-frame : goal.invariant-loop-frame
 invariant-loop-frame g l = record {
   same : StaysSame (g.D.Device.seen l.initial.device) (g.D.Device.seen l.device);
   reads : (g.D.Device.seen l.device).failures ≡ (g.D.Device.seen l.initial.device).failures;
-  amid : (content : Content) (t : Tree l.level) (before left : List (List ℕ)) →
-      HoldsFile (g.D.Device.seen l.initial.device) content →
-      chunks_of content ≡ before ++ (chunks_of_tree content.version l.level t ++ left) →
-      StandsBehind (length (g.D.Device.seen l.initial.device).bytes) before l.initial.self →
-      IsAmid content.version l.level t (length (g.D.Device.seen l.initial.device).bytes) before
-      l.self;
+  came : (content : Content) → HoldsFile (g.D.Device.seen l.initial.device) content →
+      IsWalk content (length (g.D.Device.seen l.initial.device).bytes) l.initial.self →
+      IsWalk content (length (g.D.Device.seen l.initial.device).bytes) l.self ×
+      (l.initial.self.number ≤ l.self.number) ×
+      NoneBetween content l.level l.initial.self.number l.self.number;
 }
 
 abbrev pub decreases-loop-frame : goal.decreases-loop-frame
-decreases-loop-frame g l = l.self.size - l.self.place
+decreases-loop-frame g l = l.self.size - l.self.offset
