@@ -168,11 +168,11 @@ fn found(
     rooted: &Rooted,
     sought: Sought,
 ) -> Result<Shown, RootFault> {
-    match look_up(alloc, device, rooted, sought) {
+    match look_up(rt, alloc, device, rooted, sought) {
         Ok(shown) => Ok(shown),
         Err(fault) => {
             expect_eq(rt, &fault, &RootFault::Memory);
-            look_up(alloc, device, rooted, sought)
+            look_up(rt, alloc, device, rooted, sought)
         }
     }
 }

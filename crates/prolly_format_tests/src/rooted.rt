@@ -1,4 +1,6 @@
 //! Look-ups by the root, over a device that is honest and one of whose calls fails.
+ghost use Rattle.std.specs.Prelude.{◌≡◌, IfOk};
+
 use crate::expect::{expect_bytes, expect_eq};
 use prolly_entry::{Pair, Ref, Sha512Cut, Version};
 use prolly_file::{ScriptDevice, scratch_as};
@@ -61,7 +63,9 @@ fn joined_pair(alloc: Global, pair: Option<Pair>) -> Result<Option<Vec<u8>>, Roo
     }
 }
 
+/// Looks up. A number is sought only in a file of version Two.
 pub(crate) fn look_up(
+    rt: &impl Abort,
     alloc: Global,
     device: &mut ScriptDevice,
     rooted: &Rooted,
@@ -70,7 +74,10 @@ pub(crate) fn look_up(
     let mut reader = open(alloc, device, rooted)?;
     let found = match sought {
         Sought::Key(key) => reader.get(alloc, device, key)?,
-        Sought::Number(n) => joined_pair(alloc, reader.nth(alloc, device, n)?)?,
+        Sought::Number(n) => {
+            assert!(rt; rooted.version == Version::Two);
+            joined_pair(alloc, reader.nth(alloc, device, n)?)?
+        }
     };
     Ok((reader.chunks(), found))
 }
@@ -92,7 +99,7 @@ fn expect_found(
 ) -> Result<(), Fail> {
     for fail_at in 1..=MOST_CALLS {
         let mut device = rooted.device(alloc, fail_at)?;
-        match look_up(alloc, &mut device, rooted, sought) {
+        match look_up(rt, alloc, &mut device, rooted, sought) {
             Err(fault) => expect_eq(rt, &fault, &RootFault::Read),
             Ok(shown) => {
                 expect_shown(rt, &shown, expected);
@@ -100,7 +107,7 @@ fn expect_found(
                 return Ok(());
             }
         }
-        let shown = look_up(alloc, &mut device, rooted, sought)?;
+        let shown = look_up(rt, alloc, &mut device, rooted, sought)?;
         expect_shown(rt, &shown, expected);
     }
     Err("too many calls".into())
@@ -139,7 +146,9 @@ pub(crate) fn open(
     alloc: Global,
     device: &mut ScriptDevice,
     rooted: &Rooted,
-) -> Result<Reader, RootFault> {
+) -> Result<Reader, RootFault>
+    ensures { IfOk result (λ reader. reader.version ≡ rooted.now.version) }
+{
     Reader::open(alloc, device, rooted.version, &rooted.root)
 }
 
