@@ -11,17 +11,20 @@ use Rattle.prolly_check.specs.Way.{FallsTo, IsNamed, Lead, LevelsFall, level_of}
 use Rattle.prolly_check.specs.declared.look_up.step.Due.{Due}
 use Rattle.prolly_check.specs.lemmas.Ways.{lead_more}
 use Rattle.prolly_entry.specs.declared.version.Version.{Version}
+use Rattle.prolly_entry.specs.lemmas.Lists.{all_back}
 use Rattle.prolly_file.specs.Device.{DeviceView}
 use Rattle.prolly_tree.specs.Tree.{bytes_of}
 use Rattle.prolly_proof.specs.Descents.{IsDescent, IsOnward, StandsAtTree, StepsDown, chunks_in}
 use Rattle.prolly_proof.specs.Descents.{levels_of}
 use Rattle.prolly_proof.specs.Faults.{last_level}
-use Rattle.prolly_proof.specs.Kept.{KeepsLevel}
+use Rattle.prolly_proof.specs.Kept.{IsLevel, KeepsLevel}
+use Rattle.prolly_proof.specs.Marks.{AreMarks}
 use Rattle.prolly_proof.specs.Walks.{HoldsFile, StaysSame}
 use Rattle.prolly_proof.specs.declared.descent.Descent.{Descent}
 use Rattle.prolly_proof.specs.declared.level.Level.{Level}
 use Rattle.prolly_proof.specs.declared.level.Onward.{Onward}
 use Rattle.prolly_proof.specs.declared.level.Onward.TheVariants.{End, Below}
+use Rattle.prolly_proof.specs.declared.marks.Marks.{Marks}
 use Rattle.prolly_proof.specs.declared.place.Place.{Place}
 use Rattle.prolly_proof.specs.declared.root_fault.RootFault.{RootFault}
 use Rattle.prolly_proof.proofs.GoingDown.{kept_is}
@@ -47,6 +50,12 @@ pub one_more : (levels new : List Level) (level : Level) → new ≡ levels ++ l
     chunks_in new ≡ chunks_in levels ++ level.chunk.items ∷ []
 one_more levels new level kept = ap chunks_in kept ∙
     map-append (λ level. level.chunk.items) levels (level ∷ [])
+
+-- the last one can be read
+pub last_is_level : (version : Version) (descent : Descent) →
+    AllByRecursion (IsLevel version) (levels_of descent) → IsLevel version descent.last
+last_is_level version descent all =
+    (all_back (IsLevel version) descent.above.items (descent.last ∷ []) all).0
 
 -- ---- where a look-up stands
 
@@ -139,6 +148,10 @@ module _ (old late : DeviceView) (content : Content) (same : StaysSame old late)
   level_kept kept level is keeps = subst (λ n. KeepsLevel content n level) (sym size)
       (keeps (holds_still old late content same holds)
       (subst (λ n. IfSome kept (KeepsLevel content n)) size is))
+
+  pub marks_kept : (marks : Marks) → AreMarks content (length old.bytes) marks →
+      AreMarks content (length late.bytes) marks
+  marks_kept marks are = subst (λ n. AreMarks content n marks) size are
 
   -- where a step comes
   pub step_lands : (level : Level) (due : Due) (place : Place) (result : Result Onward RootFault) →

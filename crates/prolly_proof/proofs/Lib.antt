@@ -16,3 +16,5 @@ pub mod Walking
 pub mod GoingDown
 -- What is kept of the frames below a chunk.
 pub mod Keeping
+-- Counting the chunks of each level on the way to the root.
+pub mod Marking

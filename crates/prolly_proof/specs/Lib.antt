@@ -4,6 +4,8 @@ pub mod ProofFile
 pub mod Faults
 -- Going over the frames of a chunk file on a device.
 pub mod Walks
+-- Places that are remembered while the root is sought.
+pub mod Marks
 -- Going down from the root in a file on a device.
 pub mod Descents
 -- What is kept of a file from one look-up to the next.

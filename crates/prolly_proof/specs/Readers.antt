@@ -7,15 +7,16 @@ use Rattle.prolly_entry.specs.Pair.{Pair}
 use Rattle.prolly_entry.specs.declared.version.Version.{Version}
 use Rattle.prolly_proof.specs.Descents.{StandsAtTree, chunks_in}
 use Rattle.prolly_proof.specs.Kept.{KeepsLevel}
+use Rattle.prolly_proof.specs.Marks.{AreMarks}
 use Rattle.prolly_proof.specs.declared.level.Level.{Level}
-use Rattle.prolly_proof.specs.declared.place.Place.{Place}
+use Rattle.prolly_proof.specs.declared.place.Top.{Top}
 
--- What a reader keeps: the version and the root that it was opened for, the place of the root in
--- the file, and what the last look-up went through, from the root down.
+-- What a reader keeps: the version and the root that it was opened for, where the root stands in
+-- the file and the places that were remembered on the way to it, and what the last look-up went through, from the root down.
 pub record ReaderView : Type 0 where
   pub version : Version
   pub root : List ℕ
-  pub top : Place
+  pub top : Top
   pub levels : List Level
 
 -- The chunks that show what the last look-up has found.
@@ -25,7 +26,8 @@ way_of reader = chunks_in reader.levels
 -- What the reader keeps is so of the file of this content, which has so many bytes.
 pub record IsReaderOf (content : Content) (size : ℕ) (reader : ReaderView) : Type 0 where
   pub version : reader.version ≡ content.version
-  pub top : StandsAtTree content size reader.root None reader.top
+  pub top : StandsAtTree content size reader.root None reader.top.place
+  pub marks : AreMarks content size reader.top.marks
   pub levels : AllByRecursion (KeepsLevel content size) reader.levels
 
 -- These are the first pairs, at most so many, of those that a look-up of the key from the root of

@@ -1,6 +1,7 @@
 //! The places of the children of a node, which are found one behind another.
 ghost use Rattle.std.specs.Prelude.{◌≡◌, ◌≤◌, ℕ, length, IfOk, IfErr};
 
+use crate::marks::{Marks, Reached};
 use crate::place::Place;
 use crate::root_fault::RootFault;
 use crate::walk::Walk;
@@ -26,26 +27,21 @@ pub(crate) struct Passed {
     rest: Walk,
 }
 
-/// How far one has come: over so many children, to where the frames of the next one begin.
-#[derive(Clone, Copy)]
-struct Reached {
-    count: u64,
-    walk: Walk,
-}
-
 impl FramesBelow {
     ghost use Rattle.prolly_check.specs.Content.{Content};
     ghost use Rattle.prolly_proof.specs.Kept.{IsPlaceNth, KeepsPassed};
+    ghost use Rattle.prolly_proof.specs.Marks.{AreMarks};
     ghost use Rattle.prolly_proof.specs.Walks.{HoldsFile, IsBehind, IsNth, IsWalk, OnlyRead};
     ghost use Rattle.prolly_proof.specs.Walks.{StaysSame, TellsReads};
 
     /// The place of the child of this number. The children are of this level.
     ///
     /// Goes over the frames from behind the child that was gone to last, where this one stands
-    /// behind it, or else from the first on. One read for each frame.
+    /// behind it, or else from the nearest place that is remembered. One read for each frame.
     pub(crate) fn child<D: Device>(
         &mut self,
         device: &mut D,
+        marks: &Marks,
         level: u8,
         number: u64,
     ) -> Result<Place, RootFault>
@@ -54,15 +50,18 @@ impl FramesBelow {
             result }
         ensures first { self.new.first ≡ self.old.first }
         ensures keeps { (content : Content) → HoldsFile (D.seen device.old) content →
+            AreMarks content (length (D.seen device.old).bytes) marks.now →
             KeepsPassed content (length (D.seen device.old).bytes) level self.old.first
             self.old.last → KeepsPassed content (length (D.seen device.old).bytes) level
             self.new.first self.new.last }
         ensures place { (content : Content) → HoldsFile (D.seen device.old) content →
+            AreMarks content (length (D.seen device.old).bytes) marks.now →
             KeepsPassed content (length (D.seen device.old).bytes) level self.old.first
             self.old.last → IsWalk content (length (D.seen device.old).bytes) self.old.first →
             IfOk result (IsPlaceNth content (length (D.seen device.old).bytes) level
             self.old.first.number number) }
         ensures only { (content : Content) (n : ℕ) → HoldsFile (D.seen device.old) content →
+            AreMarks content (length (D.seen device.old).bytes) marks.now →
             KeepsPassed content (length (D.seen device.old).bytes) level self.old.first
             self.old.last → IsWalk content (length (D.seen device.old).bytes) self.old.first →
             IsNth content level self.old.first.number number n → IfErr result OnlyRead }
@@ -75,7 +74,7 @@ impl FramesBelow {
         let Reached {
             mut count,
             mut walk,
-        } = self.nearest(number);
+        } = self.nearest(marks, level, number);
         while count < number {
             let _ = walk.next_of_level(device, level)?;
             count += 1;
@@ -92,9 +91,9 @@ impl FramesBelow {
     }
 
     /// Where it is nearest to the child of this number, and not behind it.
-    fn nearest(&self, number: u64) -> Reached
+    fn nearest(&self, marks: &Marks, level: u8, number: u64) -> Reached
         ensures near { result.count ≤ number }
-        ensures reached { (content : Content) (size level : ℕ) →
+        ensures reached { (content : Content) (size : ℕ) → AreMarks content size marks.now →
             KeepsPassed content size level self.now.first self.now.last →
             IsWalk content size self.now.first → IsWalk content size result.walk ×
             IsBehind content level self.now.first.number result.count result.walk.number }
@@ -104,10 +103,7 @@ impl FramesBelow {
                 count: passed.number + 1,
                 walk: passed.rest,
             },
-            _ => Reached {
-                count: 0,
-                walk: self.first,
-            },
+            _ => marks.nearest(level, self.first, number),
         }
     }
 }

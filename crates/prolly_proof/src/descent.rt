@@ -7,11 +7,12 @@ ghost use Rattle.prolly_entry.specs.Cut.{sha512_cut};
 ghost use Rattle.prolly_proof.specs.Descents.{IsDescent, MayFail, ReadsLawful, StandsAtTree};
 ghost use Rattle.prolly_proof.specs.Descents.{levels_of};
 ghost use Rattle.prolly_proof.specs.Kept.{IsLevel, KeepsLevel};
+ghost use Rattle.prolly_proof.specs.Marks.{AreMarks};
 ghost use Rattle.prolly_proof.specs.Walks.{HoldsFile, StaysSame, TellsReads};
 ghost use Rattle.prolly_tree.specs.File.{root_reference};
 
 use crate::level::{Level, Onward, level_at};
-use crate::place::Place;
+use crate::place::{Place, Top};
 use crate::root_fault::RootFault;
 use crate::walk::Walk;
 use prolly_check::laws::tops_are_read;
@@ -31,12 +32,16 @@ pub(crate) struct Descent<'a> {
     pub(crate) sought: Sought<'a>,
 }
 
-/// The place of the root, which is the last chunk of a file. Goes over the frames of all chunks.
-pub(crate) fn top_of<D: Device>(device: &mut D, version: Version) -> Result<Place, RootFault>
+/// Finds the root, which is the last chunk of a file. Goes over the frames of all chunks.
+pub(crate) fn top_of<D: Device>(device: &mut D, version: Version) -> Result<Top, RootFault>
     ensures place { (content : Content) (root : List ℕ) → HoldsFile (D.seen device.old) content →
         version ≡ content.version →
         root ≡ root_reference (sha512_cut content.bits) content.version content.pairs →
-        IfOk result (StandsAtTree content (length (D.seen device.old).bytes) root None) }
+        IfOk result (λ top. StandsAtTree content (length (D.seen device.old).bytes) root None
+        top.place) }
+    ensures marks { (content : Content) → HoldsFile (D.seen device.old) content →
+        version ≡ content.version →
+        IfOk result (λ top. AreMarks content (length (D.seen device.old).bytes) top.marks) }
     ensures lawful { (root : List ℕ) → ReadsLawful (D.seen device.old) version root result }
     ensures reads { TellsReads (D.seen device.old).failures (D.seen device.new).failures result }
     ensures same { StaysSame (D.seen device.old) (D.seen device.new) }
@@ -44,11 +49,14 @@ pub(crate) fn top_of<D: Device>(device: &mut D, version: Version) -> Result<Plac
     // By this law a lawful file has the chunks that the root leads to.
     tops_are_read();
     let below = Walk::begin(device, version)?;
-    let frame = below.last(device)?;
-    Ok(Place { frame, below })
+    let (frame, marks) = below.last(device)?;
+    Ok(Top {
+        place: Place { frame, below },
+        marks,
+    })
 }
 
-/// Goes down from the root, which stands in the place `top`, to the chunk at which the look-up
+/// Goes down from the root, whose place and marks are `top`, to the chunk at which the look-up
 /// ends. Chunks that were kept from another descent are not read again, as far as both go the same
 /// way.
 ///
@@ -59,7 +67,7 @@ pub(crate) fn go_down<'a, D: Device>(
     device: &mut D,
     version: Version,
     root: &Ref,
-    top: Place,
+    top: &Top,
     kept: Vec<Level>,
     sought: Sought<'a>,
 ) -> Result<Descent<'a>, RootFault>
@@ -68,13 +76,15 @@ pub(crate) fn go_down<'a, D: Device>(
     ensures levels { IfOk result (λ descent. AllByRecursion (IsLevel version) (levels_of descent)) }
     ensures keeps { (content : Content) → HoldsFile (D.seen device.old) content →
         version ≡ content.version →
-        StandsAtTree content (length (D.seen device.old).bytes) root.now.0 None top →
+        StandsAtTree content (length (D.seen device.old).bytes) root.now.0 None top.now.place →
+        AreMarks content (length (D.seen device.old).bytes) top.now.marks →
         AllByRecursion (KeepsLevel content (length (D.seen device.old).bytes)) kept.items →
         IfOk result (λ descent. AllByRecursion
         (KeepsLevel content (length (D.seen device.old).bytes)) (levels_of descent)) }
     ensures only { (content : Content) → HoldsFile (D.seen device.old) content →
         version ≡ content.version →
-        StandsAtTree content (length (D.seen device.old).bytes) root.now.0 None top →
+        StandsAtTree content (length (D.seen device.old).bytes) root.now.0 None top.now.place →
+        AreMarks content (length (D.seen device.old).bytes) top.now.marks →
         AllByRecursion (KeepsLevel content (length (D.seen device.old).bytes)) kept.items →
         IfErr result MayFail }
     ensures reads { TellsReads (D.seen device.old).failures (D.seen device.new).failures result }
@@ -87,10 +97,10 @@ pub(crate) fn go_down<'a, D: Device>(
         above: None,
         sought,
     };
-    let mut place = top;
+    let mut place = top.place;
     loop {
         let mut level = level_at(alloc, device, version, kept.next(), &due, &place)?;
-        match level.step(device, version, due.sought)? {
+        match level.step(device, &top.marks, version, due.sought)? {
             Onward::End => {
                 return Ok(Descent {
                     above,

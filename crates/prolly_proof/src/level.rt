@@ -9,9 +9,11 @@ ghost use Rattle.prolly_check.specs.Way.{IsNamed, IsOrdered};
 ghost use Rattle.prolly_entry.specs.Reference.{reference_of};
 ghost use Rattle.prolly_proof.specs.Descents.{MayFail, StandsAtTree};
 ghost use Rattle.prolly_proof.specs.Kept.{IsAtDue, IsLevel, KeepsLevel};
+ghost use Rattle.prolly_proof.specs.Marks.{AreMarks};
 ghost use Rattle.prolly_proof.specs.Walks.{HoldsFile, IsFrame, StaysSame, TellsReads};
 
 use crate::below::FramesBelow;
+use crate::marks::Marks;
 use crate::place::Place;
 use crate::root_fault::RootFault;
 use crate::walk::Frame;
@@ -108,6 +110,7 @@ impl Level {
     pub(crate) fn step<'a, D: Device>(
         &mut self,
         device: &mut D,
+        marks: &Marks,
         version: Version,
         sought: Sought<'a>,
     ) -> Result<Onward<'a>, RootFault>
@@ -121,11 +124,13 @@ impl Level {
         ensures reads { TellsReads (D.seen device.old).failures (D.seen device.new).failures
             result }
         ensures keeps { (content : Content) → HoldsFile (D.seen device.old) content →
+            AreMarks content (length (D.seen device.old).bytes) marks.now →
             KeepsLevel content (length (D.seen device.old).bytes) self.old →
             KeepsLevel content (length (D.seen device.old).bytes) self.new }
         ensures down { (content : Content) (reference : List ℕ) (above : Option ℕ)
             (place : PlaceValue) → HoldsFile (D.seen device.old) content →
             version ≡ content.version →
+            AreMarks content (length (D.seen device.old).bytes) marks.now →
             KeepsLevel content (length (D.seen device.old).bytes) self.old →
             (at : StandsAtTree content (length (D.seen device.old).bytes) reference above place) →
             self.old.below.first ≡ place.below →
@@ -139,7 +144,7 @@ impl Level {
         };
         self.mark = child.passed;
         let level = self.chunk[0];
-        let place = self.below.child(device, level - 1, child.number)?;
+        let place = self.below.child(device, marks, level - 1, child.number)?;
         let due = Due {
             reference: child.reference,
             above: Some(level),

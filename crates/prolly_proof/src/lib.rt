@@ -9,6 +9,7 @@ mod descent;
 mod fault;
 pub mod laws;
 mod level;
+mod marks;
 mod place;
 mod prover;
 mod reader;

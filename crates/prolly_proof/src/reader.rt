@@ -16,7 +16,7 @@ ghost use Rattle.prolly_tree.specs.File.{root_reference};
 
 use crate::descent::{Descent, go_down, top_of, with};
 use crate::level::Level;
-use crate::place::Place;
+use crate::place::Top;
 use crate::root_fault::RootFault;
 use prolly_check::{Sought, first_pairs_from, pair_sought, value_in};
 use prolly_entry::{Pair, Ref, Version};
@@ -44,8 +44,8 @@ use std::mem;
 pub struct Reader {
     version: Version,
     root: Ref,
-    /// The place of the root.
-    top: Place,
+    /// Where the root stands, and the places that were remembered on the way to it.
+    top: Top,
     /// The chunks of the last look-up.
     levels: Vec<Level>,
 }
@@ -242,7 +242,7 @@ impl Reader {
             device,
             self.version,
             &self.root,
-            self.top,
+            &self.top,
             kept,
             sought,
         )

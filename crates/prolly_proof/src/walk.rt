@@ -3,6 +3,7 @@ ghost use Rattle.std.specs.Prelude.{◌≡◌, ◌+◌, ◌-◌, ◌^◌, ◌<�
 ghost use Rattle.std.specs.Prelude.{None, OnOk, IfOk, IfErr, IsOk, IfSome};
 ghost use Rattle.prolly_file.specs.Frame.{frame_start};
 
+use crate::marks::Marks;
 use crate::root_fault::RootFault;
 use prolly_entry::Version;
 use prolly_file::{
@@ -28,7 +29,7 @@ pub(crate) struct Frame {
 pub(crate) struct Walk {
     offset: u64,
     /// The number of the chunk whose frame is next.
-    number: u64,
+    pub(crate) number: u64,
     /// The size of the file.
     size: u64,
 }
@@ -36,6 +37,7 @@ pub(crate) struct Walk {
 impl Walk {
     ghost use Rattle.prolly_check.specs.Checked.{chunks_of};
     ghost use Rattle.prolly_check.specs.Content.{Content};
+    ghost use Rattle.prolly_proof.specs.Marks.{AreMarks};
     ghost use Rattle.prolly_proof.specs.Walks.{GoesOver, GoesToLevel, HoldsFile, IsFrame, IsStartOf};
     ghost use Rattle.prolly_proof.specs.Walks.{IsWalk, OnlyRead, StaysSame, TellsReads};
 
@@ -107,27 +109,43 @@ impl Walk {
         }
     }
 
-    /// The last frame of the file, where this place is before the first one.
-    pub(crate) fn last<D: Device>(mut self, device: &mut D) -> Result<Frame, RootFault>
+    /// The last frame of the file, where this place is before the first one, and the places that are
+    /// remembered on the way to it.
+    pub(crate) fn last<D: Device>(mut self, device: &mut D) -> Result<(Frame, Marks), RootFault>
         ensures same { StaysSame (D.seen device.old) (D.seen device.new) }
         ensures reads { TellsReads (D.seen device.old).failures (D.seen device.new).failures
             result }
         ensures last { (content : Content) → HoldsFile (D.seen device.old) content →
             IsWalk content (length (D.seen device.old).bytes) self →
-            IfOk result (λ frame. IsFrame content frame ×
-            (frame.number ≡ length (chunks_of content) - 1)) }
+            IfOk result (λ last. IsFrame content last.0 ×
+            (last.0.number ≡ length (chunks_of content) - 1)) }
+        ensures marks { (content : Content) → HoldsFile (D.seen device.old) content →
+            IsWalk content (length (D.seen device.old).bytes) self →
+            IfOk result (λ last. AreMarks content (length (D.seen device.old).bytes) last.1) }
         ensures only { (content : Content) → HoldsFile (D.seen device.old) content →
             IsWalk content (length (D.seen device.old).bytes) self → self.number ≡ 0 →
             IfErr result OnlyRead }
     {
+        let mut marks = Marks::begin(self);
         let mut last = None;
         while let Some(frame) = self.next(device)? {
+            marks.pass(frame, self);
             last = Some(frame);
         }
         match last {
-            Some(frame) => Ok(frame),
+            Some(frame) => Ok((frame, marks)),
             None => Err(RootFault::Missing),
         }
+    }
+
+    /// In which of so many parts of the file, all of one size, it stands. They are counted from 0.
+    pub(crate) fn part(&self, parts: usize) -> usize
+        requires { 1 < parts }
+        ensures { result < parts }
+    {
+        let size = self.size / parts as u64 + 1;
+        let part = (self.offset / size) as usize;
+        part.min(parts - 1)
     }
 
     /// What begins here.

@@ -7,18 +7,20 @@ use Rattle.prolly_check.specs.Way.{IsNamed}
 use Rattle.prolly_entry.specs.lemmas.Lists.{all_append}
 use Rattle.prolly_proof.specs.Descents.{MayFail, StepsDown, chunks_in}
 use Rattle.prolly_proof.specs.Kept.{IsLevel, KeepsLevel}
-use Rattle.prolly_proof.proofs.Descending.{Descended, ends_here, goes_on, level_kept, next_kept}
-use Rattle.prolly_proof.proofs.Descending.{one_more, step_lands}
+use Rattle.prolly_proof.proofs.Descending.{Descended, ends_here, goes_on, level_kept, marks_kept}
+use Rattle.prolly_proof.proofs.Descending.{next_kept, one_more, step_lands}
 use Rattle.prolly_proof.proofs.Walking.{stays}
 use Rattle.prolly_proof.proofs.descent.go_down.Goals as goal
 
 pub returns-in_err-step-clause-only : goal.returns-in_err-step-clause-only
-returns-in_err-step-clause-only g c content holds same top keeps =
+returns-in_err-step-clause-only g c content holds same top marks keeps =
     let old = g.D.Device.seen c.args.device.now in
     let mid = g.D.Device.seen c.loop-above.device in
     let late = g.D.Device.seen c.level_at.new.device in
     let before = c.loop-above.invariant in
-    let on = before.lawful content holds same top keeps in
+    let late_marks = marks_kept old late content
+    (stays old mid late before.same c.in_ok-level.ensures.same) holds c.args.top.now.marks marks in
+    let on = before.lawful content holds same top marks keeps in
     let next = next_kept (KeepsLevel content (length old.bytes)) (into_iter_items c.loop-above.kept)
     (into_iter_items c.next.new.self)
     c.next.result c.next.ensures.items on.left in
@@ -30,7 +32,7 @@ returns-in_err-step-clause-only g c content holds same top keeps =
     step_lands old late content (stays old mid late before.same c.in_ok-level.ensures.same) holds
     level c.loop-above.due c.loop-above.place (Err c.in_err-step.field-0.0) kept on.at is.frame
     is.below (λ holds kept at. c.in_err-step.ensures.down content c.loop-above.due.reference.0
-    c.loop-above.due.above c.loop-above.place holds same kept at) in
+    c.loop-above.due.above c.loop-above.place holds same late_marks kept at) in
     search rules
 
 pub returns-in-End-clause-found : goal.returns-in-End-clause-found
@@ -47,12 +49,14 @@ returns-in-End-clause-found g c =
     c.in-End.is refl (ap (λ chunk. chunk.items) c.in_ok-step.ensures.stays.1) refl
 
 pub returns-in-End-clause-keeps : goal.returns-in-End-clause-keeps
-returns-in-End-clause-keeps g c content holds same top keeps =
+returns-in-End-clause-keeps g c content holds same top marks keeps =
     let old = g.D.Device.seen c.args.device.now in
     let mid = g.D.Device.seen c.loop-above.device in
     let late = g.D.Device.seen c.level_at.new.device in
     let before = c.loop-above.invariant in
-    let on = before.lawful content holds same top keeps in
+    let late_marks = marks_kept old late content
+    (stays old mid late before.same c.in_ok-level.ensures.same) holds c.args.top.now.marks marks in
+    let on = before.lawful content holds same top marks keeps in
     let next = next_kept (KeepsLevel content (length old.bytes)) (into_iter_items c.loop-above.kept)
     (into_iter_items c.next.new.self)
     c.next.result c.next.ensures.items on.left in
@@ -61,7 +65,7 @@ returns-in-End-clause-keeps g c content holds same top keeps =
     (c.in_ok-level.ensures.keeps content) in
     let later = level_kept old late content
     (stays old mid late before.same c.in_ok-level.ensures.same) holds (Some level) c.step.new.self
-    kept (c.in_ok-step.ensures.keeps content) in
+    kept (λ holds. c.in_ok-step.ensures.keeps content holds late_marks) in
     all_append (KeepsLevel content (length old.bytes)) c.loop-above.above.items
     (c.step.new.self ∷ []) on.met (later, tt)
 
@@ -94,21 +98,22 @@ loop-above-preserved g c =
           c.next.result c.next.ensures.items before.kept).1;
       same = stays old late (g.D.Device.seen c.step.new.device) to_late stepped.same;
       reads = stepped.reads ∙ c.in_ok-level.ensures.reads ∙ before.reads;
-      lawful = λ content holds same top keeps.
-          let on = before.lawful content holds same top keeps in
+      lawful = λ content holds same top marks keeps.
+          let late_marks = marks_kept old late content to_late holds c.args.top.now.marks marks in
+          let on = before.lawful content holds same top marks keeps in
           let next = next_kept (KeepsLevel content (length old.bytes)) (into_iter_items
           c.loop-above.kept)
           (into_iter_items c.next.new.self) c.next.result c.next.ensures.items on.left in
           let kept = level_kept old mid content before.same holds c.next.result level next.0
           (c.in_ok-level.ensures.keeps content) in
           let later = level_kept old late content to_late holds (Some level) c.step.new.self kept
-          (stepped.keeps content) in
+          (λ holds. stepped.keeps content holds late_marks) in
           record {
             at = subst (λ step. StepsDown content (length old.bytes) (Ok step)) c.in-Below.is
                 (step_lands old late content to_late holds level due c.loop-above.place
                 (Ok c.in_ok-step.field-0) kept on.at is.frame is.below
                 (λ holds kept at. stepped.down content due.reference.0 due.above c.loop-above.place
-                holds same kept at));
+                holds same late_marks kept at));
             met = subst (AllByRecursion (KeepsLevel content (length old.bytes))) (sym more)
                 (all_append (KeepsLevel content (length old.bytes)) above (c.step.new.self ∷ [])
                 on.met (later, tt));

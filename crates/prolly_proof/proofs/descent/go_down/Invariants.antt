@@ -5,6 +5,7 @@ use Rattle.prolly_check.specs.Content.{Content}
 use Rattle.prolly_check.specs.Sought.{sought_of}
 use Rattle.prolly_proof.specs.Descents.{StandsAtTree, chunks_in}
 use Rattle.prolly_proof.specs.Kept.{IsLevel, KeepsLevel}
+use Rattle.prolly_proof.specs.Marks.{AreMarks}
 use Rattle.prolly_proof.specs.Walks.{HoldsFile, StaysSame}
 use Rattle.prolly_proof.proofs.Descending.{Descended, GoesOnLawful, room_below}
 use Rattle.prolly_proof.proofs.descent.go_down.Given as goal
@@ -18,7 +19,9 @@ invariant-loop-above g l = record {
   reads : (g.D.Device.seen l.device).failures ≡ (g.D.Device.seen l.fn.device).failures;
   lawful : (content : Content) → HoldsFile (g.D.Device.seen l.fn.device) content →
       l.version ≡ content.version →
-      StandsAtTree content (length (g.D.Device.seen l.fn.device).bytes) l.root.0 None l.fn.top →
+      StandsAtTree content (length (g.D.Device.seen l.fn.device).bytes) l.root.0 None
+      l.fn.top.place →
+      AreMarks content (length (g.D.Device.seen l.fn.device).bytes) l.fn.top.marks →
       AllByRecursion (KeepsLevel content (length (g.D.Device.seen l.fn.device).bytes))
       l.fn.kept.items → GoesOnLawful content (length (g.D.Device.seen l.fn.device).bytes) l.due
       l.place l.above.items (into_iter_items l.kept);

@@ -9,14 +9,14 @@ loop-count-init g c = record {
   near = c.nearest-count.ensures.near;
   same = λ honest. (honest, refl);
   reads = refl;
-  reached = λ content holds keeps first. c.nearest-count.ensures.reached content
-      (length (g.D.Device.seen c.args.device.now).bytes) c.args.level keeps first;
+  reached = λ content holds marks keeps first. c.nearest-count.ensures.reached content
+      (length (g.D.Device.seen c.args.device.now).bytes) marks keeps first;
 }
 
 pub returns-in_err-next_of_level-clause-only : goal.returns-in_err-next_of_level-clause-only
-returns-in_err-next_of_level-clause-only g c content n holds keeps first nth =
+returns-in_err-next_of_level-clause-only g c content n holds marks keeps first nth =
     let old = g.D.Device.seen c.args.device.now in
-    let at = c.loop-count.invariant.reached content holds keeps first in
+    let at = c.loop-count.invariant.reached content holds marks keeps first in
     let only : OnlyRead c.in_err-next_of_level.field-0.0 = elim (level_from old
     (g.D.Device.seen c.loop-count.device) content c.args.level c.loop-count.walk
     c.next_of_level.new.self (Err c.in_err-next_of_level.field-0.0) c.loop-count.invariant.same
@@ -37,8 +37,8 @@ loop-count-preserved g c =
       near = omega (arith, c.loop-count-test.true);
       same = stays old mid (g.D.Device.seen c.next_of_level.new.device) before.same over.same;
       reads = over.reads ∙ before.reads;
-      reached = λ content holds keeps first.
-          let at = before.reached content holds keeps first in
+      reached = λ content holds marks keeps first.
+          let at = before.reached content holds marks keeps first in
           let goes = level_from old mid content c.args.level c.loop-count.walk
           c.next_of_level.new.self (Ok c.in_ok-next_of_level.field-0) before.same holds over.goes
           at.0 in (
@@ -50,9 +50,9 @@ loop-count-preserved g c =
     }
 
 pub returns-in_err-frame-clause-only : goal.returns-in_err-frame-clause-only
-returns-in_err-frame-clause-only g c content n holds keeps first nth =
+returns-in_err-frame-clause-only g c content n holds marks keeps first nth =
     let old = g.D.Device.seen c.args.device.now in
-    let at = c.loop-count.invariant.reached content holds keeps first in
+    let at = c.loop-count.invariant.reached content holds marks keeps first in
     let only : OnlyRead c.in_err-frame.field-0.0 = elim (level_from old
     (g.D.Device.seen c.loop-count.device) content c.args.level c.loop-count.walk
     c.next_of_level-2.new.self (Err c.in_err-frame.field-0.0) c.loop-count.invariant.same
@@ -65,11 +65,11 @@ returns-in_err-frame-clause-only g c content n holds keeps first nth =
     search rules
 
 pub returns-clause-keeps : goal.returns-clause-keeps
-returns-clause-keeps g c content holds keeps first =
+returns-clause-keeps g c content holds marks keeps first =
     let old = g.D.Device.seen c.args.device.now in
     let from = c.args.self.now.first.number in
     let walk = c.loop-count.walk in
-    let at = c.loop-count.invariant.reached content holds keeps first in
+    let at = c.loop-count.invariant.reached content holds marks keeps first in
     let there : c.loop-count.count ≡ c.args.number =
     omega (arith, c.loop-count.invariant.near, c.loop-count-test.false) in
     let behind = subst (λ k. IsBehind content c.args.level from k walk.number) there at.1 in
@@ -84,5 +84,5 @@ returns-clause-keeps g c content holds keeps first =
     )
 
 pub returns-clause-place : goal.returns-clause-place
-returns-clause-place g c content holds keeps first =
-    (returns-clause-keeps g c content holds keeps first).0
+returns-clause-place g c content holds marks keeps first =
+    (returns-clause-keeps g c content holds marks keeps first).0

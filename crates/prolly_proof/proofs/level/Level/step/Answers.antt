@@ -43,7 +43,7 @@ moved content child from first l high level same b =
     (subst (λ n. ChildBelow content from child n (n - 1)) (sym level) b)
 
 pub returns-in_err-place-clause-down : goal.returns-in_err-place-clause-down
-returns-in_err-place-clause-down g c content reference above place holds same keeps at first is =
+returns-in_err-place-clause-down g c content reference above place holds same marks keeps at first is =
     let size = length (g.D.Device.seen c.args.device.now).bytes in
     let chunk = c.args.self.now.chunk.items in
     let walk = c.args.self.now.below.first in
@@ -58,13 +58,13 @@ returns-in_err-place-clause-down g c content reference above place holds same ke
     c.deref.ensures.value c.in-Some.ensures.on)) in
     let kept = subst (λ n. KeepsPassed content size (n - 1) walk c.args.self.now.below.last)
     (sym level_is) keeps.passed in
-    let only = c.in_err-place.ensures.only content _ holds kept
+    let only = c.in_err-place.ensures.only content _ holds marks kept
     (subst (IsWalk content size) (sym first) at.stands.below)
     (top_nth content (l - 1) b.t walk.number child.number b.among) in
     search rules
 
 pub returns-clause-down : goal.returns-clause-down
-returns-clause-down g c content reference above place holds same keeps at first is =
+returns-clause-down g c content reference above place holds same marks keeps at first is =
     let size = length (g.D.Device.seen c.args.device.now).bytes in
     let chunk = c.args.self.now.chunk.items in
     let walk = c.args.self.now.below.first in
@@ -84,5 +84,5 @@ returns-clause-down g c content reference above place holds same keeps at first 
     (record { reference = child.reference; above = Some l; sought = child.sought })
     c.in_ok-place.place refl refl
     (place_found content (l - 1) b.t walk.number child.number b.among size c.in_ok-place.place
-    (c.in_ok-place.ensures.place content holds kept
+    (c.in_ok-place.ensures.place content holds marks kept
     (subst (IsWalk content size) (sym first) at.stands.below)))

@@ -1,5 +1,6 @@
 use Rattle.std.proofs.Common.{◌≡◌, ◌-◌, length}
 use Rattle.prolly_check.specs.Content.{Content}
+use Rattle.prolly_proof.specs.Marks.{AreMarks, AreRuns}
 use Rattle.prolly_proof.specs.Walks.{HoldsFile, IsWalk, StaysSame}
 use Rattle.prolly_proof.proofs.Walking.{CameTo}
 use Rattle.prolly_proof.proofs.walk.Walk.last.Given as goal
@@ -11,7 +12,9 @@ invariant-loop-frame g l = record {
   came : (content : Content) → HoldsFile (g.D.Device.seen l.initial.device) content →
       IsWalk content (length (g.D.Device.seen l.initial.device).bytes) l.initial.self →
       IsWalk content (length (g.D.Device.seen l.initial.device).bytes) l.self ×
-      CameTo content l.initial.self.number l.self.number l.last;
+      CameTo content l.initial.self.number l.self.number l.last ×
+      AreRuns content l.self.number l.marks.runs ×
+      AreMarks content (length (g.D.Device.seen l.initial.device).bytes) l.marks;
 }
 
 abbrev pub decreases-loop-frame : goal.decreases-loop-frame

@@ -1,0 +1,28 @@
+use Rattle.std.proofs.Common.{◌≡◌, length, Ok, None, ap, refl, arith, subst}
+use Rattle.prolly_check.specs.Checked.{chunks_of}
+use Rattle.prolly_proof.proofs.Walking.{CameTo, over_from, some_chunk}
+use Rattle.prolly_proof.proofs.walk.Walk.last.Goals as goal
+
+pub loop-frame-init : goal.loop-frame-init
+loop-frame-init g c = record {
+  same = λ honest. (honest, refl);
+  reads = refl;
+  came = λ content holds at. (
+    at,
+    refl,
+    c.begin-marks.ensures.runs content,
+    c.begin-marks.ensures.places content _ at,
+  );
+}
+
+pub returns-in-None-clause-only : goal.returns-in-None-clause-only
+returns-in-None-clause-only g c content holds at first =
+    let from = c.args.self.number in
+    let number = c.loop-frame.self.number in
+    let came = c.loop-frame.invariant.came content holds at in
+    let none : number ≡ from = subst (CameTo content from number) c.in-None.is came.1 in
+    let all : number ≡ length (chunks_of content) = over_from (g.D.Device.seen c.args.device.now)
+    (g.D.Device.seen c.loop-frame.device) content c.loop-frame.self c.next.new.self
+    (Ok c.in_ok-frame.field-0) (Ok None) (ap Ok c.in_default.is) c.loop-frame.invariant.same holds
+    c.in_ok-frame.ensures.goes came.0 in
+    absurd (omega (arith, some_chunk content, none, all, first))
