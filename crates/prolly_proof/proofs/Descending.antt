@@ -1,6 +1,6 @@
 -- Going down from the root, from each chunk to the one that it refers to.
-use Rattle.std.proofs.Common.{◌≡◌, ℕ, List, [], ◌∷◌, ◌++◌, length, Option, Some, None}
-use Rattle.std.proofs.Common.{Result, IfSome}
+use Rattle.std.proofs.Common.{◌≡◌, ℕ, List, [], ◌∷◌, ◌++◌, Option, Some, None}
+use Rattle.std.proofs.Common.{IfSome}
 use Rattle.std.proofs.Common.{refl, sym, ap, ◌∙◌, subst}
 use Rattle.std.specs.List.{AllByRecursion}
 use Rattle.std.specs.Option.{option_to_list}
@@ -12,23 +12,15 @@ use Rattle.prolly_check.specs.declared.look_up.step.Due.{Due}
 use Rattle.prolly_check.specs.lemmas.Ways.{lead_more}
 use Rattle.prolly_entry.specs.declared.version.Version.{Version}
 use Rattle.prolly_entry.specs.lemmas.Lists.{all_back}
-use Rattle.prolly_file.specs.Device.{DeviceView}
-use Rattle.prolly_tree.specs.Tree.{bytes_of}
-use Rattle.prolly_proof.specs.Descents.{IsDescent, IsOnward, StandsAtTree, StepsDown, chunks_in}
+use Rattle.prolly_proof.specs.Descents.{IsDescent, IsOnward, StandsAtTree, chunks_in}
 use Rattle.prolly_proof.specs.Descents.{levels_of}
 use Rattle.prolly_proof.specs.Faults.{last_level}
 use Rattle.prolly_proof.specs.Kept.{IsLevel, KeepsLevel}
-use Rattle.prolly_proof.specs.Marks.{AreMarks}
-use Rattle.prolly_proof.specs.Walks.{HoldsFile, StaysSame}
 use Rattle.prolly_proof.specs.declared.descent.Descent.{Descent}
 use Rattle.prolly_proof.specs.declared.level.Level.{Level}
 use Rattle.prolly_proof.specs.declared.level.Onward.{Onward}
 use Rattle.prolly_proof.specs.declared.level.Onward.TheVariants.{End, Below}
-use Rattle.prolly_proof.specs.declared.marks.Marks.{Marks}
 use Rattle.prolly_proof.specs.declared.place.Place.{Place}
-use Rattle.prolly_proof.specs.declared.root_fault.RootFault.{RootFault}
-use Rattle.prolly_proof.proofs.GoingDown.{kept_is}
-use Rattle.prolly_proof.proofs.Walking.{holds_still, same_size}
 
 -- ---- the levels
 
@@ -122,11 +114,11 @@ module _ (version : Version) (root : List ℕ) (sought : Sought) (passed : List 
 -- ---- in a lawful file
 
 -- the chunk that is due is the top of one of its trees, and what was kept is so
-pub record GoesOnLawful (content : Content) (size : ℕ) (due : Due) (place : Place)
+pub record GoesOnLawful (content : Content) (due : Due) (place : Place)
     (above kept : List Level) : Type 0 where
-  pub at : StandsAtTree content size due.reference.0 due.above place
-  pub met : AllByRecursion (KeepsLevel content size) above
-  pub left : AllByRecursion (KeepsLevel content size) kept
+  pub at : StandsAtTree content due.reference.0 due.above place
+  pub met : AllByRecursion (KeepsLevel content) above
+  pub left : AllByRecursion (KeepsLevel content) kept
 
 pub next_kept : (P : Level → Type 0) (left rest : List Level) (next : Option Level) →
     left ≡ option_to_list next ++ rest → AllByRecursion P left →
@@ -134,38 +126,3 @@ pub next_kept : (P : Level → Type 0) (left rest : List Level) (next : Option L
 next_kept P left rest None e all = (tt, subst (AllByRecursion P) e all)
 next_kept P left rest (Some level) e all =
     let both : P level × AllByRecursion P rest = subst (AllByRecursion P) e all in both
-
--- what was said of a later device
-module _ (old late : DeviceView) (content : Content) (same : StaysSame old late)
-    (holds : HoldsFile old content) where
-  abbrev size : length old.bytes ≡ length late.bytes
-  size = same_size old late content same holds
-
-  pub level_kept : (kept : Option Level) (level : Level) →
-      IfSome kept (KeepsLevel content (length old.bytes)) →
-      (HoldsFile late content → IfSome kept (KeepsLevel content (length late.bytes)) →
-      KeepsLevel content (length late.bytes) level) → KeepsLevel content (length old.bytes) level
-  level_kept kept level is keeps = subst (λ n. KeepsLevel content n level) (sym size)
-      (keeps (holds_still old late content same holds)
-      (subst (λ n. IfSome kept (KeepsLevel content n)) size is))
-
-  pub marks_kept : (marks : Marks) → AreMarks content (length old.bytes) marks →
-      AreMarks content (length late.bytes) marks
-  marks_kept marks are = subst (λ n. AreMarks content n marks) size are
-
-  -- where a step comes
-  pub step_lands : (level : Level) (due : Due) (place : Place) (result : Result Onward RootFault) →
-      KeepsLevel content (length old.bytes) level →
-      StandsAtTree content (length old.bytes) due.reference.0 due.above place →
-      level.frame ≡ place.frame → level.below.first ≡ place.below →
-      (HoldsFile late content → KeepsLevel content (length late.bytes) level →
-      (at : StandsAtTree content (length late.bytes) due.reference.0 due.above place) →
-      level.below.first ≡ place.below →
-      level.chunk.items ≡ bytes_of content.version at.level at.t →
-      StepsDown content (length late.bytes) result) → StepsDown content (length old.bytes) result
-  step_lands level due place result keeps at frame first down =
-      let kept = subst (λ n. KeepsLevel content n level) size keeps in
-      let there = subst (λ n. StandsAtTree content n due.reference.0 due.above place) size at in
-      subst (λ n. StepsDown content n result) (sym size)
-      (down (holds_still old late content same holds) kept there first
-      (kept_is content (length late.bytes) due.reference.0 due.above place there level kept frame))

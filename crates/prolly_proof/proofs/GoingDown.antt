@@ -93,11 +93,11 @@ pub record ChildBelow (content : Content) (from : ℕ) (child : ChildSought)
 one_less : (n : ℕ) → suc n - 1 ≡ n
 one_less n = omega arith
 
-module _ (content : Content) (size : ℕ)
+module _ (content : Content)
     (child_tree : (version : Version) → ChildIsTree version)
     (read : (version : Version) → TopIsRead version)
     (reference : List ℕ) (above : Option ℕ) (place : Place)
-    (at : StandsAtTree content size reference above place) (chunk : List ℕ)
+    (at : StandsAtTree content reference above place) (chunk : List ℕ)
     (is : chunk ≡ bytes_of content.version at.level at.t) where
   pub child_below : (sought : Sought) (child : ChildSought) →
       IsChildOf sought (kind_of content.version chunk) child →
@@ -106,7 +106,7 @@ module _ (content : Content) (size : ℕ)
     where
       by_level : (level : ℕ) (t : Tree level) →
           IsTreeOf content.version (chunks_of content) level t →
-          IsPlaceOf content level t size place → chunk ≡ bytes_of content.version level t →
+          IsPlaceOf content level t place → chunk ≡ bytes_of content.version level t →
           ChildBelow content place.below.number child (level_of chunk) (level_of chunk - 1)
       by_level zero leaf below stands is = absurd (subst (λ entries. IsChildOf sought entries child)
           (ap (kind_of content.version) is ∙ (read content.version (chunks_of content) 0 leaf
@@ -148,8 +148,8 @@ module _ (content : Content) (size : ℕ)
   pub lands : (from : ℕ) (child : ChildSought) (l level : ℕ) →
       (b : ChildBelow content from child l level) → (due : Due) (there : Place) →
       due.reference ≡ child.reference → due.above ≡ Some l →
-      IsPlaceOf content level b.t size there →
-      StandsAtTree content size due.reference.0 due.above there
+      IsPlaceOf content level b.t there →
+      StandsAtTree content due.reference.0 due.above there
   lands from child l level b due there named high stands = record {
     level = level;
     t = b.t;
@@ -172,14 +172,14 @@ module _ (content : Content) (size : ℕ)
 -- ---- at the root
 
 -- the last chunk is the root, and all are below it
-pub root_stands : (content : Content) (root : List ℕ) (size : ℕ) (place : Place)
+pub root_stands : (content : Content) (root : List ℕ) (place : Place)
     (lawful : RootIsTree) → AllByRecursion IsPair content.pairs →
     Rising (map (λ p. p.key) content.pairs) →
     root ≡ root_reference (sha512_cut content.bits) content.version content.pairs →
-    IsWalk content size place.below → place.below.number ≡ 0 → IsFrame content place.frame →
+    IsWalk content place.below → place.below.number ≡ 0 → IsFrame content place.frame →
     place.frame.number ≡ length (chunks_of content) - 1 →
-    StandsAtTree content size root None place
-root_stands content root size place trees lawful rising root_is below begins frame last =
+    StandsAtTree content root None place
+root_stands content root place trees lawful rising root_is below begins frame last =
     let tree = tree_of (sha512_cut content.bits) content.version content.pairs in
     record {
       level = tree.level;
@@ -206,8 +206,8 @@ root_stands content root size place trees lawful rising root_is below begins fra
 
 -- ---- the chunk in a place
 
-module _ (content : Content) (size : ℕ) (reference : List ℕ) (above : Option ℕ) (place : Place)
-    (at : StandsAtTree content size reference above place) where
+module _ (content : Content) (reference : List ℕ) (above : Option ℕ) (place : Place)
+    (at : StandsAtTree content reference above place) where
   pub chunk_is : nth_chunk content place.frame.number ≡ bytes_of content.version at.level at.t
   chunk_is =
       let low = chunks_below content.version at.level at.t in
@@ -224,7 +224,7 @@ module _ (content : Content) (size : ℕ) (reference : List ℕ) (above : Option
       get_or_push low top [] (length low) refl
 
   -- what was kept of it is it
-  pub kept_is : (level : Level) → KeepsLevel content size level → level.frame ≡ place.frame →
+  pub kept_is : (level : Level) → KeepsLevel content level → level.frame ≡ place.frame →
       level.chunk.items ≡ bytes_of content.version at.level at.t
   kept_is level keeps same =
       keeps.chunk (subst (IsFrame content) (sym same) at.stands.frame) ∙

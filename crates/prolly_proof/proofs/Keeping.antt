@@ -19,9 +19,10 @@ use Rattle.prolly_tree.specs.Chunk.{post_order}
 use Rattle.prolly_tree.specs.Tree.{Tree, bytes_of}
 use Rattle.prolly_proof.specs.Descents.{IsPlaceOf, chunks_of_trees}
 use Rattle.prolly_proof.specs.Kept.{IsPlaceNth}
-use Rattle.prolly_proof.specs.Walks.{IsBehind, IsFirst, IsNth, NoneBetween, chunks_below}
-use Rattle.prolly_proof.specs.Walks.{chunks_of_tree}
+use Rattle.prolly_proof.specs.Walks.{IsBehind, IsFirst, IsNth, NoneBetween, OnlyRead}
+use Rattle.prolly_proof.specs.Walks.{chunks_below, chunks_of_tree}
 use Rattle.prolly_proof.specs.declared.place.Place.{Place}
+use Rattle.prolly_proof.specs.declared.root_fault.RootFault.{RootFault}
 use Rattle.prolly_proof.proofs.Walking.{IsLower, all_lower, level_is, top_last}
 
 -- ---- one behind another
@@ -85,7 +86,7 @@ module _ (content : Content) (level : ℕ) where
       by_order (inr most) before = before most
 
   -- behind fewer of them there is another
-  pub not_none : (k j from behind n : ℕ) → j ≤ k → IsBehind content level from j behind →
+  not_none : (k j from behind n : ℕ) → j ≤ k → IsBehind content level from j behind →
       IsNth content level from k n →
       NoneBetween content level behind (length (chunks_of content)) → ⊥
   not_none k zero from behind n few here h none =
@@ -95,6 +96,15 @@ module _ (content : Content) (level : ℕ) where
       let next = nth_before k (suc j) from n few h in
       let same = nth_one j from next.is.0 here.0 next.is.1 here.1 in
       none next.n (omega (arith, next.is.2.from_on, same, here.2)) next.is.2.within next.is.2.is
+
+  -- so that where it is sought, only a read can have failed
+  pub only_read : (k j from behind n : ℕ) → j ≤ k → IsBehind content level from j behind →
+      IsNth content level from k n → {fault : RootFault} →
+      NoneBetween content level behind (length (chunks_of content)) ⊎ OnlyRead fault →
+      OnlyRead fault
+  only_read k j from behind n few here h (inl none) =
+      absurd (not_none k j from behind n few here h none)
+  only_read k j from behind n few here h (inr only) = only
 
   -- those behind the first
   nth_shift : (k from a n : ℕ) → IsFirst content level from a →
@@ -241,9 +251,9 @@ module _ (content : Content) (level : ℕ) (t : Tree level) (from k : ℕ)
       (ahead + length (chunks_below content.version level t))) a.number
       (tops content level a.front t a.after a.before a.left a.are).0)
 
-  pub place_found : (size : ℕ) (place : Place) → IsPlaceNth content size level from k place →
-      IsPlaceOf content level t size place
-  place_found size place p =
+  pub place_found : (place : Place) → IsPlaceNth content level from k place →
+      IsPlaceOf content level t place
+  place_found place p =
       let rest = chunks_of_trees content level a.front in
       let own = chunks_of_tree content.version level t in
       let more = chunks_of_trees content level a.after in

@@ -18,7 +18,6 @@ use Rattle.prolly_entry.specs.Cut.{sha512_cut}
 use Rattle.prolly_entry.specs.declared.version.Version.{Version}
 use Rattle.prolly_entry.specs.lemmas.Lists.{all_append, all_back}
 use Rattle.prolly_entry.specs.lemmas.Spellings.{reference_length}
-use Rattle.prolly_file.specs.Device.{DeviceView}
 use Rattle.prolly_file.specs.Frame.{framed}
 use Rattle.prolly_file.specs.FrameLaws.{frames_bytes}
 use Rattle.prolly_file.specs.declared.format.frame.FrameStart.{FrameStart}
@@ -26,9 +25,9 @@ use Rattle.prolly_file.specs.declared.format.frame.FrameStart.TheVariants.{Chunk
 use Rattle.prolly_tree.specs.Chunk.{Chunk, chunk_of, chunks, post_order}
 use Rattle.prolly_tree.specs.File.{end_record, header, root_reference}
 use Rattle.prolly_tree.specs.Tree.{Tree, bytes_of, tree_of}
-use Rattle.prolly_proof.specs.Walks.{GoesOver, GoesToLevel, HoldsFile, IsFrame, IsStartOf, IsWalk}
-use Rattle.prolly_proof.specs.Walks.{NoneBetween, StaysSame, chunks_below, chunks_of_tree}
-use Rattle.prolly_proof.specs.Walks.{offset_of}
+use Rattle.prolly_proof.specs.Walks.{GoesOver, IsFrame, IsStartOf, IsWalk}
+use Rattle.prolly_proof.specs.Walks.{NoneBetween, chunks_below, chunks_of_tree}
+use Rattle.prolly_proof.specs.Walks.{offset_of, size_of}
 use Rattle.prolly_proof.specs.declared.root_fault.RootFault.{RootFault}
 use Rattle.prolly_proof.specs.declared.walk.Frame.{Frame}
 use Rattle.prolly_proof.specs.declared.walk.Walk.{Walk}
@@ -245,7 +244,7 @@ frames_long (c ∷ cs) (suc n) within = omega (
 )
 
 module _ (bytes : List ℕ) (content : Content) (f : IsFileOf bytes content) (walk : Walk)
-    (at : IsWalk content (length bytes) walk) where
+    (at : IsWalk content walk) where
   abbrev cs : List (List ℕ)
   cs = chunks_of content
 
@@ -265,6 +264,9 @@ module _ (bytes : List ℕ) (content : Content) (f : IsFileOf bytes content) (wa
       (read ∙ ap (take 10) (behind bytes content f (take walk.number cs) (drop walk.number cs)
       parted walk.offset at.offset)) ends begins short
 
+  of_size : length bytes ≡ size_of content
+  of_size = ap length f.is
+
   abbrev long : length bytes ≡ place_behind (take walk.number cs) +
       (length (flat_map framed (drop walk.number cs)) + 29)
   long = how_long bytes content f (take walk.number cs) (drop walk.number cs) parted
@@ -283,7 +285,7 @@ module _ (bytes : List ℕ) (content : Content) (f : IsFileOf bytes content) (wa
           let same = ap (λ cs. length (flat_map framed cs)) e in
           let all = length-append (framed c) (flat_map framed rest) in (
             omega (arith, some.0, is.0),
-            omega (arith, long, same, all, framed_length c, is.0, at.offset, at.whole),
+            omega (arith, long, same, all, framed_length c, is.0, at.offset, at.whole, of_size),
           )
 
   -- the end record that begins there is the end
@@ -295,7 +297,7 @@ module _ (bytes : List ℕ) (content : Content) (f : IsFileOf bytes content) (wa
           IsStartOf rest (Ok End) → walk.offset + 29 ≡ walk.size
       by_what_is_left [] e is =
           let same = ap (λ cs. length (flat_map framed cs)) e in
-          omega (arith, long, same, at.offset, at.whole)
+          omega (arith, long, same, at.offset, at.whole, of_size)
       by_what_is_left (c ∷ rest) e is = absurd is
 
   -- its number has one above it
@@ -307,7 +309,7 @@ module _ (bytes : List ℕ) (content : Content) (f : IsFileOf bytes content) (wa
       (new : Walk) (frame : Frame) → new.size ≡ walk.size → new.offset ≡ walk.offset + 9 + len →
       new.number ≡ walk.number + 1 → frame.number ≡ walk.number →
       frame.start ≡ walk.offset + 9 → frame.len ≡ len → frame.level ≡ level →
-      GoesOver content (length bytes) walk.number new (Ok (Some frame))
+      GoesOver content walk.number new (Ok (Some frame))
   goes_over len level is new frame size offset number same start len_is level_is =
       let here = starts_chunk cs walk.number len level is in
       let next : new.number ≡ suc walk.number = omega (arith, number) in (
@@ -332,57 +334,6 @@ module _ (bytes : List ℕ) (content : Content) (f : IsFileOf bytes content) (wa
         },
         number,
       )
-
--- ---- the device
-
--- what it held it holds still
-pub holds_still : (old new : DeviceView) (content : Content) → StaysSame old new →
-    HoldsFile old content → HoldsFile new content
-holds_still old new content same holds =
-    let kept = same holds.honest in record {
-      honest = kept.0;
-      short = subst (λ bytes. length bytes < 2 ^ 64) (sym kept.1) holds.short;
-      is = subst (λ bytes. IsFileOf bytes content) (sym kept.1) holds.is;
-    }
-
-pub stays : (old mid new : DeviceView) → StaysSame old mid → StaysSame mid new → StaysSame old new
-stays old mid new same more honest =
-    let kept = same honest in
-    let then = more kept.0 in
-    (then.0, then.1 ∙ kept.1)
-
--- what is said of its size
-pub same_size : (old new : DeviceView) (content : Content) → StaysSame old new →
-    HoldsFile old content → length old.bytes ≡ length new.bytes
-same_size old new content same holds = ap length (sym (same holds.honest).1)
-
--- what was said of the next frame by a later device
-pub over_from : (old mid : DeviceView) (content : Content) (walk new : Walk)
-    (given next : Result (Option Frame) RootFault) → given ≡ next → StaysSame old mid →
-    HoldsFile old content → ((content : Content) → HoldsFile mid content →
-    IsWalk content (length mid.bytes) walk →
-    GoesOver content (length mid.bytes) walk.number new given) →
-    IsWalk content (length old.bytes) walk →
-    GoesOver content (length old.bytes) walk.number new next
-over_from old mid content walk new given next e same holds goes at =
-    let size = same_size old mid content same holds in
-    subst (GoesOver content (length old.bytes) walk.number new) e
-    (subst (λ n. GoesOver content n walk.number new given) (sym size)
-    (goes content (holds_still old mid content same holds)
-    (subst (λ n. IsWalk content n walk) size at)))
-
--- and of the first one of a level
-pub level_from : (old mid : DeviceView) (content : Content) (level : ℕ) (walk new : Walk)
-    (result : Result Frame RootFault) → StaysSame old mid → HoldsFile old content →
-    ((content : Content) → HoldsFile mid content → IsWalk content (length mid.bytes) walk →
-    GoesToLevel content (length mid.bytes) level walk.number new result) →
-    IsWalk content (length old.bytes) walk →
-    GoesToLevel content (length old.bytes) level walk.number new result
-level_from old mid content level walk new result same holds goes at =
-    let size = same_size old mid content same holds in
-    subst (λ n. GoesToLevel content n level walk.number new result) (sym size)
-    (goes content (holds_still old mid content same holds)
-    (subst (λ n. IsWalk content n walk) size at))
 
 -- ---- to the last frame
 

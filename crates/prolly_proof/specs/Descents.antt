@@ -69,12 +69,12 @@ ReadsLawful device version root result = (content : Content) → HoldsFile devic
     IfErr result OnlyRead
 
 -- The place is that of the top of this tree of the file, and of where the frames of the tree begin.
-pub record IsPlaceOf (content : Content) (level : ℕ) (t : Tree level) (size : ℕ) (place : Place)
+pub record IsPlaceOf (content : Content) (level : ℕ) (t : Tree level) (place : Place)
     : Type 0 where
   pub before : List (List ℕ)
   pub left : List (List ℕ)
   pub are : chunks_of content ≡ before ++ (chunks_of_tree content.version level t ++ left)
-  pub below : IsWalk content size place.below
+  pub below : IsWalk content place.below
   pub first : place.below.number ≡ length before
   pub frame : IsFrame content place.frame
   pub top : place.frame.number ≡ length before + length (chunks_below content.version level t)
@@ -86,18 +86,18 @@ chunks_of_trees content level ts =
 
 -- The chunk with this reference, which stands below this level, is the top of a tree of the file,
 -- and this is its place.
-pub record StandsAtTree (content : Content) (size : ℕ) (reference : List ℕ) (above : Option ℕ)
+pub record StandsAtTree (content : Content) (reference : List ℕ) (above : Option ℕ)
     (place : Place) : Type 0 where
   pub level : ℕ
   pub t : Tree level
   pub below : IsTreeOf content.version (chunks_of content) level t
   pub named : reference ≡ reference_of (bytes_of content.version level t)
   pub falls : FallsTo above (bytes_of content.version level t)
-  pub stands : IsPlaceOf content level t size place
+  pub stands : IsPlaceOf content level t place
 
 -- A step comes to such a chunk again, or to an end.
-abbrev pub StepsDown : Content → ℕ → Result Onward RootFault → Type 0
-StepsDown content size (Ok End) = Unit {0}
-StepsDown content size (Ok (Below due place)) =
-    StandsAtTree content size due.reference.0 due.above place
-StepsDown content size (Err fault) = MayFail fault
+abbrev pub StepsDown : Content → Result Onward RootFault → Type 0
+StepsDown content (Ok End) = Unit {0}
+StepsDown content (Ok (Below due place)) =
+    StandsAtTree content due.reference.0 due.above place
+StepsDown content (Err fault) = MayFail fault

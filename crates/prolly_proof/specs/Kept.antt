@@ -32,18 +32,18 @@ pub record IsAtDue (version : Version) (due : Due) (place : Place) (level : Leve
 
 -- The place is that of the chunk with k of the level before it from this number on, and of where
 -- the frames begin behind those.
-pub record IsPlaceNth (content : Content) (size level from k : ℕ) (place : Place) : Type 0 where
+pub record IsPlaceNth (content : Content) (level from k : ℕ) (place : Place) : Type 0 where
   pub frame : IsFrame content place.frame
   pub nth : IsNth content level from k place.frame.number
-  pub below : IsWalk content size place.below
+  pub below : IsWalk content place.below
   pub behind : IsBehind content level from k place.below.number
 
 -- What is kept of the child that was gone to last is so, where the first walk stands in the file.
-abbrev pub KeepsPassed : Content → ℕ → ℕ → Walk → Option Passed → Type 0
-KeepsPassed content size level first None = Unit {0}
-KeepsPassed content size level first (Some passed) = IsWalk content size first →
-    IsPlaceNth content size level first.number passed.number passed.place ×
-    IsWalk content size passed.rest ×
+abbrev pub KeepsPassed : Content → ℕ → Walk → Option Passed → Type 0
+KeepsPassed content level first None = Unit {0}
+KeepsPassed content level first (Some passed) = IsWalk content first →
+    IsPlaceNth content level first.number passed.number passed.place ×
+    IsWalk content passed.rest ×
     IsBehind content level first.number (suc passed.number) passed.rest.number
 
 -- ---- a chunk
@@ -53,7 +53,7 @@ abbrev pub KeepsChunk : Content → Frame → List ℕ → Type 0
 KeepsChunk content frame bytes = IsFrame content frame → bytes ≡ nth_chunk content frame.number
 
 -- What is kept of the chunk, and of what is below it, is so.
-pub record KeepsLevel (content : Content) (size : ℕ) (level : Level) : Type 0 where
+pub record KeepsLevel (content : Content) (level : Level) : Type 0 where
   pub chunk : KeepsChunk content level.frame level.chunk.items
-  pub passed : KeepsPassed content size (level_of level.chunk.items - 1) level.below.first
+  pub passed : KeepsPassed content (level_of level.chunk.items - 1) level.below.first
       level.below.last

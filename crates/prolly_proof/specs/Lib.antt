@@ -12,3 +12,5 @@ pub mod Descents
 pub mod Kept
 -- A reader that looks up by the root again and again.
 pub mod Readers
+-- What the proofs of the crates above may use.
+pub mod lemmas

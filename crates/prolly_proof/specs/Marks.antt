@@ -21,12 +21,12 @@ pub record AreRuns (content : Content) (next : ℕ) (runs : List Run) : Type 0 w
       IsRun content next level (get_or runs level (record { from = 0; count = 0 }))
 
 -- The mark stands behind so many chunks of its level from its first number on, of which the last is
--- right before it, in a file with so many bytes.
-pub record IsMark (content : Content) (size : ℕ) (mark : Mark) : Type 0 where
-  pub walk : IsWalk content size mark.reached.walk
+-- right before it.
+pub record IsMark (content : Content) (mark : Mark) : Type 0 where
+  pub walk : IsWalk content mark.reached.walk
   pub behind : IsBehind content mark.level mark.from mark.reached.count mark.reached.walk.number
 
 -- Each of them does.
-pub record AreMarks (content : Content) (size : ℕ) (marks : Marks) : Type 0 where
+pub record AreMarks (content : Content) (marks : Marks) : Type 0 where
   pub long : length marks.places ≡ 32
-  pub each : AllByRecursion (IsMark content size) marks.places
+  pub each : AllByRecursion (IsMark content) marks.places

@@ -23,12 +23,12 @@ pub record ReaderView : Type 0 where
 abbrev pub way_of : ReaderView → List (List ℕ)
 way_of reader = chunks_in reader.levels
 
--- What the reader keeps is so of the file of this content, which has so many bytes.
-pub record IsReaderOf (content : Content) (size : ℕ) (reader : ReaderView) : Type 0 where
+-- What the reader keeps is so of the file of this content.
+pub record IsReaderOf (content : Content) (reader : ReaderView) : Type 0 where
   pub version : reader.version ≡ content.version
-  pub top : StandsAtTree content size reader.root None reader.top.place
-  pub marks : AreMarks content size reader.top.marks
-  pub levels : AllByRecursion (KeepsLevel content size) reader.levels
+  pub top : StandsAtTree content reader.root None reader.top.place
+  pub marks : AreMarks content reader.top.marks
+  pub levels : AllByRecursion (KeepsLevel content) reader.levels
 
 -- These are the first pairs, at most so many, of those that a look-up of the key from the root of
 -- this reference finds by these chunks.

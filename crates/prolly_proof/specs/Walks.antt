@@ -8,6 +8,7 @@ use Rattle.prolly_check.specs.Content.{Content}
 use Rattle.prolly_check.specs.FileWays.{nth_chunk}
 use Rattle.prolly_check.specs.Verdict.{IsFileOf}
 use Rattle.prolly_check.specs.Way.{level_of}
+use Rattle.prolly_entry.specs.Cut.{sha512_cut}
 use Rattle.prolly_entry.specs.declared.version.Version.{Version}
 use Rattle.prolly_file.specs.Device.{DeviceView}
 use Rattle.prolly_file.specs.Failures.{after_failure}
@@ -19,6 +20,7 @@ use Rattle.prolly_proof.specs.declared.root_fault.RootFault.TheVariants.{Read}
 use Rattle.prolly_proof.specs.declared.walk.Frame.{Frame}
 use Rattle.prolly_proof.specs.declared.walk.Walk.{Walk}
 use Rattle.prolly_tree.specs.Chunk.{post_order}
+use Rattle.prolly_tree.specs.File.{file}
 use Rattle.prolly_tree.specs.Tree.{Tree}
 
 -- ---- the device
@@ -60,12 +62,15 @@ IsStartOf (chunk ∷ left) (Ok (Chunk len level)) = (len ≡ length chunk) × (l
 abbrev pub offset_of : Content → ℕ → ℕ
 offset_of content number = 6 + length (flat_map framed (take number (chunks_of content)))
 
--- The walk stands before the chunk of its number, or behind the last one, of a file with so many
--- bytes.
-pub record IsWalk (content : Content) (size : ℕ) (walk : Walk) : Type 0 where
+-- The size of the file of this content.
+abbrev pub size_of : Content → ℕ
+size_of content = length (file (sha512_cut content.bits) content.version content.pairs)
+
+-- The walk stands before the chunk of its number, or behind the last one.
+pub record IsWalk (content : Content) (walk : Walk) : Type 0 where
   pub within : walk.number ≤ length (chunks_of content)
   pub offset : walk.offset ≡ offset_of content walk.number
-  pub whole : walk.size ≡ size
+  pub whole : walk.size ≡ size_of content
 
 -- The frame is that of the chunk of its number.
 pub record IsFrame (content : Content) (frame : Frame) : Type 0 where
@@ -75,11 +80,11 @@ pub record IsFrame (content : Content) (frame : Frame) : Type 0 where
   pub level : frame.level ≡ level_of (nth_chunk content frame.number)
 
 -- The walk went over the frame of the chunk of this number; or it stood behind the last one.
-abbrev pub GoesOver : Content → ℕ → ℕ → Walk → Result (Option Frame) RootFault → Type 0
-GoesOver content size number walk (Err fault) = OnlyRead fault
-GoesOver content size number walk (Ok None) = number ≡ length (chunks_of content)
-GoesOver content size number walk (Ok (Some frame)) = IsFrame content frame ×
-    (frame.number ≡ number) × IsWalk content size walk × (walk.number ≡ number + 1)
+abbrev pub GoesOver : Content → ℕ → Walk → Result (Option Frame) RootFault → Type 0
+GoesOver content number walk (Err fault) = OnlyRead fault
+GoesOver content number walk (Ok None) = number ≡ length (chunks_of content)
+GoesOver content number walk (Ok (Some frame)) = IsFrame content frame ×
+    (frame.number ≡ number) × IsWalk content walk × (walk.number ≡ number + 1)
 
 -- ---- the chunks of a level
 
@@ -109,11 +114,11 @@ IsBehind content level from (suc k) n = (m : ℕ) × IsNth content level from k 
 
 -- The walk went over the frame of the first chunk of the level from this number on; or there is
 -- none.
-abbrev pub GoesToLevel : Content → ℕ → ℕ → ℕ → Walk → Result Frame RootFault → Type 0
-GoesToLevel content size level number walk (Ok frame) = IsFrame content frame ×
-    IsFirst content level number frame.number × IsWalk content size walk ×
+abbrev pub GoesToLevel : Content → ℕ → ℕ → Walk → Result Frame RootFault → Type 0
+GoesToLevel content level number walk (Ok frame) = IsFrame content frame ×
+    IsFirst content level number frame.number × IsWalk content walk ×
     (walk.number ≡ suc frame.number)
-GoesToLevel content size level number walk (Err fault) =
+GoesToLevel content level number walk (Err fault) =
     NoneBetween content level number (length (chunks_of content)) ⊎ OnlyRead fault
 
 -- ---- the trees

@@ -50,21 +50,16 @@ impl FramesBelow {
             result }
         ensures first { self.new.first ≡ self.old.first }
         ensures keeps { (content : Content) → HoldsFile (D.seen device.old) content →
-            AreMarks content (length (D.seen device.old).bytes) marks.now →
-            KeepsPassed content (length (D.seen device.old).bytes) level self.old.first
-            self.old.last → KeepsPassed content (length (D.seen device.old).bytes) level
-            self.new.first self.new.last }
+            AreMarks content marks.now → KeepsPassed content level self.old.first self.old.last →
+            KeepsPassed content level self.new.first self.new.last }
         ensures place { (content : Content) → HoldsFile (D.seen device.old) content →
-            AreMarks content (length (D.seen device.old).bytes) marks.now →
-            KeepsPassed content (length (D.seen device.old).bytes) level self.old.first
-            self.old.last → IsWalk content (length (D.seen device.old).bytes) self.old.first →
-            IfOk result (IsPlaceNth content (length (D.seen device.old).bytes) level
-            self.old.first.number number) }
+            AreMarks content marks.now → KeepsPassed content level self.old.first self.old.last →
+            IsWalk content self.old.first →
+            IfOk result (IsPlaceNth content level self.old.first.number number) }
         ensures only { (content : Content) (n : ℕ) → HoldsFile (D.seen device.old) content →
-            AreMarks content (length (D.seen device.old).bytes) marks.now →
-            KeepsPassed content (length (D.seen device.old).bytes) level self.old.first
-            self.old.last → IsWalk content (length (D.seen device.old).bytes) self.old.first →
-            IsNth content level self.old.first.number number n → IfErr result OnlyRead }
+            AreMarks content marks.now → KeepsPassed content level self.old.first self.old.last →
+            IsWalk content self.old.first → IsNth content level self.old.first.number number n →
+            IfErr result OnlyRead }
     {
         if let Some(passed) = self.last {
             if passed.number == number {
@@ -93,9 +88,9 @@ impl FramesBelow {
     /// Where it is nearest to the child of this number, and not behind it.
     fn nearest(&self, marks: &Marks, level: u8, number: u64) -> Reached
         ensures near { result.count ≤ number }
-        ensures reached { (content : Content) (size : ℕ) → AreMarks content size marks.now →
-            KeepsPassed content size level self.now.first self.now.last →
-            IsWalk content size self.now.first → IsWalk content size result.walk ×
+        ensures reached { (content : Content) → AreMarks content marks.now →
+            KeepsPassed content level self.now.first self.now.last → IsWalk content self.now.first →
+            IsWalk content result.walk ×
             IsBehind content level self.now.first.number result.count result.walk.number }
     {
         match self.last {

@@ -37,11 +37,9 @@ pub(crate) fn top_of<D: Device>(device: &mut D, version: Version) -> Result<Top,
     ensures place { (content : Content) (root : List ℕ) → HoldsFile (D.seen device.old) content →
         version ≡ content.version →
         root ≡ root_reference (sha512_cut content.bits) content.version content.pairs →
-        IfOk result (λ top. StandsAtTree content (length (D.seen device.old).bytes) root None
-        top.place) }
+        IfOk result (λ top. StandsAtTree content root None top.place) }
     ensures marks { (content : Content) → HoldsFile (D.seen device.old) content →
-        version ≡ content.version →
-        IfOk result (λ top. AreMarks content (length (D.seen device.old).bytes) top.marks) }
+        version ≡ content.version → IfOk result (λ top. AreMarks content top.marks) }
     ensures lawful { (root : List ℕ) → ReadsLawful (D.seen device.old) version root result }
     ensures reads { TellsReads (D.seen device.old).failures (D.seen device.new).failures result }
     ensures same { StaysSame (D.seen device.old) (D.seen device.new) }
@@ -75,17 +73,12 @@ pub(crate) fn go_down<'a, D: Device>(
     ensures found { IfOk result (IsDescent version root.now.0 (sought_of sought.entry)) }
     ensures levels { IfOk result (λ descent. AllByRecursion (IsLevel version) (levels_of descent)) }
     ensures keeps { (content : Content) → HoldsFile (D.seen device.old) content →
-        version ≡ content.version →
-        StandsAtTree content (length (D.seen device.old).bytes) root.now.0 None top.now.place →
-        AreMarks content (length (D.seen device.old).bytes) top.now.marks →
-        AllByRecursion (KeepsLevel content (length (D.seen device.old).bytes)) kept.items →
-        IfOk result (λ descent. AllByRecursion
-        (KeepsLevel content (length (D.seen device.old).bytes)) (levels_of descent)) }
+        version ≡ content.version → StandsAtTree content root.now.0 None top.now.place →
+        AreMarks content top.now.marks → AllByRecursion (KeepsLevel content) kept.items →
+        IfOk result (λ descent. AllByRecursion (KeepsLevel content) (levels_of descent)) }
     ensures only { (content : Content) → HoldsFile (D.seen device.old) content →
-        version ≡ content.version →
-        StandsAtTree content (length (D.seen device.old).bytes) root.now.0 None top.now.place →
-        AreMarks content (length (D.seen device.old).bytes) top.now.marks →
-        AllByRecursion (KeepsLevel content (length (D.seen device.old).bytes)) kept.items →
+        version ≡ content.version → StandsAtTree content root.now.0 None top.now.place →
+        AreMarks content top.now.marks → AllByRecursion (KeepsLevel content) kept.items →
         IfErr result MayFail }
     ensures reads { TellsReads (D.seen device.old).failures (D.seen device.new).failures result }
     ensures same { StaysSame (D.seen device.old) (D.seen device.new) }

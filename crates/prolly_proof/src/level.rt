@@ -65,14 +65,12 @@ impl Level {
             (level.reference ≡ reference) × (level.frame ≡ place.now.frame) ×
             (level.below.first ≡ place.now.below)) }
         ensures same { StaysSame (D.seen device.old) (D.seen device.new) }
-        ensures reads { TellsReads (D.seen device.old).failures (D.seen device.new).failures
-            result }
+        ensures reads { TellsReads (D.seen device.old).failures (D.seen device.new).failures result }
         ensures keeps { (content : Content) → HoldsFile (D.seen device.old) content →
-            IfOk result (KeepsLevel content (length (D.seen device.old).bytes)) }
+            IfOk result (KeepsLevel content) }
         ensures only { (content : Content) (above : Option ℕ) →
             HoldsFile (D.seen device.old) content → version ≡ content.version →
-            StandsAtTree content (length (D.seen device.old).bytes) reference.0 above place.now →
-            IfErr result MayFail }
+            StandsAtTree content reference.0 above place.now → IfErr result MayFail }
     {
         // By this law the chunk of a lawful file can be read.
         tops_are_read();
@@ -121,21 +119,15 @@ impl Level {
             (self.new.chunk ≡ self.old.chunk) }
         ensures level { IsLevel version self.new }
         ensures same { StaysSame (D.seen device.old) (D.seen device.new) }
-        ensures reads { TellsReads (D.seen device.old).failures (D.seen device.new).failures
-            result }
+        ensures reads { TellsReads (D.seen device.old).failures (D.seen device.new).failures result }
         ensures keeps { (content : Content) → HoldsFile (D.seen device.old) content →
-            AreMarks content (length (D.seen device.old).bytes) marks.now →
-            KeepsLevel content (length (D.seen device.old).bytes) self.old →
-            KeepsLevel content (length (D.seen device.old).bytes) self.new }
-        ensures down { (content : Content) (reference : List ℕ) (above : Option ℕ)
-            (place : PlaceValue) → HoldsFile (D.seen device.old) content →
-            version ≡ content.version →
-            AreMarks content (length (D.seen device.old).bytes) marks.now →
-            KeepsLevel content (length (D.seen device.old).bytes) self.old →
-            (at : StandsAtTree content (length (D.seen device.old).bytes) reference above place) →
-            self.old.below.first ≡ place.below →
+            AreMarks content marks.now → KeepsLevel content self.old → KeepsLevel content self.new }
+        ensures down { (content : Content) (reference : List ℕ) (above : Option ℕ) (place :
+            PlaceValue) → HoldsFile (D.seen device.old) content → version ≡ content.version →
+            AreMarks content marks.now → KeepsLevel content self.old →
+            (at : StandsAtTree content reference above place) → self.old.below.first ≡ place.below →
             self.old.chunk.items ≡ bytes_of content.version at.level at.t →
-            StepsDown content (length (D.seen device.old).bytes) result }
+            StepsDown content result }
     {
         // By this law the children of a chunk of a lawful file are the trees below it.
         tops_are_read();
@@ -169,13 +161,10 @@ pub(crate) fn level_at<D: Device>(
     ensures same { StaysSame (D.seen device.old) (D.seen device.new) }
     ensures reads { TellsReads (D.seen device.old).failures (D.seen device.new).failures result }
     ensures keeps { (content : Content) → HoldsFile (D.seen device.old) content →
-        IfSome kept (KeepsLevel content (length (D.seen device.old).bytes)) →
-        IfOk result (KeepsLevel content (length (D.seen device.old).bytes)) }
+        IfSome kept (KeepsLevel content) → IfOk result (KeepsLevel content) }
     ensures only { (content : Content) → HoldsFile (D.seen device.old) content →
-        version ≡ content.version →
-        IfSome kept (KeepsLevel content (length (D.seen device.old).bytes)) →
-        StandsAtTree content (length (D.seen device.old).bytes) due.now.reference.0 due.now.above
-        place.now → IfErr result MayFail }
+        version ≡ content.version → IfSome kept (KeepsLevel content) →
+        StandsAtTree content due.now.reference.0 due.now.above place.now → IfErr result MayFail }
 {
     let level = match kept {
         Some(level) if level.is_at(&due.reference, place) => level,

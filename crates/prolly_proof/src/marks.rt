@@ -82,8 +82,7 @@ impl Marks {
     /// Nothing is remembered but where the frames begin.
     pub(crate) fn begin(walk: Walk) -> Marks
         ensures runs { (content : Content) → AreRuns content walk.number result.runs }
-        ensures places { (content : Content) (size : ℕ) → IsWalk content size walk →
-            AreMarks content size result }
+        ensures places { (content : Content) → IsWalk content walk → AreMarks content result }
     {
         let run = Run {
             from: walk.number,
@@ -105,10 +104,9 @@ impl Marks {
         ensures runs { (content : Content) → IsFrame content frame →
             behind.number ≡ frame.number + 1 → AreRuns content frame.number self.old.runs →
             AreRuns content behind.number self.new.runs }
-        ensures places { (content : Content) (size : ℕ) → IsFrame content frame →
+        ensures places { (content : Content) → IsFrame content frame →
             behind.number ≡ frame.number + 1 → AreRuns content frame.number self.old.runs →
-            IsWalk content size behind → AreMarks content size self.old →
-            AreMarks content size self.new }
+            IsWalk content behind → AreMarks content self.old → AreMarks content self.new }
     {
         if let Some(run) = self.count(frame, behind.number) {
             self.keep(Mark {
@@ -126,8 +124,8 @@ impl Marks {
     /// frames of the first one begin at `first`.
     pub(crate) fn nearest(&self, level: u8, first: Walk, number: u64) -> Reached
         ensures near { result.count ≤ number }
-        ensures reached { (content : Content) (size : ℕ) → AreMarks content size self.now →
-            IsWalk content size first → IsWalk content size result.walk ×
+        ensures reached { (content : Content) → AreMarks content self.now → IsWalk content first →
+            IsWalk content result.walk ×
             IsBehind content level first.number result.count result.walk.number }
     {
         let mut nearest = Reached {
@@ -170,8 +168,8 @@ impl Marks {
     /// Remembers the place in its part of the file, unless one behind a higher chunk is there.
     fn keep(&mut self, mark: Mark)
         ensures runs { self.new.runs ≡ self.old.runs }
-        ensures places { (content : Content) (size : ℕ) → IsMark content size mark →
-            AreMarks content size self.old → AreMarks content size self.new }
+        ensures places { (content : Content) → IsMark content mark → AreMarks content self.old →
+            AreMarks content self.new }
     {
         let part = mark.reached.walk.part(PARTS);
         if self.places[part].level <= mark.level {

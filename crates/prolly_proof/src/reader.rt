@@ -85,7 +85,7 @@ impl Reader {
         ensures keeps { (content : Content) → HoldsFile (D.seen device.old) content →
             version ≡ content.version →
             root.now.0 ≡ root_reference (sha512_cut content.bits) content.version content.pairs →
-            IfOk result (IsReaderOf content (length (D.seen device.old).bytes)) }
+            IfOk result (IsReaderOf content) }
 
         // A lawful file with this root is never refused, nor is memory wanted.
         ensures lawful { ReadsLawful (D.seen device.old) version root.now.0 result }
@@ -117,13 +117,11 @@ impl Reader {
             (way_of self.new) (option_map (λ v. v.items) value)) }
         ensures none { OnErr result (self.new.levels ≡ []) }
         ensures keeps { (content : Content) → HoldsFile (D.seen device.old) content →
-            IsReaderOf content (length (D.seen device.old).bytes) self.old →
-            IsReaderOf content (length (D.seen device.old).bytes) self.new }
+            IsReaderOf content self.old → IsReaderOf content self.new }
 
         // The file that the reader was opened for is never refused.
         ensures lawful { (content : Content) → HoldsFile (D.seen device.old) content →
-            IsReaderOf content (length (D.seen device.old).bytes) self.old →
-            IfErr result MayFail }
+            IsReaderOf content self.old → IfErr result MayFail }
         ensures reads { TellsReads (D.seen device.old).failures (D.seen device.new).failures
             result }
         ensures same { StaysSame (D.seen device.old) (D.seen device.new) }
@@ -150,13 +148,11 @@ impl Reader {
         ensures found { IfOk result (IsCountWay self.old.root n (way_of self.new)) }
         ensures none { OnErr result (self.new.levels ≡ []) }
         ensures keeps { (content : Content) → HoldsFile (D.seen device.old) content →
-            IsReaderOf content (length (D.seen device.old).bytes) self.old →
-            IsReaderOf content (length (D.seen device.old).bytes) self.new }
+            IsReaderOf content self.old → IsReaderOf content self.new }
 
         // The file that the reader was opened for is never refused.
         ensures lawful { (content : Content) → HoldsFile (D.seen device.old) content →
-            IsReaderOf content (length (D.seen device.old).bytes) self.old →
-            IfErr result MayFail }
+            IsReaderOf content self.old → IfErr result MayFail }
         ensures reads { TellsReads (D.seen device.old).failures (D.seen device.new).failures
             result }
         ensures same { StaysSame (D.seen device.old) (D.seen device.new) }
@@ -188,13 +184,11 @@ impl Reader {
             from.now most (way_of self.new) pairs.items) }
         ensures none { OnErr result (self.new.levels ≡ []) }
         ensures keeps { (content : Content) → HoldsFile (D.seen device.old) content →
-            IsReaderOf content (length (D.seen device.old).bytes) self.old →
-            IsReaderOf content (length (D.seen device.old).bytes) self.new }
+            IsReaderOf content self.old → IsReaderOf content self.new }
 
         // The file that the reader was opened for is never refused.
         ensures lawful { (content : Content) → HoldsFile (D.seen device.old) content →
-            IsReaderOf content (length (D.seen device.old).bytes) self.old →
-            IfErr result MayFail }
+            IsReaderOf content self.old → IfErr result MayFail }
         ensures reads { TellsReads (D.seen device.old).failures (D.seen device.new).failures
             result }
         ensures same { StaysSame (D.seen device.old) (D.seen device.new) }
@@ -226,12 +220,10 @@ impl Reader {
         ensures levels { IfOk result (λ descent.
             AllByRecursion (IsLevel self.old.version) (levels_of descent)) }
         ensures keeps { (content : Content) → HoldsFile (D.seen device.old) content →
-            IsReaderOf content (length (D.seen device.old).bytes) self.old →
-            IfOk result (λ descent. AllByRecursion
-            (KeepsLevel content (length (D.seen device.old).bytes)) (levels_of descent)) }
+            IsReaderOf content self.old →
+            IfOk result (λ descent. AllByRecursion (KeepsLevel content) (levels_of descent)) }
         ensures only { (content : Content) → HoldsFile (D.seen device.old) content →
-            IsReaderOf content (length (D.seen device.old).bytes) self.old →
-            IfErr result MayFail }
+            IsReaderOf content self.old → IfErr result MayFail }
         ensures reads { TellsReads (D.seen device.old).failures (D.seen device.new).failures
             result }
         ensures same { StaysSame (D.seen device.old) (D.seen device.new) }

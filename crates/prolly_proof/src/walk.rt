@@ -48,7 +48,7 @@ impl Walk {
             result }
         ensures begins { (content : Content) → HoldsFile (D.seen device.old) content →
             version ≡ content.version → IfOk result (λ walk. (walk.number ≡ 0) ×
-            IsWalk content (length (D.seen device.old).bytes) walk) }
+            IsWalk content walk) }
         ensures only { (content : Content) → HoldsFile (D.seen device.old) content →
             version ≡ content.version → IfErr result OnlyRead }
     {
@@ -77,8 +77,7 @@ impl Walk {
         ensures forward { IfOk result (λ next. IfSome next (λ frame. self.old.offset <
             self.new.offset)) }
         ensures goes { (content : Content) → HoldsFile (D.seen device.old) content →
-            IsWalk content (length (D.seen device.old).bytes) self.old →
-            GoesOver content (length (D.seen device.old).bytes) self.old.number self.new result }
+            IsWalk content self.old → GoesOver content self.old.number self.new result }
     {
         match self.start(device)? {
             FrameStart::End => self.end(),
@@ -96,9 +95,7 @@ impl Walk {
         ensures reads { TellsReads (D.seen device.old).failures (D.seen device.new).failures
             result }
         ensures goes { (content : Content) → HoldsFile (D.seen device.old) content →
-            IsWalk content (length (D.seen device.old).bytes) self.old →
-            GoesToLevel content (length (D.seen device.old).bytes) level self.old.number self.new
-            result }
+            IsWalk content self.old → GoesToLevel content level self.old.number self.new result }
     {
         loop {
             match self.next(device)? {
@@ -116,15 +113,12 @@ impl Walk {
         ensures reads { TellsReads (D.seen device.old).failures (D.seen device.new).failures
             result }
         ensures last { (content : Content) → HoldsFile (D.seen device.old) content →
-            IsWalk content (length (D.seen device.old).bytes) self →
-            IfOk result (λ last. IsFrame content last.0 ×
+            IsWalk content self → IfOk result (λ last. IsFrame content last.0 ×
             (last.0.number ≡ length (chunks_of content) - 1)) }
         ensures marks { (content : Content) → HoldsFile (D.seen device.old) content →
-            IsWalk content (length (D.seen device.old).bytes) self →
-            IfOk result (λ last. AreMarks content (length (D.seen device.old).bytes) last.1) }
+            IsWalk content self → IfOk result (λ last. AreMarks content last.1) }
         ensures only { (content : Content) → HoldsFile (D.seen device.old) content →
-            IsWalk content (length (D.seen device.old).bytes) self → self.number ≡ 0 →
-            IfErr result OnlyRead }
+            IsWalk content self → self.number ≡ 0 → IfErr result OnlyRead }
     {
         let mut marks = Marks::begin(self);
         let mut last = None;
@@ -154,8 +148,7 @@ impl Walk {
         ensures reads { TellsReads (D.seen device.old).failures (D.seen device.new).failures
             result }
         ensures is { (content : Content) → HoldsFile (D.seen device.old) content →
-            IsWalk content (length (D.seen device.old).bytes) self.now →
-            IsStartOf (drop self.now.number (chunks_of content)) result }
+            IsWalk content self.now → IsStartOf (drop self.now.number (chunks_of content)) result }
     {
         let mut start = [0; FRAME_FRONT];
         let count = device.read_at(self.offset, &mut start)?;

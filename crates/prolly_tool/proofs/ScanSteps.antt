@@ -25,6 +25,7 @@ use Rattle.prolly_proof.specs.Readers.{AreFirstFound}
 use Rattle.prolly_proof.specs.Descents.{AnswersLawful, MayFail, ReadsLawful}
 use Rattle.prolly_proof.specs.Readers.{IsReaderOf, ReaderView}
 use Rattle.prolly_proof.specs.Walks.{HoldsFile, StaysSame, TellsReads}
+use Rattle.prolly_proof.specs.lemmas.Devices.{holds_still}
 use Rattle.prolly_proof.specs.declared.root_fault.RootFault.{RootFault}
 use Rattle.prolly_proof.specs.declared.root_fault.RootFault.TheVariants as roots
 use Rattle.prolly_tree.specs.File.{root_reference}
@@ -565,29 +566,13 @@ module _ {W : Type 0} (seen : W → SinkView) (old mid new : W)
 
 -- ---- the device
 
-holds_late : (old late : DeviceView) (content : Content) → StaysSame old late →
-    HoldsFile old content → HoldsFile late content
-holds_late old late content same holds =
-    let still = same holds.honest in record {
-      honest = still.0;
-      short = subst (λ bytes. length bytes < 2 ^ 64) (sym still.1) holds.short;
-      is = subst (λ bytes. IsFileOf bytes content) (sym still.1) holds.is;
-    }
-
 -- What is said of a later device is said of the one before.
 pub lawful_before : (old late : DeviceView) (version : Version) (root : List ℕ)
     (fault : RootFault) → StaysSame old late →
     AnswersLawful {T = Unit {0}} late version root (Err fault) →
     AnswersLawful {T = Unit {0}} old version root (Err fault)
 lawful_before old late version root fault same lawful content holds =
-    lawful content (holds_late old late content same holds)
-
-pub stays_same : (old mid late : DeviceView) → StaysSame old mid → StaysSame mid late →
-    StaysSame old late
-stays_same old mid late first second honest =
-    let a = first honest in
-    let b = second a.0 in
-    (b.0, b.1 ∙ a.1)
+    lawful content (holds_still old late content same holds)
 
 -- ---- the reader
 
@@ -610,30 +595,22 @@ opened_fails device version root fault only content holds is root_is =
 
 module _ (first late : DeviceView) (same : StaysSame first late) (reader : ReaderView)
     (opened : IsOpened first reader) where
-  opened_late : (content : Content) → HoldsFile first content → reader.version ≡ content.version →
-      reader.root ≡ root_reference (sha512_cut content.bits) content.version content.pairs →
-      IsReaderOf content (length late.bytes) reader
-  opened_late content holds version root = subst (λ bytes. IsReaderOf content (length bytes) reader)
-      (sym (same holds.honest).1) (opened content holds version root)
-
   -- The file that it was opened for is not refused.
   pub opened_lawful : (version : Version) (root : List ℕ) (fault : RootFault) →
       reader.version ≡ version → reader.root ≡ root → ((content : Content) →
-      HoldsFile late content → IsReaderOf content (length late.bytes) reader → MayFail fault) →
+      HoldsFile late content → IsReaderOf content reader → MayFail fault) →
       AnswersLawful {T = Unit {0}} first version root (Err fault)
   opened_lawful version root fault same_version same_root only content holds is root_is =
-      only content (holds_late first late content same holds)
-      (opened_late content holds (same_version ∙ is) (same_root ∙ root_is))
+      only content (holds_still first late content same holds)
+      (opened content holds (same_version ∙ is) (same_root ∙ root_is))
 
   -- A look-up leaves it so.
   pub opened_still : (new : ReaderView) → new.version ≡ reader.version → new.root ≡ reader.root →
-      ((content : Content) → HoldsFile late content →
-      IsReaderOf content (length late.bytes) reader →
-      IsReaderOf content (length late.bytes) new) → IsOpened first new
+      ((content : Content) → HoldsFile late content → IsReaderOf content reader →
+      IsReaderOf content new) → IsOpened first new
   opened_still new same_version same_root keeps content holds is root_is =
-      subst (λ bytes. IsReaderOf content (length bytes) new) (same holds.honest).1
-      (keeps content (holds_late first late content same holds)
-      (opened_late content holds (sym same_version ∙ is) (sym same_root ∙ root_is)))
+      keeps content (holds_still first late content same holds)
+      (opened content holds (sym same_version ∙ is) (sym same_root ∙ root_is))
 
 -- ---- what is told of the device
 

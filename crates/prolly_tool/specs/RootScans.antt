@@ -42,7 +42,7 @@ abbrev pub IsOpened : DeviceView → ReaderView → Type 0
 IsOpened device reader = (content : Content) → HoldsFile device content →
     reader.version ≡ content.version →
     reader.root ≡ root_reference (sha512_cut content.bits) content.version content.pairs →
-    IsReaderOf content (length device.bytes) reader
+    IsReaderOf content reader
 
 -- More is sought: neither is so.
 abbrev pub AreTooFew : ℕ → List (List Pair) → Type 0

@@ -1,5 +1,4 @@
-use Rattle.std.proofs.Common.{[], ◌∷◌, ◌++◌, length, Ok, Err, Some, refl, sym, subst, ◌∙◌, ap}
-use Rattle.std.proofs.Common.{rules}
+use Rattle.std.proofs.Common.{[], ◌∷◌, ◌++◌, Ok, refl, sym, subst, ◌∙◌, ap, rules}
 use Rattle.std.specs.List.{AllByRecursion}
 use Rattle.std.specs.Vec.Iter.{into_iter_items}
 use Rattle.prolly_check.specs.Sought.{sought_of}
@@ -7,9 +6,9 @@ use Rattle.prolly_check.specs.Way.{IsNamed}
 use Rattle.prolly_entry.specs.lemmas.Lists.{all_append}
 use Rattle.prolly_proof.specs.Descents.{MayFail, StepsDown, chunks_in}
 use Rattle.prolly_proof.specs.Kept.{IsLevel, KeepsLevel}
-use Rattle.prolly_proof.proofs.Descending.{Descended, ends_here, goes_on, level_kept, marks_kept}
-use Rattle.prolly_proof.proofs.Descending.{next_kept, one_more, step_lands}
-use Rattle.prolly_proof.proofs.Walking.{stays}
+use Rattle.prolly_proof.proofs.Descending.{Descended, ends_here, goes_on, next_kept, one_more}
+use Rattle.prolly_proof.proofs.GoingDown.{kept_is}
+use Rattle.prolly_proof.specs.lemmas.Devices.{holds_still, stays}
 use Rattle.prolly_proof.proofs.descent.go_down.Goals as goal
 
 pub returns-in_err-step-clause-only : goal.returns-in_err-step-clause-only
@@ -18,21 +17,20 @@ returns-in_err-step-clause-only g c content holds same top marks keeps =
     let mid = g.D.Device.seen c.loop-above.device in
     let late = g.D.Device.seen c.level_at.new.device in
     let before = c.loop-above.invariant in
-    let late_marks = marks_kept old late content
-    (stays old mid late before.same c.in_ok-level.ensures.same) holds c.args.top.now.marks marks in
+    let due = c.loop-above.due in
+    let place = c.loop-above.place in
     let on = before.lawful content holds same top marks keeps in
-    let next = next_kept (KeepsLevel content (length old.bytes)) (into_iter_items c.loop-above.kept)
-    (into_iter_items c.next.new.self)
-    c.next.result c.next.ensures.items on.left in
+    let next = next_kept (KeepsLevel content) (into_iter_items c.loop-above.kept)
+    (into_iter_items c.next.new.self) c.next.result c.next.ensures.items on.left in
     let level = c.in_ok-level.level in
     let is = c.in_ok-level.ensures.is in
-    let kept = level_kept old mid content before.same holds c.next.result level next.0
-    (c.in_ok-level.ensures.keeps content) in
+    let kept = c.in_ok-level.ensures.keeps content
+    (holds_still old mid content before.same holds) next.0 in
     let only : MayFail c.in_err-step.field-0.0 =
-    step_lands old late content (stays old mid late before.same c.in_ok-level.ensures.same) holds
-    level c.loop-above.due c.loop-above.place (Err c.in_err-step.field-0.0) kept on.at is.frame
-    is.below (λ holds kept at. c.in_err-step.ensures.down content c.loop-above.due.reference.0
-    c.loop-above.due.above c.loop-above.place holds same late_marks kept at) in
+    c.in_err-step.ensures.down content due.reference.0 due.above place
+    (holds_still old late content (stays old mid late before.same c.in_ok-level.ensures.same) holds)
+    same marks kept on.at is.below
+    (kept_is content due.reference.0 due.above place on.at level kept is.frame) in
     search rules
 
 pub returns-in-End-clause-found : goal.returns-in-End-clause-found
@@ -54,20 +52,16 @@ returns-in-End-clause-keeps g c content holds same top marks keeps =
     let mid = g.D.Device.seen c.loop-above.device in
     let late = g.D.Device.seen c.level_at.new.device in
     let before = c.loop-above.invariant in
-    let late_marks = marks_kept old late content
-    (stays old mid late before.same c.in_ok-level.ensures.same) holds c.args.top.now.marks marks in
     let on = before.lawful content holds same top marks keeps in
-    let next = next_kept (KeepsLevel content (length old.bytes)) (into_iter_items c.loop-above.kept)
-    (into_iter_items c.next.new.self)
-    c.next.result c.next.ensures.items on.left in
-    let level = c.in_ok-level.level in
-    let kept = level_kept old mid content before.same holds c.next.result level next.0
-    (c.in_ok-level.ensures.keeps content) in
-    let later = level_kept old late content
-    (stays old mid late before.same c.in_ok-level.ensures.same) holds (Some level) c.step.new.self
-    kept (λ holds. c.in_ok-step.ensures.keeps content holds late_marks) in
-    all_append (KeepsLevel content (length old.bytes)) c.loop-above.above.items
-    (c.step.new.self ∷ []) on.met (later, tt)
+    let next = next_kept (KeepsLevel content) (into_iter_items c.loop-above.kept)
+    (into_iter_items c.next.new.self) c.next.result c.next.ensures.items on.left in
+    let kept = c.in_ok-level.ensures.keeps content
+    (holds_still old mid content before.same holds) next.0 in
+    let later = c.in_ok-step.ensures.keeps content
+    (holds_still old late content (stays old mid late before.same c.in_ok-level.ensures.same) holds)
+    marks kept in
+    all_append (KeepsLevel content) c.loop-above.above.items (c.step.new.self ∷ []) on.met
+    (later, tt)
 
 pub loop-above-preserved : goal.loop-above-preserved
 loop-above-preserved g c =
@@ -80,6 +74,7 @@ loop-above-preserved g c =
     let to_late = stays old mid late before.same c.in_ok-level.ensures.same in
     let above = c.loop-above.above.items in
     let due = c.loop-above.due in
+    let place = c.loop-above.place in
     let level = c.in_ok-level.level in
     let is = c.in_ok-level.ensures.is in
     let stepped = c.in_ok-step.ensures in
@@ -93,30 +88,25 @@ loop-above-preserved g c =
       levels = subst (AllByRecursion (IsLevel version)) (sym more)
           (all_append (IsLevel version) above (c.step.new.self ∷ []) before.levels
           (stepped.level, tt));
-      kept = (next_kept (IsLevel version) (into_iter_items c.loop-above.kept) (into_iter_items
-          c.next.new.self)
-          c.next.result c.next.ensures.items before.kept).1;
+      kept = (next_kept (IsLevel version) (into_iter_items c.loop-above.kept)
+          (into_iter_items c.next.new.self) c.next.result c.next.ensures.items before.kept).1;
       same = stays old late (g.D.Device.seen c.step.new.device) to_late stepped.same;
       reads = stepped.reads ∙ c.in_ok-level.ensures.reads ∙ before.reads;
       lawful = λ content holds same top marks keeps.
-          let late_marks = marks_kept old late content to_late holds c.args.top.now.marks marks in
           let on = before.lawful content holds same top marks keeps in
-          let next = next_kept (KeepsLevel content (length old.bytes)) (into_iter_items
-          c.loop-above.kept)
+          let next = next_kept (KeepsLevel content) (into_iter_items c.loop-above.kept)
           (into_iter_items c.next.new.self) c.next.result c.next.ensures.items on.left in
-          let kept = level_kept old mid content before.same holds c.next.result level next.0
-          (c.in_ok-level.ensures.keeps content) in
-          let later = level_kept old late content to_late holds (Some level) c.step.new.self kept
-          (λ holds. stepped.keeps content holds late_marks) in
+          let kept = c.in_ok-level.ensures.keeps content
+          (holds_still old mid content before.same holds) next.0 in
+          let holds_late = holds_still old late content to_late holds in
           record {
-            at = subst (λ step. StepsDown content (length old.bytes) (Ok step)) c.in-Below.is
-                (step_lands old late content to_late holds level due c.loop-above.place
-                (Ok c.in_ok-step.field-0) kept on.at is.frame is.below
-                (λ holds kept at. stepped.down content due.reference.0 due.above c.loop-above.place
-                holds same late_marks kept at));
-            met = subst (AllByRecursion (KeepsLevel content (length old.bytes))) (sym more)
-                (all_append (KeepsLevel content (length old.bytes)) above (c.step.new.self ∷ [])
-                on.met (later, tt));
+            at = subst (λ step. StepsDown content (Ok step)) c.in-Below.is
+                (stepped.down content due.reference.0 due.above place holds_late same marks kept
+                on.at is.below
+                (kept_is content due.reference.0 due.above place on.at level kept is.frame));
+            met = subst (AllByRecursion (KeepsLevel content)) (sym more)
+                (all_append (KeepsLevel content) above (c.step.new.self ∷ []) on.met
+                (stepped.keeps content holds_late marks kept, tt));
             left = next.1;
           };
     }

@@ -1,4 +1,4 @@
-use Rattle.std.proofs.Common.{◌≡◌, None, length}
+use Rattle.std.proofs.Common.{◌≡◌, None}
 use Rattle.std.specs.List.{AllByRecursion}
 use Rattle.std.specs.Vec.Iter.{into_iter_items}
 use Rattle.prolly_check.specs.Content.{Content}
@@ -19,11 +19,11 @@ invariant-loop-above g l = record {
   reads : (g.D.Device.seen l.device).failures ≡ (g.D.Device.seen l.fn.device).failures;
   lawful : (content : Content) → HoldsFile (g.D.Device.seen l.fn.device) content →
       l.version ≡ content.version →
-      StandsAtTree content (length (g.D.Device.seen l.fn.device).bytes) l.root.0 None
+      StandsAtTree content l.root.0 None
       l.fn.top.place →
-      AreMarks content (length (g.D.Device.seen l.fn.device).bytes) l.fn.top.marks →
-      AllByRecursion (KeepsLevel content (length (g.D.Device.seen l.fn.device).bytes))
-      l.fn.kept.items → GoesOnLawful content (length (g.D.Device.seen l.fn.device).bytes) l.due
+      AreMarks content l.fn.top.marks →
+      AllByRecursion (KeepsLevel content)
+      l.fn.kept.items → GoesOnLawful content l.due
       l.place l.above.items (into_iter_items l.kept);
 }
 

@@ -1,4 +1,4 @@
-use Rattle.std.proofs.Common.{◌≡◌, length, sym, subst, ◌∙◌, rules}
+use Rattle.std.proofs.Common.{◌≡◌, sym, subst, ◌∙◌, rules}
 use Rattle.std.proofs.lemmas.Bool.{false≢true}
 use Rattle.prolly_proof.specs.Descents.{MayFail}
 use Rattle.prolly_check.specs.Way.{FallsTo}
@@ -8,11 +8,10 @@ use Rattle.prolly_proof.proofs.level.level_at.Goals as goal
 
 pub returns-then-not-falls_to-clause-only : goal.returns-then-not-falls_to-clause-only
 returns-then-not-falls_to-clause-only g c content holds same keeps at =
-    let size = length (g.D.Device.seen c.args.device.now).bytes in
     let level = c.match-kept.level in
-    let kept : KeepsLevel content size level = search rules in
+    let kept : KeepsLevel content level = search rules in
     let frame : level.frame ≡ c.args.place.now.frame = search rules in
-    let is = c.deref.ensures.value ∙ kept_is content size c.args.due.now.reference.0
+    let is = c.deref.ensures.value ∙ kept_is content c.args.due.now.reference.0
     c.args.due.now.above c.args.place.now at level kept frame in
     absurd (false≢true (c.if-not-falls_to.ensures.1 (subst (FallsTo c.args.due.now.above) (sym is)
     at.falls)))

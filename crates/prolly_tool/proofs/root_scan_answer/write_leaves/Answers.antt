@@ -6,10 +6,11 @@ use Rattle.prolly_proof.specs.Readers.{way_of}
 use Rattle.prolly_tool.specs.LookUps.{pair_lines}
 use Rattle.prolly_tool.specs.Outputs.{TookBytes, TookUntil}
 use Rattle.prolly_tool.proofs.ScanSteps.{all_found, found_from, look_up_tells, many_found}
+use Rattle.prolly_proof.specs.lemmas.Devices.{stays}
 use Rattle.prolly_tool.proofs.ScanSteps.{none_found, none_last, opened_lawful, opened_still}
 use Rattle.prolly_tool.proofs.ScanSteps.{scan_begins, scan_ends, scan_fills}
 use Rattle.prolly_tool.proofs.ScanSteps.{scan_fails, scan_full, scan_goes_on, scan_unwritten}
-use Rattle.prolly_tool.proofs.ScanSteps.{scan_wants, stays_same}
+use Rattle.prolly_tool.proofs.ScanSteps.{scan_wants}
 use Rattle.prolly_tool.specs.RootScans.{TellsScanReads}
 use Rattle.prolly_tool.specs.declared.fault.Fault.TheVariants.{Root}
 use Rattle.prolly_tool.proofs.root_scan_answer.write_leaves.Goals as goal
@@ -48,7 +49,7 @@ returns-in-Err-clause-err g c first same opened = scan_fails g.W.Sink.seen c.arg
     c.args.scan.now.from.now c.args.scan.now.limit c.args.scan.now.notation c.loop-left.left
     c.loop-left.next.items c.args.sink.now
     c.loop-left.sink c.loop-left.invariant.scan (omega arith) first c.in-Err.fault
-    (opened_lawful first (g.D.Device.seen c.loop-left.device) (stays_same first
+    (opened_lawful first (g.D.Device.seen c.loop-left.device) (stays first
     (g.D.Device.seen c.args.device.now) (g.D.Device.seen c.loop-left.device) same
     c.loop-left.invariant.same) c.loop-left.reader (c.loop-left.invariant.opened first same opened)
     c.args.reader.version c.args.reader.root c.in-Err.fault c.loop-left.invariant.version
@@ -154,7 +155,7 @@ loop-left-preserved g c =
       version = c.in-Ok-pairs_from.ensures.of.0 ∙ c.loop-left.invariant.version;
       root = c.in-Ok-pairs_from.ensures.of.1 ∙ c.loop-left.invariant.root;
       opened = λ first same opened. opened_still first (g.D.Device.seen c.loop-left.device)
-          (stays_same first (g.D.Device.seen c.args.device.now)
+          (stays first (g.D.Device.seen c.args.device.now)
           (g.D.Device.seen c.loop-left.device) same c.loop-left.invariant.same) c.loop-left.reader
           (c.loop-left.invariant.opened first same opened) c.pairs_from.new.self
           c.in-Ok-pairs_from.ensures.of.0 c.in-Ok-pairs_from.ensures.of.1
@@ -171,7 +172,7 @@ loop-left-preserved g c =
           (c.deref-in-loop-left.ensures.value ∙ all) (sym c.in-Some.ensures.value))
           (c.in-Ok-key_behind.ensures ∙ ap next_key c.key.ensures.key)
           (omega (arith, c.len-count.ensures, c.in-Ok-pairs_from.pairs.ok, ap length all));
-      same = stays_same (g.D.Device.seen c.args.device.now) (g.D.Device.seen c.loop-left.device)
+      same = stays (g.D.Device.seen c.args.device.now) (g.D.Device.seen c.loop-left.device)
           (g.D.Device.seen c.pairs_from.new.device) c.loop-left.invariant.same
           c.in-Ok-pairs_from.ensures.same;
     }

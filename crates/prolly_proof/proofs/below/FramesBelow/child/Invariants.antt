@@ -1,4 +1,4 @@
-use Rattle.std.proofs.Common.{◌≡◌, ◌≤◌, ◌-◌, length}
+use Rattle.std.proofs.Common.{◌≡◌, ◌≤◌, ◌-◌}
 use Rattle.prolly_check.specs.Content.{Content}
 use Rattle.prolly_proof.specs.Kept.{KeepsPassed}
 use Rattle.prolly_proof.specs.Marks.{AreMarks}
@@ -11,11 +11,11 @@ invariant-loop-count g l = record {
   same : StaysSame (g.D.Device.seen l.initial.device) (g.D.Device.seen l.device);
   reads : (g.D.Device.seen l.device).failures ≡ (g.D.Device.seen l.initial.device).failures;
   reached : (content : Content) → HoldsFile (g.D.Device.seen l.initial.device) content →
-      AreMarks content (length (g.D.Device.seen l.initial.device).bytes) l.marks →
-      KeepsPassed content (length (g.D.Device.seen l.initial.device).bytes) l.level
+      AreMarks content l.marks →
+      KeepsPassed content l.level
       l.initial.self.first l.initial.self.last →
-      IsWalk content (length (g.D.Device.seen l.initial.device).bytes) l.initial.self.first →
-      IsWalk content (length (g.D.Device.seen l.initial.device).bytes) l.walk ×
+      IsWalk content l.initial.self.first →
+      IsWalk content l.walk ×
       IsBehind content l.level l.initial.self.first.number l.count l.walk.number;
 }
 

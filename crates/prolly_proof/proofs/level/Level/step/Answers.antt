@@ -1,4 +1,4 @@
-use Rattle.std.proofs.Common.{◌≡◌, ◌-◌, ℕ, List, length, Some, refl, sym, ap, subst, rules}
+use Rattle.std.proofs.Common.{◌≡◌, ◌-◌, ℕ, List, Some, refl, sym, ap, subst, rules}
 use Rattle.prolly_check.specs.Content.{Content}
 use Rattle.prolly_check.specs.Kinds.{kind_of}
 use Rattle.prolly_check.specs.Sought.{IsChildOf, IsMark, sought_of}
@@ -44,7 +44,6 @@ moved content child from first l high level same b =
 
 pub returns-in_err-place-clause-down : goal.returns-in_err-place-clause-down
 returns-in_err-place-clause-down g c content reference above place holds same marks keeps at first is =
-    let size = length (g.D.Device.seen c.args.device.now).bytes in
     let chunk = c.args.self.now.chunk.items in
     let walk = c.args.self.now.below.first in
     let child = c.in-Some.child in
@@ -52,20 +51,19 @@ returns-in_err-place-clause-down g c content reference above place holds same ma
     let level_is : l ≡ level_of chunk = search rules in
     let b = moved content child place.below.number walk.number l (level_of chunk) level_is
     (ap (λ w. w.number) first)
-    (child_below content size c.tops_are_read.ensures.child c.tops_are_read.ensures.read reference
+    (child_below content c.tops_are_read.ensures.child c.tops_are_read.ensures.read reference
     above place at chunk is (sought_of c.args.sought) child
     (on c.args.version content.version c.deref.result.now chunk c.args.sought child same
     c.deref.ensures.value c.in-Some.ensures.on)) in
-    let kept = subst (λ n. KeepsPassed content size (n - 1) walk c.args.self.now.below.last)
+    let kept = subst (λ n. KeepsPassed content (n - 1) walk c.args.self.now.below.last)
     (sym level_is) keeps.passed in
     let only = c.in_err-place.ensures.only content _ holds marks kept
-    (subst (IsWalk content size) (sym first) at.stands.below)
+    (subst (IsWalk content) (sym first) at.stands.below)
     (top_nth content (l - 1) b.t walk.number child.number b.among) in
     search rules
 
 pub returns-clause-down : goal.returns-clause-down
 returns-clause-down g c content reference above place holds same marks keeps at first is =
-    let size = length (g.D.Device.seen c.args.device.now).bytes in
     let chunk = c.args.self.now.chunk.items in
     let walk = c.args.self.now.below.first in
     let child = c.in-Some.child in
@@ -73,16 +71,16 @@ returns-clause-down g c content reference above place holds same marks keeps at 
     let level_is : l ≡ level_of chunk = search rules in
     let b = moved content child place.below.number walk.number l (level_of chunk) level_is
     (ap (λ w. w.number) first)
-    (child_below content size c.tops_are_read.ensures.child c.tops_are_read.ensures.read reference
+    (child_below content c.tops_are_read.ensures.child c.tops_are_read.ensures.read reference
     above place at chunk is (sought_of c.args.sought) child
     (on c.args.version content.version c.deref.result.now chunk c.args.sought child same
     c.deref.ensures.value c.in-Some.ensures.on)) in
-    let kept = subst (λ n. KeepsPassed content size (n - 1) walk c.args.self.now.below.last)
+    let kept = subst (λ n. KeepsPassed content (n - 1) walk c.args.self.now.below.last)
     (sym level_is) keeps.passed in
-    lands content size c.tops_are_read.ensures.child c.tops_are_read.ensures.read reference above
+    lands content c.tops_are_read.ensures.child c.tops_are_read.ensures.read reference above
     place at chunk is walk.number child l (l - 1) b
     (record { reference = child.reference; above = Some l; sought = child.sought })
     c.in_ok-place.place refl refl
-    (place_found content (l - 1) b.t walk.number child.number b.among size c.in_ok-place.place
+    (place_found content (l - 1) b.t walk.number child.number b.among c.in_ok-place.place
     (c.in_ok-place.ensures.place content holds marks kept
-    (subst (IsWalk content size) (sym first) at.stands.below)))
+    (subst (IsWalk content) (sym first) at.stands.below)))

@@ -7,7 +7,7 @@ use Rattle.prolly_proof.proofs.marks.Marks.nearest.Given as goal
 abbrev pub invariant-loop-mark : goal.invariant-loop-mark
 invariant-loop-mark l = record {
   near : l.nearest.count ≤ l.number;
-  reached : (content : Content) (size : _) → AreMarks content size l.self →
-      IsWalk content size l.first → IsWalk content size l.nearest.walk ×
+  reached : (content : Content) → AreMarks content l.self →
+      IsWalk content l.first → IsWalk content l.nearest.walk ×
       IsBehind content l.level l.first.number l.nearest.count l.nearest.walk.number;
 }

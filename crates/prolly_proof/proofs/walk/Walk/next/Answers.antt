@@ -19,7 +19,7 @@ returns-in-End-clause-goes g c content holds at =
     c.args.self.now at
     (subst (λ s. IsStartOf (drop c.args.self.now.number (chunks_of content)) (Ok s)) c.in-End.is
     (c.in_ok-start.ensures.is content holds at)) in
-    subst (GoesOver content _ c.args.self.now.number c.args.self.now)
+    subst (GoesOver content c.args.self.now.number c.args.self.now)
     (sym (c.end.ensures.end ends.1)) ends.0
 
 pub returns-in_ok-pass-in-Chunk-clause-goes : goal.returns-in_ok-pass-in-Chunk-clause-goes

@@ -1,4 +1,4 @@
-use Rattle.std.proofs.Common.{◌≡◌, ◌≤◌, ◌-◌, length}
+use Rattle.std.proofs.Common.{◌≡◌, ◌≤◌, ◌-◌}
 use Rattle.prolly_check.specs.Content.{Content}
 use Rattle.prolly_proof.specs.Walks.{HoldsFile, IsWalk, NoneBetween, StaysSame}
 use Rattle.prolly_proof.proofs.walk.Walk.next_of_level.Given as goal
@@ -8,8 +8,8 @@ invariant-loop-frame g l = record {
   same : StaysSame (g.D.Device.seen l.initial.device) (g.D.Device.seen l.device);
   reads : (g.D.Device.seen l.device).failures ≡ (g.D.Device.seen l.initial.device).failures;
   came : (content : Content) → HoldsFile (g.D.Device.seen l.initial.device) content →
-      IsWalk content (length (g.D.Device.seen l.initial.device).bytes) l.initial.self →
-      IsWalk content (length (g.D.Device.seen l.initial.device).bytes) l.self ×
+      IsWalk content l.initial.self →
+      IsWalk content l.self ×
       (l.initial.self.number ≤ l.self.number) ×
       NoneBetween content l.level l.initial.self.number l.self.number;
 }
