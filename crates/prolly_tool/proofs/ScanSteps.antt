@@ -1,5 +1,5 @@
 -- Scans by a root, leaf by leaf.
-use Rattle.std.proofs.Common.{◌≡◌, ◌≢◌, ℕ, suc, zero, ◌+◌, ◌-◌, ◌<◌, ◌^◌, inl, inr, ◌⊎◌, true, List}
+use Rattle.std.proofs.Common.{◌≡◌, ◌≢◌, ℕ, suc, zero, ◌+◌, ◌-◌, ◌<◌, inl, inr, ◌⊎◌, true, List}
 use Rattle.std.proofs.Common.{[], ◌∷◌, ◌++◌, length, take, Some, None, Ok, Err, refl, sym, ap, ◌∙◌}
 use Rattle.std.proofs.Common.{subst, arith, append_assoc, append-nil, Result}
 use Rattle.std.specs.Prelude.{◌≤◌, min, OnOk, IfErr}
@@ -11,8 +11,6 @@ use Rattle.std.proofs.lemmas.Option.{slice_get-get_or}
 use Rattle.prolly_check.specs.ScanWay.{AreScanned, EndsEmpty, IsScanWay, from_behind, joined}
 use Rattle.prolly_check.specs.ScanWay.{next_key}
 use Rattle.prolly_check.specs.Content.{Content}
-use Rattle.prolly_check.specs.Verdict.{IsFileOf}
-use Rattle.prolly_entry.specs.Cut.{sha512_cut}
 use Rattle.prolly_entry.specs.Pair.{Pair}
 use Rattle.prolly_entry.specs.declared.version.Version.{Version}
 use Rattle.prolly_fault.specs.declared.fault.RunFault.{RunFault}
@@ -28,7 +26,6 @@ use Rattle.prolly_proof.specs.Walks.{HoldsFile, StaysSame, TellsReads}
 use Rattle.prolly_proof.specs.lemmas.Devices.{holds_still}
 use Rattle.prolly_proof.specs.declared.root_fault.RootFault.{RootFault}
 use Rattle.prolly_proof.specs.declared.root_fault.RootFault.TheVariants as roots
-use Rattle.prolly_tree.specs.File.{root_reference}
 use Rattle.prolly_tree.specs.Tree.{last_key}
 use Rattle.prolly_text.specs.declared.notation.Notation.{Notation}
 use Rattle.prolly_tool.specs.LookUps.{pair_lines, pair_text}
