@@ -32,8 +32,10 @@ pub fn look_ups_go_down()
     ensures down { (version : Version) → StepsDown version }
 {}
 
-/// The chunks of a map are the tops of trees, and each of them can be read.
+/// The chunks of a map are the tops of trees, each of them can be read, and where no two have one
+/// reference, the reference of one leads to it.
 pub fn tops_are_read()
+    ensures references { (version : Version) → ReferenceLeads version }
     ensures root { RootIsTree }
     ensures child { (version : Version) → ChildIsTree version }
     ensures read { (version : Version) → TopIsRead version }

@@ -12,15 +12,14 @@ use Rattle.prolly_check.specs.declared.look_up.step.Due.{Due}
 use Rattle.prolly_check.specs.lemmas.Ways.{lead_more}
 use Rattle.prolly_entry.specs.declared.version.Version.{Version}
 use Rattle.prolly_entry.specs.lemmas.Lists.{all_back}
-use Rattle.prolly_proof.specs.Descents.{IsDescent, IsOnward, StandsAtTree, chunks_in}
-use Rattle.prolly_proof.specs.Descents.{levels_of}
+use Rattle.prolly_tree.specs.Tree.{Tree}
+use Rattle.prolly_proof.specs.Descents.{IsDescent, IsLevel, IsOnward, KeepsLevel, StandsAtTree}
+use Rattle.prolly_proof.specs.Descents.{chunks_in, levels_of}
 use Rattle.prolly_proof.specs.Faults.{last_level}
-use Rattle.prolly_proof.specs.Kept.{IsLevel, KeepsLevel}
+use Rattle.prolly_proof.specs.declared.chunk_on_way.ChunkOnWay.{ChunkOnWay}
+use Rattle.prolly_proof.specs.declared.chunk_on_way.Onward.{Onward}
+use Rattle.prolly_proof.specs.declared.chunk_on_way.Onward.TheVariants.{End, Below}
 use Rattle.prolly_proof.specs.declared.descent.Descent.{Descent}
-use Rattle.prolly_proof.specs.declared.level.Level.{Level}
-use Rattle.prolly_proof.specs.declared.level.Onward.{Onward}
-use Rattle.prolly_proof.specs.declared.level.Onward.TheVariants.{End, Below}
-use Rattle.prolly_proof.specs.declared.place.Place.{Place}
 
 -- ---- the levels
 
@@ -38,13 +37,14 @@ falls_more (c ∷ d ∷ passed) chunk down falls =
     (down.0, falls_more (d ∷ passed) chunk down.1 falls)
 
 -- the chunks of those that were met, of which one more was kept
-pub one_more : (levels new : List Level) (level : Level) → new ≡ levels ++ level ∷ [] →
+pub one_more : {T : Type 0} (levels new : List (ChunkOnWay T)) (level : ChunkOnWay T) →
+    new ≡ levels ++ level ∷ [] →
     chunks_in new ≡ chunks_in levels ++ level.chunk.items ∷ []
 one_more levels new level kept = ap chunks_in kept ∙
     map-append (λ level. level.chunk.items) levels (level ∷ [])
 
 -- the last one can be read
-pub last_is_level : (version : Version) (descent : Descent) →
+pub last_is_level : {T : Type 0} (version : Version) (descent : Descent T) →
     AllByRecursion (IsLevel version) (levels_of descent) → IsLevel version descent.last
 last_is_level version descent all =
     (all_back (IsLevel version) descent.above.items (descent.last ∷ []) all).0
@@ -69,14 +69,14 @@ pub begins : (version : Version) (root : List ℕ) (sought : Sought) (due : Due)
 begins version root sought due reference above same =
     record { lead = (reference, same); down = tt; above = above }
 
-module _ (version : Version) (root : List ℕ) (sought : Sought) (passed : List (List ℕ)) (due : Due)
+module _ {T : Type 0} (version : Version) (root : List ℕ) (sought : Sought) (passed : List (List ℕ)) (due : Due)
     (d : Descended version root sought passed due) (chunk : List ℕ)
     (named : IsNamed version due.reference.0 chunk) (falls : FallsTo due.above chunk)
-    (step : Onward) (is : IsOnward version (sought_of due.sought) chunk step) where
+    (step : Onward T) (is : IsOnward version (sought_of due.sought) chunk step) where
   down : LevelsFall (passed ++ chunk ∷ [])
   down = falls_more passed chunk d.down (subst (λ l. FallsTo l chunk) d.above falls)
 
-  pub ends_here : (descent : Descent) → step ≡ End → chunks_in descent.above.items ≡ passed →
+  pub ends_here : (descent : Descent T) → step ≡ End → chunks_in descent.above.items ≡ passed →
       descent.last.chunk.items ≡ chunk → descent.sought ≡ due.sought →
       IsDescent version root sought descent
   ends_here descent e above last there =
@@ -99,7 +99,7 @@ module _ (version : Version) (root : List ℕ) (sought : Sought) (passed : List 
         there = ap sought_of (sym there);
       }
 
-  pub goes_on : (next : Due) (there : Place) → step ≡ Below next there →
+  pub goes_on : (next : Due) (there : T) → step ≡ Below next there →
       Descended version root sought (passed ++ chunk ∷ []) next
   goes_on next there e =
       let on : IsOnward version (sought_of due.sought) chunk (Below next there) =
@@ -111,18 +111,18 @@ module _ (version : Version) (root : List ℕ) (sought : Sought) (passed : List 
         above = on.1 ∙ sym (last_more passed chunk);
       }
 
--- ---- in a lawful file
+-- ---- in a lawful tree
 
 -- the chunk that is due is the top of one of its trees, and what was kept is so
-pub record GoesOnLawful (content : Content) (due : Due) (place : Place)
-    (above kept : List Level) : Type 0 where
-  pub at : StandsAtTree content due.reference.0 due.above place
-  pub met : AllByRecursion (KeepsLevel content) above
-  pub left : AllByRecursion (KeepsLevel content) kept
+pub record GoesOnLawful {T : Type 0} (is_place : Content → (level : ℕ) → Tree level → T → Type 0)
+    (content : Content) (due : Due) (place : T) (above kept : List (ChunkOnWay T)) : Type 0 where
+  pub at : StandsAtTree is_place content due.reference.0 due.above place
+  pub met : AllByRecursion (KeepsLevel is_place content) above
+  pub left : AllByRecursion (KeepsLevel is_place content) kept
 
-pub next_kept : (P : Level → Type 0) (left rest : List Level) (next : Option Level) →
-    left ≡ option_to_list next ++ rest → AllByRecursion P left →
+pub next_kept : {T : Type 0} (P : ChunkOnWay T → Type 0) (left rest : List (ChunkOnWay T))
+    (next : Option (ChunkOnWay T)) → left ≡ option_to_list next ++ rest → AllByRecursion P left →
     IfSome next P × AllByRecursion P rest
 next_kept P left rest None e all = (tt, subst (AllByRecursion P) e all)
-next_kept P left rest (Some level) e all =
-    let both : P level × AllByRecursion P rest = subst (AllByRecursion P) e all in both
+next_kept {T = T} P left rest (Some chunk) e all =
+    let both : P chunk × AllByRecursion P rest = subst (AllByRecursion P) e all in both

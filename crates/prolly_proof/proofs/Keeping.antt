@@ -10,18 +10,16 @@ use Rattle.std.proofs.lemmas.List.{map-append}
 use Rattle.std.proofs.lemmas.List.Concat.{flat_map-append}
 use Rattle.prolly_check.specs.Checked.{chunks_of}
 use Rattle.prolly_check.specs.Content.{Content}
-use Rattle.prolly_check.specs.Descent.{child_of}
 use Rattle.prolly_check.specs.FileWays.{nth_chunk}
 use Rattle.prolly_check.specs.Way.{level_of}
-use Rattle.prolly_check.specs.Entries.{Child}
 use Rattle.prolly_entry.specs.declared.version.Version.{Version}
 use Rattle.prolly_tree.specs.Chunk.{post_order}
 use Rattle.prolly_tree.specs.Tree.{Tree, bytes_of}
-use Rattle.prolly_proof.specs.Descents.{IsPlaceOf, chunks_of_trees}
-use Rattle.prolly_proof.specs.Kept.{IsPlaceNth}
-use Rattle.prolly_proof.specs.Walks.{IsBehind, IsFirst, IsNth, NoneBetween, OnlyRead}
+use Rattle.prolly_proof.specs.Files.{IsPlaceNth, IsPlaceOf, chunks_of_trees}
+use Rattle.prolly_proof.specs.RootFaults.{OnlyRead}
+use Rattle.prolly_proof.specs.Walks.{IsBehind, IsFirst, IsNth, NoneBetween}
 use Rattle.prolly_proof.specs.Walks.{chunks_below, chunks_of_tree}
-use Rattle.prolly_proof.specs.declared.place.Place.{Place}
+use Rattle.prolly_proof.specs.declared.subtree.Place.{Place}
 use Rattle.prolly_proof.specs.declared.root_fault.RootFault.{RootFault}
 use Rattle.prolly_proof.proofs.Walking.{IsLower, all_lower, level_is, top_last}
 
@@ -288,39 +286,3 @@ module _ (content : Content) (level : ℕ) (t : Tree level) (from k : ℕ)
           before ++ ((rest ++ (own ++ more)) ++ left) ≡
           (before ++ rest) ++ (own ++ (more ++ left))
       regroup before rest own more left = simp append_assoc
-
--- ---- the child of a node
-
--- the tree of a child of these
-pub record IsTreeAt (version : Version) (level : ℕ) (ts : List (Tree level)) (n : ℕ) (child : Child)
-    : Type 0 where
-  pub front : List (Tree level)
-  pub t : Tree level
-  pub after : List (Tree level)
-  pub are : ts ≡ front ++ t ∷ after
-  pub number : length front ≡ n
-  pub is : child ≡ child_of version level t
-
-pub tree_at : (version : Version) (level : ℕ) (ts : List (Tree level)) (before : List Child)
-    (child : Child) (after : List Child) →
-    before ++ child ∷ after ≡ map (child_of version level) ts →
-    IsTreeAt version level ts (length before) child
-tree_at version level [] [] child after e = absurd (omega (arith, ap length e))
-tree_at version level [] (b ∷ before) child after e = absurd (omega (arith, ap length e))
-tree_at version level (t ∷ ts) [] child after e = record {
-  front = [];
-  t = t;
-  after = ts;
-  are = refl;
-  number = refl;
-  is = cc;
-}
-tree_at version level (t ∷ ts) (b ∷ before) child after e =
-    let rest = tree_at version level ts before child after (ap (drop 1) e) in record {
-      front = t ∷ rest.front;
-      t = rest.t;
-      after = rest.after;
-      are = ap (λ ys. t ∷ ys) rest.are;
-      number = ap suc rest.number;
-      is = rest.is;
-    }

@@ -12,8 +12,10 @@ pub mod Appending
 pub mod Descending
 -- Going over the frames of a file.
 pub mod Walking
--- Going down from the root of a lawful file on a device.
-pub mod GoingDown
+-- Going down in a lawful tree, from a node to the top of a tree below it.
+pub mod LawfulSteps
+-- Trees in a chunk file: where their tops stand, and the bytes of these.
+pub mod Subtrees
 -- What is kept of the frames below a chunk.
 pub mod Keeping
 -- Counting the chunks of each level on the way to the root.

@@ -11,12 +11,11 @@ use Rattle.prolly_check.specs.Way.{level_of}
 use Rattle.prolly_entry.specs.Cut.{sha512_cut}
 use Rattle.prolly_entry.specs.declared.version.Version.{Version}
 use Rattle.prolly_file.specs.Device.{DeviceView}
-use Rattle.prolly_file.specs.Failures.{after_failure}
 use Rattle.prolly_file.specs.Frame.{framed}
 use Rattle.prolly_file.specs.declared.format.frame.FrameStart.{FrameStart}
 use Rattle.prolly_file.specs.declared.format.frame.FrameStart.TheVariants.{Chunk, End}
+use Rattle.prolly_proof.specs.RootFaults.{OnlyRead}
 use Rattle.prolly_proof.specs.declared.root_fault.RootFault.{RootFault}
-use Rattle.prolly_proof.specs.declared.root_fault.RootFault.TheVariants.{Read}
 use Rattle.prolly_proof.specs.declared.walk.Frame.{Frame}
 use Rattle.prolly_proof.specs.declared.walk.Walk.{Walk}
 use Rattle.prolly_tree.specs.Chunk.{post_order}
@@ -34,16 +33,6 @@ pub record HoldsFile (device : DeviceView) (content : Content) : Type 0 where
 -- A device that was honest still is, and its bytes are the same.
 abbrev pub StaysSame : DeviceView → DeviceView → Type 0
 StaysSame old new = old.is_honest ≡ true → (new.is_honest ≡ true) × (new.bytes ≡ old.bytes)
-
--- That a read failed is told where one more call of the device failed, and only there.
-abbrev pub TellsReads : {T : Type 0} → ℕ → ℕ → Result T RootFault → Type 0
-TellsReads old new (Ok value) = new ≡ old
-TellsReads old new (Err Read) = new ≡ after_failure old
-TellsReads old new (Err fault) = new ≡ old
-
--- There is no fault but that a read failed.
-abbrev pub OnlyRead : RootFault → Type 0
-OnlyRead fault = fault ≡ Read
 
 -- ---- what is read of a frame
 

@@ -1,9 +1,9 @@
 //! The places of the children of a node, which are found one behind another.
-ghost use Rattle.std.specs.Prelude.{◌≡◌, ◌≤◌, ℕ, length, IfOk, IfErr};
+ghost use Rattle.std.specs.Prelude.{◌≡◌, ◌≤◌, ℕ, length, IfOk, IfErr, IfSome};
 
 use crate::marks::{Marks, Reached};
-use crate::place::Place;
 use crate::root_fault::RootFault;
+use crate::subtree::Place;
 use crate::walk::Walk;
 use prolly_file::Device;
 
@@ -29,10 +29,10 @@ pub(crate) struct Passed {
 
 impl FramesBelow {
     ghost use Rattle.prolly_check.specs.Content.{Content};
-    ghost use Rattle.prolly_proof.specs.Kept.{IsPlaceNth, KeepsPassed};
+    ghost use Rattle.prolly_proof.specs.Files.{IsPlaceNth, KeepsPassed};
     ghost use Rattle.prolly_proof.specs.Marks.{AreMarks};
-    ghost use Rattle.prolly_proof.specs.Walks.{HoldsFile, IsBehind, IsNth, IsWalk, OnlyRead};
-    ghost use Rattle.prolly_proof.specs.Walks.{StaysSame, TellsReads};
+    ghost use Rattle.prolly_proof.specs.RootFaults.{OnlyRead, TellsReads};
+    ghost use Rattle.prolly_proof.specs.Walks.{HoldsFile, IsBehind, IsNth, IsWalk, StaysSame};
 
     /// The place of the child of this number. The children are of this level.
     ///
@@ -41,7 +41,7 @@ impl FramesBelow {
     pub(crate) fn child<D: Device>(
         &mut self,
         device: &mut D,
-        marks: &Marks,
+        marks: &Option<Marks>,
         level: u8,
         number: u64,
     ) -> Result<Place, RootFault>
@@ -50,14 +50,14 @@ impl FramesBelow {
             result }
         ensures first { self.new.first ≡ self.old.first }
         ensures keeps { (content : Content) → HoldsFile (D.seen device.old) content →
-            AreMarks content marks.now → KeepsPassed content level self.old.first self.old.last →
+            IfSome marks.now (AreMarks content) → KeepsPassed content level self.old.first self.old.last →
             KeepsPassed content level self.new.first self.new.last }
         ensures place { (content : Content) → HoldsFile (D.seen device.old) content →
-            AreMarks content marks.now → KeepsPassed content level self.old.first self.old.last →
+            IfSome marks.now (AreMarks content) → KeepsPassed content level self.old.first self.old.last →
             IsWalk content self.old.first →
             IfOk result (IsPlaceNth content level self.old.first.number number) }
         ensures only { (content : Content) (n : ℕ) → HoldsFile (D.seen device.old) content →
-            AreMarks content marks.now → KeepsPassed content level self.old.first self.old.last →
+            IfSome marks.now (AreMarks content) → KeepsPassed content level self.old.first self.old.last →
             IsWalk content self.old.first → IsNth content level self.old.first.number number n →
             IfErr result OnlyRead }
     {
@@ -86,19 +86,23 @@ impl FramesBelow {
     }
 
     /// Where it is nearest to the child of this number, and not behind it.
-    fn nearest(&self, marks: &Marks, level: u8, number: u64) -> Reached
+    fn nearest(&self, marks: &Option<Marks>, level: u8, number: u64) -> Reached
         ensures near { result.count ≤ number }
-        ensures reached { (content : Content) → AreMarks content marks.now →
+        ensures reached { (content : Content) → IfSome marks.now (AreMarks content) →
             KeepsPassed content level self.now.first self.now.last → IsWalk content self.now.first →
             IsWalk content result.walk ×
             IsBehind content level self.now.first.number result.count result.walk.number }
     {
-        match self.last {
-            Some(passed) if passed.number < number => Reached {
+        match (self.last, marks) {
+            (Some(passed), _) if passed.number < number => Reached {
                 count: passed.number + 1,
                 walk: passed.rest,
             },
-            _ => marks.nearest(level, self.first, number),
+            (_, Some(marks)) => marks.nearest(level, self.first, number),
+            (_, None) => Reached {
+                count: 0,
+                walk: self.first,
+            },
         }
     }
 }

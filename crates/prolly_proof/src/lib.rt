@@ -5,21 +5,26 @@
 #![tactic(auto)]
 
 mod below;
+mod chunk_on_way;
+mod chunk_source;
 mod descent;
 mod fault;
+mod file_chunks;
 pub mod laws;
-mod level;
 mod marks;
-mod place;
 mod prover;
 mod reader;
 mod root_fault;
 mod start;
+mod subtree;
 mod verifier;
 mod walk;
 
+pub use chunk_source::ChunkSource;
 pub use fault::ProofFault;
+pub use file_chunks::FileChunks;
 pub use prover::prove;
 pub use reader::Reader;
 pub use root_fault::RootFault;
+pub use subtree::Subtree;
 pub use verifier::verify;

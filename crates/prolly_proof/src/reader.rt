@@ -1,5 +1,6 @@
-//! Looking up by the root again and again, in a file of which no more is read than that wants.
+//! Looking up by the root again and again, in a tree of which no more is read than that wants.
 ghost use Rattle.std.specs.Prelude.{◌≡◌, ◌≤◌, [], length, option_map, IfOk, IfErr, IfSome, OnErr};
+ghost use Rattle.std.specs.Prelude.{None};
 ghost use Rattle.std.specs.List.{AllByRecursion};
 ghost use Rattle.std.specs.Option.{option_copied};
 ghost use Rattle.prolly_check.specs.Content.{Content};
@@ -8,55 +9,52 @@ ghost use Rattle.prolly_check.specs.Sought.{sought_of};
 ghost use Rattle.prolly_check.specs.Way.{IsCountWay, IsWay};
 ghost use Rattle.prolly_entry.specs.Cut.{sha512_cut};
 ghost use Rattle.prolly_entry.specs.declared.version.Version.TheVariants.{Two};
-ghost use Rattle.prolly_proof.specs.Descents.{IsDescent, MayFail, ReadsLawful, levels_of};
-ghost use Rattle.prolly_proof.specs.Kept.{IsLevel, KeepsLevel};
+ghost use Rattle.prolly_proof.specs.Descents.{IsDescent, IsLevel, KeepsLevel, levels_of};
+ghost use Rattle.prolly_proof.specs.RootFaults.{MayFail, OnlyRead, TellsReads};
 ghost use Rattle.prolly_proof.specs.Readers.{AreFirstFound, IsReaderOf, way_of};
-ghost use Rattle.prolly_proof.specs.Walks.{HoldsFile, StaysSame, TellsReads};
 ghost use Rattle.prolly_tree.specs.File.{root_reference};
 
-use crate::descent::{Descent, go_down, top_of, with};
-use crate::level::Level;
-use crate::place::Top;
+use crate::chunk_on_way::ChunkOnWay;
+use crate::chunk_source::ChunkSource;
+use crate::descent::{Descent, go_down, with};
 use crate::root_fault::RootFault;
+use prolly_check::laws::tops_are_read;
 use prolly_check::{Sought, first_pairs_from, pair_sought, value_in};
 use prolly_entry::{Pair, Ref, Version};
-use prolly_file::Device;
 use std::alloc::{AllocError, Global};
 use std::marker::Model;
 use std::mem;
 
-/// Looks up by the root, in one file, one look-up after another.
+/// Looks up by the root, in one tree, one look-up after another. Its chunks come from a
+/// [`ChunkSource`], which is lent to each call.
 ///
 /// What is answered is what any map with this root has, unless a chunk of the way and another one
 /// have one reference: see [`laws::ways_are_right`](prolly_check::laws::ways_are_right). That holds
-/// whatever the device does, and whatever else the file holds, for nothing of it is believed: each
-/// chunk is compared with the reference in the one above it, and the first with the root.
-///
-/// Of the file the starts of its frames are read, ten bytes each, once to find the root, and once
-/// more for each level, there only among the frames below one chunk; and one chunk a level.
+/// whatever the source does, for nothing of it is believed: each chunk is compared with the
+/// reference in the one above it, and the first with the root.
 ///
 /// It keeps the chunks of the last look-up, from the root down, and how far the frames below each
-/// were gone over. So look-ups of rising keys go over the frames of the file once, and read each
+/// were gone over. So look-ups of rising keys go over the frames of a file once, and read each
 /// chunk once. What is kept was compared with the reference above it and with the root: nothing
-/// that is answered depends on whether the device is that of the same file. Where it is not, or the
-/// file was changed, a look-up may refuse it.
+/// that is answered depends on whether the source is that of the same tree. Where it is not, or has
+/// changed, a look-up may refuse it.
 #[derive(Drop)]
-pub struct Reader {
+pub struct Reader<T> {
     version: Version,
     root: Ref,
-    /// Where the root stands, and the places that were remembered on the way to it.
-    top: Top,
+    /// The place of the root.
+    top: T,
     /// The chunks of the last look-up.
-    levels: Vec<Level>,
+    levels: Vec<ChunkOnWay<T>>,
 }
 
 // A reader is seen with all that it keeps.
-impl Model for Reader {
+impl<T> Model for Reader<T> {
     ghost use Rattle.std.specs.List.{AllByRecursion};
-    ghost use Rattle.prolly_proof.specs.Kept.{IsLevel};
+    ghost use Rattle.prolly_proof.specs.Descents.{IsLevel};
     ghost use Rattle.prolly_proof.specs.Readers.{ReaderView};
 
-    ghost Value = { ReaderView };
+    ghost Value = { ReaderView T };
 
     ghost view = { λ r. record {
       version = r.version;
@@ -68,32 +66,34 @@ impl Model for Reader {
     ghost invariant = { λ r. AllByRecursion (IsLevel r.version) r.levels.items };
 }
 
-impl Reader {
+impl<T: Copy + Drop> Reader<T> {
     /// A reader for the tree with this root, of chunks of this version. Both have to come from who
-    /// is trusted, and not from the file.
+    /// is trusted, and not from the source.
     ///
-    /// Goes over all frames of the file to find the root: ten bytes are read of each. Takes no
-    /// memory.
-    pub fn open<D: Device>(
+    /// Finds the root, for which a file's frames are gone over. Takes no memory.
+    pub fn open<S: ChunkSource<Place = T>>(
         alloc: Global,
-        device: &mut D,
+        source: &mut S,
         version: Version,
         root: &Ref,
-    ) -> Result<Reader, RootFault>
-        ensures of { IfOk result (λ reader. (reader.version ≡ version) ×
-            (reader.root ≡ root.now.0)) }
-        ensures keeps { (content : Content) → HoldsFile (D.seen device.old) content →
+    ) -> Result<Reader<T>, RootFault>
+        ensures of { IfOk result (λ reader. (reader.version ≡ version) × (reader.root ≡ root.now.0)) }
+        ensures kept { (content : Content) → S.has source.old content →
             version ≡ content.version →
             root.now.0 ≡ root_reference (sha512_cut content.bits) content.version content.pairs →
-            IfOk result (IsReaderOf content) }
+            IfOk result (IsReaderOf S.is_place content) }
 
-        // A lawful file with this root is never refused, nor is memory wanted.
-        ensures lawful { ReadsLawful (D.seen device.old) version root.now.0 result }
-        ensures reads { TellsReads (D.seen device.old).failures (D.seen device.new).failures
-            result }
-        ensures same { StaysSame (D.seen device.old) (D.seen device.new) }
+        // A lawful tree with this root is never refused, nor is memory wanted.
+        ensures lawful { (content : Content) → S.has source.old content →
+            version ≡ content.version →
+            root.now.0 ≡ root_reference (sha512_cut content.bits) content.version content.pairs →
+            IfErr result OnlyRead }
+        ensures keeps { (content : Content) → S.has source.old content → S.has source.new content }
+        ensures reads { TellsReads (S.failures source.old) (S.failures source.new) result }
     {
-        let top = top_of(device, version)?;
+        // By this law a lawful tree has the chunks that the root leads to.
+        tops_are_read();
+        let top = source.root(version)?;
         Ok(Reader {
             version,
             root: *root,
@@ -106,27 +106,26 @@ impl Reader {
     ///
     /// The chunks that show it are kept until the next look-up. Takes memory for them and for the
     /// value. After an `Err` nothing is kept, and the next look-up reads its chunks anew.
-    pub fn get<D: Device>(
+    pub fn get<S: ChunkSource<Place = T>>(
         &mut self,
         alloc: Global,
-        device: &mut D,
+        source: &mut S,
         key: &[u8],
     ) -> Result<Option<Vec<u8>>, RootFault>
         ensures of { (self.new.version ≡ self.old.version) × (self.new.root ≡ self.old.root) }
         ensures found { IfOk result (λ value. IsWay self.old.version self.old.root key.now
             (way_of self.new) (option_map (λ v. v.items) value)) }
         ensures none { OnErr result (self.new.levels ≡ []) }
-        ensures keeps { (content : Content) → HoldsFile (D.seen device.old) content →
-            IsReaderOf content self.old → IsReaderOf content self.new }
+        ensures kept { (content : Content) → S.has source.old content →
+            IsReaderOf S.is_place content self.old → IsReaderOf S.is_place content self.new }
 
-        // The file that the reader was opened for is never refused.
-        ensures lawful { (content : Content) → HoldsFile (D.seen device.old) content →
-            IsReaderOf content self.old → IfErr result MayFail }
-        ensures reads { TellsReads (D.seen device.old).failures (D.seen device.new).failures
-            result }
-        ensures same { StaysSame (D.seen device.old) (D.seen device.new) }
+        // The tree that the reader was opened for is never refused.
+        ensures lawful { (content : Content) → S.has source.old content →
+            IsReaderOf S.is_place content self.old → IfErr result MayFail }
+        ensures keeps { (content : Content) → S.has source.old content → S.has source.new content }
+        ensures reads { TellsReads (S.failures source.old) (S.failures source.new) result }
     {
-        let descent = self.descend(alloc, device, Sought::Key(key))?;
+        let descent = self.descend(alloc, source, Sought::Key(key))?;
         let value = copied(alloc, value_in(descent.last.pairs(self.version), key))?;
         self.levels = with(descent.above, descent.last)?;
         Ok(value)
@@ -137,27 +136,26 @@ impl Reader {
     ///
     /// The chunks that show it are kept until the next look-up. Takes memory for them and for the
     /// pair. After an `Err` nothing is kept, and the next look-up reads its chunks anew.
-    pub fn nth<D: Device>(
+    pub fn nth<S: ChunkSource<Place = T>>(
         &mut self,
         alloc: Global,
-        device: &mut D,
+        source: &mut S,
         n: u64,
     ) -> Result<Option<Pair>, RootFault>
         requires { self.old.version ≡ Two }
         ensures of { (self.new.version ≡ self.old.version) × (self.new.root ≡ self.old.root) }
         ensures found { IfOk result (IsCountWay self.old.root n (way_of self.new)) }
         ensures none { OnErr result (self.new.levels ≡ []) }
-        ensures keeps { (content : Content) → HoldsFile (D.seen device.old) content →
-            IsReaderOf content self.old → IsReaderOf content self.new }
+        ensures kept { (content : Content) → S.has source.old content →
+            IsReaderOf S.is_place content self.old → IsReaderOf S.is_place content self.new }
 
-        // The file that the reader was opened for is never refused.
-        ensures lawful { (content : Content) → HoldsFile (D.seen device.old) content →
-            IsReaderOf content self.old → IfErr result MayFail }
-        ensures reads { TellsReads (D.seen device.old).failures (D.seen device.new).failures
-            result }
-        ensures same { StaysSame (D.seen device.old) (D.seen device.new) }
+        // The tree that the reader was opened for is never refused.
+        ensures lawful { (content : Content) → S.has source.old content →
+            IsReaderOf S.is_place content self.old → IfErr result MayFail }
+        ensures keeps { (content : Content) → S.has source.old content → S.has source.new content }
+        ensures reads { TellsReads (S.failures source.old) (S.failures source.new) result }
     {
-        let descent = self.descend(alloc, device, Sought::Number(n))?;
+        let descent = self.descend(alloc, source, Sought::Number(n))?;
         let pair = copy_of(
             alloc,
             pair_sought(descent.last.pairs(self.version), descent.sought),
@@ -172,10 +170,10 @@ impl Reader {
     ///
     /// The chunks that show it are kept until the next look-up. Takes memory for them and for the
     /// pairs. After an `Err` nothing is kept, and the next look-up reads its chunks anew.
-    pub fn pairs_from<D: Device>(
+    pub fn pairs_from<S: ChunkSource<Place = T>>(
         &mut self,
         alloc: Global,
-        device: &mut D,
+        source: &mut S,
         from: &[u8],
         most: usize,
     ) -> Result<Vec<Pair>, RootFault>
@@ -183,17 +181,16 @@ impl Reader {
         ensures found { IfOk result (λ pairs. AreFirstFound self.old.version self.old.root
             from.now most (way_of self.new) pairs.items) }
         ensures none { OnErr result (self.new.levels ≡ []) }
-        ensures keeps { (content : Content) → HoldsFile (D.seen device.old) content →
-            IsReaderOf content self.old → IsReaderOf content self.new }
+        ensures kept { (content : Content) → S.has source.old content →
+            IsReaderOf S.is_place content self.old → IsReaderOf S.is_place content self.new }
 
-        // The file that the reader was opened for is never refused.
-        ensures lawful { (content : Content) → HoldsFile (D.seen device.old) content →
-            IsReaderOf content self.old → IfErr result MayFail }
-        ensures reads { TellsReads (D.seen device.old).failures (D.seen device.new).failures
-            result }
-        ensures same { StaysSame (D.seen device.old) (D.seen device.new) }
+        // The tree that the reader was opened for is never refused.
+        ensures lawful { (content : Content) → S.has source.old content →
+            IsReaderOf S.is_place content self.old → IfErr result MayFail }
+        ensures keeps { (content : Content) → S.has source.old content → S.has source.new content }
+        ensures reads { TellsReads (S.failures source.old) (S.failures source.new) result }
     {
-        let descent = self.descend(alloc, device, Sought::Key(from))?;
+        let descent = self.descend(alloc, source, Sought::Key(from))?;
         let pairs = first_pairs_from(alloc, descent.last.pairs(self.version), from, most)?;
         self.levels = with(descent.above, descent.last)?;
         Ok(pairs)
@@ -207,34 +204,33 @@ impl Reader {
     }
 
     /// Goes down from the root. What was kept is taken out of the reader.
-    fn descend<'a, D: Device>(
+    fn descend<'a, S: ChunkSource<Place = T>>(
         &mut self,
         alloc: Global,
-        device: &mut D,
+        source: &mut S,
         sought: Sought<'a>,
-    ) -> Result<Descent<'a>, RootFault>
+    ) -> Result<Descent<'a, T>, RootFault>
         ensures of { (self.new.version ≡ self.old.version) × (self.new.root ≡ self.old.root) ×
             (self.new.top ≡ self.old.top) × (self.new.levels ≡ []) }
         ensures found { IfOk result
             (IsDescent self.old.version self.old.root (sought_of sought.entry)) }
         ensures levels { IfOk result (λ descent.
             AllByRecursion (IsLevel self.old.version) (levels_of descent)) }
-        ensures keeps { (content : Content) → HoldsFile (D.seen device.old) content →
-            IsReaderOf content self.old →
-            IfOk result (λ descent. AllByRecursion (KeepsLevel content) (levels_of descent)) }
-        ensures only { (content : Content) → HoldsFile (D.seen device.old) content →
-            IsReaderOf content self.old → IfErr result MayFail }
-        ensures reads { TellsReads (D.seen device.old).failures (D.seen device.new).failures
-            result }
-        ensures same { StaysSame (D.seen device.old) (D.seen device.new) }
+        ensures kept { (content : Content) → S.has source.old content →
+            IsReaderOf S.is_place content self.old → IfOk result (λ descent.
+            AllByRecursion (KeepsLevel S.is_place content) (levels_of descent)) }
+        ensures only { (content : Content) → S.has source.old content →
+            IsReaderOf S.is_place content self.old → IfErr result MayFail }
+        ensures keeps { (content : Content) → S.has source.old content → S.has source.new content }
+        ensures reads { TellsReads (S.failures source.old) (S.failures source.new) result }
     {
         let kept = mem::replace(&mut self.levels, Vec::new(alloc));
         go_down(
             alloc,
-            device,
+            source,
             self.version,
             &self.root,
-            &self.top,
+            self.top,
             kept,
             sought,
         )

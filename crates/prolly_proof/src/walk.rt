@@ -39,7 +39,8 @@ impl Walk {
     ghost use Rattle.prolly_check.specs.Content.{Content};
     ghost use Rattle.prolly_proof.specs.Marks.{AreMarks};
     ghost use Rattle.prolly_proof.specs.Walks.{GoesOver, GoesToLevel, HoldsFile, IsFrame, IsStartOf};
-    ghost use Rattle.prolly_proof.specs.Walks.{IsWalk, OnlyRead, StaysSame, TellsReads};
+    ghost use Rattle.prolly_proof.specs.RootFaults.{OnlyRead, TellsReads};
+    ghost use Rattle.prolly_proof.specs.Walks.{IsWalk, StaysSame};
 
     /// The place before the first frame of a chunk file of this version.
     pub(crate) fn begin<D: Device>(device: &mut D, version: Version) -> Result<Walk, RootFault>
@@ -47,8 +48,7 @@ impl Walk {
         ensures reads { TellsReads (D.seen device.old).failures (D.seen device.new).failures
             result }
         ensures begins { (content : Content) → HoldsFile (D.seen device.old) content →
-            version ≡ content.version → IfOk result (λ walk. (walk.number ≡ 0) ×
-            IsWalk content walk) }
+            IfOk result (λ walk. (walk.number ≡ 0) × IsWalk content walk) }
         ensures only { (content : Content) → HoldsFile (D.seen device.old) content →
             version ≡ content.version → IfErr result OnlyRead }
     {

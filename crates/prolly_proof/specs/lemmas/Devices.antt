@@ -3,6 +3,7 @@ use Rattle.std.proofs.Common.{◌^◌, ◌<◌, length, sym, subst, ◌∙◌}
 use Rattle.prolly_check.specs.Content.{Content}
 use Rattle.prolly_check.specs.Verdict.{IsFileOf}
 use Rattle.prolly_file.specs.Device.{DeviceView}
+use Rattle.prolly_proof.specs.Sources.{IsLawful}
 use Rattle.prolly_proof.specs.Walks.{HoldsFile, StaysSame}
 
 -- The file that it held it holds still.
@@ -14,6 +15,12 @@ holds_still old new content same holds =
       short = subst (λ bytes. length bytes < 2 ^ 64) (sym kept.1) holds.short;
       is = subst (λ bytes. IsFileOf bytes content) (sym kept.1) holds.is;
     }
+
+-- Its content is lawful.
+pub file_is_lawful : (device : DeviceView) (content : Content) → HoldsFile device content →
+    IsLawful content
+file_is_lawful device content holds =
+    record { lawful = holds.is.lawful; rising = holds.is.rising; apart = holds.is.apart }
 
 -- What stays the same in two calls stays the same over both.
 pub stays : (old mid new : DeviceView) → StaysSame old mid → StaysSame mid new → StaysSame old new

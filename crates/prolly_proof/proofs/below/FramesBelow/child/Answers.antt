@@ -1,5 +1,6 @@
 use Rattle.std.proofs.Common.{◌≡◌, refl, ◌∙◌, subst, arith, rules}
-use Rattle.prolly_proof.specs.Walks.{IsBehind, OnlyRead}
+use Rattle.prolly_proof.specs.RootFaults.{OnlyRead}
+use Rattle.prolly_proof.specs.Walks.{IsBehind}
 use Rattle.prolly_proof.proofs.Keeping.{behind_next, nth_next, only_read}
 use Rattle.prolly_proof.specs.lemmas.Devices.{holds_still, stays}
 use Rattle.prolly_proof.proofs.below.FramesBelow.child.Goals as goal

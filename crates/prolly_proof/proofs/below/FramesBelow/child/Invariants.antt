@@ -1,6 +1,6 @@
-use Rattle.std.proofs.Common.{◌≡◌, ◌≤◌, ◌-◌}
+use Rattle.std.proofs.Common.{IfSome, ◌≡◌, ◌≤◌, ◌-◌}
 use Rattle.prolly_check.specs.Content.{Content}
-use Rattle.prolly_proof.specs.Kept.{KeepsPassed}
+use Rattle.prolly_proof.specs.Files.{KeepsPassed}
 use Rattle.prolly_proof.specs.Marks.{AreMarks}
 use Rattle.prolly_proof.specs.Walks.{HoldsFile, IsBehind, IsWalk, StaysSame}
 use Rattle.prolly_proof.proofs.below.FramesBelow.child.Given as goal
@@ -11,7 +11,7 @@ invariant-loop-count g l = record {
   same : StaysSame (g.D.Device.seen l.initial.device) (g.D.Device.seen l.device);
   reads : (g.D.Device.seen l.device).failures ≡ (g.D.Device.seen l.initial.device).failures;
   reached : (content : Content) → HoldsFile (g.D.Device.seen l.initial.device) content →
-      AreMarks content l.marks →
+      IfSome l.marks (AreMarks content) →
       KeepsPassed content l.level
       l.initial.self.first l.initial.self.last →
       IsWalk content l.initial.self.first →

@@ -2,8 +2,7 @@ use Rattle.std.proofs.Common.{ap, option_map, subst, sym, ◌∙◌}
 use Rattle.prolly_tree.specs.LookUp.{find}
 use Rattle.prolly_check.specs.Held.{pairs_held}
 use Rattle.prolly_check.specs.Way.{IsWay}
-use Rattle.prolly_proof.specs.Descents.{chunks_in}
-use Rattle.prolly_proof.specs.Kept.{IsLevel}
+use Rattle.prolly_proof.specs.Descents.{IsLevel, chunks_in}
 use Rattle.prolly_proof.proofs.Descending.{last_is_level}
 use Rattle.prolly_proof.proofs.reader.Reader.get.Goals as goal
 

@@ -3,8 +3,7 @@ use Rattle.prolly_check.specs.Held.{pairs_held}
 use Rattle.prolly_check.specs.Sought.{sought_of}
 use Rattle.prolly_check.specs.Sought.Sought.{Number}
 use Rattle.prolly_check.specs.Way.{IsCountWay, IsWayTo, nth_sought}
-use Rattle.prolly_proof.specs.Descents.{chunks_in, levels_of}
-use Rattle.prolly_proof.specs.Kept.{IsLevel}
+use Rattle.prolly_proof.specs.Descents.{IsLevel, chunks_in, levels_of}
 use Rattle.prolly_proof.proofs.Descending.{last_is_level}
 use Rattle.prolly_proof.proofs.reader.Reader.nth.Goals as goal
 

@@ -1,9 +1,8 @@
 use Rattle.std.proofs.Common.{ap, refl, subst, sym, take, ◌∙◌}
 use Rattle.prolly_check.specs.Held.{pairs_held}
 use Rattle.prolly_check.specs.Leaves.{pairs_from}
-use Rattle.prolly_proof.specs.Descents.{chunks_in}
+use Rattle.prolly_proof.specs.Descents.{IsLevel, chunks_in}
 use Rattle.prolly_proof.specs.Readers.{AreFirstFound}
-use Rattle.prolly_proof.specs.Kept.{IsLevel}
 use Rattle.prolly_proof.proofs.Descending.{last_is_level}
 use Rattle.prolly_proof.proofs.reader.Reader.pairs_from.Goals as goal
 

@@ -1,7 +1,7 @@
 use Rattle.std.proofs.Common.{◌≡◌, length, ap, arith}
 use Rattle.prolly_check.specs.FileWays.{nth_chunk}
-use Rattle.prolly_proof.proofs.GoingDown.{all_read, chunk_there, read_whole}
-use Rattle.prolly_proof.proofs.level.read_chunk.Goals as goal
+use Rattle.prolly_proof.proofs.Subtrees.{all_read, chunk_there, read_whole}
+use Rattle.prolly_proof.proofs.file_chunks.read_chunk.Goals as goal
 
 pub returns-then-count-len-clause-only : goal.returns-then-count-len-clause-only
 returns-then-count-len-clause-only g c content holds of =
