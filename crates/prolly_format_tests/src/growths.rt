@@ -4,17 +4,17 @@
 //! test's own values, the test ends in want of memory; where it is one of the calls that are
 //! tested, the test goes on.
 use crate::expect::{expect_bytes, expect_eq};
-use crate::rooted::{Rooted, Shown, Sought, expect_shown, keys_from, look_up, open};
+use crate::rooted::{Chunks, Rooted, Shown, Sought, expect_shown, keys_from, look_up, open};
 use prolly_check::{CheckFault, check};
 use prolly_entry::{
     Pair, Record, RecordFault, Ref, Sha512Cut, Version, append_child, append_child_as, append_pair,
     append_record, records,
 };
 use prolly_file::{
-    FromRead, ScratchFault, ScriptDevice, ScriptSink, Sink, SinkFault, WholeFault, read_whole,
+    FromRead, ScratchFault, ScriptSink, Sink, SinkFault, WholeFault, read_whole,
     scratch_as,
 };
-use prolly_proof::{Reader, RootFault};
+use prolly_proof::{Reader, RootFault, Subtree};
 use prolly_test_parts::{joined, pairs_of};
 use std::alloc::{AllocError, Global};
 use std::process::Abort;
@@ -164,15 +164,15 @@ fn a_sink_that_was_refused_memory_takes_the_bytes_later(rt: HostRuntime) {
 fn found(
     rt: &impl Abort,
     alloc: Global,
-    device: &mut ScriptDevice,
+    chunks: &mut Chunks,
     rooted: &Rooted,
     sought: Sought,
 ) -> Result<Shown, RootFault> {
-    match look_up(rt, alloc, device, rooted, sought) {
+    match look_up(rt, alloc, chunks, rooted, sought) {
         Ok(shown) => Ok(shown),
         Err(fault) => {
             expect_eq(rt, &fault, &RootFault::Memory);
-            look_up(rt, alloc, device, rooted, sought)
+            look_up(rt, alloc, chunks, rooted, sought)
         }
     }
 }
@@ -185,8 +185,8 @@ fn expect_found(
     expected: (usize, Option<&[u8]>),
 ) -> Result<(), Fail> {
     let rooted = Rooted::of(alloc, Version::Two, &[b"a", b"b"])?;
-    let mut device = rooted.device(alloc, 0)?;
-    match found(rt, alloc, &mut device, &rooted, sought) {
+    let mut chunks = rooted.chunks(alloc, 0)?;
+    match found(rt, alloc, &mut chunks, &rooted, sought) {
         Ok(shown) => expect_shown(rt, &shown, expected),
         Err(fault) => expect_eq(rt, &Some(fault), &None),
     }
@@ -203,15 +203,15 @@ fn a_look_up_wants_memory_and_finds_what_is_there_later(rt: HostRuntime) -> Resu
 fn leaf(
     rt: &impl Abort,
     alloc: Global,
-    device: &mut ScriptDevice,
-    reader: &mut Reader,
+    chunks: &mut Chunks,
+    reader: &mut Reader<Subtree>,
     from: &[u8],
 ) -> Result<Vec<u8>, RootFault> {
-    match keys_from(alloc, device, reader, from) {
+    match keys_from(alloc, chunks, reader, from) {
         Ok(keys) => Ok(keys),
         Err(fault) => {
             expect_eq(rt, &fault, &RootFault::Memory);
-            keys_from(alloc, device, reader, from)
+            keys_from(alloc, chunks, reader, from)
         }
     }
 }
@@ -219,14 +219,14 @@ fn leaf(
 /// Scans the tree of a=1 and b=1.
 fn expect_scan(rt: &impl Abort, alloc: Global) -> Result<(), Fail> {
     let rooted = Rooted::of(alloc, Version::One, &[b"a", b"b"])?;
-    let mut device = rooted.device(alloc, 0)?;
-    let mut reader = open(alloc, &mut device, &rooted)?;
+    let mut chunks = rooted.chunks(alloc, 0)?;
+    let mut reader = open(alloc, &mut chunks, &rooted)?;
     for (from, keys) in [
         (b"".as_slice(), b"a".as_slice()),
         (b"a\0", b"b"),
         (b"b\0", b""),
     ] {
-        let found = leaf(rt, alloc, &mut device, &mut reader, from);
+        let found = leaf(rt, alloc, &mut chunks, &mut reader, from);
         expect_eq(rt, &found.as_deref(), &Ok(keys));
     }
     Ok(())

@@ -4,7 +4,7 @@ ghost use Rattle.std.specs.Prelude.{◌≡◌, IfOk};
 use crate::expect::{expect_bytes, expect_eq};
 use prolly_entry::{Pair, Ref, Sha512Cut, Version};
 use prolly_file::{ScriptDevice, scratch_as};
-use prolly_proof::{Reader, RootFault};
+use prolly_proof::{FileChunks, Reader, RootFault, Subtree};
 use prolly_test_parts::{joined, pairs_of};
 use std::alloc::Global;
 use std::process::Abort;
@@ -15,6 +15,9 @@ const MOST_CALLS: u64 = 100;
 
 /// How many pairs of a leaf are asked for: more than any has.
 const MOST_PAIRS: usize = 100;
+
+/// The chunks of a file on a device that is honest.
+pub(crate) type Chunks = FileChunks<ScriptDevice>;
 
 /// A chunk file, with what is to be known of it.
 #[derive(Drop)]
@@ -38,10 +41,10 @@ impl Rooted {
         })
     }
 
-    /// A device of the file, whose call of this number fails; 0 for none.
-    pub(crate) fn device(&self, alloc: Global, fail_at: u64) -> Result<ScriptDevice, Fail> {
+    /// The chunks of the file on a device whose call of this number fails; 0 for none.
+    pub(crate) fn chunks(&self, alloc: Global, fail_at: u64) -> Result<Chunks, Fail> {
         let file = self.file.to_vec(alloc)?;
-        Ok(ScriptDevice::new(file, Some(fail_at)))
+        Ok(FileChunks::new(ScriptDevice::new(file, Some(fail_at))))
     }
 }
 
@@ -67,16 +70,16 @@ fn joined_pair(alloc: Global, pair: Option<Pair>) -> Result<Option<Vec<u8>>, Roo
 pub(crate) fn look_up(
     rt: &impl Abort,
     alloc: Global,
-    device: &mut ScriptDevice,
+    chunks: &mut Chunks,
     rooted: &Rooted,
     sought: Sought,
 ) -> Result<Shown, RootFault> {
-    let mut reader = open(alloc, device, rooted)?;
+    let mut reader = open(alloc, chunks, rooted)?;
     let found = match sought {
-        Sought::Key(key) => reader.get(alloc, device, key)?,
+        Sought::Key(key) => reader.get(alloc, chunks, key)?,
         Sought::Number(n) => {
             assert!(rt; rooted.version == Version::Two);
-            joined_pair(alloc, reader.nth(alloc, device, n)?)?
+            joined_pair(alloc, reader.nth(alloc, chunks, n)?)?
         }
     };
     Ok((reader.chunks(), found))
@@ -98,8 +101,8 @@ fn expect_found(
     expected: (usize, Option<&[u8]>),
 ) -> Result<(), Fail> {
     for fail_at in 1..=MOST_CALLS {
-        let mut device = rooted.device(alloc, fail_at)?;
-        match look_up(rt, alloc, &mut device, rooted, sought) {
+        let mut chunks = rooted.chunks(alloc, fail_at)?;
+        match look_up(rt, alloc, &mut chunks, rooted, sought) {
             Err(fault) => expect_eq(rt, &fault, &RootFault::Read),
             Ok(shown) => {
                 expect_shown(rt, &shown, expected);
@@ -107,7 +110,7 @@ fn expect_found(
                 return Ok(());
             }
         }
-        let shown = look_up(rt, alloc, &mut device, rooted, sought)?;
+        let shown = look_up(rt, alloc, &mut chunks, rooted, sought)?;
         expect_shown(rt, &shown, expected);
     }
     Err("too many calls".into())
@@ -144,23 +147,23 @@ const LEAVES: [(&[u8], &[u8]); 4] = [(b"", b"a"), (b"a\0", b"b"), (b"b\0", b"c")
 /// A reader of the file.
 pub(crate) fn open(
     alloc: Global,
-    device: &mut ScriptDevice,
+    chunks: &mut Chunks,
     rooted: &Rooted,
-) -> Result<Reader, RootFault>
+) -> Result<Reader<Subtree>, RootFault>
     ensures { IfOk result (λ reader. reader.version ≡ rooted.now.version) }
 {
-    Reader::open(alloc, device, rooted.version, &rooted.root)
+    Reader::open(alloc, chunks, rooted.version, &rooted.root)
 }
 
 /// The keys of the pairs of a leaf, from a key on, joined.
 pub(crate) fn keys_from(
     alloc: Global,
-    device: &mut ScriptDevice,
-    reader: &mut Reader,
+    chunks: &mut Chunks,
+    reader: &mut Reader<Subtree>,
     from: &[u8],
 ) -> Result<Vec<u8>, RootFault> {
     let mut keys = Vec::new(alloc);
-    for pair in &reader.pairs_from(alloc, device, from, MOST_PAIRS)? {
+    for pair in &reader.pairs_from(alloc, chunks, from, MOST_PAIRS)? {
         keys.extend_from_slice(pair.key())?;
     }
     Ok(keys)
@@ -171,19 +174,19 @@ pub(crate) fn keys_from(
 fn expect_leaf(
     rt: &impl Abort,
     alloc: Global,
-    device: &mut ScriptDevice,
-    reader: &mut Reader,
+    chunks: &mut Chunks,
+    reader: &mut Reader<Subtree>,
     from: &[u8],
     keys: &[u8],
 ) -> Result<bool, Fail> {
-    match keys_from(alloc, device, reader, from) {
+    match keys_from(alloc, chunks, reader, from) {
         Ok(found) => {
             expect_bytes(rt, &found, keys);
             Ok(false)
         }
         Err(fault) => {
             expect_eq(rt, &fault, &RootFault::Read);
-            expect_bytes(rt, &keys_from(alloc, device, reader, from)?, keys);
+            expect_bytes(rt, &keys_from(alloc, chunks, reader, from)?, keys);
             Ok(true)
         }
     }
@@ -193,14 +196,14 @@ fn expect_leaf(
 fn opened(
     rt: &impl Abort,
     alloc: Global,
-    device: &mut ScriptDevice,
+    chunks: &mut Chunks,
     rooted: &Rooted,
-) -> Result<(Reader, bool), Fail> {
-    match open(alloc, device, rooted) {
+) -> Result<(Reader<Subtree>, bool), Fail> {
+    match open(alloc, chunks, rooted) {
         Ok(reader) => Ok((reader, false)),
         Err(fault) => {
             expect_eq(rt, &fault, &RootFault::Read);
-            Ok((open(alloc, device, rooted)?, true))
+            Ok((open(alloc, chunks, rooted)?, true))
         }
     }
 }
@@ -209,12 +212,12 @@ fn opened(
 fn expect_leaves(
     rt: &impl Abort,
     alloc: Global,
-    device: &mut ScriptDevice,
+    chunks: &mut Chunks,
     rooted: &Rooted,
 ) -> Result<bool, Fail> {
-    let (mut reader, mut has_failed) = opened(rt, alloc, device, rooted)?;
+    let (mut reader, mut has_failed) = opened(rt, alloc, chunks, rooted)?;
     for (from, keys) in &LEAVES {
-        has_failed |= expect_leaf(rt, alloc, device, &mut reader, from, keys)?;
+        has_failed |= expect_leaf(rt, alloc, chunks, &mut reader, from, keys)?;
     }
     Ok(has_failed)
 }
@@ -223,8 +226,8 @@ fn expect_leaves(
 /// calls does.
 fn expect_scans(rt: &impl Abort, alloc: Global, rooted: &Rooted) -> Result<(), Fail> {
     for fail_at in 1..=MOST_CALLS {
-        let mut device = rooted.device(alloc, fail_at)?;
-        if !expect_leaves(rt, alloc, &mut device, rooted)? {
+        let mut chunks = rooted.chunks(alloc, fail_at)?;
+        if !expect_leaves(rt, alloc, &mut chunks, rooted)? {
             assert!(rt; fail_at > 1);
             return Ok(());
         }

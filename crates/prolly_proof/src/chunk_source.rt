@@ -18,7 +18,7 @@ use std::alloc::Global;
 /// never refused.
 pub trait ChunkSource {
     /// Where a chunk stands, and what was found below it so far.
-    type Place: Copy;
+    type Place: Copy + Drop;
 
     /// How many of its calls failed.
     ghost failures: { Self → ℕ };

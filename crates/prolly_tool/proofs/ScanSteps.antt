@@ -16,14 +16,11 @@ use Rattle.prolly_entry.specs.declared.version.Version.{Version}
 use Rattle.prolly_fault.specs.declared.fault.RunFault.{RunFault}
 use Rattle.prolly_fault.specs.declared.fault.RunFault.TheVariants as runs
 use Rattle.prolly_fault.specs.declared.fault.RunFault.TheVariants.{Memory, Write}
-use Rattle.prolly_file.specs.Device.{DeviceView}
 use Rattle.prolly_file.specs.Failures.{CountsFailure, after_failure}
 use Rattle.prolly_file.specs.Sink.{IsSettled, SinkView}
 use Rattle.prolly_proof.specs.Readers.{AreFirstFound}
-use Rattle.prolly_proof.specs.Descents.{AnswersLawful, MayFail, ReadsLawful}
-use Rattle.prolly_proof.specs.Readers.{IsReaderOf, ReaderView}
-use Rattle.prolly_proof.specs.Walks.{HoldsFile, StaysSame, TellsReads}
-use Rattle.prolly_proof.specs.lemmas.Devices.{holds_still}
+use Rattle.prolly_proof.specs.Readers.{ReaderView}
+use Rattle.prolly_proof.specs.RootFaults.{TellsReads}
 use Rattle.prolly_proof.specs.declared.root_fault.RootFault.{RootFault}
 use Rattle.prolly_proof.specs.declared.root_fault.RootFault.TheVariants as roots
 use Rattle.prolly_tree.specs.Tree.{last_key}
@@ -31,7 +28,7 @@ use Rattle.prolly_text.specs.declared.notation.Notation.{Notation}
 use Rattle.prolly_tool.specs.LookUps.{pair_lines, pair_text}
 use Rattle.prolly_tool.specs.Outputs.{TookAll, TookBytes, TookPart, TookPrefix}
 use Rattle.prolly_tool.specs.Outputs.{TookUntil}
-use Rattle.prolly_tool.specs.RootScans.{AreTooFew, IsDoneScan, IsFlushed, IsOpened, IsStoppedScan}
+use Rattle.prolly_tool.specs.RootScans.{AreTooFew, IsDoneScan, IsFlushed, IsStoppedScan}
 use Rattle.prolly_tool.specs.RootScans.{Scanned, StoppedScan, TellsScanReads, limited_lines}
 use Rattle.prolly_tool.specs.declared.fault.Fault.{Fault}
 use Rattle.prolly_tool.specs.declared.fault.Fault.TheVariants as faults
@@ -263,10 +260,10 @@ module _ {W : Type 0} (seen : W → SinkView) (version : Version) (root from : L
       scan_full none = (so_far, inl (omega (arith, none, s.left_is)), s.took.all)
 
       -- Memory is wanted before more is sought.
-      pub scan_wants : (device : DeviceView) → IsStoppedScan device version root from limit notation
+      pub scan_wants : (may : RootFault → Type 0) → IsStoppedScan may version root from limit notation
           (λ bytes. TookBytes seen bytes old mid)
           (λ fault bytes. TookUntil seen fault bytes old mid) (Run Memory)
-      scan_wants device = (
+      scan_wants may = (
         so_far,
         took_front seen (limited_lines notation limit s.lists) old mid s.took
             (limited_lines notation limit s.lists)
@@ -278,12 +275,12 @@ module _ {W : Type 0} (seen : W → SinkView) (version : Version) (root from : L
         too_few = (omega (arith, some, s.left_is), s.full)
 
         -- A look-up has a fault.
-        pub scan_fails : (device : DeviceView) (fault : RootFault) →
-            AnswersLawful {T = Unit {0}} device version root (Err fault) →
-            IsStoppedScan device version root from limit notation
+        pub scan_fails : (may : RootFault → Type 0) (fault : RootFault) →
+            may fault →
+            IsStoppedScan may version root from limit notation
             (λ bytes. TookBytes seen bytes old mid)
             (λ fault bytes. TookUntil seen fault bytes old mid) (Root fault)
-        scan_fails device fault lawful = (
+        scan_fails may fault lawful = (
           so_far,
           (
             too_few,
@@ -371,12 +368,12 @@ module _ {W : Type 0} (seen : W → SinkView) (version : Version) (root from : L
             )
 
             -- A part of them is.
-            pub scan_unwritten : (device : DeviceView) (fault : RunFault) →
+            pub scan_unwritten : (may : RootFault → Type 0) (fault : RunFault) →
                 TookUntil seen fault (pair_lines notation (take left found)) mid new →
-                IsStoppedScan device version root from limit notation
+                IsStoppedScan may version root from limit notation
                 (λ bytes. TookBytes seen bytes old new)
                 (λ fault bytes. TookUntil seen fault bytes old new) (Run fault)
-            scan_unwritten device fault t = (
+            scan_unwritten may fault t = (
               with_more,
               subst (λ bytes. TookUntil seen fault bytes old new) (sym text)
                   (until_also seen (limited_lines notation limit s.lists)
@@ -387,15 +384,15 @@ module _ {W : Type 0} (seen : W → SinkView) (version : Version) (root from : L
 -- ---- the end of a scan
 
 -- A scan stops at a fault of a look-up, or at one of writing.
-stop_cases : (device : DeviceView) (version : Version) (root : List ℕ) (limit : ℕ)
+stop_cases : (may : RootFault → Type 0) (version : Version) (root : List ℕ) (limit : ℕ)
     (notation : Notation)
     (took_all : List ℕ → Type 0) (took_until : RunFault → List ℕ → Type 0) (fault : Fault)
     (lists : List (List Pair)) (goal : Fault → Type 0) →
     ((of_root : RootFault) → AreTooFew limit lists × took_all (pair_lines notation (joined lists)) ×
-    AnswersLawful {T = Unit {0}} device version root (Err of_root) → goal (Root of_root)) →
+    may of_root → goal (Root of_root)) →
     ((of_run : RunFault) → took_until of_run (limited_lines notation limit lists) → goal
     (Run of_run)) →
-    StoppedScan device version root limit notation took_all took_until fault lists → goal fault
+    StoppedScan may version root limit notation took_all took_until fault lists → goal fault
 stop_cases d v r l n took until (faults.Run f) lists goal a b t = b f t
 stop_cases d v r l n took until (faults.Pack f) lists goal a b t = absurd t
 stop_cases d v r l n took until (faults.Check f) lists goal a b t =
@@ -450,7 +447,7 @@ module _ {W : Type 0} (seen : W → SinkView) (old mid new : W)
         subst (λ f. TookUntil seen f bytes old new) (sym m.0) (prefix_flushed bytes m.1)
     until_flushed fault bytes other (inr w) = absurd (other w.0)
 
-    module _ (device : DeviceView) (version : Version) (root from : List ℕ) (limit : ℕ)
+    module _ (may : RootFault → Type 0) (version : Version) (root from : List ℕ) (limit : ℕ)
         (notation : Notation) where
       pub done_flushed : IsDoneScan version root from limit notation
           (λ bytes. TookBytes seen bytes old mid) →
@@ -458,17 +455,17 @@ module _ {W : Type 0} (seen : W → SinkView) (old mid new : W)
       done_flushed d = (d.0, d.1, all_flushed (limited_lines notation limit d.0.lists) d.2)
 
       pub stopped_flushed : (fault : Fault) → fault ≢ Run Write →
-          IsStoppedScan device version root from limit notation
+          IsStoppedScan may version root from limit notation
           (λ bytes. TookBytes seen bytes old mid)
           (λ fault bytes. TookUntil seen fault bytes old mid) fault →
-          IsStoppedScan device version root from limit notation
+          IsStoppedScan may version root from limit notation
           (λ bytes. TookAll seen bytes old new)
           (λ fault bytes. TookUntil seen fault bytes old new) fault
       stopped_flushed fault other d = (
         d.0,
-        stop_cases device version root limit notation (λ bytes. TookBytes seen bytes old mid)
+        stop_cases may version root limit notation (λ bytes. TookBytes seen bytes old mid)
             (λ fault bytes. TookUntil seen fault bytes old mid) fault d.0.lists
-            (λ f. f ≢ Run Write → StoppedScan device version root limit notation
+            (λ f. f ≢ Run Write → StoppedScan may version root limit notation
             (λ bytes. TookAll seen bytes old new)
             (λ fault bytes. TookUntil seen fault bytes old new) f d.0.lists)
             (λ of_root t other. (
@@ -504,25 +501,25 @@ module _ {W : Type 0} (seen : W → SinkView) (old mid new : W)
     until_unflushed fault bytes other (inl m) = prefix_unflushed bytes m.1
     until_unflushed fault bytes other (inr w) = absurd (other w.0)
 
-    module _ (device : DeviceView) (version : Version) (root from : List ℕ) (limit : ℕ)
+    module _ (may : RootFault → Type 0) (version : Version) (root from : List ℕ) (limit : ℕ)
         (notation : Notation) where
       pub done_unflushed :
           IsDoneScan version root from limit notation (λ bytes. TookBytes seen bytes old mid) →
-          IsStoppedScan device version root from limit notation
+          IsStoppedScan may version root from limit notation
           (λ bytes. TookAll seen bytes old new)
           (λ fault bytes. TookUntil seen fault bytes old new) (Run Write)
       done_unflushed d = (d.0, all_unflushed (limited_lines notation limit d.0.lists) d.2)
 
       pub stopped_unflushed : (fault : Fault) → fault ≢ Run Write →
-          IsStoppedScan device version root from limit notation
+          IsStoppedScan may version root from limit notation
           (λ bytes. TookBytes seen bytes old mid)
           (λ fault bytes. TookUntil seen fault bytes old mid) fault →
-          IsStoppedScan device version root from limit notation
+          IsStoppedScan may version root from limit notation
           (λ bytes. TookAll seen bytes old new)
           (λ fault bytes. TookUntil seen fault bytes old new) (Run Write)
       stopped_unflushed fault other d = (
         d.0,
-        stop_cases device version root limit notation (λ bytes. TookBytes seen bytes old mid)
+        stop_cases may version root limit notation (λ bytes. TookBytes seen bytes old mid)
             (λ fault bytes. TookUntil seen fault bytes old mid) fault d.0.lists
             (λ f. f ≢ Run Write → TookPart seen (limited_lines notation limit d.0.lists) old new)
             (λ of_root t other. subst (λ bytes. TookPart seen bytes old new)
@@ -538,7 +535,7 @@ module _ {W : Type 0} (seen : W → SinkView) (old mid new : W)
 module _ {W : Type 0} (seen : W → SinkView) (old mid new : W)
     (keeping : (seen old).is_keeping ≡ true → (seen mid).is_keeping ≡ true)
     (same : (seen mid).is_keeping ≡ true → (seen new).taken ≡ (seen mid).taken)
-    (device : DeviceView) (version : Version) (root from : List ℕ) (limit : ℕ)
+    (may : RootFault → Type 0) (version : Version) (root from : List ℕ) (limit : ℕ)
     (notation : Notation)
     (d : IsDoneScan version root from limit notation (λ bytes. TookBytes seen bytes old mid)) where
   pub done_ended : (result : Result (Unit {0}) Fault) →
@@ -546,35 +543,25 @@ module _ {W : Type 0} (seen : W → SinkView) (old mid new : W)
       OnOk result (IsSettled (seen new)) → OnOk result
       (IsDoneScan version root from limit notation (λ bytes. TookAll seen bytes old new))
   done_ended (Ok x) counted settled = done_flushed seen old mid new keeping same counted settled
-      device version root from limit notation d
+      may version root from limit notation d
   done_ended (Err fault) counted settled = tt
 
   pub done_failed : (result : Result (Unit {0}) Fault) →
       CountsFailure (seen mid).failures (seen new).failures result →
       IfErr result (λ fault. fault ≡ Run Write) → IfErr result
-      (IsStoppedScan device version root from limit notation (λ bytes. TookAll seen bytes old new)
+      (IsStoppedScan may version root from limit notation (λ bytes. TookAll seen bytes old new)
       (λ fault bytes. TookUntil seen fault bytes old new))
   done_failed (Ok x) counted is = tt
   done_failed (Err fault) counted is = subst
-      (IsStoppedScan device version root from limit notation (λ bytes. TookAll seen bytes old new)
+      (IsStoppedScan may version root from limit notation (λ bytes. TookAll seen bytes old new)
       (λ fault bytes. TookUntil seen fault bytes old new)) (sym is)
-      (done_unflushed seen old mid new keeping same counted device version root from limit notation
+      (done_unflushed seen old mid new keeping same counted may version root from limit notation
       d)
-
--- ---- the device
-
--- What is said of a later device is said of the one before.
-pub lawful_before : (old late : DeviceView) (version : Version) (root : List ℕ)
-    (fault : RootFault) → StaysSame old late →
-    AnswersLawful {T = Unit {0}} late version root (Err fault) →
-    AnswersLawful {T = Unit {0}} old version root (Err fault)
-lawful_before old late version root fault same lawful content holds =
-    lawful content (holds_still old late content same holds)
 
 -- ---- the reader
 
 -- What it finds by its version and root is found by those that it had.
-pub found_from : (old now : ReaderView) (key next : List ℕ) (most : ℕ) (way : List (List ℕ))
+pub found_from : {T : Type 0} (old now : ReaderView T) (key next : List ℕ) (most : ℕ) (way : List (List ℕ))
     (pairs : List Pair) → now.version ≡ old.version → now.root ≡ old.root → key ≡ next →
     AreFirstFound now.version now.root key most way pairs →
     AreFirstFound old.version old.root next most way pairs
@@ -583,33 +570,20 @@ found_from old now key next most way pairs version root is found =
     (subst (λ r. AreFirstFound now.version r next most way pairs) root
     (subst (λ key. AreFirstFound now.version now.root key most way pairs) is found))
 
--- What is promised where no memory is taken is also promised where it is.
-pub opened_fails : (device : DeviceView) (version : Version) (root : List ℕ) (fault : RootFault) →
-    ReadsLawful {T = Unit {0}} device version root (Err fault) →
-    AnswersLawful {T = Unit {0}} device version root (Err fault)
-opened_fails device version root fault only content holds is root_is =
-    inr (only content holds is root_is)
+-- Of a fault that there may be is said what follows from that.
+pub stopped_may : (may other : RootFault → Type 0) → ((fault : RootFault) → may fault → other fault) →
+    (version : Version) (root from : List ℕ) (limit : ℕ) (notation : Notation)
+    (took_all : List ℕ → Type 0) (took_until : RunFault → List ℕ → Type 0) (fault : Fault) →
+    IsStoppedScan may version root from limit notation took_all took_until fault →
+    IsStoppedScan other version root from limit notation took_all took_until fault
+stopped_may may other so version root from limit notation took_all took_until fault d = (
+  d.0,
+  stop_cases may version root limit notation took_all took_until fault d.0.lists
+      (λ f. StoppedScan other version root limit notation took_all took_until f d.0.lists)
+      (λ of_root t. (t.0, t.1, so of_root t.2)) (λ of_run t. t) d.1,
+)
 
-module _ (first late : DeviceView) (same : StaysSame first late) (reader : ReaderView)
-    (opened : IsOpened first reader) where
-  -- The file that it was opened for is not refused.
-  pub opened_lawful : (version : Version) (root : List ℕ) (fault : RootFault) →
-      reader.version ≡ version → reader.root ≡ root → ((content : Content) →
-      HoldsFile late content → IsReaderOf content reader → MayFail fault) →
-      AnswersLawful {T = Unit {0}} first version root (Err fault)
-  opened_lawful version root fault same_version same_root only content holds is root_is =
-      only content (holds_still first late content same holds)
-      (opened content holds (same_version ∙ is) (same_root ∙ root_is))
-
-  -- A look-up leaves it so.
-  pub opened_still : (new : ReaderView) → new.version ≡ reader.version → new.root ≡ reader.root →
-      ((content : Content) → HoldsFile late content → IsReaderOf content reader →
-      IsReaderOf content new) → IsOpened first new
-  opened_still new same_version same_root keeps content holds is root_is =
-      keeps content (holds_still first late content same holds)
-      (opened content holds (sym same_version ∙ is) (sym same_root ∙ root_is))
-
--- ---- what is told of the device
+-- ---- what is told of the source
 
 -- A look-up has a fault.
 pub look_up_tells : (old new : ℕ) (fault : RootFault) →

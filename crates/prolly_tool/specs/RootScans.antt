@@ -8,15 +8,15 @@ use Rattle.prolly_entry.specs.Pair.{Pair}
 use Rattle.prolly_entry.specs.declared.version.Version.{Version}
 use Rattle.prolly_fault.specs.declared.fault.RunFault.{RunFault}
 use Rattle.prolly_fault.specs.declared.fault.RunFault.TheVariants.{Write}
-use Rattle.prolly_file.specs.Device.{DeviceView}
 use Rattle.prolly_file.specs.Failures.{after_failure}
 use Rattle.prolly_file.specs.Sink.{IsSettled, SinkView}
-use Rattle.prolly_proof.specs.Descents.{AnswersLawful}
 use Rattle.prolly_proof.specs.Readers.{IsReaderOf, ReaderView}
-use Rattle.prolly_proof.specs.Walks.{HoldsFile}
+use Rattle.prolly_proof.specs.RootFaults.{MayFail}
+use Rattle.prolly_proof.specs.declared.root_fault.RootFault.{RootFault}
 use Rattle.prolly_proof.specs.declared.root_fault.RootFault.TheVariants.{Read}
 use Rattle.prolly_text.specs.declared.notation.Notation.{Notation}
 use Rattle.prolly_tree.specs.File.{root_reference}
+use Rattle.prolly_tree.specs.Tree.{Tree}
 use Rattle.prolly_tool.specs.Answers.{ShowsDone, ShowsFault}
 use Rattle.prolly_tool.specs.LookUps.{pair_lines}
 use Rattle.prolly_tool.specs.declared.answer.Answer.{Answer}
@@ -36,13 +36,19 @@ pub record Scanned (version : Version) (root from : List ℕ) : Type 0 where
 abbrev pub AreEnough : ℕ → List (List Pair) → Type 0
 AreEnough limit lists = (limit ≤ length (joined lists)) ⊎ EndsEmpty lists
 
--- The reader was opened for the file that the device has, where that is lawful and has the reader's
--- version and root.
-abbrev pub IsOpened : DeviceView → ReaderView → Type 0
-IsOpened device reader = (content : Content) → HoldsFile device content →
-    reader.version ≡ content.version →
-    reader.root ≡ root_reference (sha512_cut content.bits) content.version content.pairs →
-    IsReaderOf content reader
+-- Where the source has a tree of this version and with this root, the fault is only want of memory,
+-- or a failed read.
+abbrev pub RefusesNone : (Content → Type 0) → Version → List ℕ → RootFault → Type 0
+RefusesNone has version root fault = (content : Content) → has content →
+    version ≡ content.version →
+    root ≡ root_reference (sha512_cut content.bits) content.version content.pairs → MayFail fault
+
+-- The same of a source and a reader: where the source has the tree that the reader was opened for.
+abbrev pub RefusesNoneOf : {T : Type 0} →
+    (Content → (level : ℕ) → Tree level → T → Type 0) → (Content → Type 0) → ReaderView T →
+    RootFault → Type 0
+RefusesNoneOf is_place has reader fault = (content : Content) → has content →
+    IsReaderOf is_place content reader → MayFail fault
 
 -- More is sought: neither is so.
 abbrev pub AreTooFew : ℕ → List (List Pair) → Type 0
@@ -61,26 +67,25 @@ IsDoneScan version root from limit notation took_all = (s : Scanned version root
     AreEnough limit s.lists × took_all (limited_lines notation limit s.lists)
 
 -- This fault stopped the scan when it had found these lists. It is that of a look-up, once all
--- lines of what was found before were written, and where the device is honest and has a lawful file
--- of this version and root it is only want of memory or a failed read; or it is that of writing
+-- lines of what was found before were written, and one that there may be; or it is that of writing
 -- the lines, of which the sink took a part until then.
-abbrev pub StoppedScan : DeviceView → Version → List ℕ → ℕ → Notation → (List ℕ → Type 0) →
+abbrev pub StoppedScan : (RootFault → Type 0) → Version → List ℕ → ℕ → Notation → (List ℕ → Type 0) →
     (RunFault → List ℕ → Type 0) → Fault → List (List Pair) → Type 0
-StoppedScan device version root limit notation took_all took_until (Root fault) lists =
+StoppedScan may version root limit notation took_all took_until (Root fault) lists =
     AreTooFew limit lists × took_all (pair_lines notation (joined lists)) ×
-    AnswersLawful {T = Unit {0}} device version root (Err fault)
-StoppedScan device version root limit notation took_all took_until (Run fault) lists =
+    may fault
+StoppedScan may version root limit notation took_all took_until (Run fault) lists =
     took_until fault (limited_lines notation limit lists)
-StoppedScan device version root limit notation took_all took_until _ lists = ⊥
+StoppedScan may version root limit notation took_all took_until _ lists = ⊥
 
 -- The same of lists that look-ups found.
-abbrev pub IsStoppedScan : DeviceView → Version → List ℕ → List ℕ → ℕ → Notation →
+abbrev pub IsStoppedScan : (RootFault → Type 0) → Version → List ℕ → List ℕ → ℕ → Notation →
     (List ℕ → Type 0) → (RunFault → List ℕ → Type 0) → Fault → Type 0
-IsStoppedScan device version root from limit notation took_all took_until fault =
+IsStoppedScan may version root from limit notation took_all took_until fault =
     (s : Scanned version root from) ×
-    StoppedScan device version root limit notation took_all took_until fault s.lists
+    StoppedScan may version root limit notation took_all took_until fault s.lists
 
--- What is told of the calls of the device, whose failures were so many before and after: where none
+-- What is told of the calls of the source, whose failures were so many before and after: where none
 -- failed, no failed read is told, and where one did, that is told, or that writing failed behind
 -- it.
 abbrev pub TellsScanReads : ℕ → ℕ → Result (Unit {0}) Fault → Type 0
@@ -90,14 +95,14 @@ TellsScanReads old new (Err fault) =
     ⊎ ((fault ≢ Root Read) × (new ≡ old))
 
 -- The answer: the scan is done, or the fault that stopped it is shown; and of this it is said what
--- is told of the device.
-abbrev pub IsRootScan : DeviceView → Version → List ℕ → List ℕ → ℕ → Notation →
+-- is told of the source.
+abbrev pub IsRootScan : (RootFault → Type 0) → Version → List ℕ → List ℕ → ℕ → Notation →
     (List ℕ → Type 0) → (RunFault → List ℕ → Type 0) → (Result (Unit {0}) Fault → Type 0) →
     Answer → Type 0
-IsRootScan device version root from limit notation took_all took_until tells answer =
+IsRootScan may version root from limit notation took_all took_until tells answer =
     (IsDoneScan version root from limit notation took_all × tells (Ok tt) × ShowsDone answer)
     ⊎ ((fault : Fault) ×
-    IsStoppedScan device version root from limit notation took_all took_until fault ×
+    IsStoppedScan may version root from limit notation took_all took_until fault ×
     tells (Err fault) × ShowsFault answer fault)
 
 -- The sink was flushed before the fault is told, and that is told, or that the flush failed.

@@ -2,14 +2,12 @@
 ghost use Rattle.std.specs.Prelude.{◌≡◌, ◌≢◌, ◌⊎◌, ◌↔◌, IfOk, IfErr, OnOk, OnErr, true};
 ghost use Rattle.std.specs.Prelude.{Err, IsTrue};
 ghost use Rattle.prolly_check.specs.ScanWay.{next_key};
-ghost use Rattle.prolly_file.specs.Device.{DeviceView};
 ghost use Rattle.prolly_file.specs.Failures.{CountsFailure};
 ghost use Rattle.prolly_file.specs.Sink.{IsSettled};
-ghost use Rattle.prolly_proof.specs.Walks.{StaysSame};
 ghost use Rattle.prolly_tool.specs.LookUps.{pair_lines};
 ghost use Rattle.prolly_tool.specs.Outputs.{TookAll, TookBytes, TookUntil};
-ghost use Rattle.prolly_tool.specs.RootScans.{IsDoneScan, IsFlushed, IsOpened, IsRootScan};
-ghost use Rattle.prolly_tool.specs.RootScans.{IsStoppedScan, TellsScanReads};
+ghost use Rattle.prolly_tool.specs.RootScans.{IsDoneScan, IsFlushed, IsRootScan};
+ghost use Rattle.prolly_tool.specs.RootScans.{IsStoppedScan, RefusesNone, RefusesNoneOf, TellsScanReads};
 ghost use Rattle.prolly_tool.specs.declared.fault.Fault.{Fault as FaultValue};
 ghost use Rattle.prolly_tool.specs.declared.fault.Fault.TheVariants.{Run};
 
@@ -18,8 +16,8 @@ use crate::fault::Fault;
 use crate::scan_answer::lines_of;
 use prolly_entry::{Pair, Ref, Version};
 use prolly_fault::RunFault;
-use prolly_file::{Device, Sink, write_all};
-use prolly_proof::Reader;
+use prolly_file::{Sink, write_all};
+use prolly_proof::{ChunkSource, Reader};
 use prolly_text::Notation;
 use std::alloc::{AllocError, Global};
 
@@ -50,76 +48,78 @@ pub struct RootScan<'a> {
 /// [`ways_are_right`](prolly_check::laws::ways_are_right). The sink is called once
 /// for each leaf, or more often where it takes only a part, and flushed at the end. Where the limit
 /// is 0, nothing is read.
-pub fn answer_scan_by_root<D: Device, W: Sink>(
+pub fn answer_scan_by_root<S: ChunkSource, W: Sink>(
     alloc: Global,
-    device: &mut D,
+    source: &mut S,
     scan: &RootScan<'_>,
     sink: &mut W,
 ) -> Result<Answer, AllocError>
-    ensures ok { IfOk result (IsRootScan (D.seen device.old) scan.now.version scan.now.root.now.0
-        scan.now.from.now scan.now.limit scan.now.notation
+    ensures ok { IfOk result (IsRootScan
+        (RefusesNone (S.has source.old) scan.now.version scan.now.root.now.0)
+        scan.now.version scan.now.root.now.0 scan.now.from.now scan.now.limit scan.now.notation
         (λ bytes. TookAll W.seen bytes sink.old sink.new)
         (λ fault bytes. TookUntil W.seen fault bytes sink.old sink.new)
-        (TellsScanReads (D.seen device.old).failures (D.seen device.new).failures)) }
-    ensures err { OnErr result ((fault : FaultValue) × IsStoppedScan (D.seen device.old)
+        (TellsScanReads (S.failures source.old) (S.failures source.new))) }
+    ensures err { OnErr result ((fault : FaultValue) × IsStoppedScan
+        (RefusesNone (S.has source.old) scan.now.version scan.now.root.now.0)
         scan.now.version scan.now.root.now.0 scan.now.from.now scan.now.limit scan.now.notation
         (λ bytes. TookAll W.seen bytes sink.old sink.new)
         (λ fault bytes. TookUntil W.seen fault bytes sink.old sink.new) fault ×
-        TellsScanReads (D.seen device.old).failures (D.seen device.new).failures (Err fault)) }
+        TellsScanReads (S.failures source.old) (S.failures source.new) (Err fault)) }
 {
-    match write_scan(alloc, device, scan, sink) {
+    match write_scan(alloc, source, scan, sink) {
         Ok(()) => Ok(Answer::of_done(alloc)),
         Err(fault) => Answer::of_fault(alloc, fault),
     }
 }
 
 /// Writes the lines of a scan, and flushes the sink, also where a fault stops the scan.
-fn write_scan<D: Device, W: Sink>(
+fn write_scan<S: ChunkSource, W: Sink>(
     alloc: Global,
-    device: &mut D,
+    source: &mut S,
     scan: &RootScan<'_>,
     sink: &mut W,
 ) -> Result<(), Fault>
     ensures ok { OnOk result (IsDoneScan scan.now.version scan.now.root.now.0
         scan.now.from.now scan.now.limit scan.now.notation
         (λ bytes. TookAll W.seen bytes sink.old sink.new)) }
-    ensures err { IfErr result (IsStoppedScan (D.seen device.old) scan.now.version
-        scan.now.root.now.0 scan.now.from.now scan.now.limit scan.now.notation
+    ensures err { IfErr result (IsStoppedScan
+        (RefusesNone (S.has source.old) scan.now.version scan.now.root.now.0)
+        scan.now.version scan.now.root.now.0 scan.now.from.now scan.now.limit scan.now.notation
         (λ bytes. TookAll W.seen bytes sink.old sink.new)
         (λ fault bytes. TookUntil W.seen fault bytes sink.old sink.new)) }
-    ensures reads { TellsScanReads (D.seen device.old).failures (D.seen device.new).failures
+    ensures reads { TellsScanReads (S.failures source.old) (S.failures source.new)
         result }
 {
     if scan.limit == 0 {
         return Ok(());
     }
-    let reader = match Reader::open(alloc, device, scan.version, scan.root) {
+    let reader = match Reader::open(alloc, source, scan.version, scan.root) {
         Ok(reader) => reader,
         Err(fault) => return Err(Fault::Root(fault)),
     };
-    match write_leaves(alloc, device, reader, scan, sink) {
+    match write_leaves(alloc, source, reader, scan, sink) {
         Ok(()) => flush(sink),
         Err(fault) => Err(fault_flushed(sink, fault)),
     }
 }
 
 /// Writes the lines of a scan, leaf by leaf, as the reader finds them.
-fn write_leaves<D: Device, W: Sink>(
+fn write_leaves<S: ChunkSource, W: Sink>(
     alloc: Global,
-    device: &mut D,
-    mut reader: Reader,
+    source: &mut S,
+    mut reader: Reader<S::Place>,
     scan: &RootScan<'_>,
     sink: &mut W,
 ) -> Result<(), Fault>
     ensures ok { OnOk result (IsDoneScan reader.version reader.root scan.now.from.now
         scan.now.limit scan.now.notation (λ bytes. TookBytes W.seen bytes sink.old sink.new)) }
-    ensures err { (first : DeviceView) → StaysSame first (D.seen device.old) →
-        IsOpened first reader → IfErr result (IsStoppedScan first reader.version reader.root
-        scan.now.from.now scan.now.limit scan.now.notation
+    ensures err { IfErr result (IsStoppedScan
+        (RefusesNoneOf S.is_place (S.has source.old) reader) reader.version reader.root scan.now.from.now scan.now.limit scan.now.notation
         (λ bytes. TookBytes W.seen bytes sink.old sink.new)
         (λ fault bytes. TookUntil W.seen fault bytes sink.old sink.new)) }
     ensures keeping { (W.seen sink.old).is_keeping ≡ true → (W.seen sink.new).is_keeping ≡ true }
-    ensures reads { TellsScanReads (D.seen device.old).failures (D.seen device.new).failures
+    ensures reads { TellsScanReads (S.failures source.old) (S.failures source.new)
         result }
 {
     let Ok(mut next) = Vec::from_slice(alloc, scan.from) else {
@@ -127,7 +127,7 @@ fn write_leaves<D: Device, W: Sink>(
     };
     let mut left = scan.limit as usize;
     while left > 0 {
-        let pairs = match reader.pairs_from(alloc, device, &next, left) {
+        let pairs = match reader.pairs_from(alloc, source, &next, left) {
             Ok(pairs) => pairs,
             Err(fault) => return Err(Fault::Root(fault)),
         };

@@ -5,8 +5,8 @@ use crate::patient::Patient;
 use crate::refusal::Refusal;
 use crate::streams::Stream;
 use prolly_entry::{Pair, Ref, Version};
-use prolly_file::{Blocks, Device, FromSeek, ToWrite};
-use prolly_proof::{Reader, RootFault};
+use prolly_file::{Blocks, FromSeek, ToWrite};
+use prolly_proof::{ChunkSource, FileChunks, Reader, RootFault};
 use prolly_tool::{
     Answer, Fault, Notation, RootScan, answer_found, answer_found_pair, answer_get_as,
     answer_nth_as, answer_scan_as, answer_scan_by_root,
@@ -34,15 +34,19 @@ impl<'a> RootedFile<'a> {
         }
     }
 
-    /// The file as a device.
-    fn device(self, rt: &HostRuntime) -> Result<Blocks<FromSeek<File>>, Refusal> {
-        device_of(rt, Input::open(rt, self.file)?)
+    /// The chunks of the file.
+    fn chunks(self, rt: &HostRuntime) -> Result<Chunks, Refusal> {
+        chunks_of(rt, Input::open(rt, self.file)?)
     }
 }
 
-/// A file of which any part is read, by blocks where the parts are short.
-fn device_of(rt: &HostRuntime, input: Input) -> Result<Blocks<FromSeek<File>>, Refusal> {
-    Ok(Blocks::new(rt.alloc(), FromSeek::new(input.into_file()))?)
+/// The chunks of a file of which any part is read, by blocks where the parts are short.
+type Chunks = FileChunks<Blocks<FromSeek<File>>>;
+
+/// The chunks of this file.
+fn chunks_of(rt: &HostRuntime, input: Input) -> Result<Chunks, Refusal> {
+    let blocks = Blocks::new(rt.alloc(), FromSeek::new(input.into_file()))?;
+    Ok(FileChunks::new(blocks))
 }
 
 /// `get [--text] [--root ROOT] [--format V] FILE KEY`
@@ -65,20 +69,20 @@ pub fn get(
 
 /// `get [--text] --root ROOT [--format V] FILE KEY`, which reads no more of the file than it needs.
 fn get_from_root(rt: &HostRuntime, tree: RootedFile<'_>, key: &[u8]) -> Result<Answer, Refusal> {
-    let mut device = tree.device(rt)?;
-    let found = value_in(rt, &mut device, tree, key);
+    let mut chunks = tree.chunks(rt)?;
+    let found = value_in(rt, &mut chunks, tree, key);
     Ok(answer_found(rt.alloc(), tree.notation, &found)?)
 }
 
 /// The value of the key, or none.
-fn value_in<D: Device>(
+fn value_in<S: ChunkSource>(
     rt: &HostRuntime,
-    device: &mut D,
+    chunks: &mut S,
     tree: RootedFile<'_>,
     key: &[u8],
 ) -> Result<Option<Vec<u8>>, RootFault> {
-    let mut reader = Reader::open(rt.alloc(), device, tree.version, tree.root)?;
-    reader.get(rt.alloc(), device, key)
+    let mut reader = Reader::open(rt.alloc(), chunks, tree.version, tree.root)?;
+    reader.get(rt.alloc(), chunks, key)
 }
 
 /// `scan [--text] [--root ROOT] [--format V] FILE KEY LIMIT`
@@ -113,9 +117,9 @@ pub fn scan(
 /// it looks for the next one.
 fn scan_from_root(rt: &HostRuntime, file: &str, scan: &RootScan<'_>) -> Result<Answer, Refusal> {
     let input = Input::open_beside(rt, file, Stream::Output.found(rt)?)?;
-    let mut device = device_of(rt, input)?;
+    let mut chunks = chunks_of(rt, input)?;
     let mut sink = ToWrite::new(Patient::new(rt, rt.stdout()));
-    Ok(answer_scan_by_root(rt.alloc(), &mut device, scan, &mut sink)?)
+    Ok(answer_scan_by_root(rt.alloc(), &mut chunks, scan, &mut sink)?)
 }
 
 /// `nth [--text] [--root ROOT] [--format V] FILE N`
@@ -141,18 +145,18 @@ fn nth_from_root(rt: &HostRuntime, tree: RootedFile<'_>, n: u64) -> Result<Answe
     if tree.version == Version::One {
         return Err(Refusal::of_fault(rt, Fault::NoCounts));
     }
-    let mut device = tree.device(rt)?;
-    let found = pair_in(rt, &mut device, tree.root, n);
+    let mut chunks = tree.chunks(rt)?;
+    let found = pair_in(rt, &mut chunks, tree.root, n);
     Ok(answer_found_pair(rt.alloc(), tree.notation, &found)?)
 }
 
 /// The pair of the number, or none. The chunks are of version Two.
-fn pair_in<D: Device>(
+fn pair_in<S: ChunkSource>(
     rt: &HostRuntime,
-    device: &mut D,
+    chunks: &mut S,
     root: &Ref,
     n: u64,
 ) -> Result<Option<Pair>, RootFault> {
-    let mut reader = Reader::open(rt.alloc(), device, Version::Two, root)?;
-    reader.nth(rt.alloc(), device, n)
+    let mut reader = Reader::open(rt.alloc(), chunks, Version::Two, root)?;
+    reader.nth(rt.alloc(), chunks, n)
 }

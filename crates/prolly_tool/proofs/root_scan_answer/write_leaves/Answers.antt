@@ -6,34 +6,34 @@ use Rattle.prolly_proof.specs.Readers.{way_of}
 use Rattle.prolly_tool.specs.LookUps.{pair_lines}
 use Rattle.prolly_tool.specs.Outputs.{TookBytes, TookUntil}
 use Rattle.prolly_tool.proofs.ScanSteps.{all_found, found_from, look_up_tells, many_found}
-use Rattle.prolly_proof.specs.lemmas.Devices.{stays}
-use Rattle.prolly_tool.proofs.ScanSteps.{none_found, none_last, opened_lawful, opened_still}
+use Rattle.prolly_tool.proofs.ScanSteps.{none_found, none_last}
 use Rattle.prolly_tool.proofs.ScanSteps.{scan_begins, scan_ends, scan_fills}
 use Rattle.prolly_tool.proofs.ScanSteps.{scan_fails, scan_full, scan_goes_on, scan_unwritten}
 use Rattle.prolly_tool.proofs.ScanSteps.{scan_wants}
-use Rattle.prolly_tool.specs.RootScans.{TellsScanReads}
+use Rattle.prolly_tool.specs.RootScans.{RefusesNoneOf, TellsScanReads}
 use Rattle.prolly_tool.specs.declared.fault.Fault.TheVariants.{Root}
 use Rattle.prolly_tool.proofs.root_scan_answer.write_leaves.Goals as goal
 
 pub returns-in_default-clause-err : goal.returns-in_default-clause-err
-returns-in_default-clause-err g c first same opened = scan_wants g.W.Sink.seen c.args.reader.version
+returns-in_default-clause-err g c = scan_wants g.W.Sink.seen c.args.reader.version
     c.args.reader.root
     c.args.scan.now.from.now c.args.scan.now.limit c.args.scan.now.notation c.args.scan.now.limit
     c.args.scan.now.from.now c.args.sink.now c.args.sink.now
     (scan_begins g.W.Sink.seen c.args.reader.version c.args.reader.root c.args.scan.now.from.now
     c.args.scan.now.limit c.args.scan.now.notation
-    c.args.scan.now.limit c.args.scan.now.from.now c.args.sink.now refl refl) first
+    c.args.scan.now.limit c.args.scan.now.from.now c.args.sink.now refl refl)
+    (RefusesNoneOf g.S.ChunkSource.is_place (g.S.ChunkSource.has c.args.source.now) c.args.reader)
 
 pub loop-left-init : goal.loop-left-init
 loop-left-init g c = record {
   reads = refl;
   version = refl;
   root = refl;
-  opened = λ first same opened. opened;
+  opened = λ content has opened. opened;
   scan = scan_begins g.W.Sink.seen c.args.reader.version c.args.reader.root c.args.scan.now.from.now
       c.args.scan.now.limit c.args.scan.now.notation
       c.args.scan.now.limit c.in-Ok.next.items c.args.sink.now refl c.in-Ok.ensures.items;
-  same = λ honest. (honest, refl);
+  keeps = λ content has. has;
 }
 
 pub returns-clause-ok : goal.returns-clause-ok
@@ -44,16 +44,14 @@ returns-clause-ok g c = scan_full g.W.Sink.seen c.args.reader.version c.args.rea
     c.loop-left.invariant.scan (omega arith)
 
 pub returns-in-Err-clause-err : goal.returns-in-Err-clause-err
-returns-in-Err-clause-err g c first same opened = scan_fails g.W.Sink.seen c.args.reader.version
+returns-in-Err-clause-err g c = scan_fails g.W.Sink.seen c.args.reader.version
     c.args.reader.root
     c.args.scan.now.from.now c.args.scan.now.limit c.args.scan.now.notation c.loop-left.left
     c.loop-left.next.items c.args.sink.now
-    c.loop-left.sink c.loop-left.invariant.scan (omega arith) first c.in-Err.fault
-    (opened_lawful first (g.D.Device.seen c.loop-left.device) (stays first
-    (g.D.Device.seen c.args.device.now) (g.D.Device.seen c.loop-left.device) same
-    c.loop-left.invariant.same) c.loop-left.reader (c.loop-left.invariant.opened first same opened)
-    c.args.reader.version c.args.reader.root c.in-Err.fault c.loop-left.invariant.version
-    c.loop-left.invariant.root c.in-Err.ensures.lawful)
+    c.loop-left.sink c.loop-left.invariant.scan (omega arith)
+    (RefusesNoneOf g.S.ChunkSource.is_place (g.S.ChunkSource.has c.args.source.now) c.args.reader) c.in-Err.fault
+    (λ content has opened. c.in-Err.ensures.lawful content
+    (c.loop-left.invariant.keeps content has) (c.loop-left.invariant.opened content has opened))
 
 pub returns-in_default-last-clause-ok : goal.returns-in_default-last-clause-ok
 returns-in_default-last-clause-ok g c =
@@ -71,7 +69,7 @@ returns-in_default-last-clause-ok g c =
     c.deref-in-loop-left.ensures.value (sym c.in_default-last.ensures.value))))
 
 pub returns-in-Err-write_lines-clause-err : goal.returns-in-Err-write_lines-clause-err
-returns-in-Err-write_lines-clause-err g c first same opened =
+returns-in-Err-write_lines-clause-err g c =
     let pairs = c.in-Ok-pairs_from.pairs.items in
     let left = c.loop-left.left in
     let is = found_from c.args.reader c.loop-left.reader c.deref.result.now c.loop-left.next.items
@@ -80,7 +78,8 @@ returns-in-Err-write_lines-clause-err g c first same opened =
     scan_unwritten g.W.Sink.seen c.args.reader.version c.args.reader.root c.args.scan.now.from.now
     c.args.scan.now.limit c.args.scan.now.notation left c.loop-left.next.items c.args.sink.now
     c.loop-left.sink c.loop-left.invariant.scan (omega arith) is.found
-    (way_of c.pairs_from.new.self) is.way c.write_lines.new.sink first
+    (way_of c.pairs_from.new.self) is.way c.write_lines.new.sink
+    (RefusesNoneOf g.S.ChunkSource.is_place (g.S.ChunkSource.has c.args.source.now) c.args.reader)
     c.in-Err-write_lines.fault
     (subst (λ ps. TookUntil g.W.Sink.seen c.in-Err-write_lines.fault
     (pair_lines c.args.scan.now.notation ps) c.loop-left.sink c.write_lines.new.sink)
@@ -108,7 +107,7 @@ returns-then-count-left-clause-ok g c =
     c.in_default-write_lines.ensures.ok) c.in_default-write_lines.ensures.keeping
 
 pub returns-in-Err-key_behind-clause-err : goal.returns-in-Err-key_behind-clause-err
-returns-in-Err-key_behind-clause-err g c first same opened =
+returns-in-Err-key_behind-clause-err g c =
     let pairs = c.in-Ok-pairs_from.pairs.items in
     let left = c.loop-left.left in
     let last = c.in-Some.last.now in
@@ -134,7 +133,8 @@ returns-in-Err-key_behind-clause-err g c first same opened =
     c.in_default-write_lines.ensures.ok) c.in_default-write_lines.ensures.keeping
     (subst (λ ps. slice_get ps (length ps - 1) ≡ Some last)
     (c.deref-in-loop-left.ensures.value ∙ all) (sym c.in-Some.ensures.value)) refl
-    (ap (λ ps. left - length ps) all)) first
+    (ap (λ ps. left - length ps) all))
+    (RefusesNoneOf g.S.ChunkSource.is_place (g.S.ChunkSource.has c.args.source.now) c.args.reader)
 
 pub loop-left-preserved : goal.loop-left-preserved
 loop-left-preserved g c =
@@ -154,12 +154,8 @@ loop-left-preserved g c =
       reads = c.in-Ok-pairs_from.ensures.reads ∙ c.loop-left.invariant.reads;
       version = c.in-Ok-pairs_from.ensures.of.0 ∙ c.loop-left.invariant.version;
       root = c.in-Ok-pairs_from.ensures.of.1 ∙ c.loop-left.invariant.root;
-      opened = λ first same opened. opened_still first (g.D.Device.seen c.loop-left.device)
-          (stays first (g.D.Device.seen c.args.device.now)
-          (g.D.Device.seen c.loop-left.device) same c.loop-left.invariant.same) c.loop-left.reader
-          (c.loop-left.invariant.opened first same opened) c.pairs_from.new.self
-          c.in-Ok-pairs_from.ensures.of.0 c.in-Ok-pairs_from.ensures.of.1
-          c.in-Ok-pairs_from.ensures.keeps;
+      opened = λ content has opened. c.in-Ok-pairs_from.ensures.kept content
+          (c.loop-left.invariant.keeps content has) (c.loop-left.invariant.opened content has opened);
       scan = scan_goes_on g.W.Sink.seen c.args.reader.version c.args.reader.root
           c.args.scan.now.from.now c.args.scan.now.limit c.args.scan.now.notation left
           c.loop-left.next.items c.args.sink.now c.loop-left.sink c.loop-left.invariant.scan
@@ -172,15 +168,13 @@ loop-left-preserved g c =
           (c.deref-in-loop-left.ensures.value ∙ all) (sym c.in-Some.ensures.value))
           (c.in-Ok-key_behind.ensures ∙ ap next_key c.key.ensures.key)
           (omega (arith, c.len-count.ensures, c.in-Ok-pairs_from.pairs.ok, ap length all));
-      same = stays (g.D.Device.seen c.args.device.now) (g.D.Device.seen c.loop-left.device)
-          (g.D.Device.seen c.pairs_from.new.device) c.loop-left.invariant.same
-          c.in-Ok-pairs_from.ensures.same;
+      keeps = λ content has. c.in-Ok-pairs_from.ensures.keeps content
+          (c.loop-left.invariant.keeps content has);
     }
 
 pub returns-in-Err-clause-reads : goal.returns-in-Err-clause-reads
 returns-in-Err-clause-reads g c =
-    let old = (g.D.Device.seen c.args.device.now).failures in
-    let new = (g.D.Device.seen c.pairs_from.new.device).failures in
+    let new = g.S.ChunkSource.failures c.pairs_from.new.source in
     subst (λ n. TellsScanReads n new (Err (Root c.in-Err.fault))) c.loop-left.invariant.reads
-    (look_up_tells (g.D.Device.seen c.loop-left.device).failures new c.in-Err.fault
+    (look_up_tells (g.S.ChunkSource.failures c.loop-left.source) new c.in-Err.fault
     c.in-Err.ensures.reads)

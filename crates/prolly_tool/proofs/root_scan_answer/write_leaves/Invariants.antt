@@ -1,7 +1,6 @@
 use Rattle.std.proofs.Common.{◌≡◌}
-use Rattle.prolly_file.specs.Device.{DeviceView}
-use Rattle.prolly_proof.specs.Walks.{StaysSame}
-use Rattle.prolly_tool.specs.RootScans.{IsOpened}
+use Rattle.prolly_check.specs.Content.{Content}
+use Rattle.prolly_proof.specs.Readers.{IsReaderOf}
 use Rattle.prolly_tool.proofs.ScanSteps.{IsScanning}
 use Rattle.prolly_tool.proofs.root_scan_answer.write_leaves.Given as goal
 
@@ -10,13 +9,13 @@ invariant-loop-left g l = record {
   version : l.reader.version ≡ l.fn.reader.version;
   root : l.reader.root ≡ l.fn.reader.root;
   scan : IsScanning g.W.Sink.seen l.fn.reader.version l.fn.reader.root l.fn.scan.from.now
-      l.fn.scan.limit
-      l.fn.scan.notation l.left
-      l.next.items l.initial.sink l.sink;
-  reads : (g.D.Device.seen l.device).failures ≡ (g.D.Device.seen l.initial.device).failures;
-  same : StaysSame (g.D.Device.seen l.initial.device) (g.D.Device.seen l.device);
-  opened : (first : DeviceView) → StaysSame first (g.D.Device.seen l.initial.device) →
-      IsOpened first l.fn.reader → IsOpened first l.reader;
+      l.fn.scan.limit l.fn.scan.notation l.left l.next.items l.initial.sink l.sink;
+  reads : g.S.ChunkSource.failures l.source ≡ g.S.ChunkSource.failures l.initial.source;
+  keeps : (content : Content) → g.S.ChunkSource.has l.initial.source content →
+      g.S.ChunkSource.has l.source content;
+  opened : (content : Content) → g.S.ChunkSource.has l.initial.source content →
+      IsReaderOf g.S.ChunkSource.is_place content l.fn.reader →
+      IsReaderOf g.S.ChunkSource.is_place content l.reader;
 }
 
 abbrev pub decreases-loop-left : goal.decreases-loop-left

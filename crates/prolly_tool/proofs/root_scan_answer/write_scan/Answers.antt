@@ -2,40 +2,40 @@ use Rattle.std.proofs.Common.{Err, ◌≡◌, ◌≢◌, ◌⊎◌, inl, inr, �
 use Rattle.std.proofs.Common.{arith}
 use Rattle.prolly_entry.specs.declared.version.Version.{Version}
 use Rattle.prolly_fault.specs.declared.fault.RunFault.TheVariants.{Write}
-use Rattle.prolly_file.specs.Device.{DeviceView}
 use Rattle.prolly_file.specs.Failures.{after_failure}
 use Rattle.prolly_file.specs.Sink.{IsSettled, SinkView}
 use Rattle.prolly_proof.specs.Readers.{ReaderView}
+use Rattle.prolly_proof.specs.declared.root_fault.RootFault.{RootFault}
 use Rattle.prolly_text.specs.declared.notation.Notation.{Notation}
 use Rattle.prolly_tool.specs.Outputs.{TookAll, TookBytes, TookPart, TookUntil}
 use Rattle.prolly_tool.specs.RootScans.{IsDoneScan, IsFlushed, IsStoppedScan, TellsScanReads}
-use Rattle.prolly_tool.specs.RootScans.{limited_lines}
+use Rattle.prolly_tool.specs.RootScans.{RefusesNone, limited_lines}
 use Rattle.prolly_tool.specs.declared.fault.Fault.{Fault}
 use Rattle.prolly_tool.specs.declared.fault.Fault.TheVariants.{Run}
 use Rattle.prolly_tool.proofs.ScanSteps.{done_ended, done_failed, stopped_flushed}
-use Rattle.prolly_tool.proofs.ScanSteps.{done_tells, flushed_tells, look_up_tells, opened_fails}
+use Rattle.prolly_tool.proofs.ScanSteps.{done_tells, flushed_tells, look_up_tells}
 use Rattle.prolly_tool.proofs.ScanSteps.{scan_begins}
-use Rattle.prolly_tool.proofs.ScanSteps.{scan_fails, scan_full, stopped_unflushed}
+use Rattle.prolly_tool.proofs.ScanSteps.{scan_fails, scan_full, stopped_may, stopped_unflushed}
 use Rattle.prolly_tool.proofs.root_scan_answer.write_scan.Goals as goal
 
 -- The flush before a fault is told.
 module _ {W : Type 0} (seen : W → SinkView) (old mid new : W)
     (keeping : (seen old).is_keeping ≡ true → (seen mid).is_keeping ≡ true)
-    (device : DeviceView) (version : Version) (root from : List ℕ) (limit : ℕ)
+    (may : RootFault → Type 0) (version : Version) (root from : List ℕ) (limit : ℕ)
     (notation : Notation)
     (fault told : Fault)
-    (d : IsStoppedScan device version root from limit notation
+    (d : IsStoppedScan may version root from limit notation
     (λ bytes. TookBytes seen bytes old mid) (λ fault bytes. TookUntil seen fault bytes old mid)
     fault) where
   -- Where writing failed, nothing is said of a look-up.
   told_failed : fault ≡ Run Write → told ≡ fault → new ≡ mid →
-      IsStoppedScan device version root from limit notation (λ bytes. TookAll seen bytes old new)
+      IsStoppedScan may version root from limit notation (λ bytes. TookAll seen bytes old new)
       (λ fault bytes. TookUntil seen fault bytes old new) told
   told_failed failed is left =
-      let stopped = subst (IsStoppedScan device version root from limit notation
+      let stopped = subst (IsStoppedScan may version root from limit notation
       (λ bytes. TookBytes seen bytes old mid) (λ fault bytes. TookUntil seen fault bytes old mid))
       failed d in
-      subst (IsStoppedScan device version root from limit notation
+      subst (IsStoppedScan may version root from limit notation
       (λ bytes. TookAll seen bytes old new) (λ fault bytes. TookUntil seen fault bytes old new))
       (sym (is ∙ failed)) (
         stopped.0,
@@ -47,23 +47,23 @@ module _ {W : Type 0} (seen : W → SinkView) (old mid new : W)
       ((seen mid).is_keeping ≡ true → (seen new).taken ≡ (seen mid).taken) →
       ((told ≡ fault) × ((seen new).failures ≡ (seen mid).failures) × IsSettled (seen new))
       ⊎ ((told ≡ Run Write) × ((seen new).failures ≡ after_failure (seen mid).failures)) →
-      IsStoppedScan device version root from limit notation (λ bytes. TookAll seen bytes old new)
+      IsStoppedScan may version root from limit notation (λ bytes. TookAll seen bytes old new)
       (λ fault bytes. TookUntil seen fault bytes old new) told
   told_flushed other same (inl is) = subst
-      (IsStoppedScan device version root from limit notation (λ bytes. TookAll seen bytes old new)
+      (IsStoppedScan may version root from limit notation (λ bytes. TookAll seen bytes old new)
       (λ fault bytes. TookUntil seen fault bytes old new)) (sym is.0)
-      (stopped_flushed seen old mid new keeping same is.1 is.2 device version root from limit
+      (stopped_flushed seen old mid new keeping same is.1 is.2 may version root from limit
       notation fault other d)
   told_flushed other same (inr is) = subst
-      (IsStoppedScan device version root from limit notation (λ bytes. TookAll seen bytes old new)
+      (IsStoppedScan may version root from limit notation (λ bytes. TookAll seen bytes old new)
       (λ fault bytes. TookUntil seen fault bytes old new)) (sym is.0)
-      (stopped_unflushed seen old mid new keeping same is.1 device version root from limit notation
+      (stopped_unflushed seen old mid new keeping same is.1 may version root from limit notation
       fault
       other d)
 
   stopped_ended : ((fault ≡ Run Write) × (told ≡ fault) × (new ≡ mid))
       ⊎ ((fault ≢ Run Write) × IsFlushed seen mid new fault told) →
-      IsStoppedScan device version root from limit notation (λ bytes. TookAll seen bytes old new)
+      IsStoppedScan may version root from limit notation (λ bytes. TookAll seen bytes old new)
       (λ fault bytes. TookUntil seen fault bytes old new) told
   stopped_ended (inl is) = told_failed is.0 is.1 is.2
   stopped_ended (inr is) = told_flushed is.0 is.1.same is.1.tells
@@ -78,7 +78,7 @@ untouched seen bytes old t = record {
 }
 
 -- What is said by the reader's version and root is said by those that it was opened for.
-by_args : (version : Version) (root : List ℕ) (reader : ReaderView) →
+by_args : {T : Type 0} (version : Version) (root : List ℕ) (reader : ReaderView T) →
     (reader.version ≡ version) × (reader.root ≡ root) → (P : Version → List ℕ → Type 0) →
     P reader.version reader.root → P version root
 by_args version root reader is P p =
@@ -100,9 +100,8 @@ returns-in-Err-clause-err g c =
     scan.from.now scan.limit scan.notation scan.limit scan.from.now c.args.sink.now c.args.sink.now
     (scan_begins g.W.Sink.seen scan.version scan.root.now.0 scan.from.now scan.limit scan.notation
     scan.limit scan.from.now c.args.sink.now refl refl) (omega (arith, c.if-scan-eq0.false))
-    (g.D.Device.seen c.args.device.now) c.in-Err.fault
-    (opened_fails (g.D.Device.seen c.args.device.now) scan.version scan.root.now.0 c.in-Err.fault
-    c.in-Err.ensures.lawful) in (
+    (RefusesNone (g.S.ChunkSource.has c.args.source.now) scan.version scan.root.now.0) c.in-Err.fault
+    (λ content has same root. inr (c.in-Err.ensures.lawful content has same root)) in (
       stopped.0,
       (stopped.1.0, untouched g.W.Sink.seen _ c.args.sink.now stopped.1.1, stopped.1.2),
     )
@@ -112,7 +111,8 @@ returns-in-Ok-write_leaves-clause-ok g c =
     let scan = c.args.scan.now in
     done_ended g.W.Sink.seen c.args.sink.now
     c.write_leaves.new.sink c.flush.new.sink c.write_leaves.ensures.keeping c.flush.ensures.bytes
-    (g.D.Device.seen c.args.device.now) scan.version scan.root.now.0 scan.from.now
+    (RefusesNone (g.S.ChunkSource.has c.args.source.now) scan.version scan.root.now.0)
+    scan.version scan.root.now.0 scan.from.now
     scan.limit scan.notation (by_args scan.version scan.root.now.0 c.in-Ok.reader c.in-Ok.ensures.of
     (λ v r. IsDoneScan v r scan.from.now scan.limit scan.notation
     (λ bytes. TookBytes g.W.Sink.seen bytes c.args.sink.now c.write_leaves.new.sink))
@@ -124,7 +124,8 @@ returns-in-Ok-write_leaves-clause-err g c =
     let scan = c.args.scan.now in
     done_failed g.W.Sink.seen c.args.sink.now
     c.write_leaves.new.sink c.flush.new.sink c.write_leaves.ensures.keeping c.flush.ensures.bytes
-    (g.D.Device.seen c.args.device.now) scan.version scan.root.now.0 scan.from.now
+    (RefusesNone (g.S.ChunkSource.has c.args.source.now) scan.version scan.root.now.0)
+    scan.version scan.root.now.0 scan.from.now
     scan.limit scan.notation (by_args scan.version scan.root.now.0 c.in-Ok.reader c.in-Ok.ensures.of
     (λ v r. IsDoneScan v r scan.from.now scan.limit scan.notation
     (λ bytes. TookBytes g.W.Sink.seen bytes c.args.sink.now c.write_leaves.new.sink))
@@ -133,35 +134,38 @@ returns-in-Ok-write_leaves-clause-err g c =
 pub returns-in-Err-write_leaves-clause-err : goal.returns-in-Err-write_leaves-clause-err
 returns-in-Err-write_leaves-clause-err g c =
     let scan = c.args.scan.now in
-    let first = g.D.Device.seen c.args.device.now in
+    let may = RefusesNone (g.S.ChunkSource.has c.args.source.now) scan.version scan.root.now.0 in
     let of = c.in-Ok.ensures.of in
     stopped_ended g.W.Sink.seen c.args.sink.now c.write_leaves.new.sink c.fault_flushed.new.sink
-    c.write_leaves.ensures.keeping first scan.version scan.root.now.0 scan.from.now
-    scan.limit scan.notation c.in-Err-write_leaves.fault c.fault_flushed.result
+    c.write_leaves.ensures.keeping may scan.version scan.root.now.0 scan.from.now scan.limit
+    scan.notation c.in-Err-write_leaves.fault c.fault_flushed.result
     (by_args scan.version scan.root.now.0 c.in-Ok.reader of
-    (λ v r. IsStoppedScan first v r scan.from.now scan.limit scan.notation
+    (λ v r. IsStoppedScan may v r scan.from.now scan.limit scan.notation
     (λ bytes. TookBytes g.W.Sink.seen bytes c.args.sink.now c.write_leaves.new.sink)
     (λ fault bytes. TookUntil g.W.Sink.seen fault bytes c.args.sink.now c.write_leaves.new.sink)
     c.in-Err-write_leaves.fault)
-    (c.in-Err-write_leaves.ensures.err first c.in-Ok.ensures.same
-    (λ content holds version root. c.in-Ok.ensures.keeps content holds (sym of.0 ∙ version)
-    (sym of.1 ∙ root)))) c.fault_flushed.ensures
+    (stopped_may _ may (λ fault only content has same root. only content
+    (c.in-Ok.ensures.keeps content has) (c.in-Ok.ensures.kept content has same root))
+    c.in-Ok.reader.version c.in-Ok.reader.root scan.from.now scan.limit scan.notation
+    (λ bytes. TookBytes g.W.Sink.seen bytes c.args.sink.now c.write_leaves.new.sink)
+    (λ fault bytes. TookUntil g.W.Sink.seen fault bytes c.args.sink.now c.write_leaves.new.sink)
+    c.in-Err-write_leaves.fault c.in-Err-write_leaves.ensures.err)) c.fault_flushed.ensures
 
 pub returns-in-Err-clause-reads : goal.returns-in-Err-clause-reads
-returns-in-Err-clause-reads g c = look_up_tells (g.D.Device.seen c.args.device.now).failures
-    (g.D.Device.seen c.open.new.device).failures c.in-Err.fault c.in-Err.ensures.reads
+returns-in-Err-clause-reads g c = look_up_tells (g.S.ChunkSource.failures c.args.source.now)
+    (g.S.ChunkSource.failures c.open.new.source) c.in-Err.fault c.in-Err.ensures.reads
 
 pub returns-in-Ok-write_leaves-clause-reads : goal.returns-in-Ok-write_leaves-clause-reads
 returns-in-Ok-write_leaves-clause-reads g c =
-    done_tells (g.D.Device.seen c.args.device.now).failures
-    (g.D.Device.seen c.write_leaves.new.device).failures c.flush.result
+    done_tells (g.S.ChunkSource.failures c.args.source.now)
+    (g.S.ChunkSource.failures c.write_leaves.new.source) c.flush.result
     (c.in-Ok-write_leaves.ensures.reads ∙ c.in-Ok.ensures.reads) c.flush.ensures.fault
 
 pub returns-in-Err-write_leaves-clause-reads : goal.returns-in-Err-write_leaves-clause-reads
 returns-in-Err-write_leaves-clause-reads g c =
-    let new = (g.D.Device.seen c.write_leaves.new.device).failures in
+    let new = (g.S.ChunkSource.failures c.write_leaves.new.source) in
     let fault = c.in-Err-write_leaves.fault in
     flushed_tells g.W.Sink.seen c.write_leaves.new.sink c.fault_flushed.new.sink
-    (g.D.Device.seen c.args.device.now).failures new fault c.fault_flushed.result
+    (g.S.ChunkSource.failures c.args.source.now) new fault c.fault_flushed.result
     (subst (λ n. TellsScanReads n new (Err fault)) c.in-Ok.ensures.reads
     c.in-Err-write_leaves.ensures.reads) c.fault_flushed.ensures
