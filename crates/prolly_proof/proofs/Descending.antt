@@ -16,10 +16,10 @@ use Rattle.prolly_tree.specs.Tree.{Tree}
 use Rattle.prolly_proof.specs.Descents.{IsDescent, IsLevel, IsOnward, KeepsLevel, StandsAtTree}
 use Rattle.prolly_proof.specs.Descents.{chunks_in, levels_of}
 use Rattle.prolly_proof.specs.Faults.{last_level}
-use Rattle.prolly_proof.specs.declared.chunk_on_way.ChunkOnWay.{ChunkOnWay}
-use Rattle.prolly_proof.specs.declared.chunk_on_way.Onward.{Onward}
-use Rattle.prolly_proof.specs.declared.chunk_on_way.Onward.TheVariants.{End, Below}
-use Rattle.prolly_proof.specs.declared.descent.Descent.{Descent}
+use Rattle.prolly_proof.specs.declared.look_up.chunk_on_way.ChunkOnWay.{ChunkOnWay}
+use Rattle.prolly_proof.specs.declared.look_up.chunk_on_way.Onward.{Onward}
+use Rattle.prolly_proof.specs.declared.look_up.chunk_on_way.Onward.TheVariants.{End, Below}
+use Rattle.prolly_proof.specs.declared.look_up.descent.Descent.{Descent}
 
 -- ---- the levels
 

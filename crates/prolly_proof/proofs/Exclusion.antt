@@ -23,13 +23,13 @@ use Rattle.prolly_tree.specs.LookUp.{find}
 use Rattle.prolly_proof.specs.Faults.{EndsWithin, HasPassed, IsFault, IsFrameFault, IsStartFault}
 use Rattle.prolly_proof.specs.Faults.{IsWrongChunk, last_level}
 use Rattle.prolly_proof.specs.ProofFile.{IsProof, ProofsSayOne, proof_file, proof_start}
-use Rattle.prolly_proof.specs.declared.fault.ProofFault.{ProofFault}
-use Rattle.prolly_proof.specs.declared.fault.ProofFault.TheVariants.{Header, Truncated, Frame}
-use Rattle.prolly_proof.specs.declared.fault.ProofFault.TheVariants.{Version as OtherVersion}
-use Rattle.prolly_proof.specs.declared.fault.ProofFault.TheVariants.{Chunk}
-use Rattle.prolly_proof.specs.declared.fault.ProofFault.TheVariants.{Level as BadLevel}
-use Rattle.prolly_proof.specs.declared.fault.ProofFault.TheVariants.{Reference as BadReference}
-use Rattle.prolly_proof.specs.declared.fault.ProofFault.TheVariants.{KeysOutOfOrder, Trailing}
+use Rattle.prolly_proof.specs.declared.proof.fault.ProofFault.{ProofFault}
+use Rattle.prolly_proof.specs.declared.proof.fault.ProofFault.TheVariants.{Header, Truncated, Frame}
+use Rattle.prolly_proof.specs.declared.proof.fault.ProofFault.TheVariants.{Version as OtherVersion}
+use Rattle.prolly_proof.specs.declared.proof.fault.ProofFault.TheVariants.{Chunk}
+use Rattle.prolly_proof.specs.declared.proof.fault.ProofFault.TheVariants.{Level as BadLevel}
+use Rattle.prolly_proof.specs.declared.proof.fault.ProofFault.TheVariants.{Reference as BadReference}
+use Rattle.prolly_proof.specs.declared.proof.fault.ProofFault.TheVariants.{KeysOutOfOrder, Trailing}
 
 behind_start : (version : Version) (x y : List ℕ) →
     proof_start version ++ x ≡ proof_start version ++ y → x ≡ y

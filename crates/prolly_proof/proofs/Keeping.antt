@@ -19,7 +19,7 @@ use Rattle.prolly_proof.specs.Files.{IsPlaceNth, IsPlaceOf, chunks_of_trees}
 use Rattle.prolly_proof.specs.RootFaults.{OnlyRead}
 use Rattle.prolly_proof.specs.Walks.{IsBehind, IsFirst, IsNth, NoneBetween}
 use Rattle.prolly_proof.specs.Walks.{chunks_below, chunks_of_tree}
-use Rattle.prolly_proof.specs.declared.subtree.Place.{Place}
+use Rattle.prolly_proof.specs.declared.file.subtree.Place.{Place}
 use Rattle.prolly_proof.specs.declared.root_fault.RootFault.{RootFault}
 use Rattle.prolly_proof.proofs.Walking.{IsLower, all_lower, level_is, top_last}
 

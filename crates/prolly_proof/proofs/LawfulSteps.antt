@@ -19,7 +19,7 @@ use Rattle.prolly_tree.specs.Tree.{Tree, bytes_of}
 use Rattle.prolly_tree.specs.lemmas.Trees.{in_back}
 use Rattle.prolly_proof.specs.Descents.{KeepsLevel, StandsAtTree}
 use Rattle.prolly_proof.specs.Sources.{IsChildAt, IsLawful, root_level, root_tree}
-use Rattle.prolly_proof.specs.declared.chunk_on_way.ChunkOnWay.{ChunkOnWay}
+use Rattle.prolly_proof.specs.declared.look_up.chunk_on_way.ChunkOnWay.{ChunkOnWay}
 use Rattle.prolly_proof.proofs.Walking.{level_is}
 
 -- ---- the child of a node

@@ -22,8 +22,8 @@ use Rattle.prolly_proof.specs.Faults.{HasPassed, IsChunkFault, IsFault, IsFrameF
 use Rattle.prolly_proof.specs.Faults.{HasMore, last_level}
 use Rattle.prolly_proof.proofs.Descending.{falls_more, last_more}
 use Rattle.prolly_proof.specs.ProofFile.{IsProof, proof_file, proof_start}
-use Rattle.prolly_proof.specs.declared.fault.ProofFault.{ProofFault}
-use Rattle.prolly_proof.specs.declared.fault.ProofFault.TheVariants.{Trailing}
+use Rattle.prolly_proof.specs.declared.proof.fault.ProofFault.{ProofFault}
+use Rattle.prolly_proof.specs.declared.proof.fault.ProofFault.TheVariants.{Trailing}
 use Rattle.prolly_tree.specs.LookUp.{find}
 
 -- ---- what is left

@@ -15,9 +15,9 @@ use Rattle.prolly_tree.specs.Tree.{Tree, bytes_of}
 use Rattle.prolly_proof.specs.Files.{IsPlaceOf, IsSubtree, KeepsPassed, chunks_of_trees}
 use Rattle.prolly_proof.specs.Sources.{IsChildAt, root_level, root_tree}
 use Rattle.prolly_proof.specs.Walks.{IsFrame, IsWalk, chunks_below, chunks_of_tree}
-use Rattle.prolly_proof.specs.declared.subtree.Place.{Place}
-use Rattle.prolly_proof.specs.declared.subtree.Subtree.{Subtree}
-use Rattle.prolly_proof.specs.declared.walk.Frame.{Frame}
+use Rattle.prolly_proof.specs.declared.file.subtree.Place.{Place}
+use Rattle.prolly_proof.specs.declared.file.subtree.Subtree.{Subtree}
+use Rattle.prolly_proof.specs.declared.file.walk.Frame.{Frame}
 use Rattle.prolly_proof.proofs.Keeping.{StandsAmong, part_at}
 use Rattle.prolly_proof.proofs.Walking.{apart, ending, front_length, start, top_last}
 

@@ -29,8 +29,8 @@ use Rattle.prolly_proof.specs.Walks.{GoesOver, IsFrame, IsStartOf, IsWalk}
 use Rattle.prolly_proof.specs.Walks.{NoneBetween, chunks_below, chunks_of_tree}
 use Rattle.prolly_proof.specs.Walks.{offset_of, size_of}
 use Rattle.prolly_proof.specs.declared.root_fault.RootFault.{RootFault}
-use Rattle.prolly_proof.specs.declared.walk.Frame.{Frame}
-use Rattle.prolly_proof.specs.declared.walk.Walk.{Walk}
+use Rattle.prolly_proof.specs.declared.file.walk.Frame.{Frame}
+use Rattle.prolly_proof.specs.declared.file.walk.Walk.{Walk}
 
 -- ---- the chunks of a tree
 

@@ -11,10 +11,10 @@ use Rattle.prolly_entry.specs.Reference.{reference_of}
 use Rattle.prolly_entry.specs.declared.version.Version.{Version}
 use Rattle.prolly_tree.specs.Tree.{Tree, bytes_of}
 use Rattle.prolly_proof.specs.RootFaults.{MayFail}
-use Rattle.prolly_proof.specs.declared.chunk_on_way.ChunkOnWay.{ChunkOnWay}
-use Rattle.prolly_proof.specs.declared.chunk_on_way.Onward.{Onward}
-use Rattle.prolly_proof.specs.declared.chunk_on_way.Onward.TheVariants.{End, Below}
-use Rattle.prolly_proof.specs.declared.descent.Descent.{Descent}
+use Rattle.prolly_proof.specs.declared.look_up.chunk_on_way.ChunkOnWay.{ChunkOnWay}
+use Rattle.prolly_proof.specs.declared.look_up.chunk_on_way.Onward.{Onward}
+use Rattle.prolly_proof.specs.declared.look_up.chunk_on_way.Onward.TheVariants.{End, Below}
+use Rattle.prolly_proof.specs.declared.look_up.descent.Descent.{Descent}
 use Rattle.prolly_proof.specs.declared.root_fault.RootFault.{RootFault}
 
 -- ---- whatever the source gives

@@ -14,11 +14,11 @@ use Rattle.prolly_check.specs.declared.look_up.step.ChunkFlaw.TheVariants.{Refer
 use Rattle.prolly_entry.specs.declared.version.Version.{Version}
 use Rattle.prolly_file.specs.Frame.{framed, has_no_frame, IsSmall}
 use Rattle.prolly_proof.specs.ProofFile.{IsProof, proof_file, proof_start}
-use Rattle.prolly_proof.specs.declared.fault.ProofFault.{ProofFault}
-use Rattle.prolly_proof.specs.declared.fault.ProofFault.TheVariants.{Header, Truncated, Frame}
-use Rattle.prolly_proof.specs.declared.fault.ProofFault.TheVariants.{Version as OtherVersion}
-use Rattle.prolly_proof.specs.declared.fault.ProofFault.TheVariants.{Reference, Chunk, Level}
-use Rattle.prolly_proof.specs.declared.fault.ProofFault.TheVariants.{KeysOutOfOrder, Trailing}
+use Rattle.prolly_proof.specs.declared.proof.fault.ProofFault.{ProofFault}
+use Rattle.prolly_proof.specs.declared.proof.fault.ProofFault.TheVariants.{Header, Truncated, Frame}
+use Rattle.prolly_proof.specs.declared.proof.fault.ProofFault.TheVariants.{Version as OtherVersion}
+use Rattle.prolly_proof.specs.declared.proof.fault.ProofFault.TheVariants.{Reference, Chunk, Level}
+use Rattle.prolly_proof.specs.declared.proof.fault.ProofFault.TheVariants.{KeysOutOfOrder, Trailing}
 
 -- ---- the start
 

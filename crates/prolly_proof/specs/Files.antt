@@ -9,11 +9,11 @@ use Rattle.prolly_tree.specs.Tree.{Tree}
 use Rattle.prolly_proof.specs.Marks.{AreMarks}
 use Rattle.prolly_proof.specs.Walks.{HoldsFile, IsBehind, IsFrame, IsNth, IsWalk, chunks_below}
 use Rattle.prolly_proof.specs.Walks.{chunks_of_tree}
-use Rattle.prolly_proof.specs.declared.below.Passed.{Passed}
-use Rattle.prolly_proof.specs.declared.marks.Marks.{Marks}
-use Rattle.prolly_proof.specs.declared.subtree.Place.{Place}
-use Rattle.prolly_proof.specs.declared.subtree.Subtree.{Subtree}
-use Rattle.prolly_proof.specs.declared.walk.Walk.{Walk}
+use Rattle.prolly_proof.specs.declared.file.below.Passed.{Passed}
+use Rattle.prolly_proof.specs.declared.file.marks.Marks.{Marks}
+use Rattle.prolly_proof.specs.declared.file.subtree.Place.{Place}
+use Rattle.prolly_proof.specs.declared.file.subtree.Subtree.{Subtree}
+use Rattle.prolly_proof.specs.declared.file.walk.Walk.{Walk}
 
 -- The place is that of the top of this tree of the file, and of where the frames of the tree begin.
 pub record IsPlaceOf (content : Content) (level : ℕ) (t : Tree level) (place : Place)

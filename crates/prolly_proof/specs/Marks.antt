@@ -3,9 +3,9 @@ use Rattle.std.specs.Prelude.{◌≡◌, ℕ, ◌<◌, ◌≤◌, List, length, 
 use Rattle.std.specs.List.{AllByRecursion}
 use Rattle.prolly_check.specs.Content.{Content}
 use Rattle.prolly_proof.specs.Walks.{IsBehind, IsWalk, NoneBetween}
-use Rattle.prolly_proof.specs.declared.marks.Mark.{Mark}
-use Rattle.prolly_proof.specs.declared.marks.Marks.{Marks}
-use Rattle.prolly_proof.specs.declared.marks.Run.{Run}
+use Rattle.prolly_proof.specs.declared.file.marks.Mark.{Mark}
+use Rattle.prolly_proof.specs.declared.file.marks.Marks.{Marks}
+use Rattle.prolly_proof.specs.declared.file.marks.Run.{Run}
 
 -- The run is of all chunks of the level from its first number on, up to, and without, the next one.
 pub record IsRun (content : Content) (next level : ℕ) (run : Run) : Type 0 where

@@ -7,7 +7,7 @@ use Rattle.prolly_entry.specs.Pair.{Pair}
 use Rattle.prolly_entry.specs.declared.version.Version.{Version}
 use Rattle.prolly_tree.specs.Tree.{Tree}
 use Rattle.prolly_proof.specs.Descents.{KeepsLevel, StandsAtTree, chunks_in}
-use Rattle.prolly_proof.specs.declared.chunk_on_way.ChunkOnWay.{ChunkOnWay}
+use Rattle.prolly_proof.specs.declared.look_up.chunk_on_way.ChunkOnWay.{ChunkOnWay}
 
 -- What a reader keeps: the version and the root that it was opened for, the place of the root, and
 -- what the last look-up went through, from the root down.

@@ -16,8 +16,8 @@ use Rattle.prolly_file.specs.declared.format.frame.FrameStart.{FrameStart}
 use Rattle.prolly_file.specs.declared.format.frame.FrameStart.TheVariants.{Chunk, End}
 use Rattle.prolly_proof.specs.RootFaults.{OnlyRead}
 use Rattle.prolly_proof.specs.declared.root_fault.RootFault.{RootFault}
-use Rattle.prolly_proof.specs.declared.walk.Frame.{Frame}
-use Rattle.prolly_proof.specs.declared.walk.Walk.{Walk}
+use Rattle.prolly_proof.specs.declared.file.walk.Frame.{Frame}
+use Rattle.prolly_proof.specs.declared.file.walk.Walk.{Walk}
 use Rattle.prolly_tree.specs.Chunk.{post_order}
 use Rattle.prolly_tree.specs.File.{file}
 use Rattle.prolly_tree.specs.Tree.{Tree}

@@ -1,30 +1,19 @@
-//! Proofs of what a map has at a key, for who knows the root of the map alone.
+//! What a map has, for who knows the root of its tree alone.
 //!
-//! A proof is the chunks from the root down to the one at which a look-up of the key ends. Each is
-//! named by the reference in the chunk above it, and the first by the root.
+//! A look-up goes down from the root to the chunk at which it ends. Each chunk is named by the
+//! reference in the one above it, and the first by the root. So nothing has to be believed of who
+//! gives the chunks: a [`ChunkSource`], as a [`FileChunks`] is, or a proof of one key.
 #![tactic(auto)]
 
-mod below;
-mod chunk_on_way;
 mod chunk_source;
-mod descent;
-mod fault;
-mod file_chunks;
+mod file;
 pub mod laws;
-mod marks;
-mod prover;
-mod reader;
+mod look_up;
+mod proof;
 mod root_fault;
-mod start;
-mod subtree;
-mod verifier;
-mod walk;
 
 pub use chunk_source::ChunkSource;
-pub use fault::ProofFault;
-pub use file_chunks::FileChunks;
-pub use prover::prove;
-pub use reader::Reader;
+pub use file::{FileChunks, Subtree};
+pub use look_up::Reader;
+pub use proof::{ProofFault, prove, verify};
 pub use root_fault::RootFault;
-pub use subtree::Subtree;
-pub use verifier::verify;

@@ -4,7 +4,7 @@ use Rattle.std.specs.Prelude.{IfOk}
 use Rattle.prolly_entry.specs.declared.version.Version.{Version}
 use Rattle.prolly_proof.specs.Faults.{IsFault}
 use Rattle.prolly_proof.specs.ProofFile.{IsProof}
-use Rattle.prolly_proof.specs.declared.fault.ProofFault.{ProofFault}
+use Rattle.prolly_proof.specs.declared.proof.fault.ProofFault.{ProofFault}
 use Rattle.prolly_text.specs.declared.notation.Notation.{Notation}
 use Rattle.prolly_tool.specs.Answers.{ShowsFault}
 use Rattle.prolly_tool.specs.Input.{IsReadWhole}

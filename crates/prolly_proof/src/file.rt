@@ -1,0 +1,10 @@
+//! The chunks of a file: its frames, one after another, and the trees that stand among them.
+
+mod below;
+mod file_chunks;
+mod marks;
+mod subtree;
+mod walk;
+
+pub use file_chunks::FileChunks;
+pub use subtree::Subtree;

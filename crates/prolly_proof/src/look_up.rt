@@ -1,0 +1,7 @@
+//! Looking up by the root, again and again.
+
+mod chunk_on_way;
+mod descent;
+mod reader;
+
+pub use reader::Reader;
