@@ -13,9 +13,9 @@ use Rattle.prolly_check.specs.lemmas.Ways.{lead_more}
 use Rattle.prolly_entry.specs.declared.version.Version.{Version}
 use Rattle.prolly_entry.specs.lemmas.Lists.{all_back}
 use Rattle.prolly_tree.specs.Tree.{Tree}
-use Rattle.prolly_proof.specs.Descents.{IsDescent, IsLevel, IsOnward, KeepsLevel, StandsAtTree}
-use Rattle.prolly_proof.specs.Descents.{chunks_in, levels_of}
-use Rattle.prolly_proof.specs.Faults.{last_level}
+use Rattle.prolly_proof.specs.Descent.{IsDescent, IsTested, IsOnward, StandsInPlace, StandsAtTree}
+use Rattle.prolly_proof.specs.Descent.{chunks_in, levels_of}
+use Rattle.prolly_proof.specs.ProofFault.{last_level}
 use Rattle.prolly_proof.specs.declared.look_up.chunk_on_way.ChunkOnWay.{ChunkOnWay}
 use Rattle.prolly_proof.specs.declared.look_up.chunk_on_way.Onward.{Onward}
 use Rattle.prolly_proof.specs.declared.look_up.chunk_on_way.Onward.TheVariants.{End, Below}
@@ -44,10 +44,10 @@ one_more levels new level kept = ap chunks_in kept ∙
     map-append (λ level. level.chunk.items) levels (level ∷ [])
 
 -- the last one can be read
-pub last_is_level : {T : Type 0} (version : Version) (descent : Descent T) →
-    AllByRecursion (IsLevel version) (levels_of descent) → IsLevel version descent.last
-last_is_level version descent all =
-    (all_back (IsLevel version) descent.above.items (descent.last ∷ []) all).0
+pub last_is_tested : {T : Type 0} (version : Version) (descent : Descent T) →
+    AllByRecursion (IsTested version) (levels_of descent) → IsTested version descent.last
+last_is_tested version descent all =
+    (all_back (IsTested version) descent.above.items (descent.last ∷ []) all).0
 
 -- ---- where a look-up stands
 
@@ -117,8 +117,8 @@ module _ {T : Type 0} (version : Version) (root : List ℕ) (sought : Sought) (p
 pub record GoesOnLawful {T : Type 0} (is_place : Content → (level : ℕ) → Tree level → T → Type 0)
     (content : Content) (due : Due) (place : T) (above kept : List (ChunkOnWay T)) : Type 0 where
   pub at : StandsAtTree is_place content due.reference.0 due.above place
-  pub met : AllByRecursion (KeepsLevel is_place content) above
-  pub left : AllByRecursion (KeepsLevel is_place content) kept
+  pub met : AllByRecursion (StandsInPlace is_place content) above
+  pub left : AllByRecursion (StandsInPlace is_place content) kept
 
 pub next_kept : {T : Type 0} (P : ChunkOnWay T → Type 0) (left rest : List (ChunkOnWay T))
     (next : Option (ChunkOnWay T)) → left ≡ option_to_list next ++ rest → AllByRecursion P left →

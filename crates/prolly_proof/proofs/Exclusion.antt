@@ -20,8 +20,8 @@ use Rattle.prolly_entry.specs.lemmas.Lists.{all_back, all_front}
 use Rattle.prolly_file.specs.Frame.{framed, has_no_frame, IsSmall}
 use Rattle.prolly_file.specs.FrameLaws.{begins_frame, one_front}
 use Rattle.prolly_tree.specs.LookUp.{find}
-use Rattle.prolly_proof.specs.Faults.{EndsWithin, HasPassed, IsFault, IsFrameFault, IsStartFault}
-use Rattle.prolly_proof.specs.Faults.{IsWrongChunk, last_level}
+use Rattle.prolly_proof.specs.ProofFault.{EndsWithin, HasPassed, IsFault, IsFrameFault, IsStartFault}
+use Rattle.prolly_proof.specs.ProofFault.{IsWrongChunk, last_level}
 use Rattle.prolly_proof.specs.ProofFile.{IsProof, ProofsSayOne, proof_file, proof_start}
 use Rattle.prolly_proof.specs.declared.proof.fault.ProofFault.{ProofFault}
 use Rattle.prolly_proof.specs.declared.proof.fault.ProofFault.TheVariants.{Header, Truncated, Frame}

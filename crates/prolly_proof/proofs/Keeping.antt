@@ -15,10 +15,10 @@ use Rattle.prolly_check.specs.Way.{level_of}
 use Rattle.prolly_entry.specs.declared.version.Version.{Version}
 use Rattle.prolly_tree.specs.Chunk.{post_order}
 use Rattle.prolly_tree.specs.Tree.{Tree, bytes_of}
-use Rattle.prolly_proof.specs.Files.{IsPlaceNth, IsPlaceOf, chunks_of_trees}
-use Rattle.prolly_proof.specs.RootFaults.{OnlyRead}
-use Rattle.prolly_proof.specs.Walks.{IsBehind, IsFirst, IsNth, NoneBetween}
-use Rattle.prolly_proof.specs.Walks.{chunks_below, chunks_of_tree}
+use Rattle.prolly_proof.specs.Subtree.{IsPlaceNth, IsPlaceOf, chunks_of_trees}
+use Rattle.prolly_proof.specs.RootFault.{OnlyRead}
+use Rattle.prolly_proof.specs.Walk.{IsBehind, IsFirst, IsNth, NoneBetween}
+use Rattle.prolly_proof.specs.Walk.{chunks_below, chunks_of_tree}
 use Rattle.prolly_proof.specs.declared.file.subtree.Place.{Place}
 use Rattle.prolly_proof.specs.declared.root_fault.RootFault.{RootFault}
 use Rattle.prolly_proof.proofs.Walking.{IsLower, all_lower, level_is, top_last}

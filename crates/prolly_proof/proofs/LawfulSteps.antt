@@ -17,8 +17,8 @@ use Rattle.prolly_tree.specs.Chunk.{IsIn, chunk_of}
 use Rattle.prolly_tree.specs.File.{root_reference}
 use Rattle.prolly_tree.specs.Tree.{Tree, bytes_of}
 use Rattle.prolly_tree.specs.lemmas.Trees.{in_back}
-use Rattle.prolly_proof.specs.Descents.{KeepsLevel, StandsAtTree}
-use Rattle.prolly_proof.specs.Sources.{IsChildAt, IsLawful, root_level, root_tree}
+use Rattle.prolly_proof.specs.Descent.{StandsInPlace, StandsAtTree}
+use Rattle.prolly_proof.specs.ChunkSource.{IsChildAt, IsLawful, root_level, root_tree}
 use Rattle.prolly_proof.specs.declared.look_up.chunk_on_way.ChunkOnWay.{ChunkOnWay}
 use Rattle.prolly_proof.proofs.Walking.{level_is}
 
@@ -75,7 +75,7 @@ pub record StepsTo {T : Type 0} (is_place : Content → (level : ℕ) → Tree l
 module _ {T : Type 0} (is_place : Content → (level : ℕ) → Tree level → T → Type 0)
     (content : Content) (chunk : ChunkOnWay T) where
   steps_to : ((version : Version) → ChildIsTree version) →
-      ((version : Version) → TopIsRead version) → KeepsLevel is_place content chunk →
+      ((version : Version) → TopIsRead version) → StandsInPlace is_place content chunk →
       (sought : Sought) (child : ChildSought) →
       IsChildOf sought (kind_of content.version chunk.chunk.items) child →
       StepsTo is_place content chunk child (level_of chunk.chunk.items - 1)
@@ -122,7 +122,7 @@ module _ {T : Type 0} (is_place : Content → (level : ℕ) → Tree level → T
 
   -- the same by what a function has in hand
   pub steps_from : ((version : Version) → ChildIsTree version) →
-      ((version : Version) → TopIsRead version) → KeepsLevel is_place content chunk →
+      ((version : Version) → TopIsRead version) → StandsInPlace is_place content chunk →
       (version : Version) → version ≡ content.version → (read : List ℕ) →
       read ≡ chunk.chunk.items → (sought : Sought) (child : ChildSought) →
       IsChildOf sought (kind_of version read) child →
@@ -138,7 +138,7 @@ module _ {T : Type 0} (is_place : Content → (level : ℕ) → Tree level → T
   pub stays_there : (child : ChildSought) (level : ℕ)
       (b : StepsTo is_place content chunk child level) (new : ChunkOnWay T) →
       new.reference ≡ chunk.reference → new.chunk ≡ chunk.chunk →
-      is_place content (suc level) b.ts new.place → KeepsLevel is_place content new
+      is_place content (suc level) b.ts new.place → StandsInPlace is_place content new
   stays_there child level b new reference bytes stands = record {
     level = suc level;
     t = b.ts;
@@ -200,7 +200,7 @@ module _ {T : Type 0} (is_place : Content → (level : ℕ) → Tree level → T
 
   -- what was kept with its reference stands on the right level
   pub kept_falls : ((version : Version) → ReferenceLeads version) → IsLawful content →
-      (chunk : ChunkOnWay T) → KeepsLevel is_place content chunk →
+      (chunk : ChunkOnWay T) → StandsInPlace is_place content chunk →
       chunk.reference.0 ≡ reference → FallsTo above chunk.chunk.items
   kept_falls leads lawful chunk k same = subst (FallsTo above)
       (sym (k.is ∙ same_chunk leads content lawful k.level k.t at.level at.t k.below at.below

@@ -8,7 +8,7 @@ use Rattle.prolly_check.specs.Content.{Content}
 use Rattle.prolly_check.specs.FileWays.{nth_chunk}
 use Rattle.prolly_check.specs.Way.{level_of}
 use Rattle.prolly_proof.specs.Marks.{AreRuns, IsRun}
-use Rattle.prolly_proof.specs.Walks.{IsBehind, IsFrame, IsNth}
+use Rattle.prolly_proof.specs.Walk.{IsBehind, IsFrame, IsNth}
 use Rattle.prolly_proof.specs.declared.file.marks.Run.{Run}
 use Rattle.prolly_proof.specs.declared.file.walk.Frame.{Frame}
 use Rattle.prolly_proof.proofs.Keeping.{behind_next}

@@ -18,8 +18,8 @@ use Rattle.prolly_check.specs.lemmas.Ways.{lead_more}
 use Rattle.prolly_entry.specs.declared.version.Version.{Version}
 use Rattle.prolly_entry.specs.lemmas.Lists.{all_append}
 use Rattle.prolly_file.specs.Frame.{framed, IsSmall}
-use Rattle.prolly_proof.specs.Faults.{HasPassed, IsChunkFault, IsFault, IsFrameFault}
-use Rattle.prolly_proof.specs.Faults.{HasMore, last_level}
+use Rattle.prolly_proof.specs.ProofFault.{HasPassed, IsChunkFault, IsFault, IsFrameFault}
+use Rattle.prolly_proof.specs.ProofFault.{HasMore, last_level}
 use Rattle.prolly_proof.proofs.Descending.{falls_more, last_more}
 use Rattle.prolly_proof.specs.ProofFile.{IsProof, proof_file, proof_start}
 use Rattle.prolly_proof.specs.declared.proof.fault.ProofFault.{ProofFault}

@@ -4,7 +4,7 @@ use Rattle.std.proofs.Common.{sym, ◌∙◌, append-nil}
 use Rattle.std.proofs.lemmas.Bool.Decides.{Decides-eqb}
 use Rattle.std.proofs.lemmas.Slice.Eq.{starts_is}
 use Rattle.std.specs.List.{starts_with}
-use Rattle.prolly_proof.specs.Faults.{BeginsWith, EndsWithin}
+use Rattle.prolly_proof.specs.ProofFault.{BeginsWith, EndsWithin}
 
 within : (start bytes left : List ℕ) → start ≡ bytes ++ left → (BeginsWith start bytes → ⊥) →
     EndsWithin start bytes

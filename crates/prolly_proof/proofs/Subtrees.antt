@@ -12,9 +12,9 @@ use Rattle.prolly_check.specs.FileWays.{nth_chunk}
 use Rattle.prolly_check.specs.Verdict.{IsFileOf}
 use Rattle.prolly_file.specs.Frame.{framed}
 use Rattle.prolly_tree.specs.Tree.{Tree, bytes_of}
-use Rattle.prolly_proof.specs.Files.{IsPlaceOf, IsSubtree, KeepsPassed, chunks_of_trees}
-use Rattle.prolly_proof.specs.Sources.{IsChildAt, root_level, root_tree}
-use Rattle.prolly_proof.specs.Walks.{IsFrame, IsWalk, chunks_below, chunks_of_tree}
+use Rattle.prolly_proof.specs.Subtree.{IsPlaceOf, IsSubtree, KeepsLastChild, chunks_of_trees}
+use Rattle.prolly_proof.specs.ChunkSource.{IsChildAt, root_level, root_tree}
+use Rattle.prolly_proof.specs.Walk.{IsFrame, IsWalk, chunks_below, chunks_of_tree}
 use Rattle.prolly_proof.specs.declared.file.subtree.Place.{Place}
 use Rattle.prolly_proof.specs.declared.file.subtree.Subtree.{Subtree}
 use Rattle.prolly_proof.specs.declared.file.walk.Frame.{Frame}
@@ -99,7 +99,7 @@ stands_at content level t place subtree frame first last stands = (
   subst (λ f. IsPlaceOf content level t (record { frame = f; below = subtree.below.first }))
       (sym frame) (subst (λ w. IsPlaceOf content level t (record { frame = place.frame; below = w }))
       (sym first) stands),
-  subst (KeepsPassed content (level - 1) subtree.below.first) (sym last) tt,
+  subst (KeepsLastChild content (level - 1) subtree.below.first) (sym last) tt,
 )
 
 -- a child of a node stands among those below it

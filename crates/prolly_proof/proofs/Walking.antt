@@ -25,9 +25,9 @@ use Rattle.prolly_file.specs.declared.format.frame.FrameStart.TheVariants.{Chunk
 use Rattle.prolly_tree.specs.Chunk.{Chunk, chunk_of, chunks, post_order}
 use Rattle.prolly_tree.specs.File.{end_record, header, root_reference}
 use Rattle.prolly_tree.specs.Tree.{Tree, bytes_of, tree_of}
-use Rattle.prolly_proof.specs.Walks.{GoesOver, IsFrame, IsStartOf, IsWalk}
-use Rattle.prolly_proof.specs.Walks.{NoneBetween, chunks_below, chunks_of_tree}
-use Rattle.prolly_proof.specs.Walks.{offset_of, size_of}
+use Rattle.prolly_proof.specs.Walk.{GoesOver, IsFrame, IsStartOf, IsWalk}
+use Rattle.prolly_proof.specs.Walk.{NoneBetween, chunks_below, chunks_of_tree}
+use Rattle.prolly_proof.specs.Walk.{offset_of, size_of}
 use Rattle.prolly_proof.specs.declared.root_fault.RootFault.{RootFault}
 use Rattle.prolly_proof.specs.declared.file.walk.Frame.{Frame}
 use Rattle.prolly_proof.specs.declared.file.walk.Walk.{Walk}

@@ -1,20 +1,20 @@
 -- The file of a proof, and what it proves.
 pub mod ProofFile
 -- What is wrong with bytes that are no proof.
-pub mod Faults
+pub mod ProofFault
 -- What a look-up by a root may tell.
-pub mod RootFaults
+pub mod RootFault
 -- What gives the chunks of a tree.
-pub mod Sources
+pub mod ChunkSource
 -- Going over the frames of a chunk file on a device.
-pub mod Walks
+pub mod Walk
 -- Places that are remembered while the root is sought.
 pub mod Marks
 -- Going down from the root in a file on a device.
-pub mod Descents
+pub mod Descent
 -- Trees in a chunk file on a device.
-pub mod Files
+pub mod Subtree
 -- A reader that looks up by the root again and again.
-pub mod Readers
+pub mod Reader
 -- What the proofs of the crates above may use.
 pub mod lemmas

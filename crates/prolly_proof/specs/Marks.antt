@@ -2,7 +2,7 @@
 use Rattle.std.specs.Prelude.{◌≡◌, ℕ, ◌<◌, ◌≤◌, List, length, get_or}
 use Rattle.std.specs.List.{AllByRecursion}
 use Rattle.prolly_check.specs.Content.{Content}
-use Rattle.prolly_proof.specs.Walks.{IsBehind, IsWalk, NoneBetween}
+use Rattle.prolly_proof.specs.Walk.{IsBehind, IsWalk, NoneBetween}
 use Rattle.prolly_proof.specs.declared.file.marks.Mark.{Mark}
 use Rattle.prolly_proof.specs.declared.file.marks.Marks.{Marks}
 use Rattle.prolly_proof.specs.declared.file.marks.Run.{Run}

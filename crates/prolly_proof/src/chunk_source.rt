@@ -1,8 +1,8 @@
 //! What gives the chunks of a tree.
 ghost use Rattle.std.specs.Prelude.{◌≡◌, ◌-◌, ℕ, suc, List, IfOk, IfErr};
 ghost use Rattle.prolly_check.specs.Content.{Content};
-ghost use Rattle.prolly_proof.specs.RootFaults.{MayFail, OnlyRead, TellsReads};
-ghost use Rattle.prolly_proof.specs.Sources.{IsChildAt, IsLawful, root_level, root_tree};
+ghost use Rattle.prolly_proof.specs.RootFault.{MayFail, OnlyRead, TellsReads};
+ghost use Rattle.prolly_proof.specs.ChunkSource.{IsChildAt, IsLawful, root_level, root_tree};
 ghost use Rattle.prolly_tree.specs.Tree.{Tree, bytes_of};
 
 use crate::root_fault::RootFault;

@@ -2,7 +2,7 @@
 use Rattle.std.proofs.Common.{ℕ, inr, List, Option, Result, Ok, Err}
 use Rattle.std.specs.Prelude.{IfOk}
 use Rattle.prolly_entry.specs.declared.version.Version.{Version}
-use Rattle.prolly_proof.specs.Faults.{IsFault}
+use Rattle.prolly_proof.specs.ProofFault.{IsFault}
 use Rattle.prolly_proof.specs.ProofFile.{IsProof}
 use Rattle.prolly_proof.specs.declared.proof.fault.ProofFault.{ProofFault}
 use Rattle.prolly_text.specs.declared.notation.Notation.{Notation}

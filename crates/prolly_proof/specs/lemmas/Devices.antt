@@ -3,8 +3,8 @@ use Rattle.std.proofs.Common.{◌^◌, ◌<◌, length, sym, subst, ◌∙◌}
 use Rattle.prolly_check.specs.Content.{Content}
 use Rattle.prolly_check.specs.Verdict.{IsFileOf}
 use Rattle.prolly_file.specs.Device.{DeviceView}
-use Rattle.prolly_proof.specs.Sources.{IsLawful}
-use Rattle.prolly_proof.specs.Walks.{HoldsFile, StaysSame}
+use Rattle.prolly_proof.specs.ChunkSource.{IsLawful}
+use Rattle.prolly_proof.specs.Walk.{HoldsFile, StaysSame}
 
 -- The file that it held it holds still.
 pub holds_still : (old new : DeviceView) (content : Content) → StaysSame old new →

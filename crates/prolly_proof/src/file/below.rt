@@ -12,13 +12,13 @@ use prolly_file::Device;
 pub(crate) struct FramesBelow {
     /// Where they begin.
     pub(crate) first: Walk,
-    /// The child that was gone to last.
-    pub(crate) last: Option<Passed>,
+    /// The child that was found last.
+    pub(crate) last: Option<LastChild>,
 }
 
-/// A child that was gone to.
+/// The child that was found last.
 #[derive(Clone, Copy)]
-pub(crate) struct Passed {
+pub(crate) struct LastChild {
     /// Its number among the children, counted from 0.
     number: u64,
     /// Its place.
@@ -29,14 +29,14 @@ pub(crate) struct Passed {
 
 impl FramesBelow {
     ghost use Rattle.prolly_check.specs.Content.{Content};
-    ghost use Rattle.prolly_proof.specs.Files.{IsPlaceNth, KeepsPassed};
+    ghost use Rattle.prolly_proof.specs.Subtree.{IsPlaceNth, KeepsLastChild};
     ghost use Rattle.prolly_proof.specs.Marks.{AreMarks};
-    ghost use Rattle.prolly_proof.specs.RootFaults.{OnlyRead, TellsReads};
-    ghost use Rattle.prolly_proof.specs.Walks.{HoldsFile, IsBehind, IsNth, IsWalk, StaysSame};
+    ghost use Rattle.prolly_proof.specs.RootFault.{OnlyRead, TellsReads};
+    ghost use Rattle.prolly_proof.specs.Walk.{HoldsFile, IsBehind, IsNth, IsWalk, StaysSame};
 
     /// The place of the child of this number. The children are of this level.
     ///
-    /// Goes over the frames from behind the child that was gone to last, where this one stands
+    /// Goes over the frames from behind the child that was found last, where this one stands
     /// behind it, or else from the nearest place that is remembered. One read for each frame.
     pub(crate) fn child<D: Device>(
         &mut self,
@@ -50,14 +50,14 @@ impl FramesBelow {
             result }
         ensures first { self.new.first ≡ self.old.first }
         ensures keeps { (content : Content) → HoldsFile (D.seen device.old) content →
-            IfSome marks.now (AreMarks content) → KeepsPassed content level self.old.first self.old.last →
-            KeepsPassed content level self.new.first self.new.last }
+            IfSome marks.now (AreMarks content) → KeepsLastChild content level self.old.first self.old.last →
+            KeepsLastChild content level self.new.first self.new.last }
         ensures place { (content : Content) → HoldsFile (D.seen device.old) content →
-            IfSome marks.now (AreMarks content) → KeepsPassed content level self.old.first self.old.last →
+            IfSome marks.now (AreMarks content) → KeepsLastChild content level self.old.first self.old.last →
             IsWalk content self.old.first →
             IfOk result (IsPlaceNth content level self.old.first.number number) }
         ensures only { (content : Content) (n : ℕ) → HoldsFile (D.seen device.old) content →
-            IfSome marks.now (AreMarks content) → KeepsPassed content level self.old.first self.old.last →
+            IfSome marks.now (AreMarks content) → KeepsLastChild content level self.old.first self.old.last →
             IsWalk content self.old.first → IsNth content level self.old.first.number number n →
             IfErr result OnlyRead }
     {
@@ -77,7 +77,7 @@ impl FramesBelow {
         let below = walk;
         let frame = walk.next_of_level(device, level)?;
         let place = Place { frame, below };
-        self.last = Some(Passed {
+        self.last = Some(LastChild {
             number,
             place,
             rest: walk,
@@ -89,7 +89,7 @@ impl FramesBelow {
     fn nearest(&self, marks: &Option<Marks>, level: u8, number: u64) -> Reached
         ensures near { result.count ≤ number }
         ensures reached { (content : Content) → IfSome marks.now (AreMarks content) →
-            KeepsPassed content level self.now.first self.now.last → IsWalk content self.now.first →
+            KeepsLastChild content level self.now.first self.now.last → IsWalk content self.now.first →
             IsWalk content result.walk ×
             IsBehind content level self.now.first.number result.count result.walk.number }
     {

@@ -2,8 +2,8 @@
 ghost use Rattle.std.specs.Prelude.{◌≡◌, length, IfOk, IfErr, None};
 ghost use Rattle.prolly_check.specs.Content.{Content};
 ghost use Rattle.prolly_check.specs.FileWays.{nth_chunk};
-ghost use Rattle.prolly_proof.specs.RootFaults.{MayFail, TellsReads};
-ghost use Rattle.prolly_proof.specs.Walks.{HoldsFile, IsFrame, StaysSame};
+ghost use Rattle.prolly_proof.specs.RootFault.{MayFail, TellsReads};
+ghost use Rattle.prolly_proof.specs.Walk.{HoldsFile, IsFrame, StaysSame};
 
 use crate::chunk_source::ChunkSource;
 use crate::file::marks::Marks;
@@ -27,7 +27,7 @@ pub struct FileChunks<D> {
 }
 
 impl<D: Device> FileChunks<D> {
-    ghost use Rattle.prolly_proof.specs.Files.{HasFile};
+    ghost use Rattle.prolly_proof.specs.Subtree.{HasChunksOf};
 
     /// The chunks of the file that this device holds. Nothing of it is read yet.
     pub fn new(device: D) -> FileChunks<D>
@@ -51,14 +51,14 @@ impl<D: Device> FileChunks<D> {
 }
 
 impl<D: Device> ChunkSource for FileChunks<D> {
-    ghost use Rattle.prolly_proof.specs.Files.{HasFile, IsSubtree};
+    ghost use Rattle.prolly_proof.specs.Subtree.{HasChunksOf, IsSubtree};
     ghost use Rattle.prolly_proof.specs.lemmas.Devices.{file_is_lawful};
 
     type Place = Subtree;
 
     ghost failures = { λ file. (D.seen file.device).failures };
 
-    ghost has = { λ file content. HasFile (D.seen file.device) file.marks content };
+    ghost has = { λ file content. HasChunksOf (D.seen file.device) file.marks content };
 
     ghost is_place = { IsSubtree };
 

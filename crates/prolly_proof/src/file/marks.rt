@@ -2,7 +2,7 @@
 ghost use Rattle.std.specs.Prelude.{◌≡◌, ◌≤◌, ◌+◌, ◌<◌, ◌^◌, ℕ, IfSome, true};
 ghost use Rattle.prolly_check.specs.Content.{Content};
 ghost use Rattle.prolly_proof.specs.Marks.{AreMarks, AreRuns, IsMark};
-ghost use Rattle.prolly_proof.specs.Walks.{IsBehind, IsFrame, IsWalk};
+ghost use Rattle.prolly_proof.specs.Walk.{IsBehind, IsFrame, IsWalk};
 
 use crate::file::walk::{Frame, Walk};
 
@@ -100,7 +100,7 @@ impl Marks {
     }
 
     /// Goes over this frame, to the place behind it.
-    pub(crate) fn pass(&mut self, frame: Frame, behind: Walk)
+    pub(crate) fn go_over(&mut self, frame: Frame, behind: Walk)
         ensures runs { (content : Content) → IsFrame content frame →
             behind.number ≡ frame.number + 1 → AreRuns content frame.number self.old.runs →
             AreRuns content behind.number self.new.runs }

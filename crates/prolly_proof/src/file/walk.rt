@@ -38,9 +38,9 @@ impl Walk {
     ghost use Rattle.prolly_check.specs.Checked.{chunks_of};
     ghost use Rattle.prolly_check.specs.Content.{Content};
     ghost use Rattle.prolly_proof.specs.Marks.{AreMarks};
-    ghost use Rattle.prolly_proof.specs.Walks.{GoesOver, GoesToLevel, HoldsFile, IsFrame, IsStartOf};
-    ghost use Rattle.prolly_proof.specs.RootFaults.{OnlyRead, TellsReads};
-    ghost use Rattle.prolly_proof.specs.Walks.{IsWalk, StaysSame};
+    ghost use Rattle.prolly_proof.specs.Walk.{GoesOver, GoesToLevel, HoldsFile, IsFrame, IsStartOf};
+    ghost use Rattle.prolly_proof.specs.RootFault.{OnlyRead, TellsReads};
+    ghost use Rattle.prolly_proof.specs.Walk.{IsWalk, StaysSame};
 
     /// The place before the first frame of a chunk file of this version.
     pub(crate) fn begin<D: Device>(device: &mut D, version: Version) -> Result<Walk, RootFault>
@@ -81,7 +81,7 @@ impl Walk {
     {
         match self.start(device)? {
             FrameStart::End => self.end(),
-            FrameStart::Chunk(len, level) => Ok(Some(self.pass(len, level)?)),
+            FrameStart::Chunk(len, level) => Ok(Some(self.go_over(len, level)?)),
         }
     }
 
@@ -123,7 +123,7 @@ impl Walk {
         let mut marks = Marks::begin(self);
         let mut last = None;
         while let Some(frame) = self.next(device)? {
-            marks.pass(frame, self);
+            marks.go_over(frame, self);
             last = Some(frame);
         }
         match last {
@@ -172,7 +172,7 @@ impl Walk {
     }
 
     /// Goes over the frame of a chunk of this length and level.
-    fn pass(&mut self, len: u64, level: u8) -> Result<Frame, RootFault>
+    fn go_over(&mut self, len: u64, level: u8) -> Result<Frame, RootFault>
         ensures size { self.new.size ≡ self.old.size }
         ensures within { OnOk result (self.new.offset ≤ self.new.size) }
         ensures forward { OnOk result (self.old.offset < self.new.offset) }

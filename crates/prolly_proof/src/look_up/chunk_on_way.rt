@@ -5,9 +5,9 @@ ghost use Rattle.prolly_check.specs.Held.{pairs_held};
 ghost use Rattle.prolly_check.specs.Sought.{sought_of};
 ghost use Rattle.prolly_check.specs.Way.{IsNamed, IsOrdered};
 ghost use Rattle.prolly_entry.specs.Reference.{reference_of};
-ghost use Rattle.prolly_proof.specs.Descents.{IsAtDue, IsLevel, IsOnward, KeepsLevel, StandsAtTree};
-ghost use Rattle.prolly_proof.specs.Descents.{StepsDown};
-ghost use Rattle.prolly_proof.specs.RootFaults.{MayFail, TellsReads};
+ghost use Rattle.prolly_proof.specs.Descent.{IsAtDue, IsTested, IsOnward, StandsInPlace, StandsAtTree};
+ghost use Rattle.prolly_proof.specs.Descent.{StepsDown};
+ghost use Rattle.prolly_proof.specs.RootFault.{MayFail, TellsReads};
 
 use crate::chunk_source::ChunkSource;
 use crate::root_fault::RootFault;
@@ -47,11 +47,11 @@ impl<T: Copy> ChunkOnWay<T> {
         reference: Ref,
         place: T,
     ) -> Result<ChunkOnWay<T>, RootFault>
-        ensures is { IfOk result (λ chunk. IsLevel version chunk × (chunk.reference ≡ reference)) }
+        ensures is { IfOk result (λ chunk. IsTested version chunk × (chunk.reference ≡ reference)) }
         ensures kept { (content : Content) (above : Option ℕ) → S.has source.old content →
             version ≡ content.version →
             StandsAtTree S.is_place content reference.0 above place →
-            IfOk result (KeepsLevel S.is_place content) }
+            IfOk result (StandsInPlace S.is_place content) }
         ensures only { (content : Content) (above : Option ℕ) → S.has source.old content →
             version ≡ content.version →
             StandsAtTree S.is_place content reference.0 above place → IfErr result MayFail }
@@ -72,7 +72,7 @@ impl<T: Copy> ChunkOnWay<T> {
 
     /// Its pairs. A node has none.
     pub(crate) fn pairs(&self, version: Version) -> Pairs<'_>
-        requires { IsLevel version self.now }
+        requires { IsTested version self.now }
         ensures { result ≡ pairs_held self.now.chunk.items }
     {
         pairs_of(version, &self.chunk)
@@ -85,15 +85,15 @@ impl<T: Copy> ChunkOnWay<T> {
         version: Version,
         sought: Sought<'a>,
     ) -> Result<Onward<'a, T>, RootFault>
-        requires { IsLevel version self.old }
+        requires { IsTested version self.old }
         ensures is { IfOk result (IsOnward version (sought_of sought.entry) self.old.chunk.items) }
         ensures stays { (self.new.reference ≡ self.old.reference) ×
             (self.new.chunk ≡ self.old.chunk) }
-        ensures level { IsLevel version self.new }
+        ensures level { IsTested version self.new }
         ensures down { (content : Content) → S.has source.old content → version ≡ content.version →
-            KeepsLevel S.is_place content self.old → StepsDown S.is_place content result }
+            StandsInPlace S.is_place content self.old → StepsDown S.is_place content result }
         ensures kept { (content : Content) → S.has source.old content → version ≡ content.version →
-            KeepsLevel S.is_place content self.old → KeepsLevel S.is_place content self.new }
+            StandsInPlace S.is_place content self.old → StandsInPlace S.is_place content self.new }
         ensures keeps { (content : Content) → S.has source.old content → S.has source.new content }
         ensures reads { TellsReads (S.failures source.old) (S.failures source.new) result }
     {
@@ -123,14 +123,14 @@ pub(crate) fn chunk_at<T: Copy + Drop, S: ChunkSource<Place = T>>(
     due: &Due<'_>,
     place: T,
 ) -> Result<ChunkOnWay<T>, RootFault>
-    requires { IfSome kept (IsLevel version) }
+    requires { IfSome kept (IsTested version) }
     ensures is { IfOk result (IsAtDue version due.now) }
     ensures kept { (content : Content) → S.has source.old content → version ≡ content.version →
-        IfSome kept (KeepsLevel S.is_place content) →
+        IfSome kept (StandsInPlace S.is_place content) →
         StandsAtTree S.is_place content due.now.reference.0 due.now.above place →
-        IfOk result (KeepsLevel S.is_place content) }
+        IfOk result (StandsInPlace S.is_place content) }
     ensures only { (content : Content) → S.has source.old content → version ≡ content.version →
-        IfSome kept (KeepsLevel S.is_place content) →
+        IfSome kept (StandsInPlace S.is_place content) →
         StandsAtTree S.is_place content due.now.reference.0 due.now.above place →
         IfErr result MayFail }
     ensures keeps { (content : Content) → S.has source.old content → S.has source.new content }
@@ -156,12 +156,12 @@ fn kept_or_read<T: Copy + Drop, S: ChunkSource<Place = T>>(
     reference: Ref,
     place: T,
 ) -> Result<ChunkOnWay<T>, RootFault>
-    requires { IfSome kept (IsLevel version) }
-    ensures is { IfOk result (λ chunk. IsLevel version chunk × (chunk.reference ≡ reference)) }
+    requires { IfSome kept (IsTested version) }
+    ensures is { IfOk result (λ chunk. IsTested version chunk × (chunk.reference ≡ reference)) }
     ensures kept { (content : Content) (above : Option ℕ) → S.has source.old content →
-        version ≡ content.version → IfSome kept (KeepsLevel S.is_place content) →
+        version ≡ content.version → IfSome kept (StandsInPlace S.is_place content) →
         StandsAtTree S.is_place content reference.0 above place →
-        IfOk result (KeepsLevel S.is_place content) }
+        IfOk result (StandsInPlace S.is_place content) }
     ensures only { (content : Content) (above : Option ℕ) → S.has source.old content →
         version ≡ content.version → StandsAtTree S.is_place content reference.0 above place →
         IfErr result MayFail }

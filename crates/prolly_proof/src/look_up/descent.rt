@@ -3,9 +3,9 @@ ghost use Rattle.std.specs.Prelude.{◌≡◌, [], ◌∷◌, ◌++◌, IfOk, If
 ghost use Rattle.std.specs.List.{AllByRecursion};
 ghost use Rattle.prolly_check.specs.Content.{Content};
 ghost use Rattle.prolly_check.specs.Sought.{sought_of};
-ghost use Rattle.prolly_proof.specs.Descents.{IsDescent, IsLevel, KeepsLevel, StandsAtTree};
-ghost use Rattle.prolly_proof.specs.Descents.{levels_of};
-ghost use Rattle.prolly_proof.specs.RootFaults.{MayFail, TellsReads};
+ghost use Rattle.prolly_proof.specs.Descent.{IsDescent, IsTested, StandsInPlace, StandsAtTree};
+ghost use Rattle.prolly_proof.specs.Descent.{levels_of};
+ghost use Rattle.prolly_proof.specs.RootFault.{MayFail, TellsReads};
 
 use crate::look_up::chunk_on_way::{ChunkOnWay, Onward, chunk_at};
 use crate::chunk_source::ChunkSource;
@@ -39,16 +39,16 @@ pub(crate) fn go_down<'a, T: Copy + Drop, S: ChunkSource<Place = T>>(
     kept: Vec<ChunkOnWay<T>>,
     sought: Sought<'a>,
 ) -> Result<Descent<'a, T>, RootFault>
-    requires { AllByRecursion (IsLevel version) kept.items }
+    requires { AllByRecursion (IsTested version) kept.items }
     ensures found { IfOk result (IsDescent version root.now.0 (sought_of sought.entry)) }
-    ensures levels { IfOk result (λ descent. AllByRecursion (IsLevel version) (levels_of descent)) }
+    ensures levels { IfOk result (λ descent. AllByRecursion (IsTested version) (levels_of descent)) }
     ensures kept { (content : Content) → S.has source.old content → version ≡ content.version →
         StandsAtTree S.is_place content root.now.0 None top →
-        AllByRecursion (KeepsLevel S.is_place content) kept.items →
-        IfOk result (λ descent. AllByRecursion (KeepsLevel S.is_place content) (levels_of descent)) }
+        AllByRecursion (StandsInPlace S.is_place content) kept.items →
+        IfOk result (λ descent. AllByRecursion (StandsInPlace S.is_place content) (levels_of descent)) }
     ensures only { (content : Content) → S.has source.old content → version ≡ content.version →
         StandsAtTree S.is_place content root.now.0 None top →
-        AllByRecursion (KeepsLevel S.is_place content) kept.items → IfErr result MayFail }
+        AllByRecursion (StandsInPlace S.is_place content) kept.items → IfErr result MayFail }
     ensures keeps { (content : Content) → S.has source.old content → S.has source.new content }
     ensures reads { TellsReads (S.failures source.old) (S.failures source.new) result }
 {

@@ -9,9 +9,9 @@ ghost use Rattle.prolly_check.specs.Sought.{sought_of};
 ghost use Rattle.prolly_check.specs.Way.{IsCountWay, IsWay};
 ghost use Rattle.prolly_entry.specs.Cut.{sha512_cut};
 ghost use Rattle.prolly_entry.specs.declared.version.Version.TheVariants.{Two};
-ghost use Rattle.prolly_proof.specs.Descents.{IsDescent, IsLevel, KeepsLevel, levels_of};
-ghost use Rattle.prolly_proof.specs.RootFaults.{MayFail, OnlyRead, TellsReads};
-ghost use Rattle.prolly_proof.specs.Readers.{AreFirstFound, IsReaderOf, way_of};
+ghost use Rattle.prolly_proof.specs.Descent.{IsDescent, IsTested, StandsInPlace, levels_of};
+ghost use Rattle.prolly_proof.specs.RootFault.{MayFail, OnlyRead, TellsReads};
+ghost use Rattle.prolly_proof.specs.Reader.{AreFirstFound, IsReaderOf, way_of};
 ghost use Rattle.prolly_tree.specs.File.{root_reference};
 
 use crate::look_up::chunk_on_way::ChunkOnWay;
@@ -51,8 +51,8 @@ pub struct Reader<T> {
 // A reader is seen with all that it keeps.
 impl<T> Model for Reader<T> {
     ghost use Rattle.std.specs.List.{AllByRecursion};
-    ghost use Rattle.prolly_proof.specs.Descents.{IsLevel};
-    ghost use Rattle.prolly_proof.specs.Readers.{ReaderView};
+    ghost use Rattle.prolly_proof.specs.Descent.{IsTested};
+    ghost use Rattle.prolly_proof.specs.Reader.{ReaderView};
 
     ghost Value = { ReaderView T };
 
@@ -63,7 +63,7 @@ impl<T> Model for Reader<T> {
       levels = r.levels.items;
     } };
 
-    ghost invariant = { λ r. AllByRecursion (IsLevel r.version) r.levels.items };
+    ghost invariant = { λ r. AllByRecursion (IsTested r.version) r.levels.items };
 }
 
 impl<T: Copy + Drop> Reader<T> {
@@ -215,10 +215,10 @@ impl<T: Copy + Drop> Reader<T> {
         ensures found { IfOk result
             (IsDescent self.old.version self.old.root (sought_of sought.entry)) }
         ensures levels { IfOk result (λ descent.
-            AllByRecursion (IsLevel self.old.version) (levels_of descent)) }
+            AllByRecursion (IsTested self.old.version) (levels_of descent)) }
         ensures kept { (content : Content) → S.has source.old content →
             IsReaderOf S.is_place content self.old → IfOk result (λ descent.
-            AllByRecursion (KeepsLevel S.is_place content) (levels_of descent)) }
+            AllByRecursion (StandsInPlace S.is_place content) (levels_of descent)) }
         ensures only { (content : Content) → S.has source.old content →
             IsReaderOf S.is_place content self.old → IfErr result MayFail }
         ensures keeps { (content : Content) → S.has source.old content → S.has source.new content }

@@ -1,5 +1,5 @@
 //! Why bytes prove nothing.
-ghost use Rattle.prolly_proof.specs.Faults.{fault_of};
+ghost use Rattle.prolly_proof.specs.ProofFault.{fault_of};
 
 use prolly_check::ChunkFlaw;
 

@@ -1,6 +1,6 @@
 //! The bytes with which a proof begins.
 ghost use Rattle.std.specs.Prelude.{◌≡◌, ◌≢◌, ◌++◌, IfOk, IfErr};
-ghost use Rattle.prolly_proof.specs.Faults.{BeginsWith, IsStartFault};
+ghost use Rattle.prolly_proof.specs.ProofFault.{BeginsWith, IsStartFault};
 ghost use Rattle.prolly_proof.specs.ProofFile.{proof_start};
 
 use crate::proof::fault::ProofFault;

@@ -5,7 +5,7 @@ ghost use Rattle.prolly_check.specs.Sought.{sought_of};
 ghost use Rattle.prolly_check.specs.Steps.{IsStep};
 ghost use Rattle.prolly_check.specs.Way.{FallsTo, IsNamed};
 ghost use Rattle.prolly_file.specs.Frame.{framed, has_no_frame, IsSmall};
-ghost use Rattle.prolly_proof.specs.Faults.{IsChunkFault, IsFault, IsFrameFault};
+ghost use Rattle.prolly_proof.specs.ProofFault.{IsChunkFault, IsFault, IsFrameFault};
 ghost use Rattle.prolly_proof.specs.ProofFile.{IsProof, proof_start};
 
 use crate::proof::fault::ProofFault;

@@ -1,7 +1,7 @@
 use Rattle.std.proofs.Common.{ap, subst, sym, rules}
 use Rattle.std.proofs.lemmas.Bool.{false≢true}
 use Rattle.prolly_check.specs.Way.{FallsTo}
-use Rattle.prolly_proof.specs.RootFaults.{MayFail}
+use Rattle.prolly_proof.specs.RootFault.{MayFail}
 use Rattle.prolly_proof.proofs.LawfulSteps.{kept_falls}
 use Rattle.prolly_proof.proofs.look_up.chunk_on_way.chunk_at.Goals as goal
 

@@ -4,8 +4,8 @@ use Rattle.std.specs.Vec.Iter.{into_iter_items}
 use Rattle.prolly_check.specs.Sought.{sought_of}
 use Rattle.prolly_check.specs.Way.{IsNamed}
 use Rattle.prolly_entry.specs.lemmas.Lists.{all_append}
-use Rattle.prolly_proof.specs.Descents.{IsLevel, KeepsLevel, StepsDown, chunks_in}
-use Rattle.prolly_proof.specs.RootFaults.{MayFail}
+use Rattle.prolly_proof.specs.Descent.{IsTested, StandsInPlace, StepsDown, chunks_in}
+use Rattle.prolly_proof.specs.RootFault.{MayFail}
 use Rattle.prolly_proof.proofs.Descending.{Descended, ends_here, goes_on, next_kept, one_more}
 use Rattle.prolly_proof.proofs.look_up.descent.go_down.Goals as goal
 
@@ -13,7 +13,7 @@ pub returns-in_err-step-clause-only : goal.returns-in_err-step-clause-only
 returns-in_err-step-clause-only g c content has same top keeps =
     let before = c.loop-above.invariant in
     let on = before.lawful content has same top keeps in
-    let next = next_kept (KeepsLevel g.S.ChunkSource.is_place content)
+    let next = next_kept (StandsInPlace g.S.ChunkSource.is_place content)
     (into_iter_items c.loop-above.kept) (into_iter_items c.next.new.self) c.next.result
     c.next.ensures.items on.left in
     let kept = c.in_ok-chunk.ensures.kept content (before.keeps content has) same next.0 on.at in
@@ -36,7 +36,7 @@ returns-in-End-clause-found g c =
 
 pub returns-in-End-clause-kept : goal.returns-in-End-clause-kept
 returns-in-End-clause-kept g c content has same top keeps =
-    let P = KeepsLevel g.S.ChunkSource.is_place content in
+    let P = StandsInPlace g.S.ChunkSource.is_place content in
     let before = c.loop-above.invariant in
     let on = before.lawful content has same top keeps in
     let next = next_kept P (into_iter_items c.loop-above.kept) (into_iter_items c.next.new.self)
@@ -64,16 +64,16 @@ loop-above-preserved g c =
           chunk.chunk.items
           (subst (λ r. IsNamed version r.0 chunk.chunk.items) is.reference is.is.named) is.falls
           c.in_ok-step.field-0 stepped.is c.in-Below.next c.in-Below.there c.in-Below.is);
-      levels = subst (AllByRecursion (IsLevel version)) (sym more)
-          (all_append (IsLevel version) above (c.step.new.self ∷ []) before.levels
+      levels = subst (AllByRecursion (IsTested version)) (sym more)
+          (all_append (IsTested version) above (c.step.new.self ∷ []) before.levels
           (stepped.level, tt));
-      kept = (next_kept (IsLevel version) (into_iter_items c.loop-above.kept)
+      kept = (next_kept (IsTested version) (into_iter_items c.loop-above.kept)
           (into_iter_items c.next.new.self) c.next.result c.next.ensures.items before.kept).1;
       keeps = λ content has. stepped.keeps content
           (c.in_ok-chunk.ensures.keeps content (before.keeps content has));
       reads = stepped.reads ∙ c.in_ok-chunk.ensures.reads ∙ before.reads;
       lawful = λ content has same top keeps.
-          let P = KeepsLevel g.S.ChunkSource.is_place content in
+          let P = StandsInPlace g.S.ChunkSource.is_place content in
           let on = before.lawful content has same top keeps in
           let next = next_kept P (into_iter_items c.loop-above.kept)
           (into_iter_items c.next.new.self) c.next.result c.next.ensures.items on.left in

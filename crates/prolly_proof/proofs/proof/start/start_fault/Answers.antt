@@ -1,6 +1,6 @@
 use Rattle.std.proofs.Common.{subst, sym}
 use Rattle.prolly_proof.proofs.Starting.{ends_within}
-use Rattle.prolly_proof.specs.Faults.{BeginsWith, EndsWithin}
+use Rattle.prolly_proof.specs.ProofFault.{BeginsWith, EndsWithin}
 use Rattle.prolly_proof.proofs.proof.start.start_fault.Goals as goal
 
 pub returns-then-starts_with : goal.returns-then-starts_with

@@ -1,6 +1,6 @@
 use Rattle.std.proofs.Common.{rules, subst, sym}
 use Rattle.std.specs.Prelude.{IfErr}
-use Rattle.prolly_proof.specs.Faults.{IsFault}
+use Rattle.prolly_proof.specs.ProofFault.{IsFault}
 use Rattle.prolly_proof.proofs.Exclusion.{refused}
 use Rattle.prolly_proof.proofs.proof.verifier.verify.Goals as goal
 

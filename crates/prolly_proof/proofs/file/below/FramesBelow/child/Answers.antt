@@ -1,6 +1,6 @@
 use Rattle.std.proofs.Common.{◌≡◌, refl, ◌∙◌, subst, arith, rules}
-use Rattle.prolly_proof.specs.RootFaults.{OnlyRead}
-use Rattle.prolly_proof.specs.Walks.{IsBehind}
+use Rattle.prolly_proof.specs.RootFault.{OnlyRead}
+use Rattle.prolly_proof.specs.Walk.{IsBehind}
 use Rattle.prolly_proof.proofs.Keeping.{behind_next, nth_next, only_read}
 use Rattle.prolly_proof.specs.lemmas.Devices.{holds_still, stays}
 use Rattle.prolly_proof.proofs.file.below.FramesBelow.child.Goals as goal

@@ -1,8 +1,8 @@
 use Rattle.std.proofs.Common.{IfSome, ◌≡◌, ◌≤◌, ◌-◌}
 use Rattle.prolly_check.specs.Content.{Content}
-use Rattle.prolly_proof.specs.Files.{KeepsPassed}
+use Rattle.prolly_proof.specs.Subtree.{KeepsLastChild}
 use Rattle.prolly_proof.specs.Marks.{AreMarks}
-use Rattle.prolly_proof.specs.Walks.{HoldsFile, IsBehind, IsWalk, StaysSame}
+use Rattle.prolly_proof.specs.Walk.{HoldsFile, IsBehind, IsWalk, StaysSame}
 use Rattle.prolly_proof.proofs.file.below.FramesBelow.child.Given as goal
 
 abbrev pub invariant-loop-count : goal.invariant-loop-count
@@ -12,7 +12,7 @@ invariant-loop-count g l = record {
   reads : (g.D.Device.seen l.device).failures ≡ (g.D.Device.seen l.initial.device).failures;
   reached : (content : Content) → HoldsFile (g.D.Device.seen l.initial.device) content →
       IfSome l.marks (AreMarks content) →
-      KeepsPassed content l.level
+      KeepsLastChild content l.level
       l.initial.self.first l.initial.self.last →
       IsWalk content l.initial.self.first →
       IsWalk content l.walk ×

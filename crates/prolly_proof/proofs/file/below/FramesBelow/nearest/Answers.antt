@@ -1,11 +1,11 @@
 use Rattle.std.proofs.Common.{subst}
-use Rattle.prolly_proof.specs.Files.{KeepsPassed}
+use Rattle.prolly_proof.specs.Subtree.{KeepsLastChild}
 use Rattle.prolly_proof.proofs.Keeping.{suc_behind}
 use Rattle.prolly_proof.proofs.file.below.FramesBelow.nearest.Goals as goal
 
 pub returns-in-Some-default-clause-reached : goal.returns-in-Some-default-clause-reached
 returns-in-Some-default-clause-reached c content marks keeps first =
-    let kept = subst (KeepsPassed content c.args.level c.args.self.now.first) c.in-Some-default.is-0
+    let kept = subst (KeepsLastChild content c.args.level c.args.self.now.first) c.in-Some-default.is-0
     keeps first
     in (
       kept.1,

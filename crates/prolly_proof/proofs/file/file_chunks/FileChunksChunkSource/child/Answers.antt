@@ -1,6 +1,6 @@
 use Rattle.std.proofs.Common.{subst, rules}
-use Rattle.prolly_proof.specs.Files.{KeepsPassed}
-use Rattle.prolly_proof.specs.RootFaults.{OnlyRead}
+use Rattle.prolly_proof.specs.Subtree.{KeepsLastChild}
+use Rattle.prolly_proof.specs.RootFault.{OnlyRead}
 use Rattle.prolly_proof.proofs.Keeping.{place_found, top_nth}
 use Rattle.prolly_proof.proofs.LawfulSteps.{one_less}
 use Rattle.prolly_proof.proofs.Subtrees.{child_among, stands_at}
@@ -9,7 +9,7 @@ use Rattle.prolly_proof.proofs.file.file_chunks.FileChunksChunkSource.child.Goal
 pub returns-in_err-place-clause-only : goal.returns-in_err-place-clause-only
 returns-in_err-place-clause-only g c content ts t has stands at =
     let first = c.args.node.now.below.first in
-    let kept = subst (λ n. KeepsPassed content n first c.args.node.now.below.last)
+    let kept = subst (λ n. KeepsLastChild content n first c.args.node.now.below.last)
     (one_less c.args.level) stands.1 in
     let among = child_among content c.args.level ts c.args.number t _ stands.0 at in
     let only : OnlyRead c.in_err-place.field-0.0 = c.in_err-place.ensures.only content _ has.0
@@ -19,7 +19,7 @@ returns-in_err-place-clause-only g c content ts t has stands at =
 pub returns-clause-place : goal.returns-clause-place
 returns-clause-place g c content ts t has stands at =
     let first = c.args.node.now.below.first in
-    let kept = subst (λ n. KeepsPassed content n first c.args.node.now.below.last)
+    let kept = subst (λ n. KeepsLastChild content n first c.args.node.now.below.last)
     (one_less c.args.level) stands.1 in
     let among = child_among content c.args.level ts c.args.number t _ stands.0 at in
     stands_at content c.args.level t c.in_ok-place.place c.at.result c.at.ensures.frame

@@ -1,4 +1,4 @@
-use Rattle.prolly_proof.specs.Sources.{root_level, root_tree}
+use Rattle.prolly_proof.specs.ChunkSource.{root_level, root_tree}
 use Rattle.prolly_proof.specs.lemmas.Devices.{holds_still, stays}
 use Rattle.prolly_proof.proofs.Subtrees.{root_is_place, stands_at}
 use Rattle.prolly_proof.proofs.file.file_chunks.FileChunksChunkSource.root.Goals as goal

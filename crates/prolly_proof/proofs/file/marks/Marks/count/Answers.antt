@@ -1,7 +1,7 @@
 use Rattle.std.proofs.Common.{◌≡◌, ◌+◌, ◌<◌, List, set, arith, sym, subst}
 use Rattle.prolly_check.specs.Content.{Content}
 use Rattle.prolly_proof.specs.Marks.{AreRuns}
-use Rattle.prolly_proof.specs.Walks.{IsBehind, IsFrame}
+use Rattle.prolly_proof.specs.Walk.{IsBehind, IsFrame}
 use Rattle.prolly_proof.specs.declared.file.marks.Run.{Run}
 use Rattle.prolly_proof.proofs.Marking.{Begun, all_begun, all_counted, fresh, one_behind}
 use Rattle.prolly_proof.proofs.Marking.{one_begun, run_at, run_fits}

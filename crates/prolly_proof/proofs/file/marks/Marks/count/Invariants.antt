@@ -1,7 +1,7 @@
 use Rattle.std.proofs.Common.{◌≡◌, ◌+◌}
 use Rattle.prolly_check.specs.Content.{Content}
 use Rattle.prolly_proof.specs.Marks.{AreRuns}
-use Rattle.prolly_proof.specs.Walks.{IsFrame}
+use Rattle.prolly_proof.specs.Walk.{IsFrame}
 use Rattle.prolly_proof.proofs.Marking.{Begun}
 use Rattle.prolly_proof.proofs.file.marks.Marks.count.Given as goal
 

@@ -1,7 +1,7 @@
 use Rattle.std.proofs.Common.{◌≤◌}
 use Rattle.prolly_check.specs.Content.{Content}
 use Rattle.prolly_proof.specs.Marks.{AreMarks}
-use Rattle.prolly_proof.specs.Walks.{IsBehind, IsWalk}
+use Rattle.prolly_proof.specs.Walk.{IsBehind, IsWalk}
 use Rattle.prolly_proof.proofs.file.marks.Marks.nearest.Given as goal
 
 abbrev pub invariant-loop-mark : goal.invariant-loop-mark

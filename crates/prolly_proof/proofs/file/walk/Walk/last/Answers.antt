@@ -1,6 +1,6 @@
 use Rattle.std.proofs.Common.{◌≡◌, length, Ok, refl, arith, subst}
 use Rattle.prolly_check.specs.Checked.{chunks_of}
-use Rattle.prolly_proof.specs.Walks.{GoesOver}
+use Rattle.prolly_proof.specs.Walk.{GoesOver}
 use Rattle.prolly_proof.specs.lemmas.Devices.{holds_still}
 use Rattle.prolly_proof.proofs.Walking.{CameTo, some_chunk}
 use Rattle.prolly_proof.proofs.file.walk.Walk.last.Goals as goal

@@ -1,7 +1,7 @@
 use Rattle.std.proofs.Common.{◌≡◌, ◌-◌}
 use Rattle.prolly_check.specs.Content.{Content}
 use Rattle.prolly_proof.specs.Marks.{AreMarks, AreRuns}
-use Rattle.prolly_proof.specs.Walks.{HoldsFile, IsWalk, StaysSame}
+use Rattle.prolly_proof.specs.Walk.{HoldsFile, IsWalk, StaysSame}
 use Rattle.prolly_proof.proofs.Walking.{CameTo}
 use Rattle.prolly_proof.proofs.file.walk.Walk.last.Given as goal
 

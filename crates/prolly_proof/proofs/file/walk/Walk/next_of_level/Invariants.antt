@@ -1,6 +1,6 @@
 use Rattle.std.proofs.Common.{◌≡◌, ◌≤◌, ◌-◌}
 use Rattle.prolly_check.specs.Content.{Content}
-use Rattle.prolly_proof.specs.Walks.{HoldsFile, IsWalk, NoneBetween, StaysSame}
+use Rattle.prolly_proof.specs.Walk.{HoldsFile, IsWalk, NoneBetween, StaysSame}
 use Rattle.prolly_proof.proofs.file.walk.Walk.next_of_level.Given as goal
 
 abbrev pub invariant-loop-frame : goal.invariant-loop-frame

@@ -1,7 +1,7 @@
 use Rattle.std.proofs.Common.{◌≡◌, ◌∙◌, rules}
 use Rattle.std.proofs.lemmas.Bool.{false≢true}
 use Rattle.prolly_tree.specs.Tree.{bytes_of}
-use Rattle.prolly_proof.specs.RootFaults.{MayFail}
+use Rattle.prolly_proof.specs.RootFault.{MayFail}
 use Rattle.prolly_proof.proofs.LawfulSteps.{is_due}
 use Rattle.prolly_proof.proofs.look_up.chunk_on_way.ChunkOnWay.read.Goals as goal
 

@@ -1,7 +1,7 @@
 use Rattle.std.proofs.Common.{◌≡◌, ◌-◌, refl, subst, rules}
 use Rattle.prolly_check.specs.Sought.{IsMark, sought_of}
 use Rattle.prolly_check.specs.Way.{level_of}
-use Rattle.prolly_proof.specs.RootFaults.{OnlyRead}
+use Rattle.prolly_proof.specs.RootFault.{OnlyRead}
 use Rattle.prolly_proof.proofs.LawfulSteps.{lands, stays_there, steps_from}
 use Rattle.prolly_proof.proofs.look_up.chunk_on_way.ChunkOnWay.step.Goals as goal
 

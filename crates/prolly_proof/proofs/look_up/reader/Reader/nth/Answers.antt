@@ -3,14 +3,14 @@ use Rattle.prolly_check.specs.Held.{pairs_held}
 use Rattle.prolly_check.specs.Sought.{sought_of}
 use Rattle.prolly_check.specs.Sought.Sought.{Number}
 use Rattle.prolly_check.specs.Way.{IsCountWay, IsWayTo, nth_sought}
-use Rattle.prolly_proof.specs.Descents.{IsLevel, chunks_in, levels_of}
-use Rattle.prolly_proof.proofs.Descending.{last_is_level}
+use Rattle.prolly_proof.specs.Descent.{IsTested, chunks_in, levels_of}
+use Rattle.prolly_proof.proofs.Descending.{last_is_tested}
 use Rattle.prolly_proof.proofs.look_up.reader.Reader.nth.Goals as goal
 
 pub pairs-requires : goal.pairs-requires
-pairs-requires g c = subst (λ version. IsLevel version c.in_ok-descent.descent.last)
+pairs-requires g c = subst (λ version. IsTested version c.in_ok-descent.descent.last)
     (sym (ap (λ reader. reader.version) c.self.view_is ∙ c.in_ok-descent.ensures.of.0))
-    (last_is_level c.args.self.now.version c.in_ok-descent.descent c.in_ok-descent.ensures.levels)
+    (last_is_tested c.args.self.now.version c.in_ok-descent.descent c.in_ok-descent.ensures.levels)
 
 pub returns-clause-found : goal.returns-clause-found
 returns-clause-found g c =

@@ -10,7 +10,7 @@ use Rattle.prolly_check.specs.declared.look_up.step.Due.{Due}
 use Rattle.prolly_entry.specs.Reference.{reference_of}
 use Rattle.prolly_entry.specs.declared.version.Version.{Version}
 use Rattle.prolly_tree.specs.Tree.{Tree, bytes_of}
-use Rattle.prolly_proof.specs.RootFaults.{MayFail}
+use Rattle.prolly_proof.specs.RootFault.{MayFail}
 use Rattle.prolly_proof.specs.declared.look_up.chunk_on_way.ChunkOnWay.{ChunkOnWay}
 use Rattle.prolly_proof.specs.declared.look_up.chunk_on_way.Onward.{Onward}
 use Rattle.prolly_proof.specs.declared.look_up.chunk_on_way.Onward.TheVariants.{End, Below}
@@ -20,14 +20,14 @@ use Rattle.prolly_proof.specs.declared.root_fault.RootFault.{RootFault}
 -- ---- whatever the source gives
 
 -- The chunk has its reference, and can be read, and the mark stands between its entries.
-pub record IsLevel {T : Type 0} (version : Version) (chunk : ChunkOnWay T) : Type 0 where
+pub record IsTested {T : Type 0} (version : Version) (chunk : ChunkOnWay T) : Type 0 where
   pub named : IsNamed version chunk.reference.0 chunk.chunk.items
   pub mark : IsMark version chunk.chunk.items chunk.mark
 
 -- It is the one that is due.
 pub record IsAtDue {T : Type 0} (version : Version) (due : Due) (chunk : ChunkOnWay T) : Type 0
   where
-    pub is : IsLevel version chunk
+    pub is : IsTested version chunk
     pub reference : chunk.reference ≡ due.reference
     pub falls : FallsTo due.above chunk.chunk.items
 
@@ -69,7 +69,7 @@ pub record StandsAtTree {T : Type 0}
   pub stands : is_place content level t place
 
 -- The chunk is the top of a tree of the content, and stands in its place.
-pub record KeepsLevel {T : Type 0}
+pub record StandsInPlace {T : Type 0}
     (is_place : Content → (level : ℕ) → Tree level → T → Type 0) (content : Content)
     (chunk : ChunkOnWay T) : Type 0 where
   pub level : ℕ

@@ -14,7 +14,7 @@ use Rattle.prolly_file.specs.Device.{DeviceView}
 use Rattle.prolly_file.specs.Frame.{framed}
 use Rattle.prolly_file.specs.declared.format.frame.FrameStart.{FrameStart}
 use Rattle.prolly_file.specs.declared.format.frame.FrameStart.TheVariants.{Chunk, End}
-use Rattle.prolly_proof.specs.RootFaults.{OnlyRead}
+use Rattle.prolly_proof.specs.RootFault.{OnlyRead}
 use Rattle.prolly_proof.specs.declared.root_fault.RootFault.{RootFault}
 use Rattle.prolly_proof.specs.declared.file.walk.Frame.{Frame}
 use Rattle.prolly_proof.specs.declared.file.walk.Walk.{Walk}

@@ -7,9 +7,9 @@ use Rattle.prolly_file.specs.Device.{DeviceView}
 use Rattle.prolly_tree.specs.Chunk.{post_order}
 use Rattle.prolly_tree.specs.Tree.{Tree}
 use Rattle.prolly_proof.specs.Marks.{AreMarks}
-use Rattle.prolly_proof.specs.Walks.{HoldsFile, IsBehind, IsFrame, IsNth, IsWalk, chunks_below}
-use Rattle.prolly_proof.specs.Walks.{chunks_of_tree}
-use Rattle.prolly_proof.specs.declared.file.below.Passed.{Passed}
+use Rattle.prolly_proof.specs.Walk.{HoldsFile, IsBehind, IsFrame, IsNth, IsWalk, chunks_below}
+use Rattle.prolly_proof.specs.Walk.{chunks_of_tree}
+use Rattle.prolly_proof.specs.declared.file.below.LastChild.{LastChild}
 use Rattle.prolly_proof.specs.declared.file.marks.Marks.{Marks}
 use Rattle.prolly_proof.specs.declared.file.subtree.Place.{Place}
 use Rattle.prolly_proof.specs.declared.file.subtree.Subtree.{Subtree}
@@ -40,9 +40,9 @@ pub record IsPlaceNth (content : Content) (level from k : ℕ) (place : Place) :
   pub behind : IsBehind content level from k place.below.number
 
 -- What is kept of the child that was gone to last is so, where the first walk stands in the file.
-abbrev pub KeepsPassed : Content → ℕ → Walk → Option Passed → Type 0
-KeepsPassed content level first None = Unit {0}
-KeepsPassed content level first (Some passed) = IsWalk content first →
+abbrev pub KeepsLastChild : Content → ℕ → Walk → Option LastChild → Type 0
+KeepsLastChild content level first None = Unit {0}
+KeepsLastChild content level first (Some passed) = IsWalk content first →
     IsPlaceNth content level first.number passed.number passed.place ×
     IsWalk content passed.rest ×
     IsBehind content level first.number (suc passed.number) passed.rest.number
@@ -51,8 +51,8 @@ KeepsPassed content level first (Some passed) = IsWalk content first →
 abbrev pub IsSubtree : Content → (level : ℕ) → Tree level → Subtree → Type 0
 IsSubtree content level t subtree =
     IsPlaceOf content level t (record { frame = subtree.frame; below = subtree.below.first }) ×
-    KeepsPassed content (level - 1) subtree.below.first subtree.below.last
+    KeepsLastChild content (level - 1) subtree.below.first subtree.below.last
 
 -- An honest device has the file of this content, and the places that are remembered are of it.
-abbrev pub HasFile : DeviceView → Option Marks → Content → Type 0
-HasFile device marks content = HoldsFile device content × IfSome marks (AreMarks content)
+abbrev pub HasChunksOf : DeviceView → Option Marks → Content → Type 0
+HasChunksOf device marks content = HoldsFile device content × IfSome marks (AreMarks content)

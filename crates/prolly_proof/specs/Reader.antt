@@ -6,7 +6,7 @@ use Rattle.prolly_check.specs.ScanWay.{IsScanWay}
 use Rattle.prolly_entry.specs.Pair.{Pair}
 use Rattle.prolly_entry.specs.declared.version.Version.{Version}
 use Rattle.prolly_tree.specs.Tree.{Tree}
-use Rattle.prolly_proof.specs.Descents.{KeepsLevel, StandsAtTree, chunks_in}
+use Rattle.prolly_proof.specs.Descent.{StandsInPlace, StandsAtTree, chunks_in}
 use Rattle.prolly_proof.specs.declared.look_up.chunk_on_way.ChunkOnWay.{ChunkOnWay}
 
 -- What a reader keeps: the version and the root that it was opened for, the place of the root, and
@@ -27,7 +27,7 @@ pub record IsReaderOf {T : Type 0}
     (reader : ReaderView T) : Type 0 where
   pub version : reader.version ≡ content.version
   pub top : StandsAtTree is_place content reader.root None reader.top
-  pub levels : AllByRecursion (KeepsLevel is_place content) reader.levels
+  pub levels : AllByRecursion (StandsInPlace is_place content) reader.levels
 
 -- These are the first pairs, at most so many, of those that a look-up of the key from the root of
 -- this reference finds by these chunks.
