@@ -14,7 +14,7 @@ use prolly_file::{
     FromRead, ScratchFault, ScriptSink, Sink, SinkFault, WholeFault, read_whole,
     scratch_as,
 };
-use prolly_proof::{Reader, RootFault, Subtree};
+use prolly_root::{Reader, RootFault, Subtree};
 use prolly_test_parts::{joined, pairs_of};
 use std::alloc::{AllocError, Global};
 use std::process::Abort;

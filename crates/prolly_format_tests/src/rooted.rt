@@ -4,7 +4,7 @@ ghost use Rattle.std.specs.Prelude.{◌≡◌, IfOk};
 use crate::expect::{expect_bytes, expect_eq};
 use prolly_entry::{Pair, Ref, Sha512Cut, Version};
 use prolly_file::{ScriptDevice, scratch_as};
-use prolly_proof::{FileChunks, Reader, RootFault, Subtree};
+use prolly_root::{FileChunks, Reader, RootFault, Subtree};
 use prolly_test_parts::{joined, pairs_of};
 use std::alloc::Global;
 use std::process::Abort;

@@ -18,11 +18,11 @@ use Rattle.prolly_fault.specs.declared.fault.RunFault.TheVariants as runs
 use Rattle.prolly_fault.specs.declared.fault.RunFault.TheVariants.{Memory, Write}
 use Rattle.prolly_file.specs.Failures.{CountsFailure, after_failure}
 use Rattle.prolly_file.specs.Sink.{IsSettled, SinkView}
-use Rattle.prolly_proof.specs.Reader.{AreFirstFound}
-use Rattle.prolly_proof.specs.Reader.{ReaderView}
-use Rattle.prolly_proof.specs.RootFault.{TellsReads}
-use Rattle.prolly_proof.specs.declared.root_fault.RootFault.{RootFault}
-use Rattle.prolly_proof.specs.declared.root_fault.RootFault.TheVariants as roots
+use Rattle.prolly_root.specs.Reader.{AreFirstFound}
+use Rattle.prolly_root.specs.Reader.{ReaderView}
+use Rattle.prolly_root.specs.RootFault.{TellsReads}
+use Rattle.prolly_root.specs.declared.root_fault.RootFault.{RootFault}
+use Rattle.prolly_root.specs.declared.root_fault.RootFault.TheVariants as roots
 use Rattle.prolly_tree.specs.Tree.{last_key}
 use Rattle.prolly_text.specs.declared.notation.Notation.{Notation}
 use Rattle.prolly_tool.specs.LookUps.{pair_lines, pair_text}

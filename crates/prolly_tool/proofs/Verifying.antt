@@ -2,9 +2,9 @@
 use Rattle.std.proofs.Common.{ℕ, inr, List, Option, Result, Ok, Err}
 use Rattle.std.specs.Prelude.{IfOk}
 use Rattle.prolly_entry.specs.declared.version.Version.{Version}
-use Rattle.prolly_proof.specs.ProofFault.{IsFault}
-use Rattle.prolly_proof.specs.ProofFile.{IsProof}
-use Rattle.prolly_proof.specs.declared.proof.fault.ProofFault.{ProofFault}
+use Rattle.prolly_root.specs.ProofFault.{IsFault}
+use Rattle.prolly_root.specs.ProofFile.{IsProof}
+use Rattle.prolly_root.specs.declared.proof.fault.ProofFault.{ProofFault}
 use Rattle.prolly_text.specs.declared.notation.Notation.{Notation}
 use Rattle.prolly_tool.specs.Answers.{ShowsFault}
 use Rattle.prolly_tool.specs.Input.{IsReadWhole}

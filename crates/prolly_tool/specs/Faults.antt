@@ -5,10 +5,10 @@ use Rattle.prolly_fault.specs.declared.fault.RunFault.{RunFault}
 use Rattle.prolly_fault.specs.declared.fault.RunFault.TheVariants as runs
 use Rattle.prolly_check.specs.declared.fault.CheckFault.{CheckFault}
 use Rattle.prolly_check.specs.declared.fault.CheckFault.TheVariants as checks
-use Rattle.prolly_proof.specs.declared.proof.fault.ProofFault.{ProofFault}
-use Rattle.prolly_proof.specs.declared.proof.fault.ProofFault.TheVariants as proofs
-use Rattle.prolly_proof.specs.declared.root_fault.RootFault.{RootFault}
-use Rattle.prolly_proof.specs.declared.root_fault.RootFault.TheVariants as roots
+use Rattle.prolly_root.specs.declared.proof.fault.ProofFault.{ProofFault}
+use Rattle.prolly_root.specs.declared.proof.fault.ProofFault.TheVariants as proofs
+use Rattle.prolly_root.specs.declared.root_fault.RootFault.{RootFault}
+use Rattle.prolly_root.specs.declared.root_fault.RootFault.TheVariants as roots
 use Rattle.prolly_tool.specs.declared.pack.PackFault.{PackFault}
 use Rattle.prolly_tool.specs.declared.pack.PackFault.TheVariants as packs
 use Rattle.prolly_tool.specs.declared.fault.Fault.{Fault}

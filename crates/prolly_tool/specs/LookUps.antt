@@ -13,7 +13,7 @@ use Rattle.prolly_check.specs.declared.fault.CheckFault.TheVariants.{Read}
 use Rattle.prolly_entry.specs.declared.version.Version.{Version}
 use Rattle.prolly_entry.specs.declared.version.Version.TheVariants.{One, Two}
 use Rattle.prolly_file.specs.Source.{SourceView}
-use Rattle.prolly_proof.specs.declared.root_fault.RootFault.{RootFault}
+use Rattle.prolly_root.specs.declared.root_fault.RootFault.{RootFault}
 use Rattle.prolly_text.specs.Notations.{separator, written}
 use Rattle.prolly_text.specs.declared.notation.Notation.{Notation}
 use Rattle.prolly_tree.specs.Chunk.{chunks}

@@ -10,10 +10,10 @@ use Rattle.prolly_fault.specs.declared.fault.RunFault.{RunFault}
 use Rattle.prolly_fault.specs.declared.fault.RunFault.TheVariants.{Write}
 use Rattle.prolly_file.specs.Failures.{after_failure}
 use Rattle.prolly_file.specs.Sink.{IsSettled, SinkView}
-use Rattle.prolly_proof.specs.Reader.{IsReaderOf, ReaderView}
-use Rattle.prolly_proof.specs.RootFault.{MayFail}
-use Rattle.prolly_proof.specs.declared.root_fault.RootFault.{RootFault}
-use Rattle.prolly_proof.specs.declared.root_fault.RootFault.TheVariants.{Read}
+use Rattle.prolly_root.specs.Reader.{IsReaderOf, ReaderView}
+use Rattle.prolly_root.specs.RootFault.{MayFail}
+use Rattle.prolly_root.specs.declared.root_fault.RootFault.{RootFault}
+use Rattle.prolly_root.specs.declared.root_fault.RootFault.TheVariants.{Read}
 use Rattle.prolly_text.specs.declared.notation.Notation.{Notation}
 use Rattle.prolly_tree.specs.File.{root_reference}
 use Rattle.prolly_tree.specs.Tree.{Tree}

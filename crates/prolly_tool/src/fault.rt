@@ -7,7 +7,7 @@ use crate::fault_texts::{CheckText, ProofText, RootText, RunText, SideText};
 use crate::pack::PackFault;
 use prolly_check::CheckFault;
 use prolly_fault::RunFault;
-use prolly_proof::{ProofFault, RootFault};
+use prolly_root::{ProofFault, RootFault};
 use std::fmt;
 use std::fmt::{Display, Formatter};
 use thiserror::Error;

@@ -4,7 +4,7 @@ ghost use Rattle.prolly_tool.specs.LookUps.{ShowsFound};
 
 use crate::answer::Answer;
 use crate::fault::Fault;
-use prolly_proof::RootFault;
+use prolly_root::RootFault;
 use prolly_text::Notation;
 use std::alloc::{AllocError, Global};
 
@@ -13,7 +13,7 @@ use std::alloc::{AllocError, Global};
 /// was found out. An `Err` is want of memory for that text.
 ///
 /// What a value or none says of the map with the root is said where the look-up is made: see
-/// [`Reader::get`](prolly_proof::Reader::get).
+/// [`Reader::get`](prolly_root::Reader::get).
 pub fn answer_found(
     alloc: Global,
     notation: Notation,

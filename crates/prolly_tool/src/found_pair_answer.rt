@@ -5,7 +5,7 @@ ghost use Rattle.prolly_tool.specs.LookUps.{ShowsFoundPair, ShowsPair};
 use crate::answer::Answer;
 use crate::fault::Fault;
 use prolly_entry::Pair;
-use prolly_proof::RootFault;
+use prolly_root::RootFault;
 use prolly_text::Notation;
 use std::alloc::{AllocError, Global};
 
@@ -14,7 +14,7 @@ use std::alloc::{AllocError, Global};
 /// fault for which nothing was found out. An `Err` is want of memory for that text.
 ///
 /// What a pair or none says of the map with the root is said where the look-up is made: see
-/// [`Reader::nth`](prolly_proof::Reader::nth).
+/// [`Reader::nth`](prolly_root::Reader::nth).
 pub fn answer_found_pair(
     alloc: Global,
     notation: Notation,

@@ -10,7 +10,7 @@ use crate::input::INPUT_LIMIT;
 use prolly_check::check;
 use prolly_fault::RunFault;
 use prolly_file::{Sink, Source, WriteFault, write_whole};
-use prolly_proof::prove;
+use prolly_root::prove;
 use std::alloc::{AllocError, Global};
 
 /// What `prove` answers: it reads a chunk file from the source, writes a proof of what it has at

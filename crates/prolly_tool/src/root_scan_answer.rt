@@ -17,7 +17,7 @@ use crate::scan_answer::lines_of;
 use prolly_entry::{Pair, Ref, Version};
 use prolly_fault::RunFault;
 use prolly_file::{Sink, write_all};
-use prolly_proof::{ChunkSource, Reader};
+use prolly_root::{ChunkSource, Reader};
 use prolly_text::Notation;
 use std::alloc::{AllocError, Global};
 

@@ -9,7 +9,7 @@ use crate::fault::Fault;
 use crate::input::input_of;
 use prolly_entry::{Ref, Version};
 use prolly_file::Source;
-use prolly_proof::verify;
+use prolly_root::verify;
 use prolly_text::Notation;
 use std::alloc::{AllocError, Global};
 

@@ -6,7 +6,7 @@ use crate::refusal::Refusal;
 use crate::streams::Stream;
 use prolly_entry::{Pair, Ref, Version};
 use prolly_file::{Blocks, FromSeek, ToWrite};
-use prolly_proof::{ChunkSource, FileChunks, Reader, RootFault};
+use prolly_root::{ChunkSource, FileChunks, Reader, RootFault};
 use prolly_tool::{
     Answer, Fault, Notation, RootScan, answer_found, answer_found_pair, answer_get_as,
     answer_nth_as, answer_scan_as, answer_scan_by_root,

@@ -3,7 +3,7 @@ use super::{FILE_OF_ONE, expect_begun, expect_shown};
 use crate::tools::look_up_answers::file_of_three;
 use prolly_entry::{Pair, Ref, Version};
 use prolly_file::{ScriptDevice, ScriptSink};
-use prolly_proof::{FileChunks, Reader, RootFault};
+use prolly_root::{FileChunks, Reader, RootFault};
 use prolly_tool::{Notation, RootScan, answer_found, answer_found_pair, answer_scan_by_root};
 use std::alloc::{AllocError, Global};
 use std::test::Fail;

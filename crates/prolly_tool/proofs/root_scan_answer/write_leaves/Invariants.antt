@@ -1,6 +1,6 @@
 use Rattle.std.proofs.Common.{◌≡◌}
 use Rattle.prolly_check.specs.Content.{Content}
-use Rattle.prolly_proof.specs.Reader.{IsReaderOf}
+use Rattle.prolly_root.specs.Reader.{IsReaderOf}
 use Rattle.prolly_tool.proofs.ScanSteps.{IsScanning}
 use Rattle.prolly_tool.proofs.root_scan_answer.write_leaves.Given as goal
 

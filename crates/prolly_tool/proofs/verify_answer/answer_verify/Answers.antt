@@ -1,6 +1,6 @@
 use Rattle.std.proofs.Common.{ℕ, List, Option, ◌∙◌, subst}
-use Rattle.prolly_proof.specs.ProofFault.{IsFault}
-use Rattle.prolly_proof.specs.ProofFile.{IsProof}
+use Rattle.prolly_root.specs.ProofFault.{IsFault}
+use Rattle.prolly_root.specs.ProofFile.{IsProof}
 use Rattle.prolly_tool.proofs.Verifying.{proof_refused}
 use Rattle.prolly_tool.proofs.verify_answer.answer_verify.Goals as goal
 

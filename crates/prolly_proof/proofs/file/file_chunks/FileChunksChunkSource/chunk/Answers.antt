@@ -1,8 +1,0 @@
-use Rattle.std.proofs.Common.{◌≡◌, IfOk, subst}
-use Rattle.prolly_proof.proofs.Subtrees.{chunk_is}
-use Rattle.prolly_proof.proofs.file.file_chunks.FileChunksChunkSource.chunk.Goals as goal
-
-pub returns-clause-is : goal.returns-clause-is
-returns-clause-is g c content l t has stands =
-    subst (λ bytes. IfOk c.read_chunk.result (λ chunk. chunk.items ≡ bytes))
-    (chunk_is content l t _ stands.0) (c.read_chunk.ensures.is content has.0 stands.0.frame)

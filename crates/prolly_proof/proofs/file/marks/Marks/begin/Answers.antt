@@ -1,5 +1,0 @@
-use Rattle.prolly_proof.proofs.Marking.{all_fresh}
-use Rattle.prolly_proof.proofs.file.marks.Marks.begin.Goals as goal
-
-pub returns-clause-runs : goal.returns-clause-runs
-returns-clause-runs c content = all_fresh content c.args.walk.number

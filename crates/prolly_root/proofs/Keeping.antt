@@ -1,0 +1,288 @@
+-- The chunks of a level, one behind another, and the trees whose tops they are.
+use Rattle.std.proofs.Common.{◌≡◌, ℕ, zero, suc, ◌+◌, ◌-◌, ◌≤◌, ◌<◌, inl, inr, ◌⊎◌, List, [], ◌∷◌, ◌++◌}
+use Rattle.std.proofs.Common.{length, drop, map, get_or, refl, sym, ap, ◌∙◌, subst, arith}
+use Rattle.std.proofs.Common.{append_assoc}
+use Rattle.std.specs.List.{AllByRecursion, flat_map}
+use Rattle.std.proofs.Math.Seq.{drop-append_seam}
+use Rattle.std.proofs.lemmas.Bool.{cases_lt}
+use Rattle.std.proofs.lemmas.List.{get_or-drop, get_or_append_left, get_or_push, length-append}
+use Rattle.std.proofs.lemmas.List.{map-append}
+use Rattle.std.proofs.lemmas.List.Concat.{flat_map-append}
+use Rattle.prolly_check.specs.Checked.{chunks_of}
+use Rattle.prolly_check.specs.Content.{Content}
+use Rattle.prolly_check.specs.FileWays.{nth_chunk}
+use Rattle.prolly_check.specs.Way.{level_of}
+use Rattle.prolly_entry.specs.declared.version.Version.{Version}
+use Rattle.prolly_tree.specs.Chunk.{post_order}
+use Rattle.prolly_tree.specs.Tree.{Tree, bytes_of}
+use Rattle.prolly_root.specs.Subtree.{IsPlaceNth, IsPlaceOf, chunks_of_trees}
+use Rattle.prolly_root.specs.RootFault.{OnlyRead}
+use Rattle.prolly_root.specs.Walk.{IsBehind, IsFirst, IsNth, NoneBetween}
+use Rattle.prolly_root.specs.Walk.{chunks_below, chunks_of_tree}
+use Rattle.prolly_root.specs.declared.file.subtree.Place.{Place}
+use Rattle.prolly_root.specs.declared.root_fault.RootFault.{RootFault}
+use Rattle.prolly_root.proofs.Walking.{IsLower, all_lower, level_is, top_last}
+
+-- ---- one behind another
+
+module _ (content : Content) (level : ℕ) where
+  -- there is one
+  first_one : (from n m : ℕ) → IsFirst content level from n → IsFirst content level from m → n ≡ m
+  first_one from n m h k = by_order (cases_lt n m) (cases_lt m n)
+    where
+      by_order : (n < m) ⊎ (m ≤ n) → (m < n) ⊎ (n ≤ m) → n ≡ m
+      by_order (inl less) other = absurd (k.none n h.from_on less h.is)
+      by_order (inr most) (inl less) = absurd (h.none m k.from_on less k.is)
+      by_order (inr most) (inr least) = omega (arith, most, least)
+
+  pub nth_one : (k from n m : ℕ) → IsNth content level from k n → IsNth content level from k m →
+      n ≡ m
+  nth_one zero from n m h g = first_one from n m h g
+  nth_one (suc k) from n m h g = first_one (suc h.0) n m h.2
+      (subst (λ j. IsFirst content level (suc j) m) (sym (nth_one k from h.0 g.0 h.1 g.1)) g.2)
+
+  pub behind_one : (k from n m : ℕ) → IsBehind content level from k n →
+      IsBehind content level from k m → n ≡ m
+  behind_one zero from n m h g = h ∙ sym g
+  behind_one (suc k) from n m h g = h.2 ∙ ap suc (nth_one k from h.0 g.0 h.1 g.1) ∙ sym g.2
+
+  pub suc_behind : (from k n : ℕ) → IsBehind content level from (suc k) n →
+      IsBehind content level from (k + 1) n
+  suc_behind from k n h = let e : suc k ≡ k + 1 = omega arith in
+      subst (λ k. IsBehind content level from k n) e h
+
+  -- one more
+  pub nth_next : (k from behind n : ℕ) → IsBehind content level from k behind →
+      IsFirst content level behind n → IsNth content level from k n
+  nth_next zero from behind n h first = subst (λ b. IsFirst content level b n) h first
+  nth_next (suc k) from behind n h first =
+      (h.0, h.1, subst (λ b. IsFirst content level b n) h.2 first)
+
+  pub behind_next : (from k behind n next : ℕ) → IsBehind content level from k behind →
+      IsFirst content level behind n → next ≡ suc n → IsBehind content level from (k + 1) next
+  behind_next from k behind n next h first e =
+      suc_behind from k next (n, nth_next k from behind n h first, e)
+
+  -- where one has so many before it, there is one with fewer
+  pub record HasNth (from k : ℕ) : Type 0 where
+    pub n : ℕ
+    pub is : IsNth content level from k n
+
+  nth_before : (k j from n : ℕ) → j ≤ k → IsNth content level from k n → HasNth from j
+  nth_before zero j from n few h = let e : 0 ≡ j = omega (arith, few) in record {
+    n = n;
+    is = subst (λ j. IsNth content level from j n) e h;
+  }
+  nth_before (suc k) j from n few h =
+      by_order (cases_lt k j) (λ most. nth_before k j from h.0 most h.1)
+    where
+      by_order : (k < j) ⊎ (j ≤ k) → (j ≤ k → HasNth from j) → HasNth from j
+      by_order (inl less) before = let e : suc k ≡ j = omega (arith, few, less) in record {
+        n = n;
+        is = subst (λ j. IsNth content level from j n) e h;
+      }
+      by_order (inr most) before = before most
+
+  -- behind fewer of them there is another
+  not_none : (k j from behind n : ℕ) → j ≤ k → IsBehind content level from j behind →
+      IsNth content level from k n →
+      NoneBetween content level behind (length (chunks_of content)) → ⊥
+  not_none k zero from behind n few here h none =
+      let first = nth_before k 0 from n (omega arith) h in
+      none first.n (subst (λ b. b ≤ first.n) (sym here) first.is.from_on) first.is.within first.is.is
+  not_none k (suc j) from behind n few here h none =
+      let next = nth_before k (suc j) from n few h in
+      let same = nth_one j from next.is.0 here.0 next.is.1 here.1 in
+      none next.n (omega (arith, next.is.2.from_on, same, here.2)) next.is.2.within next.is.2.is
+
+  -- so that where it is sought, only a read can have failed
+  pub only_read : (k j from behind n : ℕ) → j ≤ k → IsBehind content level from j behind →
+      IsNth content level from k n → {fault : RootFault} →
+      NoneBetween content level behind (length (chunks_of content)) ⊎ OnlyRead fault →
+      OnlyRead fault
+  only_read k j from behind n few here h (inl none) =
+      absurd (not_none k j from behind n few here h none)
+  only_read k j from behind n few here h (inr only) = only
+
+  -- those behind the first
+  nth_shift : (k from a n : ℕ) → IsFirst content level from a →
+      IsNth content level (suc a) k n → IsNth content level from (suc k) n
+  nth_shift zero from a n first h = (a, first, h)
+  nth_shift (suc k) from a n first h = (h.0, nth_shift k from a h.0 first h.1, h.2)
+
+  behind_shift : (k from a b : ℕ) → IsFirst content level from a →
+      IsBehind content level (suc a) k b → IsBehind content level from (suc k) b
+  behind_shift zero from a b first h = (a, first, h)
+  behind_shift (suc k) from a b first h = (h.0, nth_shift k from a h.0 first h.1, h.2)
+
+-- ---- the tops of trees
+
+all_at : (version : Version) (level : ℕ) (cs : List (List ℕ)) (i : ℕ) →
+    AllByRecursion (IsLower version level) cs →
+    i < length cs → level_of (get_or cs i []) < level
+all_at version level [] i all within = absurd (omega (arith, within))
+all_at version level (c ∷ cs) zero all within = all.0
+all_at version level (c ∷ cs) (suc i) all within = all_at version level cs i all.1 (omega (arith, within))
+
+module _ (content : Content) (level : ℕ) where
+  abbrev trees : List (Tree level) → List (List ℕ)
+  trees ts = chunks_of_trees content level ts
+
+  abbrev tree : Tree level → List (List ℕ)
+  tree t = chunks_of_tree content.version level t
+
+  abbrev under : Tree level → List (List ℕ)
+  under t = chunks_below content.version level t
+
+  trees_cons : (t : Tree level) (ts : List (Tree level)) → trees (t ∷ ts) ≡ tree t ++ trees ts
+  trees_cons t ts = map-append (λ c. c.bytes) (post_order content.version level t)
+      (flat_map (post_order content.version level) ts)
+
+  tree_length : (t : Tree level) → length (tree t) ≡ length (under t) + 1
+  tree_length t = ap length (top_last content.version level t) ∙
+      length-append (under t) (bytes_of content.version level t ∷ [])
+
+  -- a chunk of a part of the file
+  pub part_at : (before part left : List (List ℕ)) → chunks_of content ≡ before ++ (part ++ left) →
+      (i : ℕ) → i < length part → nth_chunk content (length before + i) ≡ get_or part i []
+  part_at before part left are i within =
+      sym (get_or-drop (length before) (chunks_of content) i []) ∙
+      ap (λ cs. get_or cs i []) (ap (drop (length before)) are ∙
+      drop-append_seam before (part ++ left)) ∙ get_or_append_left part left [] i within
+
+  -- the first of the level is the top
+  top_first : (t : Tree level) (before left : List (List ℕ)) →
+      chunks_of content ≡ before ++ (tree t ++ left) →
+      IsFirst content level (length before) (length before + length (under t))
+  top_first t before left are = record {
+    from_on = omega arith;
+    within = omega (
+      arith,
+      ap length are,
+      length-append before (tree t ++ left),
+      length-append (tree t) left,
+      tree_length t,
+    );
+    is = ap level_of (part_at before (tree t) left are (length (under t))
+        (omega (arith, tree_length t)) ∙
+        ap (λ cs. get_or cs (length (under t)) []) (top_last content.version level t) ∙
+        get_or_push (under t) (bytes_of content.version level t) [] (length (under t)) refl) ∙
+        level_is content.version level t;
+    none = λ n from_on below same.
+        let i = n - length before in
+        let e : n ≡ length before + i = omega (arith, from_on) in
+        let within : i < length (under t) = omega (arith, e, below) in
+        let low : level_of (nth_chunk content n) < level =
+        subst (λ c. level_of c < level) (sym (ap (nth_chunk content) e ∙
+        part_at before (tree t) left are i (omega (arith, within, tree_length t)) ∙
+        ap (λ cs. get_or cs i []) (top_last content.version level t) ∙
+        get_or_append_left (under t) (bytes_of content.version level t ∷ []) [] i within))
+        (all_at content.version level (under t) i (all_lower content.version level t) within) in
+        omega (arith, low, same);
+  }
+
+  -- and so on, tree by tree
+  pub tops : (front : List (Tree level)) (t : Tree level) (after : List (Tree level))
+      (before left : List (List ℕ)) →
+      chunks_of content ≡ before ++ (trees (front ++ t ∷ after) ++ left) →
+      IsNth content level (length before) (length front)
+      (length before + length (trees front) + length (under t)) ×
+      IsBehind content level (length before) (length front)
+      (length before + length (trees front))
+  tops [] t after before left are = (
+    subst (IsFirst content level (length before)) (omega arith)
+        (top_first t before (trees after ++ left) (are ∙ ap (λ cs. before ++ cs)
+        (ap (λ cs. cs ++ left) (trees_cons t after) ∙ append_assoc (tree t) (trees after) left))),
+    omega arith,
+  )
+  tops (u ∷ front) t after before left are =
+      let rest = trees (front ++ t ∷ after) in
+      let split : chunks_of content ≡ before ++ (tree u ++ (rest ++ left)) =
+      are ∙ ap (λ cs. before ++ cs) (ap (λ cs. cs ++ left) (trees_cons u (front ++ t ∷ after)) ∙
+      append_assoc (tree u) rest left) in
+      let first = top_first u before (rest ++ left) split in
+      let more = tops front t after (before ++ tree u) left
+      (split ∙ sym (append_assoc before (tree u) (rest ++ left))) in
+      let long : length (before ++ tree u) ≡ suc (length before + length (under u)) =
+      omega (arith, length-append before (tree u), tree_length u) in
+      let all : length (trees (u ∷ front)) ≡ length (tree u) + length (trees front) =
+      ap length (trees_cons u front) ∙ length-append (tree u) (trees front) in (
+        subst (IsNth content level (length before) (suc (length front)))
+            (omega (arith, length-append before (tree u), all))
+            (nth_shift content level (length front) (length before)
+            (length before + length (under u))
+            (length (before ++ tree u) + length (trees front) + length (under t)) first
+            (subst (λ from. IsNth content level from (length front)
+            (length (before ++ tree u) + length (trees front) + length (under t))) long more.0)),
+        subst (IsBehind content level (length before) (suc (length front)))
+            (omega (arith, length-append before (tree u), all))
+            (behind_shift content level (length front) (length before)
+            (length before + length (under u))
+            (length (before ++ tree u) + length (trees front)) first
+            (subst (λ from. IsBehind content level from (length front)
+            (length (before ++ tree u) + length (trees front))) long more.1)),
+      )
+
+-- the tree is the one with so many before it among trees of the file whose frames begin at the
+-- number
+pub record StandsAmong (content : Content) (level : ℕ) (t : Tree level) (from k : ℕ) : Type 0 where
+  pub front : List (Tree level)
+  pub after : List (Tree level)
+  pub before : List (List ℕ)
+  pub left : List (List ℕ)
+  pub number : length front ≡ k
+  pub first : from ≡ length before
+  pub are : chunks_of content ≡
+      before ++ (chunks_of_trees content level (front ++ t ∷ after) ++ left)
+
+module _ (content : Content) (level : ℕ) (t : Tree level) (from k : ℕ)
+    (a : StandsAmong content level t from k) where
+  abbrev ahead : ℕ
+  ahead = length a.before + length (chunks_of_trees content level a.front)
+
+  -- so its top is that one of the level
+  pub top_nth : IsNth content level from k
+      (ahead + length (chunks_below content.version level t))
+  top_nth = subst (λ from. IsNth content level from k
+      (ahead + length (chunks_below content.version level t))) (sym a.first)
+      (subst (λ k. IsNth content level (length a.before) k
+      (ahead + length (chunks_below content.version level t))) a.number
+      (tops content level a.front t a.after a.before a.left a.are).0)
+
+  pub place_found : (place : Place) → IsPlaceNth content level from k place →
+      IsPlaceOf content level t place
+  place_found place p =
+      let rest = chunks_of_trees content level a.front in
+      let own = chunks_of_tree content.version level t in
+      let more = chunks_of_trees content level a.after in
+      let long = length-append a.before rest in
+      record {
+        before = a.before ++ rest;
+        left = more ++ a.left;
+        are = a.are ∙ ap (λ cs. a.before ++ (cs ++ a.left))
+            (trees_append a.front (t ∷ a.after) ∙
+            ap (λ cs. rest ++ cs) (trees_cons content level t a.after)) ∙
+            regroup a.before rest own more a.left;
+        below = p.below;
+        first = behind_one content level k from place.below.number ahead p.behind
+            (subst (λ from. IsBehind content level from k ahead) (sym a.first)
+            (subst (λ k. IsBehind content level (length a.before) k ahead) a.number
+            (tops content level a.front t a.after a.before a.left a.are).1)) ∙ sym long;
+        frame = p.frame;
+        top = nth_one content level k from place.frame.number
+            (ahead + length (chunks_below content.version level t)) p.nth top_nth ∙
+            ap (λ n. n + length (chunks_below content.version level t)) (sym long);
+      }
+    where
+      trees_append : (done rest : List (Tree level)) →
+          chunks_of_trees content level (done ++ rest) ≡
+          chunks_of_trees content level done ++ chunks_of_trees content level rest
+      trees_append done rest = ap (map (λ c. c.bytes))
+          (flat_map-append (post_order content.version level) done rest) ∙
+          map-append (λ c. c.bytes) (flat_map (post_order content.version level) done)
+          (flat_map (post_order content.version level) rest)
+
+      regroup : (before rest own more left : List (List ℕ)) →
+          before ++ ((rest ++ (own ++ more)) ++ left) ≡
+          (before ++ rest) ++ (own ++ (more ++ left))
+      regroup before rest own more left = simp append_assoc

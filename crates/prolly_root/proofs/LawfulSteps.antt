@@ -1,0 +1,223 @@
+-- Going down in a lawful tree, from a node to the top of a tree below it.
+use Rattle.std.proofs.Common.{◌≡◌, ℕ, zero, suc, ◌-◌, List, [], ◌∷◌, ◌++◌, length, drop, map, inl}
+use Rattle.std.proofs.Common.{Option, Some, None, refl, sym, ap, ◌∙◌, subst, arith}
+use Rattle.prolly_check.specs.Checked.{chunks_of}
+use Rattle.prolly_check.specs.Content.{Content}
+use Rattle.prolly_check.specs.Descent.{ChildIsTree, HasTree, IsTreeOf, ReferenceLeads, RootIsTree}
+use Rattle.prolly_check.specs.Descent.{TopIsRead, child_of}
+use Rattle.prolly_check.specs.Entries.{Child}
+use Rattle.prolly_check.specs.Kinds.{kind_of}
+use Rattle.prolly_check.specs.Sought.{Sought, IsChildOf}
+use Rattle.prolly_check.specs.Way.{FallsTo, IsOrdered, level_of}
+use Rattle.prolly_check.specs.declared.look_up.sought.ChildSought.{ChildSought}
+use Rattle.prolly_entry.specs.Cut.{sha512_cut}
+use Rattle.prolly_entry.specs.Reference.{reference_of}
+use Rattle.prolly_entry.specs.declared.version.Version.{Version}
+use Rattle.prolly_tree.specs.Chunk.{IsIn, chunk_of}
+use Rattle.prolly_tree.specs.File.{root_reference}
+use Rattle.prolly_tree.specs.Tree.{Tree, bytes_of}
+use Rattle.prolly_tree.specs.lemmas.Trees.{in_back}
+use Rattle.prolly_root.specs.Descent.{StandsInPlace, StandsAtTree}
+use Rattle.prolly_root.specs.ChunkSource.{IsChildAt, IsLawful, root_level, root_tree}
+use Rattle.prolly_root.specs.declared.look_up.chunk_on_way.ChunkOnWay.{ChunkOnWay}
+use Rattle.prolly_root.proofs.Walking.{level_is}
+
+-- ---- the child of a node
+
+-- the tree of a child of these
+pub record IsTreeAt (version : Version) (level : ℕ) (ts : List (Tree level)) (n : ℕ) (child : Child)
+    : Type 0 where
+  pub t : Tree level
+  pub at : IsChildAt level ts n t
+  pub is : child ≡ child_of version level t
+
+tree_at : (version : Version) (level : ℕ) (ts : List (Tree level)) (before : List Child)
+    (child : Child) (after : List Child) →
+    before ++ child ∷ after ≡ map (child_of version level) ts →
+    IsTreeAt version level ts (length before) child
+tree_at version level [] [] child after e = absurd (omega (arith, ap length e))
+tree_at version level [] (b ∷ before) child after e = absurd (omega (arith, ap length e))
+tree_at version level (t ∷ ts) [] child after e = record {
+  t = t;
+  at = record { front = []; after = ts; are = refl; number_is = refl };
+  is = cc;
+}
+tree_at version level (t ∷ ts) (b ∷ before) child after e =
+    let rest = tree_at version level ts before child after (ap (drop 1) e) in record {
+      t = rest.t;
+      at = record {
+        front = t ∷ rest.at.front;
+        after = rest.at.after;
+        are = ap (λ ys. t ∷ ys) rest.at.are;
+        number_is = ap suc rest.at.number_is;
+      };
+      is = rest.is;
+    }
+
+-- ---- one level down
+
+pub one_less : (n : ℕ) → suc n - 1 ≡ n
+one_less n = omega arith
+
+-- from the node, the top of a tree of this level more, a look-up goes on in its child
+pub record StepsTo {T : Type 0} (is_place : Content → (level : ℕ) → Tree level → T → Type 0)
+    (content : Content) (chunk : ChunkOnWay T) (child : ChildSought) (level : ℕ) : Type 0 where
+  pub ts : List (Tree level)
+  pub t : Tree level
+  pub whole : IsTreeOf content.version (chunks_of content) (suc level) ts
+  pub reference : chunk.reference.0 ≡ reference_of (bytes_of content.version (suc level) ts)
+  pub is : chunk.chunk.items ≡ bytes_of content.version (suc level) ts
+  pub stands : is_place content (suc level) ts chunk.place
+  pub at : IsChildAt level ts child.number t
+  pub below : IsTreeOf content.version (chunks_of content) level t
+  pub named : child.reference.0 ≡ reference_of (bytes_of content.version level t)
+
+module _ {T : Type 0} (is_place : Content → (level : ℕ) → Tree level → T → Type 0)
+    (content : Content) (chunk : ChunkOnWay T) where
+  steps_to : ((version : Version) → ChildIsTree version) →
+      ((version : Version) → TopIsRead version) → StandsInPlace is_place content chunk →
+      (sought : Sought) (child : ChildSought) →
+      IsChildOf sought (kind_of content.version chunk.chunk.items) child →
+      StepsTo is_place content chunk child (level_of chunk.chunk.items - 1)
+  steps_to child_tree read k sought child on =
+      by_level k.level k.t k.below k.named k.is k.stands
+    where
+      by_level : (level : ℕ) (t : Tree level) →
+          IsTreeOf content.version (chunks_of content) level t →
+          chunk.reference.0 ≡ reference_of (bytes_of content.version level t) →
+          chunk.chunk.items ≡ bytes_of content.version level t →
+          is_place content level t chunk.place →
+          StepsTo is_place content chunk child (level_of chunk.chunk.items - 1)
+      by_level zero leaf below named is stands =
+          absurd (subst (λ entries. IsChildOf sought entries child)
+          (ap (kind_of content.version) is ∙
+          (read content.version (chunks_of content) 0 leaf below).1) on)
+      by_level (suc level) ts below named is stands =
+          let c = subst (λ entries. IsChildOf sought entries child)
+          (ap (kind_of content.version) is ∙
+          (read content.version (chunks_of content) (suc level) ts below).1) on in
+          let found = tree_at content.version level ts c.before c.child c.after (sym c.are) in
+          let lower : level ≡ level_of chunk.chunk.items - 1 =
+          sym (ap (λ n. n - 1) (ap level_of is ∙ level_is content.version (suc level) ts) ∙
+          one_less level) in
+          subst (StepsTo is_place content chunk child) lower (record {
+            ts = ts;
+            t = found.t;
+            whole = below;
+            reference = named;
+            is = is;
+            stands = stands;
+            at = record {
+              front = found.at.front;
+              after = found.at.after;
+              are = found.at.are;
+              number_is = found.at.number_is ∙ sym c.number;
+            };
+            below = child_tree content.version (chunks_of content) level found.at.front
+                found.at.after found.t
+                (subst (IsTreeOf content.version (chunks_of content) (suc level)) found.at.are
+                below);
+            named = c.reference ∙ ap (λ c. c.reference) found.is;
+          })
+
+  -- the same by what a function has in hand
+  pub steps_from : ((version : Version) → ChildIsTree version) →
+      ((version : Version) → TopIsRead version) → StandsInPlace is_place content chunk →
+      (version : Version) → version ≡ content.version → (read : List ℕ) →
+      read ≡ chunk.chunk.items → (sought : Sought) (child : ChildSought) →
+      IsChildOf sought (kind_of version read) child →
+      (level : ℕ) → level ≡ level_of chunk.chunk.items →
+      StepsTo is_place content chunk child (level - 1)
+  steps_from child_tree top_read k version same read is sought child on level high =
+      subst (λ n. StepsTo is_place content chunk child (n - 1)) (sym high)
+      (steps_to child_tree top_read k sought child
+      (subst (λ v. IsChildOf sought (kind_of v chunk.chunk.items) child) same
+      (subst (λ bytes. IsChildOf sought (kind_of version bytes) child) is on)))
+
+  -- the node stands there still
+  pub stays_there : (child : ChildSought) (level : ℕ)
+      (b : StepsTo is_place content chunk child level) (new : ChunkOnWay T) →
+      new.reference ≡ chunk.reference → new.chunk ≡ chunk.chunk →
+      is_place content (suc level) b.ts new.place → StandsInPlace is_place content new
+  stays_there child level b new reference bytes stands = record {
+    level = suc level;
+    t = b.ts;
+    below = b.whole;
+    named = ap (λ r. r.0) reference ∙ b.reference;
+    is = ap (λ c. c.items) bytes ∙ b.is;
+    stands = stands;
+  }
+
+  -- and in the place of the child the look-up stands again
+  pub lands : (child : ChildSought) (level l : ℕ) (b : StepsTo is_place content chunk child level)
+      (place : T) → l ≡ level_of chunk.chunk.items → is_place content level b.t place →
+      StandsAtTree is_place content child.reference.0 (Some l) place
+  lands child level l b place high stands = record {
+    level = level;
+    t = b.t;
+    below = b.below;
+    named = b.named;
+    falls = high ∙ ap level_of b.is ∙ level_is content.version (suc level) b.ts ∙
+        ap suc (sym (level_is content.version level b.t));
+    stands = stands;
+  }
+
+-- ---- the chunk of a reference
+
+top_in : (version : Version) (chunks : List (List ℕ)) (level : ℕ) (t : Tree level) →
+    HasTree version chunks level t → IsIn (bytes_of version level t) chunks
+top_in version chunks zero leaf has = has (chunk_of version 0 leaf) (inl refl)
+top_in version chunks (suc level) ts has = has (chunk_of version (suc level) ts)
+    (in_back (chunk_of version (suc level) ts) _ (chunk_of version (suc level) ts ∷ []) (inl refl))
+
+-- two tops of trees with one reference are one chunk
+pub same_chunk : ((version : Version) → ReferenceLeads version) → (content : Content) →
+    IsLawful content → (level : ℕ) (t : Tree level) (other : ℕ) (u : Tree other) →
+    IsTreeOf content.version (chunks_of content) level t →
+    IsTreeOf content.version (chunks_of content) other u →
+    reference_of (bytes_of content.version level t) ≡
+    reference_of (bytes_of content.version other u) →
+    bytes_of content.version level t ≡ bytes_of content.version other u
+same_chunk leads content lawful level t other u of also same =
+    (leads content.version).0 (chunks_of content) other u (bytes_of content.version level t)
+    lawful.apart also.has (top_in content.version (chunks_of content) level t of.has) same
+
+-- ---- at the chunk that is due
+
+module _ {T : Type 0} (is_place : Content → (level : ℕ) → Tree level → T → Type 0)
+    (content : Content) (reference : List ℕ) (above : Option ℕ) (place : T)
+    (at : StandsAtTree is_place content reference above place) where
+  -- what has its bytes has its reference, and can be read
+  pub is_due : ((version : Version) → TopIsRead version) → (version : Version) →
+      version ≡ content.version → (chunk : List ℕ) →
+      chunk ≡ bytes_of content.version at.level at.t →
+      (reference_of chunk ≡ reference) × IsOrdered version chunk
+  is_due read version same chunk is = (
+    ap reference_of is ∙ sym at.named,
+    subst (λ v. IsOrdered v chunk) (sym same) (subst (IsOrdered content.version) (sym is)
+        (read content.version (chunks_of content) at.level at.t at.below).0),
+  )
+
+  -- what was kept with its reference stands on the right level
+  pub kept_falls : ((version : Version) → ReferenceLeads version) → IsLawful content →
+      (chunk : ChunkOnWay T) → StandsInPlace is_place content chunk →
+      chunk.reference.0 ≡ reference → FallsTo above chunk.chunk.items
+  kept_falls leads lawful chunk k same = subst (FallsTo above)
+      (sym (k.is ∙ same_chunk leads content lawful k.level k.t at.level at.t k.below at.below
+      (sym k.named ∙ same ∙ at.named))) at.falls
+
+-- ---- at the root
+
+pub root_stands : {T : Type 0} (is_place : Content → (level : ℕ) → Tree level → T → Type 0)
+    (content : Content) (root : List ℕ) (place : T) → RootIsTree → IsLawful content →
+    root ≡ root_reference (sha512_cut content.bits) content.version content.pairs →
+    is_place content (root_level content) (root_tree content) place →
+    StandsAtTree is_place content root None place
+root_stands is_place content root place trees lawful named stands = record {
+  level = root_level content;
+  t = root_tree content;
+  below = trees content.version content.bits content.pairs lawful.lawful lawful.rising;
+  named = named;
+  falls = tt;
+  stands = stands;
+}

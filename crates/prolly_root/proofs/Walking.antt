@@ -1,0 +1,369 @@
+-- Going over the frames of a file.
+use Rattle.std.proofs.Common.{◌≡◌, ℕ, zero, suc, ◌+◌, ◌^◌, ◌<◌, ◌≤◌, List, [], ◌∷◌, ◌++◌, length}
+use Rattle.std.proofs.Common.{take, drop, map, get_or, inl, inr, ◌⊎◌, Result, Ok, refl, sym, ap, ◌∙◌}
+use Rattle.std.proofs.Common.{subst, arith, append_assoc, Option, Some, None}
+use Rattle.std.proofs.Common.{take-append-drop}
+use Rattle.std.specs.Int.{w64, to_be_bytes}
+use Rattle.std.specs.List.{AllByRecursion, flat_map}
+use Rattle.std.proofs.Math.Seq.{drop-append_seam}
+use Rattle.std.proofs.lemmas.Bool.{cases_lt}
+use Rattle.std.proofs.lemmas.List.{length-append, map-append}
+use Rattle.std.proofs.lemmas.List.Concat.{flat_map-append}
+use Rattle.prolly_check.specs.Checked.{chunks_of}
+use Rattle.prolly_check.specs.Content.{Content}
+use Rattle.prolly_check.specs.FileWays.{nth_chunk}
+use Rattle.prolly_check.specs.Verdict.{IsFileOf}
+use Rattle.prolly_check.specs.Way.{level_of}
+use Rattle.prolly_entry.specs.Cut.{sha512_cut}
+use Rattle.prolly_entry.specs.declared.version.Version.{Version}
+use Rattle.prolly_entry.specs.lemmas.Lists.{all_append, all_back}
+use Rattle.prolly_entry.specs.lemmas.Spellings.{reference_length}
+use Rattle.prolly_file.specs.Frame.{framed}
+use Rattle.prolly_file.specs.FrameLaws.{frames_bytes}
+use Rattle.prolly_file.specs.declared.format.frame.FrameStart.{FrameStart}
+use Rattle.prolly_file.specs.declared.format.frame.FrameStart.TheVariants.{Chunk as ChunkStart, End}
+use Rattle.prolly_tree.specs.Chunk.{Chunk, chunk_of, chunks, post_order}
+use Rattle.prolly_tree.specs.File.{end_record, header, root_reference}
+use Rattle.prolly_tree.specs.Tree.{Tree, bytes_of, tree_of}
+use Rattle.prolly_root.specs.Walk.{GoesOver, IsFrame, IsStartOf, IsWalk}
+use Rattle.prolly_root.specs.Walk.{NoneBetween, chunks_below, chunks_of_tree}
+use Rattle.prolly_root.specs.Walk.{offset_of, size_of}
+use Rattle.prolly_root.specs.declared.root_fault.RootFault.{RootFault}
+use Rattle.prolly_root.specs.declared.file.walk.Frame.{Frame}
+use Rattle.prolly_root.specs.declared.file.walk.Walk.{Walk}
+
+-- ---- the chunks of a tree
+
+abbrev pub bytes_in : List Chunk → List (List ℕ)
+bytes_in cs = map (λ c. c.bytes) cs
+
+-- the top is the last of them
+pub top_last : (version : Version) (level : ℕ) (t : Tree level) → chunks_of_tree version level t ≡
+    chunks_below version level t ++ bytes_of version level t ∷ []
+top_last version zero leaf = refl
+top_last version (suc level) ts = map-append (λ c. c.bytes) (flat_map (post_order version level) ts)
+    (chunk_of version (suc level) ts ∷ [])
+
+pub level_is : (version : Version) (level : ℕ) (t : Tree level) →
+    level_of (bytes_of version level t) ≡ level
+level_is version zero t = refl
+level_is version (suc level) t = refl
+
+-- a chunk that has a level, not above this one
+pub record StandsUpTo (level : ℕ) (chunk : List ℕ) : Type 0 where
+  pub some : 0 < length chunk
+  pub up_to : level_of chunk ≤ level
+
+top_up_to : (version : Version) (level : ℕ) (t : Tree level) →
+    StandsUpTo level (bytes_of version level t)
+top_up_to version zero t = record { some = omega arith; up_to = omega arith }
+top_up_to version (suc level) t = record { some = omega arith; up_to = omega arith }
+
+module _ (version : Version) where
+  abbrev AllUpTo : ℕ → List Chunk → Type 0
+  AllUpTo level cs = AllByRecursion (StandsUpTo level) (bytes_in cs)
+
+  higher : (level : ℕ) (cs : List (List ℕ)) → AllByRecursion (StandsUpTo level) cs →
+      AllByRecursion (StandsUpTo (suc level)) cs
+  higher level [] h = tt
+  higher level (c ∷ cs) h =
+      let up = h.0.up_to in
+      (record { some = h.0.some; up_to = omega arith }, higher level cs h.1)
+
+  all_trees : (level : ℕ) →
+      ((t : Tree level) → AllUpTo level (post_order version level t)) →
+      (ts : List (Tree level)) → AllUpTo level (flat_map (post_order version level) ts)
+  all_trees level each [] = tt
+  all_trees level each (t ∷ ts) =
+      let own = post_order version level t in
+      let rest = flat_map (post_order version level) ts in
+      subst (AllByRecursion (StandsUpTo level)) (sym (map-append (λ c. c.bytes) own rest))
+      (all_append (StandsUpTo level) (bytes_in own) (bytes_in rest) (each t)
+      (all_trees level each ts))
+
+  tree_up_to : (level : ℕ) (t : Tree level) → AllUpTo level (post_order version level t)
+  tree_up_to zero t = (top_up_to version zero t, tt)
+  tree_up_to (suc level) ts =
+      let below = flat_map (post_order version level) ts in
+      subst (AllByRecursion (StandsUpTo (suc level)))
+      (sym (map-append (λ c. c.bytes) below (chunk_of version (suc level) ts ∷ [])))
+      (all_append (StandsUpTo (suc level)) (bytes_in below) (bytes_of version (suc level) ts ∷ [])
+      (higher level (bytes_in below) (all_trees level (tree_up_to level) ts))
+      (top_up_to version (suc level) ts, tt))
+
+  -- the chunks below the top stand lower
+  abbrev pub IsLower : ℕ → List ℕ → Type 0
+  IsLower level chunk = level_of chunk < level
+
+  lower : (level : ℕ) (cs : List (List ℕ)) → AllByRecursion (StandsUpTo level) cs →
+      AllByRecursion (IsLower (suc level)) cs
+  lower level [] h = tt
+  lower level (c ∷ cs) h = let up = h.0.up_to in (omega arith, lower level cs h.1)
+
+  pub all_lower : (level : ℕ) (t : Tree level) →
+      AllByRecursion (IsLower level) (chunks_below version level t)
+  all_lower zero t = tt
+  all_lower (suc level) ts = lower level (bytes_in (flat_map (post_order version level) ts))
+      (all_trees level (tree_up_to level) ts)
+
+-- ---- the bytes of a file
+
+-- where the frame behind these chunks begins
+abbrev pub place_behind : List (List ℕ) → ℕ
+place_behind before = 6 + length (flat_map framed before)
+
+module _ (bytes : List ℕ) (content : Content) (f : IsFileOf bytes content)
+    (before left : List (List ℕ)) (are : chunks_of content ≡ before ++ left) where
+  abbrev pub start : List ℕ
+  start = header content.version content.bits
+
+  abbrev pub ending : List ℕ
+  ending = end_record (root_reference (sha512_cut content.bits) content.version content.pairs)
+      (length (chunks (sha512_cut content.bits) content.version content.pairs))
+
+  pub apart : bytes ≡ (start ++ flat_map framed before) ++ (flat_map framed left ++ ending)
+  apart = f.is ∙ ap (λ x. start ++ (x ++ ending))
+      (frames_bytes (chunks (sha512_cut content.bits) content.version content.pairs) ∙
+      ap (flat_map framed) are ∙ flat_map-append framed before left) ∙
+      ap (λ x. start ++ x) (append_assoc (flat_map framed before) (flat_map framed left) ending) ∙
+      sym (append_assoc start (flat_map framed before) (flat_map framed left ++ ending))
+
+  pub front_length : length (start ++ flat_map framed before) ≡ place_behind before
+  front_length = length-append start (flat_map framed before)
+
+  -- what stands behind the frames before
+  pub behind : (place : ℕ) → place ≡ place_behind before →
+      drop place bytes ≡ flat_map framed left ++ ending
+  behind place at = ap (λ p. drop p bytes) (at ∙ sym front_length) ∙
+      ap (drop (length (start ++ flat_map framed before))) apart ∙
+      drop-append_seam (start ++ flat_map framed before) (flat_map framed left ++ ending)
+
+  -- and how much that is
+  pub how_long : length bytes ≡ place_behind before + (length (flat_map framed left) + 29)
+  how_long = ap length apart ∙ length-append (start ++ flat_map framed before)
+      (flat_map framed left ++ ending) ∙
+      ap (λ n. n + length (flat_map framed left ++ ending)) front_length ∙
+      ap (λ n. place_behind before + n) (length-append (flat_map framed left) ending ∙
+      ap (λ n. length (flat_map framed left) + n) ending_length)
+    where
+      ending_length : length ending ≡ 29
+      ending_length = ap suc (length-append
+          (root_reference (sha512_cut content.bits) content.version content.pairs)
+          (to_be_bytes w64 (length (chunks (sha512_cut content.bits) content.version
+          content.pairs))) ∙ ap (λ n. n + 8) (reference_length (bytes_of content.version
+          (tree_of (sha512_cut content.bits) content.version content.pairs).level
+          (tree_of (sha512_cut content.bits) content.version content.pairs).tree)))
+
+  all_some : AllByRecursion (λ c. 0 < length c) left
+  all_some = all_back (λ c. 0 < length c) before left (subst (AllByRecursion (λ c. 0 < length c))
+      are (each_some (tree_of (sha512_cut content.bits) content.version content.pairs).level
+      (chunks_of content) (tree_up_to content.version
+      (tree_of (sha512_cut content.bits) content.version content.pairs).level
+      (tree_of (sha512_cut content.bits) content.version content.pairs).tree)))
+    where
+      each_some : (level : ℕ) (cs : List (List ℕ)) → AllByRecursion (StandsUpTo level) cs →
+          AllByRecursion (λ c. 0 < length c) cs
+      each_some level [] h = tt
+      each_some level (c ∷ cs) h = (h.0.some, each_some level cs h.1)
+
+  -- what is told of bytes is told of the first ten that are left
+  module _ (bytes_read : List ℕ) (result : Result FrameStart RootFault)
+      (read : bytes_read ≡ take 10 (flat_map framed left ++ ending))
+      (ends : (more : List ℕ) → bytes_read ≡ 0x45 ∷ more → result ≡ Ok End)
+      (begins : (len level : ℕ) → len < 2 ^ 64 →
+      bytes_read ≡ 0x43 ∷ (to_be_bytes w64 len ++ level ∷ []) → result ≡ Ok (ChunkStart len level))
+      (short : length bytes < 2 ^ 64) where
+    by_what_is_left : (rest : List (List ℕ)) → left ≡ rest →
+        AllByRecursion (λ c. 0 < length c) rest → IsStartOf rest result
+    by_what_is_left [] e some = subst (IsStartOf []) (sym (ends (take 9 (drop 1 ending)) (read ∙
+        ap (λ cs. take 10 (flat_map framed cs ++ ending)) e))) tt
+    by_what_is_left ([] ∷ rest) e some = absurd (omega (arith, some.0))
+    by_what_is_left ((b ∷ c) ∷ rest) e some =
+        subst (IsStartOf ((b ∷ c) ∷ rest)) (sym (begins (suc (length c)) b few (read ∙
+        ap (λ cs. take 10 (flat_map framed cs ++ ending)) e))) (refl, refl)
+      where
+        few : suc (length c) < 2 ^ 64
+        few = omega (
+          arith,
+          short,
+          how_long,
+          ap (λ cs. length (flat_map framed cs)) e,
+          length-append (framed (b ∷ c)) (flat_map framed rest),
+          length-append (to_be_bytes w64 (suc (length c))) (b ∷ c),
+        )
+
+    pub is_start : IsStartOf left result
+    is_start = by_what_is_left left refl all_some
+
+-- ---- over a frame
+
+-- the chunk of a number, where one begins there
+starts_chunk : (cs : List (List ℕ)) (n len level : ℕ) →
+    IsStartOf (drop n cs) (Ok (ChunkStart len level)) →
+    (n < length cs) × (len ≡ length (get_or cs n [])) × (level ≡ level_of (get_or cs n []))
+starts_chunk [] zero len level is = absurd is
+starts_chunk [] (suc n) len level is = absurd is
+starts_chunk (c ∷ cs) zero len level is = (omega arith, is.0, is.1)
+starts_chunk (c ∷ cs) (suc n) len level is =
+    let rest = starts_chunk cs n len level is in (omega (arith, rest.0), rest.1, rest.2)
+
+ends_list : (cs : List (List ℕ)) (n : ℕ) → n ≤ length cs → IsStartOf (drop n cs) (Ok End) →
+    n ≡ length cs
+ends_list [] zero within is = refl
+ends_list [] (suc n) within is = absurd (omega (arith, within))
+ends_list (c ∷ cs) zero within is = absurd is
+ends_list (c ∷ cs) (suc n) within is = ap suc (ends_list cs n (omega (arith, within)) is)
+
+-- one more frame
+framed_length : (c : List ℕ) → length (framed c) ≡ 9 + length c
+framed_length c = omega (arith, length-append (to_be_bytes w64 (length c)) c)
+
+frames_next : (cs : List (List ℕ)) (n : ℕ) → n < length cs →
+    length (flat_map framed (take (suc n) cs)) ≡
+    length (flat_map framed (take n cs)) + 9 + length (get_or cs n [])
+frames_next [] n within = absurd (omega (arith, within))
+frames_next (c ∷ cs) zero within =
+    omega (arith, length-append (framed c) [], framed_length c)
+frames_next (c ∷ cs) (suc n) within = omega (
+  arith,
+  length-append (framed c) (flat_map framed (take (suc n) cs)),
+  length-append (framed c) (flat_map framed (take n cs)),
+  frames_next cs n (omega (arith, within)),
+)
+
+-- as many bytes as chunks, or more
+frames_long : (cs : List (List ℕ)) (n : ℕ) → n ≤ length cs →
+    n ≤ length (flat_map framed (take n cs))
+frames_long cs zero within = omega arith
+frames_long [] (suc n) within = absurd (omega (arith, within))
+frames_long (c ∷ cs) (suc n) within = omega (
+  arith,
+  length-append (framed c) (flat_map framed (take n cs)),
+  framed_length c,
+  frames_long cs n (omega (arith, within)),
+)
+
+module _ (bytes : List ℕ) (content : Content) (f : IsFileOf bytes content) (walk : Walk)
+    (at : IsWalk content walk) where
+  abbrev cs : List (List ℕ)
+  cs = chunks_of content
+
+  parted : cs ≡ take walk.number cs ++ drop walk.number cs
+  parted = sym (take-append-drop walk.number cs)
+
+  -- what is told of the bytes there is told of the chunk
+  pub begins_there : (bytes_read : List ℕ) (result : Result FrameStart RootFault) →
+      bytes_read ≡ take 10 (drop walk.offset bytes) →
+      ((more : List ℕ) → bytes_read ≡ 0x45 ∷ more → result ≡ Ok End) →
+      ((len level : ℕ) → len < 2 ^ 64 →
+      bytes_read ≡ 0x43 ∷ (to_be_bytes w64 len ++ level ∷ []) →
+      result ≡ Ok (ChunkStart len level)) → length bytes < 2 ^ 64 →
+      IsStartOf (drop walk.number cs) result
+  begins_there bytes_read result read ends begins short =
+      is_start bytes content f (take walk.number cs) (drop walk.number cs) parted bytes_read result
+      (read ∙ ap (take 10) (behind bytes content f (take walk.number cs) (drop walk.number cs)
+      parted walk.offset at.offset)) ends begins short
+
+  of_size : length bytes ≡ size_of content
+  of_size = ap length f.is
+
+  abbrev long : length bytes ≡ place_behind (take walk.number cs) +
+      (length (flat_map framed (drop walk.number cs)) + 29)
+  long = how_long bytes content f (take walk.number cs) (drop walk.number cs) parted
+
+  -- the frame of a chunk that begins there fits
+  pub fits : (len level : ℕ) → IsStartOf (drop walk.number cs) (Ok (ChunkStart len level)) →
+      (0 < len) × (walk.offset + 9 + len ≤ walk.size)
+  fits len level is = by_what_is_left (drop walk.number cs) refl
+      (all_some bytes content f (take walk.number cs) (drop walk.number cs) parted) is
+    where
+      by_what_is_left : (rest : List (List ℕ)) → drop walk.number cs ≡ rest →
+          AllByRecursion (λ c. 0 < length c) rest → IsStartOf rest (Ok (ChunkStart len level)) →
+          (0 < len) × (walk.offset + 9 + len ≤ walk.size)
+      by_what_is_left [] e some is = absurd is
+      by_what_is_left (c ∷ rest) e some is =
+          let same = ap (λ cs. length (flat_map framed cs)) e in
+          let all = length-append (framed c) (flat_map framed rest) in (
+            omega (arith, some.0, is.0),
+            omega (arith, long, same, all, framed_length c, is.0, at.offset, at.whole, of_size),
+          )
+
+  -- the end record that begins there is the end
+  pub ends_there : IsStartOf (drop walk.number cs) (Ok End) →
+      (walk.number ≡ length cs) × (walk.offset + 29 ≡ walk.size)
+  ends_there is = (ends_list cs walk.number at.within is, by_what_is_left (drop walk.number cs) refl is)
+    where
+      by_what_is_left : (rest : List (List ℕ)) → drop walk.number cs ≡ rest →
+          IsStartOf rest (Ok End) → walk.offset + 29 ≡ walk.size
+      by_what_is_left [] e is =
+          let same = ap (λ cs. length (flat_map framed cs)) e in
+          omega (arith, long, same, at.offset, at.whole, of_size)
+      by_what_is_left (c ∷ rest) e is = absurd is
+
+  -- its number has one above it
+  pub number_fits : length bytes < 2 ^ 64 → walk.number + 1 < 2 ^ 64
+  number_fits short = omega (arith, short, long, frames_long cs walk.number at.within)
+
+  -- over it
+  pub goes_over : (len level : ℕ) → IsStartOf (drop walk.number cs) (Ok (ChunkStart len level)) →
+      (new : Walk) (frame : Frame) → new.size ≡ walk.size → new.offset ≡ walk.offset + 9 + len →
+      new.number ≡ walk.number + 1 → frame.number ≡ walk.number →
+      frame.start ≡ walk.offset + 9 → frame.len ≡ len → frame.level ≡ level →
+      GoesOver content walk.number new (Ok (Some frame))
+  goes_over len level is new frame size offset number same start len_is level_is =
+      let here = starts_chunk cs walk.number len level is in
+      let next : new.number ≡ suc walk.number = omega (arith, number) in (
+        record {
+          within = omega (arith, here.0, same);
+          start = start ∙ ap (λ n. n + 9) (at.offset ∙ ap (offset_of content) (sym same));
+          len = len_is ∙ here.1 ∙ ap (λ n. length (nth_chunk content n)) (sym same);
+          level = level_is ∙ here.2 ∙ ap (λ n. level_of (nth_chunk content n)) (sym same);
+        },
+        same,
+        record {
+          within = omega (arith, here.0, number);
+          offset = omega (
+            arith,
+            offset,
+            at.offset,
+            here.1,
+            frames_next cs walk.number here.0,
+            ap (offset_of content) next,
+          );
+          whole = size ∙ at.whole;
+        },
+        number,
+      )
+
+-- ---- to the last frame
+
+-- the walk has come from a number to behind this frame, if it went over any
+abbrev pub CameTo : Content → ℕ → ℕ → Option Frame → Type 0
+CameTo content from number None = number ≡ from
+CameTo content from number (Some frame) = IsFrame content frame × (number ≡ frame.number + 1)
+
+-- a file has a chunk
+pub some_chunk : (content : Content) → 0 < length (chunks_of content)
+some_chunk content =
+    let tree = tree_of (sha512_cut content.bits) content.version content.pairs in omega (
+      arith,
+      ap length (top_last content.version tree.level tree.tree),
+      length-append (chunks_below content.version tree.level tree.tree)
+          (bytes_of content.version tree.level tree.tree ∷ []),
+    )
+
+-- ---- to a level
+
+-- no chunk before the next one is of the level, nor is that one
+pub none_more : (content : Content) (level from number : ℕ) →
+    NoneBetween content level from number →
+    (level_of (nth_chunk content number) ≡ level → ⊥) →
+    NoneBetween content level from (number + 1)
+none_more content level from number none other n above below same =
+    by_order (cases_lt n number)
+  where
+    by_order : (n < number) ⊎ (number ≤ n) → ⊥
+    by_order (inl before) = none n above before same
+    by_order (inr behind) =
+        let e : n ≡ number = omega (arith, behind, below) in
+        other (subst (λ n. level_of (nth_chunk content n) ≡ level) e same)

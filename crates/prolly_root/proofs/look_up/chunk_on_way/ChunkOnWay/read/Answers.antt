@@ -1,0 +1,30 @@
+use Rattle.std.proofs.Common.{◌≡◌, ◌∙◌, rules}
+use Rattle.std.proofs.lemmas.Bool.{false≢true}
+use Rattle.prolly_tree.specs.Tree.{bytes_of}
+use Rattle.prolly_root.specs.RootFault.{MayFail}
+use Rattle.prolly_root.proofs.LawfulSteps.{is_due}
+use Rattle.prolly_root.proofs.look_up.chunk_on_way.ChunkOnWay.read.Goals as goal
+
+pub returns-in_err-chunk-clause-only : goal.returns-in_err-chunk-clause-only
+returns-in_err-chunk-clause-only g c content above has same at =
+    let only : MayFail c.in_err-chunk.field-0.0 =
+    c.in_err-chunk.ensures.only content at.level at.t has at.stands in
+    search rules
+
+pub returns-in_err-test-clause-only : goal.returns-in_err-test-clause-only
+returns-in_err-test-clause-only g c content above has same at =
+    let is : c.deref.result.now ≡ bytes_of content.version at.level at.t =
+    c.deref.ensures.value ∙ c.in_ok-chunk.ensures.is content at.level at.t has at.stands in
+    let due = is_due g.S.ChunkSource.is_place content c.args.reference.0 above c.args.place at
+    c.tops_are_read.ensures.read c.args.version same c.deref.result.now is in
+    absurd (false≢true (c.in_err-test.ensures.fits due.0 due.1))
+
+pub returns-clause-kept : goal.returns-clause-kept
+returns-clause-kept g c content above has same at = record {
+  level = at.level;
+  t = at.t;
+  below = at.below;
+  named = at.named;
+  is = c.in_ok-chunk.ensures.is content at.level at.t has at.stands;
+  stands = at.stands;
+}

@@ -1,0 +1,19 @@
+-- What a look-up by a root may tell.
+use Rattle.std.specs.Prelude.{◌≡◌, ℕ, ◌⊎◌, Result, Ok, Err}
+use Rattle.prolly_file.specs.Failures.{after_failure}
+use Rattle.prolly_root.specs.declared.root_fault.RootFault.{RootFault}
+use Rattle.prolly_root.specs.declared.root_fault.RootFault.TheVariants.{Memory, Read}
+
+-- That a read failed is told where one more call failed, and only there.
+abbrev pub TellsReads : {T : Type 0} → ℕ → ℕ → Result T RootFault → Type 0
+TellsReads old new (Ok value) = new ≡ old
+TellsReads old new (Err Read) = new ≡ after_failure old
+TellsReads old new (Err fault) = new ≡ old
+
+-- There is no fault but that a read failed.
+abbrev pub OnlyRead : RootFault → Type 0
+OnlyRead fault = fault ≡ Read
+
+-- There is no fault but want of memory, or that a read failed.
+abbrev pub MayFail : RootFault → Type 0
+MayFail fault = (fault ≡ Memory) ⊎ (fault ≡ Read)

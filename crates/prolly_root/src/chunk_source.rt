@@ -1,0 +1,76 @@
+//! What gives the chunks of a tree.
+ghost use Rattle.std.specs.Prelude.{◌≡◌, ◌-◌, ℕ, suc, List, IfOk, IfErr};
+ghost use Rattle.prolly_check.specs.Content.{Content};
+ghost use Rattle.prolly_root.specs.RootFault.{MayFail, OnlyRead, TellsReads};
+ghost use Rattle.prolly_root.specs.ChunkSource.{IsChildAt, IsLawful, root_level, root_tree};
+ghost use Rattle.prolly_tree.specs.Tree.{Tree, bytes_of};
+
+use crate::root_fault::RootFault;
+use prolly_entry::Version;
+use std::alloc::Global;
+
+/// Gives the chunks of a tree to who goes down in it by references: for a file of chunks see
+/// [`FileChunks`](crate::FileChunks).
+///
+/// Nothing that a source gives is believed. Who asks compares each chunk with the reference in the
+/// one above it, and the first with the root. So whatever a source gives, what is answered is right.
+/// What the contracts say here is for one thing alone: that the tree of a source that has it is
+/// never refused.
+pub trait ChunkSource {
+    /// Where a chunk stands, and what was found below it so far.
+    type Place: Copy + Drop;
+
+    /// How many of its calls failed.
+    ghost failures: { Self → ℕ };
+
+    /// It has the chunks of the tree of this content.
+    ghost has: { Self → Content → Type 0 };
+
+    /// In the tree of the content the place is that of the top of this tree.
+    ghost is_place: { Content → (level : ℕ) → Tree level → Self.Place → Type 0 };
+
+    /// The place of the root, of a tree whose chunks are of this version.
+    fn root(&mut self, version: Version) -> Result<Self::Place, RootFault>
+        ensures place { (content : Content) → has self.old content → version ≡ content.version →
+            IfOk result (is_place content (root_level content) (root_tree content)) }
+        ensures only { (content : Content) → has self.old content → version ≡ content.version →
+            IfErr result OnlyRead }
+        ensures keeps { (content : Content) → has self.old content → has self.new content }
+        ensures reads { TellsReads (failures self.old) (failures self.new) result };
+
+    /// The place of the child of this number below a node. The children are of this level, and
+    /// counted from 0.
+    fn child(
+        &mut self,
+        node: &mut Self::Place,
+        level: u8,
+        number: u64,
+    ) -> Result<Self::Place, RootFault>
+        ensures place { (content : Content) (ts : List (Tree level)) (t : Tree level) →
+            has self.old content → is_place content (suc level) ts node.old →
+            IsChildAt level ts number t → IfOk result (is_place content level t) }
+        ensures only { (content : Content) (ts : List (Tree level)) (t : Tree level) →
+            has self.old content → is_place content (suc level) ts node.old →
+            IsChildAt level ts number t → IfErr result OnlyRead }
+        ensures node { (content : Content) (ts : List (Tree level)) → has self.old content →
+            is_place content (suc level) ts node.old → is_place content (suc level) ts node.new }
+        ensures keeps { (content : Content) → has self.old content → has self.new content }
+        ensures reads { TellsReads (failures self.old) (failures self.new) result };
+
+    /// The chunk that stands there. Takes memory for it.
+    fn chunk(&mut self, alloc: Global, place: &Self::Place) -> Result<Vec<u8>, RootFault>
+        ensures is { (content : Content) (l : ℕ) (t : Tree l) → has self.old content →
+            is_place content l t place.now →
+            IfOk result (λ chunk. chunk.items ≡ bytes_of content.version l t) }
+        ensures only { (content : Content) (l : ℕ) (t : Tree l) → has self.old content →
+            is_place content l t place.now → IfErr result MayFail }
+        ensures keeps { (content : Content) → has self.old content → has self.new content }
+        ensures reads { TellsReads (failures self.old) (failures self.new) result };
+
+    /// The number by which faults name the chunk that stands there.
+    fn number(place: &Self::Place) -> u64;
+
+    /// The pairs of a content that a source has are lawful and rise, and no two of its chunks have
+    /// one reference.
+    ghost lawful: { (source : Self) (content : Content) → has source content → IsLawful content };
+}

@@ -1,0 +1,221 @@
+//! The frames of a chunk file on a device, one after another.
+ghost use Rattle.std.specs.Prelude.{◌≡◌, ◌+◌, ◌-◌, ◌^◌, ◌<◌, ◌≤◌, ℕ, [], ◌∷◌, ◌++◌, List, length, drop, Ok};
+ghost use Rattle.std.specs.Prelude.{None, OnOk, IfOk, IfErr, IsOk, IfSome};
+ghost use Rattle.prolly_file.specs.Frame.{frame_start};
+
+use crate::file::marks::Marks;
+use crate::root_fault::RootFault;
+use prolly_entry::Version;
+use prolly_file::{
+    Device, END_LETTER, END_SIZE, FRAME_FRONT, FRAME_START, FrameFault, FrameStart, HEADER_SIZE,
+    HeaderFault, read_header, read_start,
+};
+
+/// A chunk of a file, of which the level was read.
+#[derive(Clone, Copy, PartialEq, Eq)]
+pub(crate) struct Frame {
+    /// Its number in the file, counted from 0.
+    pub(crate) number: u64,
+    /// Where its bytes begin.
+    pub(crate) start: u64,
+    /// How many they are.
+    pub(crate) len: u64,
+    /// Its level.
+    pub(crate) level: u8,
+}
+
+/// A place between two frames of a file: where the next one begins.
+#[derive(Clone, Copy, PartialEq, Eq)]
+pub(crate) struct Walk {
+    offset: u64,
+    /// The number of the chunk whose frame is next.
+    pub(crate) number: u64,
+    /// The size of the file.
+    size: u64,
+}
+
+impl Walk {
+    ghost use Rattle.prolly_check.specs.Checked.{chunks_of};
+    ghost use Rattle.prolly_check.specs.Content.{Content};
+    ghost use Rattle.prolly_root.specs.Marks.{AreMarks};
+    ghost use Rattle.prolly_root.specs.Walk.{GoesOver, GoesToLevel, HoldsFile, IsFrame, IsStartOf};
+    ghost use Rattle.prolly_root.specs.RootFault.{OnlyRead, TellsReads};
+    ghost use Rattle.prolly_root.specs.Walk.{IsWalk, StaysSame};
+
+    /// The place before the first frame of a chunk file of this version.
+    pub(crate) fn begin<D: Device>(device: &mut D, version: Version) -> Result<Walk, RootFault>
+        ensures same { StaysSame (D.seen device.old) (D.seen device.new) }
+        ensures reads { TellsReads (D.seen device.old).failures (D.seen device.new).failures
+            result }
+        ensures begins { (content : Content) → HoldsFile (D.seen device.old) content →
+            IfOk result (λ walk. (walk.number ≡ 0) × IsWalk content walk) }
+        ensures only { (content : Content) → HoldsFile (D.seen device.old) content →
+            version ≡ content.version → IfErr result OnlyRead }
+    {
+        let mut start = [0; HEADER_SIZE];
+        let count = device.read_at(0, &mut start)?;
+        match read_header(&start[..count]) {
+            Ok(header) if header.version == version => Ok(Walk {
+                offset: HEADER_SIZE as u64,
+                number: 0,
+                size: device.len()?,
+            }),
+            Ok(_) => Err(RootFault::Version),
+            Err(HeaderFault::Truncated) => Err(RootFault::Truncated),
+            Err(HeaderFault::BadByte) => Err(RootFault::Header),
+        }
+    }
+
+    /// Goes over the next frame; none where the end record is next. One read, of ten bytes.
+    pub(crate) fn next<D: Device>(&mut self, device: &mut D) -> Result<Option<Frame>, RootFault>
+        ensures same { StaysSame (D.seen device.old) (D.seen device.new) }
+        ensures reads { TellsReads (D.seen device.old).failures (D.seen device.new).failures
+            result }
+        ensures size { self.new.size ≡ self.old.size }
+        ensures within { IfOk result (λ next. IfSome next (λ frame. self.new.offset ≤
+            self.new.size)) }
+        ensures forward { IfOk result (λ next. IfSome next (λ frame. self.old.offset <
+            self.new.offset)) }
+        ensures goes { (content : Content) → HoldsFile (D.seen device.old) content →
+            IsWalk content self.old → GoesOver content self.old.number self.new result }
+    {
+        match self.start(device)? {
+            FrameStart::End => self.end(),
+            FrameStart::Chunk(len, level) => Ok(Some(self.go_over(len, level)?)),
+        }
+    }
+
+    /// Goes on to the next frame of a chunk of this level, and over it. One read for each frame.
+    pub(crate) fn next_of_level<D: Device>(
+        &mut self,
+        device: &mut D,
+        level: u8,
+    ) -> Result<Frame, RootFault>
+        ensures same { StaysSame (D.seen device.old) (D.seen device.new) }
+        ensures reads { TellsReads (D.seen device.old).failures (D.seen device.new).failures
+            result }
+        ensures goes { (content : Content) → HoldsFile (D.seen device.old) content →
+            IsWalk content self.old → GoesToLevel content level self.old.number self.new result }
+    {
+        loop {
+            match self.next(device)? {
+                Some(frame) if frame.level == level => return Ok(frame),
+                Some(_) => {}
+                None => return Err(RootFault::Missing),
+            }
+        }
+    }
+
+    /// The last frame of the file, where this place is before the first one, and the places that are
+    /// remembered on the way to it.
+    pub(crate) fn last<D: Device>(mut self, device: &mut D) -> Result<(Frame, Marks), RootFault>
+        ensures same { StaysSame (D.seen device.old) (D.seen device.new) }
+        ensures reads { TellsReads (D.seen device.old).failures (D.seen device.new).failures
+            result }
+        ensures last { (content : Content) → HoldsFile (D.seen device.old) content →
+            IsWalk content self → IfOk result (λ last. IsFrame content last.0 ×
+            (last.0.number ≡ length (chunks_of content) - 1)) }
+        ensures marks { (content : Content) → HoldsFile (D.seen device.old) content →
+            IsWalk content self → IfOk result (λ last. AreMarks content last.1) }
+        ensures only { (content : Content) → HoldsFile (D.seen device.old) content →
+            IsWalk content self → self.number ≡ 0 → IfErr result OnlyRead }
+    {
+        let mut marks = Marks::begin(self);
+        let mut last = None;
+        while let Some(frame) = self.next(device)? {
+            marks.go_over(frame, self);
+            last = Some(frame);
+        }
+        match last {
+            Some(frame) => Ok((frame, marks)),
+            None => Err(RootFault::Missing),
+        }
+    }
+
+    /// In which of so many parts of the file, all of one size, it stands. They are counted from 0.
+    pub(crate) fn part(&self, parts: usize) -> usize
+        requires { 1 < parts }
+        ensures { result < parts }
+    {
+        let size = self.size / parts as u64 + 1;
+        let part = (self.offset / size) as usize;
+        part.min(parts - 1)
+    }
+
+    /// What begins here.
+    fn start<D: Device>(&self, device: &mut D) -> Result<FrameStart, RootFault>
+        ensures same { StaysSame (D.seen device.old) (D.seen device.new) }
+        ensures reads { TellsReads (D.seen device.old).failures (D.seen device.new).failures
+            result }
+        ensures is { (content : Content) → HoldsFile (D.seen device.old) content →
+            IsWalk content self.now → IsStartOf (drop self.now.number (chunks_of content)) result }
+    {
+        let mut start = [0; FRAME_FRONT];
+        let count = device.read_at(self.offset, &mut start)?;
+        start_in(&start[..count], self.number)
+    }
+
+    /// None, where the end record, which begins here, ends where the file does.
+    fn end(&self) -> Result<Option<Frame>, RootFault>
+        ensures none { IfOk result (λ next. next ≡ None) }
+        ensures end { self.now.offset + END_SIZE ≡ self.now.size → result ≡ Ok None }
+        ensures read { IfErr result (λ fault. fault ≡ RootFault.Read → ⊥) }
+    {
+        let left = self.size.saturating_sub(self.offset);
+        if left < END_SIZE as u64 {
+            return Err(RootFault::Truncated);
+        }
+        if left > END_SIZE as u64 {
+            return Err(RootFault::Trailing);
+        }
+        Ok(None)
+    }
+
+    /// Goes over the frame of a chunk of this length and level.
+    fn go_over(&mut self, len: u64, level: u8) -> Result<Frame, RootFault>
+        ensures size { self.new.size ≡ self.old.size }
+        ensures within { OnOk result (self.new.offset ≤ self.new.size) }
+        ensures forward { OnOk result (self.old.offset < self.new.offset) }
+        ensures offset { OnOk result (self.new.offset ≡ self.old.offset + 9 + len) }
+        ensures number { self.old.number + 1 < 2 ^ 64 →
+            OnOk result (self.new.number ≡ self.old.number + 1) }
+        ensures frame { IfOk result (λ frame. (frame.number ≡ self.old.number) ×
+            (frame.start ≡ self.old.offset + 9) × (frame.len ≡ len) × (frame.level ≡ level)) }
+        ensures fits { 0 < len → self.old.offset + 9 + len ≤ self.old.size → IsOk result }
+        ensures read { IfErr result (λ fault. fault ≡ RootFault.Read → ⊥) }
+    {
+        if len == 0 {
+            return Err(RootFault::Chunk { chunk: self.number });
+        }
+        let room = self
+            .size
+            .saturating_sub(self.offset)
+            .saturating_sub(FRAME_START as u64);
+        if len > room {
+            return Err(RootFault::Truncated);
+        }
+        let frame = Frame {
+            number: self.number,
+            start: self.offset + FRAME_START as u64,
+            len,
+            level,
+        };
+        self.offset = frame.start + len;
+        self.number = self.number.saturating_add(1);
+        Ok(frame)
+    }
+}
+
+/// What these bytes tell, in the place of the chunk of this number.
+fn start_in(bytes: &[u8], number: u64) -> Result<FrameStart, RootFault>
+    ensures end { (more : List ℕ) → bytes.now ≡ END_LETTER ∷ more → result ≡ Ok FrameStart.End }
+    ensures chunk { (len level : ℕ) → len < 2 ^ 64 → bytes.now ≡ frame_start len ++ level ∷ [] →
+        result ≡ Ok (FrameStart.Chunk len level) }
+    ensures read { IfErr result (λ fault. fault ≡ RootFault.Read → ⊥) }
+{
+    match read_start(bytes) {
+        Ok(start) => Ok(start),
+        Err(FrameFault::Truncated) => Err(RootFault::Truncated),
+        Err(FrameFault::BadLetter) => Err(RootFault::Frame { chunk: number }),
+    }
+}

@@ -1,0 +1,188 @@
+//! A chunk on the way of a look-up by the root.
+ghost use Rattle.std.specs.Prelude.{◌≡◌, ℕ, Option, IfOk, IfErr, IfSome, IsOk, OnOk};
+ghost use Rattle.prolly_check.specs.Content.{Content};
+ghost use Rattle.prolly_check.specs.Held.{pairs_held};
+ghost use Rattle.prolly_check.specs.Sought.{sought_of};
+ghost use Rattle.prolly_check.specs.Way.{IsNamed, IsOrdered};
+ghost use Rattle.prolly_entry.specs.Reference.{reference_of};
+ghost use Rattle.prolly_root.specs.Descent.{IsAtDue, IsTested, IsOnward, StandsInPlace, StandsAtTree};
+ghost use Rattle.prolly_root.specs.Descent.{StepsDown};
+ghost use Rattle.prolly_root.specs.RootFault.{MayFail, TellsReads};
+
+use crate::chunk_source::ChunkSource;
+use crate::root_fault::RootFault;
+use prolly_check::laws::tops_are_read;
+use prolly_check::{Due, Mark, Pairs, Sought, falls_to, pairs_of, step_of, test_chunk};
+use prolly_entry::{Ref, Version};
+use std::alloc::Global;
+
+/// What a look-up comes to at a chunk.
+#[derive(Clone, Copy)]
+pub(crate) enum Onward<'a, T> {
+    /// It ends there.
+    End,
+    /// It goes on at the chunk that is due next, in this place.
+    Below(Due<'a>, T),
+}
+
+/// A chunk on the way: one that has its reference and can be read.
+#[derive(Drop)]
+pub(crate) struct ChunkOnWay<T> {
+    /// Its reference.
+    pub(crate) reference: Ref,
+    /// Where it stands.
+    pub(crate) place: T,
+    /// Its bytes.
+    pub(crate) chunk: Vec<u8>,
+    /// Where the last look-up passed over the child before the one that it went to.
+    pub(crate) mark: Mark,
+}
+
+impl<T: Copy> ChunkOnWay<T> {
+    /// The chunk of this reference in this place.
+    fn read<S: ChunkSource<Place = T>>(
+        alloc: Global,
+        source: &mut S,
+        version: Version,
+        reference: Ref,
+        place: T,
+    ) -> Result<ChunkOnWay<T>, RootFault>
+        ensures is { IfOk result (λ chunk. IsTested version chunk × (chunk.reference ≡ reference)) }
+        ensures kept { (content : Content) (above : Option ℕ) → S.has source.old content →
+            version ≡ content.version →
+            StandsAtTree S.is_place content reference.0 above place →
+            IfOk result (StandsInPlace S.is_place content) }
+        ensures only { (content : Content) (above : Option ℕ) → S.has source.old content →
+            version ≡ content.version →
+            StandsAtTree S.is_place content reference.0 above place → IfErr result MayFail }
+        ensures keeps { (content : Content) → S.has source.old content → S.has source.new content }
+        ensures reads { TellsReads (S.failures source.old) (S.failures source.new) result }
+    {
+        // By this law the chunk of a lawful tree can be read.
+        tops_are_read();
+        let chunk = source.chunk(alloc, &place)?;
+        test(version, &chunk, &reference, S::number(&place))?;
+        Ok(ChunkOnWay {
+            reference,
+            place,
+            chunk,
+            mark: Mark::first(),
+        })
+    }
+
+    /// Its pairs. A node has none.
+    pub(crate) fn pairs(&self, version: Version) -> Pairs<'_>
+        requires { IsTested version self.now }
+        ensures { result ≡ pairs_held self.now.chunk.items }
+    {
+        pairs_of(version, &self.chunk)
+    }
+
+    /// What a look-up comes to here. See [`ChunkSource::child`] for what is read.
+    pub(crate) fn step<'a, S: ChunkSource<Place = T>>(
+        &mut self,
+        source: &mut S,
+        version: Version,
+        sought: Sought<'a>,
+    ) -> Result<Onward<'a, T>, RootFault>
+        requires { IsTested version self.old }
+        ensures is { IfOk result (IsOnward version (sought_of sought.entry) self.old.chunk.items) }
+        ensures stays { (self.new.reference ≡ self.old.reference) ×
+            (self.new.chunk ≡ self.old.chunk) }
+        ensures level { IsTested version self.new }
+        ensures down { (content : Content) → S.has source.old content → version ≡ content.version →
+            StandsInPlace S.is_place content self.old → StepsDown S.is_place content result }
+        ensures kept { (content : Content) → S.has source.old content → version ≡ content.version →
+            StandsInPlace S.is_place content self.old → StandsInPlace S.is_place content self.new }
+        ensures keeps { (content : Content) → S.has source.old content → S.has source.new content }
+        ensures reads { TellsReads (S.failures source.old) (S.failures source.new) result }
+    {
+        // By this law the children of a chunk of a lawful tree are the trees below it.
+        tops_are_read();
+        let Some(child) = step_of(version, &self.chunk, self.mark, sought) else {
+            return Ok(Onward::End);
+        };
+        self.mark = child.passed;
+        let level = self.chunk[0];
+        let place = source.child(&mut self.place, level - 1, child.number)?;
+        let due = Due {
+            reference: child.reference,
+            above: Some(level),
+            sought: child.sought,
+        };
+        Ok(Onward::Below(due, place))
+    }
+}
+
+/// The chunk that is due in this place.
+pub(crate) fn chunk_at<T: Copy + Drop, S: ChunkSource<Place = T>>(
+    alloc: Global,
+    source: &mut S,
+    version: Version,
+    kept: Option<ChunkOnWay<T>>,
+    due: &Due<'_>,
+    place: T,
+) -> Result<ChunkOnWay<T>, RootFault>
+    requires { IfSome kept (IsTested version) }
+    ensures is { IfOk result (IsAtDue version due.now) }
+    ensures kept { (content : Content) → S.has source.old content → version ≡ content.version →
+        IfSome kept (StandsInPlace S.is_place content) →
+        StandsAtTree S.is_place content due.now.reference.0 due.now.above place →
+        IfOk result (StandsInPlace S.is_place content) }
+    ensures only { (content : Content) → S.has source.old content → version ≡ content.version →
+        IfSome kept (StandsInPlace S.is_place content) →
+        StandsAtTree S.is_place content due.now.reference.0 due.now.above place →
+        IfErr result MayFail }
+    ensures keeps { (content : Content) → S.has source.old content → S.has source.new content }
+    ensures reads { TellsReads (S.failures source.old) (S.failures source.new) result }
+{
+    // By this law the chunk with the reference of a lawful one is that one.
+    tops_are_read();
+    let chunk = kept_or_read(alloc, source, version, kept, due.reference, place)?;
+    if !falls_to(due.above, &chunk.chunk) {
+        return Err(RootFault::Level {
+            chunk: S::number(&place),
+        });
+    }
+    Ok(chunk)
+}
+
+/// The chunk that was kept, where it has this reference, or else the one that stands in this place.
+fn kept_or_read<T: Copy + Drop, S: ChunkSource<Place = T>>(
+    alloc: Global,
+    source: &mut S,
+    version: Version,
+    kept: Option<ChunkOnWay<T>>,
+    reference: Ref,
+    place: T,
+) -> Result<ChunkOnWay<T>, RootFault>
+    requires { IfSome kept (IsTested version) }
+    ensures is { IfOk result (λ chunk. IsTested version chunk × (chunk.reference ≡ reference)) }
+    ensures kept { (content : Content) (above : Option ℕ) → S.has source.old content →
+        version ≡ content.version → IfSome kept (StandsInPlace S.is_place content) →
+        StandsAtTree S.is_place content reference.0 above place →
+        IfOk result (StandsInPlace S.is_place content) }
+    ensures only { (content : Content) (above : Option ℕ) → S.has source.old content →
+        version ≡ content.version → StandsAtTree S.is_place content reference.0 above place →
+        IfErr result MayFail }
+    ensures keeps { (content : Content) → S.has source.old content → S.has source.new content }
+    ensures reads { TellsReads (S.failures source.old) (S.failures source.new) result }
+{
+    match kept {
+        Some(chunk) if chunk.reference == reference => Ok(chunk),
+        _another => ChunkOnWay::read(alloc, source, version, reference, place),
+    }
+}
+
+/// Tests whether the chunk of this number has the reference and can be read.
+fn test(version: Version, chunk: &[u8], reference: &Ref, number: u64) -> Result<(), RootFault>
+    ensures named { OnOk result (IsNamed version reference.now.0 chunk.now) }
+    ensures fits { reference_of chunk.now ≡ reference.now.0 → IsOrdered version chunk.now →
+        IsOk result }
+    ensures read { IfErr result (λ fault. fault ≡ RootFault.Read → ⊥) }
+{
+    match test_chunk(version, chunk, reference) {
+        Ok(()) => Ok(()),
+        Err(flaw) => Err(RootFault::of_flaw(flaw, number)),
+    }
+}

@@ -1,0 +1,260 @@
+//! Looking up by the root again and again, in a tree of which no more is read than that wants.
+ghost use Rattle.std.specs.Prelude.{◌≡◌, ◌≤◌, [], length, option_map, IfOk, IfErr, IfSome, OnErr};
+ghost use Rattle.std.specs.Prelude.{None};
+ghost use Rattle.std.specs.List.{AllByRecursion};
+ghost use Rattle.std.specs.Option.{option_copied};
+ghost use Rattle.prolly_check.specs.Content.{Content};
+ghost use Rattle.prolly_check.specs.Counted.{pair_of};
+ghost use Rattle.prolly_check.specs.Sought.{sought_of};
+ghost use Rattle.prolly_check.specs.Way.{IsCountWay, IsWay};
+ghost use Rattle.prolly_entry.specs.Cut.{sha512_cut};
+ghost use Rattle.prolly_entry.specs.declared.version.Version.TheVariants.{Two};
+ghost use Rattle.prolly_root.specs.Descent.{IsDescent, IsTested, StandsInPlace, levels_of};
+ghost use Rattle.prolly_root.specs.RootFault.{MayFail, OnlyRead, TellsReads};
+ghost use Rattle.prolly_root.specs.Reader.{AreFirstFound, IsReaderOf, way_of};
+ghost use Rattle.prolly_tree.specs.File.{root_reference};
+
+use crate::look_up::chunk_on_way::ChunkOnWay;
+use crate::chunk_source::ChunkSource;
+use crate::look_up::descent::{Descent, go_down, with};
+use crate::root_fault::RootFault;
+use prolly_check::laws::tops_are_read;
+use prolly_check::{Sought, first_pairs_from, pair_sought, value_in};
+use prolly_entry::{Pair, Ref, Version};
+use std::alloc::{AllocError, Global};
+use std::marker::Model;
+use std::mem;
+
+/// Looks up by the root, in one tree, one look-up after another. Its chunks come from a
+/// [`ChunkSource`], which is lent to each call.
+///
+/// What is answered is what any map with this root has, unless a chunk of the way and another one
+/// have one reference: see [`laws::ways_are_right`](prolly_check::laws::ways_are_right). That holds
+/// whatever the source does, for nothing of it is believed: each chunk is compared with the
+/// reference in the one above it, and the first with the root.
+///
+/// It keeps the chunks of the last look-up, from the root down, and how far the frames below each
+/// were gone over. So look-ups of rising keys go over the frames of a file once, and read each
+/// chunk once. What is kept was compared with the reference above it and with the root: nothing
+/// that is answered depends on whether the source is that of the same tree. Where it is not, or has
+/// changed, a look-up may refuse it.
+#[derive(Drop)]
+pub struct Reader<T> {
+    version: Version,
+    root: Ref,
+    /// The place of the root.
+    top: T,
+    /// The chunks of the last look-up.
+    levels: Vec<ChunkOnWay<T>>,
+}
+
+// A reader is seen with all that it keeps.
+impl<T> Model for Reader<T> {
+    ghost use Rattle.std.specs.List.{AllByRecursion};
+    ghost use Rattle.prolly_root.specs.Descent.{IsTested};
+    ghost use Rattle.prolly_root.specs.Reader.{ReaderView};
+
+    ghost Value = { ReaderView T };
+
+    ghost view = { λ r. record {
+      version = r.version;
+      root = r.root.0;
+      top = r.top;
+      levels = r.levels.items;
+    } };
+
+    ghost invariant = { λ r. AllByRecursion (IsTested r.version) r.levels.items };
+}
+
+impl<T: Copy + Drop> Reader<T> {
+    /// A reader for the tree with this root, of chunks of this version. Both have to come from who
+    /// is trusted, and not from the source.
+    ///
+    /// Finds the root, for which a file's frames are gone over. Takes no memory.
+    pub fn open<S: ChunkSource<Place = T>>(
+        alloc: Global,
+        source: &mut S,
+        version: Version,
+        root: &Ref,
+    ) -> Result<Reader<T>, RootFault>
+        ensures of { IfOk result (λ reader. (reader.version ≡ version) × (reader.root ≡ root.now.0)) }
+        ensures kept { (content : Content) → S.has source.old content →
+            version ≡ content.version →
+            root.now.0 ≡ root_reference (sha512_cut content.bits) content.version content.pairs →
+            IfOk result (IsReaderOf S.is_place content) }
+
+        // A lawful tree with this root is never refused, nor is memory wanted.
+        ensures lawful { (content : Content) → S.has source.old content →
+            version ≡ content.version →
+            root.now.0 ≡ root_reference (sha512_cut content.bits) content.version content.pairs →
+            IfErr result OnlyRead }
+        ensures keeps { (content : Content) → S.has source.old content → S.has source.new content }
+        ensures reads { TellsReads (S.failures source.old) (S.failures source.new) result }
+    {
+        // By this law a lawful tree has the chunks that the root leads to.
+        tops_are_read();
+        let top = source.root(version)?;
+        Ok(Reader {
+            version,
+            root: *root,
+            top,
+            levels: Vec::new(alloc),
+        })
+    }
+
+    /// What the tree with the reader's root has at the key: its value, or none.
+    ///
+    /// The chunks that show it are kept until the next look-up. Takes memory for them and for the
+    /// value. After an `Err` nothing is kept, and the next look-up reads its chunks anew.
+    pub fn get<S: ChunkSource<Place = T>>(
+        &mut self,
+        alloc: Global,
+        source: &mut S,
+        key: &[u8],
+    ) -> Result<Option<Vec<u8>>, RootFault>
+        ensures of { (self.new.version ≡ self.old.version) × (self.new.root ≡ self.old.root) }
+        ensures found { IfOk result (λ value. IsWay self.old.version self.old.root key.now
+            (way_of self.new) (option_map (λ v. v.items) value)) }
+        ensures none { OnErr result (self.new.levels ≡ []) }
+        ensures kept { (content : Content) → S.has source.old content →
+            IsReaderOf S.is_place content self.old → IsReaderOf S.is_place content self.new }
+
+        // The tree that the reader was opened for is never refused.
+        ensures lawful { (content : Content) → S.has source.old content →
+            IsReaderOf S.is_place content self.old → IfErr result MayFail }
+        ensures keeps { (content : Content) → S.has source.old content → S.has source.new content }
+        ensures reads { TellsReads (S.failures source.old) (S.failures source.new) result }
+    {
+        let descent = self.descend(alloc, source, Sought::Key(key))?;
+        let value = copied(alloc, value_in(descent.last.pairs(self.version), key))?;
+        self.levels = with(descent.above, descent.last)?;
+        Ok(value)
+    }
+
+    /// The pair of this number, counted from 0 in the order of keys, that the tree with the reader's
+    /// root has, or none. Only chunks of version Two have the counts that this goes by.
+    ///
+    /// The chunks that show it are kept until the next look-up. Takes memory for them and for the
+    /// pair. After an `Err` nothing is kept, and the next look-up reads its chunks anew.
+    pub fn nth<S: ChunkSource<Place = T>>(
+        &mut self,
+        alloc: Global,
+        source: &mut S,
+        n: u64,
+    ) -> Result<Option<Pair>, RootFault>
+        requires { self.old.version ≡ Two }
+        ensures of { (self.new.version ≡ self.old.version) × (self.new.root ≡ self.old.root) }
+        ensures found { IfOk result (IsCountWay self.old.root n (way_of self.new)) }
+        ensures none { OnErr result (self.new.levels ≡ []) }
+        ensures kept { (content : Content) → S.has source.old content →
+            IsReaderOf S.is_place content self.old → IsReaderOf S.is_place content self.new }
+
+        // The tree that the reader was opened for is never refused.
+        ensures lawful { (content : Content) → S.has source.old content →
+            IsReaderOf S.is_place content self.old → IfErr result MayFail }
+        ensures keeps { (content : Content) → S.has source.old content → S.has source.new content }
+        ensures reads { TellsReads (S.failures source.old) (S.failures source.new) result }
+    {
+        let descent = self.descend(alloc, source, Sought::Number(n))?;
+        let pair = copy_of(
+            alloc,
+            pair_sought(descent.last.pairs(self.version), descent.sought),
+        )?;
+        self.levels = with(descent.above, descent.last)?;
+        Ok(pair)
+    }
+
+    /// The first pairs that the tree with the reader's root has from the key on: those of one leaf,
+    /// at most `most` of them. The others are those from behind the last of these on, at which the
+    /// next look-up begins; where there are none, and `most` is not 0, the tree has none.
+    ///
+    /// The chunks that show it are kept until the next look-up. Takes memory for them and for the
+    /// pairs. After an `Err` nothing is kept, and the next look-up reads its chunks anew.
+    pub fn pairs_from<S: ChunkSource<Place = T>>(
+        &mut self,
+        alloc: Global,
+        source: &mut S,
+        from: &[u8],
+        most: usize,
+    ) -> Result<Vec<Pair>, RootFault>
+        ensures of { (self.new.version ≡ self.old.version) × (self.new.root ≡ self.old.root) }
+        ensures found { IfOk result (λ pairs. AreFirstFound self.old.version self.old.root
+            from.now most (way_of self.new) pairs.items) }
+        ensures none { OnErr result (self.new.levels ≡ []) }
+        ensures kept { (content : Content) → S.has source.old content →
+            IsReaderOf S.is_place content self.old → IsReaderOf S.is_place content self.new }
+
+        // The tree that the reader was opened for is never refused.
+        ensures lawful { (content : Content) → S.has source.old content →
+            IsReaderOf S.is_place content self.old → IfErr result MayFail }
+        ensures keeps { (content : Content) → S.has source.old content → S.has source.new content }
+        ensures reads { TellsReads (S.failures source.old) (S.failures source.new) result }
+    {
+        let descent = self.descend(alloc, source, Sought::Key(from))?;
+        let pairs = first_pairs_from(alloc, descent.last.pairs(self.version), from, most)?;
+        self.levels = with(descent.above, descent.last)?;
+        Ok(pairs)
+    }
+
+    /// How many chunks show what the last look-up has found.
+    pub fn chunks(&self) -> usize
+        ensures { result ≡ length (way_of self.now) }
+    {
+        self.levels.len()
+    }
+
+    /// Goes down from the root. What was kept is taken out of the reader.
+    fn descend<'a, S: ChunkSource<Place = T>>(
+        &mut self,
+        alloc: Global,
+        source: &mut S,
+        sought: Sought<'a>,
+    ) -> Result<Descent<'a, T>, RootFault>
+        ensures of { (self.new.version ≡ self.old.version) × (self.new.root ≡ self.old.root) ×
+            (self.new.top ≡ self.old.top) × (self.new.levels ≡ []) }
+        ensures found { IfOk result
+            (IsDescent self.old.version self.old.root (sought_of sought.entry)) }
+        ensures levels { IfOk result (λ descent.
+            AllByRecursion (IsTested self.old.version) (levels_of descent)) }
+        ensures kept { (content : Content) → S.has source.old content →
+            IsReaderOf S.is_place content self.old → IfOk result (λ descent.
+            AllByRecursion (StandsInPlace S.is_place content) (levels_of descent)) }
+        ensures only { (content : Content) → S.has source.old content →
+            IsReaderOf S.is_place content self.old → IfErr result MayFail }
+        ensures keeps { (content : Content) → S.has source.old content → S.has source.new content }
+        ensures reads { TellsReads (S.failures source.old) (S.failures source.new) result }
+    {
+        let kept = mem::replace(&mut self.levels, Vec::new(alloc));
+        go_down(
+            alloc,
+            source,
+            self.version,
+            &self.root,
+            self.top,
+            kept,
+            sought,
+        )
+    }
+}
+
+/// A copy of the value.
+fn copied(alloc: Global, value: Option<&[u8]>) -> Result<Option<Vec<u8>>, AllocError>
+    ensures { IfOk result (λ copy. option_map (λ v. v.items) copy ≡ option_copied value.entry) }
+{
+    match value {
+        None => Ok(None),
+        Some(value) => Ok(Some(Vec::from_slice(alloc, value)?)),
+    }
+}
+
+/// A copy of the pair.
+fn copy_of(alloc: Global, pair: Option<(&[u8], &[u8])>) -> Result<Option<Pair>, AllocError>
+    requires { IfSome pair (λ pair. (length pair.0.now ≤ 1024) ×
+        (length pair.1.now ≤ 65536)) }
+    ensures { IfOk result (λ copy. copy ≡ pair_of pair.entry) }
+{
+    match pair {
+        None => Ok(None),
+        Some((key, value)) => Ok(Some(Pair::copy_of(alloc, key, value)?)),
+    }
+}

@@ -1,0 +1,48 @@
+//! Why bytes prove nothing.
+ghost use Rattle.prolly_root.specs.ProofFault.{fault_of};
+
+use prolly_check::ChunkFlaw;
+
+/// The first fault of bytes that are no proof. Chunks are numbered from 0, which is the root's.
+#[derive(Clone, Copy, Debug, PartialEq, Eq)]
+pub enum ProofFault {
+    /// The bytes do not begin as a proof does: they are something else.
+    Header,
+    /// They begin as a proof over chunks of the other version: make it over the right tree, or
+    /// verify it by the version that this tree has.
+    Version,
+    /// They end before the proof does: a part of it was lost.
+    Truncated,
+    /// Where this chunk's frame should begin there is a byte that begins none.
+    Frame { chunk: usize },
+    /// This chunk is not the one that the chunk above it, or the root, refers to: it was changed,
+    /// or it is of another tree.
+    Reference { chunk: usize },
+    /// This chunk is the one that is referred to, but not a level and whole lawful entries of that
+    /// level's kind: no tree has it.
+    Chunk { chunk: usize },
+    /// In this chunk, which is the one that is referred to, a key is not greater than the one
+    /// before it: no tree has it.
+    KeysOutOfOrder { chunk: usize },
+    /// This chunk is the one that is referred to, but does not stand one level below the one above
+    /// it: no tree has it there.
+    Level { chunk: usize },
+    /// Bytes follow the proof.
+    Trailing,
+}
+
+impl ProofFault {
+    ghost use Rattle.std.specs.Prelude.{◌≡◌};
+
+    /// The fault that the chunk of this number has.
+    pub(crate) fn of_flaw(flaw: ChunkFlaw, chunk: usize) -> ProofFault
+        ensures { result ≡ fault_of chunk flaw }
+    {
+        match flaw {
+            ChunkFlaw::Reference => ProofFault::Reference { chunk },
+            ChunkFlaw::Entries => ProofFault::Chunk { chunk },
+            ChunkFlaw::Order => ProofFault::KeysOutOfOrder { chunk },
+            ChunkFlaw::Level => ProofFault::Level { chunk },
+        }
+    }
+}
