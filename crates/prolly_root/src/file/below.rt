@@ -2,9 +2,9 @@
 ghost use Rattle.std.specs.Prelude.{◌≡◌, ◌≤◌, ℕ, length, IfOk, IfErr, IfSome};
 
 use crate::file::marks::{Marks, Reached};
-use crate::root_fault::RootFault;
 use crate::file::subtree::Place;
 use crate::file::walk::Walk;
+use crate::root_fault::RootFault;
 use prolly_file::Device;
 
 /// The frames below a chunk, as far as they were gone over.

@@ -7,9 +7,9 @@ ghost use Rattle.prolly_root.specs.Walk.{HoldsFile, IsFrame, StaysSame};
 
 use crate::chunk_source::ChunkSource;
 use crate::file::marks::Marks;
-use crate::root_fault::RootFault;
 use crate::file::subtree::{Place, Subtree};
 use crate::file::walk::{Frame, Walk};
+use crate::root_fault::RootFault;
 use prolly_entry::Version;
 use prolly_file::Device;
 use std::alloc::Global;

@@ -7,8 +7,8 @@ ghost use Rattle.prolly_root.specs.Descent.{IsDescent, IsTested, StandsInPlace, 
 ghost use Rattle.prolly_root.specs.Descent.{levels_of};
 ghost use Rattle.prolly_root.specs.RootFault.{MayFail, TellsReads};
 
-use crate::look_up::chunk_on_way::{ChunkOnWay, Onward, chunk_at};
 use crate::chunk_source::ChunkSource;
+use crate::look_up::chunk_on_way::{ChunkOnWay, Onward, chunk_at};
 use crate::root_fault::RootFault;
 use prolly_check::{Due, Sought};
 use prolly_entry::{Ref, Version};

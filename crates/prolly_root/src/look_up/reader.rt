@@ -14,8 +14,8 @@ ghost use Rattle.prolly_root.specs.RootFault.{MayFail, OnlyRead, TellsReads};
 ghost use Rattle.prolly_root.specs.Reader.{AreFirstFound, IsReaderOf, way_of};
 ghost use Rattle.prolly_tree.specs.File.{root_reference};
 
-use crate::look_up::chunk_on_way::ChunkOnWay;
 use crate::chunk_source::ChunkSource;
+use crate::look_up::chunk_on_way::ChunkOnWay;
 use crate::look_up::descent::{Descent, go_down, with};
 use crate::root_fault::RootFault;
 use prolly_check::laws::tops_are_read;
