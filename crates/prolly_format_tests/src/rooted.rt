@@ -92,7 +92,7 @@ pub(crate) fn expect_shown(rt: &impl Abort, shown: &Shown, expected: (usize, Opt
 
 /// Looks up over devices whose first call fails, whose second does, and so on to one none of whose
 /// calls does, and compares what is found. Where a call fails the answer says so, and the next
-/// look-up over the same device finds what is there.
+/// look-up over the device that is given back finds what is there.
 fn expect_found(
     rt: &impl Abort,
     alloc: Global,
@@ -110,7 +110,8 @@ fn expect_found(
                 return Ok(());
             }
         }
-        let shown = look_up(rt, alloc, &mut chunks, rooted, sought)?;
+        let mut again = FileChunks::new(chunks.into_device());
+        let shown = look_up(rt, alloc, &mut again, rooted, sought)?;
         expect_shown(rt, &shown, expected);
     }
     Err("too many calls".into())

@@ -42,9 +42,12 @@ impl<D: Device> FileChunks<D> {
         }
     }
 
-    /// The device.
+    /// The device. What was remembered of its file is forgotten.
     pub fn into_device(self) -> D
-        ensures { result ≡ self.device }
+        ensures failures { (D.seen result).failures ≡
+            ⟦<FileChunks<D> as ChunkSource>⟧.failures self }
+        ensures has { (content : Content) → ⟦<FileChunks<D> as ChunkSource>⟧.has self content →
+            HoldsFile (D.seen result) content }
     {
         self.device
     }

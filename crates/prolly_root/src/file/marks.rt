@@ -70,7 +70,7 @@ impl Mark {
 /// They have a fixed size, so that to find the root takes no memory. In each part of the file it is
 /// the last place behind a chunk of the highest level there. So a look-up that sets out from the
 /// nearest of them goes over some thirty-second part of the frames.
-#[derive(Clone, Copy)]
+#[derive(Drop)]
 pub(crate) struct Marks {
     /// What has no parent yet, by level.
     runs: [Run; LEVELS],

@@ -12,7 +12,7 @@ use prolly_file::{
 };
 
 /// A chunk of a file, of which the level was read.
-#[derive(Clone, Copy, PartialEq, Eq)]
+#[derive(Clone, Copy)]
 pub(crate) struct Frame {
     /// Its number in the file, counted from 0.
     pub(crate) number: u64,
@@ -25,7 +25,7 @@ pub(crate) struct Frame {
 }
 
 /// A place between two frames of a file: where the next one begins.
-#[derive(Clone, Copy, PartialEq, Eq)]
+#[derive(Clone, Copy)]
 pub(crate) struct Walk {
     offset: u64,
     /// The number of the chunk whose frame is next.
