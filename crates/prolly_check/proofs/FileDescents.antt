@@ -1,6 +1,5 @@
 -- Going down the tree of a file that was checked.
-use Rattle.std.proofs.Common.{◌≡◌, ℕ, suc, ◌<◌, ◌≤◌, inl, inr, ◌⊎◌, List, [], ◌∷◌, ◌++◌}
-use Rattle.std.proofs.Common.{length}
+use Rattle.std.proofs.Common.{◌≡◌, ℕ, suc, ◌<◌, ◌≤◌, inl, inr, ◌⊎◌, List, [], ◌∷◌, ◌++◌, length}
 use Rattle.std.proofs.Common.{map, refl, sym, ap, ◌∙◌, subst, arith}
 use Rattle.std.specs.Borrow.{Bor}
 use Rattle.std.specs.List.{AllByRecursion}
@@ -8,9 +7,9 @@ use Rattle.std.proofs.lemmas.List.{length-append, map-append}
 use Rattle.prolly_entry.specs.Pair.{Pair}
 use Rattle.prolly_entry.specs.Reference.{reference_of}
 use Rattle.prolly_entry.specs.lemmas.Lists.{all_append}
-use Rattle.prolly_laws.specs.Trees.{top_in}
 use Rattle.prolly_tree.specs.Chunk.{IsIn, chunk_of}
 use Rattle.prolly_tree.specs.Tree.{bytes_of, pairs_below}
+use Rattle.prolly_laws.specs.Trees.{top_in}
 use Rattle.prolly_check.specs.Checked.{HasFile, HasReference, chunks_of}
 use Rattle.prolly_check.specs.Content.{Content}
 use Rattle.prolly_check.specs.FileWays.{IsCounted, IsEnd, IsNamedAt, IsNext, IsTop, nth_chunk}
@@ -25,7 +24,7 @@ use Rattle.prolly_check.specs.declared.look_up.descent.At.{At}
 use Rattle.prolly_check.specs.lemmas.Ways.{lead_more}
 use Rattle.prolly_check.proofs.Chosen.{CanCount}
 use Rattle.prolly_check.proofs.FewPairs.{few_pairs}
-use Rattle.prolly_check.proofs.Lookups.{one_chunk, reference_leads, root_is}
+use Rattle.prolly_check.proofs.Lookups.{one_chunk, root_is}
 use Rattle.prolly_check.proofs.Standing.{Tells, stands_in_all}
 use Rattle.prolly_check.proofs.TreeTops.{top_is_read}
 use Rattle.prolly_check.proofs.TreeWays.{GoesTo, goes_to, way_right}
@@ -76,10 +75,12 @@ module _ (content : Content) (f : HasFile content) (number : ℕ) (top : IsTop c
     pub one_below : (n : ℕ) → HasAt (chunks_of content) n reference →
         IsTop content n × (level_of (nth_chunk content number) ≡ suc (level_of (nth_chunk content n)))
         × IsCounted content.version next
+    unfolding to is_there_below
     one_below n at =
         let is : nth_chunk content n ≡ bytes_of content.version to.level to.t =
-        (reference_leads content.version).0 (chunks_of content) to.level to.t (nth_chunk content n)
-        f.is.apart to.at.of.has (is_there (chunks_of content) n at.within) (at.is ∙ to.named) in
+        one_chunk (chunks_of content) (nth_chunk content n)
+        (bytes_of content.version to.level to.t) f.is.apart
+        (is_there (chunks_of content) n at.within) is_there_below.is_in (at.is ∙ to.named) in
         let few : length (pairs_below to.level to.t) ≤ length (pairs_below top.level top.tree) =
         part to.at.stands.before (pairs_below to.level to.t) to.at.stands.after
         (pairs_below top.level top.tree) to.at.stands.are in (

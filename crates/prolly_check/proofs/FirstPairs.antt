@@ -9,10 +9,10 @@ use Rattle.prolly_entry.specs.Pair.{Pair}
 use Rattle.prolly_entry.specs.lemmas.Lists.{all_append, all_back}
 use Rattle.prolly_tree.specs.LookUp.{find}
 use Rattle.prolly_tree.specs.Tree.{last_key}
-use Rattle.prolly_tree.specs.lemmas.Maps.{Above, Rises, rises_back, rises_front}
+use Rattle.prolly_tree.specs.lemmas.Maps.{Above, Rises, find_above, rises_back, rises_front}
 use Rattle.prolly_check.specs.Leaves.{pairs_from}
 use Rattle.prolly_check.specs.ScanWay.{AreFirstFrom, next_key}
-use Rattle.prolly_check.proofs.Lookups.{above_last, above_not, all_below, find_above, find_first}
+use Rattle.prolly_check.proofs.Lookups.{above_last, above_not, all_below, find_first}
 use Rattle.prolly_check.proofs.Lookups.{find_over}
 use Rattle.prolly_check.proofs.NextKeys.{below_next, least_above}
 use Rattle.prolly_check.proofs.Scans.{from_all, none_from, pairs_from-append}

@@ -1,35 +1,31 @@
 -- How a look-up goes down a tree.
 use Rattle.std.proofs.Common.{◌≡◌, ℕ, zero, suc, ◌+◌, ◌<◌, inl, inr, false, cond, List, [], ◌∷◌}
 use Rattle.std.proofs.Common.{◌++◌, length, Some, None, Ordering, refl, sym, ap, ◌∙◌, subst, arith}
-use Rattle.std.proofs.Common.{append-nil, map}
-use Rattle.std.specs.declared.cmp.Ordering.TheVariants.{Less, Equal, Greater}
-use Rattle.std.specs.Ordering.{is_lt, is_eq}
+use Rattle.std.proofs.Common.{map}
 use Rattle.std.specs.List.{flat_map, slice_get, AllByRecursion}
+use Rattle.std.specs.Ordering.{is_lt, is_eq}
+use Rattle.std.specs.declared.cmp.Ordering.TheVariants.{Less, Equal, Greater}
 use Rattle.std.proofs.lemmas.Bool.{cond-false, false≢true}
 use Rattle.std.proofs.lemmas.List.Concat.{flat_map-append}
+use Rattle.prolly_entry.specs.Cut.{sha512_cut}
 use Rattle.prolly_entry.specs.Keys.{key_order, KeyBelow, Rising, RisingFrom}
 use Rattle.prolly_entry.specs.Pair.{Pair, IsPair}
-use Rattle.prolly_entry.specs.declared.version.Version.{Version}
 use Rattle.prolly_entry.specs.Reference.{reference_of}
-use Rattle.prolly_tree.specs.Tree.{Tree, pairs_below, greatest_key, bytes_of, last_key, pair_count}
-use Rattle.prolly_tree.specs.Tree.{tree_of, child_entry, grow}
+use Rattle.prolly_entry.specs.declared.version.Version.{Version}
+use Rattle.prolly_entry.specs.lemmas.Lists.{all_front, all_back, all_append}
+use Rattle.prolly_entry.specs.lemmas.Orders.{order_trans, order_same, greater_below, not_eq_below}
 use Rattle.prolly_tree.specs.Chunk.{Chunk, chunk_of, post_order, IsIn, chunks}
 use Rattle.prolly_tree.specs.LookUp.{find}
-use Rattle.prolly_check.specs.Verdict.{AllApart}
-use Rattle.prolly_check.specs.Descent.{ReferenceLeads, FindInChild, FindInNone, NthInChild}
-use Rattle.prolly_check.specs.Descent.{NodeFull, StandsAtRoot, FirstEntry, StepsDown, IsTreeOf}
-use Rattle.prolly_tree.specs.lemmas.Trees.{in_front, in_back, Full, full_pairs}
-use Rattle.prolly_laws.specs.Trees.{top_in, tree_full, pairs_are}
-use Rattle.prolly_tree.specs.lemmas.Maps.{last_key_short, Above, Rises, rises, rises_front}
-use Rattle.prolly_tree.specs.lemmas.Maps.{rises_back, above_key, above_more, has_last}
-use Rattle.prolly_entry.specs.lemmas.Spellings.{reference_length, child_spellings_apart}
-use Rattle.prolly_entry.specs.lemmas.Orders.{order_trans, order_same, greater_below, not_eq_below}
-use Rattle.prolly_entry.specs.lemmas.Orders.{not_eq_above}
-use Rattle.prolly_entry.specs.Cut.{sha512_cut}
 use Rattle.prolly_tree.specs.Split.{split}
+use Rattle.prolly_tree.specs.Tree.{Tree, pairs_below, greatest_key, last_key, tree_of, grow}
+use Rattle.prolly_tree.specs.lemmas.Maps.{Above, Rises, rises, rises_front, rises_back, above_key}
+use Rattle.prolly_tree.specs.lemmas.Maps.{above_more, has_last}
+use Rattle.prolly_tree.specs.lemmas.Trees.{in_front, in_back, Full, full_pairs}
+use Rattle.prolly_laws.specs.Trees.{tree_full, pairs_are}
 use Rattle.prolly_file.specs.Scratch.{keys_in}
-use Rattle.prolly_entry.specs.lemmas.Lists.{all_front, all_back, all_append}
+use Rattle.prolly_check.specs.Descent.{HasTree, IsTreeOf, NodeFull}
 use Rattle.prolly_check.specs.Judged.{chunk_bytes}
+use Rattle.prolly_check.specs.Verdict.{AllApart}
 
 -- ---- references
 
@@ -60,15 +56,14 @@ in_child version level before after t c h = subst (IsIn c)
     (flat_map (post_order version level) (t ∷ after))
     (in_front c (post_order version level t) (flat_map (post_order version level) after) h))
 
-pub reference_leads : (version : Version) → ReferenceLeads version
-reference_leads version = (
-  λ cs level t chunk apart has is_in e. one_chunk cs chunk (bytes_of version level t) apart is_in
-      (has (chunk_of version level t) (top_in version level t)) e,
-  λ cs level before after t has c h. has c (in_front c
-      (flat_map (post_order version level) (before ++ t ∷ after))
-      (chunk_of version (suc level) (before ++ t ∷ after) ∷ [])
-      (in_child version level before after t c h)),
-)
+-- what has a node has its children
+has_child : (version : Version) (chunks : List (List ℕ)) (level : ℕ)
+    (before after : List (Tree level)) (t : Tree level) →
+    HasTree version chunks (suc level) (before ++ t ∷ after) → HasTree version chunks level t
+has_child version chunks level before after t has c h = has c (in_front c
+    (flat_map (post_order version level) (before ++ t ∷ after))
+    (chunk_of version (suc level) (before ++ t ∷ after) ∷ [])
+    (in_child version level before after t c h))
 
 -- ---- keys
 
@@ -93,11 +88,6 @@ trees_below level (t ∷ ts) key h k =
     let rest = flat_map (pairs_below level) ts in
     all_append (λ p. KeyBelow p.key key) own rest (all_below own key (rises_front own rest h) k.0)
     (trees_below level ts key (rises_back own rest h) k.1)
-
-pub find_above : (ps : List Pair) (key : List ℕ) → Above key ps → find ps key ≡ None
-find_above [] key h = refl
-find_above (p ∷ ps) key h = cond-false (is_eq (key_order p.key key)) (Some p.value) (find ps key)
-    (not_eq_above key p.key h.0) ∙ find_above ps key h.1
 
 pub find_over : (xs ys : List Pair) (key : List ℕ) → AllByRecursion (λ p. KeyBelow p.key key) xs →
     find (xs ++ ys) key ≡ find ys key
@@ -125,28 +115,6 @@ above_not x key ps h k = go (key_order x key) refl h
     go Equal e l = subst (λ y. Above y ps) (order_same x key e) k
     go Greater e l = above_more key x ps (greater_below x key e) k
 
-pub find_in_none : FindInNone
-find_in_none level ts key h k =
-    let ps = flat_map (pairs_below level) ts in
-    ap (λ ps. find ps key) (sym (append-nil ps)) ∙
-    find_over ps [] key (trees_below level ts key (rises ps h) k)
-
-pub find_in_child : FindInChild
-find_in_child level before after t key h some past here =
-    let a = flat_map (pairs_below level) before in
-    let b = pairs_below level t in
-    let c = flat_map (pairs_below level) after in
-    let whole : flat_map (pairs_below level) (before ++ t ∷ after) ≡ a ++ (b ++ c) =
-    flat_map-append (pairs_below level) before (t ∷ after) in
-    let r : Rises (a ++ (b ++ c)) = subst Rises whole
-    (rises (flat_map (pairs_below level) (before ++ t ∷ after)) h) in
-    ap (λ ps. find ps key) whole
-    ∙ find_over a (b ++ c) key (trees_below level before key (rises_front a (b ++ c) r) past)
-    ∙ find_first b c key (find_above c key (above_not (greatest_key level t) key c here
-    (above_last b c some (rises_back a (b ++ c) r))))
-
--- ---- places
-
 pub nth_front : (xs ys : List Pair) (n : ℕ) → n < length xs → slice_get (xs ++ ys) n ≡ slice_get xs n
 nth_front [] ys n h = absurd (omega arith)
 nth_front (x ∷ xs) ys zero h = refl
@@ -157,12 +125,6 @@ pub nth_back : (xs ys : List Pair) (n : ℕ) → slice_get (xs ++ ys) (length xs
 nth_back [] ys n = let e : 0 + n ≡ n = omega arith in rw e refl
 nth_back (x ∷ xs) ys n = let e : suc (length xs) + n ≡ suc (length xs + n) = omega arith in
     rw e (nth_back xs ys n)
-
-pub nth_in_child : NthInChild
-nth_in_child level t ts n = (
-  nth_front (pairs_below level t) (flat_map (pairs_below level) ts) n,
-  nth_back (pairs_below level t) (flat_map (pairs_below level) ts) n,
-)
 
 -- ---- the trees of a map
 
@@ -230,7 +192,7 @@ module _ (version : Version) (chunks : List (List ℕ)) (level : ℕ) (before af
       let whole : flat_map (pairs_below level) (before ++ t ∷ after) ≡ pre ++ (own ++ rest) =
       flat_map-append (pairs_below level) before (t ∷ after) in
       record {
-        has = (reference_leads version).1 chunks level before after t b.has;
+        has = has_child version chunks level before after t b.has;
         lawful = all_front IsPair own rest (all_back IsPair pre (own ++ rest)
             (subst (AllByRecursion IsPair) whole b.lawful));
         rising = rising_is own (rises_front own rest
@@ -238,37 +200,3 @@ module _ (version : Version) (chunks : List (List ℕ)) (level : ℕ) (before af
             (rises (flat_map (pairs_below level) (before ++ t ∷ after)) b.rising))));
         full = good.0.1;
       }
-
--- ---- the laws of a look-up
-
-pub stands_at_root : StandsAtRoot
-stands_at_root version bits m key lawful rising =
-    let t = tree_of (sha512_cut bits) version m in
-    record {
-      level = t.level;
-      tree = t.tree;
-      is = refl;
-      below = root_is version bits m lawful rising;
-      same =
-          ap (λ ps. find ps key) (sym (pairs_are (sha512_cut bits) version m));
-    }
-
-pub first_entry : (version : Version) → FirstEntry version
-first_entry version level t ts child rest h lawful e =
-    child_spellings_apart version child.key (greatest_key level t) child.reference
-    (reference_of (bytes_of version level t)) child.count (pair_count level t)
-    rest (flat_map (child_entry version level) ts) h.key
-    (last_key_short (pairs_below level t) lawful)
-    (h.reference ∙ sym (reference_length (bytes_of version level t))) e
-
-pub steps_down : (version : Version) → StepsDown version
-steps_down version chunks m key chunk next level before after t apart b same past here is_in e =
-    let below = child_is version chunks level before after t b in
-    record {
-      level = level;
-      tree = t;
-      is = (reference_leads version).0 chunks level t next apart below.has is_in e;
-      below = below;
-      same = same ∙ find_in_child level before after t key b.rising
-          (child_some version chunks level before after t b) past here;
-    }

@@ -1,25 +1,24 @@
 -- Bytes have one verdict.
-use Rattle.std.proofs.Common.{◌≡◌, ℕ, suc, true, List, [], ◌∷◌, ◌++◌}
-use Rattle.std.proofs.Common.{length, drop, Option, Some, None, Result, Ok, Err, refl, sym, ap, ◌∙◌}
-use Rattle.std.proofs.Common.{subst, append_assoc}
+use Rattle.std.proofs.Common.{◌≡◌, ℕ, suc, true, List, [], ◌∷◌, ◌++◌, length, drop, Option, Some}
+use Rattle.std.proofs.Common.{None, Result, Ok, Err, refl, sym, ap, ◌∙◌, subst, append_assoc}
+use Rattle.std.specs.List.{flat_map, AllByRecursion}
 use Rattle.std.specs.Prelude.{slice_index}
 use Rattle.std.proofs.lemmas.Bool.{false≢true}
-use Rattle.std.specs.List.{flat_map, AllByRecursion}
 use Rattle.prolly_entry.specs.Pair.{Pair}
 use Rattle.prolly_entry.specs.declared.version.Version.{Version}
+use Rattle.prolly_entry.specs.lemmas.Lists.{all_back}
 use Rattle.prolly_file.specs.Frame.{framed, has_no_frame, IsSmall}
 use Rattle.prolly_file.specs.FrameLaws.{begins_frame, one_front}
 use Rattle.prolly_file.specs.Header.{header_tests, header_fault, version_of}
 use Rattle.prolly_file.specs.declared.format.header.HeaderFault.{HeaderFault}
-use Rattle.prolly_check.specs.declared.fault.CheckFault.{CheckFault}
-use Rattle.prolly_check.specs.declared.fault.CheckFault.TheVariants.{BadChunk}
 use Rattle.prolly_check.specs.Content.{Content}
-use Rattle.prolly_check.specs.Frames.{ending_of}
 use Rattle.prolly_check.specs.Entries.{Holds, IsRead}
+use Rattle.prolly_check.specs.Frames.{ending_of}
 use Rattle.prolly_check.specs.Verdict.{ReadVerdict, EndVerdict, FramesVerdict, HeaderVerdict}
 use Rattle.prolly_check.specs.Verdict.{OneVerdict}
-use Rattle.prolly_entry.specs.lemmas.Lists.{all_back}
 use Rattle.prolly_check.specs.Whole.{IsWhole, AreWhole}
+use Rattle.prolly_check.specs.declared.fault.CheckFault.{CheckFault}
+use Rattle.prolly_check.specs.declared.fault.CheckFault.TheVariants.{BadChunk}
 use Rattle.prolly_check.proofs.HeldPairs.{lists_are, are_whole}
 
 head_is : {A : Type 0} (x y : A) (xs ys : List A) → x ∷ xs ≡ y ∷ ys → x ≡ y

@@ -5,8 +5,7 @@ use Rattle.prolly_entry.specs.Pair.{Pair}
 use Rattle.prolly_tree.specs.lemmas.Trees.{in_back, in_front}
 use Rattle.prolly_check.specs.Judged.{chunk_bytes}
 use Rattle.prolly_check.specs.Leaves.{pairs_from}
-use Rattle.prolly_check.specs.ScanWay.{AreFirstFrom, HaveFirstFrom}
-use Rattle.prolly_check.specs.ScanWay.{ScansGoOn, from_behind, joined}
+use Rattle.prolly_check.specs.ScanWay.{AreFirstFrom, HaveFirstFrom, ScansGoOn, from_behind, joined}
 use Rattle.prolly_check.specs.Way.{Clash}
 use Rattle.prolly_check.proofs.TreeWays.{scans_are_right}
 

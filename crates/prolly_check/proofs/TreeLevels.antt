@@ -1,9 +1,8 @@
 -- The levels of the chunks of a tree.
-use Rattle.std.proofs.Common.{◌≡◌, ℕ, zero, suc, ◌+◌, ◌-◌, ◌<◌, ◌≤◌, cond, inl, inr, ◌⊎◌}
-use Rattle.std.proofs.Common.{List, [], ◌∷◌, ◌++◌, length, get_or, Some, sym, ap, ◌∙◌}
-use Rattle.std.proofs.Common.{subst, arith}
-use Rattle.std.specs.Prelude.{◌==◌}
+use Rattle.std.proofs.Common.{◌≡◌, ℕ, zero, suc, ◌+◌, ◌-◌, ◌<◌, ◌≤◌, cond, inl, inr, ◌⊎◌, List, []}
+use Rattle.std.proofs.Common.{◌∷◌, ◌++◌, length, get_or, Some, sym, ap, ◌∙◌, subst, arith}
 use Rattle.std.specs.List.{flat_map, slice_get, AllByRecursion}
+use Rattle.std.specs.Prelude.{◌==◌}
 use Rattle.std.proofs.lemmas.Bool.{cases_lt, eq-eqb}
 use Rattle.std.proofs.lemmas.List.{get_or_append_left, get_or_push, length-append}
 use Rattle.std.proofs.lemmas.List.Elements.{filter-append}
@@ -12,11 +11,11 @@ use Rattle.prolly_entry.specs.Cut.{sha512_cut}
 use Rattle.prolly_entry.specs.Pair.{Pair}
 use Rattle.prolly_entry.specs.declared.version.Version.{Version}
 use Rattle.prolly_entry.specs.lemmas.Lists.{all_append}
-use Rattle.prolly_laws.specs.Trees.{grow_is, tree_full}
 use Rattle.prolly_tree.specs.Chunk.{chunk_of, post_order}
 use Rattle.prolly_tree.specs.Split.{split}
 use Rattle.prolly_tree.specs.Tree.{LeveledTree, Tree, bytes_of, tree_of}
 use Rattle.prolly_tree.specs.lemmas.Trees.{Full}
+use Rattle.prolly_laws.specs.Trees.{grow_is, tree_full}
 use Rattle.prolly_check.specs.Levels.{AreLevels, AreOfMap, IsLevel, at_level}
 use Rattle.prolly_check.specs.Way.{level_of}
 use Rattle.prolly_check.specs.declared.count.Level.{Level}

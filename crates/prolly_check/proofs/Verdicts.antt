@@ -2,47 +2,46 @@
 use Rattle.std.proofs.Common.{◌≡◌, ◌↔◌, ℕ, zero, suc, ◌≤◌, Bool, true, false, not, ◌||◌, ◌==◌}
 use Rattle.std.proofs.Common.{nat_le, nat_lt, cond, List, [], ◌∷◌, ◌++◌, length, map, drop, Option}
 use Rattle.std.proofs.Common.{Some, None, Result, Ok, Err, Ordering, refl, sym, ap, ◌∙◌, subst}
-use Rattle.std.specs.declared.cmp.Ordering.TheVariants.{Less, Equal, Greater}
+use Rattle.std.specs.List.{flat_map, list_any, AllByRecursion}
 use Rattle.std.specs.Ordering.{is_lt}
 use Rattle.std.specs.Prelude.{slice_index}
 use Rattle.std.specs.Str.{bytes_eq}
-use Rattle.std.proofs.lemmas.Slice.Eq.{bytes_eq-Decides}
+use Rattle.std.specs.declared.cmp.Ordering.TheVariants.{Less, Equal, Greater}
 use Rattle.std.proofs.lemmas.Bool.{leb-true, false≢true, and_parts, and_from, or_parts, not-false}
 use Rattle.std.proofs.lemmas.Bool.{cond-true, cond-false, or_from, false_from_ne_true}
 use Rattle.std.proofs.lemmas.Bool.Decides.{Decides-eqb}
-use Rattle.std.specs.List.{flat_map, list_any, AllByRecursion}
+use Rattle.std.proofs.lemmas.Slice.Eq.{bytes_eq-Decides}
+use Rattle.prolly_entry.specs.Cut.{sha512_cut}
 use Rattle.prolly_entry.specs.Keys.{key_order, Rising, RisingFrom}
+use Rattle.prolly_entry.specs.Overlay.{or_else}
 use Rattle.prolly_entry.specs.Pair.{Pair, IsPair}
 use Rattle.prolly_entry.specs.Position.{Position}
-use Rattle.prolly_check.proofs.OrderSteps.{rises_append}
-use Rattle.prolly_entry.specs.declared.version.Version.TheVariants.{One, Two}
-use Rattle.prolly_entry.specs.declared.version.Version.{Version}
-use Rattle.prolly_entry.specs.Cut.{sha512_cut}
 use Rattle.prolly_entry.specs.Reference.{reference_of}
 use Rattle.prolly_entry.specs.Version.{version_byte}
+use Rattle.prolly_entry.specs.declared.version.Version.{Version}
+use Rattle.prolly_entry.specs.declared.version.Version.TheVariants.{One, Two}
+use Rattle.prolly_entry.specs.lemmas.Lists.{all_append}
 use Rattle.prolly_tree.specs.Chunk.{chunks}
 use Rattle.prolly_tree.specs.File.{header, frame}
-use Rattle.prolly_entry.specs.Overlay.{or_else}
+use Rattle.prolly_tree.specs.lemmas.Splits.{flat}
 use Rattle.prolly_file.specs.Frame.{framed}
 use Rattle.prolly_file.specs.FrameLaws.{frames_bytes}
 use Rattle.prolly_file.specs.Header.{header_tests, header_fault, version_of}
 use Rattle.prolly_file.specs.declared.format.header.HeaderFault.{HeaderFault}
 use Rattle.prolly_file.specs.declared.format.header.HeaderFault.TheVariants.{BadByte}
-use Rattle.prolly_check.specs.declared.fault.CheckFault.{CheckFault}
-use Rattle.prolly_check.specs.declared.fault.CheckFault.TheVariants.{Truncated, Trailing}
-use Rattle.prolly_check.specs.declared.fault.CheckFault.TheVariants.{BadEnd, BadFrame}
-use Rattle.prolly_check.specs.declared.fault.CheckFault.TheVariants.{KeysOutOfOrder, NotCanonical}
-use Rattle.prolly_check.specs.declared.fault.CheckFault.TheVariants.{Collision}
 use Rattle.prolly_check.specs.Content.{Content}
-use Rattle.prolly_check.specs.Frames.{ending_of, IsFramed}
 use Rattle.prolly_check.specs.Entries.{Holds, AllHold, IsRead}
-use Rattle.prolly_check.specs.Order.{rises_behind, last_behind}
+use Rattle.prolly_check.specs.Frames.{ending_of, IsFramed}
 use Rattle.prolly_check.specs.Judged.{order_fault, difference, end_fault, reuse, chunk_bytes}
 use Rattle.prolly_check.specs.Judged.{ending_for, canonical_fault, or_content, judged}
+use Rattle.prolly_check.specs.Order.{rises_behind, last_behind}
 use Rattle.prolly_check.specs.Verdict.{ReadVerdict, EndVerdict, HeaderVerdict, IsVerdict, AllApart}
 use Rattle.prolly_check.specs.Verdict.{IsFileOf}
-use Rattle.prolly_tree.specs.lemmas.Splits.{flat}
-use Rattle.prolly_entry.specs.lemmas.Lists.{all_append}
+use Rattle.prolly_check.specs.declared.fault.CheckFault.{CheckFault}
+use Rattle.prolly_check.specs.declared.fault.CheckFault.TheVariants.{Truncated, Trailing, BadEnd}
+use Rattle.prolly_check.specs.declared.fault.CheckFault.TheVariants.{BadFrame, KeysOutOfOrder}
+use Rattle.prolly_check.specs.declared.fault.CheckFault.TheVariants.{NotCanonical, Collision}
+use Rattle.prolly_check.proofs.OrderSteps.{rises_append}
 
 pub some_none : {A : Type 0} {x : A} → ◌≡◌ {A = Option A} (Some x) None → ⊥
 some_none e = cc

@@ -1,23 +1,22 @@
 -- The way down the tree of a file, chunk by chunk.
-use Rattle.std.proofs.Common.{◌≡◌, ℕ, zero, suc, ◌<◌, inl, inr, List, [], ◌∷◌, length}
-use Rattle.std.proofs.Common.{map, get_or, slice_index, refl, arith}
+use Rattle.std.proofs.Common.{◌≡◌, ℕ, zero, suc, ◌<◌, inl, inr, List, [], ◌∷◌, length, map, get_or}
+use Rattle.std.proofs.Common.{slice_index, refl, arith}
 use Rattle.std.specs.List.{flat_map, AllByRecursion}
-use Rattle.prolly_tree.specs.Chunk.{IsIn}
 use Rattle.prolly_entry.specs.Cut.{sha512_cut}
 use Rattle.prolly_entry.specs.Pair.{Pair, IsPair}
 use Rattle.prolly_entry.specs.Reference.{reference_of}
 use Rattle.prolly_entry.specs.Spelling.{pair_spelling}
-use Rattle.prolly_tree.specs.Tree.{Tree, LeveledTree, pairs_below, greatest_key, pair_count}
-use Rattle.prolly_tree.specs.Tree.{bytes_of, tree_of, child_entry}
 use Rattle.prolly_entry.specs.declared.version.Version.{Version}
 use Rattle.prolly_entry.specs.lemmas.Lists.{all_front, all_back}
-use Rattle.prolly_laws.specs.Trees.{pairs_are}
-use Rattle.prolly_tree.specs.lemmas.Maps.{last_key_short}
 use Rattle.prolly_entry.specs.lemmas.Spellings.{reference_length}
+use Rattle.prolly_tree.specs.Chunk.{IsIn}
+use Rattle.prolly_tree.specs.Tree.{Tree, LeveledTree, pairs_below, greatest_key, pair_count}
+use Rattle.prolly_tree.specs.Tree.{bytes_of, tree_of, child_entry}
+use Rattle.prolly_tree.specs.lemmas.Maps.{last_key_short}
+use Rattle.prolly_laws.specs.Trees.{pairs_are}
 use Rattle.prolly_check.specs.Content.{Content}
 use Rattle.prolly_check.specs.Descent.{child_of}
-use Rattle.prolly_check.specs.Entries.{first_child, behind_child, pairs_in}
-use Rattle.prolly_check.specs.Entries.{children_in}
+use Rattle.prolly_check.specs.Entries.{first_child, behind_child, pairs_in, children_in}
 use Rattle.prolly_check.proofs.EntryLists.{reads_all}
 use Rattle.prolly_check.proofs.LeafPairs.{leaf_pairs}
 use Rattle.prolly_check.proofs.NodeChildren.{child_shrinks, child_reads}
