@@ -1,35 +1,229 @@
--- What the steps of the checker find, in the words of the verdict.
-use Rattle.std.proofs.Common.{◌≡◌, ℕ, ◌≤◌, ◌^◌, ◌<◌, true, List, [], length, map, drop, Option}
-use Rattle.std.proofs.Common.{Some, None, Result, Ok, Err, inr, refl, sym, ap, ◌∙◌, subst, arith}
+-- What is known of a file that is checked, and of one that was accepted.
+use Rattle.std.proofs.Common.{◌≡◌, ℕ, zero, suc, ◌-◌, ◌^◌, ◌<◌, List, [], ◌∷◌, ◌++◌, length, map}
+use Rattle.std.proofs.Common.{get_or, Ok, Err, inl, inr, ◌⊎◌, refl, sym, ap, ◌∙◌, subst, arith, ◌≤◌}
+use Rattle.std.proofs.Common.{drop, length-drop, true, Option, Some, None, Result, ◌+◌, take}
+use Rattle.std.proofs.Common.{append_assoc, append-nil}
+use Rattle.std.specs.Int.{w64, to_be_bytes}
+use Rattle.std.specs.List.{flat_map, AllByRecursion}
 use Rattle.std.specs.Prelude.{slice_index}
-use Rattle.std.specs.List.{flat_map}
 use Rattle.std.specs.declared.ops.Range.{Range}
-use Rattle.prolly_entry.specs.Pair.{Pair}
-use Rattle.prolly_entry.specs.Overlay.{or_else}
-use Rattle.prolly_tree.specs.lemmas.Splits.{flat}
-use Rattle.prolly_check.specs.declared.fault.CheckFault.{CheckFault}
-use Rattle.prolly_file.specs.declared.format.header.Header.{Header}
-use Rattle.prolly_check.specs.Content.{Content}
-use Rattle.prolly_file.specs.Frame.{has_no_frame}
-use Rattle.prolly_file.specs.Header.{header_tests, header_fault, version_of}
-use Rattle.prolly_check.specs.Frames.{ending_of, IsFramed}
-use Rattle.prolly_check.specs.Spans.{chunk_in, chunks_in, FramesTo}
-use Rattle.prolly_check.specs.Entries.{IsBad, IsRead}
-use Rattle.prolly_check.specs.Whole.{AreWhole}
-use Rattle.prolly_check.specs.Held.{pairs_held}
-use Rattle.prolly_check.specs.Judged.{reuse, canonical_fault, or_content, judged}
-use Rattle.prolly_check.specs.Canonical.{Says}
-use Rattle.prolly_check.specs.declared.index.Index.{Index}
-use Rattle.prolly_check.specs.Index.{IsIndex}
-use Rattle.prolly_check.specs.Checked.{IsChecked, IsLaidOut, content_of, chunks_of}
-use Rattle.prolly_check.specs.Verdict.{ReadVerdict, FramesVerdict, HeaderVerdict, IsVerdict}
-use Rattle.prolly_check.specs.Verdict.{IsFileOf}
-use Rattle.prolly_check.proofs.Verdicts.{header_ok, ending_ok, canonical_ok, accepted_is_file}
-use Rattle.prolly_check.specs.Refusal.{UnlessMemory}
 use Rattle.std.proofs.Math.Logic.{⊎_map}
-use Rattle.std.proofs.lemmas.List.{length-map}
-use Rattle.prolly_check.proofs.FewPairs.{few_held}
-use Rattle.prolly_check.proofs.HeldPairs.{all_hold, flat_held}
+use Rattle.std.proofs.Math.Seq.{get_or-append_seam}
+use Rattle.std.proofs.lemmas.List.{length-append, length-map, map_push, length-take-le, drop-drop}
+use Rattle.std.proofs.lemmas.List.Concat.{flat_map-append}
+use Rattle.prolly_entry.specs.Cut.{sha512_cut}
+use Rattle.prolly_entry.specs.Overlay.{or_else}
+use Rattle.prolly_entry.specs.Pair.{Pair}
+use Rattle.prolly_entry.specs.Reference.{reference_of}
+use Rattle.prolly_entry.specs.Spelling.{pair_spelling}
+use Rattle.prolly_entry.specs.declared.version.Version.{Version}
+use Rattle.prolly_entry.specs.lemmas.Lists.{all_append}
+use Rattle.prolly_tree.specs.Chunk.{Chunk, chunk_of, chunks, post_order, IsIn}
+use Rattle.prolly_tree.specs.File.{header, frame, end_record, root_reference}
+use Rattle.prolly_tree.specs.Tree.{Tree, bytes_of, tree_of}
+use Rattle.prolly_tree.specs.lemmas.Splits.{flat}
+use Rattle.prolly_file.specs.Frame.{framed, has_no_frame, IsSmall, BeginsFrame}
+use Rattle.prolly_file.specs.FrameLaws.{frames_bytes}
+use Rattle.prolly_file.specs.Header.{header_tests, header_fault, version_of}
+use Rattle.prolly_file.specs.declared.format.header.Header.{Header}
+use Rattle.prolly_check.specs.Canonical.{Says}
+use Rattle.prolly_check.specs.Checked.{chunks_of, HasFile, IsChecked, content_of, IsLaidOut}
+use Rattle.prolly_check.specs.Content.{Content}
+use Rattle.prolly_check.specs.Entries.{IsBad, IsRead}
+use Rattle.prolly_check.specs.Frames.{ending_of, IsFramed}
+use Rattle.prolly_check.specs.Held.{pairs_held}
+use Rattle.prolly_check.specs.Index.{HasAt, IsIndex}
+use Rattle.prolly_check.specs.Judged.{chunk_bytes, reuse, canonical_fault, or_content, judged}
+use Rattle.prolly_check.specs.Missing.{size_of}
+use Rattle.prolly_check.specs.Refusal.{UnlessMemory}
+use Rattle.prolly_check.specs.Root.{root_bytes}
+use Rattle.prolly_check.specs.Spans.{chunks_in, FramesTo, chunk_in, IsWithin}
+use Rattle.prolly_check.specs.Verdict.{IsVerdict, IsFileOf, ReadVerdict, FramesVerdict}
+use Rattle.prolly_check.specs.Verdict.{HeaderVerdict}
+use Rattle.prolly_check.specs.Whole.{IsWhole, AreWhole}
+use Rattle.prolly_check.specs.declared.fault.CheckFault.{CheckFault}
+use Rattle.prolly_check.specs.declared.index.Index.{Index}
+use Rattle.prolly_check.proofs.EntryLists.{leaf_pairs}
+use Rattle.prolly_check.proofs.HeldPairs.{bytes_in, bytes_append, map_holds, each_whole, all_hold}
+use Rattle.prolly_check.proofs.HeldPairs.{flat_held}
+use Rattle.prolly_check.proofs.OneVerdict.{one_verdict}
+use Rattle.prolly_check.proofs.Verdicts.{file_is_accepted, ok_same, err_ok, header_ok, ending_ok}
+use Rattle.prolly_check.proofs.Verdicts.{canonical_ok, accepted_is_file}
+use Rattle.prolly_check.specs.declared.fault.CheckFault.TheVariants as faults
+
+-- ---- what is known of a file that was accepted
+
+-- bytes are the file of one map
+pub one_content : (bytes : List ℕ) (a b : Content) → length bytes < 2 ^ 64 → IsFileOf bytes a →
+    IsFileOf bytes b → a ≡ b
+one_content bytes a b short f g = ok_same a b
+    (one_verdict bytes (Ok a) (Ok b) (file_is_accepted bytes a short f)
+    (file_is_accepted bytes b short g))
+
+-- ---- the number of chunks, and the last one
+
+last_is : (version : Version) (level : ℕ) (t : Tree level) → (before : List Chunk) ×
+    (post_order version level t ≡ before ++ chunk_of version level t ∷ [])
+last_is version zero t = ([], refl)
+last_is version (suc level) ts = (flat_map (post_order version level) ts, refl)
+
+last_bytes : (before : List Chunk) (c : Chunk) →
+    get_or (map (λ c. c.bytes) (before ++ c ∷ [])) (length (before ++ c ∷ []) - 1) [] ≡ c.bytes
+last_bytes before c =
+    let e : length (before ++ c ∷ []) - 1 ≡ length (bytes_in before) =
+    omega (arith, length-append before (c ∷ []), length-map before (λ c. c.bytes)) in
+    rw (bytes_append before (c ∷ []), e) (get_or-append_seam (bytes_in before) c.bytes [] [])
+
+-- the chunks of a map are some, and the last is the root's
+pub chunks_some : (version : Version) (bits : ℕ) (pairs : List Pair) →
+    0 < length (chunk_bytes version bits pairs)
+chunks_some version bits pairs =
+    let tree = tree_of (sha512_cut bits) version pairs in
+    let l = last_is version tree.level tree.tree in
+    omega (
+      arith,
+      length-map (chunks (sha512_cut bits) version pairs) (λ c. c.bytes),
+      ap length l.1,
+      length-append l.0 (chunk_of version tree.level tree.tree ∷ []),
+    )
+
+pub chunks_last : (version : Version) (bits : ℕ) (pairs : List Pair) →
+    get_or (chunk_bytes version bits pairs) (length (chunk_bytes version bits pairs) - 1) []
+    ≡ bytes_of version (tree_of (sha512_cut bits) version pairs).level
+    (tree_of (sha512_cut bits) version pairs).tree
+chunks_last version bits pairs =
+    let tree = tree_of (sha512_cut bits) version pairs in
+    let l = last_is version tree.level tree.tree in
+    ap (λ n. get_or (chunk_bytes version bits pairs) (n - 1) [])
+    (length-map (chunks (sha512_cut bits) version pairs) (λ c. c.bytes))
+    ∙ ap (λ cs. get_or (map (λ c. c.bytes) cs) (length cs - 1) []) l.1 ∙
+    last_bytes l.0 (chunk_of version tree.level tree.tree)
+
+-- ---- no file is refused
+
+pub not_refused : (read bytes : List ℕ) (content : Content) (fault : CheckFault) →
+    length bytes < 2 ^ 64 → read ≡ bytes → IsFileOf bytes content →
+    UnlessMemory (λ fault. IsVerdict read (Err fault)) fault → (fault ≡ faults.Memory) ⊎
+    (fault ≡ faults.Read)
+not_refused read bytes content fault short e f (inl memory) = inl memory
+not_refused read bytes content fault short e f (inr v) =
+    absurd (err_ok (sym (one_verdict bytes (Ok content) (Err fault)
+    (file_is_accepted bytes content short f) (subst (λ b. IsVerdict b (Err fault)) e v))))
+
+-- ---- a file has no more pairs than bytes, and its chunks have no more bytes
+
+each_has_bytes : (pairs : List Pair) → length pairs ≤ length (flat_map pair_spelling pairs)
+each_has_bytes [] = omega arith
+each_has_bytes (p ∷ pairs) =
+    let more = each_has_bytes pairs in
+    let some : 1 ≤ length (pair_spelling p) = omega arith in
+    let e = length-append (pair_spelling p) (flat_map pair_spelling pairs) in
+    omega arith
+
+few_in_one : (version : Version) (chunk : List ℕ) → IsWhole version chunk →
+    length (pairs_held chunk) ≤ length chunk
+few_in_one version [] w = omega arith
+few_in_one version (zero ∷ entries) w =
+    let few = each_has_bytes w.pairs in
+    omega (arith, ap length w.holds.is, ap length (leaf_pairs entries w.pairs w.holds))
+few_in_one version (suc level ∷ entries) w = omega arith
+
+few_in_frames : (version : Version) (cs : List (List ℕ)) → AreWhole version cs →
+    length (flat_map pairs_held cs) ≤ length (flat_map framed cs)
+few_in_frames version [] w = omega arith
+few_in_frames version (c ∷ cs) w =
+    let here = few_in_one version c w.0 in
+    let more = few_in_frames version cs w.1 in
+    let pairs = length-append (pairs_held c) (flat_map pairs_held cs) in
+    let frames = length-append (framed c) (flat_map framed cs) in
+    let frame = length-append (0x43 ∷ to_be_bytes w64 (length c)) c in
+    omega arith
+
+pub few_held : (version : Version) (bytes : List ℕ) (spans : List (Range ℕ)) (place : ℕ) →
+    FramesTo bytes spans place → AreWhole version (chunks_in bytes spans) →
+    length (flat_map pairs_held (chunks_in bytes spans)) ≤ length bytes
+few_held version bytes spans place frames whole =
+    let few = few_in_frames version (chunks_in bytes spans) whole in
+    let size = ap length frames.spelled in
+    let parts = length-append (flat_map framed (chunks_in bytes spans)) (drop place bytes) in
+    let behind = length-drop 6 bytes in
+    omega arith
+
+frames_in : (bytes : List ℕ) (content : Content) → IsFileOf bytes content →
+    length (flat_map framed (chunks_of content)) ≤ length bytes
+frames_in bytes content f =
+    let cut = sha512_cut content.bits in
+    let frames = flat_map frame (chunks cut content.version content.pairs) in
+    let framed = ap length (frames_bytes (chunks cut content.version content.pairs)) in
+    let ending = end_record (root_reference cut content.version content.pairs)
+    (length (chunks cut content.version content.pairs)) in
+    let size = ap length f.is ∙ length-append (header content.version content.bits)
+    (frames ++ ending) in
+    let rest = length-append frames ending in
+    omega arith
+
+pub few_pairs : (bytes : List ℕ) (content : Content) → IsFileOf bytes content →
+    length content.pairs ≤ length bytes
+few_pairs bytes content f =
+    let holding = map_holds content.version content.bits content.pairs f.lawful in
+    let few = few_in_frames content.version (chunks_of content) holding.whole in
+    let all = ap length holding.are in
+    let frames = frames_in bytes content f in
+    omega arith
+
+-- nor have its chunks
+
+few_framed : (cs : List (List ℕ)) → size_of cs ≤ length (flat_map framed cs)
+few_framed [] = omega arith
+few_framed (c ∷ cs) =
+    let more = few_framed cs in
+    let bytes = length-append c (flat_map (λ c. c) cs) in
+    let frames = length-append (framed c) (flat_map framed cs) in
+    let frame = length-append (0x43 ∷ to_be_bytes w64 (length c)) c in
+    omega arith
+
+pub few_bytes : (bytes : List ℕ) (content : Content) → IsFileOf bytes content →
+    size_of (chunks_of content) ≤ length bytes
+few_bytes bytes content f =
+    let few = few_framed (chunks_of content) in
+    let frames = frames_in bytes content f in
+    omega arith
+
+-- ---- the chunks of a file that was checked, found by their numbers and their references
+
+-- the chunks are those of whatever the bytes are a file of
+pub chunks_are : (bytes : List ℕ) (header : Header) (spans : List (Range ℕ))
+    (index : Index) → IsChecked bytes header spans index → (content : Content) →
+    length bytes < 2 ^ 64 → IsFileOf bytes content → chunks_in bytes spans ≡ chunks_of content
+chunks_are bytes header spans index checked content short is =
+    checked.chunks_are ∙ ap chunks_of (one_content bytes
+    (content_of header (chunks_in bytes spans)) content short checked.is is)
+
+-- the last is the root
+pub root_there : (content : Content) (number : ℕ) → number ≡ length (chunks_of content) - 1 →
+    get_or (chunks_of content) number [] ≡ root_bytes content
+root_there content number is = ap (λ n. get_or (chunks_of content) n []) is ∙
+    chunks_last content.version content.bits content.pairs
+
+-- each is whole
+pub chunk_whole : (content : Content) (number : ℕ) → HasFile content →
+    number < length (chunks_of content) →
+    IsWhole content.version (get_or (chunks_of content) number [])
+chunk_whole content number has within = each_whole content.version (chunks_of content) number
+    (map_holds content.version content.bits content.pairs has.is.lawful).whole within
+
+-- a chunk that has a reference has a number
+pub number_of : (chunks : List (List ℕ)) (reference : List ℕ) (chunk : List ℕ) →
+    IsIn chunk chunks → reference_of chunk ≡ reference → (n : ℕ) × HasAt chunks n reference
+number_of [] reference chunk is_in is = absurd is_in
+number_of (c ∷ cs) reference chunk (inl e) is =
+    (0, record { within = omega arith; is = ap reference_of (sym e) ∙ is })
+number_of (c ∷ cs) reference chunk (inr there) is =
+    let at = number_of cs reference chunk there is in
+    let within = at.1.within in
+    (suc at.0, record { within = omega arith; is = at.1.is })
+
+-- ---- what the steps of the checker find, in the words of the verdict
 
 abbrev pub Refused : List ℕ → CheckFault → Type 0
 Refused bytes fault = UnlessMemory (λ fault. IsVerdict bytes (Err fault)) fault
@@ -162,3 +356,43 @@ module _ (bytes : List ℕ) (header : Header) (spans : List (Range ℕ)) (place 
                   whole = l.whole;
                   indexed = subst (IsIndex index) are indexed;
                 }
+
+-- ---- one more frame of a file
+
+pub one_more : (bytes : List ℕ) (spans : List (Range ℕ)) (place len : ℕ) → FramesTo bytes spans place →
+    BeginsFrame (drop place bytes) len →
+    FramesTo bytes (spans ++ record { start = place + 9; end = place + 9 + len } ∷ []) (place + 9 + len)
+one_more bytes spans place len f b =
+    let span : Range ℕ = record { start = place + 9; end = place + 9 + len } in
+    let rest = drop place bytes in
+    let long : length rest ≡ length bytes - place = length-drop place bytes in
+    let inside : 9 + len ≤ length rest = b.within in
+    let reached : place ≤ length bytes = f.reached in
+    let chunk : take len (drop 9 rest) ≡ chunk_in bytes span =
+    ap (take len) (drop-drop 9 place bytes) ∙
+    ap (λ n. take n (drop (place + 9) bytes)) (let e : len ≡ place + 9 + len - (place + 9) =
+    omega arith in e) in
+    let behind : drop (9 + len) rest ≡ drop (place + 9 + len) bytes =
+    drop-drop (9 + len) place bytes ∙ ap (λ n. drop n bytes) (let e : place + (9 + len) ≡ place +
+    9 + len = omega arith in e) in
+    let cs = chunks_in bytes spans in
+    let short : length (take len (drop 9 rest)) ≡ len =
+    length-take-le len (drop 9 rest) (omega (arith, length-drop 9 rest)) in
+    let fits : place + 9 + len ≤ length bytes = omega arith in
+    record {
+      reached = fits;
+      spelled = f.spelled ∙ ap (λ x. flat_map framed cs ++ x) b.is ∙
+          sym (append_assoc (flat_map framed cs) (framed (take len (drop 9 rest)))
+          (drop (9 + len) rest))
+          ∙ ap (λ x. x ++ drop (9 + len) rest)
+          (sym (flat_map-append framed cs (take len (drop 9 rest) ∷ []) ∙
+          ap (λ x. flat_map framed cs ++ x) (append-nil (framed (take len (drop 9 rest))))))
+          ∙ ap (λ c. flat_map framed (cs ++ c ∷ []) ++ drop (9 + len) rest) chunk
+          ∙ ap (λ x. flat_map framed x ++ drop (9 + len) rest)
+          (sym (map_push (chunk_in bytes) spans span))
+          ∙ ap (λ x. flat_map framed (chunks_in bytes (spans ++ span ∷ [])) ++ x) behind;
+      small = subst (AllByRecursion IsSmall) (sym (map_push (chunk_in bytes) spans span))
+          (all_append IsSmall cs (chunk_in bytes span ∷ []) f.small
+          (subst IsSmall chunk (let s : len < 2 ^ 64 = b.small in omega arith), tt));
+      within = all_append (IsWithin bytes) spans (span ∷ []) f.within ((omega arith, fits), tt);
+    }

@@ -22,13 +22,11 @@ use Rattle.prolly_check.specs.Sought.Sought.{Key, Number}
 use Rattle.prolly_check.specs.Way.{Clash, IsOrdered, Lead, LevelsFall, level_of}
 use Rattle.prolly_check.specs.declared.look_up.descent.At.{At}
 use Rattle.prolly_check.specs.lemmas.Ways.{lead_more}
+use Rattle.prolly_check.proofs.CheckedFile.{few_pairs}
 use Rattle.prolly_check.proofs.Chosen.{CanCount}
-use Rattle.prolly_check.proofs.FewPairs.{few_pairs}
-use Rattle.prolly_check.proofs.Lookups.{one_chunk, root_is}
-use Rattle.prolly_check.proofs.Standing.{Tells, stands_in_all}
-use Rattle.prolly_check.proofs.TreeTops.{top_is_read}
-use Rattle.prolly_check.proofs.TreeWays.{GoesTo, goes_to, way_right}
-use Rattle.prolly_check.proofs.WayDown.{height_is, is_there, root_of, root_pairs}
+use Rattle.prolly_check.proofs.MapTree.{one_chunk, root_is, top_is_read, height_is, is_there}
+use Rattle.prolly_check.proofs.MapTree.{root_of, root_pairs}
+use Rattle.prolly_check.proofs.TreeWays.{Tells, stands_in_all, GoesTo, goes_to, way_right}
 
 -- ---- from one chunk to the next
 

@@ -1,29 +1,35 @@
--- The pairs that chunks hold.
+-- The pairs that chunks hold, and testing chunks one after another.
 use Rattle.std.proofs.Common.{◌≡◌, ℕ, zero, suc, ◌<◌, List, [], ◌∷◌, ◌++◌, length, map, get_or}
-use Rattle.std.proofs.Common.{refl, sym, ap, ◌∙◌, subst, arith, append-nil}
+use Rattle.std.proofs.Common.{refl, sym, ap, ◌∙◌, subst, arith, append-nil, ◌+◌, take, drop}
 use Rattle.std.specs.List.{flat_map, AllByRecursion}
-use Rattle.std.proofs.lemmas.List.{map-append}
+use Rattle.std.specs.declared.ops.Range.{Range}
+use Rattle.std.proofs.Math.Seq.{drop-cons}
+use Rattle.std.proofs.lemmas.List.{map-append, length-map, length-take, map_more, take-append-drop}
 use Rattle.std.proofs.lemmas.List.Concat.{flat_map-append}
-use Rattle.prolly_entry.specs.lemmas.Lists.{all_front, all_back, all_append}
-use Rattle.prolly_tree.specs.lemmas.Splits.{flat}
-use Rattle.prolly_laws.specs.Trees.{pairs_are}
 use Rattle.prolly_entry.specs.Cut.{sha512_cut}
-use Rattle.prolly_check.specs.Judged.{chunk_bytes}
-use Rattle.prolly_tree.specs.lemmas.Maps.{last_key_short}
-use Rattle.prolly_entry.specs.lemmas.Spellings.{reference_length}
 use Rattle.prolly_entry.specs.Pair.{Pair, IsPair}
 use Rattle.prolly_entry.specs.Reference.{reference_of}
+use Rattle.prolly_entry.specs.declared.version.Version.{Version}
+use Rattle.prolly_entry.specs.lemmas.Lists.{all_front, all_back, all_append}
+use Rattle.prolly_entry.specs.lemmas.Spellings.{reference_length}
+use Rattle.prolly_tree.specs.Chunk.{Chunk, chunk_of, post_order}
 use Rattle.prolly_tree.specs.Tree.{Tree, pairs_below, greatest_key, pair_count, bytes_of, tree_of}
 use Rattle.prolly_tree.specs.Tree.{child_entry}
-use Rattle.prolly_tree.specs.Chunk.{Chunk, chunk_of, post_order}
-use Rattle.prolly_entry.specs.declared.version.Version.{Version}
-use Rattle.prolly_check.specs.Entries.{Child, IsChild, entry_of, Holds, AllHold, pairs_in}
+use Rattle.prolly_tree.specs.lemmas.Maps.{last_key_short}
+use Rattle.prolly_tree.specs.lemmas.Splits.{flat}
+use Rattle.prolly_laws.specs.Trees.{pairs_are}
+use Rattle.prolly_check.specs.Entries.{Child, IsChild, entry_of, Holds, AllHold, pairs_in, IsBad}
 use Rattle.prolly_check.specs.Held.{pairs_held}
+use Rattle.prolly_check.specs.Judged.{chunk_bytes}
 use Rattle.prolly_check.specs.Kinds.{kind_of}
+use Rattle.prolly_check.specs.Spans.{chunk_in, chunks_in}
 use Rattle.prolly_check.specs.Whole.{IsWhole, AreWhole}
 use Rattle.prolly_check.specs.declared.entries.Entries.{Entries}
 use Rattle.prolly_check.specs.declared.entries.Entries.TheVariants.{Leaf, Node}
-use Rattle.prolly_check.proofs.LeafPairs.{leaf_pairs}
+use Rattle.prolly_check.proofs.EntryLists.{leaf_pairs}
+use Rattle.prolly_check.specs.declared.fault.CheckFault.TheVariants as faults
+
+-- ---- the pairs that chunks hold
 
 abbrev pub bytes_in : List Chunk → List (List ℕ)
 bytes_in cs = map (λ c. c.bytes) cs
@@ -108,8 +114,8 @@ module _ (version : Version) where
         ap (λ b. ps ++ b) k.are;
   }
 
-  abbrev child_of : (level : ℕ) → Tree level → Child
-  child_of level t = record {
+  abbrev child_below : (level : ℕ) → Tree level → Child
+  child_below level t = record {
     key = greatest_key level t;
     reference = reference_of (bytes_of version level t);
     count = pair_count level t;
@@ -117,14 +123,14 @@ module _ (version : Version) where
 
   entries_are : (level : ℕ) (ts : List (Tree level)) →
       flat_map (child_entry version level) ts ≡ flat_map (entry_of version)
-      (map (child_of level) ts)
+      (map (child_below level) ts)
   entries_are level [] = refl
-  entries_are level (t ∷ ts) = ap (λ a. entry_of version (child_of level t) ++ a)
+  entries_are level (t ∷ ts) = ap (λ a. entry_of version (child_below level t) ++ a)
       (entries_are level ts)
 
   all_children : (level : ℕ) (ts : List (Tree level)) →
       AllByRecursion IsPair (flat_map (pairs_below level) ts) →
-      AllByRecursion IsChild (map (child_of level) ts)
+      AllByRecursion IsChild (map (child_below level) ts)
   all_children level [] h = tt
   all_children level (t ∷ ts) h = (
     record {
@@ -170,7 +176,7 @@ module _ (version : Version) where
           record {
             pairs = [];
             holds = record {
-              children = map (child_of level) ts;
+              children = map (child_below level) ts;
               is = entries_are level ts;
               lawful = all_children level ts h;
               none = refl;
@@ -201,3 +207,35 @@ map_holds version bits pairs lawful =
     let below : pairs_below t.level t.tree ≡ pairs = pairs_are (sha512_cut bits) version pairs in
     subst (HoldPairs version (chunk_bytes version bits pairs)) below
     (tree_holds version t.level t.tree (subst (AllByRecursion IsPair) (sym below) lawful))
+
+-- ---- testing the chunks of a file one after another
+
+module _ (version : Version) (bytes : List ℕ) (spans : List (Range ℕ)) (n : ℕ) (other : Range ℕ)
+    (chunk : List ℕ) (within : n < length spans)
+    (is : chunk ≡ chunk_in bytes (get_or spans n other))
+    (before : AreWhole version (chunks_in bytes (take n spans))) where
+  pub whole_next : IsWhole version chunk → AreWhole version (chunks_in bytes (take (n + 1) spans))
+  whole_next one = subst (AreWhole version) (sym (map_more (chunk_in bytes) spans n other within))
+      (all_append (IsWhole version) (chunks_in bytes (take n spans))
+      (chunk_in bytes (get_or spans n other) ∷ []) before (subst (IsWhole version) is one, tt))
+
+  pub bad_next : ((pairs : List Pair) → Holds version chunk pairs → ⊥) →
+      IsBad version (chunks_in bytes spans) (faults.BadChunk n)
+  bad_next bad = record {
+    before = chunks_in bytes (take n spans);
+    chunk = chunk;
+    after = chunks_in bytes (drop (suc n) spans);
+    lists = map pairs_held (chunks_in bytes (take n spans));
+    whole = ap (chunks_in bytes) (sym (take-append-drop n spans) ∙
+        ap (λ rest. take n spans ++ rest) (drop-cons spans n other within))
+        ∙ map-append (chunk_in bytes) (take n spans) (get_or spans n other ∷ drop (suc n) spans)
+        ∙ ap (λ c. chunks_in bytes (take n spans) ++ c ∷ chunks_in bytes (drop (suc n) spans))
+        (sym is);
+    good = all_hold version (chunks_in bytes (take n spans)) before;
+    bad = bad;
+    is = ap faults.BadChunk (omega (
+      arith,
+      length-map (take n spans) (chunk_in bytes),
+      length-take n spans,
+    ));
+  }

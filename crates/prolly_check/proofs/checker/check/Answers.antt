@@ -1,10 +1,10 @@
 use Rattle.std.proofs.Common.{rules, arith, Err}
 use Rattle.std.proofs.lemmas.Result.{IfErr-weaker, MatchResult-at_err}
-use Rattle.prolly_check.specs.declared.fault.CheckFault.TheVariants.{Read}
 use Rattle.prolly_check.specs.Refusal.{UnlessMemory}
 use Rattle.prolly_check.specs.Verdict.{IsVerdict}
-use Rattle.prolly_check.proofs.CheckedTree.{not_refused}
-use Rattle.prolly_check.proofs.VerdictFaults.{refusal, no_failed_read}
+use Rattle.prolly_check.specs.declared.fault.CheckFault.TheVariants.{Read}
+use Rattle.prolly_check.proofs.CheckedFile.{not_refused}
+use Rattle.prolly_check.proofs.OneVerdict.{refusal, no_failed_read}
 use Rattle.prolly_check.proofs.checker.check.Goals as goal
 
 pub returns-clause-files : goal.returns-clause-files

@@ -1,4 +1,4 @@
-use Rattle.prolly_check.proofs.TreeLevels.{AreUpTo}
+use Rattle.prolly_check.proofs.TreeNumbers.{AreUpTo}
 use Rattle.prolly_check.proofs.count.levels_in.Given as goal
 
 abbrev pub invariant-loop-number : goal.invariant-loop-number

@@ -3,8 +3,8 @@ use Rattle.std.specs.Prelude.{not}
 use Rattle.prolly_entry.specs.Reference.{reference_of}
 use Rattle.prolly_check.specs.Missing.{has_reference}
 use Rattle.prolly_check.proofs.IndexSteps.{as_many, reference_at}
-use Rattle.prolly_check.proofs.MissingSteps.{CountedTo, Tells, counted, passed, search_tells}
-use Rattle.prolly_check.proofs.MissingSteps.{size_more, size_up_to}
+use Rattle.prolly_check.proofs.TreeNumbers.{CountedTo, Tells, counted, passed, search_tells}
+use Rattle.prolly_check.proofs.TreeNumbers.{size_more, size_up_to}
 use Rattle.prolly_check.proofs.count.missing_in.Goals.{then-is_none, else-is_none}
 use Rattle.prolly_check.proofs.count.missing_in.Goals as goal
 

@@ -1,4 +1,4 @@
-use Rattle.prolly_check.proofs.MissingSteps.{CountedTo}
+use Rattle.prolly_check.proofs.TreeNumbers.{CountedTo}
 use Rattle.prolly_check.proofs.count.missing_in.Given as goal
 
 abbrev pub invariant-loop-number : goal.invariant-loop-number

@@ -1,8 +1,8 @@
 use Rattle.std.proofs.Common.{◌≡◌, ◌-◌, ◌/◌, ◌∙◌, length, get_or, ap, subst, sym, rules, arith}
-use Rattle.std.specs.Prelude.{sum}
 use Rattle.std.specs.List.Sorted.{IsPermutation}
+use Rattle.std.specs.Prelude.{sum}
 use Rattle.std.proofs.lemmas.List.Sorted.{IsNonDecreasingBy-from_sort}
-use Rattle.prolly_check.proofs.SizeSteps.{is_level}
+use Rattle.prolly_check.proofs.TreeNumbers.{is_level}
 use Rattle.prolly_check.proofs.count.numbers_of.Goals as goal
 
 pub returns : goal.returns

@@ -1,7 +1,7 @@
 use Rattle.std.proofs.Common.{arith, ap, length, length-append}
 use Rattle.std.proofs.lemmas.Result.{err_from_is_err_and}
-use Rattle.prolly_check.proofs.Dumps.{none_dumped, one_dumped, dump_failed, dump_flushed}
-use Rattle.prolly_check.proofs.Dumps.{dump_unflushed}
+use Rattle.prolly_check.proofs.LeafRests.{none_dumped, one_dumped, dump_failed, dump_flushed}
+use Rattle.prolly_check.proofs.LeafRests.{dump_unflushed}
 use Rattle.prolly_check.proofs.dump.write_records.Goals as goal
 
 pub loop-leaf-init : goal.loop-leaf-init

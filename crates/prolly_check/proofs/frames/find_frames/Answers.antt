@@ -1,7 +1,7 @@
 use Rattle.std.proofs.Common.{◌+◌, sym, subst}
 use Rattle.prolly_file.specs.Frame.{BeginsFrame}
 use Rattle.prolly_check.specs.Spans.{FramesTo}
-use Rattle.prolly_check.proofs.FrameBytes.{one_more}
+use Rattle.prolly_check.proofs.CheckedFile.{one_more}
 use Rattle.prolly_check.proofs.frames.find_frames.Goals as goal
 
 pub loop-len-preserved : goal.loop-len-preserved

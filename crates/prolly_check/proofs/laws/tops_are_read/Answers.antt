@@ -1,5 +1,4 @@
-use Rattle.prolly_check.proofs.Lookups.{child_is, root_is}
-use Rattle.prolly_check.proofs.TreeTops.{top_is_read}
+use Rattle.prolly_check.proofs.MapTree.{child_is, root_is, top_is_read}
 use Rattle.prolly_check.proofs.laws.tops_are_read.Goals as goal
 
 pub returns : goal.returns

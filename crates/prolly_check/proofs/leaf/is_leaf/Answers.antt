@@ -1,6 +1,6 @@
 use Rattle.std.proofs.Common.{◌==◌, length, sym, ap, ◌∙◌}
 use Rattle.std.proofs.lemmas.Bool.{false≢true}
-use Rattle.prolly_check.proofs.LeafPairs.{leaf_more, leaf_less, leaf_left}
+use Rattle.prolly_check.proofs.EntryLists.{leaf_more, leaf_less, leaf_left}
 use Rattle.prolly_check.proofs.leaf.is_leaf.Goals as goal
 
 pub loop-rest-preserved : goal.loop-rest-preserved

@@ -2,7 +2,7 @@ use Rattle.std.proofs.Common.{sym, ap, ◌∙◌, subst}
 use Rattle.std.specs.Ordering.{is_lt}
 use Rattle.prolly_tree.specs.lemmas.Maps.{Rises, rises}
 use Rattle.prolly_check.specs.Leaves.{pairs_from}
-use Rattle.prolly_check.proofs.Scans.{from_first}
+use Rattle.prolly_check.proofs.PairsFrom.{from_first}
 use Rattle.prolly_check.proofs.leaves.rest_from.Goals as goal
 
 pub returns-then-not-is_lt : goal.returns-then-not-is_lt

@@ -1,6 +1,6 @@
 use Rattle.std.proofs.Common.{◌==◌, length, refl, sym, ap, ◌∙◌}
 use Rattle.std.proofs.lemmas.Bool.{false≢true}
-use Rattle.prolly_check.proofs.NodeChildren.{node_more, node_less, node_left}
+use Rattle.prolly_check.proofs.EntryLists.{node_more, node_less, node_left}
 use Rattle.prolly_check.proofs.node.is_node.Goals as goal
 
 pub loop-rest-preserved : goal.loop-rest-preserved

@@ -1,7 +1,6 @@
 use Rattle.prolly_check.specs.Entries.{IsChild, entry_of}
-use Rattle.prolly_check.proofs.EntryLists.{shorter}
-use Rattle.prolly_check.proofs.NodeChildren.{behind_first, next_child, no_next_child}
-use Rattle.prolly_check.proofs.NodeChildren.{node_apart, node_less}
+use Rattle.prolly_check.proofs.EntryLists.{shorter, behind_first, next_child, no_next_child}
+use Rattle.prolly_check.proofs.EntryLists.{node_apart, node_less}
 use Rattle.prolly_check.proofs.node.split_first_child.Goals as goal
 
 pub returns : goal.returns

@@ -1,6 +1,6 @@
 use Rattle.std.proofs.Common.{length}
 use Rattle.std.specs.Option.{option_copied}
-use Rattle.prolly_check.proofs.OrderSteps.{LeafRises}
+use Rattle.prolly_check.proofs.RisingKeys.{LeafRises}
 use Rattle.prolly_check.proofs.order.last_in.Given as goal
 
 abbrev pub invariant-loop-key : goal.invariant-loop-key

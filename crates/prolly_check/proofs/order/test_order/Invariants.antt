@@ -1,5 +1,5 @@
 use Rattle.std.specs.Option.{option_copied}
-use Rattle.prolly_check.proofs.OrderSteps.{ChunksRise}
+use Rattle.prolly_check.proofs.RisingKeys.{ChunksRise}
 use Rattle.prolly_check.proofs.order.test_order.Given as goal
 
 abbrev pub invariant-loop-number : goal.invariant-loop-number

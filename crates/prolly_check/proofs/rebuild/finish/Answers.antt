@@ -1,7 +1,7 @@
 use Rattle.std.proofs.Common.{◌≡◌, ◌∷◌, length, refl, sym, ap, ◌∙◌, arith}
 use Rattle.std.proofs.lemmas.List.{with_items_is}
 use Rattle.std.proofs.lemmas.Result.{err_from_is_err_and}
-use Rattle.prolly_check.proofs.FinishSteps.{leaf_ends, ending_fault, node_ends, taken_out}
+use Rattle.prolly_check.proofs.RebuildSteps.{leaf_ends, ending_fault, node_ends, taken_out}
 use Rattle.prolly_check.proofs.rebuild.finish.Goals as goal
 
 pub loop-references-init : goal.loop-references-init

@@ -1,7 +1,7 @@
 use Rattle.std.proofs.Common.{[], inr, ◌∙◌, arith}
 use Rattle.std.proofs.lemmas.Result.{err_from_is_err_and}
-use Rattle.prolly_check.proofs.FinishSteps.{differ_by_end, verdict_fault, verdict_short}
-use Rattle.prolly_check.proofs.FinishSteps.{all_named, verdict_none}
+use Rattle.prolly_check.proofs.RebuildSteps.{differ_by_end, verdict_fault, verdict_short, all_named}
+use Rattle.prolly_check.proofs.RebuildSteps.{verdict_none}
 use Rattle.prolly_check.proofs.rebuild.test_rebuilt.Goals as goal
 
 pub returns-in_err-add_chunks-clause-err : goal.returns-in_err-add_chunks-clause-err

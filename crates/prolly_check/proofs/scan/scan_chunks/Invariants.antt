@@ -1,5 +1,5 @@
 use Rattle.prolly_check.specs.Checked.{chunks_of}
-use Rattle.prolly_check.proofs.Scans.{ChunkScan}
+use Rattle.prolly_check.proofs.PairsFrom.{ChunkScan}
 use Rattle.prolly_check.proofs.scan.scan_chunks.Given as goal
 
 abbrev pub invariant-loop-number : goal.invariant-loop-number

@@ -1,5 +1,5 @@
 use Rattle.std.proofs.Common.{length}
-use Rattle.prolly_check.proofs.Scans.{LeafScan}
+use Rattle.prolly_check.proofs.PairsFrom.{LeafScan}
 use Rattle.prolly_check.proofs.scan.scan_leaf.Given as goal
 
 abbrev pub invariant-loop-key : goal.invariant-loop-key

@@ -1,5 +1,5 @@
 use Rattle.std.proofs.Common.{arith}
-use Rattle.prolly_check.proofs.WholeSteps.{whole_next, bad_next}
+use Rattle.prolly_check.proofs.HeldPairs.{whole_next, bad_next}
 use Rattle.prolly_check.proofs.whole.test_chunks.Goals as goal
 
 pub returns-then-not-is_whole-clause-err : goal.returns-then-not-is_whole-clause-err

@@ -1,7 +1,7 @@
 use Rattle.std.proofs.Common.{sym, ap, ◌∙◌, subst}
 use Rattle.prolly_check.specs.Checked.{HasReference, chunks_of}
 use Rattle.prolly_check.specs.Index.{HasAt}
-use Rattle.prolly_check.proofs.FileSteps.{number_of}
+use Rattle.prolly_check.proofs.CheckedFile.{number_of}
 use Rattle.prolly_check.proofs.file.CheckedFile.child.Goals as goal
 
 pub unreachable-requires : goal.unreachable-requires

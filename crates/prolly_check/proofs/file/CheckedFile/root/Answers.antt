@@ -1,6 +1,6 @@
 use Rattle.std.proofs.Common.{length, ap, arith}
 use Rattle.prolly_check.specs.Checked.{chunks_of}
-use Rattle.prolly_check.proofs.FileSteps.{root_there}
+use Rattle.prolly_check.proofs.CheckedFile.{root_there}
 use Rattle.prolly_check.proofs.file.CheckedFile.root.Goals as goal
 
 pub returns-clause-is : goal.returns-clause-is

@@ -1,5 +1,5 @@
 use Rattle.std.proofs.Common.{◌==◌, length, ap, ◌∙◌}
-use Rattle.prolly_check.proofs.LeafPairs.{some_spelled}
+use Rattle.prolly_check.proofs.EntryLists.{some_spelled}
 use Rattle.prolly_check.proofs.leaf.Pairs.is_empty.Goals as goal
 
 pub returns : goal.returns

@@ -2,7 +2,7 @@ use Rattle.std.proofs.Common.{sym, ap, ◌∙◌}
 use Rattle.std.proofs.lemmas.Bool.Decides.{Decides-eqb}
 use Rattle.std.proofs.lemmas.Slice.Eq.{slice_eq-Decides}
 use Rattle.prolly_check.specs.Entries.{pairs_in}
-use Rattle.prolly_check.proofs.LeafPairs.{entries_same}
+use Rattle.prolly_check.proofs.EntryLists.{entries_same}
 use Rattle.prolly_check.proofs.leaf.Pairs.is_same.Goals as goal
 
 pub returns : goal.returns

@@ -1,5 +1,5 @@
 use Rattle.std.proofs.Common.{sym, ◌∙◌}
-use Rattle.prolly_check.proofs.LeafPairs.{next_pair, no_next, leaf_less}
+use Rattle.prolly_check.proofs.EntryLists.{next_pair, no_next, leaf_less}
 use Rattle.prolly_check.proofs.leaf.Pairs.next.Goals as goal
 
 pub invariant_of-self : goal.invariant_of-self

@@ -4,8 +4,8 @@ use Rattle.prolly_check.specs.FileWays.{nth_chunk}
 use Rattle.prolly_check.specs.Kinds.{kind_of}
 use Rattle.prolly_check.specs.Sought.{sought_of}
 use Rattle.prolly_check.specs.lemmas.Ways.{child_leads}
+use Rattle.prolly_check.proofs.Chosen.{has_level}
 use Rattle.prolly_check.proofs.FileDescents.{is_ordered, is_there_below, next_is}
-use Rattle.prolly_check.proofs.Marks.{has_level}
 use Rattle.prolly_check.proofs.look_up.descent.below.Goals as goal
 
 pub step_of-requires-clause-ordered : goal.step_of-requires-clause-ordered

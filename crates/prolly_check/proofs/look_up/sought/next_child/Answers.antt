@@ -1,7 +1,7 @@
 use Rattle.std.proofs.Common.{refl}
-use Rattle.prolly_check.specs.Children.{value_of}
 use Rattle.prolly_entry.specs.lemmas.Lists.{rest_is}
-use Rattle.prolly_check.proofs.Marks.{mark_behind}
+use Rattle.prolly_check.specs.Children.{value_of}
+use Rattle.prolly_check.proofs.Chosen.{mark_behind}
 use Rattle.prolly_check.proofs.look_up.sought.next_child.Goals as goal
 
 pub returns-clause-mark : goal.returns-clause-mark

@@ -4,8 +4,7 @@ use Rattle.prolly_entry.specs.Pair.{IsPair}
 use Rattle.prolly_tree.specs.Difference.{IsMap}
 use Rattle.prolly_tree.specs.lemmas.Maps.{rises}
 use Rattle.prolly_check.specs.Leaves.{pairs_from}
-use Rattle.prolly_check.proofs.Lookups.{rising_is}
-use Rattle.prolly_check.proofs.Scans.{all_from, rises_from}
+use Rattle.prolly_check.proofs.PairsFrom.{rising_is, all_from, rises_from}
 use Rattle.prolly_check.proofs.tree.Tree.leaves_from.Goals as goal
 
 pub returns-clause-rising : goal.returns-clause-rising

@@ -4,7 +4,7 @@ use Rattle.prolly_check.specs.Index.{AreReferences, IsIndex}
 use Rattle.prolly_check.specs.Missing.{AreSo, lacking}
 use Rattle.prolly_check.specs.Spans.{chunks_in}
 use Rattle.prolly_check.specs.Verdict.{IsFileOf}
-use Rattle.prolly_check.proofs.FileSteps.{chunks_are}
+use Rattle.prolly_check.proofs.CheckedFile.{chunks_are}
 use Rattle.prolly_check.proofs.tree.Tree.missing_from.Goals as goal
 
 -- the references are those of the chunks

@@ -1,5 +1,5 @@
 use Rattle.std.proofs.Common.{ap, length, arith}
-use Rattle.prolly_check.proofs.FewPairs.{few_pairs}
+use Rattle.prolly_check.proofs.CheckedFile.{few_pairs}
 use Rattle.prolly_check.proofs.tree.Tree.pairs.Goals as goal
 
 pub count_pairs-requires : goal.count_pairs-requires
