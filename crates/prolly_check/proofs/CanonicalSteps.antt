@@ -15,10 +15,10 @@ use Rattle.prolly_entry.specs.declared.version.Version.{Version}
 use Rattle.prolly_entry.specs.lemmas.Lists.{cells}
 use Rattle.prolly_tree.specs.Chunk.{chunks}
 use Rattle.prolly_tree.specs.File.{end_record, root_reference}
-use Rattle.prolly_check.specs.Canonical.{Says, CompareAs, ending_of_chunks}
 use Rattle.prolly_check.specs.Held.{pairs_held}
 use Rattle.prolly_check.specs.Index.{AreReferences}
-use Rattle.prolly_check.specs.Judged.{order_fault, chunk_bytes, ending_for}
+use Rattle.prolly_check.specs.Judged.{Says, CompareAs, ending_of_chunks, order_fault, chunk_bytes}
+use Rattle.prolly_check.specs.Judged.{ending_for}
 use Rattle.prolly_check.specs.declared.fault.CheckFault.{CheckFault}
 use Rattle.prolly_check.proofs.CheckedFile.{chunks_some, chunks_last}
 use Rattle.prolly_check.proofs.HeldPairs.{flat_held}

@@ -17,16 +17,14 @@ use Rattle.prolly_entry.specs.declared.version.Version.TheVariants.{Two}
 use Rattle.prolly_entry.specs.lemmas.Orders.{order_trans}
 use Rattle.prolly_tree.specs.Tree.{Tree, bytes_of, greatest_key, pair_count, pairs_below}
 use Rattle.prolly_tree.specs.lemmas.Maps.{Rises, rises, rises_front}
-use Rattle.prolly_check.specs.Children.{child_for, child_with}
 use Rattle.prolly_check.specs.Descent.{IsTreeOf, child_of}
-use Rattle.prolly_check.specs.Entries.{Child, IsNode, children_in}
+use Rattle.prolly_check.specs.Entries.{Child, IsNode, children_in, IsWhole}
 use Rattle.prolly_check.specs.Kinds.{kind_of}
 use Rattle.prolly_check.specs.Leaves.{pairs_from}
-use Rattle.prolly_check.specs.Sought.{Sought, child_sought, counted_child, found_child}
-use Rattle.prolly_check.specs.Sought.{reference_and_sought, IsMark, sought_of}
+use Rattle.prolly_check.specs.Sought.{child_for, child_with, Sought, child_sought, counted_child}
+use Rattle.prolly_check.specs.Sought.{found_child, reference_and_sought, IsMark, sought_of}
 use Rattle.prolly_check.specs.Sought.Sought.{Key, Number}
 use Rattle.prolly_check.specs.Way.{keys_of}
-use Rattle.prolly_check.specs.Whole.{IsWhole}
 use Rattle.prolly_check.specs.declared.entries.Entries.{Entries}
 use Rattle.prolly_check.specs.declared.entries.Entries.TheVariants.{Node}
 use Rattle.prolly_check.specs.declared.look_up.sought.Mark.{Mark}

@@ -19,8 +19,7 @@ use Rattle.prolly_tree.specs.RecordFile.{record_file}
 use Rattle.prolly_check.specs.Entries.{BeginsWith, entries_up_to, entries_in, NoLeaf, IsLeaf}
 use Rattle.prolly_check.specs.Entries.{first_pair, behind_pair, pairs_in, NoNode, Child, IsChild}
 use Rattle.prolly_check.specs.Entries.{IsNode, entry_of, first_count, first_child, behind_child}
-use Rattle.prolly_check.specs.Entries.{children_in}
-use Rattle.prolly_check.specs.Whole.{IsSomeLeaf}
+use Rattle.prolly_check.specs.Entries.{children_in, IsSomeLeaf}
 
 -- ---- lawful entries and nothing else
 

@@ -19,11 +19,11 @@ use Rattle.prolly_tree.specs.lemmas.Maps.{last_key_short}
 use Rattle.prolly_tree.specs.lemmas.Splits.{flat}
 use Rattle.prolly_laws.specs.Trees.{pairs_are}
 use Rattle.prolly_check.specs.Entries.{Child, IsChild, entry_of, Holds, AllHold, pairs_in, IsBad}
+use Rattle.prolly_check.specs.Entries.{IsWhole, AreWhole}
+use Rattle.prolly_check.specs.Frames.{chunk_in, chunks_in}
 use Rattle.prolly_check.specs.Held.{pairs_held}
 use Rattle.prolly_check.specs.Judged.{chunk_bytes}
 use Rattle.prolly_check.specs.Kinds.{kind_of}
-use Rattle.prolly_check.specs.Spans.{chunk_in, chunks_in}
-use Rattle.prolly_check.specs.Whole.{IsWhole, AreWhole}
 use Rattle.prolly_check.specs.declared.entries.Entries.{Entries}
 use Rattle.prolly_check.specs.declared.entries.Entries.TheVariants.{Leaf, Node}
 use Rattle.prolly_check.proofs.EntryLists.{leaf_pairs}

@@ -23,12 +23,11 @@ use Rattle.prolly_file.specs.Scratch.{keys_in}
 use Rattle.prolly_check.specs.Content.{Content}
 use Rattle.prolly_check.specs.Descent.{HasTree, IsTreeOf, NodeFull, child_of, TopIsRead}
 use Rattle.prolly_check.specs.Descent.{entries_below}
-use Rattle.prolly_check.specs.Entries.{first_child, behind_child, pairs_in, children_in}
+use Rattle.prolly_check.specs.Entries.{first_child, behind_child, pairs_in, children_in, IsWhole}
 use Rattle.prolly_check.specs.Judged.{chunk_bytes}
 use Rattle.prolly_check.specs.Kinds.{kind_of}
 use Rattle.prolly_check.specs.Verdict.{AllApart}
 use Rattle.prolly_check.specs.Way.{keys_of}
-use Rattle.prolly_check.specs.Whole.{IsWhole}
 use Rattle.prolly_check.specs.declared.entries.Entries.TheVariants.{Leaf, Node}
 use Rattle.prolly_check.proofs.EntryLists.{reads_all, leaf_pairs, child_shrinks, child_reads}
 use Rattle.prolly_check.proofs.HeldPairs.{bytes_append, bytes_in, tree_holds}

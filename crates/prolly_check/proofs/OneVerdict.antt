@@ -17,17 +17,15 @@ use Rattle.prolly_file.specs.Frame.{framed, has_no_frame, IsSmall}
 use Rattle.prolly_file.specs.FrameLaws.{begins_frame, one_front}
 use Rattle.prolly_file.specs.Header.{header_tests, header_fault, version_of}
 use Rattle.prolly_file.specs.declared.format.header.HeaderFault.{HeaderFault}
-use Rattle.prolly_check.specs.Check.{IsRefusal}
 use Rattle.prolly_check.specs.Content.{Content}
-use Rattle.prolly_check.specs.Entries.{Holds, IsRead}
+use Rattle.prolly_check.specs.Entries.{Holds, IsRead, IsWhole, AreWhole}
 use Rattle.prolly_check.specs.Frames.{ending_of}
 use Rattle.prolly_check.specs.Judged.{order_fault, difference, end_fault, reuse, chunk_bytes}
-use Rattle.prolly_check.specs.Judged.{ending_for, canonical_fault, or_content}
-use Rattle.prolly_check.specs.Order.{rises_behind, last_behind}
+use Rattle.prolly_check.specs.Judged.{ending_for, canonical_fault, or_content, rises_behind}
+use Rattle.prolly_check.specs.Judged.{last_behind}
 use Rattle.prolly_check.specs.Refusal.{UnlessMemory, fault_of_header}
-use Rattle.prolly_check.specs.Verdict.{ReadVerdict, EndVerdict, FramesVerdict, HeaderVerdict}
-use Rattle.prolly_check.specs.Verdict.{OneVerdict, IsVerdict}
-use Rattle.prolly_check.specs.Whole.{IsWhole, AreWhole}
+use Rattle.prolly_check.specs.Verdict.{IsRefusal, ReadVerdict, EndVerdict, FramesVerdict}
+use Rattle.prolly_check.specs.Verdict.{HeaderVerdict, OneVerdict, IsVerdict}
 use Rattle.prolly_check.specs.declared.fault.CheckFault.{CheckFault}
 use Rattle.prolly_check.specs.declared.fault.CheckFault.TheVariants.{BadChunk}
 use Rattle.prolly_check.proofs.HeldPairs.{lists_are, are_whole}

@@ -10,8 +10,7 @@ use Rattle.prolly_entry.specs.Keys.{key_order, Rising, RisingFrom}
 use Rattle.prolly_entry.specs.Pair.{Pair}
 use Rattle.prolly_entry.specs.Position.{is_before, Position}
 use Rattle.prolly_check.specs.Held.{pairs_held}
-use Rattle.prolly_check.specs.Judged.{order_fault}
-use Rattle.prolly_check.specs.Order.{rises_behind, last_behind, RisesTo}
+use Rattle.prolly_check.specs.Judged.{order_fault, rises_behind, last_behind, RisesTo}
 use Rattle.prolly_check.specs.declared.fault.CheckFault.TheVariants as faults
 
 -- ---- pairs behind pairs

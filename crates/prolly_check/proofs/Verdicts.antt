@@ -37,8 +37,8 @@ use Rattle.prolly_check.specs.Entries.{Holds, AllHold, IsRead}
 use Rattle.prolly_check.specs.Frames.{ending_of, IsFramed}
 use Rattle.prolly_check.specs.Held.{pairs_held}
 use Rattle.prolly_check.specs.Judged.{order_fault, difference, end_fault, reuse, chunk_bytes}
-use Rattle.prolly_check.specs.Judged.{ending_for, canonical_fault, or_content, judged}
-use Rattle.prolly_check.specs.Order.{rises_behind, last_behind}
+use Rattle.prolly_check.specs.Judged.{ending_for, canonical_fault, or_content, judged, rises_behind}
+use Rattle.prolly_check.specs.Judged.{last_behind}
 use Rattle.prolly_check.specs.Verdict.{ReadVerdict, EndVerdict, HeaderVerdict, IsVerdict, AllApart}
 use Rattle.prolly_check.specs.Verdict.{IsFileOf, FramesVerdict, AcceptsFiles}
 use Rattle.prolly_check.specs.declared.fault.CheckFault.{CheckFault}

@@ -1,19 +1,19 @@
 -- What is kept of a file that was accepted.
-use Rattle.std.specs.Prelude.{◌≡◌, ℕ, ◌<◌, ◌≤◌, ◌^◌, List, ◌∷◌, length, map, drop, Result}
 use Rattle.std.specs.List.{flat_map, AllByRecursion}
+use Rattle.std.specs.Prelude.{◌≡◌, ℕ, ◌<◌, ◌≤◌, ◌^◌, List, ◌∷◌, length, map, drop, Result}
 use Rattle.std.specs.declared.ops.Range.{Range}
-use Rattle.prolly_tree.specs.Chunk.{IsIn}
 use Rattle.prolly_entry.specs.Reference.{reference_of}
-use Rattle.prolly_check.specs.declared.fault.CheckFault.{CheckFault}
+use Rattle.prolly_tree.specs.Chunk.{IsIn}
 use Rattle.prolly_file.specs.declared.format.header.Header.{Header}
 use Rattle.prolly_check.specs.Content.{Content}
+use Rattle.prolly_check.specs.Entries.{AreWhole}
+use Rattle.prolly_check.specs.Frames.{IsWithin, chunks_in}
 use Rattle.prolly_check.specs.Held.{pairs_held}
-use Rattle.prolly_check.specs.declared.index.Index.{Index}
 use Rattle.prolly_check.specs.Index.{IsIndex}
 use Rattle.prolly_check.specs.Judged.{chunk_bytes, judged}
-use Rattle.prolly_check.specs.Spans.{IsWithin, chunks_in}
 use Rattle.prolly_check.specs.Verdict.{IsFileOf, IsVerdict}
-use Rattle.prolly_check.specs.Whole.{AreWhole}
+use Rattle.prolly_check.specs.declared.fault.CheckFault.{CheckFault}
+use Rattle.prolly_check.specs.declared.index.Index.{Index}
 
 -- The bytes are the file of some map, no two of whose chunks have one reference.
 pub record IsFile (bytes : List ℕ) : Type 0 where

@@ -1,21 +1,22 @@
 -- Which bytes are the file of a map, and which fault others have.
+use Rattle.std.specs.List.{AllByRecursion}
 use Rattle.std.specs.Prelude.{◌≡◌, ℕ, ◌<◌, ◌≤◌, ◌^◌, slice_index, List, [], ◌∷◌, length, drop, map}
 use Rattle.std.specs.Prelude.{Option, Some, None, Result, Ok, Err}
-use Rattle.std.specs.List.{AllByRecursion}
-use Rattle.prolly_entry.specs.declared.version.Version.{Version}
+use Rattle.prolly_entry.specs.Cut.{sha512_cut}
 use Rattle.prolly_entry.specs.Keys.{Rising}
 use Rattle.prolly_entry.specs.Pair.{Pair, IsPair}
-use Rattle.prolly_entry.specs.Cut.{sha512_cut}
 use Rattle.prolly_entry.specs.Reference.{reference_of}
+use Rattle.prolly_entry.specs.declared.version.Version.{Version}
 use Rattle.prolly_tree.specs.File.{file}
-use Rattle.prolly_check.specs.declared.fault.CheckFault.{CheckFault}
-use Rattle.prolly_check.specs.Content.{Content}
 use Rattle.prolly_file.specs.Header.{header_tests, header_fault, version_of}
 use Rattle.prolly_file.specs.declared.format.header.HeaderFault.{HeaderFault}
-use Rattle.prolly_check.specs.Frames.{IsFramed}
+use Rattle.prolly_check.specs.Content.{Content}
 use Rattle.prolly_check.specs.Entries.{IsRead}
+use Rattle.prolly_check.specs.Frames.{IsFramed}
 use Rattle.prolly_check.specs.Judged.{judged, chunk_bytes}
 use Rattle.prolly_check.specs.Refusal.{fault_of_header}
+use Rattle.prolly_check.specs.declared.fault.CheckFault.{CheckFault}
+use Rattle.prolly_check.specs.declared.fault.CheckFault.TheVariants.{Memory, Read, TooLong}
 
 -- ---- The faults, step by step.
 
@@ -84,3 +85,11 @@ abbrev pub AcceptsFiles : Type 0
 AcceptsFiles = (bytes : List ℕ) (content : Content) →
     (IsVerdict bytes (Ok content) → IsFileOf bytes content)
     × (length bytes < 2 ^ 64 → IsFileOf bytes content → IsVerdict bytes (Ok content))
+
+-- There are more bytes than are allowed, or there are not and the fault is the verdict on them;
+-- want of memory and failed reads may come over any.
+abbrev pub IsRefusal : List ℕ → ℕ → CheckFault → Type 0
+IsRefusal bytes max_bytes Memory = Unit {0}
+IsRefusal bytes max_bytes Read = Unit {0}
+IsRefusal bytes max_bytes TooLong = max_bytes < length bytes
+IsRefusal bytes max_bytes fault = (length bytes ≤ max_bytes) × IsVerdict bytes (Err fault)

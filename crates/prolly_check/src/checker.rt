@@ -1,16 +1,15 @@
 //! The checker: its steps, in the order in which their faults are named.
-ghost use Rattle.std.specs.Prelude.{◌≡◌, ◌≢◌, ◌↔◌, ◌⊎◌, ◌∷◌, ◌<◌, ◌≤◌, ◌^◌, true, None, Some, length};
-ghost use Rattle.std.specs.Prelude.{Err, IfOk, OnOk, IfErr, IsErrOf};
+ghost use Rattle.std.specs.Prelude.{◌≡◌, ◌≢◌, ◌↔◌, ◌⊎◌, ◌∷◌, ◌<◌, ◌≤◌, ◌^◌, true, None, Some};
+ghost use Rattle.std.specs.Prelude.{length, Err, IfOk, OnOk, IfErr, IsErrOf};
 ghost use Rattle.std.specs.List.{flat_map};
-ghost use Rattle.prolly_check.specs.Canonical.{Says, ending_of_chunks};
-ghost use Rattle.prolly_check.specs.Check.{IsRefusal};
+ghost use Rattle.prolly_check.specs.Judged.{Says, ending_of_chunks};
+ghost use Rattle.prolly_check.specs.Verdict.{IsRefusal, IsFileOf, IsVerdict};
 ghost use Rattle.prolly_check.specs.Checked.{IsChecked, IsFile, IsLaidOut};
 ghost use Rattle.prolly_check.specs.Content.{Content};
 ghost use Rattle.prolly_check.specs.Held.{pairs_held};
 ghost use Rattle.prolly_check.specs.Index.{AreReferences};
 ghost use Rattle.prolly_check.specs.Refusal.{UnlessMemory};
-ghost use Rattle.prolly_check.specs.Spans.{chunks_in};
-ghost use Rattle.prolly_check.specs.Verdict.{IsFileOf, IsVerdict};
+ghost use Rattle.prolly_check.specs.Frames.{chunks_in};
 
 use crate::chunks::{Chunks, Layout};
 use crate::ending::test_ending;

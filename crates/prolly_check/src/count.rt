@@ -2,8 +2,8 @@
 //! another tree lacks of it.
 ghost use Rattle.std.specs.Prelude.{◌≡◌, ◌<◌, ◌^◌, ℕ, List, length, map, sum, IfOk};
 ghost use Rattle.prolly_check.specs.Index.{AreReferences, IsIndex};
-ghost use Rattle.prolly_check.specs.Levels.{AreLevels, AreOfMap, IsLevel, at_level};
-ghost use Rattle.prolly_check.specs.Missing.{AreSo, lacking, size_of};
+ghost use Rattle.prolly_check.specs.Numbers.{AreLevels, AreOfMap, IsLevel, at_level, AreSo};
+ghost use Rattle.prolly_check.specs.Numbers.{lacking, size_of};
 
 use crate::chunks::Chunks;
 use crate::index::Index;

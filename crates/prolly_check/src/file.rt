@@ -2,9 +2,8 @@
 ghost use Rattle.std.specs.Prelude.{◌≡◌, ◌<◌, ◌^◌, [], length, get_or};
 ghost use Rattle.prolly_check.specs.Held.{pairs_held};
 ghost use Rattle.prolly_check.specs.Index.{HasAt, IsIndex};
-ghost use Rattle.prolly_check.specs.Levels.{AreOfMap};
-ghost use Rattle.prolly_check.specs.Missing.{size_of};
-ghost use Rattle.prolly_check.specs.Root.{root_bytes};
+ghost use Rattle.prolly_check.specs.Numbers.{AreOfMap, size_of};
+ghost use Rattle.prolly_check.specs.Content.{root_bytes};
 ghost use Rattle.prolly_check.specs.Checked.{HasFile, HasReference, chunks_of, content_of};
 
 use crate::chunks::Chunks;

@@ -1,7 +1,7 @@
 //! The frames of a chunk file.
 ghost use Rattle.std.specs.Prelude.{◌≡◌, ◌≤◌, true, length, drop, IfOk};
 ghost use Rattle.prolly_file.specs.Frame.{has_no_frame};
-ghost use Rattle.prolly_check.specs.Spans.{FramesTo, IsWithin, chunk_in};
+ghost use Rattle.prolly_check.specs.Frames.{FramesTo, IsWithin, chunk_in};
 
 use prolly_file::{FRAME_START, HEADER_SIZE, frame_at};
 use std::alloc::{AllocError, Global};

@@ -2,8 +2,7 @@
 ghost use Rattle.std.specs.Prelude.{◌≡◌, [], false, map, None, Some, OnOk, OnErr, IfOk, IfErr};
 ghost use Rattle.std.specs.Option.{option_copied};
 ghost use Rattle.prolly_check.specs.Held.{pairs_held};
-ghost use Rattle.prolly_check.specs.Judged.{order_fault};
-ghost use Rattle.prolly_check.specs.Order.{rises_behind, RisesTo};
+ghost use Rattle.prolly_check.specs.Judged.{order_fault, rises_behind, RisesTo};
 
 use crate::chunks::Chunks;
 use crate::fault::CheckFault;

@@ -2,7 +2,7 @@
 ghost use Rattle.std.specs.Prelude.{◌≡◌, [], ◌∷◌, ◌<◌, ◌≤◌, ◌^◌, None, Some, List, ℕ, length, OnOk};
 ghost use Rattle.std.specs.Prelude.{IfOk, IfErr};
 ghost use Rattle.std.specs.List.{flat_map};
-ghost use Rattle.prolly_check.specs.Canonical.{CompareAs};
+ghost use Rattle.prolly_check.specs.Judged.{CompareAs};
 ghost use Rattle.prolly_check.specs.Held.{pairs_held};
 ghost use Rattle.prolly_check.specs.Index.{AreReferences};
 ghost use Rattle.prolly_check.specs.Rebuilt.{AreUnused, Ends, HasTaken, IsExpected, Passes, Takes};

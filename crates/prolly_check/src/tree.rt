@@ -11,8 +11,7 @@ ghost use Rattle.prolly_check.specs.Refusal.{UnlessMemory};
 ghost use Rattle.prolly_check.specs.Verdict.{IsVerdict, IsFileOf};
 ghost use Rattle.prolly_check.specs.Way.{IsWay};
 ghost use Rattle.prolly_check.specs.Checked.{IsChecked, IsFile, HasFile, chunks_of};
-ghost use Rattle.prolly_check.specs.Levels.{AreLevels, AreOfMap};
-ghost use Rattle.prolly_check.specs.Missing.{AreSo, lacking, size_of};
+ghost use Rattle.prolly_check.specs.Numbers.{AreLevels, AreOfMap, AreSo, lacking, size_of};
 
 use crate::checker::inspect;
 use crate::chunks::{Chunks, Layout};
@@ -50,7 +49,7 @@ impl Model for Tree {
 
     ghost use Rattle.prolly_check.specs.Checked.{IsChecked};
     ghost use Rattle.prolly_check.specs.Index.{AreReferences};
-    ghost use Rattle.prolly_check.specs.Spans.{chunks_in};
+    ghost use Rattle.prolly_check.specs.Frames.{chunks_in};
 
     ghost view = { λ tree. tree.bytes.items };
 

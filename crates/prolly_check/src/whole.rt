@@ -2,9 +2,8 @@
 ghost use Rattle.std.specs.Prelude.{◌≡◌, true, false, List, OnOk, IfErr};
 ghost use Rattle.std.specs.List.{AllByRecursion};
 ghost use Rattle.prolly_entry.specs.Pair.{Pair as PairValue};
-ghost use Rattle.prolly_check.specs.Entries.{Holds, IsBad};
-ghost use Rattle.prolly_check.specs.Spans.{IsWithin, chunks_in};
-ghost use Rattle.prolly_check.specs.Whole.{IsWhole, AreWhole};
+ghost use Rattle.prolly_check.specs.Entries.{Holds, IsBad, IsWhole, AreWhole};
+ghost use Rattle.prolly_check.specs.Frames.{IsWithin, chunks_in};
 
 use crate::fault::CheckFault;
 use crate::frames::chunk_at;

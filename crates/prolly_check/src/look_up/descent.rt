@@ -3,9 +3,10 @@ ghost use Rattle.std.specs.Prelude.{map, IfOk, IfSome, IfNone};
 ghost use Rattle.prolly_entry.specs.Reference.{reference_of};
 ghost use Rattle.prolly_tree.specs.LookUp.{find};
 ghost use Rattle.prolly_check.specs.Checked.{HasFile};
-ghost use Rattle.prolly_check.specs.FileWays.{IsCounted, IsEnd, IsNamedAt, IsNext, IsTop, nth_chunk};
+ghost use Rattle.prolly_check.specs.FileWays.{IsCounted, IsEnd, IsNamedAt, IsNext, IsTop};
+ghost use Rattle.prolly_check.specs.FileWays.{nth_chunk};
 ghost use Rattle.prolly_check.specs.Kinds.{kind_of};
-ghost use Rattle.prolly_check.specs.Root.{root_bytes};
+ghost use Rattle.prolly_check.specs.Content.{root_bytes};
 ghost use Rattle.prolly_check.specs.Sought.{EndsAt, sought_of};
 ghost use Rattle.prolly_check.specs.Way.{IsWay};
 

@@ -1,9 +1,8 @@
 use Rattle.std.proofs.Common.{◌∙◌, subst}
 use Rattle.std.proofs.lemmas.Result.{err_from_is_err_and}
 use Rattle.prolly_entry.specs.lemmas.Lists.{rest_is}
-use Rattle.prolly_check.specs.Entries.{IsBad}
-use Rattle.prolly_check.specs.Spans.{chunks_in}
-use Rattle.prolly_check.specs.Whole.{AreWhole}
+use Rattle.prolly_check.specs.Entries.{IsBad, AreWhole}
+use Rattle.prolly_check.specs.Frames.{chunks_in}
 use Rattle.prolly_check.proofs.CheckedFile.{at_ending, at_entries, at_read}
 use Rattle.prolly_check.proofs.checker.lay_out.Goals as goal
 

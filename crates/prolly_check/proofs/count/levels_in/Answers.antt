@@ -1,7 +1,7 @@
 use Rattle.std.proofs.Common.{◌≡◌, ◌-◌, ◌∙◌, ap, length, sym, subst, arith}
 use Rattle.std.specs.Prelude.{sum}
 use Rattle.std.proofs.lemmas.List.{length-map}
-use Rattle.prolly_check.specs.Levels.{at_level}
+use Rattle.prolly_check.specs.Numbers.{at_level}
 use Rattle.prolly_check.proofs.TreeNumbers.{size_within, sizes_sum, IsTower, all_levels, is_tower}
 use Rattle.prolly_check.proofs.TreeNumbers.{one_more}
 use Rattle.prolly_check.proofs.count.levels_in.Goals as goal

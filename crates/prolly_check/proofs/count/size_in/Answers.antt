@@ -1,5 +1,5 @@
 use Rattle.std.proofs.Common.{◌≡◌, ◌+◌, length, take, ap, arith}
-use Rattle.prolly_check.specs.Missing.{size_of}
+use Rattle.prolly_check.specs.Numbers.{size_of}
 use Rattle.prolly_check.proofs.TreeNumbers.{size_more, size_up_to}
 use Rattle.prolly_check.proofs.count.size_in.Goals as goal
 

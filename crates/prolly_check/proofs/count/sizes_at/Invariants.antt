@@ -1,5 +1,5 @@
 use Rattle.std.proofs.Common.{◌≡◌, length, map, take}
-use Rattle.prolly_check.specs.Levels.{at_level}
+use Rattle.prolly_check.specs.Numbers.{at_level}
 use Rattle.prolly_check.proofs.count.sizes_at.Given as goal
 
 abbrev pub invariant-loop-number : goal.invariant-loop-number

@@ -1,6 +1,6 @@
 use Rattle.std.proofs.Common.{◌+◌, sym, subst}
 use Rattle.prolly_file.specs.Frame.{BeginsFrame}
-use Rattle.prolly_check.specs.Spans.{FramesTo}
+use Rattle.prolly_check.specs.Frames.{FramesTo}
 use Rattle.prolly_check.proofs.CheckedFile.{one_more}
 use Rattle.prolly_check.proofs.frames.find_frames.Goals as goal
 

@@ -1,5 +1,5 @@
 use Rattle.std.proofs.Common.{◌-◌, length}
-use Rattle.prolly_check.specs.Spans.{FramesTo}
+use Rattle.prolly_check.specs.Frames.{FramesTo}
 use Rattle.prolly_check.proofs.frames.find_frames.Given as goal
 
 abbrev pub invariant-loop-len : goal.invariant-loop-len

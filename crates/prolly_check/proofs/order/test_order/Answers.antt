@@ -1,6 +1,6 @@
 use Rattle.std.proofs.Common.{sym, ap, ◌∙◌, subst, arith}
 use Rattle.std.specs.Option.{option_copied}
-use Rattle.prolly_check.specs.Order.{rises_behind, RisesTo}
+use Rattle.prolly_check.specs.Judged.{rises_behind, RisesTo}
 use Rattle.prolly_check.proofs.RisingKeys.{order_goes_on, order_falls}
 use Rattle.prolly_check.proofs.order.test_order.Goals as goal
 

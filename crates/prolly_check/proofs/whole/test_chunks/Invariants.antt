@@ -1,6 +1,6 @@
 use Rattle.std.proofs.Common.{take}
-use Rattle.prolly_check.specs.Spans.{chunks_in}
-use Rattle.prolly_check.specs.Whole.{AreWhole}
+use Rattle.prolly_check.specs.Entries.{AreWhole}
+use Rattle.prolly_check.specs.Frames.{chunks_in}
 use Rattle.prolly_check.proofs.whole.test_chunks.Given as goal
 
 abbrev pub invariant-loop-number : goal.invariant-loop-number

@@ -1,5 +1,5 @@
 use Rattle.std.proofs.Common.{sym, subst}
-use Rattle.prolly_check.specs.Whole.{AreWhole, IsWhole}
+use Rattle.prolly_check.specs.Entries.{AreWhole, IsWhole}
 use Rattle.prolly_check.proofs.HeldPairs.{each_whole}
 use Rattle.prolly_check.proofs.chunks.Chunks.pairs.Goals as goal
 

@@ -1,8 +1,8 @@
 use Rattle.std.proofs.Common.{◌≡◌, ◌∙◌, ap, drop, sym, true}
 use Rattle.std.specs.Ordering.{is_lt}
 use Rattle.prolly_entry.specs.Keys.{key_order}
-use Rattle.prolly_check.specs.Children.{value_of}
 use Rattle.prolly_check.specs.Entries.{children_in}
+use Rattle.prolly_check.specs.Sought.{value_of}
 use Rattle.prolly_check.proofs.Chosen.{begins_there, key_same}
 use Rattle.prolly_check.proofs.RisingKeys.{is_less}
 use Rattle.prolly_check.proofs.look_up.sought.begin.Goals as goal

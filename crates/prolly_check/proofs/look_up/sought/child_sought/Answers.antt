@@ -1,7 +1,6 @@
 use Rattle.std.proofs.Common.{◌++◌, ◌∙◌, ap, arith, drop, refl}
-use Rattle.prolly_check.specs.Children.{value_of}
 use Rattle.prolly_check.specs.Entries.{children_in}
-use Rattle.prolly_check.specs.Sought.{child_sought, sought_of}
+use Rattle.prolly_check.specs.Sought.{value_of, child_sought, sought_of}
 use Rattle.prolly_check.proofs.Chosen.{none_sought}
 use Rattle.prolly_check.proofs.look_up.sought.child_sought.Goals as goal
 

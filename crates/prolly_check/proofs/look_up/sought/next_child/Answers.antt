@@ -1,6 +1,6 @@
 use Rattle.std.proofs.Common.{refl}
 use Rattle.prolly_entry.specs.lemmas.Lists.{rest_is}
-use Rattle.prolly_check.specs.Children.{value_of}
+use Rattle.prolly_check.specs.Sought.{value_of}
 use Rattle.prolly_check.proofs.Chosen.{mark_behind}
 use Rattle.prolly_check.proofs.look_up.sought.next_child.Goals as goal
 

@@ -1,6 +1,6 @@
 use Rattle.std.proofs.Common.{◌∙◌, sym, ap, subst, arith}
 use Rattle.prolly_check.specs.Checked.{content_of}
-use Rattle.prolly_check.specs.Spans.{chunks_in}
+use Rattle.prolly_check.specs.Frames.{chunks_in}
 use Rattle.prolly_check.specs.Verdict.{IsFileOf}
 use Rattle.prolly_check.proofs.CheckedFile.{one_content}
 use Rattle.prolly_check.proofs.tree.Tree.file.Goals as goal

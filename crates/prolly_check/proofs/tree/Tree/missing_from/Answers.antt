@@ -1,8 +1,8 @@
 use Rattle.std.proofs.Common.{◌∙◌, sym, ap, subst, arith}
 use Rattle.prolly_check.specs.Checked.{chunks_of, content_of}
+use Rattle.prolly_check.specs.Frames.{chunks_in}
 use Rattle.prolly_check.specs.Index.{AreReferences, IsIndex}
-use Rattle.prolly_check.specs.Missing.{AreSo, lacking}
-use Rattle.prolly_check.specs.Spans.{chunks_in}
+use Rattle.prolly_check.specs.Numbers.{AreSo, lacking}
 use Rattle.prolly_check.specs.Verdict.{IsFileOf}
 use Rattle.prolly_check.proofs.CheckedFile.{chunks_are}
 use Rattle.prolly_check.proofs.tree.Tree.missing_from.Goals as goal

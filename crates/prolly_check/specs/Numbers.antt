@@ -1,12 +1,31 @@
--- The levels of a tree, in numbers.
-use Rattle.std.specs.Prelude.{◌≡◌, ℕ, ◌-◌, ◌/◌, ◌<◌, ◌≤◌, ◌==◌, List, length, map}
+-- The numbers of a tree: its levels, and the chunks that others lack.
+use Rattle.std.specs.List.{filter, flat_map, list_any, AllByRecursion}
+use Rattle.std.specs.Prelude.{◌≡◌, ℕ, not, Bool, List, length, ◌-◌, ◌/◌, ◌<◌, ◌≤◌, ◌==◌, map}
 use Rattle.std.specs.Prelude.{slice_get, Some, nat_lt, nat_le, count_by}
-use Rattle.std.specs.List.{filter, AllByRecursion}
-use Rattle.prolly_check.specs.declared.count.Level.{Level}
+use Rattle.std.specs.Str.{bytes_eq}
+use Rattle.prolly_entry.specs.Reference.{reference_of}
 use Rattle.prolly_check.specs.Checked.{chunks_of}
 use Rattle.prolly_check.specs.Content.{Content}
-use Rattle.prolly_check.specs.Missing.{size_of}
 use Rattle.prolly_check.specs.Way.{level_of}
+use Rattle.prolly_check.specs.declared.count.Level.{Level}
+use Rattle.prolly_check.specs.declared.count.Missing.{Missing}
+
+-- Whether one of the chunks has the reference.
+abbrev pub has_reference : List (List ℕ) → List ℕ → Bool
+has_reference chunks reference = list_any (λ c. bytes_eq (reference_of c) reference) chunks
+
+-- Those of the chunks whose reference none of the others has, in their order.
+abbrev pub lacking : List (List ℕ) → List (List ℕ) → List (List ℕ)
+lacking others chunks = filter (λ c. not (has_reference others (reference_of c))) chunks
+
+-- So many bytes the chunks have together.
+abbrev pub size_of : List (List ℕ) → ℕ
+size_of chunks = length (flat_map (λ c. c) chunks)
+
+-- This is the number of the chunks, and of their bytes.
+pub record AreSo (chunks : List (List ℕ)) (missing : Missing) : Type 0 where
+  pub chunks_are : missing.chunks ≡ length chunks
+  pub bytes_are : missing.bytes ≡ size_of chunks
 
 -- Those of the chunks that are of a level, in their order.
 abbrev pub at_level : ℕ → List (List ℕ) → List (List ℕ)
