@@ -37,7 +37,7 @@ use Rattle.prolly_check.specs.Numbers.{size_of}
 use Rattle.prolly_check.specs.Refusal.{UnlessMemory}
 use Rattle.prolly_check.specs.Verdict.{IsVerdict, IsFileOf, ReadVerdict, FramesVerdict}
 use Rattle.prolly_check.specs.Verdict.{HeaderVerdict}
-use Rattle.prolly_check.specs.declared.fault.CheckFault.{CheckFault}
+use Rattle.prolly_check.specs.declared.verdict.fault.CheckFault.{CheckFault}
 use Rattle.prolly_check.specs.declared.index.Index.{Index}
 use Rattle.prolly_check.proofs.EntryLists.{leaf_pairs}
 use Rattle.prolly_check.proofs.HeldPairs.{bytes_in, bytes_append, map_holds, each_whole, all_hold}
@@ -45,7 +45,7 @@ use Rattle.prolly_check.proofs.HeldPairs.{flat_held}
 use Rattle.prolly_check.proofs.OneVerdict.{one_verdict}
 use Rattle.prolly_check.proofs.Verdicts.{file_is_accepted, ok_same, err_ok, header_ok, ending_ok}
 use Rattle.prolly_check.proofs.Verdicts.{canonical_ok, accepted_is_file}
-use Rattle.prolly_check.specs.declared.fault.CheckFault.TheVariants as faults
+use Rattle.prolly_check.specs.declared.verdict.fault.CheckFault.TheVariants as faults
 
 -- ---- what is known of a file that was accepted
 

@@ -27,7 +27,7 @@ use Rattle.prolly_check.specs.Kinds.{kind_of}
 use Rattle.prolly_check.specs.declared.entries.Entries.{Entries}
 use Rattle.prolly_check.specs.declared.entries.Entries.TheVariants.{Leaf, Node}
 use Rattle.prolly_check.proofs.EntryLists.{leaf_pairs}
-use Rattle.prolly_check.specs.declared.fault.CheckFault.TheVariants as faults
+use Rattle.prolly_check.specs.declared.verdict.fault.CheckFault.TheVariants as faults
 
 -- ---- the pairs that chunks hold
 

@@ -26,10 +26,10 @@ use Rattle.prolly_check.specs.Judged.{last_behind}
 use Rattle.prolly_check.specs.Refusal.{UnlessMemory, fault_of_header}
 use Rattle.prolly_check.specs.Verdict.{IsRefusal, ReadVerdict, EndVerdict, FramesVerdict}
 use Rattle.prolly_check.specs.Verdict.{HeaderVerdict, OneVerdict, IsVerdict}
-use Rattle.prolly_check.specs.declared.fault.CheckFault.{CheckFault}
-use Rattle.prolly_check.specs.declared.fault.CheckFault.TheVariants.{BadChunk}
+use Rattle.prolly_check.specs.declared.verdict.fault.CheckFault.{CheckFault}
+use Rattle.prolly_check.specs.declared.verdict.fault.CheckFault.TheVariants.{BadChunk}
 use Rattle.prolly_check.proofs.HeldPairs.{lists_are, are_whole}
-use Rattle.prolly_check.specs.declared.fault.CheckFault.TheVariants as faults
+use Rattle.prolly_check.specs.declared.verdict.fault.CheckFault.TheVariants as faults
 use Rattle.prolly_file.specs.declared.format.header.HeaderFault.TheVariants as header
 
 -- ---- bytes have one verdict

@@ -28,13 +28,13 @@ use Rattle.prolly_check.specs.Rebuilt.{node_levels, sent_through, sent_of, AreBe
 use Rattle.prolly_check.specs.Rebuilt.{AreCompared, AreUnused, DifferAs, Passed, Passes, HasTaken}
 use Rattle.prolly_check.specs.Rebuilt.{Takes, Took, AreBelow}
 use Rattle.prolly_check.specs.Refusal.{UnlessMemory}
-use Rattle.prolly_check.specs.declared.fault.CheckFault.{CheckFault}
-use Rattle.prolly_check.specs.declared.rebuild.Rebuild.{Rebuild}
+use Rattle.prolly_check.specs.declared.verdict.fault.CheckFault.{CheckFault}
+use Rattle.prolly_check.specs.declared.verdict.rebuild.Rebuild.{Rebuild}
 use Rattle.prolly_check.proofs.HeldPairs.{bytes_in}
 use Rattle.prolly_check.proofs.Rebuilds.{sent_prefix, still_differ, leaf_below, prefix_of}
 use Rattle.prolly_check.proofs.Rebuilds.{difference_along, ended_below, first_are}
 use Rattle.prolly_check.proofs.Verdicts.{difference_same}
-use Rattle.prolly_check.specs.declared.fault.CheckFault.TheVariants as faults
+use Rattle.prolly_check.specs.declared.verdict.fault.CheckFault.TheVariants as faults
 
 -- ---- rebuilding the chunks of pairs
 

@@ -27,8 +27,8 @@ use Rattle.prolly_entry.specs.lemmas.Lists.{all_back}
 use Rattle.prolly_laws.specs.Stages.{fault_is_prefix, stage_step}
 use Rattle.prolly_chunk.specs.NodeLevel.{NodeState, NodeTakes, node_level}
 use Rattle.prolly_chunk.specs.lemmas.{node_passes}
-use Rattle.prolly_check.specs.declared.fault.CheckFault.{CheckFault}
-use Rattle.prolly_check.specs.declared.fault.CheckFault.TheVariants as faults
+use Rattle.prolly_check.specs.declared.verdict.fault.CheckFault.{CheckFault}
+use Rattle.prolly_check.specs.declared.verdict.fault.CheckFault.TheVariants as faults
 use Rattle.prolly_check.specs.Judged.{difference}
 use Rattle.prolly_check.specs.Rebuilt.{sent_through, AreBehind, AreBelow, AreFirst, DifferAs}
 use Rattle.prolly_check.specs.Rebuilt.{AreCompared, IsExpected, Passes}

@@ -11,7 +11,7 @@ use Rattle.prolly_entry.specs.Pair.{Pair}
 use Rattle.prolly_entry.specs.Position.{is_before, Position}
 use Rattle.prolly_check.specs.Held.{pairs_held}
 use Rattle.prolly_check.specs.Judged.{order_fault, rises_behind, last_behind, RisesTo}
-use Rattle.prolly_check.specs.declared.fault.CheckFault.TheVariants as faults
+use Rattle.prolly_check.specs.declared.verdict.fault.CheckFault.TheVariants as faults
 
 -- ---- pairs behind pairs
 

@@ -35,8 +35,8 @@ use Rattle.prolly_check.specs.Index.{HasAt, IsIndex}
 use Rattle.prolly_check.specs.Numbers.{IsAtPlace, IsLevel, at_level, AreLevels, AreOfMap, AreSo}
 use Rattle.prolly_check.specs.Numbers.{has_reference, lacking, size_of}
 use Rattle.prolly_check.specs.Way.{level_of}
-use Rattle.prolly_check.specs.declared.count.Level.{Level}
-use Rattle.prolly_check.specs.declared.count.Missing.{Missing}
+use Rattle.prolly_check.specs.declared.numbers.count.Level.{Level}
+use Rattle.prolly_check.specs.declared.numbers.count.Missing.{Missing}
 use Rattle.prolly_check.specs.declared.index.Index.{Index}
 use Rattle.prolly_check.proofs.CheckedFile.{chunks_last}
 use Rattle.prolly_check.proofs.HeldPairs.{bytes_append, bytes_in}

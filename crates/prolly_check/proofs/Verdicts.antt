@@ -41,10 +41,10 @@ use Rattle.prolly_check.specs.Judged.{ending_for, canonical_fault, or_content, j
 use Rattle.prolly_check.specs.Judged.{last_behind}
 use Rattle.prolly_check.specs.Verdict.{ReadVerdict, EndVerdict, HeaderVerdict, IsVerdict, AllApart}
 use Rattle.prolly_check.specs.Verdict.{IsFileOf, FramesVerdict, AcceptsFiles}
-use Rattle.prolly_check.specs.declared.fault.CheckFault.{CheckFault}
-use Rattle.prolly_check.specs.declared.fault.CheckFault.TheVariants.{Truncated, Trailing, BadEnd}
-use Rattle.prolly_check.specs.declared.fault.CheckFault.TheVariants.{BadFrame, KeysOutOfOrder}
-use Rattle.prolly_check.specs.declared.fault.CheckFault.TheVariants.{NotCanonical, Collision}
+use Rattle.prolly_check.specs.declared.verdict.fault.CheckFault.{CheckFault}
+use Rattle.prolly_check.specs.declared.verdict.fault.CheckFault.TheVariants.{Truncated, Trailing, BadEnd}
+use Rattle.prolly_check.specs.declared.verdict.fault.CheckFault.TheVariants.{BadFrame, KeysOutOfOrder}
+use Rattle.prolly_check.specs.declared.verdict.fault.CheckFault.TheVariants.{NotCanonical, Collision}
 use Rattle.prolly_check.proofs.HeldPairs.{flat_held, all_hold, map_holds}
 use Rattle.prolly_check.proofs.RisingKeys.{rises_append, rising_is}
 

@@ -12,7 +12,7 @@ use Rattle.prolly_check.specs.Held.{pairs_held}
 use Rattle.prolly_check.specs.Index.{IsIndex}
 use Rattle.prolly_check.specs.Judged.{chunk_bytes, judged}
 use Rattle.prolly_check.specs.Verdict.{IsFileOf, IsVerdict}
-use Rattle.prolly_check.specs.declared.fault.CheckFault.{CheckFault}
+use Rattle.prolly_check.specs.declared.verdict.fault.CheckFault.{CheckFault}
 use Rattle.prolly_check.specs.declared.index.Index.{Index}
 
 -- The bytes are the file of some map, no two of whose chunks have one reference.

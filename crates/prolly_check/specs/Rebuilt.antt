@@ -13,11 +13,11 @@ use Rattle.prolly_entry.specs.Pair.{Pair}
 use Rattle.prolly_entry.specs.declared.reference.Ref.{Ref}
 use Rattle.prolly_chunk.specs.LeafLevel.{leaf_level}
 use Rattle.prolly_chunk.specs.NodeLevel.{NodeState, node_level, NodeBegins}
-use Rattle.prolly_check.specs.declared.fault.CheckFault.{CheckFault}
+use Rattle.prolly_check.specs.declared.verdict.fault.CheckFault.{CheckFault}
 use Rattle.prolly_check.specs.Index.{AreReferences}
 use Rattle.prolly_check.specs.Judged.{difference}
 use Rattle.prolly_check.specs.Refusal.{UnlessMemory}
-use Rattle.prolly_check.specs.declared.rebuild.Rebuild.{Rebuild}
+use Rattle.prolly_check.specs.declared.verdict.rebuild.Rebuild.{Rebuild}
 
 -- What so many levels, from this one on, have sent of events, each taking what the one below it
 -- sent.

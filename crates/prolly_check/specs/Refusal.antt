@@ -4,9 +4,9 @@ use Rattle.prolly_file.specs.declared.format.header.HeaderFault.{HeaderFault}
 use Rattle.prolly_file.specs.declared.format.header.HeaderFault.TheVariants as header
 use Rattle.prolly_file.specs.declared.whole.WholeFault.{WholeFault}
 use Rattle.prolly_file.specs.declared.whole.WholeFault.TheVariants as whole
-use Rattle.prolly_check.specs.declared.fault.CheckFault.{CheckFault}
-use Rattle.prolly_check.specs.declared.fault.CheckFault.TheVariants.{Memory, Read, TooLong, BadHeader}
-use Rattle.prolly_check.specs.declared.fault.CheckFault.TheVariants.{Truncated}
+use Rattle.prolly_check.specs.declared.verdict.fault.CheckFault.{CheckFault}
+use Rattle.prolly_check.specs.declared.verdict.fault.CheckFault.TheVariants.{Memory, Read, TooLong, BadHeader}
+use Rattle.prolly_check.specs.declared.verdict.fault.CheckFault.TheVariants.{Truncated}
 
 -- The fault is want of memory, or it is such a one.
 abbrev pub UnlessMemory : (CheckFault → Type 0) → CheckFault → Type 0

@@ -15,8 +15,8 @@ use Rattle.prolly_check.specs.Entries.{IsRead}
 use Rattle.prolly_check.specs.Frames.{IsFramed}
 use Rattle.prolly_check.specs.Judged.{judged, chunk_bytes}
 use Rattle.prolly_check.specs.Refusal.{fault_of_header}
-use Rattle.prolly_check.specs.declared.fault.CheckFault.{CheckFault}
-use Rattle.prolly_check.specs.declared.fault.CheckFault.TheVariants.{Memory, Read, TooLong}
+use Rattle.prolly_check.specs.declared.verdict.fault.CheckFault.{CheckFault}
+use Rattle.prolly_check.specs.declared.verdict.fault.CheckFault.TheVariants.{Memory, Read, TooLong}
 
 -- ---- The faults, step by step.
 

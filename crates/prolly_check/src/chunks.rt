@@ -6,8 +6,8 @@ ghost use Rattle.prolly_check.specs.Frames.{IsWithin, chunks_in};
 ghost use Rattle.prolly_check.specs.Entries.{AreWhole};
 
 use crate::entries::pairs_of;
-use crate::frames::chunk_at;
 use crate::leaf::Pairs;
+use crate::verdict::chunk_at;
 use prolly_file::Header;
 use std::marker::Model;
 use std::ops::Range;

@@ -5,7 +5,7 @@ ghost use Rattle.prolly_check.specs.Index.{AreNumbered, AreReferences, HasAt, Is
 ghost use Rattle.prolly_check.specs.Judged.{reuse};
 ghost use Rattle.prolly_check.specs.Refusal.{UnlessMemory};
 
-use crate::fault::CheckFault;
+use crate::verdict::CheckFault;
 use prolly_entry::Ref;
 use std::alloc::{AllocError, Global};
 

@@ -16,8 +16,8 @@ use Rattle.prolly_tree.specs.LookUp.{find, nth, scan}
 use Rattle.prolly_file.specs.Source.{SourceView}
 use Rattle.prolly_check.specs.Content.{Content}
 use Rattle.prolly_check.specs.Verdict.{IsRefusal, IsFileOf}
-use Rattle.prolly_check.specs.declared.fault.CheckFault.{CheckFault}
-use Rattle.prolly_check.specs.declared.fault.CheckFault.TheVariants.{Read}
+use Rattle.prolly_check.specs.declared.verdict.fault.CheckFault.{CheckFault}
+use Rattle.prolly_check.specs.declared.verdict.fault.CheckFault.TheVariants.{Read}
 use Rattle.prolly_proof.specs.declared.root_fault.RootFault.{RootFault}
 use Rattle.prolly_text.specs.Notations.{separator, written}
 use Rattle.prolly_text.specs.declared.notation.Notation.{Notation}

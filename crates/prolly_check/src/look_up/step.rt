@@ -12,7 +12,7 @@ ghost use Rattle.prolly_check.specs.Way.{FallsTo, IsNamed, IsOrdered, keys_of};
 use crate::entries::{Entries, entries_of, pairs_of};
 use crate::leaf::Pairs;
 use crate::look_up::sought::{ChildSought, Mark, Sought, child_sought};
-use crate::whole::is_whole;
+use crate::verdict::is_whole;
 use prolly_entry::{Ref, Version, key_rises};
 
 /// The chunk that is due next on the way of a look-up.
