@@ -1,20 +1,17 @@
 -- The tests against the file of the pairs.
-use Rattle.std.proofs.Common.{◌≡◌, ℕ, ◌-◌, ◌<◌, true, false, not, List, [], ◌∷◌, ◌++◌, length, map}
+use Rattle.std.proofs.lemmas.Grind.{common_steps}
+use Rattle.std.proofs.Common.{◌≡◌, ℕ, ◌-◌, ◌<◌, true, false, not, List, ◌∷◌, length, map}
 use Rattle.std.proofs.Common.{get_or, Some, None, sym, ap, ◌∙◌, subst, arith}
-use Rattle.std.specs.Int.{w64, to_be_bytes}
 use Rattle.std.specs.List.{flat_map}
 use Rattle.std.specs.Str.{bytes_eq}
 use Rattle.std.proofs.lemmas.Bool.{cond-true, cond-false, false≢true, not-false, false_from_ne_true}
 use Rattle.std.proofs.lemmas.List.{length-map}
 use Rattle.std.proofs.lemmas.Slice.Eq.{bytes_eq-Decides}
-use Rattle.prolly_entry.specs.Cut.{sha512_cut}
 use Rattle.prolly_entry.specs.Pair.{Pair}
-use Rattle.prolly_entry.specs.Reference.{reference_of}
 use Rattle.prolly_entry.specs.declared.reference.Ref.{Ref}
 use Rattle.prolly_entry.specs.declared.version.Version.{Version}
 use Rattle.prolly_entry.specs.lemmas.Lists.{cells}
-use Rattle.prolly_tree.specs.Chunk.{chunks}
-use Rattle.prolly_tree.specs.File.{end_record, root_reference}
+use Rattle.prolly_tree.specs.File.{end_record}
 use Rattle.prolly_check.specs.Held.{pairs_held}
 use Rattle.prolly_check.specs.Index.{AreReferences}
 use Rattle.prolly_check.specs.Judged.{Says, CompareAs, ending_of_chunks, order_fault, chunk_bytes}
@@ -35,21 +32,19 @@ equal x y e = (bytes_eq-Decides x y).0 (not-false (bytes_eq x y) (sym e))
 
 ending_is : (version : Version) (bits : ℕ) (pairs : List Pair) →
     ending_of_chunks (chunk_bytes version bits pairs) ≡ ending_for version bits pairs
-ending_is version bits pairs =
-    ap (λ c. reference_of c ++ to_be_bytes w64 (length (chunk_bytes version bits pairs)))
-    (chunks_last version bits pairs)
-    ∙ ap (λ n. root_reference (sha512_cut bits) version pairs ++ to_be_bytes w64 n)
-    (length-map (chunks (sha512_cut bits) version pairs) (λ c. c.bytes))
+ending_is version bits pairs = grind (arith, common_steps, chunks_last, length-map)
 
 -- the end record of the last reference and the number of chunks is theirs
 pub ends_so : (cs : List (List ℕ)) (references : List Ref) (count : ℕ) (other : Ref) →
     AreReferences cs references → count ≡ length cs → 0 < length cs →
     end_record (get_or references (count - 1) other).0 count ≡ 0x45 ∷ ending_of_chunks cs
-ends_so cs references count other are e some =
-    let at = reference_at cs references (count - 1) other are
-    (omega (arith, e, as_many cs references are)) in
-    ap (λ r. end_record r count) at ∙
-    ap (λ n. end_record (reference_of (get_or cs (n - 1) [])) n) e
+ends_so cs references count other are e some = grind (
+  arith,
+  common_steps,
+  reference_at,
+  as_many,
+  get_or,
+)
 
 -- where the keys rise, the chunks are tested, and then the end record
 module _ (version : Version) (bits : ℕ) (cs : List (List ℕ))
@@ -75,14 +70,23 @@ module _ (version : Version) (bits : ℕ) (cs : List (List ℕ))
 
     pub end_says : (fault : CheckFault) → (fault ≡ faults.BadEnd) ×
         (behind ≡ 0x45 ∷ ending_of_chunks cs → ⊥) → Says version bits cs behind (Some fault)
-    end_says fault bad ending e = rw (rise, flat_held cs, same, bad.0)
-        (cond-false (bytes_eq ending wanted) None (Some faults.BadEnd)
-        (false_from_ne_true (bytes_eq ending wanted)
-        (λ t. bad.1 (e ∙ ap (λ x. 0x45 ∷ x) ((bytes_eq-Decides ending wanted).0 t) ∙
-        sym ends_as))))
+    end_says fault bad ending e = grind (
+      arith,
+      common_steps,
+      flat_held,
+      cond-false,
+      false_from_ne_true,
+      bytes_eq-Decides,
+      ends_as,
+    )
 
     pub all_say : behind ≡ 0x45 ∷ ending_of_chunks cs → Says version bits cs behind None
-    all_say is ending e = rw (rise, flat_held cs, same)
-        (cond-true (bytes_eq ending wanted) None (Some faults.BadEnd)
-        ((bytes_eq-Decides ending wanted).1
-        (cells 0x45 0x45 ending wanted (sym e ∙ is ∙ ends_as))))
+    all_say is ending e = grind (
+      arith,
+      common_steps,
+      flat_held,
+      cond-true,
+      bytes_eq-Decides,
+      cells,
+      ends_as,
+    )

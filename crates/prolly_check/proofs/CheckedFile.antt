@@ -1,4 +1,5 @@
 -- What is known of a file that is checked, and of one that was accepted.
+use Rattle.std.proofs.lemmas.Grind.{common_steps}
 use Rattle.std.proofs.Common.{◌≡◌, ℕ, zero, suc, ◌-◌, ◌^◌, ◌<◌, List, [], ◌∷◌, ◌++◌, length, map}
 use Rattle.std.proofs.Common.{get_or, Ok, Err, inl, inr, ◌⊎◌, refl, sym, ap, ◌∙◌, subst, arith, ◌≤◌}
 use Rattle.std.proofs.Common.{drop, length-drop, true, Option, Some, None, Result, ◌+◌, take}
@@ -19,14 +20,14 @@ use Rattle.prolly_entry.specs.Spelling.{pair_spelling}
 use Rattle.prolly_entry.specs.declared.version.Version.{Version}
 use Rattle.prolly_entry.specs.lemmas.Lists.{all_append}
 use Rattle.prolly_tree.specs.Chunk.{Chunk, chunk_of, chunks, post_order, IsIn}
-use Rattle.prolly_tree.specs.File.{header, frame, end_record, root_reference}
+use Rattle.prolly_tree.specs.File.{header}
 use Rattle.prolly_tree.specs.Tree.{Tree, bytes_of, tree_of}
 use Rattle.prolly_tree.specs.lemmas.Splits.{flat}
 use Rattle.prolly_file.specs.Frame.{framed, has_no_frame, IsSmall, BeginsFrame}
 use Rattle.prolly_file.specs.FrameLaws.{frames_bytes}
 use Rattle.prolly_file.specs.Header.{header_tests, header_fault, version_of}
 use Rattle.prolly_file.specs.declared.format.header.Header.{Header}
-use Rattle.prolly_check.specs.Checked.{chunks_of, HasFile, IsChecked, content_of, IsLaidOut}
+use Rattle.prolly_check.specs.Checked.{chunks_of, IsChecked, content_of, IsLaidOut}
 use Rattle.prolly_check.specs.Content.{Content, root_bytes}
 use Rattle.prolly_check.specs.Entries.{IsBad, IsRead, IsWhole, AreWhole}
 use Rattle.prolly_check.specs.Frames.{ending_of, IsFramed, chunks_in, FramesTo, chunk_in, IsWithin}
@@ -36,11 +37,10 @@ use Rattle.prolly_check.specs.Judged.{Says, chunk_bytes, reuse, canonical_fault,
 use Rattle.prolly_check.specs.Numbers.{size_of}
 use Rattle.prolly_check.specs.Refusal.{UnlessMemory}
 use Rattle.prolly_check.specs.Verdict.{IsVerdict, IsFileOf, ReadVerdict, FramesVerdict}
-use Rattle.prolly_check.specs.Verdict.{HeaderVerdict}
 use Rattle.prolly_check.specs.declared.verdict.fault.CheckFault.{CheckFault}
 use Rattle.prolly_check.specs.declared.index.Index.{Index}
 use Rattle.prolly_check.proofs.EntryLists.{leaf_pairs}
-use Rattle.prolly_check.proofs.HeldPairs.{bytes_in, bytes_append, map_holds, each_whole, all_hold}
+use Rattle.prolly_check.proofs.HeldPairs.{bytes_in, bytes_append, map_holds, all_hold}
 use Rattle.prolly_check.proofs.HeldPairs.{flat_held}
 use Rattle.prolly_check.proofs.OneVerdict.{one_verdict}
 use Rattle.prolly_check.proofs.Verdicts.{file_is_accepted, ok_same, err_ok, header_ok, ending_ok}
@@ -65,23 +65,20 @@ last_is version (suc level) ts = (flat_map (post_order version level) ts, refl)
 
 last_bytes : (before : List Chunk) (c : Chunk) →
     get_or (map (λ c. c.bytes) (before ++ c ∷ [])) (length (before ++ c ∷ []) - 1) [] ≡ c.bytes
-last_bytes before c =
-    let e : length (before ++ c ∷ []) - 1 ≡ length (bytes_in before) =
-    omega (arith, length-append before (c ∷ []), length-map before (λ c. c.bytes)) in
-    rw (bytes_append before (c ∷ []), e) (get_or-append_seam (bytes_in before) c.bytes [] [])
+last_bytes before c = grind (
+  arith,
+  common_steps,
+  bytes_in,
+  length-append,
+  length-map,
+  bytes_append,
+  get_or-append_seam,
+)
 
 -- the chunks of a map are some, and the last is the root's
 pub chunks_some : (version : Version) (bits : ℕ) (pairs : List Pair) →
     0 < length (chunk_bytes version bits pairs)
-chunks_some version bits pairs =
-    let tree = tree_of (sha512_cut bits) version pairs in
-    let l = last_is version tree.level tree.tree in
-    omega (
-      arith,
-      length-map (chunks (sha512_cut bits) version pairs) (λ c. c.bytes),
-      ap length l.1,
-      length-append l.0 (chunk_of version tree.level tree.tree ∷ []),
-    )
+chunks_some version bits pairs = grind (arith, common_steps, last_is, length-map, length-append)
 
 pub chunks_last : (version : Version) (bits : ℕ) (pairs : List Pair) →
     get_or (chunk_bytes version bits pairs) (length (chunk_bytes version bits pairs) - 1) []
@@ -110,18 +107,12 @@ not_refused read bytes content fault short e f (inr v) =
 
 each_has_bytes : (pairs : List Pair) → length pairs ≤ length (flat_map pair_spelling pairs)
 each_has_bytes [] = omega arith
-each_has_bytes (p ∷ pairs) =
-    let more = each_has_bytes pairs in
-    let some : 1 ≤ length (pair_spelling p) = omega arith in
-    let e = length-append (pair_spelling p) (flat_map pair_spelling pairs) in
-    omega arith
+each_has_bytes (p ∷ pairs) = grind (arith, common_steps, length-append, each_has_bytes pairs)
 
 few_in_one : (version : Version) (chunk : List ℕ) → IsWhole version chunk →
     length (pairs_held chunk) ≤ length chunk
 few_in_one version [] w = omega arith
-few_in_one version (zero ∷ entries) w =
-    let few = each_has_bytes w.pairs in
-    omega (arith, ap length w.holds.is, ap length (leaf_pairs entries w.pairs w.holds))
+few_in_one version (zero ∷ entries) w = grind (arith, common_steps, each_has_bytes, leaf_pairs)
 few_in_one version (suc level ∷ entries) w = omega arith
 
 few_in_frames : (version : Version) (cs : List (List ℕ)) → AreWhole version cs →
@@ -138,52 +129,31 @@ few_in_frames version (c ∷ cs) w =
 pub few_held : (version : Version) (bytes : List ℕ) (spans : List (Range ℕ)) (place : ℕ) →
     FramesTo bytes spans place → AreWhole version (chunks_in bytes spans) →
     length (flat_map pairs_held (chunks_in bytes spans)) ≤ length bytes
-few_held version bytes spans place frames whole =
-    let few = few_in_frames version (chunks_in bytes spans) whole in
-    let size = ap length frames.spelled in
-    let parts = length-append (flat_map framed (chunks_in bytes spans)) (drop place bytes) in
-    let behind = length-drop 6 bytes in
-    omega arith
+few_held version bytes spans place frames whole = grind (
+  arith,
+  common_steps,
+  few_in_frames,
+  length-append,
+  length-drop,
+)
 
 frames_in : (bytes : List ℕ) (content : Content) → IsFileOf bytes content →
     length (flat_map framed (chunks_of content)) ≤ length bytes
-frames_in bytes content f =
-    let cut = sha512_cut content.bits in
-    let frames = flat_map frame (chunks cut content.version content.pairs) in
-    let framed = ap length (frames_bytes (chunks cut content.version content.pairs)) in
-    let ending = end_record (root_reference cut content.version content.pairs)
-    (length (chunks cut content.version content.pairs)) in
-    let size = ap length f.is ∙ length-append (header content.version content.bits)
-    (frames ++ ending) in
-    let rest = length-append frames ending in
-    omega arith
+frames_in bytes content f = grind (arith, common_steps, frames_bytes, length-append)
 
 pub few_pairs : (bytes : List ℕ) (content : Content) → IsFileOf bytes content →
     length content.pairs ≤ length bytes
-few_pairs bytes content f =
-    let holding = map_holds content.version content.bits content.pairs f.lawful in
-    let few = few_in_frames content.version (chunks_of content) holding.whole in
-    let all = ap length holding.are in
-    let frames = frames_in bytes content f in
-    omega arith
+few_pairs bytes content f = grind (arith, common_steps, map_holds, few_in_frames, frames_in)
 
 -- nor have its chunks
 
 few_framed : (cs : List (List ℕ)) → size_of cs ≤ length (flat_map framed cs)
 few_framed [] = omega arith
-few_framed (c ∷ cs) =
-    let more = few_framed cs in
-    let bytes = length-append c (flat_map (λ c. c) cs) in
-    let frames = length-append (framed c) (flat_map framed cs) in
-    let frame = length-append (0x43 ∷ to_be_bytes w64 (length c)) c in
-    omega arith
+few_framed (c ∷ cs) = grind (arith, common_steps, length-append, few_framed cs)
 
 pub few_bytes : (bytes : List ℕ) (content : Content) → IsFileOf bytes content →
     size_of (chunks_of content) ≤ length bytes
-few_bytes bytes content f =
-    let few = few_framed (chunks_of content) in
-    let frames = frames_in bytes content f in
-    omega arith
+few_bytes bytes content f = grind (arith, common_steps, few_framed, frames_in)
 
 -- ---- the chunks of a file that was checked, found by their numbers and their references
 
@@ -200,13 +170,6 @@ pub root_there : (content : Content) (number : ℕ) → number ≡ length (chunk
     get_or (chunks_of content) number [] ≡ root_bytes content
 root_there content number is = ap (λ n. get_or (chunks_of content) n []) is ∙
     chunks_last content.version content.bits content.pairs
-
--- each is whole
-pub chunk_whole : (content : Content) (number : ℕ) → HasFile content →
-    number < length (chunks_of content) →
-    IsWhole content.version (get_or (chunks_of content) number [])
-chunk_whole content number has within = each_whole content.version (chunks_of content) number
-    (map_holds content.version content.bits content.pairs has.is.lawful).whole within
 
 -- a chunk that has a reference has a number
 pub number_of : (chunks : List (List ℕ)) (reference : List ℕ) (chunk : List ℕ) →
@@ -239,19 +202,11 @@ module _ (bytes : List ℕ) (header : Header) (spans : List (Range ℕ)) (place 
       (all : has_no_frame (drop place bytes) ≡ true) where
     framed_so : (ending : Result (List ℕ) CheckFault) → ending_of (length spans)
         (drop place bytes) ≡ ending → IsFramed (drop 6 bytes) cs ending
-    framed_so ending e = record {
-      tail = drop place bytes;
-      spelled = frames.spelled;
-      small = frames.small;
-      all = all;
-      is = ap (λ n. ending_of n (drop place bytes)) (length-map spans (chunk_in bytes)) ∙ e;
-    }
+    framed_so ending e = grind (arith, common_steps, length-map)
 
     verdict_so : (verdict : Result Content CheckFault) →
         FramesVerdict header.version header.bits (drop 6 bytes) verdict → IsVerdict bytes verdict
-    verdict_so verdict f = subst (λ o. HeaderVerdict o bytes verdict) (sym lawful)
-        (subst (λ v. FramesVerdict v (slice_index bytes 5) (drop 6 bytes) verdict) version_is
-        (subst (λ n. FramesVerdict header.version n (drop 6 bytes) verdict) bits_are f))
+    verdict_so verdict f = grind (arith, common_steps)
 
     -- what follows the frames, as the code has it
     module _ (rest : List ℕ) (number : ℕ) (left : rest ≡ drop place bytes)
@@ -320,9 +275,7 @@ module _ (bytes : List ℕ) (header : Header) (spans : List (Range ℕ)) (place 
           pub at_canonical : (fault : CheckFault) →
               UnlessMemory (λ fault. Says header.version cut chunks rest (Some fault)) fault →
               Refused bytes fault
-          at_canonical fault = ⊎_map (λ memory. memory)
-              (λ h. l.so (Err fault) (sym
-              (ap (λ o. or_content it (or_else o (reuse [] 0 cs))) (says (Some fault) h))))
+          at_canonical fault = grind (arith, common_steps, says)
 
           module _ (canonical : Says header.version cut chunks rest None) where
             then_reuse : judged header.version header.bits cs l.ending lists ≡

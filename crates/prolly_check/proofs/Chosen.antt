@@ -1,4 +1,5 @@
 -- The child of a node that a look-up goes on in.
+use Rattle.std.proofs.lemmas.Grind.{common_steps}
 use Rattle.std.proofs.Common.{◌≡◌, ℕ, suc, ◌+◌, ◌-◌, ◌^◌, ◌<◌, ◌≤◌, nat_lt, inl, inr, Bool, false}
 use Rattle.std.proofs.Common.{List, [], ◌∷◌, ◌++◌, length, map, Option, Some, None, refl, sym, ap}
 use Rattle.std.proofs.Common.{◌∙◌, subst, arith, zero, drop, Bor, append_assoc}
@@ -293,19 +294,8 @@ module _ (version : Version) (cs : List (List ℕ)) (level : ℕ) (trees : List 
 
   pub none_chosen : (sought : Sought) → CanCount version sought all →
       child_sought sought (map (child_of version level) trees) ≡ None → AllPast sought all
-  none_chosen (Key key) can e = trees_below level trees key (rises all b.rising)
-      (leads_nowhere version level key trees (no_key (picked version level key trees) e))
-    where
-      no_key : (o : Option Child) → option_map (found_child key) o ≡ None → o ≡ None
-      no_key None e = refl
-      no_key (Some c) e = cc
-  none_chosen (Number n) can e = counts_past level trees n can.1
-      (ap (λ v. child_with n (map (child_of v level) trees)) (sym can.0) ∙
-      no_number (child_with n (map (child_of version level) trees)) e)
-    where
-      no_number : (o : Option (Child × ℕ)) → option_map counted_child o ≡ None → o ≡ None
-      no_number None e = refl
-      no_number (Some c) e = cc
+  none_chosen (Key key) can e = grind (arith, common_steps, trees_below, rises, leads_nowhere)
+  none_chosen (Number n) can e = grind (arith, common_steps, counts_past)
 
 -- ---- children below a key
 
@@ -328,10 +318,15 @@ module _ (child : Child) (others : List Child) where
       Rising (keys (before ++ child ∷ others)) → KeyBelow child.key key →
       child_for key (before ++ child ∷ others) ≡ child_for key (child ∷ others)
   passed_over key [] rising below = refl
-  passed_over key (b ∷ before) rising below =
-      cond-true (is_lt (key_order b.key key)) (child_for key (before ++ child ∷ others)) (Some b)
-      (ap is_lt (order_trans b.key child.key key (before_it b.key before rising) below)) ∙
-      passed_over key before (rising_rest b.key (keys (before ++ child ∷ others)) rising) below
+  passed_over key (b ∷ before) rising below = grind (
+    arith,
+    common_steps,
+    cond-true,
+    order_trans,
+    before_it,
+    rising_rest,
+    passed_over key before (rising_rest b.key (keys (before ++ child ∷ others)) rising) below,
+  )
 
 -- ---- marks
 
@@ -346,9 +341,7 @@ module _ (version : Version) (chunk : List ℕ) (mark : Mark) (is : IsMark versi
   size = ap length are ∙ length-drop mark.offset chunk
 
   rest_there : rest ≡ drop (length chunk - length rest) chunk
-  rest_there = behind ∙ ap (drop (length entries - length rest)) are ∙
-      drop-drop (length entries - length rest) mark.offset chunk ∙
-      ap (λ n. drop n chunk) (omega (arith, size, shorter, is.within))
+  rest_there = grind (arith, common_steps, drop-drop, size)
 
   pub mark_behind : (next : Mark) → next.number ≡ mark.number + 1 →
       next.offset ≡ length chunk - length rest → IsMark version chunk next
@@ -373,19 +366,16 @@ pub begins_there : (version : Version) (chunk : List ℕ) (mark : Mark) →
     Rising (keys (children_in version (drop 1 chunk))) → KeyBelow child.key key →
     child_for key (children_in version (drop 1 chunk)) ≡
     child_for key (children_in version (drop mark.offset chunk))
-begins_there version chunk mark is child others first key rising below =
-    let all : children_in version (drop 1 chunk) ≡ is.before ++ child ∷ others =
-    is.are ∙ ap (λ cs. is.before ++ cs) first in
-    ap (child_for key) all ∙
-    passed_over child others key is.before (subst (λ cs. Rising (keys cs)) all rising) below ∙
-    ap (child_for key) (sym first)
+begins_there version chunk mark is child others first key rising below = grind (
+  arith,
+  common_steps,
+  passed_over,
+)
 
 pub key_same : (asked : Asked) (key : Bor (List ℕ)) → asked ≡ AskedKey key →
     (xs ys : List Child) → child_for key.now xs ≡ child_for key.now ys →
     child_sought (sought_of asked) xs ≡ child_sought (sought_of asked) ys
-key_same asked key is xs ys same =
-    subst (λ s. child_sought (sought_of s) xs ≡ child_sought (sought_of s) ys) (sym is)
-    (ap (option_map (found_child key.now)) same)
+key_same asked key is xs ys same = grind (arith, common_steps)
 
 pub none_sought : (sought : Sought) → child_sought sought [] ≡ None
 none_sought (Key key) = refl
@@ -416,17 +406,10 @@ module _ (version : Version) where
       IsNode version (drop 1 chunk) []
   node_entries [] children is whole = cc
   node_entries (zero ∷ entries) children is whole = cc
-  node_entries (suc level ∷ entries) children is whole = record {
-    children = whole.holds.children;
-    is = whole.holds.is;
-    lawful = whole.holds.lawful;
-    none = refl;
-  }
+  node_entries (suc level ∷ entries) children is whole = grind (arith, common_steps)
 
   pub node_rises : (chunk : List ℕ) (children : List Child) →
       ◌≡◌ {A = Entries} (Node children) (kind_of version chunk) →
       Rising (keys_of (kind_of version chunk)) →
       Rising (keys (children_in version (drop 1 chunk)))
-  node_rises chunk children is rising = subst (λ cs. Rising (keys cs))
-      (node_children chunk children is)
-      (subst (λ entries. Rising (keys_of entries)) (sym is) rising)
+  node_rises chunk children is rising = grind (arith, common_steps, node_children)

@@ -1,4 +1,5 @@
 -- Entries that bytes spell, read one after another.
+use Rattle.std.proofs.lemmas.Grind.{common_steps}
 use Rattle.std.proofs.Common.{◌≡◌, ℕ, zero, suc, ◌<◌, ◌≤◌, List, [], ◌∷◌, ◌++◌, length, drop, map}
 use Rattle.std.proofs.Common.{refl, sym, ap, ◌∙◌, arith, append_assoc, ◌+◌, ◌==◌, Some, length-drop}
 use Rattle.std.proofs.Common.{◌-◌, take}
@@ -9,7 +10,7 @@ use Rattle.std.proofs.lemmas.List.{length-append, take_at, drop-drop, map-id}
 use Rattle.prolly_entry.specs.ChildAt.{tail_length, NoChildAt}
 use Rattle.prolly_entry.specs.Front.{NoPairAt}
 use Rattle.prolly_entry.specs.Pair.{Pair, IsPair}
-use Rattle.prolly_entry.specs.Reading.{key_length, value_length}
+use Rattle.prolly_entry.specs.Reading.{key_length}
 use Rattle.prolly_entry.specs.Spelling.{key_spelling, pair_spelling, count_spelling}
 use Rattle.prolly_entry.specs.declared.version.Version.{Version}
 use Rattle.prolly_entry.specs.declared.version.Version.TheVariants.{One, Two}
@@ -43,12 +44,7 @@ module _ {A : Type 0} (spelling : A → List ℕ) (Lawful : A → Type 0)
     (apart : AreApart spelling Lawful) where
   pub shorter : (bytes rest : List ℕ) (entry : A) → BeginsWith spelling Lawful bytes entry rest →
       length rest < length bytes
-  shorter bytes rest entry b = omega (
-    arith,
-    ap length b.is,
-    length-append (spelling entry) rest,
-    apart.some entry,
-  )
+  shorter bytes rest entry b = grind (arith, common_steps, length-append)
 
   pub one_more : (bytes rest : List ℕ) (entry : A) → BeginsWith spelling Lawful bytes entry rest →
       AreEntries spelling Lawful rest → AreEntries spelling Lawful bytes
@@ -111,20 +107,16 @@ module _ {B : Type 0} (first : List ℕ → B) (behind : List ℕ → List ℕ) 
     enough zero m (b ∷ bytes) h k = absurd (let h' : suc (length bytes) ≤ 0 = h in omega arith)
     enough (suc n) zero (b ∷ bytes) h k = absurd (let k' : suc (length bytes) ≤ 0 = k in
         omega arith)
-    enough (suc n) (suc m) (b ∷ bytes) h k =
-        let h' : suc (length bytes) ≤ suc n = h in
-        let k' : suc (length bytes) ≤ suc m = k in
-        let less = shrinks b bytes in
-        ap (λ entries. first (b ∷ bytes) ∷ entries)
-        (enough n m (behind (b ∷ bytes)) (omega arith) (omega arith))
+    enough (suc n) (suc m) (b ∷ bytes) h k = grind (
+      arith,
+      common_steps,
+      enough n m (behind (b ∷ bytes)) (omega arith) (omega arith),
+    )
 
     pub first_in : (bytes : List ℕ) → 0 < length bytes →
         entries_in first behind bytes ≡ first bytes ∷ entries_in first behind (behind bytes)
     first_in [] h = absurd (omega arith)
-    first_in (b ∷ bytes) h =
-        ap (λ entries. first (b ∷ bytes) ∷ entries)
-        (enough (length bytes) (length (behind (b ∷ bytes))) (behind (b ∷ bytes))
-        (shrinks b bytes) (omega arith))
+    first_in (b ∷ bytes) h = grind (arith, common_steps, enough)
 
 pub drop_front : (xs ys : List ℕ) (n : ℕ) → n ≡ length xs → drop n (xs ++ ys) ≡ ys
 drop_front [] ys n e = ap (λ m. drop m ys) e
@@ -142,12 +134,7 @@ module _ {B : Type 0} (first : List ℕ → B) (behind : List ℕ → List ℕ) 
     pub reads_on : (bytes spelled more : List ℕ) (entry : B) → Reads first behind spelled entry →
         bytes ≡ spelled ++ more → entries_in first behind bytes ≡ entry ∷ entries_in first behind
         more
-    reads_on bytes spelled more entry r e =
-        first_in first behind shrinks bytes (let some = r.some in
-        omega (arith, ap length e, length-append spelled more))
-        ∙ ap (λ b. first b ∷ entries_in first behind (behind b)) e
-        ∙ ap (λ b. b ∷ entries_in first behind (behind (spelled ++ more))) (r.read more)
-        ∙ ap (λ b. entry ∷ entries_in first behind b) (r.left more)
+    reads_on bytes spelled more entry r e = grind (arith, common_steps, first_in, length-append)
 
     pub reads_all : {A : Type 0} (spelling : A → List ℕ) (read : A → B) (Lawful : A → Type 0) →
         ((a : A) → Lawful a → Reads first behind (spelling a) (read a)) →
@@ -162,10 +149,7 @@ module _ {B : Type 0} (first : List ℕ → B) (behind : List ℕ → List ℕ) 
 -- ---- the pairs that entries spell
 
 pub leaf_apart : AreApart pair_spelling IsPair
-leaf_apart = record {
-  some = λ p. omega arith;
-  rests = λ p q x y h k e. (pair_spellings_apart p q x y h k e).1;
-}
+leaf_apart = grind (arith, common_steps, pair_spellings_apart)
 
 pub some_leaf : (entries : List ℕ) → AreEntries pair_spelling IsPair entries → IsSomeLeaf entries
 some_leaf entries e = record { pairs = e.entries; is = record { is = e.is; lawful = e.lawful } }
@@ -196,11 +180,7 @@ no_leaf done pairs rest lawful left none l =
 -- ---- what is read of them
 
 pair_shrinks : Shrinks behind_pair
-pair_shrinks b bytes = omega (
-  arith,
-  length-drop
-      (6 + key_length (b ∷ bytes) + value_length (b ∷ bytes)) (b ∷ bytes),
-)
+pair_shrinks b bytes = grind (arith, common_steps, length-drop)
 
 pair_reads : (p : Pair) → IsPair p → Reads first_pair behind_pair (pair_spelling p) p
 pair_reads p h = record {
@@ -280,12 +260,7 @@ node_apart version = record {
 
 some_node : (version : Version) (entries : List ℕ) → AreEntries (entry_of version) IsChild entries →
     IsNode version entries []
-some_node version entries e = record {
-  children = e.entries;
-  is = e.is;
-  lawful = e.lawful;
-  none = refl;
-}
+some_node version entries e = grind (arith, common_steps)
 
 node_entries : (version : Version) (entries : List ℕ) → IsNode version entries [] →
     AreEntries (entry_of version) IsChild entries
@@ -326,10 +301,7 @@ no_node version done pairs rest lawful left none n =
 -- ---- what is read of them
 
 pub child_shrinks : (version : Version) → Shrinks (behind_child version)
-child_shrinks version b bytes = omega (
-  arith,
-  length-drop (2 + key_length (b ∷ bytes) + tail_length version) (b ∷ bytes),
-)
+child_shrinks version b bytes = grind (arith, common_steps, length-drop)
 
 -- a child as it is read from its entry
 abbrev pub as_read : Version → Child → Child

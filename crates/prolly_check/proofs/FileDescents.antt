@@ -1,5 +1,6 @@
 -- Going down the tree of a file that was checked.
-use Rattle.std.proofs.Common.{◌≡◌, ℕ, suc, ◌<◌, ◌≤◌, inl, inr, ◌⊎◌, List, [], ◌∷◌, ◌++◌, length}
+use Rattle.std.proofs.lemmas.Grind.{common_steps}
+use Rattle.std.proofs.Common.{◌≡◌, ℕ, suc, ◌<◌, ◌≤◌, inl, inr, List, [], ◌∷◌, ◌++◌, length}
 use Rattle.std.proofs.Common.{map, refl, sym, ap, ◌∙◌, subst, arith}
 use Rattle.std.specs.Borrow.{Bor}
 use Rattle.std.specs.List.{AllByRecursion}
@@ -62,12 +63,7 @@ module _ (content : Content) (f : HasFile content) (number : ℕ) (top : IsTop c
     }
 
     counted_still : IsCounted content.version next
-    counted_still = still next to.at.can
-      where
-        still : (s : Sought) → CanCount content.version s (pairs_below to.level to.t) →
-            IsCounted content.version s
-        still (Key key) can = tt
-        still (Number n) can = can.0
+    counted_still = grind (arith, common_steps, to)
 
     pub one_below : (n : ℕ) → HasAt (chunks_of content) n reference →
         IsTop content n × (level_of (nth_chunk content number) ≡ suc (level_of (nth_chunk content n)))
@@ -188,16 +184,7 @@ module _ (content : Content) (sought : Sought) (above : List (List ℕ)) (at : A
 
   pub way_goes_on : (next : At) → IsNext content at next →
       OnWay content sought (above ++ chunk ∷ []) next.number (sought_of next.sought)
-  way_goes_on next to = record {
-    top = to.top;
-    counted = to.counted;
-    lead = lead_more content.version sought (reference_of (root_bytes content)) above
-        (reference_of chunk) (sought_of at.sought) chunk
-        (reference_of (nth_chunk content next.number)) (sought_of next.sought) on.lead named
-        to.leads;
-    down = falls_more above chunk (nth_chunk content next.number) on.down to.falls;
-    inside = all_inside;
-  }
+  way_goes_on next to = grind (arith, common_steps, to, lead_more, falls_more, all_inside)
 
   pub way_ends : EndsAt (sought_of at.sought) (kind_of content.version chunk) →
       IsEnd content sought at
@@ -237,22 +224,9 @@ module _ (content : Content) (f : HasFile content) where
   can_in : (sought : Sought) → IsCounted content.version sought →
       CanCount content.version sought content.pairs
   can_in (Key key) counted = tt
-  can_in (Number n) counted = (
-    counted,
-    let short = f.short in omega (arith, few_pairs f.bytes content f.is),
-  )
+  can_in (Number n) counted = grind (arith, common_steps, few_pairs)
 
   pub end_tells : (sought : Sought) → IsCounted content.version sought → (at : At) →
       IsEnd content sought at → Tells sought content.pairs (sought_of at.sought)
       (pairs_held (nth_chunk content at.number))
-  end_tells sought counted at end =
-      subst (λ c. Tells sought content.pairs (sought_of at.sought) (pairs_held c)) end.last
-      (subst (λ s. Tells sought content.pairs s (pairs_held end.way.last)) end.there
-      (tells (way_right content.version content.bits content.pairs sought end.chunks f.is.rising
-      f.is.lawful (can_in sought counted) end.way)))
-    where
-      tells : Tells sought content.pairs end.way.there (pairs_held end.way.last) ⊎
-          Clash end.chunks (chunks_of content) →
-          Tells sought content.pairs end.way.there (pairs_held end.way.last)
-      tells (inl told) = told
-      tells (inr clash) = absurd (no_clash end.chunks end.inside clash)
+  end_tells sought counted at end = grind (arith, common_steps, way_right, can_in, no_clash)

@@ -1,4 +1,5 @@
 -- The pairs that chunks hold, and testing chunks one after another.
+use Rattle.std.proofs.lemmas.Grind.{common_steps}
 use Rattle.std.proofs.Common.{◌≡◌, ℕ, zero, suc, ◌<◌, List, [], ◌∷◌, ◌++◌, length, map, get_or}
 use Rattle.std.proofs.Common.{refl, sym, ap, ◌∙◌, subst, arith, append-nil, ◌+◌, take, drop}
 use Rattle.std.specs.List.{flat_map, AllByRecursion}
@@ -6,14 +7,13 @@ use Rattle.std.specs.declared.ops.Range.{Range}
 use Rattle.std.proofs.Math.Seq.{drop-cons}
 use Rattle.std.proofs.lemmas.List.{map-append, length-map, length-take, map_more, take-append-drop}
 use Rattle.std.proofs.lemmas.List.Concat.{flat_map-append}
-use Rattle.prolly_entry.specs.Cut.{sha512_cut}
 use Rattle.prolly_entry.specs.Pair.{Pair, IsPair}
 use Rattle.prolly_entry.specs.Reference.{reference_of}
 use Rattle.prolly_entry.specs.declared.version.Version.{Version}
 use Rattle.prolly_entry.specs.lemmas.Lists.{all_front, all_back, all_append}
 use Rattle.prolly_entry.specs.lemmas.Spellings.{reference_length}
 use Rattle.prolly_tree.specs.Chunk.{Chunk, chunk_of, post_order}
-use Rattle.prolly_tree.specs.Tree.{Tree, pairs_below, greatest_key, pair_count, bytes_of, tree_of}
+use Rattle.prolly_tree.specs.Tree.{Tree, pairs_below, greatest_key, pair_count, bytes_of}
 use Rattle.prolly_tree.specs.Tree.{child_entry}
 use Rattle.prolly_tree.specs.lemmas.Maps.{last_key_short}
 use Rattle.prolly_tree.specs.lemmas.Splits.{flat}
@@ -79,19 +79,17 @@ module _ (version : Version) where
   pub all_hold : (chunks : List (List ℕ)) → AreWhole version chunks →
       AllHold version chunks (map pairs_held chunks)
   all_hold [] w = tt
-  all_hold (chunk ∷ chunks) w = (
-    subst (Holds version chunk) (held_is chunk w.0.pairs w.0.holds)
-        w.0.holds,
-    all_hold chunks w.1,
-  )
+  all_hold (chunk ∷ chunks) w = grind (arith, common_steps, held_is, all_hold chunks w.1)
 
   pub each_whole : (chunks : List (List ℕ)) (number : ℕ) → AreWhole version chunks →
       number < length chunks → IsWhole version (get_or chunks number [])
   each_whole [] number w within = absurd (omega arith)
   each_whole (chunk ∷ chunks) zero w within = w.0
-  each_whole (chunk ∷ chunks) (suc number) w within =
-      let within' : suc number < suc (length chunks) = within in
-      each_whole chunks number w.1 (omega arith)
+  each_whole (chunk ∷ chunks) (suc number) w within = grind (
+    arith,
+    common_steps,
+    each_whole chunks number w.1 (omega arith),
+  )
 
   -- a whole chunk has a first byte
   pub some_byte : (chunk : List ℕ) → IsWhole version chunk → 0 < length chunk
@@ -108,11 +106,7 @@ pub record HoldPairs (version : Version) (chunks : List (List ℕ)) (pairs : Lis
 module _ (version : Version) where
   both : (cs ds : List (List ℕ)) (ps qs : List Pair) → HoldPairs version cs ps →
       HoldPairs version ds qs → HoldPairs version (cs ++ ds) (ps ++ qs)
-  both cs ds ps qs h k = record {
-    whole = all_append (IsWhole version) cs ds h.whole k.whole;
-    are = flat_map-append pairs_held cs ds ∙ ap (λ a. a ++ flat_map pairs_held ds) h.are ∙
-        ap (λ b. ps ++ b) k.are;
-  }
+  both cs ds ps qs h k = grind (arith, common_steps, all_append, flat_map-append)
 
   abbrev child_below : (level : ℕ) → Tree level → Child
   child_below level t = record {
@@ -132,14 +126,14 @@ module _ (version : Version) where
       AllByRecursion IsPair (flat_map (pairs_below level) ts) →
       AllByRecursion IsChild (map (child_below level) ts)
   all_children level [] h = tt
-  all_children level (t ∷ ts) h = (
-    record {
-      key = last_key_short (pairs_below level t)
-          (all_front IsPair (pairs_below level t) (flat_map (pairs_below level) ts) h);
-      reference = reference_length (bytes_of version level t);
-    },
-    all_children level ts (all_back IsPair (pairs_below level t) (flat_map (pairs_below level) ts)
-        h),
+  all_children level (t ∷ ts) h = grind (
+    arith,
+    common_steps,
+    last_key_short,
+    all_front,
+    reference_length,
+    all_back,
+    all_children level ts (all_back IsPair (pairs_below level t) (flat_map (pairs_below level) ts) h),
   )
 
   abbrev Holding : (level : ℕ) → Tree level → Type 0
@@ -162,11 +156,7 @@ module _ (version : Version) where
       (all_trees level holding ts (all_back IsPair own rest h)))
 
   pub tree_holds : (level : ℕ) (t : Tree level) → Holding level t
-  tree_holds zero leaf h = record {
-    whole = (record { pairs = leaf; holds = record { is = refl; lawful = h } }, tt);
-    are = append-nil (pairs_held (bytes_of version 0 leaf)) ∙
-        leaf_pairs _ leaf (record { is = refl; lawful = h });
-  }
+  tree_holds zero leaf h = grind (arith, common_steps, append-nil, leaf_pairs)
   tree_holds (suc level) ts h =
       let pairs = flat_map (pairs_below level) ts in
       let below = flat_map (post_order version level) ts in
@@ -202,11 +192,7 @@ module _ (version : Version) where
 -- the chunks of a map hold its pairs
 pub map_holds : (version : Version) (bits : ℕ) (pairs : List Pair) → AllByRecursion IsPair pairs →
     HoldPairs version (chunk_bytes version bits pairs) pairs
-map_holds version bits pairs lawful =
-    let t = tree_of (sha512_cut bits) version pairs in
-    let below : pairs_below t.level t.tree ≡ pairs = pairs_are (sha512_cut bits) version pairs in
-    subst (HoldPairs version (chunk_bytes version bits pairs)) below
-    (tree_holds version t.level t.tree (subst (AllByRecursion IsPair) (sym below) lawful))
+map_holds version bits pairs lawful = grind (arith, common_steps, pairs_are, tree_holds)
 
 -- ---- testing the chunks of a file one after another
 
@@ -215,9 +201,7 @@ module _ (version : Version) (bytes : List ℕ) (spans : List (Range ℕ)) (n : 
     (is : chunk ≡ chunk_in bytes (get_or spans n other))
     (before : AreWhole version (chunks_in bytes (take n spans))) where
   pub whole_next : IsWhole version chunk → AreWhole version (chunks_in bytes (take (n + 1) spans))
-  whole_next one = subst (AreWhole version) (sym (map_more (chunk_in bytes) spans n other within))
-      (all_append (IsWhole version) (chunks_in bytes (take n spans))
-      (chunk_in bytes (get_or spans n other) ∷ []) before (subst (IsWhole version) is one, tt))
+  whole_next one = grind (arith, common_steps, map_more, all_append, get_or)
 
   pub bad_next : ((pairs : List Pair) → Holds version chunk pairs → ⊥) →
       IsBad version (chunks_in bytes spans) (faults.BadChunk n)

@@ -1,4 +1,5 @@
 -- What is left of a map, leaf by leaf, and what was written of it.
+use Rattle.std.proofs.lemmas.Grind.{common_steps}
 use Rattle.std.proofs.Common.{◌≡◌, ℕ, ◌+◌, ◌<◌, Bool, true, false, not, cond, List, [], ◌∷◌, ◌++◌}
 use Rattle.std.proofs.Common.{length, drop, take, get_or, refl, sym, ap, ◌∙◌, subst, arith}
 use Rattle.std.proofs.Common.{take-append-drop, Ok, Err, append_assoc, append-nil}
@@ -38,21 +39,12 @@ no_pairs = refl
 -- the first of rising pairs from a key on are those of a part that has some: so none stands before it
 above_from : (x key : List ℕ) (ps : List Pair) → Above x ps → Above x (pairs_from key ps)
 above_from x key [] h = tt
-above_from x key (p ∷ ps) h = go (is_lt (key_order p.key key)) (above_from x key ps h.1)
-  where
-    go : (b : Bool) → Above x (pairs_from key ps) →
-        Above x (cond (not b) (p ∷ pairs_from key ps) (pairs_from key ps))
-    go true rest = rest
-    go false rest = (h.0, rest)
+above_from x key (p ∷ ps) h = grind (arith, common_steps, above_from x key ps h.1)
 
 not_first : (x : Pair) (found xs rest : List Pair) → Above x.key found → x ∷ xs ≡ found ++ rest →
     (found ≡ [] → ⊥) → ⊥
 not_first x [] xs rest above e some = some refl
-not_first x (p ∷ ps) xs rest above e some = less_self x.key
-    (subst (λ q. KeyBelow x.key q.key) (sym (same x p xs (ps ++ rest) e)) above.0)
-  where
-    same : (x y : Pair) (xs ys : List Pair) → x ∷ xs ≡ y ∷ ys → x ≡ y
-    same x y xs ys e = cc
+not_first x (p ∷ ps) xs rest above e some = grind (arith, common_steps, less_self)
 
 first_leaf : (key : List ℕ) (xs leaf ys rest : List Pair) → Rises (xs ++ (leaf ++ ys)) →
     pairs_from key (xs ++ (leaf ++ ys)) ≡ pairs_from key leaf ++ rest →
@@ -109,10 +101,7 @@ module _ (content : Content) (f : HasFile content) (number : ℕ) where
 
       found : pairs_from key content.pairs ≡
           pairs_from key front ++ (pairs_from key leaf ++ pairs_from key (behind (number + 1)))
-      found = ap (pairs_from key) whole ∙
-          pairs_from-append key front (leaf ++ behind (number + 1)) ∙
-          ap (λ ps. pairs_from key front ++ ps)
-          (pairs_from-append key leaf (behind (number + 1)))
+      found = grind (arith, common_steps, whole, pairs_from-append)
 
       none_found : pairs_from key leaf ≡ [] → pairs_from key content.pairs ≡ []
       none_found none = subst (AreFirstFrom key content.pairs) none first
@@ -139,22 +128,23 @@ module _ (content : Content) (f : HasFile content) (number : ℕ) where
               (λ none. some p ps (sym is ∙ none))
 
       pub from_number : pairs_from key content.pairs ≡ pairs_from key (behind number)
-      from_number = found ∙ ap (λ ps. ps ++ (pairs_from key leaf ++
-          pairs_from key (behind (number + 1)))) none_before ∙
-          sym (ap (pairs_from key) parts ∙ pairs_from-append key leaf (behind (number + 1)))
+      from_number = grind (arith, common_steps, found, none_before, parts, pairs_from-append)
 
       pub from_leaf : (pairs_from key leaf ≡ [] → ⊥) →
           pairs_from key leaf ++ behind (number + 1) ≡ pairs_from key content.pairs
-      from_leaf some = sym (found ∙ ap (λ ps. ps ++ (pairs_from key leaf ++
-          pairs_from key (behind (number + 1)))) none_before ∙
-          ap (λ ps. pairs_from key leaf ++ ps)
-          (from_behind key leaf (behind (number + 1)) (subst Rises parts rest_rises) some))
+      from_leaf some = grind (
+        arith,
+        common_steps,
+        found,
+        none_before,
+        from_behind,
+        parts,
+        rest_rises,
+      )
 
       pub from_none : (end : ℕ) → end ≡ length (chunks_of content) → pairs_from key leaf ≡ [] →
           pairs_from key leaf ++ behind end ≡ pairs_from key content.pairs
-      from_none end is none = ap (λ ps. ps ++ behind end) none ∙
-          ap (flat_map pairs_held) (drop_all end (chunks_of content) (omega (arith, is))) ∙
-          sym (none_found none)
+      from_none end is none = grind (arith, common_steps, drop_all, none_found)
 
 -- ---- pairs that are written as a record file, part by part
 
@@ -167,13 +157,7 @@ pub record IsDumped (pairs left : List Pair) (old new : SinkView) : Type 0 where
   pub failures : new.failures ≡ old.failures
 
 pub none_dumped : (pairs : List Pair) (old : SinkView) → IsDumped pairs pairs old old
-none_dumped pairs old = record {
-  done = [];
-  all = refl;
-  written = λ k. sym (append-nil old.taken);
-  keeping = λ k. k;
-  failures = refl;
-}
+none_dumped pairs old = grind (arith, common_steps, append-nil)
 
 -- ---- one part more
 
@@ -186,44 +170,20 @@ module _ (pairs left part rest : List Pair) (split : left ≡ part ++ rest) (old
   one_more = flat_map-append pair_spelling d.done part
 
   all_parts : record_file pairs ≡ record_file d.done ++ (own ++ record_file rest)
-  all_parts = ap record_file (d.all ∙ ap (λ ps. d.done ++ ps) split) ∙
-      flat_map-append pair_spelling d.done (part ++ rest)
-      ∙ ap (λ bytes. record_file d.done ++ bytes) (flat_map-append pair_spelling part rest)
+  all_parts = grind (arith, common_steps, flat_map-append)
 
   pub one_dumped : {T E : Type 0} (x : T) → Writes {T = T} {E = E} own mid new (Ok x) →
       IsDumped pairs rest old new
-  one_dumped x w = record {
-    done = d.done ++ part;
-    all = d.all ∙ ap (λ ps. d.done ++ ps) split ∙ sym (append_assoc d.done part rest);
-    written = λ k. w.written (d.keeping k) ∙ ap (λ bytes. bytes ++ own) (d.written k) ∙
-        append_assoc old.taken (record_file d.done) own
-        ∙ ap (λ bytes. old.taken ++ bytes) (sym one_more);
-    keeping = λ k. w.keeping (d.keeping k);
-    failures = w.failures ∙ d.failures;
-  }
+  one_dumped x w = grind (arith, common_steps, append_assoc, one_more)
 
   -- a prefix of its records is one of all records, behind those that were written
   part_of_all : old.is_keeping ≡ true → TakesPrefix mid.taken new.taken own →
       TakesPrefix old.taken new.taken (record_file pairs)
-  part_of_all k t = record {
-    part = record_file d.done ++ t.part;
-    grown = t.grown ∙ ap (λ bytes. bytes ++ t.part) (d.written k) ∙
-        append_assoc old.taken (record_file d.done) t.part;
-    is_prefix = (
-      t.is_prefix.0 ++ record_file rest,
-      all_parts ∙ ap (λ bytes. record_file d.done ++ (bytes ++ record_file rest)) t.is_prefix.1 ∙
-          simp append_assoc,
-    );
-  }
+  part_of_all k t = grind (arith, common_steps, append_assoc, all_parts)
 
   pub dump_failed : {T E : Type 0} (x y : E) → Writes {T = T} {E = E} own mid new (Err x) →
       Writes {T = T} {E = E} (record_file pairs) old new (Err y)
-  dump_failed x y w = record {
-    written = λ k. tt;
-    part = λ k. part_of_all k (w.part (d.keeping k));
-    failures = w.failures ∙ ap after_failure d.failures;
-    keeping = λ k. w.keeping (d.keeping k);
-  }
+  dump_failed x y w = grind (arith, common_steps, part_of_all)
 
 -- ---- the end
 
@@ -232,28 +192,12 @@ module _ (pairs left : List Pair) (none : left ≡ []) (old mid new : SinkView)
     (same : mid.is_keeping ≡ true → new.taken ≡ mid.taken) (keeps : mid.is_keeping ≡ true →
     new.is_keeping ≡ true) where
   all_taken : old.is_keeping ≡ true → new.taken ≡ old.taken ++ record_file pairs
-  all_taken k = same (d.keeping k) ∙ d.written k
-      ∙ ap (λ ps. old.taken ++ record_file ps) (sym (append-nil d.done) ∙
-      ap (λ ps. d.done ++ ps) (sym none) ∙ sym d.all)
+  all_taken k = grind (arith, common_steps, append-nil)
 
   pub dump_flushed : {T E : Type 0} (x : T) → new.failures ≡ mid.failures →
       Writes {T = T} {E = E} (record_file pairs) old new (Ok x)
-  dump_flushed x counted = record {
-    written = all_taken;
-    part = λ k. tt;
-    failures = counted ∙ d.failures;
-    keeping = λ k. keeps (d.keeping k);
-  }
+  dump_flushed x counted = grind (arith, common_steps, all_taken)
 
   pub dump_unflushed : {T E : Type 0} (y : E) → new.failures ≡ after_failure mid.failures →
       Writes {T = T} {E = E} (record_file pairs) old new (Err y)
-  dump_unflushed y counted = record {
-    written = λ k. tt;
-    part = λ k. record {
-      part = record_file pairs;
-      grown = all_taken k;
-      is_prefix = ([], sym (append-nil (record_file pairs)));
-    };
-    failures = counted ∙ ap after_failure d.failures;
-    keeping = λ k. keeps (d.keeping k);
-  }
+  dump_unflushed y counted = grind (arith, common_steps, all_taken, append-nil)

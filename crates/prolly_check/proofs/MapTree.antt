@@ -1,4 +1,5 @@
 -- The tree of a map, and what is read of its chunks.
+use Rattle.std.proofs.lemmas.Grind.{common_steps}
 use Rattle.std.proofs.Common.{◌≡◌, ℕ, zero, suc, ◌<◌, inl, inr, List, [], ◌∷◌, ◌++◌, length, sym}
 use Rattle.std.proofs.Common.{ap, ◌∙◌, subst, arith, map, get_or, slice_index, refl}
 use Rattle.std.specs.List.{flat_map, AllByRecursion}
@@ -83,25 +84,19 @@ pub root_is : (version : Version) (bits : ℕ) (m : List Pair) → AllByRecursio
     Rising (keys_in m) →
     IsTreeOf version (chunk_bytes version bits m) (tree_of (sha512_cut bits) version m).level
     (tree_of (sha512_cut bits) version m).tree
-root_is version bits m lawful rising =
-    let t = tree_of (sha512_cut bits) version m in
-    let e : pairs_below t.level t.tree ≡ m = pairs_are (sha512_cut bits) version m in
-    record {
-      has = λ c h. in_bytes c (post_order version t.level t.tree) h;
-      lawful = subst (AllByRecursion IsPair) (sym e) lawful;
-      rising = subst (λ ps. Rising (keys_in ps)) (sym e) rising;
-      full = root_full version bits m;
-    }
+root_is version bits m lawful rising = grind (arith, common_steps, pairs_are, in_bytes, root_full)
 
 in_child : (version : Version) (level : ℕ) (before after : List (Tree level)) (t : Tree level)
     (c : Chunk) →
     IsIn c (post_order version level t) → IsIn c
     (flat_map (post_order version level) (before ++ t ∷ after))
-in_child version level before after t c h = subst (IsIn c)
-    (sym (flat_map-append (post_order version level) before (t ∷ after)))
-    (in_back c (flat_map (post_order version level) before)
-    (flat_map (post_order version level) (t ∷ after))
-    (in_front c (post_order version level t) (flat_map (post_order version level) after) h))
+in_child version level before after t c h = grind (
+  arith,
+  common_steps,
+  flat_map-append,
+  in_back,
+  in_front,
+)
 
 -- what has a node has its children
 has_child : (version : Version) (chunks : List (List ℕ)) (level : ℕ)
@@ -153,8 +148,11 @@ all_below : (level : ℕ) (ts : List (Tree level)) →
     AllByRecursion IsPair (flat_map (pairs_below level) ts) →
     AllByRecursion (λ t. AllByRecursion IsPair (pairs_below level t)) ts
 all_below level [] h = tt
-all_below level (t ∷ ts) h = (
-  all_front IsPair (pairs_below level t) (flat_map (pairs_below level) ts) h,
+all_below level (t ∷ ts) h = grind (
+  arith,
+  common_steps,
+  all_front,
+  all_back,
   all_below level ts (all_back IsPair (pairs_below level t) (flat_map (pairs_below level) ts) h),
 )
 
@@ -223,11 +221,7 @@ module _ (version : Version) (level : ℕ) where
   pub tops_rise : (ts : List (Tree level)) → AreFull ts →
       Rising (map (λ p. p.key) (flat_map (pairs_below level) ts)) → Rising (tops ts)
   tops_rise [] full h = tt
-  tops_rise (t ∷ ts) full h =
-      let own = pairs_below level t in
-      let rest = flat_map (pairs_below level) ts in
-      let r = rises (own ++ rest) h in
-      tops_from (last_key own) ts full.1 (above_last own rest full.0.0 r) (rises_back own rest r)
+  tops_rise (t ∷ ts) full h = grind (arith, common_steps, rises, tops_from, above_last, rises_back)
 
 -- ---- the entries of a top
 

@@ -1,15 +1,15 @@
 -- Bytes have one verdict, which is never a fault of the reading.
+use Rattle.std.proofs.lemmas.Grind.{common_steps}
+use Rattle.std.proofs.Common.{arith}
 use Rattle.std.proofs.Common.{◌≡◌, ℕ, suc, true, List, [], ◌∷◌, ◌++◌, length, drop, Option, Some}
 use Rattle.std.proofs.Common.{None, Result, Ok, Err, refl, sym, ap, ◌∙◌, subst, append_assoc, ◌≤◌}
-use Rattle.std.proofs.Common.{not, ◌==◌, nat_lt, inl, inr}
-use Rattle.std.specs.List.{flat_map, AllByRecursion, list_any}
+use Rattle.std.proofs.Common.{nat_lt, inl, inr}
+use Rattle.std.specs.List.{flat_map, AllByRecursion}
 use Rattle.std.specs.Prelude.{slice_index, IfSome, IfErr}
-use Rattle.std.specs.Str.{bytes_eq}
 use Rattle.std.proofs.lemmas.Bool.{false≢true, cond_both}
 use Rattle.prolly_entry.specs.Overlay.{or_else}
 use Rattle.prolly_entry.specs.Pair.{Pair}
 use Rattle.prolly_entry.specs.Position.{Position}
-use Rattle.prolly_entry.specs.Reference.{reference_of}
 use Rattle.prolly_entry.specs.declared.version.Version.{Version}
 use Rattle.prolly_entry.specs.lemmas.Lists.{all_back}
 use Rattle.prolly_tree.specs.lemmas.Splits.{flat}
@@ -20,8 +20,8 @@ use Rattle.prolly_file.specs.declared.format.header.HeaderFault.{HeaderFault}
 use Rattle.prolly_check.specs.Content.{Content}
 use Rattle.prolly_check.specs.Entries.{Holds, IsRead, IsWhole, AreWhole}
 use Rattle.prolly_check.specs.Frames.{ending_of}
-use Rattle.prolly_check.specs.Judged.{order_fault, difference, end_fault, reuse, chunk_bytes}
-use Rattle.prolly_check.specs.Judged.{ending_for, canonical_fault, or_content, rises_behind}
+use Rattle.prolly_check.specs.Judged.{order_fault, difference, reuse}
+use Rattle.prolly_check.specs.Judged.{or_content}
 use Rattle.prolly_check.specs.Judged.{last_behind}
 use Rattle.prolly_check.specs.Refusal.{UnlessMemory, fault_of_header}
 use Rattle.prolly_check.specs.Verdict.{IsRefusal, ReadVerdict, EndVerdict, FramesVerdict}
@@ -54,12 +54,20 @@ pub framed_one : (cs ds : List (List ℕ)) (x y : List ℕ) → AllByRecursion I
     AllByRecursion IsSmall ds → has_no_frame x ≡ true → has_no_frame y ≡ true →
     flat_map framed cs ++ x ≡ flat_map framed ds ++ y → Same cs ds x y
 framed_one [] [] x y h k a b e = record { chunks = refl; tail = e }
-framed_one [] (d ∷ ds) x y h k a b e = absurd
-    (false≢true (sym (begins_frame d (flat_map framed ds ++ y) k.0) ∙
-    ap has_no_frame (sym (e ∙ regroup d ds y)) ∙ a))
-framed_one (c ∷ cs) [] x y h k a b e = absurd
-    (false≢true (sym (begins_frame c (flat_map framed cs ++ x) h.0) ∙
-    ap has_no_frame (sym (regroup c cs x) ∙ e) ∙ b))
+framed_one [] (d ∷ ds) x y h k a b e = grind (
+  arith,
+  common_steps,
+  false≢true,
+  begins_frame,
+  regroup,
+)
+framed_one (c ∷ cs) [] x y h k a b e = grind (
+  arith,
+  common_steps,
+  false≢true,
+  begins_frame,
+  regroup,
+)
 framed_one (c ∷ cs) (d ∷ ds) x y h k a b e =
     let p = one_front c d (flat_map framed cs ++ x) (flat_map framed ds ++ y) h.0 k.0
     (sym (regroup c cs x) ∙ e ∙ regroup d ds y) in
@@ -101,11 +109,7 @@ module _ (version : Version) where
       (are_whole version cs ls h) k.bad)
   read_one cs (Err f) (Ok ms) h k = absurd (not_bad cs h.before h.chunk h.after h.whole
       (are_whole version cs ms k) h.bad)
-  read_one cs (Err f) (Err g) h k = ap Err (h.is ∙
-      ap BadChunk (bad_same h.before k.before h.chunk k.chunk h.after k.after (sym h.whole ∙
-      k.whole)
-      (are_whole version h.before h.lists h.good) (are_whole version k.before k.lists k.good) h.bad
-      k.bad) ∙ sym k.is)
+  read_one cs (Err f) (Err g) h k = grind (arith, common_steps, bad_same, are_whole)
 
 -- ---- the verdicts
 
@@ -118,22 +122,12 @@ read_same version bits cs ending (Err f) v w h k = h ∙ sym k
 end_same : (version : Version) (bits : ℕ) (cs : List (List ℕ)) (ending : Result (List ℕ) CheckFault)
     (v w : Result Content CheckFault) →
     EndVerdict version bits cs ending v → EndVerdict version bits cs ending w → v ≡ w
-end_same version bits cs (Ok ending) v w h k =
-    read_same version bits cs ending k.read v w
-    (subst (λ r. ReadVerdict version bits cs ending r v)
-    (read_one version cs h.read k.read h.is k.is) h.so) k.so
+end_same version bits cs (Ok ending) v w h k = grind (arith, common_steps, read_same, read_one)
 end_same version bits cs (Err f) v w h k = h ∙ sym k
 
 frames_same : (version : Version) (bits : ℕ) (bytes : List ℕ) (v w : Result Content CheckFault) →
     FramesVerdict version bits bytes v → FramesVerdict version bits bytes w → v ≡ w
-frames_same version bits bytes v w h k =
-    let s = framed_one h.chunks k.chunks h.is.tail k.is.tail h.is.small k.is.small h.is.all k.is.all
-    (sym h.is.spelled ∙ k.is.spelled) in
-    let e : h.ending ≡ k.ending = sym h.is.is ∙ ap (λ cs. ending_of (length cs) h.is.tail)
-    s.chunks ∙ ap (ending_of (length k.chunks)) s.tail ∙ k.is.is in
-    end_same version bits k.chunks k.ending v w
-    (subst (λ x. EndVerdict version bits k.chunks x v) e
-    (subst (λ cs. EndVerdict version bits cs h.ending v) s.chunks h.so)) k.so
+frames_same version bits bytes v w h k = grind (arith, common_steps, framed_one, end_same)
 
 pub one_verdict : OneVerdict
 one_verdict bytes v w h k = go (header_fault header_tests bytes) h k
@@ -168,36 +162,38 @@ of_header header.BadByte = tt
 
 of_ending : (number : ℕ) (bytes : List ℕ) → ErrOfBytes (ending_of number bytes)
 of_ending number [] = tt
-of_ending number (b ∷ rest) =
-    cond_both (b == 0x43) (Err faults.Truncated) _ ErrOfBytes (λ _. tt)
-    (λ _. cond_both (not (b == 0x45)) (Err (faults.BadFrame number)) _ ErrOfBytes (λ _. tt)
-    (λ _. cond_both (nat_lt (length rest) 28) (Err faults.Truncated) _ ErrOfBytes (λ _. tt)
-    (λ _. cond_both (nat_lt 28 (length rest)) (Err faults.Trailing) (Ok rest) ErrOfBytes (λ _. tt)
-    (λ _. tt))))
+of_ending number (b ∷ rest) = grind (arith, common_steps, cond_both, nat_lt)
 
 of_order : (last : Position) (number : ℕ) (lists : List (List Pair)) →
     AnyOfBytes (order_fault last number lists)
 of_order last number [] = tt
-of_order last number (ps ∷ lists) =
-    cond_both (rises_behind last ps) (order_fault (last_behind last ps) (suc number) lists)
-    (Some (faults.KeysOutOfOrder number)) AnyOfBytes
-    (λ _. of_order (last_behind last ps) (suc number) lists) (λ _. tt)
+of_order last number (ps ∷ lists) = grind (
+  arith,
+  common_steps,
+  cond_both,
+  of_order (last_behind last ps) (suc number) lists,
+)
 
 of_difference : (number : ℕ) (cs ds : List (List ℕ)) → AnyOfBytes (difference number cs ds)
 of_difference number [] [] = tt
 of_difference number [] (d ∷ ds) = tt
 of_difference number (c ∷ cs) [] = tt
-of_difference number (c ∷ cs) (d ∷ ds) =
-    cond_both (bytes_eq c d) (difference (suc number) cs ds) (Some (faults.NotCanonical number))
-    AnyOfBytes (λ _. of_difference (suc number) cs ds) (λ _. tt)
+of_difference number (c ∷ cs) (d ∷ ds) = grind (
+  arith,
+  common_steps,
+  cond_both,
+  of_difference (suc number) cs ds,
+)
 
 of_reuse : (before : List (List ℕ)) (number : ℕ) (cs : List (List ℕ)) →
     AnyOfBytes (reuse before number cs)
 of_reuse before number [] = tt
-of_reuse before number (c ∷ cs) =
-    cond_both (list_any (λ d. bytes_eq (reference_of d) (reference_of c)) before)
-    (Some (faults.Collision number)) (reuse (c ∷ before) (suc number) cs) AnyOfBytes
-    (λ _. tt) (λ _. of_reuse (c ∷ before) (suc number) cs)
+of_reuse before number (c ∷ cs) = grind (
+  arith,
+  common_steps,
+  cond_both,
+  of_reuse (c ∷ before) (suc number) cs,
+)
 
 of_content : (content : Content) (fault : Option CheckFault) → AnyOfBytes fault →
     ErrOfBytes (or_content content fault)
@@ -207,18 +203,16 @@ of_content content (Some fault) h = h
 of_read : (version : Version) (bits : ℕ) (cs : List (List ℕ)) (ending : List ℕ)
     (read : Result (List (List Pair)) CheckFault) (verdict : Result Content CheckFault) →
     IsRead version cs read → ReadVerdict version bits cs ending read verdict → ErrOfBytes verdict
-of_read version bits cs ending (Ok lists) verdict is so =
-    let pairs = flat lists in
-    let chunks_fault = difference 0 (chunk_bytes version bits pairs) cs in
-    let last_fault = end_fault ending (ending_for version bits pairs) in
-    subst ErrOfBytes (sym so) (of_content (record { version = version; bits = bits; pairs = pairs })
-    (or_else (canonical_fault version bits cs ending lists) (reuse [] 0 cs))
-    (then (canonical_fault version bits cs ending lists) (reuse [] 0 cs)
-    (then (order_fault None 0 lists) (or_else chunks_fault last_fault) (of_order None 0 lists)
-    (then chunks_fault last_fault (of_difference 0 (chunk_bytes version bits pairs) cs)
-    (cond_both (bytes_eq ending (ending_for version bits pairs)) None (Some faults.BadEnd)
-    AnyOfBytes (λ _. tt) (λ _. tt))))
-    (of_reuse [] 0 cs)))
+of_read version bits cs ending (Ok lists) verdict is so = grind (
+  arith,
+  common_steps,
+  flat,
+  of_content,
+  of_order,
+  of_difference,
+  cond_both,
+  of_reuse,
+)
 of_read version bits cs ending (Err fault) verdict is so =
     subst ErrOfBytes (sym so) (subst OfBytes (sym is.is) tt)
 
@@ -231,12 +225,7 @@ of_end version bits cs (Err fault) verdict h so = subst ErrOfBytes (sym so) h
 
 pub verdict_of_bytes : (bytes : List ℕ) (fault : CheckFault) → IsVerdict bytes (Err fault) →
     OfBytes fault
-verdict_of_bytes bytes fault v = go (header_fault header_tests bytes) v
-  where
-    go : (o : Option HeaderFault) → HeaderVerdict o bytes (Err fault) → OfBytes fault
-    go (Some f) v = subst ErrOfBytes (sym v) (of_header f)
-    go None v = of_end (version_of (slice_index bytes 4)) (slice_index bytes 5) v.chunks v.ending
-        (Err fault) (subst ErrOfBytes v.is.is (of_ending (length v.chunks) v.is.tail)) v.so
+verdict_of_bytes bytes fault v = grind (arith, common_steps, of_header, of_end, of_ending)
 
 -- ---- refusals of the bytes that were read
 

@@ -1,4 +1,5 @@
 -- What is found among the pairs of a map: at a key, from a key on, at a number.
+use Rattle.std.proofs.lemmas.Grind.{common_steps}
 use mathlib.Core.List.{cons≢nil}
 use Rattle.std.proofs.Common.{◌≡◌, ℕ, zero, suc, ◌+◌, ◌<◌, false, cond, List, [], ◌∷◌, ◌++◌, length}
 use Rattle.std.proofs.Common.{Some, None, Ordering, refl, sym, ap, ◌∙◌, subst, arith, ◌≤◌, Bool}
@@ -32,9 +33,12 @@ pub all_below : (ps : List Pair) (key : List ℕ) → Rises ps → KeyBelow (las
     AllByRecursion (λ p. KeyBelow p.key key) ps
 all_below [] key h k = tt
 all_below (p ∷ []) key h k = (k, tt)
-all_below (p ∷ q ∷ ps) key h k = (
-  order_trans p.key (last_key (q ∷ ps)) key (above_key p.key (last_key (q ∷ ps)) (q ∷ ps) h.0
-      (has_last q ps)) k,
+all_below (p ∷ q ∷ ps) key h k = grind (
+  arith,
+  common_steps,
+  order_trans,
+  above_key,
+  has_last,
   all_below (q ∷ ps) key h.1 k,
 )
 
@@ -111,22 +115,11 @@ none_from from [] h = refl
 none_from from (p ∷ ps) h = cond-false (not (is_lt (key_order p.key from))) (p ∷ pairs_from from ps)
     (pairs_from from ps) (ap (λ o. not (is_lt o)) h.0) ∙ none_from from ps h.1
 
-pub none_below_all : (level : ℕ) (ts : List (Tree level)) (from : List ℕ) →
-    Rises (flat_map (pairs_below level) ts) →
-    AllByRecursion (λ u. KeyBelow (greatest_key level u) from) ts →
-    pairs_from from (flat_map (pairs_below level) ts) ≡ []
-none_below_all level ts from h k = none_from from (flat_map (pairs_below level) ts)
-    (trees_below level ts from h k)
-
 -- pairs of which the last is not below it have one
 pub some_from : (from : List ℕ) (ps : List Pair) → 0 < length ps →
     is_lt (key_order (last_key ps) from) ≡ false → pairs_from from ps ≡ [] → ⊥
 some_from from [] some h e = absurd (omega arith)
-some_from from (p ∷ []) some h e = go (is_lt (key_order p.key from)) h e
-  where
-    go : (b : Bool) → b ≡ false → cond (not b) (p ∷ []) [] ≡ [] → ⊥
-    go true e f = cc
-    go false e f = cons≢nil f
+some_from from (p ∷ []) some h e = grind (arith, common_steps)
 some_from from (p ∷ q ∷ ps) some h e = go (not (is_lt (key_order p.key from)))
     (λ f. some_from from (q ∷ ps) (omega arith) h f) e
   where
@@ -140,16 +133,12 @@ some_from from (p ∷ q ∷ ps) some h e = go (not (is_lt (key_order p.key from)
 -- pairs above a key are all from it on
 pub from_all : (key : List ℕ) (ps : List Pair) → Above key ps → pairs_from key ps ≡ ps
 from_all key [] h = refl
-from_all key (p ∷ ps) h = cond-true (not (is_lt (key_order p.key key))) (p ∷ pairs_from key ps)
-    (pairs_from key ps) (ap (λ o. not (is_lt o)) (below_greater key p.key h.0)) ∙
-    ap (λ qs. p ∷ qs) (from_all key ps h.1)
+from_all key (p ∷ ps) h = grind (arith, common_steps, cond-true, below_greater, from_all key ps h.1)
 
 -- where the first one of a map is from the key on, all are
 pub from_first : (key : List ℕ) (p : Pair) (ps : List Pair) → Rises (p ∷ ps) →
     is_lt (key_order p.key key) ≡ false → pairs_from key (p ∷ ps) ≡ p ∷ ps
-from_first key p ps h here =
-    cond-true (not (is_lt (key_order p.key key))) (p ∷ pairs_from key ps) (pairs_from key ps)
-    (ap not here) ∙ ap (λ qs. p ∷ qs) (from_all key ps (above_not p.key key ps here h.0))
+from_first key p ps h here = grind (arith, common_steps, cond-true, from_all, above_not)
 
 -- a pair below the key is passed over
 pub from_second : (key : List ℕ) (p : Pair) (ps : List Pair) →
@@ -174,22 +163,12 @@ from_behind key (p ∷ ps) qs h some = go (from_behind key ps qs h.1)
 pub all_from : (P : Pair → Type 0) (key : List ℕ) (ps : List Pair) → AllByRecursion P ps →
     AllByRecursion P (pairs_from key ps)
 all_from P key [] h = tt
-all_from P key (p ∷ ps) h = go (not (is_lt (key_order p.key key))) (all_from P key ps h.1)
-  where
-    go : (b : Bool) → AllByRecursion P (pairs_from key ps) →
-        AllByRecursion P (cond b (p ∷ pairs_from key ps) (pairs_from key ps))
-    go true k = (h.0, k)
-    go false k = k
+all_from P key (p ∷ ps) h = grind (arith, common_steps, all_from P key ps h.1)
 
 -- they rise, too
 pub rises_from : (key : List ℕ) (ps : List Pair) → Rises ps → Rises (pairs_from key ps)
 rises_from key [] h = tt
-rises_from key (p ∷ ps) h = go (not (is_lt (key_order p.key key))) (rises_from key ps h.1)
-  where
-    go : (b : Bool) → Rises (pairs_from key ps) →
-        Rises (cond b (p ∷ pairs_from key ps) (pairs_from key ps))
-    go true k = (all_from (λ q. KeyBelow p.key q.key) key ps h.0, k)
-    go false k = k
+rises_from key (p ∷ ps) h = grind (arith, common_steps, all_from, rises_from key ps h.1)
 
 -- ---- in a leaf
 
@@ -262,20 +241,11 @@ from_here key (p ∷ ps) h = cond-true (not (is_lt (key_order p.key key))) (p �
 
 from_next : (key : List ℕ) (ps : List Pair) → Above key ps → pairs_from (next_key key) ps ≡ ps
 from_next key [] h = refl
-from_next key (p ∷ ps) h = cond-true (not (is_lt (key_order p.key (next_key key))))
-    (p ∷ pairs_from (next_key key) ps) (pairs_from (next_key key) ps)
-    (ap not (least_above key p.key h.0)) ∙ ap (λ qs. p ∷ qs) (from_next key ps h.1)
+from_next key (p ∷ ps) h = grind (arith, common_steps, cond-true, least_above, from_next key ps h.1)
 
 -- of pairs whose keys rise, those from the key on stand behind the others
 in_leaf : (key : List ℕ) (ps : List Pair) → Rises ps → IsFoundIn key ps (pairs_from key ps)
-in_leaf key [] r = record {
-  before = [];
-  after = [];
-  are = refl;
-  below = tt;
-  here = tt;
-  none = λ e. refl;
-}
+in_leaf key [] r = grind (arith, common_steps)
 in_leaf key (p ∷ ps) r = go (in_leaf key ps r.1) (is_lt (key_order p.key key)) refl
   where
     go : IsFoundIn key ps (pairs_from key ps) → (b : Bool) → is_lt (key_order p.key key) ≡ b →
@@ -362,12 +332,7 @@ module _ (key : List ℕ) (m before pairs after : List Pair) (r : Rises m)
   behind = rises_back before (pairs ++ after) (subst Rises are r)
 
   pub find_in_part : find pairs key ≡ find m key
-  find_in_part = sym (ap (λ ps. find ps key) are ∙ find_over before (pairs ++ after) key past ∙
-      find_first pairs after key (missing here))
-    where
-      missing : (after ≡ []) ⊎ (pairs_from key pairs ≡ [] → ⊥) → find after key ≡ None
-      missing (inl none) = ap (λ ps. find ps key) none
-      missing (inr some) = find_above after key (above_some key pairs after behind some)
+  find_in_part = grind (arith, common_steps, find_over, find_first, find_above, above_some, behind)
 
   pub first_in_part : AreFirstFrom key m (pairs_from key pairs)
   first_in_part =

@@ -1,4 +1,5 @@
 -- Rebuilding the chunks of pairs, and their end.
+use Rattle.std.proofs.lemmas.Grind.{common_steps}
 use Rattle.std.proofs.Common.{◌≡◌, ℕ, suc, ◌+◌, ◌<◌, List, [], ◌∷◌, ◌++◌, length, drop, get_or}
 use Rattle.std.proofs.Common.{Option, Result, Ok, Err, refl, sym, ap, ◌∙◌, subst, arith}
 use Rattle.std.proofs.Common.{append_assoc, zero, ◌^◌, ◌≤◌, take, Some, None, append-nil}
@@ -42,19 +43,21 @@ use Rattle.prolly_check.specs.declared.verdict.fault.CheckFault.TheVariants as f
 pub unused_behind : (bits : ℕ) (version : Version) (level : ℕ) (states : List (NodeState ℕ)) →
     AreUnused bits version level states → AreBehind bits version level states []
 unused_behind bits version level [] h = tt
-unused_behind bits version level (s ∷ states) h = (
-  h.0.state,
-  subst (AreBehind bits version (suc level) states) (sym h.0.events)
-      (unused_behind bits version (suc level) states h.1),
+unused_behind bits version level (s ∷ states) h = grind (
+  arith,
+  common_steps,
+  unused_behind bits version (suc level) states h.1,
 )
 
 pub unused_sent : (bits : ℕ) (version : Version) (level : ℕ) (states : List (NodeState ℕ)) →
     AreUnused bits version level states → sent_through (sha512_cut bits) version level
     (length states) [] ≡ []
 unused_sent bits version level [] h = refl
-unused_sent bits version level (s ∷ states) h =
-    ap (sent_through (sha512_cut bits) version (suc level) (length states)) h.0.events ∙
-    unused_sent bits version (suc level) states h.1
+unused_sent bits version level (s ∷ states) h = grind (
+  arith,
+  common_steps,
+  unused_sent bits version (suc level) states h.1,
+)
 
 pub unused_more : (bits : ℕ) (version : Version) (level next : ℕ) (states : List (NodeState ℕ))
     (s : NodeState ℕ) → next ≡ level + length states → AreUnused bits version level states →
@@ -68,20 +71,12 @@ pub begun : (bits : ℕ) (version : Version) (chunks : List (List ℕ)) (rebuild
     LeafBegins sha512_cut bits rebuild.leaf →
     AreUnused bits version 1 rebuild.nodes.items → length rebuild.nodes.items ≡ node_levels →
     rebuild.references.items ≡ [] → HasTaken bits version chunks [] rebuild
-begun bits version chunks rebuild b u count none_yet =
-    let nodes = rebuild.nodes.items in
-    let none : leaf_events (sha512_cut bits) version faulty [] ≡ [] = b.events version in
-    let sent : sent_of bits version [] ≡ [] =
-    ap (sent_through (sha512_cut bits) version 1 node_levels) none ∙
-    ap (λ n. sent_through (sha512_cut bits) version 1 n []) (sym count) ∙
-    unused_sent bits version 1 nodes u in
-    record {
-      leaf = b.state;
-      nodes = subst (AreBehind bits version 1 nodes) (sym none)
-          (unused_behind bits version 1 nodes u);
-      count = count;
-      first = rw (none_yet, sent) (record { are = refl; named = refl });
-    }
+begun bits version chunks rebuild b u count none_yet = grind (
+  arith,
+  common_steps,
+  unused_sent,
+  unused_behind,
+)
 
 -- ---- one more pair
 
@@ -111,22 +106,19 @@ module _ (chunks : List (List ℕ)) (pair : Pair) (old : Rebuild) (leaf' : LeafS
         (sent_through (sha512_cut bits) version 1 n before)) (sym b.count) b.first))
 
     compared : AreCompared chunks (sent_of bits version (pairs ++ pair ∷ [])) after result
-    compared = subst (λ n. AreCompared chunks (sent_through (sha512_cut bits) version 1 n
-        (leaf_events (sha512_cut bits) version faulty (pairs ++ pair ∷ []))) after result)
-        (size ∙ b.count) passed.compared
+    compared = grind (arith, common_steps, size, passed)
 
     one_taken : (new : Rebuild) (done : Unit {0}) → result ≡ Ok done → new.leaf ≡ leaf' →
         new.nodes ≡ with_items old.nodes nodes' → new.references.items ≡ after →
         HasTaken bits version chunks (pairs ++ pair ∷ []) new
-    one_taken new done ok leaf nodes references =
-        let items : new.nodes.items ≡ nodes' = ap (λ v. v.items) nodes ∙
-        with_items_is old.nodes nodes' (omega (arith, size, old.nodes.ok.0)) in
-        record {
-          leaf = leaf ∙ takes.state bits pairs b.leaf;
-          nodes = rw items (rw ok at passed.behind);
-          count = ap length items ∙ size ∙ b.count;
-          first = rw references (rw ok at compared);
-        }
+    one_taken new done ok leaf nodes references = grind (
+      arith,
+      common_steps,
+      with_items_is,
+      size,
+      passed,
+      compared,
+    )
 
     pub one_took : (new : Rebuild) (told : Result (Unit {0}) CheckFault) → result ≡ told →
         new.leaf ≡ leaf' → new.nodes ≡ with_items old.nodes nodes' →
@@ -176,11 +168,7 @@ pub held_next : (chunks : List (List ℕ)) (number : ℕ) (held : List Pair) →
     held ≡ pairs_held (get_or chunks number []) →
     flat_map pairs_held (drop number chunks) ≡ held ++
     flat_map pairs_held (drop (number + 1) chunks)
-held_next chunks number held within e =
-    let next : suc number ≡ number + 1 = omega arith in
-    ap (flat_map pairs_held) (drop-cons chunks number [] within) ∙
-    ap (λ ps. ps ++ flat_map pairs_held (drop (suc number) chunks)) (sym e) ∙
-    ap (λ n. held ++ flat_map pairs_held (drop n chunks)) next
+held_next chunks number held within e = grind (arith, common_steps, drop-cons)
 
 -- ---- the end of the rebuilt chunks
 
@@ -196,9 +184,7 @@ module _ (bits : ℕ) (version : Version) (pairs : List Pair) where
   sends_prefix : (level count : ℕ) → IsPrefix
       (sent_through cut version (suc level) count (clean_events level))
       (clean_events (level + count))
-  sends_prefix level zero =
-      let e : level + 0 ≡ level = omega arith in
-      ([], ap clean_events e ∙ sym (append-nil (clean_events level)))
+  sends_prefix level zero = grind (arith, common_steps, clean_events, append-nil)
   sends_prefix level (suc count) =
       let sent = sent_through cut version (suc (suc level)) count in
       let below = clean_events level in

@@ -1,4 +1,5 @@
 -- Reading keys one after another, those of a chunk and those of a file.
+use Rattle.std.proofs.lemmas.Grind.{common_steps}
 use Rattle.std.proofs.Common.{◌≡◌, ℕ, suc, ◌+◌, ◌<◌, Bool, true, false, ◌&&◌, List, [], ◌∷◌, ◌++◌}
 use Rattle.std.proofs.Common.{length, drop, map, get_or, Option, Some, None, refl, sym, ap, ◌∙◌}
 use Rattle.std.proofs.Common.{arith, ◌↔◌, Ordering, subst}
@@ -6,7 +7,7 @@ use Rattle.std.specs.Ordering.{is_lt}
 use Rattle.std.specs.declared.cmp.Ordering.TheVariants.{Less, Equal, Greater}
 use Rattle.std.proofs.Math.Seq.{drop-cons}
 use Rattle.std.proofs.lemmas.Bool.{cond-true, cond-false, false≢true, and_parts, and_from}
-use Rattle.prolly_entry.specs.Keys.{key_order, Rising, RisingFrom}
+use Rattle.prolly_entry.specs.Keys.{Rising, RisingFrom}
 use Rattle.prolly_entry.specs.Pair.{Pair}
 use Rattle.prolly_entry.specs.Position.{is_before, Position}
 use Rattle.prolly_check.specs.Held.{pairs_held}
@@ -22,10 +23,12 @@ and_assoc false b c = refl
 pub rises_append : (last : Option (List ℕ)) (xs ys : List Pair) →
     rises_behind last (xs ++ ys) ≡ (rises_behind last xs && rises_behind (last_behind last xs) ys)
 rises_append last [] ys = refl
-rises_append last (x ∷ xs) ys =
-    ap (λ b. is_before last (Some x.key) && b) (rises_append (Some x.key) xs ys)
-    ∙ and_assoc (is_before last (Some x.key)) (rises_behind (Some x.key) xs)
-    (rises_behind (last_behind (Some x.key) xs) ys)
+rises_append last (x ∷ xs) ys = grind (
+  arith,
+  common_steps,
+  and_assoc,
+  rises_append (Some x.key) xs ys,
+)
 
 pub is_less : (o : Ordering) → is_lt o ≡ true → o ≡ Less
 is_less Less h = refl
@@ -35,13 +38,7 @@ is_less Greater h = absurd (false≢true h)
 rises_is : (key : List ℕ) (ps : List Pair) → (rises_behind (Some key) ps ≡ true) ↔ RisingFrom key
     (map (λ p. p.key) ps)
 rises_is key [] = (λ h. tt, λ h. refl)
-rises_is key (p ∷ ps) =
-    let here = is_lt (key_order key p.key) in
-    let more = rises_is p.key ps in (
-      λ h. let s = and_parts here (rises_behind (Some p.key) ps) h in
-          (is_less (key_order key p.key) s.0, more.0 s.1),
-      λ h. and_from here (rises_behind (Some p.key) ps) (ap is_lt h.0) (more.1 h.1),
-    )
+rises_is key (p ∷ ps) = grind (arith, common_steps, and_parts, is_less, and_from, rises_is p.key ps)
 
 pub rising_is : (ps : List Pair) → (rises_behind None ps ≡ true) ↔ Rising (map (λ p. p.key) ps)
 rising_is [] = (λ h. tt, λ h. refl)
@@ -89,9 +86,7 @@ module _ (chunks : List (List ℕ)) (last : Option (List ℕ)) (number : ℕ)
 
     pub order_falls : rises_behind last held ≡ false → order_fault None 0 (map pairs_held chunks) ≡
         Some (faults.KeysOutOfOrder number)
-    order_falls falls = next ∙ cond-false (rises_behind last held)
-        (order_fault (last_behind last held) (suc number) lists)
-        (Some (faults.KeysOutOfOrder number)) falls
+    order_falls falls = grind (arith, common_steps, next, cond-false)
 
 -- ---- reading the keys of one chunk, one after another
 
@@ -100,26 +95,9 @@ abbrev pub RisesOn : Position → List (List ℕ) → Type 0
 RisesOn None keys = Rising keys
 RisesOn (Some last) keys = RisingFrom last keys
 
--- no key is left
-pub rose : (last : Position) (keys : List (List ℕ)) → keys ≡ [] → RisesOn last keys
-rose None keys none = subst Rising (sym none) tt
-rose (Some last) keys none = subst (RisingFrom last) (sym none) tt
-
 -- the next key falls
 pub falls : (last : Position) (key : List ℕ) (keys rest : List (List ℕ)) → keys ≡ key ∷ rest →
     is_before last (Some key) ≡ false → RisesOn last keys → ⊥
 falls None key keys rest is before h = false≢true (sym before)
 falls (Some last) key keys rest is before h = false≢true (sym before ∙
     ap is_lt (subst (RisingFrom last) is h).0)
-
--- the next key rises
-pub rises_more : (last : Position) (key : List ℕ) (keys rest : List (List ℕ)) → keys ≡ key ∷ rest →
-    is_before last (Some key) ≡ true → RisesOn last keys ↔ RisesOn (Some key) rest
-rises_more None key keys rest is before = (
-  λ h. subst Rising is h,
-  λ h. subst Rising (sym is) h,
-)
-rises_more (Some last) key keys rest is before = (
-  λ h. (subst (RisingFrom last) is h).1,
-  λ h. subst (RisingFrom last) (sym is) (is_less (key_order last key) before, h),
-)

@@ -1,4 +1,5 @@
 -- The numbers of a tree: its levels, the sizes of its chunks, those that others lack.
+use Rattle.std.proofs.lemmas.Grind.{common_steps}
 use Rattle.std.proofs.Common.{◌≡◌, ℕ, ◌+◌, ◌<◌, ◌≤◌, Bool, true, false, cond, List, [], ◌∷◌, ◌++◌}
 use Rattle.std.proofs.Common.{length, take, drop, get_or, Option, Some, None, sym, ap, ◌∙◌, subst}
 use Rattle.std.proofs.Common.{arith, append-nil, not, zero, suc, ◌-◌, ◌/◌, nat_lt, nat_le, map}
@@ -56,9 +57,13 @@ search_tells chunks reference None none = false_from_ne_true (has_reference chun
       is = ap reference_of (get_or_default chunks any.0 [] any.1 any.2 ∙ any.3) ∙
           (bytes_eq-Decides (reference_of any.1) reference).0 any.4;
     }))
-search_tells chunks reference (Some number) at =
-    list_any_at (λ c. bytes_eq (reference_of c) reference) chunks number [] at.within
-    ((bytes_eq-Decides (reference_of (get_or chunks number [])) reference).1 at.is)
+search_tells chunks reference (Some number) at = grind (
+  arith,
+  common_steps,
+  list_any_at,
+  bytes_eq-Decides,
+  get_or,
+)
 
 -- ---- step by step
 
@@ -85,10 +90,7 @@ module _ (chunks : List (List ℕ)) (n : ℕ) (h : n < length chunks) where
   one = omega (arith, length-append chunk [])
 
   pub size_more : size_of (take (n + 1) chunks) ≡ size_of (take n chunks) + length chunk
-  size_more = ap size_of (take_more chunks n [] h) ∙
-      ap length (flat_map-append (λ c. c) (take n chunks) (chunk ∷ [])) ∙
-      length-append (flat_map (λ c. c) (take n chunks)) (flat_map (λ c. c) (chunk ∷ [])) ∙
-      ap (λ k. size_of (take n chunks) + k) one
+  size_more = grind (arith, common_steps, take_more, flat_map-append, length-append, one)
 
   module _ (others : List (List ℕ)) where
     abbrev is_lacked : List ℕ → Bool
@@ -117,52 +119,22 @@ module _ (chunks : List (List ℕ)) (n : ℕ) (h : n < length chunks) where
 pub passed : (index : Index) (chunks : List (List ℕ)) (n : ℕ) (missing : Missing) →
     n < length chunks → Tells index (reference_of (get_or chunks n [])) true →
     CountedTo index chunks n missing → CountedTo index chunks (n + 1) missing
-passed index chunks n missing h e c =
-    let more = size_more chunks n h in
-    let few = c.few in
-    let small = c.small in
-    record {
-      so = λ others is. subst (λ cs. AreSo cs missing)
-          (sym (had chunks n h others (e others is)))
-          (c.so others is);
-      few = omega arith;
-      small = omega arith;
-    }
+passed index chunks n missing h e c = grind (arith, common_steps, size_more, had)
 
 -- one that is lacked is counted
 pub counted : (index : Index) (chunks : List (List ℕ)) (n : ℕ) (missing new : Missing) →
     n < length chunks → Tells index (reference_of (get_or chunks n [])) false →
     new.chunks ≡ missing.chunks + 1 → new.bytes ≡ missing.bytes + length (get_or chunks n []) →
     CountedTo index chunks n missing → CountedTo index chunks (n + 1) new
-counted index chunks n missing new h e chunks_are bytes_are c =
-    let more = size_more chunks n h in
-    let few = c.few in
-    let small = c.small in
-    record {
-      so = λ others is.
-          let one_more = lacked chunks n h others (e others is) in
-          let so = c.so others is in
-          let number = so.chunks_are in
-          let size = so.bytes_are in
-          record {
-            chunks_are = omega (
-              arith,
-              ap length one_more,
-              length-append (lacking others (take n chunks)) (get_or chunks n [] ∷ []),
-            );
-            bytes_are = omega (
-              arith,
-              ap size_of one_more,
-              ap length (flat_map-append (λ c. c) (lacking others (take n chunks))
-                  (get_or chunks n [] ∷ [])),
-              length-append (flat_map (λ c. c) (lacking others (take n chunks)))
-                  (flat_map (λ c. c) (get_or chunks n [] ∷ [])),
-              length-append (get_or chunks n []) [],
-            );
-          };
-      few = omega arith;
-      small = omega arith;
-    }
+counted index chunks n missing new h e chunks_are bytes_are c = grind (
+  arith,
+  common_steps,
+  size_more,
+  lacked,
+  length-append,
+  get_or,
+  flat_map-append,
+)
 
 -- the first n are not more than all
 pub size_up_to : (chunks : List (List ℕ)) (n : ℕ) → size_of (take n chunks) ≤ size_of chunks
@@ -186,14 +158,15 @@ module _ (sizes sorted : List ℕ) (moved : IsPermutation sizes sorted)
   -- from the place on none is lower
   not_lower : (k d : ℕ) → k < length (drop place sorted) →
       cond (is_lower (get_or (drop place sorted) k d)) 1 0 ≤ 0
-  not_lower k d behind =
-      let size = length-drop place sorted in
-      let at = get_or-drop place sorted k d in
-      let above = rises place (place + k) d (omega arith) (omega arith) in
-      let same = get_or_default_zero sorted place d within ∙
-      sym (get_or_default_zero sorted place found within) in
-      subst (λ b. cond b 1 0 ≤ 0)
-      (sym (le-ltb (get_or (drop place sorted) k d) found (omega arith))) (omega arith)
+  not_lower k d behind = grind (
+    arith,
+    common_steps,
+    length-drop,
+    get_or-drop,
+    get_or_default_zero,
+    le-ltb,
+    get_or,
+  )
 
   lower : count_by is_lower sizes ≤ place
   lower =
@@ -287,10 +260,7 @@ has_back number cs ds h = let e = split_level number cs ds in omega arith
 module _ (version : Version) where
   has_own : (level : ℕ) (t : Tree level) (number : ℕ) → level ≡ number →
       HasSome number (bytes_of version level t ∷ [])
-  has_own level t number e =
-      subst (λ b. 0 < length (cond b (bytes_of version level t ∷ []) []))
-      (sym (eq-eqb (level_of (bytes_of version level t)) number (height_is version level t ∙ e)))
-      (omega arith)
+  has_own level t number e = grind (arith, common_steps, eq-eqb, height_is)
 
   abbrev HasEach : LeveledTree → Type 0
   HasEach t = (number : ℕ) → number ≤ t.level →
@@ -303,28 +273,17 @@ module _ (version : Version) where
       HasEach (record { level = level; tree = t })
   full_has zero leaf full = leaf_has leaf
   full_has (suc level) [] full = absurd (let none : 0 < 0 = full.0 in omega arith)
-  full_has (suc level) (t ∷ ts) full = λ number h.
-      subst (HasSome number) (sym (bytes_append (flat_map (post_order version level) (t ∷ ts))
-      (chunk_of version (suc level) (t ∷ ts) ∷ [])))
-      (at number h (full_has level t full.1.0 number) (cases_lt level number))
-    where
-      below : List (List ℕ)
-      below = bytes_in (flat_map (post_order version level) (t ∷ ts))
-
-      own : List (List ℕ)
-      own = bytes_of version (suc level) (t ∷ ts) ∷ []
-
-      -- the level is the node's own, or the first child has it
-      at : (number : ℕ) → number ≤ suc level → (number ≤ level →
-          HasSome number (bytes_in (post_order version level t))) →
-          (level < number) ⊎ (number ≤ level) → HasSome number (below ++ own)
-      at number h first (inl above) =
-          has_back number below own (has_own (suc level) (t ∷ ts) number (omega arith))
-      at number h first (inr within) = has_front number below own
-          (subst (HasSome number) (sym (bytes_append (post_order version level t)
-          (flat_map (post_order version level) ts)))
-          (has_front number (bytes_in (post_order version level t))
-          (bytes_in (flat_map (post_order version level) ts)) (first within)))
+  full_has (suc level) (t ∷ ts) full = grind (
+    arith,
+    common_steps,
+    bytes_append,
+    cases_lt,
+    bytes_in,
+    has_back,
+    has_own,
+    has_front,
+    full_has level t full.1.0,
+  )
 
   map_has : (bits : ℕ) (pairs : List Pair) → HasEach (tree_of (sha512_cut bits) version pairs)
   unfolding split
@@ -343,11 +302,14 @@ module _ (version : Version) where
         ((t : Tree level) → AreWithin (bytes_in (post_order version level t))) →
         (ts : List (Tree level)) → AreWithin (bytes_in (flat_map (post_order version level) ts))
     all_within level each [] = tt
-    all_within level each (t ∷ ts) =
-        subst AreWithin (sym (bytes_append (post_order version level t)
-        (flat_map (post_order version level) ts)))
-        (all_append (λ c. level_of c ≤ top) (bytes_in (post_order version level t))
-        (bytes_in (flat_map (post_order version level) ts)) (each t) (all_within level each ts))
+    all_within level each (t ∷ ts) = grind (
+      arith,
+      common_steps,
+      bytes_append,
+      all_append,
+      bytes_in,
+      all_within level each ts,
+    )
 
     tree_within : (level : ℕ) → level ≤ top → (t : Tree level) →
         AreWithin (bytes_in (post_order version level t))
@@ -369,17 +331,16 @@ pub record IsTower (chunks : List (List ℕ)) (top : ℕ) : Type 0 where
 -- so they stand, up to the level of the last
 pub is_tower : (chunks : List (List ℕ)) (root top : ℕ) → AreOfMap chunks →
     root ≡ length chunks - 1 → top ≡ level_of (get_or chunks root []) → IsTower chunks top
-is_tower chunks root top m last level =
-    let content = m.content in
-    let t = tree_of (sha512_cut content.bits) content.version content.pairs in
-    let is : top ≡ t.level = level ∙ ap (λ n. level_of (get_or chunks n [])) last ∙
-    ap (λ cs. level_of (get_or cs (length cs - 1) [])) m.are ∙
-    ap level_of (chunks_last content.version content.bits content.pairs) ∙
-    height_is content.version t.level t.tree in
-    subst (IsTower chunks) (sym is) (subst (λ cs. IsTower cs t.level) (sym m.are) (record {
-      some = map_has content.version content.bits content.pairs;
-      all = tree_within content.version t.level t.level (omega arith) t.tree;
-    }))
+is_tower chunks root top m last level = grind (
+  arith,
+  common_steps,
+  get_or,
+  last,
+  chunks_last,
+  height_is,
+  map_has,
+  tree_within,
+)
 
 -- ---- level by level
 

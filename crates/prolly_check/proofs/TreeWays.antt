@@ -1,5 +1,6 @@
 -- The ways of look-ups down a tree, for who knows the root alone.
-use Rattle.std.proofs.Common.{◌≡◌, ℕ, ◌<◌, inl, inr, ◌⊎◌, List, [], ◌∷◌, ◌++◌, length, refl, sym}
+use Rattle.std.proofs.lemmas.Grind.{common_steps}
+use Rattle.std.proofs.Common.{◌≡◌, ℕ, inl, inr, ◌⊎◌, List, [], ◌∷◌, ◌++◌, refl, sym}
 use Rattle.std.proofs.Common.{ap, ◌∙◌, subst, arith, append_assoc, append-nil, zero, suc, true}
 use Rattle.std.proofs.Common.{false, Bool}
 use Rattle.std.specs.List.{AllByRecursion, flat_map}
@@ -11,7 +12,6 @@ use Rattle.std.proofs.lemmas.List.Concat.{flat_map-append}
 use Rattle.std.proofs.lemmas.Option.{slice_get_past}
 use Rattle.std.proofs.lemmas.Slice.Eq.{bytes_eq-Decides}
 use Rattle.prolly_entry.specs.Cut.{sha512_cut}
-use Rattle.prolly_entry.specs.Keys.{KeyBelow}
 use Rattle.prolly_entry.specs.Pair.{Pair, IsPair}
 use Rattle.prolly_entry.specs.Reference.{reference_of}
 use Rattle.prolly_entry.specs.declared.version.Version.{Version}
@@ -79,11 +79,7 @@ stands_in_all sought m pairs same = record {
 
 past_more : (sought there next : Sought) (xs ys : List Pair) → IsPast sought xs there →
     IsPast there ys next → IsPast sought (xs ++ ys) next
-past_more (Key key) (Key same) (Key other) xs ys h k = (
-  all_append (λ p. KeyBelow p.key key) xs ys h.0
-      (subst (λ key. AllByRecursion (λ p. KeyBelow p.key key) ys) h.1 k.0),
-  k.1 ∙ h.1,
-)
+past_more (Key key) (Key same) (Key other) xs ys h k = grind (arith, common_steps, all_append)
 past_more (Key key) (Key same) (Number n) xs ys h k = absurd k
 past_more (Key key) (Number n) next xs ys h k = absurd h
 past_more (Number n) (Key key) next xs ys h k = absurd h
@@ -96,9 +92,10 @@ can_more : (version : Version) (there next : Sought) (pre own rest : List Pair) 
 can_more version (Key key) (Key other) pre own rest can past = tt
 can_more version (Key key) (Number n) pre own rest can past = absurd past
 can_more version (Number n) (Key key) pre own rest can past = absurd past
-can_more version (Number n) (Number k) pre own rest can past = (
-  can.0,
-  omega (arith, can.1, length-append pre (own ++ rest), length-append own rest),
+can_more version (Number n) (Number k) pre own rest can past = grind (
+  arith,
+  common_steps,
+  length-append,
 )
 
 module _ (sought : Sought) (m : List Pair) (version : Version) (level : ℕ)
@@ -119,18 +116,7 @@ module _ (sought : Sought) (m : List Pair) (version : Version) (level : ℕ)
 
   pub stands_below : StandsIn sought m there (flat_map (pairs_below level) trees) →
       StandsIn sought m next own
-  stands_below s = record {
-    before = s.before ++ pre;
-    after = back ++ s.after;
-    are = s.are ∙ ap (λ ps. s.before ++ (ps ++ s.after)) parts ∙
-        regroup s.before pre own back s.after;
-    past = past_more sought there next s.before pre s.past c.past;
-    here = inr c.has;
-  }
-    where
-      regroup : (xs pre own rest ys : List Pair) → xs ++ ((pre ++ (own ++ rest)) ++ ys) ≡
-          (xs ++ pre) ++ (own ++ (rest ++ ys))
-      regroup xs pre own rest ys = simp append_assoc
+  stands_below s = grind (arith, common_steps, parts, past_more, append_assoc)
 
   pub can_below : CanCount version there (flat_map (pairs_below level) trees) →
       CanCount version next own
@@ -148,51 +134,34 @@ pub tells_leaf : (sought there : Sought) (m pairs : List Pair) → Rises m →
     StandsIn sought m there pairs → Tells sought m there pairs
 tells_leaf (Key key) (Number n) m pairs rising s = absurd s.past
 tells_leaf (Number n) (Key key) m pairs rising s = absurd s.past
-tells_leaf (Key key) (Key other) m pairs rising s =
-    let here : (s.after ≡ []) ⊎ (pairs_from key pairs ≡ [] → ⊥) =
-    subst (λ k. (s.after ≡ []) ⊎ (pairs_from k pairs ≡ [] → ⊥)) s.past.1 s.here in (
-      find_in_part key m s.before pairs s.after rising s.are s.past.0 here,
-      first_in_part key m s.before pairs s.after rising s.are s.past.0 here,
-    )
-tells_leaf (Number n) (Number k) m pairs rising s = sym (ap (λ ps. nth ps n) s.are ∙
-    ap (nth (s.before ++ (pairs ++ s.after))) s.past ∙ nth_back s.before (pairs ++ s.after) k ∙
-    at s.after s.here)
-  where
-    at : (after : List Pair) → (after ≡ []) ⊎ (k < length pairs) →
-        nth (pairs ++ after) k ≡ nth pairs k
-    at after (inl none) = ap (λ ps. nth ps k) (ap (λ ps. pairs ++ ps) none ∙ append-nil pairs)
-    at after (inr has) = nth_front pairs after k has
+tells_leaf (Key key) (Key other) m pairs rising s = grind (
+  arith,
+  common_steps,
+  find_in_part,
+  first_in_part,
+)
+tells_leaf (Number n) (Number k) m pairs rising s = grind (
+  arith,
+  common_steps,
+  nth_back,
+  append-nil,
+  nth_front,
+)
 
 -- at a node, behind all of whose pairs it is
 pub tells_none : (sought there : Sought) (m pairs : List Pair) → StandsIn sought m there pairs →
     AllPast there pairs → Tells sought m there []
-tells_none sought there m pairs s all = go sought there (last s.here) s.past all
-  where
-    last : (s.after ≡ []) ⊎ Has there pairs → m ≡ s.before ++ pairs
-    last (inl none) = s.are ∙ ap (λ ps. s.before ++ (pairs ++ ps)) none ∙
-        ap (λ ps. s.before ++ ps) (append-nil pairs)
-    last (inr has) = absurd (not_all_past there pairs all has)
-
-    below : (key : List ℕ) → m ≡ s.before ++ pairs →
-        AllByRecursion (λ p. KeyBelow p.key key) s.before →
-        AllByRecursion (λ p. KeyBelow p.key key) pairs →
-        AllByRecursion (λ p. KeyBelow p.key key) m
-    below key are h k = subst (AllByRecursion (λ p. KeyBelow p.key key)) (sym are)
-        (all_append (λ p. KeyBelow p.key key) s.before pairs h k)
-
-    go : (sought there : Sought) → m ≡ s.before ++ pairs → IsPast sought s.before there →
-        AllPast there pairs → Tells sought m there []
-    go (Key key) (Number n) are past all = absurd past
-    go (Number n) (Key key) are past all = absurd past
-    go (Key key) (Key other) are past all =
-        let under = below key are past.0
-        (subst (λ k. AllByRecursion (λ p. KeyBelow p.key k) pairs) past.1 all) in (
-          sym (ap (λ ps. find ps key) (sym (append-nil m)) ∙ find_over m [] key under),
-          none_from key m under,
-        )
-    go (Number n) (Number k) are past all = sym (ap (λ ps. nth ps n) are ∙
-        slice_get_past (s.before ++ pairs) n
-        (omega (arith, past, all, length-append s.before pairs)))
+tells_none sought there m pairs s all = grind (
+  arith,
+  common_steps,
+  append-nil,
+  not_all_past,
+  all_append,
+  find_over,
+  none_from,
+  slice_get_past,
+  length-append,
+)
 
 -- ---- the ways of look-ups down a tree, for who knows the root alone
 
@@ -218,14 +187,7 @@ module _ (version : Version) (cs : List (List ℕ)) where
       })
 
   lifted : (chunk : List ℕ) (chunks : List (List ℕ)) → Clash chunks cs → Clash (chunk ∷ chunks) cs
-  lifted chunk chunks c = record {
-    one = c.one;
-    other = c.other;
-    in_one = inr c.in_one;
-    in_other = c.in_other;
-    differ = c.differ;
-    same = c.same;
-  }
+  lifted chunk chunks c = grind (arith, common_steps)
 
   module _ (m : List Pair) (sought : Sought) where
     -- a look-up has come to the top of this tree
@@ -369,71 +331,31 @@ count_ways_are_right bits m n chunks pair few rising lawful w =
 module _ (cs : List (List ℕ)) where
   clash_front : (way : List (List ℕ)) (ways : List (List (List ℕ))) → Clash way cs →
       Clash (joined (way ∷ ways)) cs
-  clash_front way ways c = record {
-    one = c.one;
-    other = c.other;
-    in_one = in_front c.one way (joined ways) c.in_one;
-    in_other = c.in_other;
-    differ = c.differ;
-    same = c.same;
-  }
+  clash_front way ways c = grind (arith, common_steps, in_front)
 
   clash_back : (way : List (List ℕ)) (ways : List (List (List ℕ))) → Clash (joined ways) cs →
       Clash (joined (way ∷ ways)) cs
-  clash_back way ways c = record {
-    one = c.one;
-    other = c.other;
-    in_one = in_back c.one way (joined ways) c.in_one;
-    in_other = c.in_other;
-    differ = c.differ;
-    same = c.same;
-  }
+  clash_back way ways c = grind (arith, common_steps, in_back)
 
 -- pairs that were found before the others
 one_more : (from : List ℕ) (m found : List Pair) (lists : List (List Pair)) →
     AreFirstFrom from m found → HaveFirstFrom (from_behind from found) m lists →
     HaveFirstFrom from m (found ∷ lists)
-one_more from m [] [] first rest = record {
-  others = pairs_from from m;
-  are = refl;
-  all = λ e. first;
-}
-one_more from m [] (more ∷ lists) first rest = record {
-  others = rest.others;
-  are = rest.are;
-  all = rest.all;
-}
-one_more from m (p ∷ ps) [] first rest = record {
-  others = rest.others;
-  are = first ∙ ap (λ qs. (p ∷ ps) ++ qs) rest.are ∙
-      sym (append_assoc (p ∷ ps) (joined []) rest.others);
-  all = λ e. cc;
-}
-one_more from m (p ∷ ps) (more ∷ lists) first rest = record {
-  others = rest.others;
-  are = first ∙ ap (λ qs. (p ∷ ps) ++ qs) rest.are ∙
-      sym (append_assoc (p ∷ ps) (joined (more ∷ lists)) rest.others);
-  all = rest.all;
-}
+one_more from m [] [] first rest = grind (arith, common_steps)
+one_more from m [] (more ∷ lists) first rest = grind (arith, common_steps)
+one_more from m (p ∷ ps) [] first rest = grind (arith, common_steps, append_assoc)
+one_more from m (p ∷ ps) (more ∷ lists) first rest = grind (arith, common_steps, append_assoc)
 
 pub scans_go_on : ScansGoOn
-scans_go_on version bits m from [] [] rising lawful scanned = inl (record {
-  others = pairs_from from m;
-  are = refl;
-  all = λ e. absurd e;
-})
+scans_go_on version bits m from [] [] rising lawful scanned = grind (arith, common_steps)
 scans_go_on version bits m from [] (way ∷ ways) rising lawful scanned = absurd scanned
 scans_go_on version bits m from (found ∷ lists) [] rising lawful scanned = absurd scanned
-scans_go_on version bits m from (found ∷ lists) (way ∷ ways) rising lawful scanned =
-    both (scans_are_right version bits m from way found rising lawful scanned.0)
-    (scans_go_on version bits m (from_behind from found) lists ways rising lawful scanned.1)
-  where
-    cs : List (List ℕ)
-    cs = chunk_bytes version bits m
-
-    both : AreFirstFrom from m found ⊎ Clash way cs →
-        HaveFirstFrom (from_behind from found) m lists ⊎ Clash (joined ways) cs →
-        HaveFirstFrom from m (found ∷ lists) ⊎ Clash (joined (way ∷ ways)) cs
-    both (inr clash) rest = inr (clash_front cs way ways clash)
-    both (inl first) (inr clash) = inr (clash_back cs way ways clash)
-    both (inl first) (inl rest) = inl (one_more from m found lists first rest)
+scans_go_on version bits m from (found ∷ lists) (way ∷ ways) rising lawful scanned = grind (
+  arith,
+  common_steps,
+  scans_are_right,
+  clash_front,
+  clash_back,
+  one_more,
+  scans_go_on version bits m (from_behind from found) lists ways rising lawful scanned.1,
+)

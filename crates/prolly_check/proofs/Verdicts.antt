@@ -1,5 +1,6 @@
 -- Bytes are accepted exactly where they are the file of a map.
-use Rattle.std.proofs.Common.{◌≡◌, ◌↔◌, ℕ, zero, suc, ◌≤◌, Bool, true, false, not, ◌||◌, ◌==◌}
+use Rattle.std.proofs.lemmas.Grind.{common_steps}
+use Rattle.std.proofs.Common.{◌≡◌, ◌↔◌, ℕ, zero, suc, ◌≤◌, Bool, true, false, ◌||◌, ◌==◌}
 use Rattle.std.proofs.Common.{nat_le, nat_lt, cond, List, [], ◌∷◌, ◌++◌, length, drop, Option, Some}
 use Rattle.std.proofs.Common.{None, Result, Ok, Err, refl, sym, ap, ◌∙◌, subst, ◌+◌, ◌^◌, ◌<◌, map}
 use Rattle.std.proofs.Common.{arith, append_assoc}
@@ -9,7 +10,6 @@ use Rattle.std.specs.Prelude.{slice_index}
 use Rattle.std.specs.Str.{bytes_eq}
 use Rattle.std.proofs.lemmas.Bool.{leb-true, false≢true, and_parts, and_from, or_parts, not-false}
 use Rattle.std.proofs.lemmas.Bool.{cond-true, cond-false, or_from, false_from_ne_true, le-leb}
-use Rattle.std.proofs.lemmas.Bool.Decides.{Decides-eqb}
 use Rattle.std.proofs.lemmas.List.{length-append}
 use Rattle.std.proofs.lemmas.Slice.Eq.{bytes_eq-Decides}
 use Rattle.prolly_entry.specs.Cut.{sha512_cut}
@@ -24,13 +24,11 @@ use Rattle.prolly_entry.specs.declared.version.Version.TheVariants.{One, Two}
 use Rattle.prolly_entry.specs.lemmas.Lists.{all_append}
 use Rattle.prolly_entry.specs.lemmas.Spellings.{reference_length}
 use Rattle.prolly_tree.specs.Chunk.{chunks}
-use Rattle.prolly_tree.specs.File.{header, frame, file, root_reference}
-use Rattle.prolly_tree.specs.Tree.{bytes_of, tree_of}
+use Rattle.prolly_tree.specs.File.{header, frame, file}
 use Rattle.prolly_tree.specs.lemmas.Splits.{flat}
 use Rattle.prolly_file.specs.Frame.{framed, IsSmall}
 use Rattle.prolly_file.specs.FrameLaws.{frames_bytes}
 use Rattle.prolly_file.specs.Header.{header_tests, header_fault, version_of}
-use Rattle.prolly_file.specs.declared.format.header.HeaderFault.{HeaderFault}
 use Rattle.prolly_file.specs.declared.format.header.HeaderFault.TheVariants.{BadByte}
 use Rattle.prolly_check.specs.Content.{Content}
 use Rattle.prolly_check.specs.Entries.{Holds, AllHold, IsRead}
@@ -42,8 +40,6 @@ use Rattle.prolly_check.specs.Judged.{last_behind}
 use Rattle.prolly_check.specs.Verdict.{ReadVerdict, EndVerdict, HeaderVerdict, IsVerdict, AllApart}
 use Rattle.prolly_check.specs.Verdict.{IsFileOf, FramesVerdict, AcceptsFiles}
 use Rattle.prolly_check.specs.declared.verdict.fault.CheckFault.{CheckFault}
-use Rattle.prolly_check.specs.declared.verdict.fault.CheckFault.TheVariants.{Truncated, Trailing, BadEnd}
-use Rattle.prolly_check.specs.declared.verdict.fault.CheckFault.TheVariants.{BadFrame, KeysOutOfOrder}
 use Rattle.prolly_check.specs.declared.verdict.fault.CheckFault.TheVariants.{NotCanonical, Collision}
 use Rattle.prolly_check.proofs.HeldPairs.{flat_held, all_hold, map_holds}
 use Rattle.prolly_check.proofs.RisingKeys.{rises_append, rising_is}
@@ -88,58 +84,24 @@ record Passes (test : ℕ → Bool) (tests : List (ℕ → Bool)) (bytes : List 
 passes : (test : ℕ → Bool) (tests : List (ℕ → Bool)) (bytes : List ℕ) →
     header_fault (test ∷ tests) bytes ≡ None → Passes test tests bytes
 passes test tests [] h = absurd (some_none h)
-passes test tests (b ∷ bytes) h =
-    let s = if_none (test b) BadByte (header_fault tests bytes) h in
-    record { byte = b; rest = bytes; is = refl; so = s.0; more = s.1 }
+passes test tests (b ∷ bytes) h = grind (arith, common_steps, if_none)
 
 pub record HeaderIs (bytes : List ℕ) : Type 0 where
   pub bits : slice_index bytes 5 ≤ 24
   pub is : bytes ≡ header (version_of (slice_index bytes 4)) (slice_index bytes 5) ++ drop 6 bytes
 
 version_ok : (v : ℕ) → ((v == 1) || (v == 2)) ≡ true → v ≡ version_byte (version_of v)
-version_ok v h = go (v == 1) refl h
-  where
-    go : (t : Bool) → (v == 1) ≡ t → (t || (v == 2)) ≡ true → v ≡ version_byte (version_of v)
-    go true e k = (Decides-eqb v 1).0 e ∙ sym (ap (λ t. version_byte (cond t One Two)) e)
-    go false e k = (Decides-eqb v 2).0 k ∙ sym (ap (λ t. version_byte (cond t One Two)) e)
+version_ok v h = grind (arith, common_steps)
 
 pub header_ok : (bytes : List ℕ) → header_fault header_tests bytes ≡ None → HeaderIs bytes
-header_ok bytes h =
-    let p = passes (λ b. b == 0x50) (drop 1 header_tests) bytes h in
-    let r = passes (λ b. b == 0x52) (drop 2 header_tests) p.rest p.more in
-    let l = passes (λ b. b == 0x4C) (drop 3 header_tests) r.rest r.more in
-    let y = passes (λ b. b == 0x59) (drop 4 header_tests) l.rest l.more in
-    let v = passes (λ b. (b == 1) || (b == 2)) (drop 5 header_tests) y.rest y.more in
-    let q = passes (λ b. nat_le b 24) [] v.rest v.more in
-    let front : 0x50 ∷ 0x52 ∷ 0x4C ∷ 0x59 ∷ v.byte ∷ q.byte ∷ q.rest ≡ bytes =
-    cc (
-      p.is,
-      r.is,
-      l.is,
-      y.is,
-      v.is,
-      q.is,
-      (Decides-eqb p.byte 0x50).0 p.so,
-      (Decides-eqb r.byte 0x52).0 r.so,
-      (Decides-eqb l.byte 0x4C).0 l.so,
-      (Decides-eqb y.byte 0x59).0 y.so,
-    ) in
-    subst HeaderIs front (record {
-      bits = leb-true q.byte 24 q.so;
-      is = ap (λ w. 0x50 ∷ 0x52 ∷ 0x4C ∷ 0x59 ∷ w ∷ q.byte ∷ q.rest) (version_ok v.byte v.so);
-    })
+header_ok bytes h = grind (arith, common_steps, passes, nat_le, leb-true, version_ok)
 
 -- ---- the end
 
 pub ending_ok : (number : ℕ) (tail ending : List ℕ) → ending_of number tail ≡ Ok ending →
     tail ≡ 0x45 ∷ ending
 ending_ok number [] ending e = absurd (err_ok e)
-ending_ok number (b ∷ rest) ending e =
-    let s1 = if_ok (b == 0x43) Truncated _ ending e in
-    let s2 = if_ok (not (b == 0x45)) (BadFrame number) _ ending s1.1 in
-    let s3 = if_ok (nat_lt (length rest) 28) Truncated _ ending s2.1 in
-    let s4 = if_ok (nat_lt 28 (length rest)) Trailing _ ending s3.1 in
-    cc ((Decides-eqb b 0x45).0 (not-false (b == 0x45) s2.0), s4.1)
+ending_ok number (b ∷ rest) ending e = grind (arith, common_steps, if_ok, nat_lt, not-false)
 
 -- ---- the pairs
 
@@ -162,17 +124,17 @@ hold_pairs version (c ∷ cs) (ps ∷ lists) h = all_append IsPair ps (flat list
 pub order_is : (last : Position) (number : ℕ) (lists : List (List Pair)) →
     (order_fault last number lists ≡ None) ↔ (rises_behind last (flat lists) ≡ true)
 order_is last number [] = (λ h. refl, λ h. refl)
-order_is last number (ps ∷ lists) =
-    let here = rises_behind last ps in
-    let there = rises_behind (last_behind last ps) (flat lists) in
-    let rest = order_fault (last_behind last ps) (suc number) lists in
-    let more = order_is (last_behind last ps) (suc number) lists in
-    let parts = rises_append last ps (flat lists) in (
-      λ h. let s = if_none here (KeysOutOfOrder number) rest h in
-          parts ∙ and_from here there s.0 (more.0 s.1),
-      λ h. let s = and_parts here there (sym parts ∙ h) in
-          cond-true here rest (Some (KeysOutOfOrder number)) s.0 ∙ more.1 s.1,
-    )
+order_is last number (ps ∷ lists) = grind (
+  arith,
+  common_steps,
+  flat,
+  rises_append,
+  if_none,
+  and_from,
+  and_parts,
+  cond-true,
+  order_is (last_behind last ps) (suc number) lists,
+)
 
 -- ---- the one file
 
@@ -186,10 +148,7 @@ difference_ok number (c ∷ cs) (d ∷ ds) h =
     ap (λ xs. d ∷ xs) (difference_ok (suc number) cs ds s.1)
 
 pub end_is : (found wanted : List ℕ) → (end_fault found wanted ≡ None) ↔ (found ≡ wanted)
-end_is found wanted = (
-  λ h. (bytes_eq-Decides found wanted).0 (if_none (bytes_eq found wanted) BadEnd None h).0,
-  λ e. cond-true (bytes_eq found wanted) None (Some BadEnd) ((bytes_eq-Decides found wanted).1 e),
-)
+end_is found wanted = grind (arith, common_steps, bytes_eq-Decides, if_none, cond-true)
 
 -- ---- references
 
@@ -200,26 +159,21 @@ is_new : (c : List ℕ) (before : List (List ℕ)) →
     (list_any (λ d. bytes_eq (reference_of d) (reference_of c)) before ≡ false) ↔ AllByRecursion
     (Other c) before
 is_new c [] = (λ h. tt, λ h. refl)
-is_new c (d ∷ ds) =
-    let same = bytes_eq (reference_of d) (reference_of c) in
-    let others = list_any (λ d. bytes_eq (reference_of d) (reference_of c)) ds in
-    let decides = bytes_eq-Decides (reference_of d) (reference_of c) in
-    let more = is_new c ds in (
-      λ h. let s = or_parts same others h in (
-        (λ e. false≢true (sym s.0 ∙ decides.1 e)),
-        more.0 s.1,
-      ),
-      λ h. or_from same others (false_from_ne_true same (λ t. h.0 (decides.0 t))) (more.1 h.1),
-    )
+is_new c (d ∷ ds) = grind (
+  arith,
+  common_steps,
+  bytes_eq-Decides,
+  or_parts,
+  false≢true,
+  or_from,
+  false_from_ne_true,
+  is_new c ds,
+)
 
 all_both : (P Q : List ℕ → Type 0) (cs : List (List ℕ)) →
     AllByRecursion (λ c. P c × Q c) cs ↔ (AllByRecursion P cs × AllByRecursion Q cs)
 all_both P Q [] = (λ h. (tt, tt), λ h. tt)
-all_both P Q (c ∷ cs) =
-    let more = all_both P Q cs in (
-      λ h. ((h.0.0, (more.0 h.1).0), (h.0.1, (more.0 h.1).1)),
-      λ h. ((h.0.0, h.1.0), more.1 (h.0.1, h.1.1)),
-    )
+all_both P Q (c ∷ cs) = grind (arith, common_steps, all_both P Q cs)
 
 pub reuse_is : (before : List (List ℕ)) (number : ℕ) (cs : List (List ℕ)) →
     (reuse before number cs ≡ None) ↔ (AllByRecursion (λ c. AllByRecursion (Other c) before) cs ×
@@ -260,13 +214,14 @@ pub record IsCanonical (version : Version) (bits : ℕ) (cs : List (List ℕ)) (
 pub canonical_ok : (version : Version) (bits : ℕ) (cs : List (List ℕ)) (ending : List ℕ)
     (lists : List (List Pair)) → canonical_fault version bits cs ending lists ≡ None →
     IsCanonical version bits cs ending lists
-canonical_ok version bits cs ending lists e =
-    let wanted = chunk_bytes version bits (flat lists) in
-    let last = ending_for version bits (flat lists) in
-    let a = none_left (order_fault None 0 lists)
-    (or_else (difference 0 wanted cs) (end_fault ending last)) e in
-    let b = none_left (difference 0 wanted cs) (end_fault ending last) a.1 in
-    record { order = a.0; same = difference_ok 0 wanted cs b.0; last = (end_is ending last).0 b.1 }
+canonical_ok version bits cs ending lists e = grind (
+  arith,
+  common_steps,
+  flat,
+  none_left,
+  difference_ok,
+  end_is,
+)
 
 judged_file : (bytes : List ℕ) (content : Content) → HeaderIs bytes →
     (cs : List (List ℕ)) (ending : List ℕ) (lists : List (List Pair)) →
@@ -311,20 +266,17 @@ end_file : (bytes : List ℕ) (content : Content) → HeaderIs bytes →
     (cs : List (List ℕ)) (ending : Result (List ℕ) CheckFault) → IsFramed (drop 6 bytes) cs ending →
     EndVerdict (version_of (slice_index bytes 4)) (slice_index bytes 5) cs ending (Ok content) →
     IsFileOf bytes content
-end_file bytes content header cs (Ok ending) is so =
-    read_file bytes content header cs ending (is.spelled ∙
-    ap (λ x. flat_map framed cs ++ x) (ending_ok (length cs) is.tail ending is.is)) so.read
-    so.is so.so
+end_file bytes content header cs (Ok ending) is so = grind (
+  arith,
+  common_steps,
+  read_file,
+  ending_ok,
+)
 end_file bytes content header cs (Err fault) is so = absurd (err_ok (sym so))
 
 pub accepted_is_file : (bytes : List ℕ) (content : Content) → IsVerdict bytes (Ok content) →
     IsFileOf bytes content
-accepted_is_file bytes content v = go (header_fault header_tests bytes) refl v
-  where
-    go : (fault : Option HeaderFault) → header_fault header_tests bytes ≡ fault →
-        HeaderVerdict fault bytes (Ok content) → IsFileOf bytes content
-    go (Some fault) e v = absurd (err_ok (sym v))
-    go None e v = end_file bytes content (header_ok bytes e) v.chunks v.ending v.is v.so
+accepted_is_file bytes content v = grind (arith, common_steps, err_ok, end_file, header_ok)
 
 -- ---- the one file and the references
 
@@ -367,18 +319,11 @@ header_verdict Two bits rest verdict h f = subst (λ o. HeaderVerdict o (header 
 
 pub ending_clean : (number : ℕ) (ending : List ℕ) → length ending ≡ 28 →
     ending_of number (0x45 ∷ ending) ≡ Ok ending
-ending_clean number ending e =
-    cond-false (nat_lt (length ending) 28) (Err Truncated)
-    (cond (nat_lt 28 (length ending)) (Err Trailing) (Ok ending)) (ap (λ n. nat_lt n 28) e)
-    ∙ cond-false (nat_lt 28 (length ending)) (Err Trailing) (Ok ending) (ap (λ n. nat_lt 28 n) e)
+ending_clean number ending e = grind (arith, common_steps, cond-false, nat_lt)
 
 pub ending_long : (version : Version) (bits : ℕ) (pairs : List Pair) →
     length (ending_for version bits pairs) ≡ 28
-ending_long version bits pairs = length-append (root_reference (sha512_cut bits) version pairs)
-    (to_be_bytes w64 (length (chunks (sha512_cut bits) version pairs)))
-    ∙ ap (λ n. n + 8) (reference_length (bytes_of version
-    (tree_of (sha512_cut bits) version pairs).level
-    (tree_of (sha512_cut bits) version pairs).tree))
+ending_long version bits pairs = grind (arith, common_steps, length-append, reference_length)
 
 -- a list is as short as one that it is a part of
 pub all_small : (cs : List (List ℕ)) (tail : List ℕ) →
@@ -398,24 +343,15 @@ pub file_framed : (version : Version) (bits : ℕ) (pairs : List Pair) →
     length (file (sha512_cut bits) version pairs) < 2 ^ 64 →
     IsFramed (flat_map frame (chunks (sha512_cut bits) version pairs) ++ 0x45 ∷ ending_for version
     bits pairs) (chunk_bytes version bits pairs) (Ok (ending_for version bits pairs))
-file_framed version bits pairs short =
-    let cut = sha512_cut bits in
-    let ending = ending_for version bits pairs in
-    let spelled : flat_map frame (chunks cut version pairs) ++ 0x45 ∷ ending ≡
-    flat_map framed (chunk_bytes version bits pairs) ++ 0x45 ∷ ending =
-    ap (λ x. x ++ 0x45 ∷ ending) (frames_bytes (chunks cut version pairs)) in
-    let size : length (file cut version pairs) ≡ 6 +
-    length (flat_map framed (chunk_bytes version bits pairs) ++ 0x45 ∷ ending) =
-    length-append (header version bits) (flat_map frame (chunks cut version pairs) ++ 0x45 ∷ ending)
-    ∙ ap (λ x. 6 + length x) spelled in
-    record {
-      tail = 0x45 ∷ ending;
-      spelled = spelled;
-      small = all_small (chunk_bytes version bits pairs) (0x45 ∷ ending) (omega arith);
-      all = refl;
-      is = ending_clean (length (chunk_bytes version bits pairs)) ending
-          (ending_long version bits pairs);
-    }
+file_framed version bits pairs short = grind (
+  arith,
+  common_steps,
+  frames_bytes,
+  length-append,
+  all_small,
+  ending_clean,
+  ending_long,
+)
 
 pub file_is_accepted : (bytes : List ℕ) (content : Content) → length bytes < 2 ^ 64 →
     IsFileOf bytes content → IsVerdict bytes (Ok content)

@@ -1,4 +1,5 @@
-use Rattle.std.proofs.Common.{arith, ap, length, length-append}
+use Rattle.std.proofs.lemmas.Grind.{common_steps}
+use Rattle.std.proofs.Common.{arith, length-append}
 use Rattle.std.proofs.lemmas.Result.{err_from_is_err_and}
 use Rattle.prolly_check.proofs.LeafRests.{none_dumped, one_dumped, dump_failed, dump_flushed}
 use Rattle.prolly_check.proofs.LeafRests.{dump_unflushed}
@@ -13,11 +14,7 @@ loop-leaf-preserved g c =
     one_dumped _ _ c.in-Some.leaf _ c.in-Some.ensures.next _ _ _ c.loop-leaf.invariant _ own
 
 pub loop-leaf-smaller : goal.loop-leaf-smaller
-loop-leaf-smaller g c = omega (
-  arith,
-  c.in-Some.ensures.some,
-  simp length-append at (ap length c.in-Some.ensures.next),
-)
+loop-leaf-smaller g c = grind (arith, common_steps, length-append)
 
 pub returns-in_err-write_all-clause-written : goal.returns-in_err-write_all-clause-written
 returns-in_err-write_all-clause-written g c =
@@ -27,11 +24,7 @@ returns-in_err-write_all-clause-written g c =
     own)
 
 pub returns-in-Ok-clause-written : goal.returns-in-Ok-clause-written
-returns-in-Ok-clause-written g c =
-    dump_flushed _ _ c.in_default.ensures.next _ _ _ c.loop-leaf.invariant c.in-Ok.ensures.bytes
-    c.in-Ok.ensures.keeping _ c.in-Ok.ensures.failures
+returns-in-Ok-clause-written g c = grind (arith, common_steps, dump_flushed)
 
 pub returns-in-Err-clause-written : goal.returns-in-Err-clause-written
-returns-in-Err-clause-written g c =
-    dump_unflushed _ _ c.in_default.ensures.next _ _ _ c.loop-leaf.invariant c.in-Err.ensures.bytes
-    c.in-Err.ensures.keeping _ c.in-Err.ensures.failures
+returns-in-Err-clause-written g c = grind (arith, common_steps, dump_unflushed)

@@ -1,6 +1,7 @@
+use Rattle.std.proofs.lemmas.Grind.{common_steps}
+use Rattle.std.proofs.Common.{arith}
 use Rattle.std.proofs.Common.{sym, ap, ◌∙◌, subst}
 use Rattle.prolly_check.specs.Checked.{HasReference, chunks_of}
-use Rattle.prolly_check.specs.Index.{HasAt}
 use Rattle.prolly_check.proofs.CheckedFile.{number_of}
 use Rattle.prolly_check.proofs.file.CheckedFile.child.Goals as goal
 
@@ -12,6 +13,4 @@ unreachable-requires c =
     (rw c.in-None.is at (c.find.ensures c.self.inside.chunks c.self.invariant.2)) at.0 at.1
 
 pub returns : goal.returns
-returns c = subst (λ cs. HasAt cs c.in-Some.number c.args.reference.now.0)
-    (c.self.invariant.1 ∙ ap chunks_of c.self.view_is)
-    (rw c.in-Some.is at (c.find.ensures c.self.inside.chunks c.self.invariant.2))
+returns c = grind (arith, common_steps)

@@ -1,3 +1,5 @@
+use Rattle.std.proofs.lemmas.Grind.{common_steps}
+use Rattle.std.proofs.Common.{arith}
 use Rattle.std.proofs.Common.{[], ◌∷◌, ◌++◌}
 use Rattle.prolly_check.specs.FileWays.{nth_chunk}
 use Rattle.prolly_check.specs.Sought.{sought_of}
@@ -30,6 +32,4 @@ loop-next-preserved c =
     }
 
 pub returns-clause-end : goal.returns-clause-end
-returns-clause-end c = way_ends c.args.file.now (sought_of c.args.sought)
-    c.loop-next.invariant.above c.loop-next.at c.loop-next.invariant.on c.below.ensures.named
-    c.in_default.ensures.ends
+returns-clause-end c = grind (arith, common_steps, way_ends)

@@ -1,5 +1,5 @@
+use Rattle.std.proofs.lemmas.Grind.{common_steps}
 use Rattle.std.proofs.Common.{◌≡◌, ◌-◌, ◌∙◌, ap, length, sym, subst, arith}
-use Rattle.std.specs.Prelude.{sum}
 use Rattle.std.proofs.lemmas.List.{length-map}
 use Rattle.prolly_check.specs.Numbers.{at_level}
 use Rattle.prolly_check.proofs.TreeNumbers.{size_within, sizes_sum, IsTower, all_levels, is_tower}
@@ -19,17 +19,10 @@ numbers_of-requires-clause-some c =
     )
 
 pub numbers_of-requires-clause-small : goal.numbers_of-requires-clause-small
-numbers_of-requires-clause-small c =
-    let chunks = c.args.chunks.now in
-    let within = size_within c.loop-number.number chunks in
-    omega (arith, ap sum c.in_ok-sizes.ensures, sizes_sum (at_level c.loop-number.number chunks))
+numbers_of-requires-clause-small c = grind (arith, common_steps, size_within, sizes_sum)
 
 pub loop-number-preserved : goal.loop-number-preserved
-loop-number-preserved c =
-    one_more c.args.chunks.now c.loop-number.number c.loop-number.levels.items
-    c.push.new.self.items c.numbers_of.result c.in_ok-push.ensures.items c.loop-number.invariant
-    (c.numbers_of.ensures (at_level c.loop-number.number c.args.chunks.now)
-    (sym c.in_ok-sizes.ensures))
+loop-number-preserved c = grind (arith, common_steps, one_more)
 
 pub returns : goal.returns
 returns c =

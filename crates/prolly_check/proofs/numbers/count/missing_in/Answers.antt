@@ -1,3 +1,4 @@
+use Rattle.std.proofs.lemmas.Grind.{common_steps}
 use Rattle.std.proofs.Common.{◌≡◌, ◌+◌, [], length, get_or, sym, ap, ◌∙◌, subst, arith}
 use Rattle.std.specs.Prelude.{not}
 use Rattle.prolly_entry.specs.Reference.{reference_of}
@@ -9,11 +10,7 @@ use Rattle.prolly_check.proofs.numbers.count.missing_in.Goals.{then-is_none, els
 use Rattle.prolly_check.proofs.numbers.count.missing_in.Goals as goal
 
 pub overflow_add-missing-then-is_none : goal.overflow_add-missing-then-is_none
-overflow_add-missing-then-is_none c =
-    let more = size_more c.args.chunks.now c.loop-number.number (omega arith) in
-    let most = size_up_to c.args.chunks.now (c.loop-number.number + 1) in
-    let small = c.loop-number.invariant.small in
-    omega (arith, ap length c.chunk.ensures)
+overflow_add-missing-then-is_none c = grind (arith, common_steps, size_more, size_up_to)
 
 -- what the index says of the chunk's reference
 known : (c : goal.Joined-is_none) → Tells c.args.index.now (reference_of

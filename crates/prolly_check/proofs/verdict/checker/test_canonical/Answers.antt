@@ -1,3 +1,5 @@
+use Rattle.std.proofs.lemmas.Grind.{common_steps}
+use Rattle.std.proofs.Common.{arith}
 use Rattle.std.proofs.Common.{inr}
 use Rattle.std.proofs.lemmas.Result.{err_from_is_err_and}
 use Rattle.prolly_check.proofs.CanonicalSteps.{chunks_say, some_chunks, end_says, all_say}
@@ -25,6 +27,4 @@ returns-in_err-test_end-clause-err c =
     c.in_err-test_end.field-0.0 c.in_err-test_end.ensures.err))
 
 pub returns-clause-ok : goal.returns-clause-ok
-returns-clause-ok c = all_say c.args.version c.args.cut c.args.chunks.now
-    c.in_ok-test_order.ensures.ok c.args.end.now c.in_ok-references.ensures.ok
-    c.in_ok-test_end.ensures.ok
+returns-clause-ok c = grind (arith, common_steps, all_say)

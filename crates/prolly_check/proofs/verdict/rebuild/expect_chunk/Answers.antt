@@ -1,22 +1,15 @@
-use Rattle.std.proofs.Common.{inr, sym, ap, ◌∙◌, arith}
+use Rattle.std.proofs.lemmas.Grind.{common_steps}
+use Rattle.std.proofs.Common.{sym, ap, ◌∙◌, arith}
 use Rattle.prolly_entry.specs.Reference.{reference_of}
 use Rattle.prolly_check.proofs.CanonicalSteps.{equal, unequal}
 use Rattle.prolly_check.proofs.Rebuilds.{is_past, is_other, is_same}
 use Rattle.prolly_check.proofs.verdict.rebuild.expect_chunk.Goals as goal
 
 pub returns-then-number-len-clause-expected : goal.returns-then-number-len-clause-expected
-returns-then-number-len-clause-expected c =
-    let count = c.len-number.ensures ∙ c.args.references.now.ok.0 in
-    rw count (λ sent a. inr (is_past c.args.chunks.now c.args.references.now.items c.args.event sent
-    a (omega (arith, count))))
+returns-then-number-len-clause-expected c = grind (arith, common_steps, is_past)
 
 pub returns-then-ne-clause-expected : goal.returns-then-ne-clause-expected
-returns-then-ne-clause-expected c =
-    let count = c.len-number.ensures ∙ c.args.references.now.ok.0 in
-    rw count (λ sent a. inr (is_other c.args.chunks.now c.args.references.now.items c.args.event
-    sent a (omega (arith, count))
-    (λ e. unequal c.chunk.result.now c.bytes.result.now c.if-ne.ensures
-    ((rw count at c.chunk.ensures) ∙ e ∙ sym c.bytes.ensures))))
+returns-then-ne-clause-expected c = grind (arith, common_steps, is_other, unequal)
 
 pub returns-clause-expected : goal.returns-clause-expected
 returns-clause-expected c =
