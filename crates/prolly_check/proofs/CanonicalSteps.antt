@@ -1,7 +1,8 @@
 -- The tests against the file of the pairs.
+use Rattle.std.proofs.Common.{rules}
 use Rattle.std.proofs.lemmas.Grind.{common_steps}
 use Rattle.std.proofs.Common.{◌≡◌, ℕ, ◌-◌, ◌<◌, true, false, not, List, ◌∷◌, length, map}
-use Rattle.std.proofs.Common.{get_or, Some, None, sym, ap, ◌∙◌, subst, arith}
+use Rattle.std.proofs.Common.{get_or, Some, None, sym, ap, ◌∙◌, arith}
 use Rattle.std.specs.List.{flat_map}
 use Rattle.std.specs.Str.{bytes_eq}
 use Rattle.std.proofs.lemmas.Bool.{cond-true, cond-false, false≢true, not-false, false_from_ne_true}
@@ -38,13 +39,8 @@ ending_is version bits pairs = grind (arith, common_steps, chunks_last, length-m
 pub ends_so : (cs : List (List ℕ)) (references : List Ref) (count : ℕ) (other : Ref) →
     AreReferences cs references → count ≡ length cs → 0 < length cs →
     end_record (get_or references (count - 1) other).0 count ≡ 0x45 ∷ ending_of_chunks cs
-ends_so cs references count other are e some = grind (
-  arith,
-  common_steps,
-  reference_at,
-  as_many,
-  get_or,
-)
+ends_so cs references count other are e some =
+    search (rules, common_steps, reference_at, as_many, get_or)
 
 -- where the keys rise, the chunks are tested, and then the end record
 module _ (version : Version) (bits : ℕ) (cs : List (List ℕ))
@@ -61,17 +57,15 @@ module _ (version : Version) (bits : ℕ) (cs : List (List ℕ))
     are_chunks = difference_ok 0 (chunk_bytes version bits (flat_map pairs_held cs)) cs same
 
     pub some_chunks : 0 < length cs
-    some_chunks = subst (λ ws. 0 < length ws) are_chunks
-        (chunks_some version bits (flat_map pairs_held cs))
+    some_chunks = search (rules, are_chunks, chunks_some)
 
     ends_as : 0x45 ∷ ending_of_chunks cs ≡ 0x45 ∷ wanted
-    ends_as = ap (λ ws. 0x45 ∷ ending_of_chunks ws) (sym are_chunks) ∙
-        ap (λ e. 0x45 ∷ e) (ending_is version bits (flat_map pairs_held cs))
+    ends_as = search (rules, are_chunks, ending_is)
 
     pub end_says : (fault : CheckFault) → (fault ≡ faults.BadEnd) ×
         (behind ≡ 0x45 ∷ ending_of_chunks cs → ⊥) → Says version bits cs behind (Some fault)
-    end_says fault bad ending e = grind (
-      arith,
+    end_says fault bad ending e = search (
+      rules,
       common_steps,
       flat_held,
       cond-false,
@@ -81,12 +75,5 @@ module _ (version : Version) (bits : ℕ) (cs : List (List ℕ))
     )
 
     pub all_say : behind ≡ 0x45 ∷ ending_of_chunks cs → Says version bits cs behind None
-    all_say is ending e = grind (
-      arith,
-      common_steps,
-      flat_held,
-      cond-true,
-      bytes_eq-Decides,
-      cells,
-      ends_as,
-    )
+    all_say is ending e =
+        search (rules, common_steps, flat_held, cond-true, bytes_eq-Decides, cells, ends_as)

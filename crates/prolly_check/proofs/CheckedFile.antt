@@ -1,4 +1,5 @@
 -- What is known of a file that is checked, and of one that was accepted.
+use Rattle.std.proofs.Common.{rules}
 use Rattle.std.proofs.lemmas.Grind.{common_steps}
 use Rattle.std.proofs.Common.{◌≡◌, ℕ, zero, suc, ◌-◌, ◌^◌, ◌<◌, List, [], ◌∷◌, ◌++◌, length, map}
 use Rattle.std.proofs.Common.{get_or, Ok, Err, inl, inr, ◌⊎◌, refl, sym, ap, ◌∙◌, subst, arith, ◌≤◌}
@@ -8,12 +9,10 @@ use Rattle.std.specs.Int.{w64, to_be_bytes}
 use Rattle.std.specs.List.{flat_map, AllByRecursion}
 use Rattle.std.specs.Prelude.{slice_index}
 use Rattle.std.specs.declared.ops.Range.{Range}
-use Rattle.std.proofs.Math.Logic.{⊎_map}
 use Rattle.std.proofs.Math.Seq.{get_or-append_seam}
 use Rattle.std.proofs.lemmas.List.{length-append, length-map, map_push, length-take-le, drop-drop}
 use Rattle.std.proofs.lemmas.List.Concat.{flat_map-append}
 use Rattle.prolly_entry.specs.Cut.{sha512_cut}
-use Rattle.prolly_entry.specs.Overlay.{or_else}
 use Rattle.prolly_entry.specs.Pair.{Pair}
 use Rattle.prolly_entry.specs.Reference.{reference_of}
 use Rattle.prolly_entry.specs.Spelling.{pair_spelling}
@@ -65,8 +64,8 @@ last_is version (suc level) ts = (flat_map (post_order version level) ts, refl)
 
 last_bytes : (before : List Chunk) (c : Chunk) →
     get_or (map (λ c. c.bytes) (before ++ c ∷ [])) (length (before ++ c ∷ []) - 1) [] ≡ c.bytes
-last_bytes before c = grind (
-  arith,
+last_bytes before c = search (
+  rules,
   common_steps,
   bytes_in,
   length-append,
@@ -129,13 +128,8 @@ few_in_frames version (c ∷ cs) w =
 pub few_held : (version : Version) (bytes : List ℕ) (spans : List (Range ℕ)) (place : ℕ) →
     FramesTo bytes spans place → AreWhole version (chunks_in bytes spans) →
     length (flat_map pairs_held (chunks_in bytes spans)) ≤ length bytes
-few_held version bytes spans place frames whole = grind (
-  arith,
-  common_steps,
-  few_in_frames,
-  length-append,
-  length-drop,
-)
+few_held version bytes spans place frames whole =
+    search (rules, common_steps, few_in_frames, length-append, length-drop)
 
 frames_in : (bytes : List ℕ) (content : Content) → IsFileOf bytes content →
     length (flat_map framed (chunks_of content)) ≤ length bytes
@@ -168,15 +162,13 @@ chunks_are bytes header spans index checked content short is =
 -- the last is the root
 pub root_there : (content : Content) (number : ℕ) → number ≡ length (chunks_of content) - 1 →
     get_or (chunks_of content) number [] ≡ root_bytes content
-root_there content number is = ap (λ n. get_or (chunks_of content) n []) is ∙
-    chunks_last content.version content.bits content.pairs
+root_there content number is = search (rules, get_or, chunks_last)
 
 -- a chunk that has a reference has a number
 pub number_of : (chunks : List (List ℕ)) (reference : List ℕ) (chunk : List ℕ) →
     IsIn chunk chunks → reference_of chunk ≡ reference → (n : ℕ) × HasAt chunks n reference
 number_of [] reference chunk is_in is = absurd is_in
-number_of (c ∷ cs) reference chunk (inl e) is =
-    (0, record { within = omega arith; is = ap reference_of (sym e) ∙ is })
+number_of (c ∷ cs) reference chunk (inl e) is = search (rules)
 number_of (c ∷ cs) reference chunk (inr there) is =
     let at = number_of cs reference chunk there is in
     let within = at.1.within in
@@ -212,8 +204,7 @@ module _ (bytes : List ℕ) (header : Header) (spans : List (Range ℕ)) (place 
     module _ (rest : List ℕ) (number : ℕ) (left : rest ≡ drop place bytes)
         (count : number ≡ length spans) where
       ending_is : ending_of (length spans) (drop place bytes) ≡ ending_of number rest
-      ending_is = ap (λ n. ending_of n (drop place bytes)) (sym count) ∙
-          ap (ending_of number) (sym left)
+      ending_is = search (rules)
 
       pub at_ending : (fault : CheckFault) → ending_of number rest ≡ Err fault →
           Refused bytes fault
@@ -269,8 +260,7 @@ module _ (bytes : List ℕ) (header : Header) (spans : List (Range ℕ)) (place 
 
           says : (o : Option CheckFault) → Says header.version cut chunks rest o →
               canonical_fault header.version header.bits cs l.ending lists ≡ o
-          says o h = subst (λ q. Says header.version q cs rest o) same
-              (subst (λ cs. Says header.version cut cs rest o) are h) l.ending (left ∙ l.behind)
+          says o h = search (rules)
 
           pub at_canonical : (fault : CheckFault) →
               UnlessMemory (λ fault. Says header.version cut chunks rest (Some fault)) fault →
@@ -280,13 +270,11 @@ module _ (bytes : List ℕ) (header : Header) (spans : List (Range ℕ)) (place 
           module _ (canonical : Says header.version cut chunks rest None) where
             then_reuse : judged header.version header.bits cs l.ending lists ≡
                 or_content it (reuse [] 0 chunks)
-            then_reuse = ap (λ o. or_content it (or_else o (reuse [] 0 cs))) (says None canonical) ∙
-                ap (λ cs. or_content it (reuse [] 0 cs)) (sym are)
+            then_reuse = search (rules, says)
 
             pub at_references : (fault : CheckFault) →
                 UnlessMemory (λ fault. reuse [] 0 chunks ≡ Some fault) fault → Refused bytes fault
-            at_references fault = ⊎_map (λ memory. memory)
-                (λ h. l.so (Err fault) (sym (then_reuse ∙ ap (or_content it) h)))
+            at_references fault = search (rules, then_reuse)
 
             pub at_end : (index : Index) → reuse [] 0 chunks ≡ None →
                 IsIndex index chunks → IsChecked bytes header spans index

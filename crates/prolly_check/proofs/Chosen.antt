@@ -1,4 +1,5 @@
 -- The child of a node that a look-up goes on in.
+use Rattle.std.proofs.Common.{rules}
 use Rattle.std.proofs.lemmas.Grind.{common_steps}
 use Rattle.std.proofs.Common.{◌≡◌, ℕ, suc, ◌+◌, ◌-◌, ◌^◌, ◌<◌, ◌≤◌, nat_lt, inl, inr, Bool, false}
 use Rattle.std.proofs.Common.{List, [], ◌∷◌, ◌++◌, length, map, Option, Some, None, refl, sym, ap}
@@ -287,10 +288,8 @@ module _ (version : Version) (cs : List (List ℕ)) (level : ℕ) (trees : List 
   pub chosen : (sought next : Sought) (reference : List ℕ) → CanCount version sought all →
       option_map reference_and_sought (child_sought sought (map (child_of version level) trees)) ≡
       Some (reference, next) → ChosenIn version level trees sought next reference
-  chosen (Key key) next reference can e = key_chosen key next reference
-      (picked version level key trees) refl e
-  chosen (Number n) next reference can e = number_chosen n next reference
-      (child_with n (map (child_of version level) trees)) can.0 can.1 refl e
+  chosen (Key key) next reference can e = search (rules, key_chosen)
+  chosen (Number n) next reference can e = search (rules, number_chosen)
 
   pub none_chosen : (sought : Sought) → CanCount version sought all →
       child_sought sought (map (child_of version level) trees) ≡ None → AllPast sought all
@@ -310,16 +309,15 @@ module _ (child : Child) (others : List Child) where
   before_it : (x : List ℕ) (before : List Child) →
       RisingFrom x (keys (before ++ child ∷ others)) → KeyBelow x child.key
   before_it x [] rising = rising.0
-  before_it x (b ∷ before) rising =
-      order_trans x b.key child.key rising.0 (before_it b.key before rising.1)
+  before_it x (b ∷ before) rising = search (rules, order_trans, before_it b.key before rising.1)
 
   -- where one of rising children is below the key, those before it are, too
   pub passed_over : (key : List ℕ) (before : List Child) →
       Rising (keys (before ++ child ∷ others)) → KeyBelow child.key key →
       child_for key (before ++ child ∷ others) ≡ child_for key (child ∷ others)
   passed_over key [] rising below = refl
-  passed_over key (b ∷ before) rising below = grind (
-    arith,
+  passed_over key (b ∷ before) rising below = search (
+    rules,
     common_steps,
     cond-true,
     order_trans,
@@ -366,11 +364,8 @@ pub begins_there : (version : Version) (chunk : List ℕ) (mark : Mark) →
     Rising (keys (children_in version (drop 1 chunk))) → KeyBelow child.key key →
     child_for key (children_in version (drop 1 chunk)) ≡
     child_for key (children_in version (drop mark.offset chunk))
-begins_there version chunk mark is child others first key rising below = grind (
-  arith,
-  common_steps,
-  passed_over,
-)
+begins_there version chunk mark is child others first key rising below =
+    search (rules, common_steps, passed_over)
 
 pub key_same : (asked : Asked) (key : Bor (List ℕ)) → asked ≡ AskedKey key →
     (xs ys : List Child) → child_for key.now xs ≡ child_for key.now ys →
@@ -398,8 +393,7 @@ module _ (version : Version) where
       children ≡ children_in version (drop 1 chunk)
   node_children [] children is = cc
   node_children (zero ∷ entries) children is = cc
-  node_children (suc level ∷ entries) children is =
-      same_children children (children_in version entries) is
+  node_children (suc level ∷ entries) children is = search (rules, same_children)
 
   pub node_entries : (chunk : List ℕ) (children : List Child) →
       ◌≡◌ {A = Entries} (Node children) (kind_of version chunk) → IsWhole version chunk →

@@ -1,4 +1,5 @@
 -- Entries that bytes spell, read one after another.
+use Rattle.std.proofs.Common.{rules}
 use Rattle.std.proofs.lemmas.Grind.{common_steps}
 use Rattle.std.proofs.Common.{◌≡◌, ℕ, zero, suc, ◌<◌, ◌≤◌, List, [], ◌∷◌, ◌++◌, length, drop, map}
 use Rattle.std.proofs.Common.{refl, sym, ap, ◌∙◌, arith, append_assoc, ◌+◌, ◌==◌, Some, length-drop}
@@ -105,10 +106,9 @@ module _ {B : Type 0} (first : List ℕ → B) (behind : List ℕ → List ℕ) 
     enough (suc n) zero [] h k = refl
     enough (suc n) (suc m) [] h k = refl
     enough zero m (b ∷ bytes) h k = absurd (let h' : suc (length bytes) ≤ 0 = h in omega arith)
-    enough (suc n) zero (b ∷ bytes) h k = absurd (let k' : suc (length bytes) ≤ 0 = k in
-        omega arith)
-    enough (suc n) (suc m) (b ∷ bytes) h k = grind (
-      arith,
+    enough (suc n) zero (b ∷ bytes) h k = search (rules)
+    enough (suc n) (suc m) (b ∷ bytes) h k = search (
+      rules,
       common_steps,
       enough n m (behind (b ∷ bytes)) (omega arith) (omega arith),
     )
@@ -160,16 +160,13 @@ leaf_entries entries l = record { entries = l.pairs; is = l.is.is; lawful = l.is
 module _ (entries rest : List ℕ) (p : Pair) (b : BeginsWith pair_spelling IsPair entries p rest)
   where
     pub leaf_more : IsSomeLeaf rest → IsSomeLeaf entries
-    leaf_more l = some_leaf entries (one_more pair_spelling IsPair leaf_apart entries rest p b
-        (leaf_entries rest l))
+    leaf_more l = search (rules, some_leaf, one_more, leaf_apart, leaf_entries)
 
     pub leaf_less : IsSomeLeaf entries → IsSomeLeaf rest
-    leaf_less l = some_leaf rest (one_less pair_spelling IsPair leaf_apart entries rest p b
-        (leaf_entries entries l))
+    leaf_less l = search (rules, some_leaf, one_less, leaf_apart, leaf_entries)
 
 pub leaf_left : (entries : List ℕ) → NoPairAt entries → IsSomeLeaf entries → entries ≡ []
-leaf_left entries none l = nothing_left pair_spelling IsPair leaf_apart entries none
-    (leaf_entries entries l)
+leaf_left entries none l = search (rules, nothing_left, leaf_apart, leaf_entries)
 
 -- behind lawful pairs there are bytes that no pair's spelling begins
 pub no_leaf : NoLeaf
@@ -221,8 +218,7 @@ leaf_pairs entries pairs h =
 pub next_pair : (entries : List ℕ) (p : Pair) (rest : List ℕ) →
     BeginsWith pair_spelling IsPair entries p rest → pairs_in entries ≡ p ∷ pairs_in rest
 unfolding pairs_in
-next_pair entries p rest b = reads_on first_pair behind_pair pair_shrinks entries (pair_spelling p)
-    rest p (pair_reads p b.lawful) b.is
+next_pair entries p rest b = search (rules, reads_on, pair_shrinks, pair_reads)
 
 pub no_next : (entries : List ℕ) → NoPairAt entries → IsSomeLeaf entries → pairs_in entries ≡ []
 unfolding pairs_in
@@ -269,12 +265,10 @@ node_entries version entries n = record { entries = n.children; is = n.is; lawfu
 module _ (version : Version) (entries rest : List ℕ) (c : Child)
     (b : BeginsWith (entry_of version) IsChild entries c rest) where
   pub node_more : IsNode version rest [] → IsNode version entries []
-  node_more n = some_node version entries (one_more (entry_of version) IsChild (node_apart version)
-      entries rest c b (node_entries version rest n))
+  node_more n = search (rules, some_node, one_more, node_apart, node_entries)
 
   pub node_less : IsNode version entries [] → IsNode version rest []
-  node_less n = some_node version rest (one_less (entry_of version) IsChild (node_apart version)
-      entries rest c b (node_entries version entries n))
+  node_less n = search (rules, some_node, one_less, node_apart, node_entries)
 
   pub behind_first : rest ≡ drop (length entries - length rest) entries
   behind_first =

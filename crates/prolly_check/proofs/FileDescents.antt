@@ -1,4 +1,5 @@
 -- Going down the tree of a file that was checked.
+use Rattle.std.proofs.Common.{rules}
 use Rattle.std.proofs.lemmas.Grind.{common_steps}
 use Rattle.std.proofs.Common.{◌≡◌, ℕ, suc, ◌<◌, ◌≤◌, inl, inr, List, [], ◌∷◌, ◌++◌, length}
 use Rattle.std.proofs.Common.{map, refl, sym, ap, ◌∙◌, subst, arith}
@@ -131,8 +132,7 @@ falls_more (c ∷ d ∷ chunks) chunk below down one =
 pub pushed : (items new : List (Bor (List ℕ))) (one : Bor (List ℕ)) (chunk : List ℕ) →
     new ≡ items ++ one ∷ [] → one.now ≡ chunk →
     map (λ c. c.now) new ≡ map (λ c. c.now) items ++ chunk ∷ []
-pushed items new one chunk is at = ap (map (λ c. c.now)) is ∙
-    map-append (λ c. c.now) items (one ∷ []) ∙ ap (λ c. map (λ c. c.now) items ++ c ∷ []) at
+pushed items new one chunk is at = search (rules, map-append)
 
 -- these chunks of the file led a look-up to the chunk of this number
 pub record OnWay (content : Content) (sought : Sought) (above : List (List ℕ)) (number : ℕ)
@@ -179,8 +179,7 @@ module _ (content : Content) (sought : Sought) (above : List (List ℕ)) (at : A
   chunk = nth_chunk content at.number
 
   all_inside : AllByRecursion (λ c. IsIn c (chunks_of content)) (above ++ chunk ∷ [])
-  all_inside = all_append (λ c. IsIn c (chunks_of content)) above (chunk ∷ []) on.inside
-      (is_there (chunks_of content) at.number on.top.within, tt)
+  all_inside = search (rules, all_append, is_there)
 
   pub way_goes_on : (next : At) → IsNext content at next →
       OnWay content sought (above ++ chunk ∷ []) next.number (sought_of next.sought)

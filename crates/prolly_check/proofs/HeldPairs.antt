@@ -1,4 +1,5 @@
 -- The pairs that chunks hold, and testing chunks one after another.
+use Rattle.std.proofs.Common.{rules}
 use Rattle.std.proofs.lemmas.Grind.{common_steps}
 use Rattle.std.proofs.Common.{◌≡◌, ℕ, zero, suc, ◌<◌, List, [], ◌∷◌, ◌++◌, length, map, get_or}
 use Rattle.std.proofs.Common.{refl, sym, ap, ◌∙◌, subst, arith, append-nil, ◌+◌, take, drop}
@@ -65,16 +66,14 @@ module _ (version : Version) where
   lists_are [] [] h = refl
   lists_are [] (held ∷ lists) h = absurd h
   lists_are (chunk ∷ chunks) [] h = absurd h
-  lists_are (chunk ∷ chunks) (held ∷ lists) h = ap (λ ps. ps ∷ lists) (held_is chunk held h.0) ∙
-      ap (λ ls. pairs_held chunk ∷ ls) (lists_are chunks lists h.1)
+  lists_are (chunk ∷ chunks) (held ∷ lists) h = search (rules, held_is, lists_are chunks lists h.1)
 
   -- and they are whole; whole chunks have them
   pub are_whole : (chunks : List (List ℕ)) (lists : List (List Pair)) →
       AllHold version chunks lists → AreWhole version chunks
   are_whole [] lists h = tt
   are_whole (chunk ∷ chunks) [] h = absurd h
-  are_whole (chunk ∷ chunks) (held ∷ lists) h =
-      (record { pairs = held; holds = h.0 }, are_whole chunks lists h.1)
+  are_whole (chunk ∷ chunks) (held ∷ lists) h = search (rules, are_whole chunks lists h.1)
 
   pub all_hold : (chunks : List (List ℕ)) → AreWhole version chunks →
       AllHold version chunks (map pairs_held chunks)
@@ -85,8 +84,8 @@ module _ (version : Version) where
       number < length chunks → IsWhole version (get_or chunks number [])
   each_whole [] number w within = absurd (omega arith)
   each_whole (chunk ∷ chunks) zero w within = w.0
-  each_whole (chunk ∷ chunks) (suc number) w within = grind (
-    arith,
+  each_whole (chunk ∷ chunks) (suc number) w within = search (
+    rules,
     common_steps,
     each_whole chunks number w.1 (omega arith),
   )
@@ -119,15 +118,14 @@ module _ (version : Version) where
       flat_map (child_entry version level) ts ≡ flat_map (entry_of version)
       (map (child_below level) ts)
   entries_are level [] = refl
-  entries_are level (t ∷ ts) = ap (λ a. entry_of version (child_below level t) ++ a)
-      (entries_are level ts)
+  entries_are level (t ∷ ts) = search (rules, entries_are level ts)
 
   all_children : (level : ℕ) (ts : List (Tree level)) →
       AllByRecursion IsPair (flat_map (pairs_below level) ts) →
       AllByRecursion IsChild (map (child_below level) ts)
   all_children level [] h = tt
-  all_children level (t ∷ ts) h = grind (
-    arith,
+  all_children level (t ∷ ts) h = search (
+    rules,
     common_steps,
     last_key_short,
     all_front,

@@ -1,4 +1,5 @@
 -- The references of the chunks of a file, and an index of them.
+use Rattle.std.proofs.Common.{rules}
 use Rattle.std.proofs.Common.{◌≡◌, ℕ, suc, ◌+◌, ◌<◌, ◌≤◌, Bool, true, false, ◌||◌, List, []}
 use Rattle.std.proofs.Common.{◌∷◌, length, take, drop, get_or, Some, None, inl, inr, refl, sym, ap}
 use Rattle.std.proofs.Common.{◌∙◌, subst, arith}
@@ -31,8 +32,7 @@ use Rattle.prolly_check.proofs.Verdicts.{reuse_is}
 -- there are as many as chunks
 pub as_many : (chunks : List (List ℕ)) (references : List Ref) → AreReferences chunks references →
     length references ≡ length chunks
-as_many chunks references are = sym (length-map references (λ r. r.0)) ∙ ap length are ∙
-    length-map chunks reference_of
+as_many chunks references are = search (rules, length-map)
 
 -- each is that of the chunk at its place
 pub reference_at : (chunks : List (List ℕ)) (references : List Ref) (n : ℕ) (other : Ref) →
@@ -147,8 +147,7 @@ module _ (index : Index) (chunks : List (List ℕ)) (i : IsIndex index chunks) w
           ]
 
       pub none_reused : reuse [] 0 chunks ≡ None
-      none_reused = (reuse_is [] 0 chunks).1
-          (recursion_from_All (λ c. Unit {0}) chunks (λ k d h. tt), apart chunks chunks_differ)
+      none_reused = search (rules, reuse_is, recursion_from_All, apart, chunks_differ)
 
 -- ---- the first chunk whose reference an earlier one has
 
@@ -181,8 +180,7 @@ module _ (chunks : List (List ℕ)) (references : List Ref) (are : AreReferences
     known = list_any (λ d. bytes_eq (reference_of d) (reference_of chunk)) p.before
 
     reuse_here : reuse [] 0 chunks ≡ reuse p.before n (chunk ∷ drop (suc n) chunks)
-    reuse_here = p.same ∙ ap (reuse p.before n)
-        (drop-cons chunks n [] (omega (arith, as_many chunks references are)))
+    reuse_here = search (rules, drop-cons, as_many)
 
     known_is : known ≡ list_any (λ r. bytes_eq r.0 (get_or references n other).0)
         (take n references)
@@ -192,8 +190,7 @@ module _ (chunks : List (List ℕ)) (references : List Ref) (are : AreReferences
 
     pub is_reused : list_any (λ r. bytes_eq r.0 (get_or references n other).0)
         (take n references) ≡ true → reuse [] 0 chunks ≡ Some (Collision n)
-    is_reused e = reuse_here ∙ cond-true known (Some (Collision n))
-        (reuse (chunk ∷ p.before) (suc n) (drop (suc n) chunks)) (known_is ∙ e)
+    is_reused e = search (rules, reuse_here, cond-true, known_is)
 
     pub is_passed : list_any (λ r. bytes_eq r.0 (get_or references n other).0)
         (take n references) ≡ false → Passed chunks references (n + 1)

@@ -1,4 +1,5 @@
 -- What is left of a map, leaf by leaf, and what was written of it.
+use Rattle.std.proofs.Common.{rules}
 use Rattle.std.proofs.lemmas.Grind.{common_steps}
 use Rattle.std.proofs.Common.{◌≡◌, ℕ, ◌+◌, ◌<◌, Bool, true, false, not, cond, List, [], ◌∷◌, ◌++◌}
 use Rattle.std.proofs.Common.{length, drop, take, get_or, refl, sym, ap, ◌∙◌, subst, arith}
@@ -80,8 +81,7 @@ module _ (content : Content) (f : HasFile content) (number : ℕ) where
       flat_map-append pairs_held (take number cs) (drop number cs)
 
   rest_rises : Rises (behind number)
-  rest_rises = rises_back front (behind number)
-      (subst Rises in_front (rises content.pairs f.is.rising))
+  rest_rises = search (rules, rises_back, in_front, rises)
 
   module _ (within : number < length (chunks_of content)) (leaf : List Pair)
       (is : leaf ≡ pairs_held (get_or (chunks_of content) number [])) where
@@ -89,8 +89,7 @@ module _ (content : Content) (f : HasFile content) (number : ℕ) where
     parts = held_next (chunks_of content) number leaf within is
 
     pub leaf_is_map : IsMap leaf
-    leaf_is_map = rising_is leaf
-        (rises_front leaf (behind (number + 1)) (subst Rises parts rest_rises))
+    leaf_is_map = search (rules, rising_is, rises_front, parts, rest_rises)
 
     -- what the leaf has from a key on are the first that the map has: none before it, and all
     -- behind it; and where it has none, there are none
@@ -132,15 +131,8 @@ module _ (content : Content) (f : HasFile content) (number : ℕ) where
 
       pub from_leaf : (pairs_from key leaf ≡ [] → ⊥) →
           pairs_from key leaf ++ behind (number + 1) ≡ pairs_from key content.pairs
-      from_leaf some = grind (
-        arith,
-        common_steps,
-        found,
-        none_before,
-        from_behind,
-        parts,
-        rest_rises,
-      )
+      from_leaf some =
+          search (rules, common_steps, found, none_before, from_behind, parts, rest_rises)
 
       pub from_none : (end : ℕ) → end ≡ length (chunks_of content) → pairs_from key leaf ≡ [] →
           pairs_from key leaf ++ behind end ≡ pairs_from key content.pairs

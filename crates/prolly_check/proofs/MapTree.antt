@@ -1,4 +1,5 @@
 -- The tree of a map, and what is read of its chunks.
+use Rattle.std.proofs.Common.{rules}
 use Rattle.std.proofs.lemmas.Grind.{common_steps}
 use Rattle.std.proofs.Common.{◌≡◌, ℕ, zero, suc, ◌<◌, inl, inr, List, [], ◌∷◌, ◌++◌, length, sym}
 use Rattle.std.proofs.Common.{ap, ◌∙◌, subst, arith, map, get_or, slice_index, refl}
@@ -56,8 +57,7 @@ one_chunk (x ∷ cs) c d h (inr k) (inr l) e = one_chunk cs c d h.1 k l e
 -- ---- the trees of a map
 
 some_pairs : (level : ℕ) (t : Tree level) → Full level t → 0 < length (pairs_below level t)
-some_pairs level t h = let r = full_pairs level t h in
-    subst (λ ps. 0 < length ps) (sym r.1.1) (let s : 0 < length (r.0 ∷ r.1.0) = omega arith in s)
+some_pairs level t h = search (rules, full_pairs)
 
 all_node : (level : ℕ) → ((t : Tree level) → Full level t → NodeFull level t) →
     (ts : List (Tree level)) → AllByRecursion (Full level) ts → NodeFull (suc level) ts
@@ -77,8 +77,7 @@ pub root_full : (version : Version) (bits : ℕ) (m : List Pair) →
     NodeFull (tree_of (sha512_cut bits) version m).level (tree_of (sha512_cut bits) version m).tree
 unfolding split grow
 root_full version bits [] = tt
-root_full version bits (p ∷ m) = node_full (tree_of (sha512_cut bits) version (p ∷ m)).level
-    (tree_of (sha512_cut bits) version (p ∷ m)).tree (tree_full (sha512_cut bits) version p m)
+root_full version bits (p ∷ m) = search (rules, node_full, tree_full)
 
 pub root_is : (version : Version) (bits : ℕ) (m : List Pair) → AllByRecursion IsPair m →
     Rising (keys_in m) →
@@ -90,13 +89,8 @@ in_child : (version : Version) (level : ℕ) (before after : List (Tree level)) 
     (c : Chunk) →
     IsIn c (post_order version level t) → IsIn c
     (flat_map (post_order version level) (before ++ t ∷ after))
-in_child version level before after t c h = grind (
-  arith,
-  common_steps,
-  flat_map-append,
-  in_back,
-  in_front,
-)
+in_child version level before after t c h =
+    search (rules, common_steps, flat_map-append, in_back, in_front)
 
 -- what has a node has its children
 has_child : (version : Version) (chunks : List (List ℕ)) (level : ℕ)
@@ -110,8 +104,7 @@ has_child version chunks level before after t has c h = has c (in_front c
 module _ (version : Version) (chunks : List (List ℕ)) (level : ℕ) (before after : List (Tree level))
     (t : Tree level) (b : IsTreeOf version chunks (suc level) (before ++ t ∷ after)) where
   good : AllByRecursion (λ t. (0 < length (pairs_below level t)) × NodeFull level t) (t ∷ after)
-  good = all_back (λ t. (0 < length (pairs_below level t)) × NodeFull level t) before (t ∷ after)
-      b.full
+  good = search (rules, all_back)
 
   pub child_some : 0 < length (pairs_below level t)
   child_some = good.0.0
@@ -148,8 +141,8 @@ all_below : (level : ℕ) (ts : List (Tree level)) →
     AllByRecursion IsPair (flat_map (pairs_below level) ts) →
     AllByRecursion (λ t. AllByRecursion IsPair (pairs_below level t)) ts
 all_below level [] h = tt
-all_below level (t ∷ ts) h = grind (
-  arith,
+all_below level (t ∷ ts) h = search (
+  rules,
   common_steps,
   all_front,
   all_back,
@@ -188,8 +181,7 @@ height_is version (suc level) t = refl
 pub is_there : (cs : List (List ℕ)) (n : ℕ) → n < length cs → IsIn (get_or cs n []) cs
 is_there [] n h = absurd (omega arith)
 is_there (c ∷ cs) zero h = inl refl
-is_there (c ∷ cs) (suc n) h = let h' : suc n < suc (length cs) = h in
-    inr (is_there cs n (omega arith))
+is_there (c ∷ cs) (suc n) h = search (rules, is_there cs n (omega arith))
 
 -- ---- the keys of a chunk
 

@@ -1,4 +1,5 @@
 -- Bytes have one verdict, which is never a fault of the reading.
+use Rattle.std.proofs.Common.{rules}
 use Rattle.std.proofs.lemmas.Grind.{common_steps}
 use Rattle.std.proofs.Common.{arith}
 use Rattle.std.proofs.Common.{◌≡◌, ℕ, suc, true, List, [], ◌∷◌, ◌++◌, length, drop, Option, Some}
@@ -54,20 +55,10 @@ pub framed_one : (cs ds : List (List ℕ)) (x y : List ℕ) → AllByRecursion I
     AllByRecursion IsSmall ds → has_no_frame x ≡ true → has_no_frame y ≡ true →
     flat_map framed cs ++ x ≡ flat_map framed ds ++ y → Same cs ds x y
 framed_one [] [] x y h k a b e = record { chunks = refl; tail = e }
-framed_one [] (d ∷ ds) x y h k a b e = grind (
-  arith,
-  common_steps,
-  false≢true,
-  begins_frame,
-  regroup,
-)
-framed_one (c ∷ cs) [] x y h k a b e = grind (
-  arith,
-  common_steps,
-  false≢true,
-  begins_frame,
-  regroup,
-)
+framed_one [] (d ∷ ds) x y h k a b e =
+    search (rules, common_steps, false≢true, begins_frame, regroup)
+framed_one (c ∷ cs) [] x y h k a b e =
+    search (rules, common_steps, false≢true, begins_frame, regroup)
 framed_one (c ∷ cs) (d ∷ ds) x y h k a b e =
     let p = one_front c d (flat_map framed cs ++ x) (flat_map framed ds ++ y) h.0 k.0
     (sym (regroup c cs x) ∙ e ∙ regroup d ds y) in
@@ -85,30 +76,26 @@ module _ (version : Version) where
   not_bad : (cs before : List (List ℕ)) (c : List ℕ) (after : List (List ℕ)) →
       cs ≡ before ++ c ∷ after → AreWhole version cs →
       ((pairs : List Pair) → Holds version c pairs → ⊥) → ⊥
-  not_bad cs before c after e w bad = bad_apart c c bad refl
-      (all_back (IsWhole version) before (c ∷ after) (subst (AreWhole version) e w)).0
+  not_bad cs before c after e w bad = search (rules, bad_apart, all_back)
 
   bad_same : (before other : List (List ℕ)) (c d : List ℕ) (after rest : List (List ℕ)) →
       before ++ c ∷ after ≡ other ++ d ∷ rest → AreWhole version before → AreWhole version other →
       ((pairs : List Pair) → Holds version c pairs → ⊥) →
       ((pairs : List Pair) → Holds version d pairs → ⊥) → length before ≡ length other
   bad_same [] [] c d after rest e h k bad worse = refl
-  bad_same [] (o ∷ other) c d after rest e h k bad worse =
-      absurd (bad_apart c o bad (head_is c o after (other ++ d ∷ rest) e) k.0)
-  bad_same (b ∷ before) [] c d after rest e h k bad worse =
-      absurd (bad_apart d b worse (sym (head_is b d (before ++ c ∷ after) rest e)) h.0)
-  bad_same (b ∷ before) (o ∷ other) c d after rest e h k bad worse =
-      ap suc (bad_same before other c d after rest
-      (tail_is b o (before ++ c ∷ after) (other ++ d ∷ rest) e) h.1 k.1 bad worse)
+  bad_same [] (o ∷ other) c d after rest e h k bad worse = search (rules, bad_apart, head_is)
+  bad_same (b ∷ before) [] c d after rest e h k bad worse = search (rules, bad_apart, head_is)
+  bad_same (b ∷ before) (o ∷ other) c d after rest e h k bad worse = search (
+    rules,
+    tail_is,
+    bad_same before other c d after rest (tail_is b o (before ++ c ∷ after) (other ++ d ∷ rest) e) h.1 k.1 bad worse,
+  )
 
   read_one : (cs : List (List ℕ)) (r s : Result (List (List Pair)) CheckFault) →
       IsRead version cs r → IsRead version cs s → r ≡ s
-  read_one cs (Ok ls) (Ok ms) h k = ap Ok (lists_are version cs ls h ∙
-      sym (lists_are version cs ms k))
-  read_one cs (Ok ls) (Err f) h k = absurd (not_bad cs k.before k.chunk k.after k.whole
-      (are_whole version cs ls h) k.bad)
-  read_one cs (Err f) (Ok ms) h k = absurd (not_bad cs h.before h.chunk h.after h.whole
-      (are_whole version cs ms k) h.bad)
+  read_one cs (Ok ls) (Ok ms) h k = search (rules, lists_are)
+  read_one cs (Ok ls) (Err f) h k = search (rules, not_bad, are_whole)
+  read_one cs (Err f) (Ok ms) h k = search (rules, not_bad, are_whole)
   read_one cs (Err f) (Err g) h k = grind (arith, common_steps, bad_same, are_whole)
 
 -- ---- the verdicts
@@ -167,8 +154,8 @@ of_ending number (b ∷ rest) = grind (arith, common_steps, cond_both, nat_lt)
 of_order : (last : Position) (number : ℕ) (lists : List (List Pair)) →
     AnyOfBytes (order_fault last number lists)
 of_order last number [] = tt
-of_order last number (ps ∷ lists) = grind (
-  arith,
+of_order last number (ps ∷ lists) = search (
+  rules,
   common_steps,
   cond_both,
   of_order (last_behind last ps) (suc number) lists,
@@ -178,8 +165,8 @@ of_difference : (number : ℕ) (cs ds : List (List ℕ)) → AnyOfBytes (differe
 of_difference number [] [] = tt
 of_difference number [] (d ∷ ds) = tt
 of_difference number (c ∷ cs) [] = tt
-of_difference number (c ∷ cs) (d ∷ ds) = grind (
-  arith,
+of_difference number (c ∷ cs) (d ∷ ds) = search (
+  rules,
   common_steps,
   cond_both,
   of_difference (suc number) cs ds,
@@ -188,8 +175,8 @@ of_difference number (c ∷ cs) (d ∷ ds) = grind (
 of_reuse : (before : List (List ℕ)) (number : ℕ) (cs : List (List ℕ)) →
     AnyOfBytes (reuse before number cs)
 of_reuse before number [] = tt
-of_reuse before number (c ∷ cs) = grind (
-  arith,
+of_reuse before number (c ∷ cs) = search (
+  rules,
   common_steps,
   cond_both,
   of_reuse (c ∷ before) (suc number) cs,
@@ -203,24 +190,14 @@ of_content content (Some fault) h = h
 of_read : (version : Version) (bits : ℕ) (cs : List (List ℕ)) (ending : List ℕ)
     (read : Result (List (List Pair)) CheckFault) (verdict : Result Content CheckFault) →
     IsRead version cs read → ReadVerdict version bits cs ending read verdict → ErrOfBytes verdict
-of_read version bits cs ending (Ok lists) verdict is so = grind (
-  arith,
-  common_steps,
-  flat,
-  of_content,
-  of_order,
-  of_difference,
-  cond_both,
-  of_reuse,
-)
-of_read version bits cs ending (Err fault) verdict is so =
-    subst ErrOfBytes (sym so) (subst OfBytes (sym is.is) tt)
+of_read version bits cs ending (Ok lists) verdict is so =
+    search (rules, common_steps, flat, of_content, of_order, of_difference, cond_both, of_reuse)
+of_read version bits cs ending (Err fault) verdict is so = search (rules)
 
 of_end : (version : Version) (bits : ℕ) (cs : List (List ℕ)) (ending : Result (List ℕ) CheckFault)
     (verdict : Result Content CheckFault) → ErrOfBytes ending →
     EndVerdict version bits cs ending verdict → ErrOfBytes verdict
-of_end version bits cs (Ok ending) verdict h so =
-    of_read version bits cs ending so.read verdict so.is so.so
+of_end version bits cs (Ok ending) verdict h so = search (rules, of_read)
 of_end version bits cs (Err fault) verdict h so = subst ErrOfBytes (sym so) h
 
 pub verdict_of_bytes : (bytes : List ℕ) (fault : CheckFault) → IsVerdict bytes (Err fault) →
@@ -237,21 +214,5 @@ no_failed_read bytes (inr v) = verdict_of_bytes bytes faults.Read v
 pub refusal : (read bytes : List ℕ) (max_bytes : ℕ) (fault : CheckFault) → length read ≤ max_bytes →
     read ≡ bytes → UnlessMemory (λ fault. IsVerdict read (Err fault)) fault →
     IsRefusal bytes max_bytes fault
-refusal read bytes max_bytes fault within e (inl memory) =
-    subst (IsRefusal bytes max_bytes) (sym memory) tt
-refusal read bytes max_bytes fault within e (inr h) =
-    subst (λ b. IsRefusal b max_bytes fault) e (go fault h)
-  where
-    go : (fault : CheckFault) → IsVerdict read (Err fault) → IsRefusal read max_bytes fault
-    go faults.Memory h = tt
-    go faults.Read h = tt
-    go faults.TooLong h = absurd (verdict_of_bytes read faults.TooLong h)
-    go faults.BadHeader h = (within, h)
-    go (faults.BadFrame n) h = (within, h)
-    go faults.Truncated h = (within, h)
-    go faults.Trailing h = (within, h)
-    go (faults.BadChunk n) h = (within, h)
-    go (faults.KeysOutOfOrder n) h = (within, h)
-    go (faults.NotCanonical n) h = (within, h)
-    go faults.BadEnd h = (within, h)
-    go (faults.Collision n) h = (within, h)
+refusal read bytes max_bytes fault within e (inl memory) = search (rules)
+refusal read bytes max_bytes fault within e (inr h) = search (rules, verdict_of_bytes)

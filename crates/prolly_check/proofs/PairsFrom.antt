@@ -1,13 +1,12 @@
 -- What is found among the pairs of a map: at a key, from a key on, at a number.
+use Rattle.std.proofs.Common.{rules}
 use Rattle.std.proofs.lemmas.Grind.{common_steps}
 use mathlib.Core.List.{cons≢nil}
 use Rattle.std.proofs.Common.{◌≡◌, ℕ, zero, suc, ◌+◌, ◌<◌, false, cond, List, [], ◌∷◌, ◌++◌, length}
-use Rattle.std.proofs.Common.{Some, None, Ordering, refl, sym, ap, ◌∙◌, subst, arith, ◌≤◌, Bool}
+use Rattle.std.proofs.Common.{None, Ordering, refl, sym, ap, ◌∙◌, subst, arith, ◌≤◌, Bool}
 use Rattle.std.proofs.Common.{true, not, take, drop, inl, inr, ◌⊎◌, append_assoc, append-nil}
-use Rattle.std.specs.Cmp.{nat_cmp_is}
-use Rattle.std.specs.Cmp.Lexicographic.{slice_cmp}
 use Rattle.std.specs.List.{flat_map, slice_get, AllByRecursion}
-use Rattle.std.specs.Ordering.{is_lt, is_eq, nat_cmp, ordering_reverse, ordering_then}
+use Rattle.std.specs.Ordering.{is_lt, nat_cmp, ordering_reverse, ordering_then}
 use Rattle.std.specs.declared.cmp.Ordering.TheVariants.{Less, Equal, Greater}
 use Rattle.std.proofs.lemmas.Bool.{cond-false, false≢true, cond-true}
 use Rattle.std.proofs.lemmas.Cmp.{nat_cmp_total, tied_itself}
@@ -33,8 +32,8 @@ pub all_below : (ps : List Pair) (key : List ℕ) → Rises ps → KeyBelow (las
     AllByRecursion (λ p. KeyBelow p.key key) ps
 all_below [] key h k = tt
 all_below (p ∷ []) key h k = (k, tt)
-all_below (p ∷ q ∷ ps) key h k = grind (
-  arith,
+all_below (p ∷ q ∷ ps) key h k = search (
+  rules,
   common_steps,
   order_trans,
   above_key,
@@ -57,14 +56,12 @@ trees_below level (t ∷ ts) key h k =
 pub find_over : (xs ys : List Pair) (key : List ℕ) → AllByRecursion (λ p. KeyBelow p.key key) xs →
     find (xs ++ ys) key ≡ find ys key
 find_over [] ys key h = refl
-find_over (p ∷ xs) ys key h = cond-false (is_eq (key_order p.key key)) (Some p.value)
-    (find (xs ++ ys) key) (not_eq_below p.key key h.0) ∙ find_over xs ys key h.1
+find_over (p ∷ xs) ys key h = search (rules, cond-false, not_eq_below, find_over xs ys key h.1)
 
 pub find_first : (xs ys : List Pair) (key : List ℕ) → find ys key ≡ None →
     find (xs ++ ys) key ≡ find xs key
 find_first [] ys key h = h
-find_first (p ∷ xs) ys key h = ap (cond (is_eq (key_order p.key key)) (Some p.value))
-    (find_first xs ys key h)
+find_first (p ∷ xs) ys key h = search (rules, find_first xs ys key h)
 
 pub above_last : (ps ys : List Pair) → 0 < length ps → Rises (ps ++ ys) → Above (last_key ps) ys
 above_last [] ys some h = absurd (omega arith)
@@ -93,13 +90,11 @@ rising_is (p ∷ ps) h = from_rises p ps h.0 h.1
 pub nth_front : (xs ys : List Pair) (n : ℕ) → n < length xs → slice_get (xs ++ ys) n ≡ slice_get xs n
 nth_front [] ys n h = absurd (omega arith)
 nth_front (x ∷ xs) ys zero h = refl
-nth_front (x ∷ xs) ys (suc n) h = let h' : suc n < suc (length xs) = h in
-    nth_front xs ys n (omega arith)
+nth_front (x ∷ xs) ys (suc n) h = search (rules, nth_front xs ys n (omega arith))
 
 pub nth_back : (xs ys : List Pair) (n : ℕ) → slice_get (xs ++ ys) (length xs + n) ≡ slice_get ys n
 nth_back [] ys n = let e : 0 + n ≡ n = omega arith in rw e refl
-nth_back (x ∷ xs) ys n = let e : suc (length xs) + n ≡ suc (length xs + n) = omega arith in
-    rw e (nth_back xs ys n)
+nth_back (x ∷ xs) ys n = search (rules, nth_back xs ys n)
 
 -- ---- scanning pairs from a key on, in a leaf and over chunks
 
@@ -112,8 +107,7 @@ pairs_from-append from xs ys = filter-append (λ p. not (is_lt (key_order p.key 
 pub none_from : (from : List ℕ) (ps : List Pair) → AllByRecursion (λ p. KeyBelow p.key from) ps →
     pairs_from from ps ≡ []
 none_from from [] h = refl
-none_from from (p ∷ ps) h = cond-false (not (is_lt (key_order p.key from))) (p ∷ pairs_from from ps)
-    (pairs_from from ps) (ap (λ o. not (is_lt o)) h.0) ∙ none_from from ps h.1
+none_from from (p ∷ ps) h = search (rules, cond-false, none_from from ps h.1)
 
 -- pairs of which the last is not below it have one
 pub some_from : (from : List ℕ) (ps : List Pair) → 0 < length ps →
@@ -143,8 +137,7 @@ from_first key p ps h here = grind (arith, common_steps, cond-true, from_all, ab
 -- a pair below the key is passed over
 pub from_second : (key : List ℕ) (p : Pair) (ps : List Pair) →
     is_lt (key_order p.key key) ≡ true → pairs_from key (p ∷ ps) ≡ pairs_from key ps
-from_second key p ps past = cond-false (not (is_lt (key_order p.key key)))
-    (p ∷ pairs_from key ps) (pairs_from key ps) (ap not past)
+from_second key p ps past = search (rules, cond-false)
 
 -- behind pairs of a map of which one is from the key on, all are
 pub from_behind : (key : List ℕ) (ps qs : List Pair) → Rises (ps ++ qs) →
@@ -191,8 +184,7 @@ pub record ChunkScan (chunks : List (List ℕ)) (from : List ℕ) (limit first :
 -- it is above that one
 pub below_next : (key : List ℕ) → KeyBelow key (next_key key)
 below_next [] = refl
-below_next (b ∷ key) = ap (λ o. ordering_then o (slice_cmp nat_cmp key (next_key key)))
-    (tied_itself nat_cmp_total b) ∙ below_next key
+below_next (b ∷ key) = search (rules, tied_itself, nat_cmp_total, below_next key)
 
 -- and not above any other key above it
 pub least_above : (key other : List ℕ) → KeyBelow key other →
@@ -200,8 +192,7 @@ pub least_above : (key other : List ℕ) → KeyBelow key other →
 least_above [] [] h = cc
 least_above [] (zero ∷ []) h = refl
 least_above [] (zero ∷ c ∷ other) h = refl
-least_above [] (suc b ∷ other) h = ap (λ o. is_lt (ordering_then o (slice_cmp nat_cmp other [])))
-    (sym (nat_cmp_is (suc b) 0 Greater (omega arith)))
+least_above [] (suc b ∷ other) h = search (rules)
 least_above (a ∷ key) [] h = cc
 least_above (a ∷ key) (b ∷ other) h = go (least_above key other) (nat_cmp a b) refl h
   where
@@ -236,8 +227,7 @@ pub record IsFoundIn (key : List ℕ) (all found : List Pair) : Type 0 where
 
 from_here : (key : List ℕ) (ps : List Pair) → NotBelow key ps → pairs_from key ps ≡ ps
 from_here key [] h = refl
-from_here key (p ∷ ps) h = cond-true (not (is_lt (key_order p.key key))) (p ∷ pairs_from key ps)
-    (pairs_from key ps) (ap not h.0) ∙ ap (λ qs. p ∷ qs) (from_all key ps h.1)
+from_here key (p ∷ ps) h = search (rules, cond-true, from_all)
 
 from_next : (key : List ℕ) (ps : List Pair) → Above key ps → pairs_from (next_key key) ps ≡ ps
 from_next key [] h = refl
@@ -283,8 +273,7 @@ above_back key ps after h = all_back (λ q. KeyBelow key q.key) ps after h
 -- so they are the first ones from the key on
 first_from : (key : List ℕ) (m found : List Pair) → Rises m → IsFoundIn key m found →
     AreFirstFrom key m found
-first_from key m [] r f = ap (pairs_from key) (f.are ∙ ap (λ ps. f.before ++ ps) (f.none refl) ∙
-    append-nil f.before) ∙ none_from key f.before f.below
+first_from key m [] r f = search (rules, append-nil, none_from)
 first_from key m (p ∷ ps) r f =
     let found = p ∷ ps in
     let last = last_key found in

@@ -1,4 +1,5 @@
 -- Rebuilding the chunks of pairs, and their end.
+use Rattle.std.proofs.Common.{rules}
 use Rattle.std.proofs.lemmas.Grind.{common_steps}
 use Rattle.std.proofs.Common.{◌≡◌, ℕ, suc, ◌+◌, ◌<◌, List, [], ◌∷◌, ◌++◌, length, drop, get_or}
 use Rattle.std.proofs.Common.{Option, Result, Ok, Err, refl, sym, ap, ◌∙◌, subst, arith}
@@ -43,8 +44,8 @@ use Rattle.prolly_check.specs.declared.verdict.fault.CheckFault.TheVariants as f
 pub unused_behind : (bits : ℕ) (version : Version) (level : ℕ) (states : List (NodeState ℕ)) →
     AreUnused bits version level states → AreBehind bits version level states []
 unused_behind bits version level [] h = tt
-unused_behind bits version level (s ∷ states) h = grind (
-  arith,
+unused_behind bits version level (s ∷ states) h = search (
+  rules,
   common_steps,
   unused_behind bits version (suc level) states h.1,
 )
@@ -53,8 +54,8 @@ pub unused_sent : (bits : ℕ) (version : Version) (level : ℕ) (states : List 
     AreUnused bits version level states → sent_through (sha512_cut bits) version level
     (length states) [] ≡ []
 unused_sent bits version level [] h = refl
-unused_sent bits version level (s ∷ states) h = grind (
-  arith,
+unused_sent bits version level (s ∷ states) h = search (
+  rules,
   common_steps,
   unused_sent bits version (suc level) states h.1,
 )
@@ -62,8 +63,7 @@ unused_sent bits version level (s ∷ states) h = grind (
 pub unused_more : (bits : ℕ) (version : Version) (level next : ℕ) (states : List (NodeState ℕ))
     (s : NodeState ℕ) → next ≡ level + length states → AreUnused bits version level states →
     NodeBegins sha512_cut bits version next s → AreUnused bits version level (states ++ s ∷ [])
-unused_more bits version level next [] s e h b = let f : next ≡ level = omega arith in
-    (subst (λ n. NodeBegins sha512_cut bits version n s) f b, tt)
+unused_more bits version level next [] s e h b = search (rules)
 unused_more bits version level next (t ∷ states) s e h b =
     (h.0, unused_more bits version (suc level) next states s (omega arith) h.1 b)
 
@@ -71,12 +71,8 @@ pub begun : (bits : ℕ) (version : Version) (chunks : List (List ℕ)) (rebuild
     LeafBegins sha512_cut bits rebuild.leaf →
     AreUnused bits version 1 rebuild.nodes.items → length rebuild.nodes.items ≡ node_levels →
     rebuild.references.items ≡ [] → HasTaken bits version chunks [] rebuild
-begun bits version chunks rebuild b u count none_yet = grind (
-  arith,
-  common_steps,
-  unused_sent,
-  unused_behind,
-)
+begun bits version chunks rebuild b u count none_yet =
+    search (rules, common_steps, unused_sent, unused_behind)
 
 -- ---- one more pair
 
@@ -111,14 +107,8 @@ module _ (chunks : List (List ℕ)) (pair : Pair) (old : Rebuild) (leaf' : LeafS
     one_taken : (new : Rebuild) (done : Unit {0}) → result ≡ Ok done → new.leaf ≡ leaf' →
         new.nodes ≡ with_items old.nodes nodes' → new.references.items ≡ after →
         HasTaken bits version chunks (pairs ++ pair ∷ []) new
-    one_taken new done ok leaf nodes references = grind (
-      arith,
-      common_steps,
-      with_items_is,
-      size,
-      passed,
-      compared,
-    )
+    one_taken new done ok leaf nodes references =
+        search (rules, common_steps, with_items_is, size, passed, compared)
 
     pub one_took : (new : Rebuild) (told : Result (Unit {0}) CheckFault) → result ≡ told →
         new.leaf ≡ leaf' → new.nodes ≡ with_items old.nodes nodes' →
@@ -265,8 +255,7 @@ module _ (bits : ℕ) (version : Version) (pairs : List Pair) where
       as_many_left = same_size ∙ ap length are
 
       all_passed : Passed bits version chunks (suc b.level) nodes' (clean_events b.level) new result
-      all_passed = subst (λ es. Passed bits version chunks (suc b.level) nodes' es new result)
-          (sym b.sends) ((rw are at passes) bits version (suc b.level) b.events b.below b.behind b.first)
+      all_passed = search (rules, sends)
 
       pub ending_fault : (fault : CheckFault) → result ≡ Err fault →
           UnlessMemory (DifferAs chunks (clean_events node_levels)) fault
@@ -311,8 +300,7 @@ levels_enough cut version pairs few = few_levels cut version pairs 64 (omega ari
 all_sent : (bits : ℕ) (version : Version) (pairs : List Pair) → length pairs < 2 ^ 64 →
     pipeline_events node_levels (sha512_cut bits) version clean pairs ≡ chunks (sha512_cut bits)
     version pairs
-all_sent bits version pairs few = (enough_stages (sha512_cut bits) version pairs few node_levels
-    (levels_enough (sha512_cut bits) version pairs few)).0
+all_sent bits version pairs few = search (rules, enough_stages, levels_enough)
 
 module _ (bits : ℕ) (version : Version) (cs : List (List ℕ)) (pairs : List Pair)
     (few : length pairs < 2 ^ 64) where
@@ -346,8 +334,7 @@ module _ (bits : ℕ) (version : Version) (cs : List (List ℕ)) (pairs : List P
         ap (λ n. Some (faults.NotCanonical n)) e
 
     pub verdict_none : length cs ≤ count → difference 0 (chunk_bytes version bits pairs) cs ≡ None
-    verdict_none h = ap (λ ws. difference 0 ws cs) (sym wanted ∙ are ∙ take_all count cs h) ∙
-        difference_same 0 cs
+    verdict_none h = search (rules, wanted, are, take_all, difference_same)
 
     pub all_named : length cs ≤ count → AreReferences cs references
     all_named h = subst (λ cs. AreReferences cs references) (are ∙ take_all count cs h) a.named

@@ -1,4 +1,5 @@
 -- Events that pass levels of nodes, and the chunks of a file.
+use Rattle.std.proofs.Common.{rules}
 use Rattle.std.proofs.lemmas.Grind.{common_steps}
 use Rattle.std.proofs.Common.{◌≡◌, ℕ, zero, suc, ◌+◌, ◌<◌, ◌≤◌, Bool, true, false, cond}
 use Rattle.std.proofs.Common.{nat_le, List, [], ◌∷◌, ◌++◌, length, map, take, drop, get_or, Option}
@@ -89,11 +90,10 @@ module _ (cut : Cut) (version : Version) where
 pub difference_along : (chunks rest : List (List ℕ)) (start number : ℕ) → number ≤ length chunks →
     difference start (take number chunks ++ rest) chunks ≡ difference (start + number) rest
     (drop number chunks)
-difference_along chunks rest start zero h =
-    let e : start ≡ start + 0 = omega arith in ap (λ n. difference n rest chunks) e
+difference_along chunks rest start zero h = search (rules)
 difference_along [] rest start (suc number) h = absurd (omega arith)
-difference_along (c ∷ chunks) rest start (suc number) h = grind (
-  arith,
+difference_along (c ∷ chunks) rest start (suc number) h = search (
+  rules,
   common_steps,
   cond-true,
   bytes_eq-Decides,
@@ -104,24 +104,17 @@ difference_along (c ∷ chunks) rest start (suc number) h = grind (
 pub still_differ : (chunks : List (List ℕ)) (sent all : List Chunk) (fault : CheckFault) →
     IsPrefix sent all →
     UnlessMemory (DifferAs chunks sent) fault → UnlessMemory (DifferAs chunks all) fault
-still_differ chunks sent all fault p = grind (
-  arith,
-  common_steps,
-  bytes_in,
-  bytes_append,
-  append_assoc,
-)
+still_differ chunks sent all fault p =
+    search (rules, common_steps, bytes_in, bytes_append, append_assoc)
 
 -- there are as many references as chunks that were sent
 pub as_many_sent : (chunks : List (List ℕ)) (references : List Ref) (sent : List Chunk) →
     AreFirst chunks references sent → length references ≡ length sent
-as_many_sent chunks references sent a =
-    as_many (bytes_in sent) references a.named ∙ length-map sent (λ c. c.bytes)
+as_many_sent chunks references sent a = search (rules, as_many, bytes_in, length-map)
 
 pub first_are : (chunks : List (List ℕ)) (references : List Ref) (sent : List Chunk) →
     AreFirst chunks references sent → bytes_in sent ≡ take (length references) chunks
-first_are chunks references sent a =
-    a.are ∙ ap (λ n. take n chunks) (sym (as_many_sent chunks references sent a))
+first_are chunks references sent a = search (rules, as_many_sent)
 
 -- one chunk more
 module _ (chunks : List (List ℕ)) (references : List Ref) (event : Chunk) (sent : List Chunk)
@@ -136,8 +129,7 @@ module _ (chunks : List (List ℕ)) (references : List Ref) (event : Chunk) (sen
   within = grind (arith, common_steps, count, first_are, length-map, length-take)
 
   one_more : bytes_in (sent ++ event ∷ []) ≡ take number chunks ++ event.bytes ∷ []
-  one_more = bytes_append sent (event ∷ []) ∙
-      ap (λ cs. cs ++ event.bytes ∷ []) (first_are chunks references sent a)
+  one_more = search (rules, bytes_append, first_are)
 
   then : (more : List (List ℕ)) → difference 0 (bytes_in (sent ++ event ∷ []) ++ more) chunks ≡
       difference number (event.bytes ∷ more) (drop number chunks)
@@ -162,8 +154,8 @@ module _ (chunks : List (List ℕ)) (references : List Ref) (event : Chunk) (sen
   pub is_same : (reference : Ref) → reference.0 ≡ reference_of event.bytes →
       number < length chunks → get_or chunks number [] ≡ event.bytes →
       AreFirst chunks (references ++ reference ∷ []) (sent ++ event ∷ [])
-  is_same reference is h same = grind (
-    arith,
+  is_same reference is h same = search (
+    rules,
     common_steps,
     count,
     length-append,
@@ -223,37 +215,19 @@ pub closed_below : (cut : Cut) (version : Version) (level : ℕ) (events : List 
     inner_events level cut version faulty (events ++ event ∷ []) ≡ inner_events level cut version
     faulty events ++ event ∷ option_to_list closed →
     AreBelow (suc level) (option_to_list closed)
-closed_below cut version zero events event closed e = grind (
-  arith,
-  common_steps,
-  append_cancel_left,
-)
-closed_below cut version (suc below) events event closed e = grind (
-  arith,
-  common_steps,
-  append_cancel_left,
-  stage_step,
-  grouped_below,
-)
+closed_below cut version zero events event closed e =
+    search (rules, common_steps, append_cancel_left)
+closed_below cut version (suc below) events event closed e =
+    search (rules, common_steps, append_cancel_left, stage_step, grouped_below)
 
 pub ended_below : (cut : Cut) (version : Version) (level : ℕ) (events : List Chunk)
     (last : Option Chunk) →
     inner_events level cut version clean events ≡ inner_events level cut version faulty events ++
     option_to_list last → AreBelow (suc level) (option_to_list last)
-ended_below cut version zero events last e = grind (
-  arith,
-  common_steps,
-  append_cancel_left,
-  append-nil,
-)
-ended_below cut version (suc below) events last e = grind (
-  arith,
-  common_steps,
-  nat_le,
-  append_cancel_left,
-  stage_step,
-  grouped_below,
-)
+ended_below cut version zero events last e =
+    search (rules, common_steps, append_cancel_left, append-nil)
+ended_below cut version (suc below) events last e =
+    search (rules, common_steps, nat_le, append_cancel_left, stage_step, grouped_below)
 
 leaves_below : (version : Version) (leaves : List (List Pair)) →
     AreBelow 1 (map (chunk_of version 0) leaves)
@@ -264,12 +238,8 @@ pub leaf_below : (cut : Cut) (version : Version) (closing : Closing) (pairs : Li
     (sent : List Chunk) (last : Option Chunk) →
     leaf_events cut version closing pairs ≡ sent ++ option_to_list last →
     AreBelow 1 (option_to_list last)
-leaf_below cut version closing pairs sent last e = grind (
-  arith,
-  common_steps,
-  all_back,
-  leaves_below,
-)
+leaf_below cut version closing pairs sent last e =
+    search (rules, common_steps, all_back, leaves_below)
 
 -- ---- an event on its way
 

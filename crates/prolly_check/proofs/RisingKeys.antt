@@ -1,8 +1,9 @@
 -- Reading keys one after another, those of a chunk and those of a file.
+use Rattle.std.proofs.Common.{rules}
 use Rattle.std.proofs.lemmas.Grind.{common_steps}
 use Rattle.std.proofs.Common.{◌≡◌, ℕ, suc, ◌+◌, ◌<◌, Bool, true, false, ◌&&◌, List, [], ◌∷◌, ◌++◌}
 use Rattle.std.proofs.Common.{length, drop, map, get_or, Option, Some, None, refl, sym, ap, ◌∙◌}
-use Rattle.std.proofs.Common.{arith, ◌↔◌, Ordering, subst}
+use Rattle.std.proofs.Common.{arith, ◌↔◌, Ordering}
 use Rattle.std.specs.Ordering.{is_lt}
 use Rattle.std.specs.declared.cmp.Ordering.TheVariants.{Less, Equal, Greater}
 use Rattle.std.proofs.Math.Seq.{drop-cons}
@@ -23,8 +24,8 @@ and_assoc false b c = refl
 pub rises_append : (last : Option (List ℕ)) (xs ys : List Pair) →
     rises_behind last (xs ++ ys) ≡ (rises_behind last xs && rises_behind (last_behind last xs) ys)
 rises_append last [] ys = refl
-rises_append last (x ∷ xs) ys = grind (
-  arith,
+rises_append last (x ∷ xs) ys = search (
+  rules,
   common_steps,
   and_assoc,
   rises_append (Some x.key) xs ys,
@@ -69,8 +70,7 @@ module _ (chunks : List (List ℕ)) (last : Option (List ℕ)) (number : ℕ)
     lists = map pairs_held (drop (suc number) chunks)
 
     next : order_fault None 0 (map pairs_held chunks) ≡ order_fault last number (held ∷ lists)
-    next = r.same ∙ ap (λ cs. order_fault last number (map pairs_held cs))
-        (drop-cons chunks number [] within)
+    next = search (rules, drop-cons)
 
     pub order_goes_on : (new : Option (List ℕ)) → RisesTo last held new →
         ChunksRise chunks new (number + 1)
@@ -99,5 +99,4 @@ RisesOn (Some last) keys = RisingFrom last keys
 pub falls : (last : Position) (key : List ℕ) (keys rest : List (List ℕ)) → keys ≡ key ∷ rest →
     is_before last (Some key) ≡ false → RisesOn last keys → ⊥
 falls None key keys rest is before h = false≢true (sym before)
-falls (Some last) key keys rest is before h = false≢true (sym before ∙
-    ap is_lt (subst (RisingFrom last) is h).0)
+falls (Some last) key keys rest is before h = search (rules, false≢true)

@@ -1,4 +1,5 @@
 -- The numbers of a tree: its levels, the sizes of its chunks, those that others lack.
+use Rattle.std.proofs.Common.{rules}
 use Rattle.std.proofs.lemmas.Grind.{common_steps}
 use Rattle.std.proofs.Common.{◌≡◌, ℕ, ◌+◌, ◌<◌, ◌≤◌, Bool, true, false, cond, List, [], ◌∷◌, ◌++◌}
 use Rattle.std.proofs.Common.{length, take, drop, get_or, Option, Some, None, sym, ap, ◌∙◌, subst}
@@ -57,13 +58,8 @@ search_tells chunks reference None none = false_from_ne_true (has_reference chun
       is = ap reference_of (get_or_default chunks any.0 [] any.1 any.2 ∙ any.3) ∙
           (bytes_eq-Decides (reference_of any.1) reference).0 any.4;
     }))
-search_tells chunks reference (Some number) at = grind (
-  arith,
-  common_steps,
-  list_any_at,
-  bytes_eq-Decides,
-  get_or,
-)
+search_tells chunks reference (Some number) at =
+    search (rules, common_steps, list_any_at, bytes_eq-Decides, get_or)
 
 -- ---- step by step
 
@@ -98,8 +94,7 @@ module _ (chunks : List (List ℕ)) (n : ℕ) (h : n < length chunks) where
 
     parted : lacking others (take (n + 1) chunks) ≡ lacking others (take n chunks) ++
         lacking others (chunk ∷ [])
-    parted = ap (lacking others) (take_more chunks n [] h) ∙
-        filter-append is_lacked (take n chunks) (chunk ∷ [])
+    parted = grind (arith, common_steps, take_more, filter-append)
 
     last : (b : Bool) → has_reference others (reference_of chunk) ≡ b →
         lacking others (chunk ∷ []) ≡ cond b [] (chunk ∷ [])
@@ -108,8 +103,7 @@ module _ (chunks : List (List ℕ)) (n : ℕ) (h : n < length chunks) where
 
     pub had : has_reference others (reference_of chunk) ≡ true →
         lacking others (take (n + 1) chunks) ≡ lacking others (take n chunks)
-    had e = parted ∙ ap (λ cs. lacking others (take n chunks) ++ cs) (last true e) ∙
-        append-nil (lacking others (take n chunks))
+    had e = search (rules, parted, last, append-nil)
 
     pub lacked : has_reference others (reference_of chunk) ≡ false →
         lacking others (take (n + 1) chunks) ≡ lacking others (take n chunks) ++ chunk ∷ []
@@ -126,15 +120,8 @@ pub counted : (index : Index) (chunks : List (List ℕ)) (n : ℕ) (missing new 
     n < length chunks → Tells index (reference_of (get_or chunks n [])) false →
     new.chunks ≡ missing.chunks + 1 → new.bytes ≡ missing.bytes + length (get_or chunks n []) →
     CountedTo index chunks n missing → CountedTo index chunks (n + 1) new
-counted index chunks n missing new h e chunks_are bytes_are c = grind (
-  arith,
-  common_steps,
-  size_more,
-  lacked,
-  length-append,
-  get_or,
-  flat_map-append,
-)
+counted index chunks n missing new h e chunks_are bytes_are c =
+    search (rules, common_steps, size_more, lacked, length-append, get_or, flat_map-append)
 
 -- the first n are not more than all
 pub size_up_to : (chunks : List (List ℕ)) (n : ℕ) → size_of (take n chunks) ≤ size_of chunks
@@ -160,6 +147,7 @@ module _ (sizes sorted : List ℕ) (moved : IsPermutation sizes sorted)
       cond (is_lower (get_or (drop place sorted) k d)) 1 0 ≤ 0
   not_lower k d behind = grind (
     arith,
+    common_steps,
     common_steps,
     length-drop,
     get_or-drop,
@@ -225,20 +213,7 @@ pub is_level : (chunks : List (List ℕ)) (sorted : List ℕ) (level : Level) �
     level.middle ≡ get_or sorted (length sorted / 2) level.middle →
     level.greatest ≡ get_or sorted (length sorted - 1) level.greatest → IsLevel chunks level
 is_level chunks sorted level moved rises some number bytes least middle greatest =
-    let sizes = map length chunks in
-    let count : length sorted ≡ length chunks =
-    length_permutation sizes sorted moved ∙ length-map chunks length in
-    record {
-      some = omega arith;
-      chunks_are = number ∙ count;
-      bytes_are = bytes ∙ sizes_sum chunks;
-      least_is = at_place sizes sorted moved rises 0 level.least some least;
-      middle_is = subst (λ n. IsAtPlace sizes (n / 2) level.middle) count
-          (at_place sizes sorted moved rises (length sorted / 2) level.middle (omega arith) middle);
-      greatest_is = subst (λ n. IsAtPlace sizes (n - 1) level.greatest) count
-          (at_place sizes sorted moved rises (length sorted - 1) level.greatest (omega arith)
-          greatest);
-    }
+    search (rules, length_permutation, length-map, sizes_sum, at_place)
 
 -- ---- no level is empty
 
@@ -248,8 +223,7 @@ HasSome number chunks = 0 < length (at_level number chunks)
 
 split_level : (number : ℕ) (cs ds : List (List ℕ)) → length (at_level number (cs ++ ds)) ≡
     length (at_level number cs) + length (at_level number ds)
-split_level number cs ds = ap length (filter-append (λ c. level_of c == number) cs ds) ∙
-    length-append (at_level number cs) (at_level number ds)
+split_level number cs ds = search (rules, filter-append, length-append)
 
 has_front : (number : ℕ) (cs ds : List (List ℕ)) → HasSome number cs → HasSome number (cs ++ ds)
 has_front number cs ds h = let e = split_level number cs ds in omega arith
@@ -273,8 +247,8 @@ module _ (version : Version) where
       HasEach (record { level = level; tree = t })
   full_has zero leaf full = leaf_has leaf
   full_has (suc level) [] full = absurd (let none : 0 < 0 = full.0 in omega arith)
-  full_has (suc level) (t ∷ ts) full = grind (
-    arith,
+  full_has (suc level) (t ∷ ts) full = search (
+    rules,
     common_steps,
     bytes_append,
     cases_lt,
@@ -288,9 +262,7 @@ module _ (version : Version) where
   map_has : (bits : ℕ) (pairs : List Pair) → HasEach (tree_of (sha512_cut bits) version pairs)
   unfolding split
   map_has bits [] = subst HasEach (sym ((grow_is (sha512_cut bits) version).0 0 [])) (leaf_has [])
-  map_has bits (p ∷ pairs) =
-      let t = tree_of (sha512_cut bits) version (p ∷ pairs) in
-      full_has t.level t.tree (tree_full (sha512_cut bits) version p pairs)
+  map_has bits (p ∷ pairs) = search (rules, full_has, tree_full)
 
   -- ---- none is above the root's
 
@@ -302,8 +274,8 @@ module _ (version : Version) where
         ((t : Tree level) → AreWithin (bytes_in (post_order version level t))) →
         (ts : List (Tree level)) → AreWithin (bytes_in (flat_map (post_order version level) ts))
     all_within level each [] = tt
-    all_within level each (t ∷ ts) = grind (
-      arith,
+    all_within level each (t ∷ ts) = search (
+      rules,
       common_steps,
       bytes_append,
       all_append,
@@ -331,16 +303,8 @@ pub record IsTower (chunks : List (List ℕ)) (top : ℕ) : Type 0 where
 -- so they stand, up to the level of the last
 pub is_tower : (chunks : List (List ℕ)) (root top : ℕ) → AreOfMap chunks →
     root ≡ length chunks - 1 → top ≡ level_of (get_or chunks root []) → IsTower chunks top
-is_tower chunks root top m last level = grind (
-  arith,
-  common_steps,
-  get_or,
-  last,
-  chunks_last,
-  height_is,
-  map_has,
-  tree_within,
-)
+is_tower chunks root top m last level =
+    search (rules, common_steps, get_or, last, chunks_last, height_is, map_has, tree_within)
 
 -- ---- level by level
 

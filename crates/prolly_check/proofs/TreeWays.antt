@@ -1,4 +1,5 @@
 -- The ways of look-ups down a tree, for who knows the root alone.
+use Rattle.std.proofs.Common.{rules}
 use Rattle.std.proofs.lemmas.Grind.{common_steps}
 use Rattle.std.proofs.Common.{◌≡◌, ℕ, inl, inr, ◌⊎◌, List, [], ◌∷◌, ◌++◌, refl, sym}
 use Rattle.std.proofs.Common.{ap, ◌∙◌, subst, arith, append_assoc, append-nil, zero, suc, true}
@@ -92,11 +93,8 @@ can_more : (version : Version) (there next : Sought) (pre own rest : List Pair) 
 can_more version (Key key) (Key other) pre own rest can past = tt
 can_more version (Key key) (Number n) pre own rest can past = absurd past
 can_more version (Number n) (Key key) pre own rest can past = absurd past
-can_more version (Number n) (Number k) pre own rest can past = grind (
-  arith,
-  common_steps,
-  length-append,
-)
+can_more version (Number n) (Number k) pre own rest can past =
+    search (rules, common_steps, length-append)
 
 module _ (sought : Sought) (m : List Pair) (version : Version) (level : ℕ)
     (trees : List (Tree level)) (there next : Sought) (reference : List ℕ)
@@ -111,8 +109,7 @@ module _ (sought : Sought) (m : List Pair) (version : Version) (level : ℕ)
   back = flat_map (pairs_below level) c.after
 
   pub parts : flat_map (pairs_below level) trees ≡ pre ++ (own ++ back)
-  parts = ap (flat_map (pairs_below level)) c.is ∙
-      flat_map-append (pairs_below level) c.before (c.child ∷ c.after)
+  parts = search (rules, flat_map-append)
 
   pub stands_below : StandsIn sought m there (flat_map (pairs_below level) trees) →
       StandsIn sought m next own
@@ -120,8 +117,7 @@ module _ (sought : Sought) (m : List Pair) (version : Version) (level : ℕ)
 
   pub can_below : CanCount version there (flat_map (pairs_below level) trees) →
       CanCount version next own
-  can_below can = can_more version there next pre own back
-      (subst (CanCount version there) parts can) c.past
+  can_below can = search (rules, can_more, parts)
 
 -- ---- at the end
 
@@ -134,25 +130,16 @@ pub tells_leaf : (sought there : Sought) (m pairs : List Pair) → Rises m →
     StandsIn sought m there pairs → Tells sought m there pairs
 tells_leaf (Key key) (Number n) m pairs rising s = absurd s.past
 tells_leaf (Number n) (Key key) m pairs rising s = absurd s.past
-tells_leaf (Key key) (Key other) m pairs rising s = grind (
-  arith,
-  common_steps,
-  find_in_part,
-  first_in_part,
-)
-tells_leaf (Number n) (Number k) m pairs rising s = grind (
-  arith,
-  common_steps,
-  nth_back,
-  append-nil,
-  nth_front,
-)
+tells_leaf (Key key) (Key other) m pairs rising s =
+    search (rules, common_steps, find_in_part, first_in_part)
+tells_leaf (Number n) (Number k) m pairs rising s =
+    search (rules, common_steps, nth_back, append-nil, nth_front)
 
 -- at a node, behind all of whose pairs it is
 pub tells_none : (sought there : Sought) (m pairs : List Pair) → StandsIn sought m there pairs →
     AllPast there pairs → Tells sought m there []
-tells_none sought there m pairs s all = grind (
-  arith,
+tells_none sought there m pairs s all = search (
+  rules,
   common_steps,
   append-nil,
   not_all_past,
@@ -229,8 +216,7 @@ module _ (version : Version) (cs : List (List ℕ)) where
     tells_end : Rises m → (there : Sought) (level : ℕ) (t : Tree level) → IsAt there level t →
         EndsAt there (kind_of version (bytes_of version level t)) →
         Tells sought m there (pairs_held (bytes_of version level t))
-    tells_end rising there zero leaf at ends = subst (Tells sought m there)
-        (sym (own_pairs leaf at.of.lawful)) (tells_leaf sought there m leaf rising at.stands)
+    tells_end rising there zero leaf at ends = search (rules, own_pairs, tells_leaf)
     tells_end rising there (suc level) ts at ends =
         tells_none sought there m (pairs_below (suc level) ts) at.stands
         (none_chosen version cs level ts at.of there at.can
@@ -350,8 +336,8 @@ pub scans_go_on : ScansGoOn
 scans_go_on version bits m from [] [] rising lawful scanned = grind (arith, common_steps)
 scans_go_on version bits m from [] (way ∷ ways) rising lawful scanned = absurd scanned
 scans_go_on version bits m from (found ∷ lists) [] rising lawful scanned = absurd scanned
-scans_go_on version bits m from (found ∷ lists) (way ∷ ways) rising lawful scanned = grind (
-  arith,
+scans_go_on version bits m from (found ∷ lists) (way ∷ ways) rising lawful scanned = search (
+  rules,
   common_steps,
   scans_are_right,
   clash_front,

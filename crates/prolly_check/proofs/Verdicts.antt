@@ -1,4 +1,5 @@
 -- Bytes are accepted exactly where they are the file of a map.
+use Rattle.std.proofs.Common.{rules}
 use Rattle.std.proofs.lemmas.Grind.{common_steps}
 use Rattle.std.proofs.Common.{◌≡◌, ◌↔◌, ℕ, zero, suc, ◌≤◌, Bool, true, false, ◌||◌, ◌==◌}
 use Rattle.std.proofs.Common.{nat_le, nat_lt, cond, List, [], ◌∷◌, ◌++◌, length, drop, Option, Some}
@@ -29,7 +30,6 @@ use Rattle.prolly_tree.specs.lemmas.Splits.{flat}
 use Rattle.prolly_file.specs.Frame.{framed, IsSmall}
 use Rattle.prolly_file.specs.FrameLaws.{frames_bytes}
 use Rattle.prolly_file.specs.Header.{header_tests, header_fault, version_of}
-use Rattle.prolly_file.specs.declared.format.header.HeaderFault.TheVariants.{BadByte}
 use Rattle.prolly_check.specs.Content.{Content}
 use Rattle.prolly_check.specs.Entries.{Holds, AllHold, IsRead}
 use Rattle.prolly_check.specs.Frames.{ending_of, IsFramed}
@@ -37,7 +37,7 @@ use Rattle.prolly_check.specs.Held.{pairs_held}
 use Rattle.prolly_check.specs.Judged.{order_fault, difference, end_fault, reuse, chunk_bytes}
 use Rattle.prolly_check.specs.Judged.{ending_for, canonical_fault, or_content, judged, rises_behind}
 use Rattle.prolly_check.specs.Judged.{last_behind}
-use Rattle.prolly_check.specs.Verdict.{ReadVerdict, EndVerdict, HeaderVerdict, IsVerdict, AllApart}
+use Rattle.prolly_check.specs.Verdict.{ReadVerdict, EndVerdict, IsVerdict, AllApart}
 use Rattle.prolly_check.specs.Verdict.{IsFileOf, FramesVerdict, AcceptsFiles}
 use Rattle.prolly_check.specs.declared.verdict.fault.CheckFault.{CheckFault}
 use Rattle.prolly_check.specs.declared.verdict.fault.CheckFault.TheVariants.{NotCanonical, Collision}
@@ -124,8 +124,8 @@ hold_pairs version (c ∷ cs) (ps ∷ lists) h = all_append IsPair ps (flat list
 pub order_is : (last : Position) (number : ℕ) (lists : List (List Pair)) →
     (order_fault last number lists ≡ None) ↔ (rises_behind last (flat lists) ≡ true)
 order_is last number [] = (λ h. refl, λ h. refl)
-order_is last number (ps ∷ lists) = grind (
-  arith,
+order_is last number (ps ∷ lists) = search (
+  rules,
   common_steps,
   flat,
   rises_append,
@@ -159,8 +159,8 @@ is_new : (c : List ℕ) (before : List (List ℕ)) →
     (list_any (λ d. bytes_eq (reference_of d) (reference_of c)) before ≡ false) ↔ AllByRecursion
     (Other c) before
 is_new c [] = (λ h. tt, λ h. refl)
-is_new c (d ∷ ds) = grind (
-  arith,
+is_new c (d ∷ ds) = search (
+  rules,
   common_steps,
   bytes_eq-Decides,
   or_parts,
@@ -214,14 +214,8 @@ pub record IsCanonical (version : Version) (bits : ℕ) (cs : List (List ℕ)) (
 pub canonical_ok : (version : Version) (bits : ℕ) (cs : List (List ℕ)) (ending : List ℕ)
     (lists : List (List Pair)) → canonical_fault version bits cs ending lists ≡ None →
     IsCanonical version bits cs ending lists
-canonical_ok version bits cs ending lists e = grind (
-  arith,
-  common_steps,
-  flat,
-  none_left,
-  difference_ok,
-  end_is,
-)
+canonical_ok version bits cs ending lists e =
+    search (rules, common_steps, flat, none_left, difference_ok, end_is)
 
 judged_file : (bytes : List ℕ) (content : Content) → HeaderIs bytes →
     (cs : List (List ℕ)) (ending : List ℕ) (lists : List (List Pair)) →
@@ -229,27 +223,18 @@ judged_file : (bytes : List ℕ) (content : Content) → HeaderIs bytes →
     AllHold (version_of (slice_index bytes 4)) cs lists →
     Ok content ≡ judged (version_of (slice_index bytes 4)) (slice_index bytes 5) cs ending lists →
     IsFileOf bytes content
-judged_file bytes content header cs ending lists spelled hold so =
-    let version = version_of (slice_index bytes 4) in
-    let bits = slice_index bytes 5 in
-    let pairs = flat lists in
-    let s = content_ok (record { version = version; bits = bits; pairs = pairs }) content
-    (or_else (canonical_fault version bits cs ending lists) (reuse [] 0 cs)) so in
-    let a = none_left (canonical_fault version bits cs ending lists) (reuse [] 0 cs) s.1 in
-    let c = canonical_ok version bits cs ending lists a.0 in
-    let rest : drop 6 bytes ≡ flat_map frame (chunks (sha512_cut bits) version pairs) ++
-    0x45 ∷ ending_for version bits pairs =
-    spelled ∙ ap (λ cs. flat_map framed cs ++ 0x45 ∷ ending) (sym c.same) ∙
-    ap (λ x. x ++ 0x45 ∷ ending) (sym (frames_bytes (chunks (sha512_cut bits) version pairs)))
-    ∙ ap (λ e. flat_map frame (chunks (sha512_cut bits) version pairs) ++ 0x45 ∷ e) c.last in
-    let it : IsFileOf bytes (record { version = version; bits = bits; pairs = pairs }) = record {
-      bits = header.bits;
-      lawful = hold_pairs version cs lists hold;
-      rising = (rising_is pairs).0 ((order_is None 0 lists).0 c.order);
-      is = header.is ∙ ap (λ x. 0x50 ∷ 0x52 ∷ 0x4C ∷ 0x59 ∷ version_byte version ∷ bits ∷ x) rest;
-      apart = subst AllApart (sym c.same) ((reuse_is [] 0 cs).0 a.1).1;
-    } in
-    subst (IsFileOf bytes) (sym s.0) it
+judged_file bytes content header cs ending lists spelled hold so = search (
+  rules,
+  flat,
+  content_ok,
+  none_left,
+  canonical_ok,
+  frames_bytes,
+  hold_pairs,
+  rising_is,
+  order_is,
+  reuse_is,
+)
 
 read_file : (bytes : List ℕ) (content : Content) → HeaderIs bytes →
     (cs : List (List ℕ)) (ending : List ℕ) →
@@ -258,20 +243,15 @@ read_file : (bytes : List ℕ) (content : Content) → HeaderIs bytes →
     IsRead (version_of (slice_index bytes 4)) cs read →
     ReadVerdict (version_of (slice_index bytes 4)) (slice_index bytes 5) cs ending read
     (Ok content) → IsFileOf bytes content
-read_file bytes content header cs ending spelled (Ok lists) is so =
-    judged_file bytes content header cs ending lists spelled is so
+read_file bytes content header cs ending spelled (Ok lists) is so = search (rules, judged_file)
 read_file bytes content header cs ending spelled (Err fault) is so = absurd (err_ok (sym so))
 
 end_file : (bytes : List ℕ) (content : Content) → HeaderIs bytes →
     (cs : List (List ℕ)) (ending : Result (List ℕ) CheckFault) → IsFramed (drop 6 bytes) cs ending →
     EndVerdict (version_of (slice_index bytes 4)) (slice_index bytes 5) cs ending (Ok content) →
     IsFileOf bytes content
-end_file bytes content header cs (Ok ending) is so = grind (
-  arith,
-  common_steps,
-  read_file,
-  ending_ok,
-)
+end_file bytes content header cs (Ok ending) is so =
+    search (rules, common_steps, read_file, ending_ok)
 end_file bytes content header cs (Err fault) is so = absurd (err_ok (sym so))
 
 pub accepted_is_file : (bytes : List ℕ) (content : Content) → IsVerdict bytes (Ok content) →
@@ -312,10 +292,8 @@ judged_ok version bits lists pairs e rising apart =
 header_verdict : (version : Version) (bits : ℕ) (rest : List ℕ)
     (verdict : Result Content CheckFault) → bits ≤ 24 → FramesVerdict version bits rest verdict →
     IsVerdict (header version bits ++ rest) verdict
-header_verdict One bits rest verdict h f = subst (λ o. HeaderVerdict o (header One bits ++ rest)
-    verdict) (sym (cond-true (nat_le bits 24) None (Some BadByte) (le-leb bits 24 h))) f
-header_verdict Two bits rest verdict h f = subst (λ o. HeaderVerdict o (header Two bits ++ rest)
-    verdict) (sym (cond-true (nat_le bits 24) None (Some BadByte) (le-leb bits 24 h))) f
+header_verdict One bits rest verdict h f = search (rules, cond-true, nat_le, le-leb)
+header_verdict Two bits rest verdict h f = search (rules, cond-true, nat_le, le-leb)
 
 pub ending_clean : (number : ℕ) (ending : List ℕ) → length ending ≡ 28 →
     ending_of number (0x45 ∷ ending) ≡ Ok ending
@@ -343,15 +321,8 @@ pub file_framed : (version : Version) (bits : ℕ) (pairs : List Pair) →
     length (file (sha512_cut bits) version pairs) < 2 ^ 64 →
     IsFramed (flat_map frame (chunks (sha512_cut bits) version pairs) ++ 0x45 ∷ ending_for version
     bits pairs) (chunk_bytes version bits pairs) (Ok (ending_for version bits pairs))
-file_framed version bits pairs short = grind (
-  arith,
-  common_steps,
-  frames_bytes,
-  length-append,
-  all_small,
-  ending_clean,
-  ending_long,
-)
+file_framed version bits pairs short =
+    search (rules, common_steps, frames_bytes, length-append, all_small, ending_clean, ending_long)
 
 pub file_is_accepted : (bytes : List ℕ) (content : Content) → length bytes < 2 ^ 64 →
     IsFileOf bytes content → IsVerdict bytes (Ok content)

@@ -1,4 +1,5 @@
 -- Where a look-up goes on, and where it ends.
+use Rattle.std.proofs.Common.{rules}
 use Rattle.std.proofs.lemmas.Grind.{common_steps}
 use Rattle.std.proofs.Common.{arith}
 use Rattle.std.proofs.Common.{◌≡◌, ℕ, List, [], ◌∷◌, ◌++◌, Option}
@@ -40,8 +41,7 @@ pub no_flaw : (version : Version) (due : List ℕ) (above : Option ℕ) (chunk :
     (flaw : ChunkFlaw) → reference_of chunk ≡ due → IsOrdered version chunk → FallsTo above chunk →
     IsFlawed version due above chunk flaw → ⊥
 no_flaw version due above chunk Reference is ordered falls h = h is
-no_flaw version due above chunk Entries is ordered falls h =
-    h.1 ordered.whole.pairs ordered.whole.holds
+no_flaw version due above chunk Entries is ordered falls h = search (rules)
 no_flaw version due above chunk Order is ordered falls h = h.2 ordered.rising
 no_flaw version due above chunk Level is ordered falls h = h.1 falls
 
@@ -51,13 +51,11 @@ pub lead_more : (version : Version) (sought : Sought) (from : List ℕ) (chunks 
     Lead version sought from chunks to there → IsNamed version to chunk →
     LeadsOn there (kind_of version chunk) reference next →
     Lead version sought from (chunks ++ chunk ∷ []) reference next
-lead_more version sought from [] to there chunk reference next lead named on = grind (
-  arith,
-  common_steps,
-)
+lead_more version sought from [] to there chunk reference next lead named on =
+    search (rules, common_steps)
 lead_more version sought from (c ∷ chunks) to there chunk reference next lead named on =
-    grind (
-      arith,
+    search (
+      rules,
       common_steps,
       lead_more version lead.2 lead.1 chunks to there chunk reference next lead.4 named on,
     )

@@ -1,3 +1,4 @@
+use Rattle.std.proofs.Common.{rules}
 use Rattle.std.proofs.lemmas.Grind.{common_steps}
 use Rattle.std.proofs.Common.{arith}
 use Rattle.prolly_check.proofs.Chosen.{none_sought}
@@ -16,8 +17,7 @@ pub returns-in_default-behind-clause-passed : goal.returns-in_default-behind-cla
 returns-in_default-behind-clause-passed c = c.loop-child.invariant.passed
 
 pub loop-child-smaller : goal.loop-child-smaller
-loop-child-smaller c =
-    omega (arith, c.in-Some.ensures.further, c.in-Some.ensures.mark.within)
+loop-child-smaller c = search (rules)
 
 pub loop-child-preserved : goal.loop-child-preserved
 loop-child-preserved c = grind (arith, common_steps)

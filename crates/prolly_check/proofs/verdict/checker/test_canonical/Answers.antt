@@ -1,3 +1,4 @@
+use Rattle.std.proofs.Common.{rules}
 use Rattle.std.proofs.lemmas.Grind.{common_steps}
 use Rattle.std.proofs.Common.{arith}
 use Rattle.std.proofs.Common.{inr}
@@ -15,8 +16,7 @@ returns-in_err-references-clause-err c =
     c.args.end.now c.in_err-references.field-0.0) c.in_err-references.ensures.err)
 
 pub test_end-requires-clause-some : goal.test_end-requires-clause-some
-test_end-requires-clause-some c = some_chunks c.args.version c.args.cut c.args.chunks.now
-    c.in_ok-test_order.ensures.ok c.args.end.now c.in_ok-references.ensures.ok
+test_end-requires-clause-some c = search (rules, some_chunks)
 
 pub returns-in_err-test_end-clause-err : goal.returns-in_err-test_end-clause-err
 returns-in_err-test_end-clause-err c =

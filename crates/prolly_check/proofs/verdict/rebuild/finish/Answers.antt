@@ -1,3 +1,4 @@
+use Rattle.std.proofs.Common.{rules}
 use Rattle.std.proofs.Common.{◌≡◌, ◌∷◌, length, refl, sym, ap, ◌∙◌, arith}
 use Rattle.std.proofs.lemmas.List.{with_items_is}
 use Rattle.std.proofs.lemmas.Result.{err_from_is_err_and}
@@ -5,8 +6,7 @@ use Rattle.prolly_check.proofs.RebuildSteps.{leaf_ends, ending_fault, node_ends,
 use Rattle.prolly_check.proofs.verdict.rebuild.finish.Goals as goal
 
 pub loop-references-init : goal.loop-references-init
-loop-references-init c = λ bits version pairs b. leaf_ends bits version pairs c.args.chunks.now
-    c.args.rebuild _ b c.finish-last.ensures
+loop-references-init c = search (rules, leaf_ends)
 
 pub returns-in_err-pass : goal.returns-in_err-pass
 returns-in_err-pass c =

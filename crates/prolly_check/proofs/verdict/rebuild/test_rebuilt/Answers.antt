@@ -1,4 +1,5 @@
-use Rattle.std.proofs.Common.{[], inr, ◌∙◌, arith}
+use Rattle.std.proofs.Common.{rules}
+use Rattle.std.proofs.Common.{[]}
 use Rattle.std.proofs.lemmas.Result.{err_from_is_err_and}
 use Rattle.prolly_check.proofs.RebuildSteps.{differ_by_end, verdict_fault, verdict_short, all_named}
 use Rattle.prolly_check.proofs.RebuildSteps.{verdict_none}
@@ -23,28 +24,10 @@ returns-in_err-references-clause-err c =
     (c.in_ok-rebuild.ensures c.args.chunks.now))))
 
 pub returns-then-count-len-clause-err : goal.returns-then-count-len-clause-err
-returns-then-count-len-clause-err c =
-    let count = c.len-count.ensures ∙ c.in_ok-references.references.ok.0 in
-    rw count (inr (verdict_short c.args.cut c.args.version c.args.chunks.now _ c.requires
-    c.in_ok-references.references.items
-    (c.in_ok-references.ensures c.args.cut c.args.version _
-    (c.in_ok-add_chunks.ensures c.args.cut c.args.version []
-    (c.in_ok-rebuild.ensures c.args.chunks.now))) (omega (arith, count))))
+returns-then-count-len-clause-err c = search (rules, verdict_short)
 
 pub returns-clause-ok : goal.returns-clause-ok
-returns-clause-ok c =
-    let count = c.len-count.ensures ∙ c.in_ok-references.references.ok.0 in
-    verdict_none c.args.cut c.args.version c.args.chunks.now _ c.requires
-    c.in_ok-references.references.items
-    (c.in_ok-references.ensures c.args.cut c.args.version _
-    (c.in_ok-add_chunks.ensures c.args.cut c.args.version []
-    (c.in_ok-rebuild.ensures c.args.chunks.now))) (omega (arith, count))
+returns-clause-ok c = search (rules, verdict_none)
 
 pub returns-clause-references : goal.returns-clause-references
-returns-clause-references c =
-    let count = c.len-count.ensures ∙ c.in_ok-references.references.ok.0 in
-    all_named c.args.cut c.args.version c.args.chunks.now _ c.requires
-    c.in_ok-references.references.items
-    (c.in_ok-references.ensures c.args.cut c.args.version _
-    (c.in_ok-add_chunks.ensures c.args.cut c.args.version []
-    (c.in_ok-rebuild.ensures c.args.chunks.now))) (omega (arith, count))
+returns-clause-references c = search (rules, all_named)

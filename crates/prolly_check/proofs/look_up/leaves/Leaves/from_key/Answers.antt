@@ -1,3 +1,4 @@
+use Rattle.std.proofs.Common.{rules}
 use Rattle.std.proofs.Common.{◌==◌, ◌++◌, drop, length, ap, ◌∙◌, subst, sym}
 use Rattle.std.proofs.lemmas.Bool.{false≢true}
 use Rattle.std.specs.List.{flat_map}
@@ -14,8 +15,7 @@ use Rattle.prolly_check.proofs.look_up.leaves.Leaves.from_key.Goals.{then-is_emp
 use Rattle.prolly_check.proofs.look_up.leaves.Leaves.from_key.Goals as goal
 
 pub rest_from-first-requires : goal.rest_from-first-requires
-rest_from-first-requires c = leaf_is_map c.args.file c.requires c.descend-end.result.number
-    c.descend-end.ensures.end.within c.pairs.result c.pairs.ensures
+rest_from-first-requires c = search (rules, leaf_is_map)
 
 pub returns : goal.returns
 returns c =
