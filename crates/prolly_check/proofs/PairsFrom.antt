@@ -36,10 +36,7 @@ all_below (p ∷ q ∷ ps) key h k = search (
   rules,
   common_steps,
   order_trans,
-  above_key,
-  has_last,
-  all_below (q ∷ ps) key h.1 k,
-)
+  all_below (q ∷ ps) key h.1 k)
 
 -- where the greatest keys of trees are below a key, all keys below them are
 pub trees_below : (level : ℕ) (ts : List (Tree level)) (key : List ℕ) →

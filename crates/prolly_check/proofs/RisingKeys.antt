@@ -24,12 +24,7 @@ and_assoc false b c = refl
 pub rises_append : (last : Option (List ℕ)) (xs ys : List Pair) →
     rises_behind last (xs ++ ys) ≡ (rises_behind last xs && rises_behind (last_behind last xs) ys)
 rises_append last [] ys = refl
-rises_append last (x ∷ xs) ys = search (
-  rules,
-  common_steps,
-  and_assoc,
-  rises_append (Some x.key) xs ys,
-)
+rises_append last (x ∷ xs) ys = simp (common_steps, and_assoc, rises_append (Some x.key) xs ys)
 
 pub is_less : (o : Ordering) → is_lt o ≡ true → o ≡ Less
 is_less Less h = refl

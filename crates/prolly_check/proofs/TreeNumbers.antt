@@ -277,11 +277,8 @@ module _ (version : Version) where
     all_within level each (t ∷ ts) = search (
       rules,
       common_steps,
-      bytes_append,
       all_append,
-      bytes_in,
-      all_within level each ts,
-    )
+      all_within level each ts)
 
     tree_within : (level : ℕ) → level ≤ top → (t : Tree level) →
         AreWithin (bytes_in (post_order version level t))

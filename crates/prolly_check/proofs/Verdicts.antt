@@ -292,8 +292,8 @@ judged_ok version bits lists pairs e rising apart =
 header_verdict : (version : Version) (bits : ℕ) (rest : List ℕ)
     (verdict : Result Content CheckFault) → bits ≤ 24 → FramesVerdict version bits rest verdict →
     IsVerdict (header version bits ++ rest) verdict
-header_verdict One bits rest verdict h f = search (rules, cond-true, nat_le, le-leb)
-header_verdict Two bits rest verdict h f = search (rules, cond-true, nat_le, le-leb)
+header_verdict One bits rest verdict h f = search (rules, cond-true, le-leb)
+header_verdict Two bits rest verdict h f = search (rules, le-leb)
 
 pub ending_clean : (number : ℕ) (ending : List ℕ) → length ending ≡ 28 →
     ending_of number (0x45 ∷ ending) ≡ Ok ending
