@@ -372,10 +372,6 @@ pub key_same : (asked : Asked) (key : Bor (List ℕ)) → asked ≡ AskedKey key
     child_sought (sought_of asked) xs ≡ child_sought (sought_of asked) ys
 key_same asked key is xs ys same = grind (arith, common_steps)
 
-pub none_sought : (sought : Sought) → child_sought sought [] ≡ None
-none_sought (Key key) = refl
-none_sought (Number n) = refl
-
 -- a chunk that was tested has a level
 pub has_level : (version : Version) (chunk : List ℕ) → IsWhole version chunk → 0 < length chunk
 has_level version [] whole = absurd whole.holds

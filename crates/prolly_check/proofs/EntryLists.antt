@@ -107,8 +107,10 @@ module _ {B : Type 0} (first : List ℕ → B) (behind : List ℕ → List ℕ) 
     enough (suc n) (suc m) [] h k = refl
     enough zero m (b ∷ bytes) h k = absurd (let h' : suc (length bytes) ≤ 0 = h in omega arith)
     enough (suc n) zero (b ∷ bytes) h k = search (rules)
-    enough (suc n) (suc m) (b ∷ bytes) h k = simp (common_steps,
-        enough n m (behind (b ∷ bytes)) (omega arith) (omega arith))
+    enough (suc n) (suc m) (b ∷ bytes) h k = simp (
+      common_steps,
+      enough n m (behind (b ∷ bytes)) (omega arith) (omega arith),
+    )
 
     pub first_in : (bytes : List ℕ) → 0 < length bytes →
         entries_in first behind bytes ≡ first bytes ∷ entries_in first behind (behind bytes)

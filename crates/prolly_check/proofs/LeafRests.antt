@@ -148,9 +148,6 @@ pub record IsDumped (pairs left : List Pair) (old new : SinkView) : Type 0 where
   pub keeping : old.is_keeping ≡ true → new.is_keeping ≡ true
   pub failures : new.failures ≡ old.failures
 
-pub none_dumped : (pairs : List Pair) (old : SinkView) → IsDumped pairs pairs old old
-none_dumped pairs old = grind (arith, common_steps, append-nil)
-
 -- ---- one part more
 
 module _ (pairs left part rest : List Pair) (split : left ≡ part ++ rest) (old mid new : SinkView)

@@ -18,8 +18,8 @@ use Rattle.prolly_entry.specs.lemmas.Orders.{order_trans, order_same, greater_be
 use Rattle.prolly_entry.specs.lemmas.Orders.{below_greater}
 use Rattle.prolly_tree.specs.LookUp.{find}
 use Rattle.prolly_tree.specs.Tree.{Tree, pairs_below, greatest_key, last_key}
-use Rattle.prolly_tree.specs.lemmas.Maps.{Above, Rises, rises_front, rises_back, above_key}
-use Rattle.prolly_tree.specs.lemmas.Maps.{above_more, has_last, find_above}
+use Rattle.prolly_tree.specs.lemmas.Maps.{Above, Rises, rises_front, rises_back}
+use Rattle.prolly_tree.specs.lemmas.Maps.{above_more, find_above}
 use Rattle.prolly_file.specs.Scratch.{keys_in}
 use Rattle.prolly_check.specs.Held.{pairs_held}
 use Rattle.prolly_check.specs.Leaves.{pairs_from}
@@ -36,7 +36,8 @@ all_below (p ∷ q ∷ ps) key h k = search (
   rules,
   common_steps,
   order_trans,
-  all_below (q ∷ ps) key h.1 k)
+  all_below (q ∷ ps) key h.1 k,
+)
 
 -- where the greatest keys of trees are below a key, all keys below them are
 pub trees_below : (level : ℕ) (ts : List (Tree level)) (key : List ℕ) →

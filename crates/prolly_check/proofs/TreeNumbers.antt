@@ -278,7 +278,8 @@ module _ (version : Version) where
       rules,
       common_steps,
       all_append,
-      all_within level each ts)
+      all_within level each ts,
+    )
 
     tree_within : (level : ℕ) → level ≤ top → (t : Tree level) →
         AreWithin (bytes_in (post_order version level t))

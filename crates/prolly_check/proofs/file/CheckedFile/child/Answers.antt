@@ -1,5 +1,3 @@
-use Rattle.std.proofs.lemmas.Grind.{common_steps}
-use Rattle.std.proofs.Common.{arith}
 use Rattle.std.proofs.Common.{sym, ap, ◌∙◌, subst}
 use Rattle.prolly_check.specs.Checked.{HasReference, chunks_of}
 use Rattle.prolly_check.proofs.CheckedFile.{number_of}
@@ -11,6 +9,3 @@ unreachable-requires c =
     (sym (c.self.invariant.1 ∙ ap chunks_of c.self.view_is)) c.requires in
     let at = number_of c.self.inside.chunks c.args.reference.now.0 has.chunk has.is_in has.is in
     (rw c.in-None.is at (c.find.ensures c.self.inside.chunks c.self.invariant.2)) at.0 at.1
-
-pub returns : goal.returns
-returns c = grind (arith, common_steps)

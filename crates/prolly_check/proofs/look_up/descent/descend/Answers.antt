@@ -13,15 +13,6 @@ loop-next-init c = record {
       c.root.ensures.within c.root.ensures.is c.requires;
 }
 
-pub below-requires-clause-file : goal.below-requires-clause-file
-below-requires-clause-file c = c.root.ensures.file
-
-pub below-requires-clause-top : goal.below-requires-clause-top
-below-requires-clause-top c = c.loop-next.invariant.on.top
-
-pub below-requires-clause-counted : goal.below-requires-clause-counted
-below-requires-clause-counted c = c.loop-next.invariant.on.counted
-
 pub loop-next-preserved : goal.loop-next-preserved
 loop-next-preserved c =
     let before = c.loop-next.invariant in

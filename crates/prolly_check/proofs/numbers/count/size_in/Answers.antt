@@ -5,6 +5,3 @@ use Rattle.prolly_check.proofs.numbers.count.size_in.Goals as goal
 
 pub overflow_add-size : goal.overflow_add-size
 overflow_add-size c = grind (arith, common_steps, size_more, size_up_to)
-
-pub loop-number-preserved : goal.loop-number-preserved
-loop-number-preserved c = grind (arith, common_steps, size_more)
