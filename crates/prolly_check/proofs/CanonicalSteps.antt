@@ -1,17 +1,14 @@
 -- The tests against the file of the pairs.
-use Rattle.std.proofs.Common.{rules}
-use Rattle.std.proofs.lemmas.Grind.{common_steps}
-use Rattle.std.proofs.Common.{◌≡◌, ℕ, ◌-◌, ◌<◌, true, false, not, List, ◌∷◌, length, map}
+use Rattle.std.proofs.Common.{rules, ◌≡◌, ℕ, ◌-◌, ◌<◌, true, false, not, List, ◌∷◌, length, map}
 use Rattle.std.proofs.Common.{get_or, Some, None, sym, ap, ◌∙◌, arith}
 use Rattle.std.specs.List.{flat_map}
 use Rattle.std.specs.Str.{bytes_eq}
-use Rattle.std.proofs.lemmas.Bool.{cond-true, cond-false, false≢true, not-false, false_from_ne_true}
+use Rattle.std.proofs.lemmas.Bool.{false≢true, not-false}
 use Rattle.std.proofs.lemmas.List.{length-map}
 use Rattle.std.proofs.lemmas.Slice.Eq.{bytes_eq-Decides}
 use Rattle.prolly_entry.specs.Pair.{Pair}
 use Rattle.prolly_entry.specs.declared.reference.Ref.{Ref}
 use Rattle.prolly_entry.specs.declared.version.Version.{Version}
-use Rattle.prolly_entry.specs.lemmas.Lists.{cells}
 use Rattle.prolly_tree.specs.File.{end_record}
 use Rattle.prolly_check.specs.Held.{pairs_held}
 use Rattle.prolly_check.specs.Index.{AreReferences}
@@ -33,14 +30,13 @@ equal x y e = (bytes_eq-Decides x y).0 (not-false (bytes_eq x y) (sym e))
 
 ending_is : (version : Version) (bits : ℕ) (pairs : List Pair) →
     ending_of_chunks (chunk_bytes version bits pairs) ≡ ending_for version bits pairs
-ending_is version bits pairs = grind (arith, common_steps, chunks_last, length-map)
+ending_is version bits pairs = grind (arith, chunks_last, length-map)
 
 -- the end record of the last reference and the number of chunks is theirs
 pub ends_so : (cs : List (List ℕ)) (references : List Ref) (count : ℕ) (other : Ref) →
     AreReferences cs references → count ≡ length cs → 0 < length cs →
     end_record (get_or references (count - 1) other).0 count ≡ 0x45 ∷ ending_of_chunks cs
-ends_so cs references count other are e some =
-    search (rules, common_steps, reference_at, as_many, get_or)
+ends_so cs references count other are e some = search (rules, reference_at, as_many, get_or)
 
 -- where the keys rise, the chunks are tested, and then the end record
 module _ (version : Version) (bits : ℕ) (cs : List (List ℕ))
@@ -64,16 +60,7 @@ module _ (version : Version) (bits : ℕ) (cs : List (List ℕ))
 
     pub end_says : (fault : CheckFault) → (fault ≡ faults.BadEnd) ×
         (behind ≡ 0x45 ∷ ending_of_chunks cs → ⊥) → Says version bits cs behind (Some fault)
-    end_says fault bad ending e = search (
-      rules,
-      common_steps,
-      flat_held,
-      cond-false,
-      false_from_ne_true,
-      bytes_eq-Decides,
-      ends_as,
-    )
+    end_says fault bad ending e = search (rules, flat_held, ends_as)
 
     pub all_say : behind ≡ 0x45 ∷ ending_of_chunks cs → Says version bits cs behind None
-    all_say is ending e =
-        search (rules, common_steps, flat_held, cond-true, bytes_eq-Decides, cells, ends_as)
+    all_say is ending e = search (rules, flat_held, ends_as)

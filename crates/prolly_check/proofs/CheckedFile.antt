@@ -1,15 +1,13 @@
 -- What is known of a file that is checked, and of one that was accepted.
-use Rattle.std.proofs.Common.{rules}
-use Rattle.std.proofs.lemmas.Grind.{common_steps}
-use Rattle.std.proofs.Common.{◌≡◌, ℕ, zero, suc, ◌-◌, ◌^◌, ◌<◌, List, [], ◌∷◌, ◌++◌, length, map}
-use Rattle.std.proofs.Common.{get_or, Ok, Err, inl, inr, ◌⊎◌, refl, sym, ap, ◌∙◌, subst, arith, ◌≤◌}
-use Rattle.std.proofs.Common.{drop, length-drop, true, Option, Some, None, Result, ◌+◌, take}
+use Rattle.std.proofs.Common.{rules, ◌≡◌, ℕ, zero, suc, ◌-◌, ◌^◌, ◌<◌, List, [], ◌∷◌, ◌++◌, length}
+use Rattle.std.proofs.Common.{map, get_or, Ok, Err, inl, inr, ◌⊎◌, refl, sym, ap, ◌∙◌, subst, arith}
+use Rattle.std.proofs.Common.{◌≤◌, drop, length-drop, true, Option, Some, None, Result, ◌+◌, take}
 use Rattle.std.proofs.Common.{append_assoc, append-nil}
 use Rattle.std.specs.Int.{w64, to_be_bytes}
 use Rattle.std.specs.List.{flat_map, AllByRecursion}
 use Rattle.std.specs.Prelude.{slice_index}
 use Rattle.std.specs.declared.ops.Range.{Range}
-use Rattle.std.proofs.Math.Seq.{get_or-append_seam}
+use Rattle.std.proofs.lemmas.Grind.{common_steps}
 use Rattle.std.proofs.lemmas.List.{length-append, length-map, map_push, length-take-le, drop-drop}
 use Rattle.std.proofs.lemmas.List.Concat.{flat_map-append}
 use Rattle.prolly_entry.specs.Cut.{sha512_cut}
@@ -36,11 +34,10 @@ use Rattle.prolly_check.specs.Judged.{Says, chunk_bytes, reuse, canonical_fault,
 use Rattle.prolly_check.specs.Numbers.{size_of}
 use Rattle.prolly_check.specs.Refusal.{UnlessMemory}
 use Rattle.prolly_check.specs.Verdict.{IsVerdict, IsFileOf, ReadVerdict, FramesVerdict}
-use Rattle.prolly_check.specs.declared.verdict.fault.CheckFault.{CheckFault}
 use Rattle.prolly_check.specs.declared.index.Index.{Index}
+use Rattle.prolly_check.specs.declared.verdict.fault.CheckFault.{CheckFault}
 use Rattle.prolly_check.proofs.EntryLists.{leaf_pairs}
-use Rattle.prolly_check.proofs.HeldPairs.{bytes_in, bytes_append, map_holds, all_hold}
-use Rattle.prolly_check.proofs.HeldPairs.{flat_held}
+use Rattle.prolly_check.proofs.HeldPairs.{map_holds, all_hold, flat_held}
 use Rattle.prolly_check.proofs.OneVerdict.{one_verdict}
 use Rattle.prolly_check.proofs.Verdicts.{file_is_accepted, ok_same, err_ok, header_ok, ending_ok}
 use Rattle.prolly_check.proofs.Verdicts.{canonical_ok, accepted_is_file}
@@ -64,20 +61,12 @@ last_is version (suc level) ts = (flat_map (post_order version level) ts, refl)
 
 last_bytes : (before : List Chunk) (c : Chunk) →
     get_or (map (λ c. c.bytes) (before ++ c ∷ [])) (length (before ++ c ∷ []) - 1) [] ≡ c.bytes
-last_bytes before c = search (
-  rules,
-  common_steps,
-  bytes_in,
-  length-append,
-  length-map,
-  bytes_append,
-  get_or-append_seam,
-)
+last_bytes before c = search (rules, common_steps)
 
 -- the chunks of a map are some, and the last is the root's
 pub chunks_some : (version : Version) (bits : ℕ) (pairs : List Pair) →
     0 < length (chunk_bytes version bits pairs)
-chunks_some version bits pairs = grind (arith, common_steps, last_is, length-map, length-append)
+chunks_some version bits pairs = grind (arith, length-map, length-append)
 
 pub chunks_last : (version : Version) (bits : ℕ) (pairs : List Pair) →
     get_or (chunk_bytes version bits pairs) (length (chunk_bytes version bits pairs) - 1) []
@@ -106,12 +95,12 @@ not_refused read bytes content fault short e f (inr v) =
 
 each_has_bytes : (pairs : List Pair) → length pairs ≤ length (flat_map pair_spelling pairs)
 each_has_bytes [] = omega arith
-each_has_bytes (p ∷ pairs) = grind (arith, common_steps, length-append, each_has_bytes pairs)
+each_has_bytes (p ∷ pairs) = grind (arith, length-append, each_has_bytes pairs)
 
 few_in_one : (version : Version) (chunk : List ℕ) → IsWhole version chunk →
     length (pairs_held chunk) ≤ length chunk
 few_in_one version [] w = omega arith
-few_in_one version (zero ∷ entries) w = grind (arith, common_steps, each_has_bytes, leaf_pairs)
+few_in_one version (zero ∷ entries) w = grind (arith, each_has_bytes, leaf_pairs)
 few_in_one version (suc level ∷ entries) w = omega arith
 
 few_in_frames : (version : Version) (cs : List (List ℕ)) → AreWhole version cs →
@@ -129,25 +118,25 @@ pub few_held : (version : Version) (bytes : List ℕ) (spans : List (Range ℕ))
     FramesTo bytes spans place → AreWhole version (chunks_in bytes spans) →
     length (flat_map pairs_held (chunks_in bytes spans)) ≤ length bytes
 few_held version bytes spans place frames whole =
-    search (rules, common_steps, few_in_frames, length-append, length-drop)
+    search (rules, few_in_frames, length-append, length-drop)
 
 frames_in : (bytes : List ℕ) (content : Content) → IsFileOf bytes content →
     length (flat_map framed (chunks_of content)) ≤ length bytes
-frames_in bytes content f = grind (arith, common_steps, frames_bytes, length-append)
+frames_in bytes content f = grind (arith, frames_bytes, length-append)
 
 pub few_pairs : (bytes : List ℕ) (content : Content) → IsFileOf bytes content →
     length content.pairs ≤ length bytes
-few_pairs bytes content f = grind (arith, common_steps, map_holds, few_in_frames, frames_in)
+few_pairs bytes content f = grind (arith, map_holds, few_in_frames, frames_in)
 
 -- nor have its chunks
 
 few_framed : (cs : List (List ℕ)) → size_of cs ≤ length (flat_map framed cs)
 few_framed [] = omega arith
-few_framed (c ∷ cs) = grind (arith, common_steps, length-append, few_framed cs)
+few_framed (c ∷ cs) = grind (arith, length-append, few_framed cs)
 
 pub few_bytes : (bytes : List ℕ) (content : Content) → IsFileOf bytes content →
     size_of (chunks_of content) ≤ length bytes
-few_bytes bytes content f = grind (arith, common_steps, few_framed, frames_in)
+few_bytes bytes content f = grind (arith, few_framed, frames_in)
 
 -- ---- the chunks of a file that was checked, found by their numbers and their references
 
@@ -162,7 +151,7 @@ chunks_are bytes header spans index checked content short is =
 -- the last is the root
 pub root_there : (content : Content) (number : ℕ) → number ≡ length (chunks_of content) - 1 →
     get_or (chunks_of content) number [] ≡ root_bytes content
-root_there content number is = search (rules, get_or, chunks_last)
+root_there content number is = search (rules, chunks_last)
 
 -- a chunk that has a reference has a number
 pub number_of : (chunks : List (List ℕ)) (reference : List ℕ) (chunk : List ℕ) →
@@ -194,11 +183,11 @@ module _ (bytes : List ℕ) (header : Header) (spans : List (Range ℕ)) (place 
       (all : has_no_frame (drop place bytes) ≡ true) where
     framed_so : (ending : Result (List ℕ) CheckFault) → ending_of (length spans)
         (drop place bytes) ≡ ending → IsFramed (drop 6 bytes) cs ending
-    framed_so ending e = grind (arith, common_steps, length-map)
+    framed_so ending e = grind (arith, length-map)
 
     verdict_so : (verdict : Result Content CheckFault) →
         FramesVerdict header.version header.bits (drop 6 bytes) verdict → IsVerdict bytes verdict
-    verdict_so verdict f = grind (arith, common_steps)
+    verdict_so verdict f = grind arith
 
     -- what follows the frames, as the code has it
     module _ (rest : List ℕ) (number : ℕ) (left : rest ≡ drop place bytes)
@@ -265,16 +254,16 @@ module _ (bytes : List ℕ) (header : Header) (spans : List (Range ℕ)) (place 
           pub at_canonical : (fault : CheckFault) →
               UnlessMemory (λ fault. Says header.version cut chunks rest (Some fault)) fault →
               Refused bytes fault
-          at_canonical fault = grind (arith, common_steps, says)
+          at_canonical fault = grind arith
 
           module _ (canonical : Says header.version cut chunks rest None) where
             then_reuse : judged header.version header.bits cs l.ending lists ≡
                 or_content it (reuse [] 0 chunks)
-            then_reuse = search (rules, says)
+            then_reuse = search rules
 
             pub at_references : (fault : CheckFault) →
                 UnlessMemory (λ fault. reuse [] 0 chunks ≡ Some fault) fault → Refused bytes fault
-            at_references fault = search (rules, then_reuse)
+            at_references fault = search rules
 
             pub at_end : (index : Index) → reuse [] 0 chunks ≡ None →
                 IsIndex index chunks → IsChecked bytes header spans index

@@ -1,13 +1,12 @@
 -- The child of a node that a look-up goes on in.
-use Rattle.std.proofs.Common.{rules}
-use Rattle.std.proofs.lemmas.Grind.{common_steps}
-use Rattle.std.proofs.Common.{◌≡◌, ℕ, suc, ◌+◌, ◌-◌, ◌^◌, ◌<◌, ◌≤◌, nat_lt, inl, inr, Bool, false}
-use Rattle.std.proofs.Common.{List, [], ◌∷◌, ◌++◌, length, map, Option, Some, None, refl, sym, ap}
-use Rattle.std.proofs.Common.{◌∙◌, subst, arith, zero, drop, Bor, append_assoc}
+use Rattle.std.proofs.Common.{rules, ◌≡◌, ℕ, suc, ◌+◌, ◌-◌, ◌^◌, ◌<◌, ◌≤◌, nat_lt, inl, inr, Bool}
+use Rattle.std.proofs.Common.{false, List, [], ◌∷◌, ◌++◌, length, map, Option, Some, None, refl}
+use Rattle.std.proofs.Common.{sym, ap, ◌∙◌, subst, arith, zero, drop, Bor, append_assoc}
 use Rattle.std.specs.List.{AllByRecursion, flat_map}
 use Rattle.std.specs.Ordering.{is_lt}
 use Rattle.std.specs.Prelude.{option_map}
 use Rattle.std.proofs.lemmas.Bool.{cases_Bool, cond-false, cond-true, ltb-false, ltb-true}
+use Rattle.std.proofs.lemmas.Grind.{common_steps}
 use Rattle.std.proofs.lemmas.List.{length-append, drop-drop, length-drop}
 use Rattle.std.proofs.lemmas.List.Concat.{flat_map-append}
 use Rattle.std.proofs.lemmas.Nat.{from_be_bytes-to_be_bytes_8}
@@ -293,8 +292,8 @@ module _ (version : Version) (cs : List (List ℕ)) (level : ℕ) (trees : List 
 
   pub none_chosen : (sought : Sought) → CanCount version sought all →
       child_sought sought (map (child_of version level) trees) ≡ None → AllPast sought all
-  none_chosen (Key key) can e = grind (arith, common_steps, trees_below, rises, leads_nowhere)
-  none_chosen (Number n) can e = grind (arith, common_steps, counts_past)
+  none_chosen (Key key) can e = grind (arith, trees_below, rises, leads_nowhere)
+  none_chosen (Number n) can e = grind (arith, counts_past)
 
 -- ---- children below a key
 
@@ -339,7 +338,7 @@ module _ (version : Version) (chunk : List ℕ) (mark : Mark) (is : IsMark versi
   size = ap length are ∙ length-drop mark.offset chunk
 
   rest_there : rest ≡ drop (length chunk - length rest) chunk
-  rest_there = grind (arith, common_steps, drop-drop, size)
+  rest_there = grind (arith, drop-drop, size)
 
   pub mark_behind : (next : Mark) → next.number ≡ mark.number + 1 →
       next.offset ≡ length chunk - length rest → IsMark version chunk next
@@ -364,13 +363,12 @@ pub begins_there : (version : Version) (chunk : List ℕ) (mark : Mark) →
     Rising (keys (children_in version (drop 1 chunk))) → KeyBelow child.key key →
     child_for key (children_in version (drop 1 chunk)) ≡
     child_for key (children_in version (drop mark.offset chunk))
-begins_there version chunk mark is child others first key rising below =
-    search (rules, common_steps, passed_over)
+begins_there version chunk mark is child others first key rising below = search (rules, passed_over)
 
 pub key_same : (asked : Asked) (key : Bor (List ℕ)) → asked ≡ AskedKey key →
     (xs ys : List Child) → child_for key.now xs ≡ child_for key.now ys →
     child_sought (sought_of asked) xs ≡ child_sought (sought_of asked) ys
-key_same asked key is xs ys same = grind (arith, common_steps)
+key_same asked key is xs ys same = grind arith
 
 -- a chunk that was tested has a level
 pub has_level : (version : Version) (chunk : List ℕ) → IsWhole version chunk → 0 < length chunk
@@ -389,17 +387,17 @@ module _ (version : Version) where
       children ≡ children_in version (drop 1 chunk)
   node_children [] children is = cc
   node_children (zero ∷ entries) children is = cc
-  node_children (suc level ∷ entries) children is = search (rules, same_children)
+  node_children (suc level ∷ entries) children is = search rules
 
   pub node_entries : (chunk : List ℕ) (children : List Child) →
       ◌≡◌ {A = Entries} (Node children) (kind_of version chunk) → IsWhole version chunk →
       IsNode version (drop 1 chunk) []
   node_entries [] children is whole = cc
   node_entries (zero ∷ entries) children is whole = cc
-  node_entries (suc level ∷ entries) children is whole = grind (arith, common_steps)
+  node_entries (suc level ∷ entries) children is whole = grind arith
 
   pub node_rises : (chunk : List ℕ) (children : List Child) →
       ◌≡◌ {A = Entries} (Node children) (kind_of version chunk) →
       Rising (keys_of (kind_of version chunk)) →
       Rising (keys (children_in version (drop 1 chunk)))
-  node_rises chunk children is rising = grind (arith, common_steps, node_children)
+  node_rises chunk children is rising = grind arith

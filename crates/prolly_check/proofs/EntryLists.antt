@@ -1,12 +1,11 @@
 -- Entries that bytes spell, read one after another.
-use Rattle.std.proofs.Common.{rules}
-use Rattle.std.proofs.lemmas.Grind.{common_steps}
-use Rattle.std.proofs.Common.{◌≡◌, ℕ, zero, suc, ◌<◌, ◌≤◌, List, [], ◌∷◌, ◌++◌, length, drop, map}
-use Rattle.std.proofs.Common.{refl, sym, ap, ◌∙◌, arith, append_assoc, ◌+◌, ◌==◌, Some, length-drop}
-use Rattle.std.proofs.Common.{◌-◌, take}
+use Rattle.std.proofs.Common.{rules, ◌≡◌, ℕ, zero, suc, ◌<◌, ◌≤◌, List, [], ◌∷◌, ◌++◌, length, drop}
+use Rattle.std.proofs.Common.{map, refl, sym, ap, ◌∙◌, arith, append_assoc, ◌+◌, ◌==◌, Some}
+use Rattle.std.proofs.Common.{length-drop, ◌-◌, take}
 use Rattle.std.specs.Int.{w32, to_be_bytes}
 use Rattle.std.specs.List.{flat_map, AllByRecursion}
 use Rattle.std.proofs.lemmas.Bool.Decides.{nat_tests}
+use Rattle.std.proofs.lemmas.Grind.{common_steps}
 use Rattle.std.proofs.lemmas.List.{length-append, take_at, drop-drop, map-id}
 use Rattle.prolly_entry.specs.ChildAt.{tail_length, NoChildAt}
 use Rattle.prolly_entry.specs.Front.{NoPairAt}
@@ -45,7 +44,7 @@ module _ {A : Type 0} (spelling : A → List ℕ) (Lawful : A → Type 0)
     (apart : AreApart spelling Lawful) where
   pub shorter : (bytes rest : List ℕ) (entry : A) → BeginsWith spelling Lawful bytes entry rest →
       length rest < length bytes
-  shorter bytes rest entry b = grind (arith, common_steps, length-append)
+  shorter bytes rest entry b = grind (arith, length-append)
 
   pub one_more : (bytes rest : List ℕ) (entry : A) → BeginsWith spelling Lawful bytes entry rest →
       AreEntries spelling Lawful rest → AreEntries spelling Lawful bytes
@@ -115,7 +114,7 @@ module _ {B : Type 0} (first : List ℕ → B) (behind : List ℕ → List ℕ) 
     pub first_in : (bytes : List ℕ) → 0 < length bytes →
         entries_in first behind bytes ≡ first bytes ∷ entries_in first behind (behind bytes)
     first_in [] h = absurd (omega arith)
-    first_in (b ∷ bytes) h = grind (arith, common_steps, enough)
+    first_in (b ∷ bytes) h = grind (arith, enough)
 
 pub drop_front : (xs ys : List ℕ) (n : ℕ) → n ≡ length xs → drop n (xs ++ ys) ≡ ys
 drop_front [] ys n e = ap (λ m. drop m ys) e
@@ -133,7 +132,7 @@ module _ {B : Type 0} (first : List ℕ → B) (behind : List ℕ → List ℕ) 
     pub reads_on : (bytes spelled more : List ℕ) (entry : B) → Reads first behind spelled entry →
         bytes ≡ spelled ++ more → entries_in first behind bytes ≡ entry ∷ entries_in first behind
         more
-    reads_on bytes spelled more entry r e = grind (arith, common_steps, first_in, length-append)
+    reads_on bytes spelled more entry r e = grind (arith, first_in, length-append)
 
     pub reads_all : {A : Type 0} (spelling : A → List ℕ) (read : A → B) (Lawful : A → Type 0) →
         ((a : A) → Lawful a → Reads first behind (spelling a) (read a)) →
@@ -148,7 +147,7 @@ module _ {B : Type 0} (first : List ℕ → B) (behind : List ℕ → List ℕ) 
 -- ---- the pairs that entries spell
 
 pub leaf_apart : AreApart pair_spelling IsPair
-leaf_apart = grind (arith, common_steps, pair_spellings_apart)
+leaf_apart = grind (arith, pair_spellings_apart)
 
 pub some_leaf : (entries : List ℕ) → AreEntries pair_spelling IsPair entries → IsSomeLeaf entries
 some_leaf entries e = record { pairs = e.entries; is = record { is = e.is; lawful = e.lawful } }
@@ -159,13 +158,13 @@ leaf_entries entries l = record { entries = l.pairs; is = l.is.is; lawful = l.is
 module _ (entries rest : List ℕ) (p : Pair) (b : BeginsWith pair_spelling IsPair entries p rest)
   where
     pub leaf_more : IsSomeLeaf rest → IsSomeLeaf entries
-    leaf_more l = search (rules, some_leaf, one_more, leaf_apart, leaf_entries)
+    leaf_more l = search (rules, some_leaf, one_more, leaf_apart)
 
     pub leaf_less : IsSomeLeaf entries → IsSomeLeaf rest
-    leaf_less l = search (rules, some_leaf, one_less, leaf_apart, leaf_entries)
+    leaf_less l = search (rules, some_leaf, one_less, leaf_apart)
 
 pub leaf_left : (entries : List ℕ) → NoPairAt entries → IsSomeLeaf entries → entries ≡ []
-leaf_left entries none l = search (rules, nothing_left, leaf_apart, leaf_entries)
+leaf_left entries none l = search (rules, nothing_left, leaf_apart)
 
 -- behind lawful pairs there are bytes that no pair's spelling begins
 pub no_leaf : NoLeaf
@@ -176,7 +175,7 @@ no_leaf done pairs rest lawful left none l =
 -- ---- what is read of them
 
 pair_shrinks : Shrinks behind_pair
-pair_shrinks b bytes = grind (arith, common_steps, length-drop)
+pair_shrinks b bytes = grind (arith, length-drop)
 
 pair_reads : (p : Pair) → IsPair p → Reads first_pair behind_pair (pair_spelling p) p
 pair_reads p h = record {
@@ -255,7 +254,7 @@ node_apart version = record {
 
 some_node : (version : Version) (entries : List ℕ) → AreEntries (entry_of version) IsChild entries →
     IsNode version entries []
-some_node version entries e = grind (arith, common_steps)
+some_node version entries e = grind arith
 
 node_entries : (version : Version) (entries : List ℕ) → IsNode version entries [] →
     AreEntries (entry_of version) IsChild entries
@@ -264,10 +263,10 @@ node_entries version entries n = record { entries = n.children; is = n.is; lawfu
 module _ (version : Version) (entries rest : List ℕ) (c : Child)
     (b : BeginsWith (entry_of version) IsChild entries c rest) where
   pub node_more : IsNode version rest [] → IsNode version entries []
-  node_more n = search (rules, some_node, one_more, node_apart, node_entries)
+  node_more n = search (rules, some_node, one_more, node_apart)
 
   pub node_less : IsNode version entries [] → IsNode version rest []
-  node_less n = search (rules, some_node, one_less, node_apart, node_entries)
+  node_less n = search (rules, some_node, one_less, node_apart)
 
   pub behind_first : rest ≡ drop (length entries - length rest) entries
   behind_first =
@@ -294,7 +293,7 @@ no_node version done pairs rest lawful left none n =
 -- ---- what is read of them
 
 pub child_shrinks : (version : Version) → Shrinks (behind_child version)
-child_shrinks version b bytes = grind (arith, common_steps, length-drop)
+child_shrinks version b bytes = grind (arith, length-drop)
 
 -- a child as it is read from its entry
 abbrev pub as_read : Version → Child → Child

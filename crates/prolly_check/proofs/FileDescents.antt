@@ -1,7 +1,5 @@
 -- Going down the tree of a file that was checked.
-use Rattle.std.proofs.Common.{rules}
-use Rattle.std.proofs.lemmas.Grind.{common_steps}
-use Rattle.std.proofs.Common.{◌≡◌, ℕ, suc, ◌<◌, ◌≤◌, inl, inr, List, [], ◌∷◌, ◌++◌, length}
+use Rattle.std.proofs.Common.{rules, ◌≡◌, ℕ, suc, ◌<◌, ◌≤◌, inl, inr, List, [], ◌∷◌, ◌++◌, length}
 use Rattle.std.proofs.Common.{map, refl, sym, ap, ◌∙◌, subst, arith}
 use Rattle.std.specs.Borrow.{Bor}
 use Rattle.std.specs.List.{AllByRecursion}
@@ -64,7 +62,7 @@ module _ (content : Content) (f : HasFile content) (number : ℕ) (top : IsTop c
     }
 
     counted_still : IsCounted content.version next
-    counted_still = grind (arith, common_steps, to)
+    counted_still = grind arith
 
     pub one_below : (n : ℕ) → HasAt (chunks_of content) n reference →
         IsTop content n × (level_of (nth_chunk content number) ≡ suc (level_of (nth_chunk content n)))
@@ -183,7 +181,7 @@ module _ (content : Content) (sought : Sought) (above : List (List ℕ)) (at : A
 
   pub way_goes_on : (next : At) → IsNext content at next →
       OnWay content sought (above ++ chunk ∷ []) next.number (sought_of next.sought)
-  way_goes_on next to = grind (arith, common_steps, to, lead_more, falls_more, all_inside)
+  way_goes_on next to = grind (arith, lead_more, falls_more, all_inside)
 
   pub way_ends : EndsAt (sought_of at.sought) (kind_of content.version chunk) →
       IsEnd content sought at
@@ -223,9 +221,9 @@ module _ (content : Content) (f : HasFile content) where
   can_in : (sought : Sought) → IsCounted content.version sought →
       CanCount content.version sought content.pairs
   can_in (Key key) counted = tt
-  can_in (Number n) counted = grind (arith, common_steps, few_pairs)
+  can_in (Number n) counted = grind (arith, few_pairs)
 
   pub end_tells : (sought : Sought) → IsCounted content.version sought → (at : At) →
       IsEnd content sought at → Tells sought content.pairs (sought_of at.sought)
       (pairs_held (nth_chunk content at.number))
-  end_tells sought counted at end = grind (arith, common_steps, way_right, can_in, no_clash)
+  end_tells sought counted at end = grind (arith, way_right, can_in, no_clash)

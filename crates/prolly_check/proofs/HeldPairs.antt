@@ -1,12 +1,11 @@
 -- The pairs that chunks hold, and testing chunks one after another.
-use Rattle.std.proofs.Common.{rules}
-use Rattle.std.proofs.lemmas.Grind.{common_steps}
-use Rattle.std.proofs.Common.{◌≡◌, ℕ, zero, suc, ◌<◌, List, [], ◌∷◌, ◌++◌, length, map, get_or}
-use Rattle.std.proofs.Common.{refl, sym, ap, ◌∙◌, subst, arith, append-nil, ◌+◌, take, drop}
+use Rattle.std.proofs.Common.{rules, ◌≡◌, ℕ, zero, suc, ◌<◌, List, [], ◌∷◌, ◌++◌, length, map}
+use Rattle.std.proofs.Common.{get_or, refl, sym, ap, ◌∙◌, subst, arith, append-nil, ◌+◌, take, drop}
 use Rattle.std.specs.List.{flat_map, AllByRecursion}
 use Rattle.std.specs.declared.ops.Range.{Range}
 use Rattle.std.proofs.Math.Seq.{drop-cons}
-use Rattle.std.proofs.lemmas.List.{map-append, length-map, length-take, map_more, take-append-drop}
+use Rattle.std.proofs.lemmas.Grind.{common_steps}
+use Rattle.std.proofs.lemmas.List.{map-append, length-map, length-take, take-append-drop}
 use Rattle.std.proofs.lemmas.List.Concat.{flat_map-append}
 use Rattle.prolly_entry.specs.Pair.{Pair, IsPair}
 use Rattle.prolly_entry.specs.Reference.{reference_of}
@@ -78,17 +77,14 @@ module _ (version : Version) where
   pub all_hold : (chunks : List (List ℕ)) → AreWhole version chunks →
       AllHold version chunks (map pairs_held chunks)
   all_hold [] w = tt
-  all_hold (chunk ∷ chunks) w = grind (arith, common_steps, held_is, all_hold chunks w.1)
+  all_hold (chunk ∷ chunks) w = grind (arith, held_is, all_hold chunks w.1)
 
   pub each_whole : (chunks : List (List ℕ)) (number : ℕ) → AreWhole version chunks →
       number < length chunks → IsWhole version (get_or chunks number [])
   each_whole [] number w within = absurd (omega arith)
   each_whole (chunk ∷ chunks) zero w within = w.0
-  each_whole (chunk ∷ chunks) (suc number) w within = search (
-    rules,
-    common_steps,
-    each_whole chunks number w.1 (omega arith),
-  )
+  each_whole (chunk ∷ chunks) (suc number) w within =
+      search (rules, each_whole chunks number w.1 (omega arith))
 
   -- a whole chunk has a first byte
   pub some_byte : (chunk : List ℕ) → IsWhole version chunk → 0 < length chunk
@@ -105,7 +101,7 @@ pub record HoldPairs (version : Version) (chunks : List (List ℕ)) (pairs : Lis
 module _ (version : Version) where
   both : (cs ds : List (List ℕ)) (ps qs : List Pair) → HoldPairs version cs ps →
       HoldPairs version ds qs → HoldPairs version (cs ++ ds) (ps ++ qs)
-  both cs ds ps qs h k = grind (arith, common_steps, all_append, flat_map-append)
+  both cs ds ps qs h k = grind (arith, all_append, flat_map-append)
 
   abbrev child_below : (level : ℕ) → Tree level → Child
   child_below level t = record {
@@ -154,7 +150,7 @@ module _ (version : Version) where
       (all_trees level holding ts (all_back IsPair own rest h)))
 
   pub tree_holds : (level : ℕ) (t : Tree level) → Holding level t
-  tree_holds zero leaf h = grind (arith, common_steps, append-nil, leaf_pairs)
+  tree_holds zero leaf h = grind (arith, append-nil, leaf_pairs)
   tree_holds (suc level) ts h =
       let pairs = flat_map (pairs_below level) ts in
       let below = flat_map (post_order version level) ts in
@@ -190,7 +186,7 @@ module _ (version : Version) where
 -- the chunks of a map hold its pairs
 pub map_holds : (version : Version) (bits : ℕ) (pairs : List Pair) → AllByRecursion IsPair pairs →
     HoldPairs version (chunk_bytes version bits pairs) pairs
-map_holds version bits pairs lawful = grind (arith, common_steps, pairs_are, tree_holds)
+map_holds version bits pairs lawful = grind (arith, pairs_are, tree_holds)
 
 -- ---- testing the chunks of a file one after another
 
@@ -199,7 +195,7 @@ module _ (version : Version) (bytes : List ℕ) (spans : List (Range ℕ)) (n : 
     (is : chunk ≡ chunk_in bytes (get_or spans n other))
     (before : AreWhole version (chunks_in bytes (take n spans))) where
   pub whole_next : IsWhole version chunk → AreWhole version (chunks_in bytes (take (n + 1) spans))
-  whole_next one = grind (arith, common_steps, map_more, all_append, get_or)
+  whole_next one = grind (arith, common_steps)
 
   pub bad_next : ((pairs : List Pair) → Holds version chunk pairs → ⊥) →
       IsBad version (chunks_in bytes spans) (faults.BadChunk n)

@@ -1,30 +1,29 @@
 -- The references of the chunks of a file, and an index of them.
-use Rattle.std.proofs.Common.{rules}
-use Rattle.std.proofs.Common.{◌≡◌, ℕ, suc, ◌+◌, ◌<◌, ◌≤◌, Bool, true, false, ◌||◌, List, []}
+use Rattle.std.proofs.Common.{rules, ◌≡◌, ℕ, suc, ◌+◌, ◌<◌, ◌≤◌, Bool, true, false, ◌||◌, List, []}
 use Rattle.std.proofs.Common.{◌∷◌, length, take, drop, get_or, Some, None, inl, inr, refl, sym, ap}
 use Rattle.std.proofs.Common.{◌∙◌, subst, arith}
-use Rattle.std.specs.Ordering.{nat_cmp, is_lt, ordering_index}
-use Rattle.std.specs.declared.cmp.Ordering.TheVariants.{Less, Equal, Greater}
 use Rattle.std.specs.Cmp.Lexicographic.{slice_cmp}
-use Rattle.std.specs.Str.{bytes_eq}
 use Rattle.std.specs.List.{All, list_any}
 use Rattle.std.specs.List.Sorted.{IsNonDecreasingBy, IsPartitionPoint}
+use Rattle.std.specs.Ordering.{nat_cmp, is_lt, ordering_index}
+use Rattle.std.specs.Str.{bytes_eq}
+use Rattle.std.specs.declared.cmp.Ordering.TheVariants.{Less, Equal, Greater}
 use Rattle.std.proofs.Math.Seq.{drop-cons}
-use Rattle.std.proofs.lemmas.Bool.{cond-true, cond-false, cases_lt, false≢true}
+use Rattle.std.proofs.lemmas.Bool.{cond-false, cases_lt, false≢true}
 use Rattle.std.proofs.lemmas.Cmp.{nat_list_cmp_total}
 use Rattle.std.proofs.lemmas.List.{drop_all, length-map, get_or-map, get_or_default}
 use Rattle.std.proofs.lemmas.List.Elements.{recursion_from_All}
 use Rattle.std.proofs.lemmas.List.Folds.{list_any_more}
 use Rattle.std.proofs.lemmas.List.Sorted.{All-permutation, Contains-permutation, ranks_by}
 use Rattle.std.proofs.lemmas.List.Sorted.{searchable_from_sorted, sorted_far}
-use Rattle.prolly_entry.specs.declared.reference.Ref.{Ref}
 use Rattle.prolly_entry.specs.Reference.{reference_of}
+use Rattle.prolly_entry.specs.declared.reference.Ref.{Ref}
 use Rattle.prolly_entry.specs.lemmas.Orders.{order_self}
-use Rattle.prolly_check.specs.declared.verdict.fault.CheckFault.TheVariants.{Collision}
-use Rattle.prolly_check.specs.declared.index.Index.{Index}
 use Rattle.prolly_check.specs.Index.{AreReferences, HasAt, IsIndex}
 use Rattle.prolly_check.specs.Judged.{reuse}
 use Rattle.prolly_check.specs.Verdict.{AllApart}
+use Rattle.prolly_check.specs.declared.index.Index.{Index}
+use Rattle.prolly_check.specs.declared.verdict.fault.CheckFault.TheVariants.{Collision}
 use Rattle.prolly_check.proofs.Verdicts.{reuse_is}
 
 -- ---- references
@@ -190,7 +189,7 @@ module _ (chunks : List (List ℕ)) (references : List Ref) (are : AreReferences
 
     pub is_reused : list_any (λ r. bytes_eq r.0 (get_or references n other).0)
         (take n references) ≡ true → reuse [] 0 chunks ≡ Some (Collision n)
-    is_reused e = search (rules, reuse_here, cond-true, known_is)
+    is_reused e = search (rules, reuse_here, known_is)
 
     pub is_passed : list_any (λ r. bytes_eq r.0 (get_or references n other).0)
         (take n references) ≡ false → Passed chunks references (n + 1)

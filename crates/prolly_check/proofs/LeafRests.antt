@@ -1,8 +1,6 @@
 -- What is left of a map, leaf by leaf, and what was written of it.
-use Rattle.std.proofs.Common.{rules}
-use Rattle.std.proofs.lemmas.Grind.{common_steps}
-use Rattle.std.proofs.Common.{◌≡◌, ℕ, ◌+◌, ◌<◌, Bool, true, false, not, cond, List, [], ◌∷◌, ◌++◌}
-use Rattle.std.proofs.Common.{length, drop, take, get_or, refl, sym, ap, ◌∙◌, subst, arith}
+use Rattle.std.proofs.Common.{rules, ◌≡◌, ℕ, ◌+◌, ◌<◌, Bool, true, false, not, cond, List, [], ◌∷◌}
+use Rattle.std.proofs.Common.{◌++◌, length, drop, take, get_or, refl, sym, ap, ◌∙◌, subst, arith}
 use Rattle.std.proofs.Common.{take-append-drop, Ok, Err, append_assoc, append-nil}
 use Rattle.std.specs.List.{flat_map}
 use Rattle.std.specs.Ordering.{is_lt}
@@ -40,12 +38,12 @@ no_pairs = refl
 -- the first of rising pairs from a key on are those of a part that has some: so none stands before it
 above_from : (x key : List ℕ) (ps : List Pair) → Above x ps → Above x (pairs_from key ps)
 above_from x key [] h = tt
-above_from x key (p ∷ ps) h = grind (arith, common_steps, above_from x key ps h.1)
+above_from x key (p ∷ ps) h = grind (arith, above_from x key ps h.1)
 
 not_first : (x : Pair) (found xs rest : List Pair) → Above x.key found → x ∷ xs ≡ found ++ rest →
     (found ≡ [] → ⊥) → ⊥
 not_first x [] xs rest above e some = some refl
-not_first x (p ∷ ps) xs rest above e some = grind (arith, common_steps, less_self)
+not_first x (p ∷ ps) xs rest above e some = grind (arith, less_self)
 
 first_leaf : (key : List ℕ) (xs leaf ys rest : List Pair) → Rises (xs ++ (leaf ++ ys)) →
     pairs_from key (xs ++ (leaf ++ ys)) ≡ pairs_from key leaf ++ rest →
@@ -100,7 +98,7 @@ module _ (content : Content) (f : HasFile content) (number : ℕ) where
 
       found : pairs_from key content.pairs ≡
           pairs_from key front ++ (pairs_from key leaf ++ pairs_from key (behind (number + 1)))
-      found = grind (arith, common_steps, whole, pairs_from-append)
+      found = grind (arith, whole, pairs_from-append)
 
       none_found : pairs_from key leaf ≡ [] → pairs_from key content.pairs ≡ []
       none_found none = subst (AreFirstFrom key content.pairs) none first
@@ -127,16 +125,15 @@ module _ (content : Content) (f : HasFile content) (number : ℕ) where
               (λ none. some p ps (sym is ∙ none))
 
       pub from_number : pairs_from key content.pairs ≡ pairs_from key (behind number)
-      from_number = grind (arith, common_steps, found, none_before, parts, pairs_from-append)
+      from_number = grind (arith, found, none_before, parts, pairs_from-append)
 
       pub from_leaf : (pairs_from key leaf ≡ [] → ⊥) →
           pairs_from key leaf ++ behind (number + 1) ≡ pairs_from key content.pairs
-      from_leaf some =
-          search (rules, common_steps, found, none_before, from_behind, parts, rest_rises)
+      from_leaf some = search (rules, found, none_before, from_behind, parts, rest_rises)
 
       pub from_none : (end : ℕ) → end ≡ length (chunks_of content) → pairs_from key leaf ≡ [] →
           pairs_from key leaf ++ behind end ≡ pairs_from key content.pairs
-      from_none end is none = grind (arith, common_steps, drop_all, none_found)
+      from_none end is none = grind (arith, drop_all, none_found)
 
 -- ---- pairs that are written as a record file, part by part
 
@@ -159,20 +156,20 @@ module _ (pairs left part rest : List Pair) (split : left ≡ part ++ rest) (old
   one_more = flat_map-append pair_spelling d.done part
 
   all_parts : record_file pairs ≡ record_file d.done ++ (own ++ record_file rest)
-  all_parts = grind (arith, common_steps, flat_map-append)
+  all_parts = grind (arith, flat_map-append)
 
   pub one_dumped : {T E : Type 0} (x : T) → Writes {T = T} {E = E} own mid new (Ok x) →
       IsDumped pairs rest old new
-  one_dumped x w = grind (arith, common_steps, append_assoc, one_more)
+  one_dumped x w = grind (arith, append_assoc, one_more)
 
   -- a prefix of its records is one of all records, behind those that were written
   part_of_all : old.is_keeping ≡ true → TakesPrefix mid.taken new.taken own →
       TakesPrefix old.taken new.taken (record_file pairs)
-  part_of_all k t = grind (arith, common_steps, append_assoc, all_parts)
+  part_of_all k t = grind (arith, append_assoc, all_parts)
 
   pub dump_failed : {T E : Type 0} (x y : E) → Writes {T = T} {E = E} own mid new (Err x) →
       Writes {T = T} {E = E} (record_file pairs) old new (Err y)
-  dump_failed x y w = grind (arith, common_steps, part_of_all)
+  dump_failed x y w = grind (arith, part_of_all)
 
 -- ---- the end
 
@@ -181,12 +178,12 @@ module _ (pairs left : List Pair) (none : left ≡ []) (old mid new : SinkView)
     (same : mid.is_keeping ≡ true → new.taken ≡ mid.taken) (keeps : mid.is_keeping ≡ true →
     new.is_keeping ≡ true) where
   all_taken : old.is_keeping ≡ true → new.taken ≡ old.taken ++ record_file pairs
-  all_taken k = grind (arith, common_steps, append-nil)
+  all_taken k = grind (arith, append-nil)
 
   pub dump_flushed : {T E : Type 0} (x : T) → new.failures ≡ mid.failures →
       Writes {T = T} {E = E} (record_file pairs) old new (Ok x)
-  dump_flushed x counted = grind (arith, common_steps, all_taken)
+  dump_flushed x counted = grind (arith, all_taken)
 
   pub dump_unflushed : {T E : Type 0} (y : E) → new.failures ≡ after_failure mid.failures →
       Writes {T = T} {E = E} (record_file pairs) old new (Err y)
-  dump_unflushed y counted = grind (arith, common_steps, all_taken, append-nil)
+  dump_unflushed y counted = grind (arith, append-nil)

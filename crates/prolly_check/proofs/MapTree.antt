@@ -1,9 +1,8 @@
 -- The tree of a map, and what is read of its chunks.
-use Rattle.std.proofs.Common.{rules}
-use Rattle.std.proofs.lemmas.Grind.{common_steps}
-use Rattle.std.proofs.Common.{◌≡◌, ℕ, zero, suc, ◌<◌, inl, inr, List, [], ◌∷◌, ◌++◌, length, sym}
-use Rattle.std.proofs.Common.{ap, ◌∙◌, subst, arith, map, get_or, slice_index, refl}
+use Rattle.std.proofs.Common.{rules, ◌≡◌, ℕ, zero, suc, ◌<◌, inl, inr, List, [], ◌∷◌, ◌++◌, length}
+use Rattle.std.proofs.Common.{sym, ap, ◌∙◌, subst, arith, map, get_or, slice_index, refl}
 use Rattle.std.specs.List.{flat_map, AllByRecursion}
+use Rattle.std.proofs.lemmas.Grind.{common_steps}
 use Rattle.std.proofs.lemmas.List.Concat.{flat_map-append}
 use Rattle.prolly_entry.specs.Cut.{sha512_cut}
 use Rattle.prolly_entry.specs.Keys.{Rising, KeyBelow, RisingFrom}
@@ -83,14 +82,13 @@ pub root_is : (version : Version) (bits : ℕ) (m : List Pair) → AllByRecursio
     Rising (keys_in m) →
     IsTreeOf version (chunk_bytes version bits m) (tree_of (sha512_cut bits) version m).level
     (tree_of (sha512_cut bits) version m).tree
-root_is version bits m lawful rising = grind (arith, common_steps, pairs_are, in_bytes, root_full)
+root_is version bits m lawful rising = grind (arith, pairs_are, in_bytes, root_full)
 
 in_child : (version : Version) (level : ℕ) (before after : List (Tree level)) (t : Tree level)
     (c : Chunk) →
     IsIn c (post_order version level t) → IsIn c
     (flat_map (post_order version level) (before ++ t ∷ after))
-in_child version level before after t c h =
-    search (rules, common_steps, flat_map-append, in_back, in_front)
+in_child version level before after t c h = search (rules, flat_map-append, in_back, in_front)
 
 -- what has a node has its children
 has_child : (version : Version) (chunks : List (List ℕ)) (level : ℕ)
@@ -213,7 +211,7 @@ module _ (version : Version) (level : ℕ) where
   pub tops_rise : (ts : List (Tree level)) → AreFull ts →
       Rising (map (λ p. p.key) (flat_map (pairs_below level) ts)) → Rising (tops ts)
   tops_rise [] full h = tt
-  tops_rise (t ∷ ts) full h = grind (arith, common_steps, rises, tops_from, above_last, rises_back)
+  tops_rise (t ∷ ts) full h = grind (arith, rises, tops_from, above_last, rises_back)
 
 -- ---- the entries of a top
 

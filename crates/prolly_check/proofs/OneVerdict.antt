@@ -1,19 +1,14 @@
 -- Bytes have one verdict, which is never a fault of the reading.
-use Rattle.std.proofs.Common.{rules}
-use Rattle.std.proofs.lemmas.Grind.{common_steps}
-use Rattle.std.proofs.Common.{arith}
-use Rattle.std.proofs.Common.{◌≡◌, ℕ, suc, true, List, [], ◌∷◌, ◌++◌, length, drop, Option, Some}
-use Rattle.std.proofs.Common.{None, Result, Ok, Err, refl, sym, ap, ◌∙◌, subst, append_assoc, ◌≤◌}
-use Rattle.std.proofs.Common.{nat_lt, inl, inr}
+use Rattle.std.proofs.Common.{rules, arith, ◌≡◌, ℕ, suc, true, List, [], ◌∷◌, ◌++◌, length, drop}
+use Rattle.std.proofs.Common.{Option, Some, None, Result, Ok, Err, refl, sym, ap, ◌∙◌, subst}
+use Rattle.std.proofs.Common.{append_assoc, ◌≤◌, inl, inr}
 use Rattle.std.specs.List.{flat_map, AllByRecursion}
 use Rattle.std.specs.Prelude.{slice_index, IfSome, IfErr}
-use Rattle.std.proofs.lemmas.Bool.{false≢true, cond_both}
 use Rattle.prolly_entry.specs.Overlay.{or_else}
 use Rattle.prolly_entry.specs.Pair.{Pair}
 use Rattle.prolly_entry.specs.Position.{Position}
 use Rattle.prolly_entry.specs.declared.version.Version.{Version}
 use Rattle.prolly_entry.specs.lemmas.Lists.{all_back}
-use Rattle.prolly_tree.specs.lemmas.Splits.{flat}
 use Rattle.prolly_file.specs.Frame.{framed, has_no_frame, IsSmall}
 use Rattle.prolly_file.specs.FrameLaws.{begins_frame, one_front}
 use Rattle.prolly_file.specs.Header.{header_tests, header_fault, version_of}
@@ -21,9 +16,7 @@ use Rattle.prolly_file.specs.declared.format.header.HeaderFault.{HeaderFault}
 use Rattle.prolly_check.specs.Content.{Content}
 use Rattle.prolly_check.specs.Entries.{Holds, IsRead, IsWhole, AreWhole}
 use Rattle.prolly_check.specs.Frames.{ending_of}
-use Rattle.prolly_check.specs.Judged.{order_fault, difference, reuse}
-use Rattle.prolly_check.specs.Judged.{or_content}
-use Rattle.prolly_check.specs.Judged.{last_behind}
+use Rattle.prolly_check.specs.Judged.{order_fault, difference, reuse, or_content, last_behind}
 use Rattle.prolly_check.specs.Refusal.{UnlessMemory, fault_of_header}
 use Rattle.prolly_check.specs.Verdict.{IsRefusal, ReadVerdict, EndVerdict, FramesVerdict}
 use Rattle.prolly_check.specs.Verdict.{HeaderVerdict, OneVerdict, IsVerdict}
@@ -55,10 +48,8 @@ pub framed_one : (cs ds : List (List ℕ)) (x y : List ℕ) → AllByRecursion I
     AllByRecursion IsSmall ds → has_no_frame x ≡ true → has_no_frame y ≡ true →
     flat_map framed cs ++ x ≡ flat_map framed ds ++ y → Same cs ds x y
 framed_one [] [] x y h k a b e = record { chunks = refl; tail = e }
-framed_one [] (d ∷ ds) x y h k a b e =
-    search (rules, common_steps, false≢true, begins_frame, regroup)
-framed_one (c ∷ cs) [] x y h k a b e =
-    search (rules, common_steps, false≢true, begins_frame, regroup)
+framed_one [] (d ∷ ds) x y h k a b e = search (rules, begins_frame, regroup)
+framed_one (c ∷ cs) [] x y h k a b e = search (rules, begins_frame, regroup)
 framed_one (c ∷ cs) (d ∷ ds) x y h k a b e =
     let p = one_front c d (flat_map framed cs ++ x) (flat_map framed ds ++ y) h.0 k.0
     (sym (regroup c cs x) ∙ e ∙ regroup d ds y) in
@@ -76,15 +67,15 @@ module _ (version : Version) where
   not_bad : (cs before : List (List ℕ)) (c : List ℕ) (after : List (List ℕ)) →
       cs ≡ before ++ c ∷ after → AreWhole version cs →
       ((pairs : List Pair) → Holds version c pairs → ⊥) → ⊥
-  not_bad cs before c after e w bad = search (rules, bad_apart, all_back)
+  not_bad cs before c after e w bad = search (rules, all_back)
 
   bad_same : (before other : List (List ℕ)) (c d : List ℕ) (after rest : List (List ℕ)) →
       before ++ c ∷ after ≡ other ++ d ∷ rest → AreWhole version before → AreWhole version other →
       ((pairs : List Pair) → Holds version c pairs → ⊥) →
       ((pairs : List Pair) → Holds version d pairs → ⊥) → length before ≡ length other
   bad_same [] [] c d after rest e h k bad worse = refl
-  bad_same [] (o ∷ other) c d after rest e h k bad worse = search (rules, bad_apart, head_is)
-  bad_same (b ∷ before) [] c d after rest e h k bad worse = search (rules, bad_apart, head_is)
+  bad_same [] (o ∷ other) c d after rest e h k bad worse = search rules
+  bad_same (b ∷ before) [] c d after rest e h k bad worse = search rules
   bad_same (b ∷ before) (o ∷ other) c d after rest e h k bad worse = simp (bad_same before other c d after rest (tail_is b o (before ++ c ∷ after) (other ++ d ∷ rest) e) h.1 k.1 bad worse)
 
   read_one : (cs : List (List ℕ)) (r s : Result (List (List Pair)) CheckFault) →
@@ -92,7 +83,7 @@ module _ (version : Version) where
   read_one cs (Ok ls) (Ok ms) h k = search (rules, lists_are)
   read_one cs (Ok ls) (Err f) h k = search (rules, not_bad, are_whole)
   read_one cs (Err f) (Ok ms) h k = search (rules, not_bad, are_whole)
-  read_one cs (Err f) (Err g) h k = grind (arith, common_steps, bad_same, are_whole)
+  read_one cs (Err f) (Err g) h k = grind (arith, bad_same, are_whole)
 
 -- ---- the verdicts
 
@@ -105,12 +96,12 @@ read_same version bits cs ending (Err f) v w h k = h ∙ sym k
 end_same : (version : Version) (bits : ℕ) (cs : List (List ℕ)) (ending : Result (List ℕ) CheckFault)
     (v w : Result Content CheckFault) →
     EndVerdict version bits cs ending v → EndVerdict version bits cs ending w → v ≡ w
-end_same version bits cs (Ok ending) v w h k = grind (arith, common_steps, read_same, read_one)
+end_same version bits cs (Ok ending) v w h k = grind (arith, read_one)
 end_same version bits cs (Err f) v w h k = h ∙ sym k
 
 frames_same : (version : Version) (bits : ℕ) (bytes : List ℕ) (v w : Result Content CheckFault) →
     FramesVerdict version bits bytes v → FramesVerdict version bits bytes w → v ≡ w
-frames_same version bits bytes v w h k = grind (arith, common_steps, framed_one, end_same)
+frames_same version bits bytes v w h k = grind (arith, framed_one, end_same)
 
 pub one_verdict : OneVerdict
 one_verdict bytes v w h k = go (header_fault header_tests bytes) h k
@@ -145,38 +136,24 @@ of_header header.BadByte = tt
 
 of_ending : (number : ℕ) (bytes : List ℕ) → ErrOfBytes (ending_of number bytes)
 of_ending number [] = tt
-of_ending number (b ∷ rest) = grind (arith, common_steps, cond_both, nat_lt)
+of_ending number (b ∷ rest) = grind arith
 
 of_order : (last : Position) (number : ℕ) (lists : List (List Pair)) →
     AnyOfBytes (order_fault last number lists)
 of_order last number [] = tt
-of_order last number (ps ∷ lists) = search (
-  rules,
-  common_steps,
-  cond_both,
-  of_order (last_behind last ps) (suc number) lists,
-)
+of_order last number (ps ∷ lists) =
+    search (rules, of_order (last_behind last ps) (suc number) lists)
 
 of_difference : (number : ℕ) (cs ds : List (List ℕ)) → AnyOfBytes (difference number cs ds)
 of_difference number [] [] = tt
 of_difference number [] (d ∷ ds) = tt
 of_difference number (c ∷ cs) [] = tt
-of_difference number (c ∷ cs) (d ∷ ds) = search (
-  rules,
-  common_steps,
-  cond_both,
-  of_difference (suc number) cs ds,
-)
+of_difference number (c ∷ cs) (d ∷ ds) = search (rules, of_difference (suc number) cs ds)
 
 of_reuse : (before : List (List ℕ)) (number : ℕ) (cs : List (List ℕ)) →
     AnyOfBytes (reuse before number cs)
 of_reuse before number [] = tt
-of_reuse before number (c ∷ cs) = search (
-  rules,
-  common_steps,
-  cond_both,
-  of_reuse (c ∷ before) (suc number) cs,
-)
+of_reuse before number (c ∷ cs) = search (rules, of_reuse (c ∷ before) (suc number) cs)
 
 of_content : (content : Content) (fault : Option CheckFault) → AnyOfBytes fault →
     ErrOfBytes (or_content content fault)
@@ -187,7 +164,7 @@ of_read : (version : Version) (bits : ℕ) (cs : List (List ℕ)) (ending : List
     (read : Result (List (List Pair)) CheckFault) (verdict : Result Content CheckFault) →
     IsRead version cs read → ReadVerdict version bits cs ending read verdict → ErrOfBytes verdict
 of_read version bits cs ending (Ok lists) verdict is so =
-    search (rules, common_steps, flat, of_content, of_order, of_difference, cond_both, of_reuse)
+    search (rules, of_content, of_order, of_difference, of_reuse)
 of_read version bits cs ending (Err fault) verdict is so = search (rules)
 
 of_end : (version : Version) (bits : ℕ) (cs : List (List ℕ)) (ending : Result (List ℕ) CheckFault)
@@ -198,7 +175,7 @@ of_end version bits cs (Err fault) verdict h so = subst ErrOfBytes (sym so) h
 
 pub verdict_of_bytes : (bytes : List ℕ) (fault : CheckFault) → IsVerdict bytes (Err fault) →
     OfBytes fault
-verdict_of_bytes bytes fault v = grind (arith, common_steps, of_header, of_end, of_ending)
+verdict_of_bytes bytes fault v = grind (arith, of_end, of_ending)
 
 -- ---- refusals of the bytes that were read
 

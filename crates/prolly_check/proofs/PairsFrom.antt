@@ -1,25 +1,22 @@
 -- What is found among the pairs of a map: at a key, from a key on, at a number.
-use Rattle.std.proofs.Common.{rules}
-use Rattle.std.proofs.lemmas.Grind.{common_steps}
 use mathlib.Core.List.{cons≢nil}
-use Rattle.std.proofs.Common.{◌≡◌, ℕ, zero, suc, ◌+◌, ◌<◌, false, cond, List, [], ◌∷◌, ◌++◌, length}
-use Rattle.std.proofs.Common.{None, Ordering, refl, sym, ap, ◌∙◌, subst, arith, ◌≤◌, Bool}
+use Rattle.std.proofs.Common.{rules, ◌≡◌, ℕ, zero, suc, ◌+◌, ◌<◌, false, cond, List, [], ◌∷◌, ◌++◌}
+use Rattle.std.proofs.Common.{length, None, Ordering, refl, sym, ap, ◌∙◌, subst, arith, ◌≤◌, Bool}
 use Rattle.std.proofs.Common.{true, not, take, drop, inl, inr, ◌⊎◌, append_assoc, append-nil}
 use Rattle.std.specs.List.{flat_map, slice_get, AllByRecursion}
 use Rattle.std.specs.Ordering.{is_lt, nat_cmp, ordering_reverse, ordering_then}
 use Rattle.std.specs.declared.cmp.Ordering.TheVariants.{Less, Equal, Greater}
-use Rattle.std.proofs.lemmas.Bool.{cond-false, false≢true, cond-true}
-use Rattle.std.proofs.lemmas.Cmp.{nat_cmp_total, tied_itself}
+use Rattle.std.proofs.lemmas.Bool.{false≢true}
+use Rattle.std.proofs.lemmas.Cmp.{nat_cmp_total}
 use Rattle.std.proofs.lemmas.List.Elements.{filter-append}
 use Rattle.prolly_entry.specs.Keys.{key_order, KeyBelow, Rising, RisingFrom}
 use Rattle.prolly_entry.specs.Pair.{Pair}
 use Rattle.prolly_entry.specs.lemmas.Lists.{all_append, all_back}
-use Rattle.prolly_entry.specs.lemmas.Orders.{order_trans, order_same, greater_below, not_eq_below}
-use Rattle.prolly_entry.specs.lemmas.Orders.{below_greater}
+use Rattle.prolly_entry.specs.lemmas.Orders.{order_trans, order_same, greater_below, below_greater}
 use Rattle.prolly_tree.specs.LookUp.{find}
 use Rattle.prolly_tree.specs.Tree.{Tree, pairs_below, greatest_key, last_key}
-use Rattle.prolly_tree.specs.lemmas.Maps.{Above, Rises, rises_front, rises_back}
-use Rattle.prolly_tree.specs.lemmas.Maps.{above_more, find_above}
+use Rattle.prolly_tree.specs.lemmas.Maps.{Above, Rises, rises_front, rises_back, above_more}
+use Rattle.prolly_tree.specs.lemmas.Maps.{find_above}
 use Rattle.prolly_file.specs.Scratch.{keys_in}
 use Rattle.prolly_check.specs.Held.{pairs_held}
 use Rattle.prolly_check.specs.Leaves.{pairs_from}
@@ -32,12 +29,7 @@ pub all_below : (ps : List Pair) (key : List ℕ) → Rises ps → KeyBelow (las
     AllByRecursion (λ p. KeyBelow p.key key) ps
 all_below [] key h k = tt
 all_below (p ∷ []) key h k = (k, tt)
-all_below (p ∷ q ∷ ps) key h k = search (
-  rules,
-  common_steps,
-  order_trans,
-  all_below (q ∷ ps) key h.1 k,
-)
+all_below (p ∷ q ∷ ps) key h k = search (rules, order_trans, all_below (q ∷ ps) key h.1 k)
 
 -- where the greatest keys of trees are below a key, all keys below them are
 pub trees_below : (level : ℕ) (ts : List (Tree level)) (key : List ℕ) →
@@ -54,7 +46,7 @@ trees_below level (t ∷ ts) key h k =
 pub find_over : (xs ys : List Pair) (key : List ℕ) → AllByRecursion (λ p. KeyBelow p.key key) xs →
     find (xs ++ ys) key ≡ find ys key
 find_over [] ys key h = refl
-find_over (p ∷ xs) ys key h = search (rules, cond-false, not_eq_below, find_over xs ys key h.1)
+find_over (p ∷ xs) ys key h = search (rules, find_over xs ys key h.1)
 
 pub find_first : (xs ys : List Pair) (key : List ℕ) → find ys key ≡ None →
     find (xs ++ ys) key ≡ find xs key
@@ -105,13 +97,13 @@ pairs_from-append from xs ys = filter-append (λ p. not (is_lt (key_order p.key 
 pub none_from : (from : List ℕ) (ps : List Pair) → AllByRecursion (λ p. KeyBelow p.key from) ps →
     pairs_from from ps ≡ []
 none_from from [] h = refl
-none_from from (p ∷ ps) h = search (rules, cond-false, none_from from ps h.1)
+none_from from (p ∷ ps) h = search (rules, none_from from ps h.1)
 
 -- pairs of which the last is not below it have one
 pub some_from : (from : List ℕ) (ps : List Pair) → 0 < length ps →
     is_lt (key_order (last_key ps) from) ≡ false → pairs_from from ps ≡ [] → ⊥
 some_from from [] some h e = absurd (omega arith)
-some_from from (p ∷ []) some h e = grind (arith, common_steps)
+some_from from (p ∷ []) some h e = grind arith
 some_from from (p ∷ q ∷ ps) some h e = go (not (is_lt (key_order p.key from)))
     (λ f. some_from from (q ∷ ps) (omega arith) h f) e
   where
@@ -125,17 +117,17 @@ some_from from (p ∷ q ∷ ps) some h e = go (not (is_lt (key_order p.key from)
 -- pairs above a key are all from it on
 pub from_all : (key : List ℕ) (ps : List Pair) → Above key ps → pairs_from key ps ≡ ps
 from_all key [] h = refl
-from_all key (p ∷ ps) h = grind (arith, common_steps, cond-true, below_greater, from_all key ps h.1)
+from_all key (p ∷ ps) h = grind (arith, below_greater, from_all key ps h.1)
 
 -- where the first one of a map is from the key on, all are
 pub from_first : (key : List ℕ) (p : Pair) (ps : List Pair) → Rises (p ∷ ps) →
     is_lt (key_order p.key key) ≡ false → pairs_from key (p ∷ ps) ≡ p ∷ ps
-from_first key p ps h here = grind (arith, common_steps, cond-true, from_all, above_not)
+from_first key p ps h here = grind (arith, from_all, above_not)
 
 -- a pair below the key is passed over
 pub from_second : (key : List ℕ) (p : Pair) (ps : List Pair) →
     is_lt (key_order p.key key) ≡ true → pairs_from key (p ∷ ps) ≡ pairs_from key ps
-from_second key p ps past = search (rules, cond-false)
+from_second key p ps past = search rules
 
 -- behind pairs of a map of which one is from the key on, all are
 pub from_behind : (key : List ℕ) (ps qs : List Pair) → Rises (ps ++ qs) →
@@ -154,12 +146,12 @@ from_behind key (p ∷ ps) qs h some = go (from_behind key ps qs h.1)
 pub all_from : (P : Pair → Type 0) (key : List ℕ) (ps : List Pair) → AllByRecursion P ps →
     AllByRecursion P (pairs_from key ps)
 all_from P key [] h = tt
-all_from P key (p ∷ ps) h = grind (arith, common_steps, all_from P key ps h.1)
+all_from P key (p ∷ ps) h = grind (arith, all_from P key ps h.1)
 
 -- they rise, too
 pub rises_from : (key : List ℕ) (ps : List Pair) → Rises ps → Rises (pairs_from key ps)
 rises_from key [] h = tt
-rises_from key (p ∷ ps) h = grind (arith, common_steps, all_from, rises_from key ps h.1)
+rises_from key (p ∷ ps) h = grind (arith, all_from, rises_from key ps h.1)
 
 -- ---- in a leaf
 
@@ -182,7 +174,7 @@ pub record ChunkScan (chunks : List (List ℕ)) (from : List ℕ) (limit first :
 -- it is above that one
 pub below_next : (key : List ℕ) → KeyBelow key (next_key key)
 below_next [] = refl
-below_next (b ∷ key) = search (rules, tied_itself, nat_cmp_total, below_next key)
+below_next (b ∷ key) = search (rules, below_next key)
 
 -- and not above any other key above it
 pub least_above : (key other : List ℕ) → KeyBelow key other →
@@ -225,15 +217,15 @@ pub record IsFoundIn (key : List ℕ) (all found : List Pair) : Type 0 where
 
 from_here : (key : List ℕ) (ps : List Pair) → NotBelow key ps → pairs_from key ps ≡ ps
 from_here key [] h = refl
-from_here key (p ∷ ps) h = search (rules, cond-true, from_all)
+from_here key (p ∷ ps) h = search (rules, from_all)
 
 from_next : (key : List ℕ) (ps : List Pair) → Above key ps → pairs_from (next_key key) ps ≡ ps
 from_next key [] h = refl
-from_next key (p ∷ ps) h = grind (arith, common_steps, cond-true, least_above, from_next key ps h.1)
+from_next key (p ∷ ps) h = grind (arith, least_above, from_next key ps h.1)
 
 -- of pairs whose keys rise, those from the key on stand behind the others
 in_leaf : (key : List ℕ) (ps : List Pair) → Rises ps → IsFoundIn key ps (pairs_from key ps)
-in_leaf key [] r = grind (arith, common_steps)
+in_leaf key [] r = grind arith
 in_leaf key (p ∷ ps) r = go (in_leaf key ps r.1) (is_lt (key_order p.key key)) refl
   where
     go : IsFoundIn key ps (pairs_from key ps) → (b : Bool) → is_lt (key_order p.key key) ≡ b →
@@ -271,7 +263,7 @@ above_back key ps after h = all_back (λ q. KeyBelow key q.key) ps after h
 -- so they are the first ones from the key on
 first_from : (key : List ℕ) (m found : List Pair) → Rises m → IsFoundIn key m found →
     AreFirstFrom key m found
-first_from key m [] r f = search (rules, append-nil, none_from)
+first_from key m [] r f = search (rules, none_from)
 first_from key m (p ∷ ps) r f =
     let found = p ∷ ps in
     let last = last_key found in
@@ -319,7 +311,7 @@ module _ (key : List ℕ) (m before pairs after : List Pair) (r : Rises m)
   behind = rises_back before (pairs ++ after) (subst Rises are r)
 
   pub find_in_part : find pairs key ≡ find m key
-  find_in_part = grind (arith, common_steps, find_over, find_first, find_above, above_some, behind)
+  find_in_part = grind (arith, find_over, find_first, find_above, above_some, behind)
 
   pub first_in_part : AreFirstFrom key m (pairs_from key pairs)
   first_in_part =

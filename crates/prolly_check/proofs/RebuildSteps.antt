@@ -1,8 +1,6 @@
 -- Rebuilding the chunks of pairs, and their end.
-use Rattle.std.proofs.Common.{rules}
-use Rattle.std.proofs.lemmas.Grind.{common_steps}
-use Rattle.std.proofs.Common.{◌≡◌, ℕ, suc, ◌+◌, ◌<◌, List, [], ◌∷◌, ◌++◌, length, drop, get_or}
-use Rattle.std.proofs.Common.{Option, Result, Ok, Err, refl, sym, ap, ◌∙◌, subst, arith}
+use Rattle.std.proofs.Common.{rules, ◌≡◌, ℕ, suc, ◌+◌, ◌<◌, List, [], ◌∷◌, ◌++◌, length, drop}
+use Rattle.std.proofs.Common.{get_or, Option, Result, Ok, Err, refl, sym, ap, ◌∙◌, subst, arith}
 use Rattle.std.proofs.Common.{append_assoc, zero, ◌^◌, ◌≤◌, take, Some, None, append-nil}
 use Rattle.std.specs.List.{flat_map}
 use Rattle.std.specs.Option.{option_to_list}
@@ -44,21 +42,15 @@ use Rattle.prolly_check.specs.declared.verdict.fault.CheckFault.TheVariants as f
 pub unused_behind : (bits : ℕ) (version : Version) (level : ℕ) (states : List (NodeState ℕ)) →
     AreUnused bits version level states → AreBehind bits version level states []
 unused_behind bits version level [] h = tt
-unused_behind bits version level (s ∷ states) h = search (
-  rules,
-  common_steps,
-  unused_behind bits version (suc level) states h.1,
-)
+unused_behind bits version level (s ∷ states) h =
+    search (rules, unused_behind bits version (suc level) states h.1)
 
 pub unused_sent : (bits : ℕ) (version : Version) (level : ℕ) (states : List (NodeState ℕ)) →
     AreUnused bits version level states → sent_through (sha512_cut bits) version level
     (length states) [] ≡ []
 unused_sent bits version level [] h = refl
-unused_sent bits version level (s ∷ states) h = search (
-  rules,
-  common_steps,
-  unused_sent bits version (suc level) states h.1,
-)
+unused_sent bits version level (s ∷ states) h =
+    search (rules, unused_sent bits version (suc level) states h.1)
 
 pub unused_more : (bits : ℕ) (version : Version) (level next : ℕ) (states : List (NodeState ℕ))
     (s : NodeState ℕ) → next ≡ level + length states → AreUnused bits version level states →
@@ -71,8 +63,7 @@ pub begun : (bits : ℕ) (version : Version) (chunks : List (List ℕ)) (rebuild
     LeafBegins sha512_cut bits rebuild.leaf →
     AreUnused bits version 1 rebuild.nodes.items → length rebuild.nodes.items ≡ node_levels →
     rebuild.references.items ≡ [] → HasTaken bits version chunks [] rebuild
-begun bits version chunks rebuild b u count none_yet =
-    search (rules, common_steps, unused_sent, unused_behind)
+begun bits version chunks rebuild b u count none_yet = search (rules, unused_sent, unused_behind)
 
 -- ---- one more pair
 
@@ -102,13 +93,13 @@ module _ (chunks : List (List ℕ)) (pair : Pair) (old : Rebuild) (leaf' : LeafS
         (sent_through (sha512_cut bits) version 1 n before)) (sym b.count) b.first))
 
     compared : AreCompared chunks (sent_of bits version (pairs ++ pair ∷ [])) after result
-    compared = grind (arith, common_steps, size, passed)
+    compared = grind (arith, passed)
 
     one_taken : (new : Rebuild) (done : Unit {0}) → result ≡ Ok done → new.leaf ≡ leaf' →
         new.nodes ≡ with_items old.nodes nodes' → new.references.items ≡ after →
         HasTaken bits version chunks (pairs ++ pair ∷ []) new
     one_taken new done ok leaf nodes references =
-        search (rules, common_steps, with_items_is, size, passed, compared)
+        search (rules, with_items_is, size, passed, compared)
 
     pub one_took : (new : Rebuild) (told : Result (Unit {0}) CheckFault) → result ≡ told →
         new.leaf ≡ leaf' → new.nodes ≡ with_items old.nodes nodes' →
@@ -158,7 +149,7 @@ pub held_next : (chunks : List (List ℕ)) (number : ℕ) (held : List Pair) →
     held ≡ pairs_held (get_or chunks number []) →
     flat_map pairs_held (drop number chunks) ≡ held ++
     flat_map pairs_held (drop (number + 1) chunks)
-held_next chunks number held within e = grind (arith, common_steps, drop-cons)
+held_next chunks number held within e = grind (arith, drop-cons)
 
 -- ---- the end of the rebuilt chunks
 
@@ -174,7 +165,7 @@ module _ (bits : ℕ) (version : Version) (pairs : List Pair) where
   sends_prefix : (level count : ℕ) → IsPrefix
       (sent_through cut version (suc level) count (clean_events level))
       (clean_events (level + count))
-  sends_prefix level zero = grind (arith, common_steps, clean_events, append-nil)
+  sends_prefix level zero = grind (arith, append-nil)
   sends_prefix level (suc count) =
       let sent = sent_through cut version (suc (suc level)) count in
       let below = clean_events level in
@@ -255,7 +246,7 @@ module _ (bits : ℕ) (version : Version) (pairs : List Pair) where
       as_many_left = same_size ∙ ap length are
 
       all_passed : Passed bits version chunks (suc b.level) nodes' (clean_events b.level) new result
-      all_passed = search (rules, sends)
+      all_passed = search rules
 
       pub ending_fault : (fault : CheckFault) → result ≡ Err fault →
           UnlessMemory (DifferAs chunks (clean_events node_levels)) fault

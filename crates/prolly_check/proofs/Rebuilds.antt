@@ -1,40 +1,38 @@
 -- Events that pass levels of nodes, and the chunks of a file.
-use Rattle.std.proofs.Common.{rules}
-use Rattle.std.proofs.lemmas.Grind.{common_steps}
-use Rattle.std.proofs.Common.{◌≡◌, ℕ, zero, suc, ◌+◌, ◌<◌, ◌≤◌, Bool, true, false, cond}
-use Rattle.std.proofs.Common.{nat_le, List, [], ◌∷◌, ◌++◌, length, map, take, drop, get_or, Option}
-use Rattle.std.proofs.Common.{Some, None, Result, Ok, Err, refl, sym, ap, ◌∙◌, subst, arith}
-use Rattle.std.proofs.Common.{append_assoc, append-nil, length-take}
+use Rattle.std.proofs.Common.{rules, ◌≡◌, ℕ, zero, suc, ◌+◌, ◌<◌, ◌≤◌, Bool, true, false, cond}
+use Rattle.std.proofs.Common.{List, [], ◌∷◌, ◌++◌, length, map, take, drop, get_or, Option, Some}
+use Rattle.std.proofs.Common.{None, Result, Ok, Err, refl, sym, ap, ◌∙◌, subst, arith, append_assoc}
+use Rattle.std.proofs.Common.{append-nil, length-take}
+use Rattle.std.specs.Option.{option_to_list}
+use Rattle.std.specs.Str.{bytes_eq}
 use Rattle.std.proofs.Math.Seq.{drop-cons}
-use Rattle.std.proofs.lemmas.Bool.{cond-true, cond-false, false_from_ne_true}
+use Rattle.std.proofs.lemmas.Bool.{cond-false, false_from_ne_true}
+use Rattle.std.proofs.lemmas.Grind.{common_steps}
 use Rattle.std.proofs.lemmas.List.{length-append, length-map, append_cancel_left, take_more}
 use Rattle.std.proofs.lemmas.List.{drop_all, map-append}
 use Rattle.std.proofs.lemmas.Result.{on_ok_weaker}
 use Rattle.std.proofs.lemmas.Slice.Eq.{bytes_eq-Decides}
-use Rattle.std.specs.Str.{bytes_eq}
-use Rattle.std.specs.Option.{option_to_list}
-use Rattle.prolly_entry.specs.declared.version.Version.{Version}
 use Rattle.prolly_entry.specs.Cut.{Cut, sha512_cut}
 use Rattle.prolly_entry.specs.Pair.{Pair}
+use Rattle.prolly_entry.specs.Prefix.{IsPrefix}
 use Rattle.prolly_entry.specs.Reference.{reference_of}
 use Rattle.prolly_entry.specs.declared.reference.Ref.{Ref}
-use Rattle.prolly_entry.specs.Prefix.{IsPrefix}
-use Rattle.prolly_tree.specs.Tree.{leaves}
+use Rattle.prolly_entry.specs.declared.version.Version.{Version}
+use Rattle.prolly_entry.specs.lemmas.Lists.{all_back}
 use Rattle.prolly_tree.specs.Chunk.{Chunk, chunk_of}
 use Rattle.prolly_tree.specs.Events.{Closing, clean, faulty, leaf_events, inner_events, group_event}
 use Rattle.prolly_tree.specs.Events.{event_is_boundary}
-use Rattle.prolly_entry.specs.lemmas.Lists.{all_back}
+use Rattle.prolly_tree.specs.Tree.{leaves}
 use Rattle.prolly_laws.specs.Stages.{fault_is_prefix, stage_step}
 use Rattle.prolly_chunk.specs.NodeLevel.{NodeState, NodeTakes, node_level}
 use Rattle.prolly_chunk.specs.lemmas.{node_passes}
-use Rattle.prolly_check.specs.declared.verdict.fault.CheckFault.{CheckFault}
-use Rattle.prolly_check.specs.declared.verdict.fault.CheckFault.TheVariants as faults
 use Rattle.prolly_check.specs.Judged.{difference}
 use Rattle.prolly_check.specs.Rebuilt.{sent_through, AreBehind, AreBelow, AreFirst, DifferAs}
 use Rattle.prolly_check.specs.Rebuilt.{AreCompared, IsExpected, Passes}
 use Rattle.prolly_check.specs.Refusal.{UnlessMemory}
+use Rattle.prolly_check.specs.declared.verdict.fault.CheckFault.{CheckFault}
 use Rattle.prolly_check.proofs.HeldPairs.{bytes_in, bytes_append}
-use Rattle.prolly_check.proofs.IndexSteps.{as_many}
+use Rattle.prolly_check.specs.declared.verdict.fault.CheckFault.TheVariants as faults
 
 -- ---- what is sent of more events goes on
 
@@ -92,25 +90,19 @@ pub difference_along : (chunks rest : List (List ℕ)) (start number : ℕ) → 
     (drop number chunks)
 difference_along chunks rest start zero h = search (rules)
 difference_along [] rest start (suc number) h = absurd (omega arith)
-difference_along (c ∷ chunks) rest start (suc number) h = search (
-  rules,
-  common_steps,
-  cond-true,
-  bytes_eq-Decides,
-  difference_along chunks rest (suc start) number (omega arith),
-)
+difference_along (c ∷ chunks) rest start (suc number) h =
+    search (rules, difference_along chunks rest (suc start) number (omega arith))
 
 -- a difference stays one
 pub still_differ : (chunks : List (List ℕ)) (sent all : List Chunk) (fault : CheckFault) →
     IsPrefix sent all →
     UnlessMemory (DifferAs chunks sent) fault → UnlessMemory (DifferAs chunks all) fault
-still_differ chunks sent all fault p =
-    search (rules, common_steps, bytes_in, bytes_append, append_assoc)
+still_differ chunks sent all fault p = search (rules, bytes_append, append_assoc)
 
 -- there are as many references as chunks that were sent
 pub as_many_sent : (chunks : List (List ℕ)) (references : List Ref) (sent : List Chunk) →
     AreFirst chunks references sent → length references ≡ length sent
-as_many_sent chunks references sent a = search (rules, as_many, bytes_in, length-map)
+as_many_sent chunks references sent a = search (rules, length-map)
 
 pub first_are : (chunks : List (List ℕ)) (references : List Ref) (sent : List Chunk) →
     AreFirst chunks references sent → bytes_in sent ≡ take (length references) chunks
@@ -126,14 +118,14 @@ module _ (chunks : List (List ℕ)) (references : List Ref) (event : Chunk) (sen
   count = as_many_sent chunks references sent a
 
   within : number ≤ length chunks
-  within = grind (arith, common_steps, count, first_are, length-map, length-take)
+  within = grind (arith, length-map, length-take)
 
   one_more : bytes_in (sent ++ event ∷ []) ≡ take number chunks ++ event.bytes ∷ []
   one_more = search (rules, bytes_append, first_are)
 
   then : (more : List (List ℕ)) → difference 0 (bytes_in (sent ++ event ∷ []) ++ more) chunks ≡
       difference number (event.bytes ∷ more) (drop number chunks)
-  then more = grind (arith, common_steps, one_more, append_assoc, difference_along, within)
+  then more = grind (arith, one_more, append_assoc, difference_along, within)
 
   pub is_past : length chunks ≤ number → DifferAs chunks (sent ++ event ∷ [])
       (faults.NotCanonical number)
@@ -154,17 +146,8 @@ module _ (chunks : List (List ℕ)) (references : List Ref) (event : Chunk) (sen
   pub is_same : (reference : Ref) → reference.0 ≡ reference_of event.bytes →
       number < length chunks → get_or chunks number [] ≡ event.bytes →
       AreFirst chunks (references ++ reference ∷ []) (sent ++ event ∷ [])
-  is_same reference is h same = search (
-    rules,
-    common_steps,
-    count,
-    length-append,
-    one_more,
-    take_more,
-    map-append,
-    bytes_in,
-    bytes_append,
-  )
+  is_same reference is h same =
+      search (rules, count, length-append, one_more, take_more, map-append, bytes_in, bytes_append)
 
 -- ---- what the levels do with an event
 
@@ -173,7 +156,7 @@ forwards : (bits : ℕ) (version : Version) (level : ℕ) (events : List Chunk) 
     suc event.level < level →
     NodeTakes sha512_cut (node_level sha512_cut bits version level events)
     (node_level sha512_cut bits version level events) event None
-forwards bits version level events event h = grind (arith, common_steps, node_passes)
+forwards bits version level events event h = grind (arith, node_passes)
 
 -- so do all levels above it
 pub behind_on : (bits : ℕ) (version : Version) (level : ℕ) (states : List (NodeState ℕ))
@@ -215,19 +198,17 @@ pub closed_below : (cut : Cut) (version : Version) (level : ℕ) (events : List 
     inner_events level cut version faulty (events ++ event ∷ []) ≡ inner_events level cut version
     faulty events ++ event ∷ option_to_list closed →
     AreBelow (suc level) (option_to_list closed)
-closed_below cut version zero events event closed e =
-    search (rules, common_steps, append_cancel_left)
+closed_below cut version zero events event closed e = search (rules, append_cancel_left)
 closed_below cut version (suc below) events event closed e =
-    search (rules, common_steps, append_cancel_left, stage_step, grouped_below)
+    search (rules, append_cancel_left, stage_step, grouped_below)
 
 pub ended_below : (cut : Cut) (version : Version) (level : ℕ) (events : List Chunk)
     (last : Option Chunk) →
     inner_events level cut version clean events ≡ inner_events level cut version faulty events ++
     option_to_list last → AreBelow (suc level) (option_to_list last)
-ended_below cut version zero events last e =
-    search (rules, common_steps, append_cancel_left, append-nil)
+ended_below cut version zero events last e = search (rules, common_steps)
 ended_below cut version (suc below) events last e =
-    search (rules, common_steps, nat_le, append_cancel_left, stage_step, grouped_below)
+    search (rules, append_cancel_left, grouped_below)
 
 leaves_below : (version : Version) (leaves : List (List Pair)) →
     AreBelow 1 (map (chunk_of version 0) leaves)
@@ -238,8 +219,7 @@ pub leaf_below : (cut : Cut) (version : Version) (closing : Closing) (pairs : Li
     (sent : List Chunk) (last : Option Chunk) →
     leaf_events cut version closing pairs ≡ sent ++ option_to_list last →
     AreBelow 1 (option_to_list last)
-leaf_below cut version closing pairs sent last e =
-    search (rules, common_steps, all_back, leaves_below)
+leaf_below cut version closing pairs sent last e = search (rules, all_back, leaves_below)
 
 -- ---- an event on its way
 

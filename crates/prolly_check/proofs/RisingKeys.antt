@@ -1,13 +1,12 @@
 -- Reading keys one after another, those of a chunk and those of a file.
-use Rattle.std.proofs.Common.{rules}
-use Rattle.std.proofs.lemmas.Grind.{common_steps}
-use Rattle.std.proofs.Common.{◌≡◌, ℕ, suc, ◌+◌, ◌<◌, Bool, true, false, ◌&&◌, List, [], ◌∷◌, ◌++◌}
-use Rattle.std.proofs.Common.{length, drop, map, get_or, Option, Some, None, refl, sym, ap, ◌∙◌}
-use Rattle.std.proofs.Common.{arith, ◌↔◌, Ordering}
+use Rattle.std.proofs.Common.{rules, ◌≡◌, ℕ, suc, ◌+◌, ◌<◌, Bool, true, false, ◌&&◌, List, [], ◌∷◌}
+use Rattle.std.proofs.Common.{◌++◌, length, drop, map, get_or, Option, Some, None, refl, sym, ap}
+use Rattle.std.proofs.Common.{◌∙◌, arith, ◌↔◌, Ordering}
 use Rattle.std.specs.Ordering.{is_lt}
 use Rattle.std.specs.declared.cmp.Ordering.TheVariants.{Less, Equal, Greater}
 use Rattle.std.proofs.Math.Seq.{drop-cons}
-use Rattle.std.proofs.lemmas.Bool.{cond-true, cond-false, false≢true, and_parts, and_from}
+use Rattle.std.proofs.lemmas.Bool.{cond-true, cond-false, false≢true}
+use Rattle.std.proofs.lemmas.Grind.{common_steps}
 use Rattle.prolly_entry.specs.Keys.{Rising, RisingFrom}
 use Rattle.prolly_entry.specs.Pair.{Pair}
 use Rattle.prolly_entry.specs.Position.{is_before, Position}
@@ -34,7 +33,7 @@ is_less Greater h = absurd (false≢true h)
 rises_is : (key : List ℕ) (ps : List Pair) → (rises_behind (Some key) ps ≡ true) ↔ RisingFrom key
     (map (λ p. p.key) ps)
 rises_is key [] = (λ h. tt, λ h. refl)
-rises_is key (p ∷ ps) = grind (arith, common_steps, and_parts, is_less, and_from, rises_is p.key ps)
+rises_is key (p ∷ ps) = grind (arith, rises_is p.key ps)
 
 pub rising_is : (ps : List Pair) → (rises_behind None ps ≡ true) ↔ Rising (map (λ p. p.key) ps)
 rising_is [] = (λ h. tt, λ h. refl)
@@ -81,7 +80,7 @@ module _ (chunks : List (List ℕ)) (last : Option (List ℕ)) (number : ℕ)
 
     pub order_falls : rises_behind last held ≡ false → order_fault None 0 (map pairs_held chunks) ≡
         Some (faults.KeysOutOfOrder number)
-    order_falls falls = grind (arith, common_steps, next, cond-false)
+    order_falls falls = grind (arith, next, cond-false)
 
 -- ---- reading the keys of one chunk, one after another
 
@@ -94,4 +93,4 @@ RisesOn (Some last) keys = RisingFrom last keys
 pub falls : (last : Position) (key : List ℕ) (keys rest : List (List ℕ)) → keys ≡ key ∷ rest →
     is_before last (Some key) ≡ false → RisesOn last keys → ⊥
 falls None key keys rest is before h = false≢true (sym before)
-falls (Some last) key keys rest is before h = search (rules, false≢true)
+falls (Some last) key keys rest is before h = search rules

@@ -1,19 +1,16 @@
 -- The numbers of a tree: its levels, the sizes of its chunks, those that others lack.
-use Rattle.std.proofs.Common.{rules}
-use Rattle.std.proofs.lemmas.Grind.{common_steps}
-use Rattle.std.proofs.Common.{◌≡◌, ℕ, ◌+◌, ◌<◌, ◌≤◌, Bool, true, false, cond, List, [], ◌∷◌, ◌++◌}
-use Rattle.std.proofs.Common.{length, take, drop, get_or, Option, Some, None, sym, ap, ◌∙◌, subst}
-use Rattle.std.proofs.Common.{arith, append-nil, not, zero, suc, ◌-◌, ◌/◌, nat_lt, nat_le, map}
-use Rattle.std.proofs.Common.{refl, length-drop, inl, inr, ◌⊎◌}
+use Rattle.std.proofs.Common.{rules, ◌≡◌, ℕ, ◌+◌, ◌<◌, ◌≤◌, Bool, true, false, cond, List, [], ◌∷◌}
+use Rattle.std.proofs.Common.{◌++◌, length, take, drop, get_or, Option, Some, None, sym, ap, ◌∙◌}
+use Rattle.std.proofs.Common.{subst, arith, not, zero, suc, ◌-◌, ◌/◌, nat_lt, nat_le, map, refl}
+use Rattle.std.proofs.Common.{length-drop, inl, inr, ◌⊎◌}
 use Rattle.std.specs.List.{flat_map, count_by, filter, slice_get, AllByRecursion}
 use Rattle.std.specs.List.Sorted.{IsPermutation, IsNonDecreasing}
 use Rattle.std.specs.Prelude.{MatchOption, is_some, sum, ◌==◌}
 use Rattle.std.specs.Str.{bytes_eq}
-use Rattle.std.proofs.lemmas.Bool.{false_from_ne_true, le-leb, le-ltb, cases_lt, eq-eqb}
-use Rattle.std.proofs.lemmas.Grind.{flat_map-append, get_or_default_zero}
-use Rattle.std.proofs.lemmas.List.{get_or_default, length-append, take-append-drop, take_more}
-use Rattle.std.proofs.lemmas.List.{get_or-drop, length-map, length-take-le, get_or_append_left}
-use Rattle.std.proofs.lemmas.List.{get_or_push}
+use Rattle.std.proofs.lemmas.Bool.{false_from_ne_true, le-leb, le-ltb, cases_lt}
+use Rattle.std.proofs.lemmas.Grind.{common_steps, flat_map-append, get_or_default_zero}
+use Rattle.std.proofs.lemmas.List.{get_or_default, length-append, take-append-drop, get_or-drop}
+use Rattle.std.proofs.lemmas.List.{length-map, length-take-le, get_or_append_left, get_or_push}
 use Rattle.std.proofs.lemmas.List.Concat.{length-flat_map}
 use Rattle.std.proofs.lemmas.List.Elements.{filter-append}
 use Rattle.std.proofs.lemmas.List.Folds.{Any-from_list_any, list_any_at}
@@ -37,9 +34,9 @@ use Rattle.prolly_check.specs.Index.{HasAt, IsIndex}
 use Rattle.prolly_check.specs.Numbers.{IsAtPlace, IsLevel, at_level, AreLevels, AreOfMap, AreSo}
 use Rattle.prolly_check.specs.Numbers.{has_reference, lacking, size_of}
 use Rattle.prolly_check.specs.Way.{level_of}
+use Rattle.prolly_check.specs.declared.index.Index.{Index}
 use Rattle.prolly_check.specs.declared.numbers.count.Level.{Level}
 use Rattle.prolly_check.specs.declared.numbers.count.Missing.{Missing}
-use Rattle.prolly_check.specs.declared.index.Index.{Index}
 use Rattle.prolly_check.proofs.CheckedFile.{chunks_last}
 use Rattle.prolly_check.proofs.HeldPairs.{bytes_append, bytes_in}
 use Rattle.prolly_check.proofs.MapTree.{height_is}
@@ -59,7 +56,7 @@ search_tells chunks reference None none = false_from_ne_true (has_reference chun
           (bytes_eq-Decides (reference_of any.1) reference).0 any.4;
     }))
 search_tells chunks reference (Some number) at =
-    search (rules, common_steps, list_any_at, bytes_eq-Decides, get_or)
+    search (rules, list_any_at, bytes_eq-Decides, get_or)
 
 -- ---- step by step
 
@@ -86,7 +83,7 @@ module _ (chunks : List (List ℕ)) (n : ℕ) (h : n < length chunks) where
   one = omega (arith, length-append chunk [])
 
   pub size_more : size_of (take (n + 1) chunks) ≡ size_of (take n chunks) + length chunk
-  size_more = grind (arith, common_steps, take_more, flat_map-append, length-append, one)
+  size_more = grind (arith, common_steps)
 
   module _ (others : List (List ℕ)) where
     abbrev is_lacked : List ℕ → Bool
@@ -94,7 +91,7 @@ module _ (chunks : List (List ℕ)) (n : ℕ) (h : n < length chunks) where
 
     parted : lacking others (take (n + 1) chunks) ≡ lacking others (take n chunks) ++
         lacking others (chunk ∷ [])
-    parted = grind (arith, common_steps, take_more, filter-append)
+    parted = grind (arith, common_steps)
 
     last : (b : Bool) → has_reference others (reference_of chunk) ≡ b →
         lacking others (chunk ∷ []) ≡ cond b [] (chunk ∷ [])
@@ -103,7 +100,7 @@ module _ (chunks : List (List ℕ)) (n : ℕ) (h : n < length chunks) where
 
     pub had : has_reference others (reference_of chunk) ≡ true →
         lacking others (take (n + 1) chunks) ≡ lacking others (take n chunks)
-    had e = search (rules, parted, last, append-nil)
+    had e = search (rules, parted)
 
     pub lacked : has_reference others (reference_of chunk) ≡ false →
         lacking others (take (n + 1) chunks) ≡ lacking others (take n chunks) ++ chunk ∷ []
@@ -113,7 +110,7 @@ module _ (chunks : List (List ℕ)) (n : ℕ) (h : n < length chunks) where
 pub passed : (index : Index) (chunks : List (List ℕ)) (n : ℕ) (missing : Missing) →
     n < length chunks → Tells index (reference_of (get_or chunks n [])) true →
     CountedTo index chunks n missing → CountedTo index chunks (n + 1) missing
-passed index chunks n missing h e c = grind (arith, common_steps, size_more, had)
+passed index chunks n missing h e c = grind (arith, size_more, had)
 
 -- one that is lacked is counted
 pub counted : (index : Index) (chunks : List (List ℕ)) (n : ℕ) (missing new : Missing) →
@@ -121,7 +118,7 @@ pub counted : (index : Index) (chunks : List (List ℕ)) (n : ℕ) (missing new 
     new.chunks ≡ missing.chunks + 1 → new.bytes ≡ missing.bytes + length (get_or chunks n []) →
     CountedTo index chunks n missing → CountedTo index chunks (n + 1) new
 counted index chunks n missing new h e chunks_are bytes_are c =
-    search (rules, common_steps, size_more, lacked, length-append, get_or, flat_map-append)
+    search (rules, size_more, lacked, length-append, get_or, flat_map-append)
 
 -- the first n are not more than all
 pub size_up_to : (chunks : List (List ℕ)) (n : ℕ) → size_of (take n chunks) ≤ size_of chunks
@@ -145,16 +142,8 @@ module _ (sizes sorted : List ℕ) (moved : IsPermutation sizes sorted)
   -- from the place on none is lower
   not_lower : (k d : ℕ) → k < length (drop place sorted) →
       cond (is_lower (get_or (drop place sorted) k d)) 1 0 ≤ 0
-  not_lower k d behind = grind (
-    arith,
-    common_steps,
-    common_steps,
-    length-drop,
-    get_or-drop,
-    get_or_default_zero,
-    le-ltb,
-    get_or,
-  )
+  not_lower k d behind =
+      grind (arith, length-drop, get_or-drop, get_or_default_zero, le-ltb, get_or)
 
   lower : count_by is_lower sizes ≤ place
   lower =
@@ -234,7 +223,7 @@ has_back number cs ds h = let e = split_level number cs ds in omega arith
 module _ (version : Version) where
   has_own : (level : ℕ) (t : Tree level) (number : ℕ) → level ≡ number →
       HasSome number (bytes_of version level t ∷ [])
-  has_own level t number e = grind (arith, common_steps, eq-eqb, height_is)
+  has_own level t number e = grind arith
 
   abbrev HasEach : LeveledTree → Type 0
   HasEach t = (number : ℕ) → number ≤ t.level →
@@ -249,7 +238,6 @@ module _ (version : Version) where
   full_has (suc level) [] full = absurd (let none : 0 < 0 = full.0 in omega arith)
   full_has (suc level) (t ∷ ts) full = search (
     rules,
-    common_steps,
     bytes_append,
     cases_lt,
     bytes_in,
@@ -274,12 +262,7 @@ module _ (version : Version) where
         ((t : Tree level) → AreWithin (bytes_in (post_order version level t))) →
         (ts : List (Tree level)) → AreWithin (bytes_in (flat_map (post_order version level) ts))
     all_within level each [] = tt
-    all_within level each (t ∷ ts) = search (
-      rules,
-      common_steps,
-      all_append,
-      all_within level each ts,
-    )
+    all_within level each (t ∷ ts) = search (rules, common_steps, all_within level each ts)
 
     tree_within : (level : ℕ) → level ≤ top → (t : Tree level) →
         AreWithin (bytes_in (post_order version level t))
@@ -301,8 +284,7 @@ pub record IsTower (chunks : List (List ℕ)) (top : ℕ) : Type 0 where
 -- so they stand, up to the level of the last
 pub is_tower : (chunks : List (List ℕ)) (root top : ℕ) → AreOfMap chunks →
     root ≡ length chunks - 1 → top ≡ level_of (get_or chunks root []) → IsTower chunks top
-is_tower chunks root top m last level =
-    search (rules, common_steps, get_or, last, chunks_last, height_is, map_has, tree_within)
+is_tower chunks root top m last level = search (rules, chunks_last, height_is, map_has, tree_within)
 
 -- ---- level by level
 

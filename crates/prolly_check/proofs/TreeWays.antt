@@ -1,13 +1,11 @@
 -- The ways of look-ups down a tree, for who knows the root alone.
-use Rattle.std.proofs.Common.{rules}
-use Rattle.std.proofs.lemmas.Grind.{common_steps}
-use Rattle.std.proofs.Common.{◌≡◌, ℕ, inl, inr, ◌⊎◌, List, [], ◌∷◌, ◌++◌, refl, sym}
-use Rattle.std.proofs.Common.{ap, ◌∙◌, subst, arith, append_assoc, append-nil, zero, suc, true}
-use Rattle.std.proofs.Common.{false, Bool}
+use Rattle.std.proofs.Common.{rules, ◌≡◌, ℕ, inl, inr, ◌⊎◌, List, [], ◌∷◌, ◌++◌, refl, sym, ap, ◌∙◌}
+use Rattle.std.proofs.Common.{subst, arith, append_assoc, append-nil, zero, suc, true, false, Bool}
 use Rattle.std.specs.List.{AllByRecursion, flat_map}
 use Rattle.std.specs.Prelude.{option_map}
 use Rattle.std.specs.Str.{bytes_eq}
 use Rattle.std.proofs.lemmas.Bool.{false≢true}
+use Rattle.std.proofs.lemmas.Grind.{common_steps}
 use Rattle.std.proofs.lemmas.List.{length-append}
 use Rattle.std.proofs.lemmas.List.Concat.{flat_map-append}
 use Rattle.std.proofs.lemmas.Option.{slice_get_past}
@@ -80,7 +78,7 @@ stands_in_all sought m pairs same = record {
 
 past_more : (sought there next : Sought) (xs ys : List Pair) → IsPast sought xs there →
     IsPast there ys next → IsPast sought (xs ++ ys) next
-past_more (Key key) (Key same) (Key other) xs ys h k = grind (arith, common_steps, all_append)
+past_more (Key key) (Key same) (Key other) xs ys h k = grind (arith, all_append)
 past_more (Key key) (Key same) (Number n) xs ys h k = absurd k
 past_more (Key key) (Number n) next xs ys h k = absurd h
 past_more (Number n) (Key key) next xs ys h k = absurd h
@@ -93,8 +91,7 @@ can_more : (version : Version) (there next : Sought) (pre own rest : List Pair) 
 can_more version (Key key) (Key other) pre own rest can past = tt
 can_more version (Key key) (Number n) pre own rest can past = absurd past
 can_more version (Number n) (Key key) pre own rest can past = absurd past
-can_more version (Number n) (Number k) pre own rest can past =
-    search (rules, common_steps, length-append)
+can_more version (Number n) (Number k) pre own rest can past = search (rules, length-append)
 
 module _ (sought : Sought) (m : List Pair) (version : Version) (level : ℕ)
     (trees : List (Tree level)) (there next : Sought) (reference : List ℕ)
@@ -113,7 +110,7 @@ module _ (sought : Sought) (m : List Pair) (version : Version) (level : ℕ)
 
   pub stands_below : StandsIn sought m there (flat_map (pairs_below level) trees) →
       StandsIn sought m next own
-  stands_below s = grind (arith, common_steps, parts, past_more, append_assoc)
+  stands_below s = grind (arith, parts, past_more, append_assoc)
 
   pub can_below : CanCount version there (flat_map (pairs_below level) trees) →
       CanCount version next own
@@ -130,25 +127,14 @@ pub tells_leaf : (sought there : Sought) (m pairs : List Pair) → Rises m →
     StandsIn sought m there pairs → Tells sought m there pairs
 tells_leaf (Key key) (Number n) m pairs rising s = absurd s.past
 tells_leaf (Number n) (Key key) m pairs rising s = absurd s.past
-tells_leaf (Key key) (Key other) m pairs rising s =
-    search (rules, common_steps, find_in_part, first_in_part)
-tells_leaf (Number n) (Number k) m pairs rising s =
-    search (rules, common_steps, nth_back, append-nil, nth_front)
+tells_leaf (Key key) (Key other) m pairs rising s = search (rules, find_in_part, first_in_part)
+tells_leaf (Number n) (Number k) m pairs rising s = search (rules, nth_back, nth_front)
 
 -- at a node, behind all of whose pairs it is
 pub tells_none : (sought there : Sought) (m pairs : List Pair) → StandsIn sought m there pairs →
     AllPast there pairs → Tells sought m there []
-tells_none sought there m pairs s all = search (
-  rules,
-  common_steps,
-  append-nil,
-  not_all_past,
-  all_append,
-  find_over,
-  none_from,
-  slice_get_past,
-  length-append,
-)
+tells_none sought there m pairs s all =
+    search (rules, all_append, find_over, none_from, slice_get_past, length-append)
 
 -- ---- the ways of look-ups down a tree, for who knows the root alone
 
@@ -174,7 +160,7 @@ module _ (version : Version) (cs : List (List ℕ)) where
       })
 
   lifted : (chunk : List ℕ) (chunks : List (List ℕ)) → Clash chunks cs → Clash (chunk ∷ chunks) cs
-  lifted chunk chunks c = grind (arith, common_steps)
+  lifted chunk chunks c = grind arith
 
   module _ (m : List Pair) (sought : Sought) where
     -- a look-up has come to the top of this tree
@@ -317,11 +303,11 @@ count_ways_are_right bits m n chunks pair few rising lawful w =
 module _ (cs : List (List ℕ)) where
   clash_front : (way : List (List ℕ)) (ways : List (List (List ℕ))) → Clash way cs →
       Clash (joined (way ∷ ways)) cs
-  clash_front way ways c = grind (arith, common_steps, in_front)
+  clash_front way ways c = grind (arith, in_front)
 
   clash_back : (way : List (List ℕ)) (ways : List (List (List ℕ))) → Clash (joined ways) cs →
       Clash (joined (way ∷ ways)) cs
-  clash_back way ways c = grind (arith, common_steps, in_back)
+  clash_back way ways c = grind (arith, in_back)
 
 -- pairs that were found before the others
 one_more : (from : List ℕ) (m found : List Pair) (lists : List (List Pair)) →
@@ -329,11 +315,11 @@ one_more : (from : List ℕ) (m found : List Pair) (lists : List (List Pair)) �
     HaveFirstFrom from m (found ∷ lists)
 one_more from m [] [] first rest = grind (arith, common_steps)
 one_more from m [] (more ∷ lists) first rest = grind (arith, common_steps)
-one_more from m (p ∷ ps) [] first rest = grind (arith, common_steps, append_assoc)
-one_more from m (p ∷ ps) (more ∷ lists) first rest = grind (arith, common_steps, append_assoc)
+one_more from m (p ∷ ps) [] first rest = grind (arith, append_assoc)
+one_more from m (p ∷ ps) (more ∷ lists) first rest = grind (arith, append_assoc)
 
 pub scans_go_on : ScansGoOn
-scans_go_on version bits m from [] [] rising lawful scanned = grind (arith, common_steps)
+scans_go_on version bits m from [] [] rising lawful scanned = grind arith
 scans_go_on version bits m from [] (way ∷ ways) rising lawful scanned = absurd scanned
 scans_go_on version bits m from (found ∷ lists) [] rising lawful scanned = absurd scanned
 scans_go_on version bits m from (found ∷ lists) (way ∷ ways) rising lawful scanned = search (

@@ -2,15 +2,14 @@
 use Rattle.std.proofs.Common.{rules}
 use Rattle.std.proofs.lemmas.Grind.{common_steps}
 use Rattle.std.proofs.Common.{◌≡◌, ◌↔◌, ℕ, zero, suc, ◌≤◌, Bool, true, false, ◌||◌, ◌==◌}
-use Rattle.std.proofs.Common.{nat_le, nat_lt, cond, List, [], ◌∷◌, ◌++◌, length, drop, Option, Some}
+use Rattle.std.proofs.Common.{cond, List, [], ◌∷◌, ◌++◌, length, drop, Option, Some}
 use Rattle.std.proofs.Common.{None, Result, Ok, Err, refl, sym, ap, ◌∙◌, subst, ◌+◌, ◌^◌, ◌<◌, map}
 use Rattle.std.proofs.Common.{arith, append_assoc}
 use Rattle.std.specs.Int.{w64, to_be_bytes}
 use Rattle.std.specs.List.{flat_map, list_any, AllByRecursion}
 use Rattle.std.specs.Prelude.{slice_index}
 use Rattle.std.specs.Str.{bytes_eq}
-use Rattle.std.proofs.lemmas.Bool.{leb-true, false≢true, and_parts, and_from, or_parts, not-false}
-use Rattle.std.proofs.lemmas.Bool.{cond-true, cond-false, or_from, false_from_ne_true, le-leb}
+use Rattle.std.proofs.lemmas.Bool.{cond-true, cond-false}
 use Rattle.std.proofs.lemmas.List.{length-append}
 use Rattle.std.proofs.lemmas.Slice.Eq.{bytes_eq-Decides}
 use Rattle.prolly_entry.specs.Cut.{sha512_cut}
@@ -84,24 +83,24 @@ record Passes (test : ℕ → Bool) (tests : List (ℕ → Bool)) (bytes : List 
 passes : (test : ℕ → Bool) (tests : List (ℕ → Bool)) (bytes : List ℕ) →
     header_fault (test ∷ tests) bytes ≡ None → Passes test tests bytes
 passes test tests [] h = absurd (some_none h)
-passes test tests (b ∷ bytes) h = grind (arith, common_steps, if_none)
+passes test tests (b ∷ bytes) h = grind arith
 
 pub record HeaderIs (bytes : List ℕ) : Type 0 where
   pub bits : slice_index bytes 5 ≤ 24
   pub is : bytes ≡ header (version_of (slice_index bytes 4)) (slice_index bytes 5) ++ drop 6 bytes
 
 version_ok : (v : ℕ) → ((v == 1) || (v == 2)) ≡ true → v ≡ version_byte (version_of v)
-version_ok v h = grind (arith, common_steps)
+version_ok v h = grind arith
 
 pub header_ok : (bytes : List ℕ) → header_fault header_tests bytes ≡ None → HeaderIs bytes
-header_ok bytes h = grind (arith, common_steps, passes, nat_le, leb-true, version_ok)
+header_ok bytes h = grind arith
 
 -- ---- the end
 
 pub ending_ok : (number : ℕ) (tail ending : List ℕ) → ending_of number tail ≡ Ok ending →
     tail ≡ 0x45 ∷ ending
 ending_ok number [] ending e = absurd (err_ok e)
-ending_ok number (b ∷ rest) ending e = grind (arith, common_steps, if_ok, nat_lt, not-false)
+ending_ok number (b ∷ rest) ending e = grind arith
 
 -- ---- the pairs
 
@@ -124,17 +123,8 @@ hold_pairs version (c ∷ cs) (ps ∷ lists) h = all_append IsPair ps (flat list
 pub order_is : (last : Position) (number : ℕ) (lists : List (List Pair)) →
     (order_fault last number lists ≡ None) ↔ (rises_behind last (flat lists) ≡ true)
 order_is last number [] = (λ h. refl, λ h. refl)
-order_is last number (ps ∷ lists) = search (
-  rules,
-  common_steps,
-  flat,
-  rises_append,
-  if_none,
-  and_from,
-  and_parts,
-  cond-true,
-  order_is (last_behind last ps) (suc number) lists,
-)
+order_is last number (ps ∷ lists) =
+    search (rules, rises_append, order_is (last_behind last ps) (suc number) lists)
 
 -- ---- the one file
 
@@ -148,7 +138,7 @@ difference_ok number (c ∷ cs) (d ∷ ds) h =
     ap (λ xs. d ∷ xs) (difference_ok (suc number) cs ds s.1)
 
 pub end_is : (found wanted : List ℕ) → (end_fault found wanted ≡ None) ↔ (found ≡ wanted)
-end_is found wanted = grind (arith, common_steps, bytes_eq-Decides, if_none, cond-true)
+end_is found wanted = grind (arith, bytes_eq-Decides)
 
 -- ---- references
 
@@ -159,21 +149,12 @@ is_new : (c : List ℕ) (before : List (List ℕ)) →
     (list_any (λ d. bytes_eq (reference_of d) (reference_of c)) before ≡ false) ↔ AllByRecursion
     (Other c) before
 is_new c [] = (λ h. tt, λ h. refl)
-is_new c (d ∷ ds) = search (
-  rules,
-  common_steps,
-  bytes_eq-Decides,
-  or_parts,
-  false≢true,
-  or_from,
-  false_from_ne_true,
-  is_new c ds,
-)
+is_new c (d ∷ ds) = search (rules, is_new c ds)
 
 all_both : (P Q : List ℕ → Type 0) (cs : List (List ℕ)) →
     AllByRecursion (λ c. P c × Q c) cs ↔ (AllByRecursion P cs × AllByRecursion Q cs)
 all_both P Q [] = (λ h. (tt, tt), λ h. tt)
-all_both P Q (c ∷ cs) = grind (arith, common_steps, all_both P Q cs)
+all_both P Q (c ∷ cs) = grind (arith, all_both P Q cs)
 
 pub reuse_is : (before : List (List ℕ)) (number : ℕ) (cs : List (List ℕ)) →
     (reuse before number cs ≡ None) ↔ (AllByRecursion (λ c. AllByRecursion (Other c) before) cs ×
@@ -214,8 +195,7 @@ pub record IsCanonical (version : Version) (bits : ℕ) (cs : List (List ℕ)) (
 pub canonical_ok : (version : Version) (bits : ℕ) (cs : List (List ℕ)) (ending : List ℕ)
     (lists : List (List Pair)) → canonical_fault version bits cs ending lists ≡ None →
     IsCanonical version bits cs ending lists
-canonical_ok version bits cs ending lists e =
-    search (rules, common_steps, flat, none_left, difference_ok, end_is)
+canonical_ok version bits cs ending lists e = search (rules, difference_ok)
 
 judged_file : (bytes : List ℕ) (content : Content) → HeaderIs bytes →
     (cs : List (List ℕ)) (ending : List ℕ) (lists : List (List Pair)) →
@@ -223,18 +203,8 @@ judged_file : (bytes : List ℕ) (content : Content) → HeaderIs bytes →
     AllHold (version_of (slice_index bytes 4)) cs lists →
     Ok content ≡ judged (version_of (slice_index bytes 4)) (slice_index bytes 5) cs ending lists →
     IsFileOf bytes content
-judged_file bytes content header cs ending lists spelled hold so = search (
-  rules,
-  flat,
-  content_ok,
-  none_left,
-  canonical_ok,
-  frames_bytes,
-  hold_pairs,
-  rising_is,
-  order_is,
-  reuse_is,
-)
+judged_file bytes content header cs ending lists spelled hold so =
+    search (rules, canonical_ok, frames_bytes, hold_pairs, rising_is, order_is, reuse_is)
 
 read_file : (bytes : List ℕ) (content : Content) → HeaderIs bytes →
     (cs : List (List ℕ)) (ending : List ℕ) →
@@ -250,13 +220,12 @@ end_file : (bytes : List ℕ) (content : Content) → HeaderIs bytes →
     (cs : List (List ℕ)) (ending : Result (List ℕ) CheckFault) → IsFramed (drop 6 bytes) cs ending →
     EndVerdict (version_of (slice_index bytes 4)) (slice_index bytes 5) cs ending (Ok content) →
     IsFileOf bytes content
-end_file bytes content header cs (Ok ending) is so =
-    search (rules, common_steps, read_file, ending_ok)
+end_file bytes content header cs (Ok ending) is so = search (rules, common_steps, read_file)
 end_file bytes content header cs (Err fault) is so = absurd (err_ok (sym so))
 
 pub accepted_is_file : (bytes : List ℕ) (content : Content) → IsVerdict bytes (Ok content) →
     IsFileOf bytes content
-accepted_is_file bytes content v = grind (arith, common_steps, err_ok, end_file, header_ok)
+accepted_is_file bytes content v = grind (arith, end_file, header_ok)
 
 -- ---- the one file and the references
 
@@ -292,16 +261,16 @@ judged_ok version bits lists pairs e rising apart =
 header_verdict : (version : Version) (bits : ℕ) (rest : List ℕ)
     (verdict : Result Content CheckFault) → bits ≤ 24 → FramesVerdict version bits rest verdict →
     IsVerdict (header version bits ++ rest) verdict
-header_verdict One bits rest verdict h f = search (rules, cond-true, le-leb)
-header_verdict Two bits rest verdict h f = search (rules, le-leb)
+header_verdict One bits rest verdict h f = search rules
+header_verdict Two bits rest verdict h f = search rules
 
 pub ending_clean : (number : ℕ) (ending : List ℕ) → length ending ≡ 28 →
     ending_of number (0x45 ∷ ending) ≡ Ok ending
-ending_clean number ending e = grind (arith, common_steps, cond-false, nat_lt)
+ending_clean number ending e = grind arith
 
 pub ending_long : (version : Version) (bits : ℕ) (pairs : List Pair) →
     length (ending_for version bits pairs) ≡ 28
-ending_long version bits pairs = grind (arith, common_steps, length-append, reference_length)
+ending_long version bits pairs = grind (arith, length-append, reference_length)
 
 -- a list is as short as one that it is a part of
 pub all_small : (cs : List (List ℕ)) (tail : List ℕ) →
@@ -321,8 +290,7 @@ pub file_framed : (version : Version) (bits : ℕ) (pairs : List Pair) →
     length (file (sha512_cut bits) version pairs) < 2 ^ 64 →
     IsFramed (flat_map frame (chunks (sha512_cut bits) version pairs) ++ 0x45 ∷ ending_for version
     bits pairs) (chunk_bytes version bits pairs) (Ok (ending_for version bits pairs))
-file_framed version bits pairs short =
-    search (rules, common_steps, frames_bytes, length-append, all_small, ending_clean, ending_long)
+file_framed version bits pairs short = search (rules, frames_bytes, all_small, ending_long)
 
 pub file_is_accepted : (bytes : List ℕ) (content : Content) → length bytes < 2 ^ 64 →
     IsFileOf bytes content → IsVerdict bytes (Ok content)

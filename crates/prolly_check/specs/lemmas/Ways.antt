@@ -1,13 +1,9 @@
 -- Where a look-up goes on, and where it ends.
-use Rattle.std.proofs.Common.{rules}
-use Rattle.std.proofs.lemmas.Grind.{common_steps}
-use Rattle.std.proofs.Common.{arith}
-use Rattle.std.proofs.Common.{◌≡◌, ℕ, List, [], ◌∷◌, ◌++◌, Option}
+use Rattle.std.proofs.Common.{rules, arith, ◌≡◌, ℕ, List, [], ◌∷◌, ◌++◌, Option}
 use Rattle.prolly_entry.specs.Reference.{reference_of}
 use Rattle.prolly_entry.specs.declared.version.Version.{Version}
 use Rattle.prolly_check.specs.Kinds.{kind_of}
-use Rattle.prolly_check.specs.Sought.{Sought, EndsAt, IsChildOf, LeadsOn}
-use Rattle.prolly_check.specs.Sought.{sought_of}
+use Rattle.prolly_check.specs.Sought.{Sought, EndsAt, IsChildOf, LeadsOn, sought_of}
 use Rattle.prolly_check.specs.Steps.{IsFlawed}
 use Rattle.prolly_check.specs.Way.{FallsTo, IsNamed, IsOrdered, Lead}
 use Rattle.prolly_check.specs.declared.entries.Entries.{Entries as EntriesOf}
@@ -21,20 +17,20 @@ use Rattle.prolly_check.specs.declared.look_up.step.ChunkFlaw.TheVariants.{Refer
 pub no_way_on : (sought : Sought) (entries : EntriesOf) (reference : List ℕ) (next : Sought) →
     EndsAt sought entries → LeadsOn sought entries reference next → ⊥
 no_way_on sought (Leaf pairs) reference next ends on = on
-no_way_on sought (Node children) reference next ends on = grind (arith, common_steps)
+no_way_on sought (Node children) reference next ends on = grind arith
 
 -- It goes on at one reference, and seeks one thing there.
 pub one_way_on : (sought : Sought) (entries : EntriesOf) (x y : List ℕ × Sought) →
     LeadsOn sought entries x.0 x.1 → LeadsOn sought entries y.0 y.1 → x ≡ y
 one_way_on sought (Leaf pairs) x y on too = absurd on
-one_way_on sought (Node children) x y on too = grind (arith, common_steps)
+one_way_on sought (Node children) x y on too = grind arith
 
 -- It goes on at the child that was found.
 pub child_leads : (sought : Sought) (entries : EntriesOf) (child : ChildSought) →
     IsChildOf sought entries child →
     LeadsOn sought entries child.reference.0 (sought_of child.sought)
 child_leads sought (Leaf pairs) child is = is
-child_leads sought (Node children) child is = grind (arith, common_steps)
+child_leads sought (Node children) child is = grind arith
 
 -- A chunk that has the reference, can be read and stands where it may has no flaw.
 pub no_flaw : (version : Version) (due : List ℕ) (above : Option ℕ) (chunk : List ℕ)
@@ -51,11 +47,9 @@ pub lead_more : (version : Version) (sought : Sought) (from : List ℕ) (chunks 
     Lead version sought from chunks to there → IsNamed version to chunk →
     LeadsOn there (kind_of version chunk) reference next →
     Lead version sought from (chunks ++ chunk ∷ []) reference next
-lead_more version sought from [] to there chunk reference next lead named on =
-    search (rules, common_steps)
+lead_more version sought from [] to there chunk reference next lead named on = search rules
 lead_more version sought from (c ∷ chunks) to there chunk reference next lead named on =
     search (
       rules,
-      common_steps,
       lead_more version lead.2 lead.1 chunks to there chunk reference next lead.4 named on,
     )

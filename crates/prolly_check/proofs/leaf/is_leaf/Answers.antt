@@ -1,6 +1,4 @@
-use Rattle.std.proofs.lemmas.Grind.{common_steps}
 use Rattle.std.proofs.Common.{arith}
-use Rattle.std.proofs.lemmas.Bool.{false≢true}
 use Rattle.prolly_check.proofs.EntryLists.{leaf_more, leaf_less, leaf_left}
 use Rattle.prolly_check.proofs.leaf.is_leaf.Goals as goal
 
@@ -13,4 +11,4 @@ loop-rest-preserved c = (
 )
 
 pub returns-clause-other : goal.returns-clause-other
-returns-clause-other c = grind (arith, common_steps, false≢true, leaf_left)
+returns-clause-other c = grind (arith, leaf_left)

@@ -1,6 +1,4 @@
-use Rattle.std.proofs.lemmas.Grind.{common_steps}
 use Rattle.std.proofs.Common.{arith}
-use Rattle.std.proofs.lemmas.Bool.{false≢true}
 use Rattle.prolly_check.proofs.EntryLists.{node_more, node_less, node_left}
 use Rattle.prolly_check.proofs.node.is_node.Goals as goal
 
@@ -13,4 +11,4 @@ loop-rest-preserved c = (
 )
 
 pub returns-clause-other : goal.returns-clause-other
-returns-clause-other c = grind (arith, common_steps, false≢true, node_left)
+returns-clause-other c = grind (arith, node_left)

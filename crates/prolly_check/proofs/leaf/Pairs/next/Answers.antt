@@ -1,5 +1,4 @@
-use Rattle.std.proofs.Common.{rules}
-use Rattle.std.proofs.Common.{sym, ◌∙◌}
+use Rattle.std.proofs.Common.{rules, sym, ◌∙◌}
 use Rattle.prolly_check.proofs.EntryLists.{next_pair, no_next, leaf_less}
 use Rattle.prolly_check.proofs.leaf.Pairs.next.Goals as goal
 

@@ -1,6 +1,4 @@
-use Rattle.std.proofs.lemmas.Grind.{common_steps}
-use Rattle.std.proofs.Common.{arith}
-use Rattle.std.proofs.Common.{[], ◌∷◌, ◌++◌}
+use Rattle.std.proofs.Common.{arith, [], ◌∷◌, ◌++◌}
 use Rattle.prolly_check.specs.FileWays.{nth_chunk}
 use Rattle.prolly_check.specs.Sought.{sought_of}
 use Rattle.prolly_check.proofs.FileDescents.{way_begins, way_ends, way_goes_on}
@@ -23,4 +21,4 @@ loop-next-preserved c =
     }
 
 pub returns-clause-end : goal.returns-clause-end
-returns-clause-end c = grind (arith, common_steps, way_ends)
+returns-clause-end c = grind (arith, way_ends)

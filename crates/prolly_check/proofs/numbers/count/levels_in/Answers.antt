@@ -19,7 +19,7 @@ numbers_of-requires-clause-some c =
     )
 
 pub numbers_of-requires-clause-small : goal.numbers_of-requires-clause-small
-numbers_of-requires-clause-small c = grind (arith, common_steps, size_within, sizes_sum)
+numbers_of-requires-clause-small c = grind (arith, size_within, sizes_sum)
 
 pub loop-number-preserved : goal.loop-number-preserved
 loop-number-preserved c = grind (arith, common_steps, one_more)

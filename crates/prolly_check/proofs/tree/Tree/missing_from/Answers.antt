@@ -1,5 +1,4 @@
-use Rattle.std.proofs.Common.{rules}
-use Rattle.std.proofs.Common.{◌∙◌, sym, ap, subst}
+use Rattle.std.proofs.Common.{rules, ◌∙◌, sym, ap, subst}
 use Rattle.prolly_check.specs.Checked.{chunks_of, content_of}
 use Rattle.prolly_check.specs.Frames.{chunks_in}
 use Rattle.prolly_check.specs.Index.{AreReferences}

@@ -1,7 +1,6 @@
-use Rattle.std.proofs.lemmas.Grind.{common_steps}
 use Rattle.std.proofs.Common.{arith}
 use Rattle.prolly_check.proofs.CheckedFile.{few_pairs}
 use Rattle.prolly_check.proofs.tree.Tree.pairs.Goals as goal
 
 pub count_pairs-requires : goal.count_pairs-requires
-count_pairs-requires c = grind (arith, common_steps, few_pairs)
+count_pairs-requires c = grind (arith, few_pairs)

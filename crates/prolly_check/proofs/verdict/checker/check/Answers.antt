@@ -1,4 +1,3 @@
-use Rattle.std.proofs.lemmas.Grind.{common_steps}
 use Rattle.std.proofs.Common.{arith}
 use Rattle.std.proofs.lemmas.Result.{IfErr-weaker}
 use Rattle.prolly_check.proofs.CheckedFile.{not_refused}
@@ -11,7 +10,7 @@ returns-clause-files g c = λ honest content f within. IfErr-weaker c.of.result 
     (omega arith) (c.in-Ok.ensures.whole honest) f) c.of.ensures.err
 
 pub returns-clause-refused : goal.returns-clause-refused
-returns-clause-refused g c = grind (arith, common_steps, refusal)
+returns-clause-refused g c = grind (arith, refusal)
 
 pub returns-clause-read : goal.returns-clause-read
-returns-clause-read g c = grind (arith, common_steps, no_failed_read)
+returns-clause-read g c = grind (arith, no_failed_read)

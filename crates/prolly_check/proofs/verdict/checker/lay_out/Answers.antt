@@ -1,6 +1,4 @@
-use Rattle.std.proofs.Common.{rules}
-use Rattle.std.proofs.lemmas.Grind.{common_steps}
-use Rattle.std.proofs.Common.{◌∙◌, subst}
+use Rattle.std.proofs.Common.{rules, ◌∙◌, subst}
 use Rattle.std.proofs.lemmas.Result.{err_from_is_err_and}
 use Rattle.prolly_entry.specs.lemmas.Lists.{rest_is}
 use Rattle.prolly_check.specs.Entries.{AreWhole}
@@ -20,8 +18,7 @@ returns-in_err-test_ending-clause-err c =
     c.in_err-test_ending.ensures.err)
 
 pub returns-in_err-test_chunks-clause-err : goal.returns-in_err-test_chunks-clause-err
-returns-in_err-test_chunks-clause-err c =
-    search (rules, common_steps, err_from_is_err_and, at_read, rest_is)
+returns-in_err-test_chunks-clause-err c = search (rules, at_read, rest_is)
 
 pub returns-clause-ok : goal.returns-clause-ok
 returns-clause-ok c =

@@ -1,10 +1,7 @@
-use Rattle.std.proofs.Common.{rules}
-use Rattle.std.proofs.lemmas.Grind.{common_steps}
-use Rattle.std.proofs.Common.{arith}
-use Rattle.std.proofs.Common.{inr}
+use Rattle.std.proofs.Common.{rules, arith, inr}
+use Rattle.std.proofs.Math.Logic.{⊎_map}
 use Rattle.std.proofs.lemmas.Result.{err_from_is_err_and}
 use Rattle.prolly_check.proofs.CanonicalSteps.{chunks_say, some_chunks, end_says, all_say}
-use Rattle.std.proofs.Math.Logic.{⊎_map}
 use Rattle.prolly_check.proofs.verdict.checker.test_canonical.Goals as goal
 
 pub returns-in_err-references-clause-err : goal.returns-in_err-references-clause-err
@@ -27,4 +24,4 @@ returns-in_err-test_end-clause-err c =
     c.in_err-test_end.field-0.0 c.in_err-test_end.ensures.err))
 
 pub returns-clause-ok : goal.returns-clause-ok
-returns-clause-ok c = grind (arith, common_steps, all_say)
+returns-clause-ok c = grind (arith, all_say)

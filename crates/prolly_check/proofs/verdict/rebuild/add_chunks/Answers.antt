@@ -5,7 +5,7 @@ use Rattle.prolly_check.proofs.RebuildSteps.{more_taken, fault_taking, held_next
 use Rattle.prolly_check.proofs.verdict.rebuild.add_chunks.Goals as goal
 
 pub loop-number-preserved : goal.loop-number-preserved
-loop-number-preserved c = grind (arith, common_steps, more_taken, held_next)
+loop-number-preserved c = grind (arith, common_steps, more_taken)
 
 pub returns-in_err-add_leaf : goal.returns-in_err-add_leaf
 returns-in_err-add_leaf c =

@@ -1,4 +1,3 @@
-use Rattle.std.proofs.lemmas.Grind.{common_steps}
 use Rattle.std.proofs.Common.{sym, ap, ◌∙◌, arith}
 use Rattle.prolly_entry.specs.Reference.{reference_of}
 use Rattle.prolly_check.proofs.CanonicalSteps.{equal, unequal}
@@ -6,10 +5,10 @@ use Rattle.prolly_check.proofs.Rebuilds.{is_past, is_other, is_same}
 use Rattle.prolly_check.proofs.verdict.rebuild.expect_chunk.Goals as goal
 
 pub returns-then-number-len-clause-expected : goal.returns-then-number-len-clause-expected
-returns-then-number-len-clause-expected c = grind (arith, common_steps, is_past)
+returns-then-number-len-clause-expected c = grind (arith, is_past)
 
 pub returns-then-ne-clause-expected : goal.returns-then-ne-clause-expected
-returns-then-ne-clause-expected c = grind (arith, common_steps, is_other, unequal)
+returns-then-ne-clause-expected c = grind (arith, is_other, unequal)
 
 pub returns-clause-expected : goal.returns-clause-expected
 returns-clause-expected c =

@@ -1,5 +1,4 @@
-use Rattle.std.proofs.Common.{rules}
-use Rattle.std.proofs.Common.{[]}
+use Rattle.std.proofs.Common.{rules, []}
 use Rattle.std.proofs.lemmas.Result.{err_from_is_err_and}
 use Rattle.prolly_check.proofs.RebuildSteps.{differ_by_end, verdict_fault, verdict_short, all_named}
 use Rattle.prolly_check.proofs.RebuildSteps.{verdict_none}

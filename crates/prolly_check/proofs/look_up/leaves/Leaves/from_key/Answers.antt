@@ -1,7 +1,6 @@
-use Rattle.std.proofs.Common.{rules}
-use Rattle.std.proofs.Common.{◌==◌, ◌++◌, drop, length, ap, ◌∙◌, subst, sym}
-use Rattle.std.proofs.lemmas.Bool.{false≢true}
+use Rattle.std.proofs.Common.{rules, ◌==◌, ◌++◌, drop, length, ap, ◌∙◌, subst, sym}
 use Rattle.std.specs.List.{flat_map}
+use Rattle.std.proofs.lemmas.Bool.{false≢true}
 use Rattle.std.proofs.lemmas.Bool.Decides.{Decides-eqb}
 use Rattle.std.proofs.lemmas.List.{nil_from_length}
 use Rattle.prolly_check.specs.Checked.{chunks_of}
@@ -10,12 +9,12 @@ use Rattle.prolly_check.specs.Leaves.{pairs_from}
 use Rattle.prolly_check.specs.ScanWay.{AreFirstFrom}
 use Rattle.prolly_check.specs.Sought.Sought.{Key}
 use Rattle.prolly_check.proofs.FileDescents.{end_tells}
-use Rattle.prolly_check.proofs.LeafRests.{from_leaf, from_none, leaf_is_map}
+use Rattle.prolly_check.proofs.LeafRests.{from_leaf, from_none}
 use Rattle.prolly_check.proofs.look_up.leaves.Leaves.from_key.Goals.{then-is_empty, else-is_empty}
 use Rattle.prolly_check.proofs.look_up.leaves.Leaves.from_key.Goals as goal
 
 pub rest_from-first-requires : goal.rest_from-first-requires
-rest_from-first-requires c = search (rules, leaf_is_map)
+rest_from-first-requires c = search rules
 
 pub returns : goal.returns
 returns c =
