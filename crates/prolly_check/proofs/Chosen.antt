@@ -1,7 +1,7 @@
 -- The child of a node that a look-up goes on in.
 use Rattle.std.proofs.Common.{rules, ◌≡◌, ℕ, suc, ◌+◌, ◌-◌, ◌^◌, ◌<◌, ◌≤◌, nat_lt, inl, inr, Bool}
 use Rattle.std.proofs.Common.{false, List, [], ◌∷◌, ◌++◌, length, map, Option, Some, None, refl}
-use Rattle.std.proofs.Common.{sym, ap, ◌∙◌, subst, arith, zero, drop, Bor, append_assoc}
+use Rattle.std.proofs.Common.{sym, ap, ◌∙◌, subst, arith, zero, drop, append_assoc}
 use Rattle.std.specs.List.{AllByRecursion, flat_map}
 use Rattle.std.specs.Ordering.{is_lt}
 use Rattle.std.specs.Prelude.{option_map}
@@ -23,14 +23,12 @@ use Rattle.prolly_check.specs.Entries.{Child, IsNode, children_in, IsWhole}
 use Rattle.prolly_check.specs.Kinds.{kind_of}
 use Rattle.prolly_check.specs.Leaves.{pairs_from}
 use Rattle.prolly_check.specs.Sought.{child_for, child_with, Sought, child_sought, counted_child}
-use Rattle.prolly_check.specs.Sought.{found_child, reference_and_sought, IsMark, sought_of}
+use Rattle.prolly_check.specs.Sought.{found_child, reference_and_sought, IsMark}
 use Rattle.prolly_check.specs.Sought.Sought.{Key, Number}
 use Rattle.prolly_check.specs.Way.{keys_of}
 use Rattle.prolly_check.specs.declared.entries.Entries.{Entries}
 use Rattle.prolly_check.specs.declared.entries.Entries.TheVariants.{Node}
 use Rattle.prolly_check.specs.declared.look_up.sought.Mark.{Mark}
-use Rattle.prolly_check.specs.declared.look_up.sought.Sought.{Sought as Asked}
-use Rattle.prolly_check.specs.declared.look_up.sought.Sought.TheVariants.{Key as AskedKey}
 use Rattle.prolly_check.proofs.MapTree.{child_some}
 use Rattle.prolly_check.proofs.PairsFrom.{trees_below, some_from}
 use Rattle.prolly_check.proofs.RisingKeys.{is_less}
@@ -365,20 +363,12 @@ pub begins_there : (version : Version) (chunk : List ℕ) (mark : Mark) →
     child_for key (children_in version (drop mark.offset chunk))
 begins_there version chunk mark is child others first key rising below = search (rules, passed_over)
 
-pub key_same : (asked : Asked) (key : Bor (List ℕ)) → asked ≡ AskedKey key →
-    (xs ys : List Child) → child_for key.now xs ≡ child_for key.now ys →
-    child_sought (sought_of asked) xs ≡ child_sought (sought_of asked) ys
-key_same asked key is xs ys same = grind arith
-
 -- a chunk that was tested has a level
 pub has_level : (version : Version) (chunk : List ℕ) → IsWhole version chunk → 0 < length chunk
 has_level version [] whole = absurd whole.holds
 has_level version (level ∷ entries) whole = omega arith
 
 -- ---- the children of a node
-
-same_children : (xs ys : List Child) → ◌≡◌ {A = Entries} (Node xs) (Node ys) → xs ≡ ys
-same_children xs ys same = cc
 
 module _ (version : Version) where
   -- its entries are those behind its first byte

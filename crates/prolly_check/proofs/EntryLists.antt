@@ -152,9 +152,6 @@ leaf_apart = grind (arith, pair_spellings_apart)
 pub some_leaf : (entries : List ℕ) → AreEntries pair_spelling IsPair entries → IsSomeLeaf entries
 some_leaf entries e = record { pairs = e.entries; is = record { is = e.is; lawful = e.lawful } }
 
-pub leaf_entries : (entries : List ℕ) → IsSomeLeaf entries → AreEntries pair_spelling IsPair entries
-leaf_entries entries l = record { entries = l.pairs; is = l.is.is; lawful = l.is.lawful }
-
 module _ (entries rest : List ℕ) (p : Pair) (b : BeginsWith pair_spelling IsPair entries p rest)
   where
     pub leaf_more : IsSomeLeaf rest → IsSomeLeaf entries

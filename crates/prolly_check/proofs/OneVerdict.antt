@@ -17,14 +17,13 @@ use Rattle.prolly_check.specs.Content.{Content}
 use Rattle.prolly_check.specs.Entries.{Holds, IsRead, IsWhole, AreWhole}
 use Rattle.prolly_check.specs.Frames.{ending_of}
 use Rattle.prolly_check.specs.Judged.{order_fault, difference, reuse, or_content, last_behind}
-use Rattle.prolly_check.specs.Refusal.{UnlessMemory, fault_of_header}
+use Rattle.prolly_check.specs.Refusal.{UnlessMemory}
 use Rattle.prolly_check.specs.Verdict.{IsRefusal, ReadVerdict, EndVerdict, FramesVerdict}
 use Rattle.prolly_check.specs.Verdict.{HeaderVerdict, OneVerdict, IsVerdict}
 use Rattle.prolly_check.specs.declared.verdict.fault.CheckFault.{CheckFault}
 use Rattle.prolly_check.specs.declared.verdict.fault.CheckFault.TheVariants.{BadChunk}
 use Rattle.prolly_check.proofs.HeldPairs.{lists_are, are_whole}
 use Rattle.prolly_check.specs.declared.verdict.fault.CheckFault.TheVariants as faults
-use Rattle.prolly_file.specs.declared.format.header.HeaderFault.TheVariants as header
 
 -- ---- bytes have one verdict
 
@@ -129,10 +128,6 @@ ErrOfBytes result = IfErr result OfBytes
 then : (a b : Option CheckFault) → AnyOfBytes a → AnyOfBytes b → AnyOfBytes (or_else a b)
 then None b h k = k
 then (Some fault) b h k = h
-
-of_header : (fault : HeaderFault) → OfBytes (fault_of_header fault)
-of_header header.Truncated = tt
-of_header header.BadByte = tt
 
 of_ending : (number : ℕ) (bytes : List ℕ) → ErrOfBytes (ending_of number bytes)
 of_ending number [] = tt

@@ -118,10 +118,6 @@ module _ (sought : Sought) (m : List Pair) (version : Version) (level : ℕ)
 
 -- ---- at the end
 
-not_all_past : (there : Sought) (pairs : List Pair) → AllPast there pairs → Has there pairs → ⊥
-not_all_past (Key key) pairs all has = has (none_from key pairs all)
-not_all_past (Number n) pairs all has = omega (arith, all, has)
-
 -- in the pairs of a leaf
 pub tells_leaf : (sought there : Sought) (m pairs : List Pair) → Rises m →
     StandsIn sought m there pairs → Tells sought m there pairs

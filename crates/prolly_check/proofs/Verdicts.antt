@@ -1,7 +1,7 @@
 -- Bytes are accepted exactly where they are the file of a map.
 use Rattle.std.proofs.Common.{rules}
 use Rattle.std.proofs.lemmas.Grind.{common_steps}
-use Rattle.std.proofs.Common.{◌≡◌, ◌↔◌, ℕ, zero, suc, ◌≤◌, Bool, true, false, ◌||◌, ◌==◌}
+use Rattle.std.proofs.Common.{◌≡◌, ◌↔◌, ℕ, zero, suc, ◌≤◌, Bool, true, false}
 use Rattle.std.proofs.Common.{cond, List, [], ◌∷◌, ◌++◌, length, drop, Option, Some}
 use Rattle.std.proofs.Common.{None, Result, Ok, Err, refl, sym, ap, ◌∙◌, subst, ◌+◌, ◌^◌, ◌<◌, map}
 use Rattle.std.proofs.Common.{arith, append_assoc}
@@ -18,7 +18,6 @@ use Rattle.prolly_entry.specs.Overlay.{or_else}
 use Rattle.prolly_entry.specs.Pair.{Pair, IsPair}
 use Rattle.prolly_entry.specs.Position.{Position}
 use Rattle.prolly_entry.specs.Reference.{reference_of}
-use Rattle.prolly_entry.specs.Version.{version_byte}
 use Rattle.prolly_entry.specs.declared.version.Version.{Version}
 use Rattle.prolly_entry.specs.declared.version.Version.TheVariants.{One, Two}
 use Rattle.prolly_entry.specs.lemmas.Lists.{all_append}
@@ -34,7 +33,7 @@ use Rattle.prolly_check.specs.Entries.{Holds, AllHold, IsRead}
 use Rattle.prolly_check.specs.Frames.{ending_of, IsFramed}
 use Rattle.prolly_check.specs.Held.{pairs_held}
 use Rattle.prolly_check.specs.Judged.{order_fault, difference, end_fault, reuse, chunk_bytes}
-use Rattle.prolly_check.specs.Judged.{ending_for, canonical_fault, or_content, judged, rises_behind}
+use Rattle.prolly_check.specs.Judged.{ending_for, canonical_fault, judged, rises_behind}
 use Rattle.prolly_check.specs.Judged.{last_behind}
 use Rattle.prolly_check.specs.Verdict.{ReadVerdict, EndVerdict, IsVerdict, AllApart}
 use Rattle.prolly_check.specs.Verdict.{IsFileOf, FramesVerdict, AcceptsFiles}
@@ -88,9 +87,6 @@ passes test tests (b ∷ bytes) h = grind arith
 pub record HeaderIs (bytes : List ℕ) : Type 0 where
   pub bits : slice_index bytes 5 ≤ 24
   pub is : bytes ≡ header (version_of (slice_index bytes 4)) (slice_index bytes 5) ++ drop 6 bytes
-
-version_ok : (v : ℕ) → ((v == 1) || (v == 2)) ≡ true → v ≡ version_byte (version_of v)
-version_ok v h = grind arith
 
 pub header_ok : (bytes : List ℕ) → header_fault header_tests bytes ≡ None → HeaderIs bytes
 header_ok bytes h = grind arith
@@ -176,11 +172,6 @@ reuse_is before number (c ∷ cs) =
 
 -- ---- all of it
 
-content_ok : (is content : Content) (fault : Option CheckFault) → Ok content ≡ or_content is fault →
-    (content ≡ is) × (fault ≡ None)
-content_ok is content None e = (ok_same content is e, refl)
-content_ok is content (Some fault) e = absurd (err_ok (sym e))
-
 pub none_left : (a b : Option CheckFault) → or_else a b ≡ None → (a ≡ None) × (b ≡ None)
 none_left None b e = (refl, e)
 none_left (Some x) b e = absurd (some_none e)
@@ -263,10 +254,6 @@ header_verdict : (version : Version) (bits : ℕ) (rest : List ℕ)
     IsVerdict (header version bits ++ rest) verdict
 header_verdict One bits rest verdict h f = search rules
 header_verdict Two bits rest verdict h f = search rules
-
-pub ending_clean : (number : ℕ) (ending : List ℕ) → length ending ≡ 28 →
-    ending_of number (0x45 ∷ ending) ≡ Ok ending
-ending_clean number ending e = grind arith
 
 pub ending_long : (version : Version) (bits : ℕ) (pairs : List Pair) →
     length (ending_for version bits pairs) ≡ 28
