@@ -10,8 +10,8 @@ use Rattle.prolly_entry.specs.Pair.{Pair}
 use Rattle.prolly_entry.specs.declared.reference.Ref.{Ref}
 use Rattle.prolly_entry.specs.declared.version.Version.{Version}
 use Rattle.prolly_tree.specs.File.{end_record}
+use Rattle.prolly_check.specs.Checked.{AreReferences}
 use Rattle.prolly_check.specs.Held.{pairs_held}
-use Rattle.prolly_check.specs.Index.{AreReferences}
 use Rattle.prolly_check.specs.Judged.{Says, CompareAs, ending_of_chunks, order_fault, chunk_bytes}
 use Rattle.prolly_check.specs.Judged.{ending_for}
 use Rattle.prolly_check.specs.declared.verdict.fault.CheckFault.{CheckFault}

@@ -24,16 +24,15 @@ use Rattle.prolly_file.specs.Frame.{framed, has_no_frame, IsSmall, BeginsFrame}
 use Rattle.prolly_file.specs.FrameLaws.{frames_bytes}
 use Rattle.prolly_file.specs.Header.{header_tests, header_fault, version_of}
 use Rattle.prolly_file.specs.declared.format.header.Header.{Header}
-use Rattle.prolly_check.specs.Checked.{chunks_of, IsChecked, content_of, IsLaidOut}
+use Rattle.prolly_check.specs.Checked.{chunks_of, IsChecked, content_of, IsLaidOut, HasAt, IsIndex}
 use Rattle.prolly_check.specs.Content.{Content, root_bytes}
 use Rattle.prolly_check.specs.Entries.{IsBad, IsRead, IsWhole, AreWhole}
 use Rattle.prolly_check.specs.Frames.{ending_of, IsFramed, chunks_in, FramesTo, chunk_in, IsWithin}
 use Rattle.prolly_check.specs.Held.{pairs_held}
-use Rattle.prolly_check.specs.Index.{HasAt, IsIndex}
 use Rattle.prolly_check.specs.Judged.{Says, chunk_bytes, reuse, canonical_fault, or_content, judged}
 use Rattle.prolly_check.specs.Numbers.{size_of}
-use Rattle.prolly_check.specs.Refusal.{UnlessMemory}
-use Rattle.prolly_check.specs.Verdict.{IsVerdict, IsFileOf, ReadVerdict, FramesVerdict}
+use Rattle.prolly_check.specs.Verdict.{UnlessMemory, IsVerdict, IsFileOf, ReadVerdict}
+use Rattle.prolly_check.specs.Verdict.{FramesVerdict}
 use Rattle.prolly_check.specs.declared.index.Index.{Index}
 use Rattle.prolly_check.specs.declared.verdict.fault.CheckFault.{CheckFault}
 use Rattle.prolly_check.proofs.EntryLists.{leaf_pairs}

@@ -10,11 +10,10 @@ use Rattle.prolly_entry.specs.lemmas.Lists.{all_append}
 use Rattle.prolly_tree.specs.Chunk.{IsIn, chunk_of}
 use Rattle.prolly_tree.specs.Tree.{bytes_of, pairs_below}
 use Rattle.prolly_laws.specs.Trees.{top_in}
-use Rattle.prolly_check.specs.Checked.{HasFile, HasReference, chunks_of}
+use Rattle.prolly_check.specs.Checked.{HasFile, HasReference, chunks_of, HasAt}
 use Rattle.prolly_check.specs.Content.{Content, root_bytes}
 use Rattle.prolly_check.specs.FileWays.{IsCounted, IsEnd, IsNamedAt, IsNext, IsTop, nth_chunk}
 use Rattle.prolly_check.specs.Held.{pairs_held}
-use Rattle.prolly_check.specs.Index.{HasAt}
 use Rattle.prolly_check.specs.Kinds.{kind_of}
 use Rattle.prolly_check.specs.Sought.{Sought, EndsAt, LeadsOn, sought_of}
 use Rattle.prolly_check.specs.Sought.Sought.{Key, Number}

@@ -17,9 +17,8 @@ use Rattle.prolly_check.specs.Content.{Content}
 use Rattle.prolly_check.specs.Entries.{Holds, IsRead, IsWhole, AreWhole}
 use Rattle.prolly_check.specs.Frames.{ending_of}
 use Rattle.prolly_check.specs.Judged.{order_fault, difference, reuse, or_content, last_behind}
-use Rattle.prolly_check.specs.Refusal.{UnlessMemory}
-use Rattle.prolly_check.specs.Verdict.{IsRefusal, ReadVerdict, EndVerdict, FramesVerdict}
-use Rattle.prolly_check.specs.Verdict.{HeaderVerdict, OneVerdict, IsVerdict}
+use Rattle.prolly_check.specs.Verdict.{UnlessMemory, IsRefusal, ReadVerdict, EndVerdict}
+use Rattle.prolly_check.specs.Verdict.{FramesVerdict, HeaderVerdict, OneVerdict, IsVerdict}
 use Rattle.prolly_check.specs.declared.verdict.fault.CheckFault.{CheckFault}
 use Rattle.prolly_check.specs.declared.verdict.fault.CheckFault.TheVariants.{BadChunk}
 use Rattle.prolly_check.proofs.HeldPairs.{lists_are, are_whole}

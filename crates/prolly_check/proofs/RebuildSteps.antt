@@ -21,13 +21,13 @@ use Rattle.prolly_laws.specs.Stages.{fault_is_prefix, enough_stages}
 use Rattle.prolly_laws.specs.Trees.{few_levels}
 use Rattle.prolly_chunk.specs.LeafLevel.{LeafState, LeafBegins, LeafTakes, LeafEnds}
 use Rattle.prolly_chunk.specs.NodeLevel.{NodeState, NodeBegins, NodeEnds}
+use Rattle.prolly_check.specs.Checked.{AreReferences}
 use Rattle.prolly_check.specs.Held.{pairs_held}
-use Rattle.prolly_check.specs.Index.{AreReferences}
 use Rattle.prolly_check.specs.Judged.{difference, chunk_bytes}
 use Rattle.prolly_check.specs.Rebuilt.{node_levels, sent_through, sent_of, AreBehind, AreFirst}
 use Rattle.prolly_check.specs.Rebuilt.{AreCompared, AreUnused, DifferAs, Passed, Passes, HasTaken}
 use Rattle.prolly_check.specs.Rebuilt.{Takes, Took, AreBelow}
-use Rattle.prolly_check.specs.Refusal.{UnlessMemory}
+use Rattle.prolly_check.specs.Verdict.{UnlessMemory}
 use Rattle.prolly_check.specs.declared.verdict.fault.CheckFault.{CheckFault}
 use Rattle.prolly_check.specs.declared.verdict.rebuild.Rebuild.{Rebuild}
 use Rattle.prolly_check.proofs.HeldPairs.{bytes_in}

@@ -29,7 +29,7 @@ use Rattle.prolly_chunk.specs.lemmas.{node_passes}
 use Rattle.prolly_check.specs.Judged.{difference}
 use Rattle.prolly_check.specs.Rebuilt.{sent_through, AreBehind, AreBelow, AreFirst, DifferAs}
 use Rattle.prolly_check.specs.Rebuilt.{AreCompared, IsExpected, Passes}
-use Rattle.prolly_check.specs.Refusal.{UnlessMemory}
+use Rattle.prolly_check.specs.Verdict.{UnlessMemory}
 use Rattle.prolly_check.specs.declared.verdict.fault.CheckFault.{CheckFault}
 use Rattle.prolly_check.proofs.HeldPairs.{bytes_in, bytes_append}
 use Rattle.prolly_check.specs.declared.verdict.fault.CheckFault.TheVariants as faults

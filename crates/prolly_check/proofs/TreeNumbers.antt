@@ -30,7 +30,7 @@ use Rattle.prolly_tree.specs.Split.{split}
 use Rattle.prolly_tree.specs.Tree.{LeveledTree, Tree, bytes_of, tree_of}
 use Rattle.prolly_tree.specs.lemmas.Trees.{Full}
 use Rattle.prolly_laws.specs.Trees.{grow_is, tree_full}
-use Rattle.prolly_check.specs.Index.{HasAt, IsIndex}
+use Rattle.prolly_check.specs.Checked.{HasAt, IsIndex}
 use Rattle.prolly_check.specs.Numbers.{IsAtPlace, IsLevel, at_level, AreLevels, AreOfMap, AreSo}
 use Rattle.prolly_check.specs.Numbers.{has_reference, lacking, size_of}
 use Rattle.prolly_check.specs.Way.{level_of}

@@ -10,18 +10,14 @@ pub mod Sought
 pub mod Held
 -- What the entries of a chunk are.
 pub mod Kinds
--- Refusals of the checker.
-pub mod Refusal
--- What is wrong with the pairs and the chunks of a file that is well formed: the first fault.
-pub mod Judged
 -- Which bytes are the file of a map, and which fault others have.
 pub mod Verdict
--- Finding chunks by their references.
-pub mod Index
+-- What is wrong with the pairs and the chunks of a file that is well formed: the first fault.
+pub mod Judged
+-- What is kept of a file that was accepted, and how its chunks are found by their references.
+pub mod Checked
 -- The numbers of a tree: its levels, and the chunks that others lack.
 pub mod Numbers
--- What is kept of a file that was accepted.
-pub mod Checked
 -- How a look-up goes down a tree.
 pub mod Descent
 -- Pairs that were found by a number.

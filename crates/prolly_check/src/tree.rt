@@ -7,8 +7,7 @@ ghost use Rattle.prolly_tree.specs.File.{root_reference};
 ghost use Rattle.prolly_tree.specs.LookUp.{find, nth, scan};
 ghost use Rattle.prolly_check.specs.Content.{Content};
 ghost use Rattle.prolly_check.specs.Counted.{pair_of};
-ghost use Rattle.prolly_check.specs.Refusal.{UnlessMemory};
-ghost use Rattle.prolly_check.specs.Verdict.{IsVerdict, IsFileOf};
+ghost use Rattle.prolly_check.specs.Verdict.{UnlessMemory, IsVerdict, IsFileOf};
 ghost use Rattle.prolly_check.specs.Way.{IsWay};
 ghost use Rattle.prolly_check.specs.Checked.{IsChecked, IsFile, HasFile, chunks_of};
 ghost use Rattle.prolly_check.specs.Numbers.{AreLevels, AreOfMap, AreSo, lacking, size_of};
@@ -44,8 +43,7 @@ impl Model for Tree {
 
     ghost Value = { List ℕ };
 
-    ghost use Rattle.prolly_check.specs.Checked.{IsChecked};
-    ghost use Rattle.prolly_check.specs.Index.{AreReferences};
+    ghost use Rattle.prolly_check.specs.Checked.{IsChecked, AreReferences};
     ghost use Rattle.prolly_check.specs.Frames.{chunks_in};
 
     ghost view = { λ tree. tree.bytes.items };

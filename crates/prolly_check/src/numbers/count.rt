@@ -1,7 +1,7 @@
 //! What a tree has, in numbers: its pairs, the bytes of its chunks, its levels, and what who has
 //! another tree lacks of it.
 ghost use Rattle.std.specs.Prelude.{◌≡◌, ◌<◌, ◌^◌, ℕ, List, length, map, sum, IfOk};
-ghost use Rattle.prolly_check.specs.Index.{AreReferences, IsIndex};
+ghost use Rattle.prolly_check.specs.Checked.{AreReferences, IsIndex};
 ghost use Rattle.prolly_check.specs.Numbers.{AreLevels, AreOfMap, IsLevel, at_level, AreSo};
 ghost use Rattle.prolly_check.specs.Numbers.{lacking, size_of};
 

@@ -3,12 +3,10 @@ ghost use Rattle.std.specs.Prelude.{◌≡◌, ◌≢◌, ◌↔◌, ◌⊎◌, 
 ghost use Rattle.std.specs.Prelude.{length, Err, IfOk, OnOk, IfErr, IsErrOf};
 ghost use Rattle.std.specs.List.{flat_map};
 ghost use Rattle.prolly_check.specs.Judged.{Says, ending_of_chunks};
-ghost use Rattle.prolly_check.specs.Verdict.{IsRefusal, IsFileOf, IsVerdict};
-ghost use Rattle.prolly_check.specs.Checked.{IsChecked, IsFile, IsLaidOut};
+ghost use Rattle.prolly_check.specs.Verdict.{IsRefusal, IsFileOf, IsVerdict, UnlessMemory};
+ghost use Rattle.prolly_check.specs.Checked.{IsChecked, IsFile, IsLaidOut, AreReferences};
 ghost use Rattle.prolly_check.specs.Content.{Content};
 ghost use Rattle.prolly_check.specs.Held.{pairs_held};
-ghost use Rattle.prolly_check.specs.Index.{AreReferences};
-ghost use Rattle.prolly_check.specs.Refusal.{UnlessMemory};
 ghost use Rattle.prolly_check.specs.Frames.{chunks_in};
 
 use crate::chunks::{Chunks, Layout};

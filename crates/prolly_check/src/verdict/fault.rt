@@ -46,7 +46,7 @@ impl From<AllocError> for CheckFault {
 
 impl From<WholeFault> for CheckFault {
     ghost use Rattle.std.specs.Prelude.{◌≡◌};
-    ghost use Rattle.prolly_check.specs.Refusal.{fault_of};
+    ghost use Rattle.prolly_check.specs.Verdict.{fault_of};
 
     ghost from_gives = { λ whole fault. fault ≡ fault_of whole };
 
@@ -61,7 +61,7 @@ impl From<WholeFault> for CheckFault {
 
 impl From<HeaderFault> for CheckFault {
     ghost use Rattle.std.specs.Prelude.{◌≡◌};
-    ghost use Rattle.prolly_check.specs.Refusal.{fault_of_header};
+    ghost use Rattle.prolly_check.specs.Verdict.{fault_of_header};
 
     ghost from_gives = { λ header fault. fault ≡ fault_of_header header };
 

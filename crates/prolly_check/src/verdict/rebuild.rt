@@ -4,10 +4,10 @@ ghost use Rattle.std.specs.Prelude.{IfOk, IfErr};
 ghost use Rattle.std.specs.List.{flat_map};
 ghost use Rattle.prolly_check.specs.Judged.{CompareAs};
 ghost use Rattle.prolly_check.specs.Held.{pairs_held};
-ghost use Rattle.prolly_check.specs.Index.{AreReferences};
+ghost use Rattle.prolly_check.specs.Checked.{AreReferences};
 ghost use Rattle.prolly_check.specs.Rebuilt.{AreUnused, Ends, HasTaken, IsExpected, Passes, Takes};
 ghost use Rattle.prolly_check.specs.Rebuilt.{node_levels};
-ghost use Rattle.prolly_check.specs.Refusal.{UnlessMemory};
+ghost use Rattle.prolly_check.specs.Verdict.{UnlessMemory};
 
 use crate::chunks::Chunks;
 use crate::leaf::Pairs;
