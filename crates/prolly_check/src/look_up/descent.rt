@@ -72,12 +72,8 @@ fn below<'a>(file: &CheckedFile<'_>, at: At<'a>) -> Option<At<'a>>
     ensures ends { IfNone result (EndsAt (sought_of at.entry.sought)
         (kind_of file.now.version (nth_chunk file.now at.entry.number))) }
 {
-    let child = step_of(
-        file.version(),
-        file.chunk(at.number),
-        Mark::first(),
-        at.sought,
-    )?;
+    let chunk = file.chunk(at.number);
+    let child = step_of(file.version(), chunk, Mark::first(), at.sought)?;
     Some(At {
         number: file.child(&child.reference),
         sought: child.sought,
