@@ -2,22 +2,26 @@
 use Rattle.std.proofs.Common.{rules, ◌≡◌, ℕ, zero, suc, ◌-◌, ◌^◌, ◌<◌, List, [], ◌∷◌, ◌++◌, length}
 use Rattle.std.proofs.Common.{map, get_or, Ok, Err, inl, inr, ◌⊎◌, refl, sym, ap, ◌∙◌, subst, arith}
 use Rattle.std.proofs.Common.{◌≤◌, drop, length-drop, true, Option, Some, None, Result, ◌+◌, take}
-use Rattle.std.proofs.Common.{append_assoc, append-nil}
+use Rattle.std.proofs.Common.{append_assoc, append-nil, false, not}
 use Rattle.std.specs.Int.{w64, to_be_bytes}
 use Rattle.std.specs.List.{flat_map, AllByRecursion}
 use Rattle.std.specs.Prelude.{slice_index}
+use Rattle.std.specs.Str.{bytes_eq}
 use Rattle.std.specs.declared.ops.Range.{Range}
+use Rattle.std.proofs.lemmas.Bool.{false≢true, not-false}
 use Rattle.std.proofs.lemmas.Grind.{common_steps}
 use Rattle.std.proofs.lemmas.List.{length-append, length-map, map_push, length-take-le, drop-drop}
 use Rattle.std.proofs.lemmas.List.Concat.{flat_map-append}
+use Rattle.std.proofs.lemmas.Slice.Eq.{bytes_eq-Decides}
 use Rattle.prolly_entry.specs.Cut.{sha512_cut}
 use Rattle.prolly_entry.specs.Pair.{Pair}
 use Rattle.prolly_entry.specs.Reference.{reference_of}
 use Rattle.prolly_entry.specs.Spelling.{pair_spelling}
+use Rattle.prolly_entry.specs.declared.reference.Ref.{Ref}
 use Rattle.prolly_entry.specs.declared.version.Version.{Version}
 use Rattle.prolly_entry.specs.lemmas.Lists.{all_append}
 use Rattle.prolly_tree.specs.Chunk.{Chunk, chunk_of, chunks, post_order, IsIn}
-use Rattle.prolly_tree.specs.File.{header}
+use Rattle.prolly_tree.specs.File.{header, end_record}
 use Rattle.prolly_tree.specs.Tree.{Tree, bytes_of, tree_of}
 use Rattle.prolly_tree.specs.lemmas.Splits.{flat}
 use Rattle.prolly_file.specs.Frame.{framed, has_no_frame, IsSmall, BeginsFrame}
@@ -25,11 +29,13 @@ use Rattle.prolly_file.specs.FrameLaws.{frames_bytes}
 use Rattle.prolly_file.specs.Header.{header_tests, header_fault, version_of}
 use Rattle.prolly_file.specs.declared.format.header.Header.{Header}
 use Rattle.prolly_check.specs.Checked.{chunks_of, IsChecked, content_of, IsLaidOut, HasAt, IsIndex}
+use Rattle.prolly_check.specs.Checked.{AreReferences}
 use Rattle.prolly_check.specs.Content.{Content, root_bytes}
 use Rattle.prolly_check.specs.Entries.{IsBad, IsRead, IsWhole, AreWhole}
 use Rattle.prolly_check.specs.Frames.{ending_of, IsFramed, chunks_in, FramesTo, chunk_in, IsWithin}
 use Rattle.prolly_check.specs.Held.{pairs_held}
 use Rattle.prolly_check.specs.Judged.{Says, chunk_bytes, reuse, canonical_fault, or_content, judged}
+use Rattle.prolly_check.specs.Judged.{CompareAs, ending_of_chunks, order_fault, ending_for}
 use Rattle.prolly_check.specs.Numbers.{size_of}
 use Rattle.prolly_check.specs.Verdict.{UnlessMemory, IsVerdict, IsFileOf, ReadVerdict}
 use Rattle.prolly_check.specs.Verdict.{FramesVerdict}
@@ -37,9 +43,10 @@ use Rattle.prolly_check.specs.declared.index.Index.{Index}
 use Rattle.prolly_check.specs.declared.verdict.fault.CheckFault.{CheckFault}
 use Rattle.prolly_check.proofs.EntryLists.{leaf_pairs}
 use Rattle.prolly_check.proofs.HeldPairs.{map_holds, all_hold, flat_held}
+use Rattle.prolly_check.proofs.IndexSteps.{as_many, reference_at}
 use Rattle.prolly_check.proofs.OneVerdict.{one_verdict}
 use Rattle.prolly_check.proofs.Verdicts.{file_is_accepted, ok_same, err_ok, header_ok, ending_ok}
-use Rattle.prolly_check.proofs.Verdicts.{canonical_ok, accepted_is_file}
+use Rattle.prolly_check.proofs.Verdicts.{canonical_ok, accepted_is_file, difference_ok}
 use Rattle.prolly_check.specs.declared.verdict.fault.CheckFault.TheVariants as faults
 
 -- ---- what is known of a file that was accepted
@@ -156,7 +163,7 @@ root_there content number is = search (rules, chunks_last)
 pub number_of : (chunks : List (List ℕ)) (reference : List ℕ) (chunk : List ℕ) →
     IsIn chunk chunks → reference_of chunk ≡ reference → (n : ℕ) × HasAt chunks n reference
 number_of [] reference chunk is_in is = absurd is_in
-number_of (c ∷ cs) reference chunk (inl e) is = search (rules)
+number_of (c ∷ cs) reference chunk (inl e) is = search rules
 number_of (c ∷ cs) reference chunk (inr there) is =
     let at = number_of cs reference chunk there is in
     let within = at.1.within in
@@ -192,7 +199,7 @@ module _ (bytes : List ℕ) (header : Header) (spans : List (Range ℕ)) (place 
     module _ (rest : List ℕ) (number : ℕ) (left : rest ≡ drop place bytes)
         (count : number ≡ length spans) where
       ending_is : ending_of (length spans) (drop place bytes) ≡ ending_of number rest
-      ending_is = search (rules)
+      ending_is = search rules
 
       pub at_ending : (fault : CheckFault) → ending_of number rest ≡ Err fault →
           Refused bytes fault
@@ -230,7 +237,7 @@ module _ (bytes : List ℕ) (header : Header) (spans : List (Range ℕ)) (place 
           reached = frames.reached;
           ending = drop 1 rest;
           behind = sym left ∙ ending_ok number rest (drop 1 rest) ended;
-          so = λ verdict e. read_so (Ok lists) verdict (all_hold header.version cs whole) e;
+          so = read_so (Ok lists) _ (all_hold header.version cs whole) refl;
         }
 
   -- ---- the chunks of the pairs, and the references
@@ -248,7 +255,7 @@ module _ (bytes : List ℕ) (header : Header) (spans : List (Range ℕ)) (place 
 
           says : (o : Option CheckFault) → Says header.version cut chunks rest o →
               canonical_fault header.version header.bits cs l.ending lists ≡ o
-          says o h = search (rules)
+          says o h = search rules
 
           pub at_canonical : (fault : CheckFault) →
               UnlessMemory (λ fault. Says header.version cut chunks rest (Some fault)) fault →
@@ -273,7 +280,7 @@ module _ (bytes : List ℕ) (header : Header) (spans : List (Range ℕ)) (place 
                 record {
                   is = subst (IsFileOf bytes) content
                       (accepted_is_file bytes it
-                      (l.so (Ok it) (sym (then_reuse ∙ ap (or_content it) apart))));
+                      (subst (IsVerdict bytes) (then_reuse ∙ ap (or_content it) apart) l.so));
                   chunks_are = subst (λ content. cs ≡ chunks_of content) content
                       (sym (canonical_ok header.version header.bits cs l.ending lists
                       (says None canonical)).same);
@@ -321,3 +328,49 @@ one_more bytes spans place len f b =
           (subst IsSmall chunk (let s : len < 2 ^ 64 = b.small in omega arith), tt));
       within = all_append (IsWithin bytes) spans (span ∷ []) f.within ((omega arith, fits), tt);
     }
+
+-- ---- the tests against the file of the pairs
+
+-- what `!=` of bytes says
+pub unequal : (x y : List ℕ) → true ≡ not (bytes_eq x y) → x ≡ y → ⊥
+unequal x y e f = false≢true (sym (e ∙ ap not ((bytes_eq-Decides x y).1 f)))
+
+pub equal : (x y : List ℕ) → false ≡ not (bytes_eq x y) → x ≡ y
+equal x y e = (bytes_eq-Decides x y).0 (not-false (bytes_eq x y) (sym e))
+
+own_ending : (version : Version) (bits : ℕ) (pairs : List Pair) →
+    ending_of_chunks (chunk_bytes version bits pairs) ≡ ending_for version bits pairs
+own_ending version bits pairs = grind (arith, chunks_last, length-map)
+
+-- the end record of the last reference and the number of chunks is theirs
+pub ends_so : (cs : List (List ℕ)) (references : List Ref) (count : ℕ) (other : Ref) →
+    AreReferences cs references → count ≡ length cs → 0 < length cs →
+    end_record (get_or references (count - 1) other).0 count ≡ 0x45 ∷ ending_of_chunks cs
+ends_so cs references count other are e some = search (rules, reference_at, as_many, get_or)
+
+-- where the keys rise, the chunks are tested, and then the end record
+module _ (version : Version) (bits : ℕ) (cs : List (List ℕ))
+    (rise : order_fault None 0 (map pairs_held cs) ≡ None) (behind : List ℕ) where
+  pub chunks_say : (fault : CheckFault) → CompareAs version bits cs (Some fault) →
+      Says version bits cs behind (Some fault)
+  chunks_say fault differ ending e = rw (rise, flat_held cs, differ)
+
+  module _ (same : CompareAs version bits cs None) where
+    abbrev wanted : List ℕ
+    wanted = ending_for version bits (flat_map pairs_held cs)
+
+    are_chunks : chunk_bytes version bits (flat_map pairs_held cs) ≡ cs
+    are_chunks = difference_ok 0 (chunk_bytes version bits (flat_map pairs_held cs)) cs same
+
+    pub some_chunks : 0 < length cs
+    some_chunks = search (rules, are_chunks, chunks_some)
+
+    ends_as : 0x45 ∷ ending_of_chunks cs ≡ 0x45 ∷ wanted
+    ends_as = search (rules, are_chunks, own_ending)
+
+    pub end_says : (fault : CheckFault) → (fault ≡ faults.BadEnd) ×
+        (behind ≡ 0x45 ∷ ending_of_chunks cs → ⊥) → Says version bits cs behind (Some fault)
+    end_says fault bad ending e = search (rules, flat_held, ends_as)
+
+    pub all_say : behind ≡ 0x45 ∷ ending_of_chunks cs → Says version bits cs behind None
+    all_say is ending e = search (rules, flat_held, ends_as)

@@ -105,7 +105,7 @@ module _ {B : Type 0} (first : List ℕ → B) (behind : List ℕ → List ℕ) 
     enough (suc n) zero [] h k = refl
     enough (suc n) (suc m) [] h k = refl
     enough zero m (b ∷ bytes) h k = absurd (let h' : suc (length bytes) ≤ 0 = h in omega arith)
-    enough (suc n) zero (b ∷ bytes) h k = search (rules)
+    enough (suc n) zero (b ∷ bytes) h k = search rules
     enough (suc n) (suc m) (b ∷ bytes) h k = simp (
       common_steps,
       enough n m (behind (b ∷ bytes)) (omega arith) (omega arith),

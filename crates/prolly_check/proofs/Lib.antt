@@ -8,8 +8,6 @@ pub mod CheckedFile
 pub mod EntryLists
 -- The pairs that chunks hold, and testing chunks one after another.
 pub mod HeldPairs
--- The tests against the file of the pairs.
-pub mod CanonicalSteps
 -- Reading keys one after another, those of a chunk and those of a file.
 pub mod RisingKeys
 -- The references of the chunks of a file, and an index of them, made chunk by chunk.

@@ -159,7 +159,7 @@ of_read : (version : Version) (bits : ℕ) (cs : List (List ℕ)) (ending : List
     IsRead version cs read → ReadVerdict version bits cs ending read verdict → ErrOfBytes verdict
 of_read version bits cs ending (Ok lists) verdict is so =
     search (rules, of_content, of_order, of_difference, of_reuse)
-of_read version bits cs ending (Err fault) verdict is so = search (rules)
+of_read version bits cs ending (Err fault) verdict is so = search rules
 
 of_end : (version : Version) (bits : ℕ) (cs : List (List ℕ)) (ending : Result (List ℕ) CheckFault)
     (verdict : Result Content CheckFault) → ErrOfBytes ending →
@@ -181,5 +181,5 @@ no_failed_read bytes (inr v) = verdict_of_bytes bytes faults.Read v
 pub refusal : (read bytes : List ℕ) (max_bytes : ℕ) (fault : CheckFault) → length read ≤ max_bytes →
     read ≡ bytes → UnlessMemory (λ fault. IsVerdict read (Err fault)) fault →
     IsRefusal bytes max_bytes fault
-refusal read bytes max_bytes fault within e (inl memory) = search (rules)
+refusal read bytes max_bytes fault within e (inl memory) = search rules
 refusal read bytes max_bytes fault within e (inr h) = search (rules, verdict_of_bytes)

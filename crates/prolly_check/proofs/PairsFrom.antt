@@ -182,7 +182,7 @@ pub least_above : (key other : List ℕ) → KeyBelow key other →
 least_above [] [] h = cc
 least_above [] (zero ∷ []) h = refl
 least_above [] (zero ∷ c ∷ other) h = refl
-least_above [] (suc b ∷ other) h = search (rules)
+least_above [] (suc b ∷ other) h = search rules
 least_above (a ∷ key) [] h = cc
 least_above (a ∷ key) (b ∷ other) h = go (least_above key other) (nat_cmp a b) refl h
   where

@@ -55,7 +55,7 @@ unused_sent bits version level (s ∷ states) h =
 pub unused_more : (bits : ℕ) (version : Version) (level next : ℕ) (states : List (NodeState ℕ))
     (s : NodeState ℕ) → next ≡ level + length states → AreUnused bits version level states →
     NodeBegins sha512_cut bits version next s → AreUnused bits version level (states ++ s ∷ [])
-unused_more bits version level next [] s e h b = search (rules)
+unused_more bits version level next [] s e h b = search rules
 unused_more bits version level next (t ∷ states) s e h b =
     (h.0, unused_more bits version (suc level) next states s (omega arith) h.1 b)
 

@@ -88,7 +88,7 @@ module _ (cut : Cut) (version : Version) where
 pub difference_along : (chunks rest : List (List ℕ)) (start number : ℕ) → number ≤ length chunks →
     difference start (take number chunks ++ rest) chunks ≡ difference (start + number) rest
     (drop number chunks)
-difference_along chunks rest start zero h = search (rules)
+difference_along chunks rest start zero h = search rules
 difference_along [] rest start (suc number) h = absurd (omega arith)
 difference_along (c ∷ chunks) rest start (suc number) h =
     search (rules, difference_along chunks rest (suc start) number (omega arith))

@@ -4,7 +4,6 @@ use Rattle.std.specs.List.{flat_map, AllByRecursion}
 use Rattle.std.specs.List.Sorted.{IsPermutation, IsSortedByKey}
 use Rattle.std.specs.Ordering.{nat_cmp}
 use Rattle.std.specs.Prelude.{◌≡◌, ℕ, ◌<◌, get_or, List, [], length, map, ◌≤◌, ◌^◌, ◌∷◌, drop}
-use Rattle.std.specs.Prelude.{Result}
 use Rattle.std.specs.declared.ops.Range.{Range}
 use Rattle.prolly_entry.specs.Reference.{reference_of}
 use Rattle.prolly_entry.specs.declared.reference.Ref.{Ref}
@@ -17,7 +16,6 @@ use Rattle.prolly_check.specs.Held.{pairs_held}
 use Rattle.prolly_check.specs.Judged.{chunk_bytes, judged}
 use Rattle.prolly_check.specs.Verdict.{IsFileOf, IsVerdict}
 use Rattle.prolly_check.specs.declared.index.Index.{Index}
-use Rattle.prolly_check.specs.declared.verdict.fault.CheckFault.{CheckFault}
 
 -- The references of the chunks, in their order.
 abbrev pub AreReferences : List (List ℕ) → List Ref → Type 0
@@ -72,9 +70,8 @@ pub record IsLaidOut (bytes : List ℕ) (header : Header) (spans : List (Range �
   pub reached : place ≤ length bytes
   pub ending : List ℕ
   pub behind : drop place bytes ≡ 0x45 ∷ ending
-  pub so : (verdict : Result Content CheckFault) →
-      verdict ≡ judged header.version header.bits (chunks_in bytes spans) ending
-      (map pairs_held (chunks_in bytes spans)) → IsVerdict bytes verdict
+  pub so : IsVerdict bytes (judged header.version header.bits (chunks_in bytes spans) ending
+      (map pairs_held (chunks_in bytes spans)))
 
 -- The header, the places of the chunks and the index are those of the file.
 pub record IsChecked (bytes : List ℕ) (header : Header) (spans : List (Range ℕ))

@@ -37,7 +37,7 @@ pub no_flaw : (version : Version) (due : List ℕ) (above : Option ℕ) (chunk :
     (flaw : ChunkFlaw) → reference_of chunk ≡ due → IsOrdered version chunk → FallsTo above chunk →
     IsFlawed version due above chunk flaw → ⊥
 no_flaw version due above chunk Reference is ordered falls h = h is
-no_flaw version due above chunk Entries is ordered falls h = search (rules)
+no_flaw version due above chunk Entries is ordered falls h = search rules
 no_flaw version due above chunk Order is ordered falls h = h.2 ordered.rising
 no_flaw version due above chunk Level is ordered falls h = h.1 falls
 

@@ -1,7 +1,7 @@
 use Rattle.std.proofs.Common.{rules, arith, inr}
 use Rattle.std.proofs.Math.Logic.{⊎_map}
 use Rattle.std.proofs.lemmas.Result.{err_from_is_err_and}
-use Rattle.prolly_check.proofs.CanonicalSteps.{chunks_say, some_chunks, end_says, all_say}
+use Rattle.prolly_check.proofs.CheckedFile.{chunks_say, some_chunks, end_says, all_say}
 use Rattle.prolly_check.proofs.verdict.checker.test_canonical.Goals as goal
 
 pub returns-in_err-references-clause-err : goal.returns-in_err-references-clause-err

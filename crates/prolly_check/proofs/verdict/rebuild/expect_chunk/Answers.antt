@@ -1,6 +1,6 @@
 use Rattle.std.proofs.Common.{sym, ap, ◌∙◌, arith}
 use Rattle.prolly_entry.specs.Reference.{reference_of}
-use Rattle.prolly_check.proofs.CanonicalSteps.{equal, unequal}
+use Rattle.prolly_check.proofs.CheckedFile.{equal, unequal}
 use Rattle.prolly_check.proofs.Rebuilds.{is_past, is_other, is_same}
 use Rattle.prolly_check.proofs.verdict.rebuild.expect_chunk.Goals as goal
 
