@@ -244,10 +244,6 @@ module _ (bytes : List ℕ) (header : Header) (spans : List (Range ℕ)) (place 
 
   module _ (l : IsLaidOut bytes header spans place) (chunks : List (List ℕ)) (are : chunks ≡ cs)
     where
-      -- the chunks hold few pairs
-      pub few_in : length bytes < 2 ^ 64 → length (flat_map pairs_held chunks) < 2 ^ 64
-      few_in short = omega (arith, l.few, ap (λ cs. length (flat_map pairs_held cs)) are)
-
       module _ (cut : ℕ) (same : cut ≡ header.bits) (rest : List ℕ) (left : rest ≡ drop place bytes)
         where
           abbrev it : Content

@@ -1,7 +1,7 @@
 -- The child of a node that a look-up goes on in.
 use Rattle.std.proofs.Common.{rules, ◌≡◌, ℕ, suc, ◌+◌, ◌-◌, ◌^◌, ◌<◌, ◌≤◌, nat_lt, inl, inr, Bool}
 use Rattle.std.proofs.Common.{false, List, [], ◌∷◌, ◌++◌, length, map, Option, Some, None, refl}
-use Rattle.std.proofs.Common.{sym, ap, ◌∙◌, subst, arith, zero, drop, append_assoc}
+use Rattle.std.proofs.Common.{sym, ap, ◌∙◌, subst, arith, drop, append_assoc}
 use Rattle.std.specs.List.{AllByRecursion, flat_map}
 use Rattle.std.specs.Ordering.{is_lt}
 use Rattle.std.specs.Prelude.{option_map}
@@ -19,15 +19,11 @@ use Rattle.prolly_entry.specs.lemmas.Orders.{order_trans}
 use Rattle.prolly_tree.specs.Tree.{Tree, bytes_of, greatest_key, pair_count, pairs_below}
 use Rattle.prolly_tree.specs.lemmas.Maps.{Rises, rises, rises_front}
 use Rattle.prolly_check.specs.Descent.{IsTreeOf, child_of}
-use Rattle.prolly_check.specs.Entries.{Child, IsNode, children_in, IsWhole}
-use Rattle.prolly_check.specs.Kinds.{kind_of}
+use Rattle.prolly_check.specs.Entries.{Child, IsNode, children_in}
 use Rattle.prolly_check.specs.Leaves.{pairs_from}
 use Rattle.prolly_check.specs.Sought.{child_for, child_with, Sought, child_sought, counted_child}
 use Rattle.prolly_check.specs.Sought.{found_child, reference_and_sought, IsMark}
 use Rattle.prolly_check.specs.Sought.Sought.{Key, Number}
-use Rattle.prolly_check.specs.Way.{keys_of}
-use Rattle.prolly_check.specs.declared.entries.Entries.{Entries}
-use Rattle.prolly_check.specs.declared.entries.Entries.TheVariants.{Node}
 use Rattle.prolly_check.specs.declared.look_up.sought.Mark.{Mark}
 use Rattle.prolly_check.proofs.MapTree.{child_some}
 use Rattle.prolly_check.proofs.PairsFrom.{trees_below, some_from}
@@ -362,32 +358,3 @@ pub begins_there : (version : Version) (chunk : List ℕ) (mark : Mark) →
     child_for key (children_in version (drop 1 chunk)) ≡
     child_for key (children_in version (drop mark.offset chunk))
 begins_there version chunk mark is child others first key rising below = search (rules, passed_over)
-
--- a chunk that was tested has a level
-pub has_level : (version : Version) (chunk : List ℕ) → IsWhole version chunk → 0 < length chunk
-has_level version [] whole = absurd whole.holds
-has_level version (level ∷ entries) whole = omega arith
-
--- ---- the children of a node
-
-module _ (version : Version) where
-  -- its entries are those behind its first byte
-  pub node_children : (chunk : List ℕ) (children : List Child) →
-      ◌≡◌ {A = Entries} (Node children) (kind_of version chunk) →
-      children ≡ children_in version (drop 1 chunk)
-  node_children [] children is = cc
-  node_children (zero ∷ entries) children is = cc
-  node_children (suc level ∷ entries) children is = search rules
-
-  pub node_entries : (chunk : List ℕ) (children : List Child) →
-      ◌≡◌ {A = Entries} (Node children) (kind_of version chunk) → IsWhole version chunk →
-      IsNode version (drop 1 chunk) []
-  node_entries [] children is whole = cc
-  node_entries (zero ∷ entries) children is whole = cc
-  node_entries (suc level ∷ entries) children is whole = grind arith
-
-  pub node_rises : (chunk : List ℕ) (children : List Child) →
-      ◌≡◌ {A = Entries} (Node children) (kind_of version chunk) →
-      Rising (keys_of (kind_of version chunk)) →
-      Rising (keys (children_in version (drop 1 chunk)))
-  node_rises chunk children is rising = grind arith

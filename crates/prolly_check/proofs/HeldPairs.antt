@@ -1,6 +1,6 @@
 -- The pairs that chunks hold, and testing chunks one after another.
 use Rattle.std.proofs.Common.{rules, ◌≡◌, ℕ, zero, suc, ◌<◌, List, [], ◌∷◌, ◌++◌, length, map}
-use Rattle.std.proofs.Common.{get_or, refl, sym, ap, ◌∙◌, subst, arith, append-nil, ◌+◌, take, drop}
+use Rattle.std.proofs.Common.{get_or, refl, sym, ap, ◌∙◌, subst, arith, append-nil, take, drop}
 use Rattle.std.specs.List.{flat_map, AllByRecursion}
 use Rattle.std.specs.declared.ops.Range.{Range}
 use Rattle.std.proofs.Math.Seq.{drop-cons}
@@ -177,12 +177,6 @@ module _ (version : Version) where
       (both (bytes_in below) (bytes_of version (suc level) ts ∷ []) pairs []
       (all_trees level (tree_holds level) ts h) own))
 
-  pub trees_hold : (level : ℕ) (ts : List (Tree level)) →
-      AllByRecursion IsPair (flat_map (pairs_below level) ts) →
-      HoldPairs version (bytes_in (flat_map (post_order version level) ts))
-      (flat_map (pairs_below level) ts)
-  trees_hold level ts h = all_trees level (tree_holds level) ts h
-
 -- the chunks of a map hold its pairs
 pub map_holds : (version : Version) (bits : ℕ) (pairs : List Pair) → AllByRecursion IsPair pairs →
     HoldPairs version (chunk_bytes version bits pairs) pairs
@@ -194,9 +188,6 @@ module _ (version : Version) (bytes : List ℕ) (spans : List (Range ℕ)) (n : 
     (chunk : List ℕ) (within : n < length spans)
     (is : chunk ≡ chunk_in bytes (get_or spans n other))
     (before : AreWhole version (chunks_in bytes (take n spans))) where
-  pub whole_next : IsWhole version chunk → AreWhole version (chunks_in bytes (take (n + 1) spans))
-  whole_next one = grind (arith, common_steps)
-
   pub bad_next : ((pairs : List Pair) → Holds version chunk pairs → ⊥) →
       IsBad version (chunks_in bytes spans) (faults.BadChunk n)
   bad_next bad = record {

@@ -1,6 +1,6 @@
 -- The references of the chunks of a file, and an index of them.
-use Rattle.std.proofs.Common.{rules, ◌≡◌, ℕ, suc, ◌+◌, ◌<◌, ◌≤◌, Bool, true, false, ◌||◌, List, []}
-use Rattle.std.proofs.Common.{◌∷◌, length, take, drop, get_or, Some, None, inl, inr, refl, sym, ap}
+use Rattle.std.proofs.Common.{rules, ◌≡◌, ℕ, suc, ◌+◌, ◌<◌, Bool, true, false, ◌||◌, List, []}
+use Rattle.std.proofs.Common.{◌∷◌, length, take, drop, get_or, Some, None, inl, inr, sym, ap}
 use Rattle.std.proofs.Common.{◌∙◌, subst, arith}
 use Rattle.std.specs.Cmp.Lexicographic.{slice_cmp}
 use Rattle.std.specs.List.{All, list_any}
@@ -8,10 +8,11 @@ use Rattle.std.specs.List.Sorted.{IsNonDecreasingBy, IsPartitionPoint}
 use Rattle.std.specs.Ordering.{nat_cmp, is_lt, ordering_index}
 use Rattle.std.specs.Str.{bytes_eq}
 use Rattle.std.specs.declared.cmp.Ordering.TheVariants.{Less, Equal, Greater}
+use Rattle.std.proofs.Math.Bool.{or_comm}
 use Rattle.std.proofs.Math.Seq.{drop-cons}
 use Rattle.std.proofs.lemmas.Bool.{cond-false, cases_lt, false≢true}
 use Rattle.std.proofs.lemmas.Cmp.{nat_list_cmp_total}
-use Rattle.std.proofs.lemmas.List.{drop_all, length-map, get_or-map, get_or_default}
+use Rattle.std.proofs.lemmas.List.{length-map, get_or-map, get_or_default}
 use Rattle.std.proofs.lemmas.List.Elements.{recursion_from_All}
 use Rattle.std.proofs.lemmas.List.Folds.{list_any_more}
 use Rattle.std.proofs.lemmas.List.Sorted.{All-permutation, Contains-permutation, ranks_by}
@@ -150,12 +151,6 @@ module _ (index : Index) (chunks : List (List ℕ)) (i : IsIndex index chunks) w
 
 -- ---- the first chunk whose reference an earlier one has
 
-turned : (a b : Bool) → (a || b) ≡ (b || a)
-turned true true = refl
-turned true false = refl
-turned false true = refl
-turned false false = refl
-
 -- none of the first n chunks is it
 pub record Passed (chunks : List (List ℕ)) (references : List Ref) (n : ℕ) : Type 0 where
   pub before : List (List ℕ)
@@ -163,14 +158,8 @@ pub record Passed (chunks : List (List ℕ)) (references : List Ref) (n : ℕ) :
   pub known : (reference : List ℕ) → list_any (λ d. bytes_eq (reference_of d) reference) before ≡
       list_any (λ r. bytes_eq r.0 reference) (take n references)
 
-pub none_passed : (chunks : List (List ℕ)) (references : List Ref) → Passed chunks references 0
-none_passed chunks references = record { before = []; same = refl; known = λ reference. refl }
-
 module _ (chunks : List (List ℕ)) (references : List Ref) (are : AreReferences chunks references)
     (n : ℕ) (p : Passed chunks references n) where
-  pub all_passed : length chunks ≤ n → reuse [] 0 chunks ≡ None
-  all_passed h = p.same ∙ ap (reuse p.before n) (drop_all n chunks h)
-
   module _ (other : Ref) (within : n < length references) where
     abbrev chunk : List ℕ
     chunk = get_or chunks n []
@@ -204,7 +193,7 @@ module _ (chunks : List (List ℕ)) (references : List Ref) (are : AreReferences
               let here = ap (λ x. bytes_eq x reference)
               (reference_at chunks references n other are within) in
               ap (λ b. bytes_eq (reference_of chunk) reference || b) (p.known reference) ∙
-              turned (bytes_eq (reference_of chunk) reference)
+              or_comm (bytes_eq (reference_of chunk) reference)
               (list_any (λ r. bytes_eq r.0 reference) (take n references)) ∙
               ap (λ b. list_any (λ r. bytes_eq r.0 reference) (take n references) || b) (sym here) ∙
               sym (list_any_more (λ r. bytes_eq r.0 reference) references n other within);

@@ -1,7 +1,7 @@
 -- What is left of a map, leaf by leaf, and what was written of it.
 use Rattle.std.proofs.Common.{rules, ◌≡◌, ℕ, ◌+◌, ◌<◌, Bool, true, false, not, cond, List, [], ◌∷◌}
 use Rattle.std.proofs.Common.{◌++◌, length, drop, take, get_or, refl, sym, ap, ◌∙◌, subst, arith}
-use Rattle.std.proofs.Common.{take-append-drop, Ok, Err, append_assoc, append-nil}
+use Rattle.std.proofs.Common.{take-append-drop, Ok, Err, append_assoc}
 use Rattle.std.specs.List.{flat_map}
 use Rattle.std.specs.Ordering.{is_lt}
 use Rattle.std.proofs.lemmas.List.{drop_all}
@@ -11,11 +11,9 @@ use Rattle.prolly_entry.specs.Pair.{Pair}
 use Rattle.prolly_entry.specs.Spelling.{pair_spelling}
 use Rattle.prolly_entry.specs.lemmas.Lists.{all_back, all_front}
 use Rattle.prolly_entry.specs.lemmas.Orders.{less_self}
-use Rattle.prolly_tree.specs.Difference.{IsMap}
 use Rattle.prolly_tree.specs.RecordFile.{record_file}
 use Rattle.prolly_tree.specs.Tree.{last_key}
-use Rattle.prolly_tree.specs.lemmas.Maps.{Above, Rises, rises, rises_back, rises_front}
-use Rattle.prolly_file.specs.Failures.{after_failure}
+use Rattle.prolly_tree.specs.lemmas.Maps.{Above, Rises, rises, rises_back}
 use Rattle.prolly_file.specs.Sink.{SinkView, TakesPrefix}
 use Rattle.prolly_file.specs.Writes.{Writes}
 use Rattle.prolly_check.specs.Checked.{HasFile, chunks_of}
@@ -25,7 +23,7 @@ use Rattle.prolly_check.specs.Held.{pairs_held}
 use Rattle.prolly_check.specs.Leaves.{pairs_from}
 use Rattle.prolly_check.specs.ScanWay.{AreFirstFrom, next_key}
 use Rattle.prolly_check.proofs.HeldPairs.{map_holds}
-use Rattle.prolly_check.proofs.PairsFrom.{rising_is, from_behind, pairs_from-append}
+use Rattle.prolly_check.proofs.PairsFrom.{from_behind, pairs_from-append}
 use Rattle.prolly_check.proofs.RebuildSteps.{held_next}
 
 -- ---- what is left of a map from a key on, leaf by leaf
@@ -85,9 +83,6 @@ module _ (content : Content) (f : HasFile content) (number : ℕ) where
       (is : leaf ≡ pairs_held (get_or (chunks_of content) number [])) where
     parts : behind number ≡ leaf ++ behind (number + 1)
     parts = held_next (chunks_of content) number leaf within is
-
-    pub leaf_is_map : IsMap leaf
-    leaf_is_map = search (rules, rising_is, rises_front, parts, rest_rises)
 
     -- what the leaf has from a key on are the first that the map has: none before it, and all
     -- behind it; and where it has none, there are none
@@ -170,20 +165,3 @@ module _ (pairs left part rest : List Pair) (split : left ≡ part ++ rest) (old
   pub dump_failed : {T E : Type 0} (x y : E) → Writes {T = T} {E = E} own mid new (Err x) →
       Writes {T = T} {E = E} (record_file pairs) old new (Err y)
   dump_failed x y w = grind (arith, part_of_all)
-
--- ---- the end
-
-module _ (pairs left : List Pair) (none : left ≡ []) (old mid new : SinkView)
-    (d : IsDumped pairs left old mid)
-    (same : mid.is_keeping ≡ true → new.taken ≡ mid.taken) (keeps : mid.is_keeping ≡ true →
-    new.is_keeping ≡ true) where
-  all_taken : old.is_keeping ≡ true → new.taken ≡ old.taken ++ record_file pairs
-  all_taken k = grind (arith, append-nil)
-
-  pub dump_flushed : {T E : Type 0} (x : T) → new.failures ≡ mid.failures →
-      Writes {T = T} {E = E} (record_file pairs) old new (Ok x)
-  dump_flushed x counted = grind (arith, all_taken)
-
-  pub dump_unflushed : {T E : Type 0} (y : E) → new.failures ≡ after_failure mid.failures →
-      Writes {T = T} {E = E} (record_file pairs) old new (Err y)
-  dump_unflushed y counted = grind (arith, append-nil)

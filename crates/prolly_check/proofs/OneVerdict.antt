@@ -4,7 +4,6 @@ use Rattle.std.proofs.Common.{Option, Some, None, Result, Ok, Err, refl, sym, ap
 use Rattle.std.proofs.Common.{append_assoc, ◌≤◌, inl, inr}
 use Rattle.std.specs.List.{flat_map, AllByRecursion}
 use Rattle.std.specs.Prelude.{slice_index, IfSome, IfErr}
-use Rattle.prolly_entry.specs.Overlay.{or_else}
 use Rattle.prolly_entry.specs.Pair.{Pair}
 use Rattle.prolly_entry.specs.Position.{Position}
 use Rattle.prolly_entry.specs.declared.version.Version.{Version}
@@ -14,7 +13,7 @@ use Rattle.prolly_file.specs.FrameLaws.{begins_frame, one_front}
 use Rattle.prolly_file.specs.Header.{header_tests, header_fault, version_of}
 use Rattle.prolly_file.specs.declared.format.header.HeaderFault.{HeaderFault}
 use Rattle.prolly_check.specs.Content.{Content}
-use Rattle.prolly_check.specs.Entries.{Holds, IsRead, IsWhole, AreWhole}
+use Rattle.prolly_check.specs.Entries.{Holds, IsRead, AreWhole}
 use Rattle.prolly_check.specs.Frames.{ending_of}
 use Rattle.prolly_check.specs.Judged.{order_fault, difference, reuse, or_content, last_behind}
 use Rattle.prolly_check.specs.Verdict.{UnlessMemory, IsRefusal, ReadVerdict, EndVerdict}
@@ -25,9 +24,6 @@ use Rattle.prolly_check.proofs.HeldPairs.{lists_are, are_whole}
 use Rattle.prolly_check.specs.declared.verdict.fault.CheckFault.TheVariants as faults
 
 -- ---- bytes have one verdict
-
-head_is : {A : Type 0} (x y : A) (xs ys : List A) → x ∷ xs ≡ y ∷ ys → x ≡ y
-head_is x y xs ys e = cc
 
 tail_is : {A : Type 0} (x y : A) (xs ys : List A) → x ∷ xs ≡ y ∷ ys → xs ≡ ys
 tail_is x y xs ys e = cc
@@ -57,11 +53,6 @@ framed_one (c ∷ cs) (d ∷ ds) x y h k a b e =
 -- ---- the chunks
 
 module _ (version : Version) where
-  -- a bad chunk is none of those that have lists
-  bad_apart : (chunk other : List ℕ) → ((pairs : List Pair) → Holds version chunk pairs → ⊥) →
-      chunk ≡ other → IsWhole version other → ⊥
-  bad_apart chunk other bad e w = bad w.pairs (subst (λ c. Holds version c w.pairs) (sym e) w.holds)
-
   not_bad : (cs before : List (List ℕ)) (c : List ℕ) (after : List (List ℕ)) →
       cs ≡ before ++ c ∷ after → AreWhole version cs →
       ((pairs : List Pair) → Holds version c pairs → ⊥) → ⊥
@@ -84,12 +75,6 @@ module _ (version : Version) where
   read_one cs (Err f) (Err g) h k = grind (arith, bad_same, are_whole)
 
 -- ---- the verdicts
-
-read_same : (version : Version) (bits : ℕ) (cs : List (List ℕ)) (ending : List ℕ)
-    (read : Result (List (List Pair)) CheckFault) (v w : Result Content CheckFault) →
-    ReadVerdict version bits cs ending read v → ReadVerdict version bits cs ending read w → v ≡ w
-read_same version bits cs ending (Ok ls) v w h k = h ∙ sym k
-read_same version bits cs ending (Err f) v w h k = h ∙ sym k
 
 end_same : (version : Version) (bits : ℕ) (cs : List (List ℕ)) (ending : Result (List ℕ) CheckFault)
     (v w : Result Content CheckFault) →
@@ -123,10 +108,6 @@ AnyOfBytes fault = IfSome fault OfBytes
 
 abbrev ErrOfBytes : {A : Type 0} → Result A CheckFault → Type 0
 ErrOfBytes result = IfErr result OfBytes
-
-then : (a b : Option CheckFault) → AnyOfBytes a → AnyOfBytes b → AnyOfBytes (or_else a b)
-then None b h k = k
-then (Some fault) b h k = h
 
 of_ending : (number : ℕ) (bytes : List ℕ) → ErrOfBytes (ending_of number bytes)
 of_ending number [] = tt

@@ -1,18 +1,15 @@
 -- Reading keys one after another, those of a chunk and those of a file.
-use Rattle.std.proofs.Common.{rules, ◌≡◌, ℕ, suc, ◌+◌, ◌<◌, Bool, true, false, ◌&&◌, List, [], ◌∷◌}
-use Rattle.std.proofs.Common.{◌++◌, length, drop, map, get_or, Option, Some, None, refl, sym, ap}
-use Rattle.std.proofs.Common.{◌∙◌, arith, ◌↔◌, Ordering}
+use Rattle.std.proofs.Common.{◌≡◌, ℕ, Bool, true, false, ◌&&◌, List, [], ◌∷◌, ◌++◌, drop, map}
+use Rattle.std.proofs.Common.{Option, Some, None, refl, arith, ◌↔◌, Ordering}
 use Rattle.std.specs.Ordering.{is_lt}
 use Rattle.std.specs.declared.cmp.Ordering.TheVariants.{Less, Equal, Greater}
-use Rattle.std.proofs.Math.Seq.{drop-cons}
-use Rattle.std.proofs.lemmas.Bool.{cond-true, cond-false, false≢true}
+use Rattle.std.proofs.lemmas.Bool.{false≢true}
 use Rattle.std.proofs.lemmas.Grind.{common_steps}
 use Rattle.prolly_entry.specs.Keys.{Rising, RisingFrom}
 use Rattle.prolly_entry.specs.Pair.{Pair}
-use Rattle.prolly_entry.specs.Position.{is_before, Position}
+use Rattle.prolly_entry.specs.Position.{Position}
 use Rattle.prolly_check.specs.Held.{pairs_held}
-use Rattle.prolly_check.specs.Judged.{order_fault, rises_behind, last_behind, RisesTo}
-use Rattle.prolly_check.specs.declared.verdict.fault.CheckFault.TheVariants as faults
+use Rattle.prolly_check.specs.Judged.{order_fault, rises_behind, last_behind}
 
 -- ---- pairs behind pairs
 
@@ -54,43 +51,9 @@ pub record ChunksRise (chunks : List (List ℕ)) (last : Option (List ℕ)) (num
   pub same : order_fault None 0 (map pairs_held chunks) ≡ order_fault last number
       (map pairs_held (drop number chunks))
 
-module _ (chunks : List (List ℕ)) (last : Option (List ℕ)) (number : ℕ)
-    (r : ChunksRise chunks last number) where
-  module _ (within : number < length chunks) where
-    abbrev held : List Pair
-    held = pairs_held (get_or chunks number [])
-
-    abbrev lists : List (List Pair)
-    lists = map pairs_held (drop (suc number) chunks)
-
-    next : order_fault None 0 (map pairs_held chunks) ≡ order_fault last number (held ∷ lists)
-    next = search (rules, drop-cons)
-
-    pub order_goes_on : (new : Option (List ℕ)) → RisesTo last held new →
-        ChunksRise chunks new (number + 1)
-    order_goes_on new to =
-        let one : suc number ≡ number + 1 = omega arith in
-        record {
-          same = next ∙ cond-true (rises_behind last held)
-              (order_fault (last_behind last held) (suc number) lists)
-              (Some (faults.KeysOutOfOrder number)) to.rises
-              ∙ ap (λ k. order_fault k (suc number) lists) (sym to.last_is) ∙
-              ap (λ n. order_fault new n (map pairs_held (drop n chunks))) one;
-        }
-
-    pub order_falls : rises_behind last held ≡ false → order_fault None 0 (map pairs_held chunks) ≡
-        Some (faults.KeysOutOfOrder number)
-    order_falls falls = grind (arith, next, cond-false)
-
 -- ---- reading the keys of one chunk, one after another
 
 -- the keys rise, the first one behind this position
 abbrev pub RisesOn : Position → List (List ℕ) → Type 0
 RisesOn None keys = Rising keys
 RisesOn (Some last) keys = RisingFrom last keys
-
--- the next key falls
-pub falls : (last : Position) (key : List ℕ) (keys rest : List (List ℕ)) → keys ≡ key ∷ rest →
-    is_before last (Some key) ≡ false → RisesOn last keys → ⊥
-falls None key keys rest is before h = false≢true (sym before)
-falls (Some last) key keys rest is before h = search rules

@@ -78,17 +78,10 @@ module _ (chunks : List (List ℕ)) (n : ℕ) (h : n < length chunks) where
   abbrev chunk : List ℕ
   chunk = get_or chunks n []
 
-  -- the size of one
-  one : size_of (chunk ∷ []) ≡ length chunk
-  one = omega (arith, length-append chunk [])
-
   pub size_more : size_of (take (n + 1) chunks) ≡ size_of (take n chunks) + length chunk
   size_more = grind (arith, common_steps)
 
   module _ (others : List (List ℕ)) where
-    abbrev is_lacked : List ℕ → Bool
-    is_lacked c = not (has_reference others (reference_of c))
-
     parted : lacking others (take (n + 1) chunks) ≡ lacking others (take n chunks) ++
         lacking others (chunk ∷ [])
     parted = grind (arith, common_steps)

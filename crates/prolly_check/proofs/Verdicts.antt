@@ -12,7 +12,6 @@ use Rattle.std.proofs.lemmas.List.{length-append}
 use Rattle.std.proofs.lemmas.Slice.Eq.{bytes_eq-Decides}
 use Rattle.prolly_entry.specs.Cut.{sha512_cut}
 use Rattle.prolly_entry.specs.Keys.{Rising}
-use Rattle.prolly_entry.specs.Overlay.{or_else}
 use Rattle.prolly_entry.specs.Pair.{Pair, IsPair}
 use Rattle.prolly_entry.specs.Position.{Position}
 use Rattle.prolly_entry.specs.Reference.{reference_of}
@@ -53,11 +52,6 @@ pub err_ok : {A : Type 0} {x : A} {f : CheckFault} → ◌≡◌ {A = Result A C
     ⊥
 err_ok e = cc
 
-pub if_ok : {A : Type 0} (t : Bool) (f : CheckFault) (r : Result A CheckFault) (x : A) →
-    cond t (Err f) r ≡ Ok x → (t ≡ false) × (r ≡ Ok x)
-if_ok true f r x e = absurd (err_ok e)
-if_ok false f r x e = (refl, e)
-
 pub if_none : {F : Type 0} (t : Bool) (f : F) (o : Option F) → cond t o (Some f) ≡ None →
     (t ≡ true) × (o ≡ None)
 if_none true f o e = (refl, e)
@@ -69,19 +63,6 @@ unless_none true f o e = absurd (some_none e)
 unless_none false f o e = (refl, e)
 
 -- ---- the header
-
--- the bytes begin with one that passes the test
-record Passes (test : ℕ → Bool) (tests : List (ℕ → Bool)) (bytes : List ℕ) : Type 0 where
-  byte : ℕ
-  rest : List ℕ
-  is : bytes ≡ byte ∷ rest
-  so : test byte ≡ true
-  more : header_fault tests rest ≡ None
-
-passes : (test : ℕ → Bool) (tests : List (ℕ → Bool)) (bytes : List ℕ) →
-    header_fault (test ∷ tests) bytes ≡ None → Passes test tests bytes
-passes test tests [] h = absurd (some_none h)
-passes test tests (b ∷ bytes) h = grind arith
 
 pub record HeaderIs (bytes : List ℕ) : Type 0 where
   pub bits : slice_index bytes 5 ≤ 24
@@ -170,10 +151,6 @@ reuse_is before number (c ∷ cs) =
     )
 
 -- ---- all of it
-
-pub none_left : (a b : Option CheckFault) → or_else a b ≡ None → (a ≡ None) × (b ≡ None)
-none_left None b e = (refl, e)
-none_left (Some x) b e = absurd (some_none e)
 
 -- nothing is wrong with the keys, the chunks and the end record
 pub record IsCanonical (version : Version) (bits : ℕ) (cs : List (List ℕ)) (ending : List ℕ)

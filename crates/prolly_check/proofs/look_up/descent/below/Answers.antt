@@ -4,7 +4,7 @@ use Rattle.prolly_check.specs.FileWays.{nth_chunk}
 use Rattle.prolly_check.specs.Kinds.{kind_of}
 use Rattle.prolly_check.specs.Sought.{sought_of}
 use Rattle.prolly_check.specs.lemmas.Ways.{child_leads}
-use Rattle.prolly_check.proofs.Chosen.{has_level}
+use Rattle.prolly_check.proofs.HeldPairs.{some_byte}
 use Rattle.prolly_check.proofs.FileDescents.{is_ordered, is_there_below, next_is}
 use Rattle.prolly_check.proofs.look_up.descent.below.Goals as goal
 
@@ -14,7 +14,7 @@ step_of-requires-clause-ordered c = rw (c.version.ensures, c.chunk-chunk.ensures
 
 pub step_of-requires-clause-mark : goal.step_of-requires-clause-mark
 step_of-requires-clause-mark c = c.first.ensures.first c.version.result c.chunk-chunk.result.now
-    (has_level c.version.result c.chunk-chunk.result.now (rw (c.version.ensures, c.chunk-chunk.ensures)
+    (some_byte c.version.result c.chunk-chunk.result.now (rw (c.version.ensures, c.chunk-chunk.ensures)
     (is_ordered c.args.file.now c.requires.file c.args.at.number c.requires.top).whole))
 
 pub returns-in_err-child-clause-named : goal.returns-in_err-child-clause-named
