@@ -59,7 +59,10 @@ pub fn check<S: Source>(alloc: Global, source: &mut S, max_bytes: u32) -> Result
     ensures honest { (S.seen source.old).is_honest ≡ true → (S.seen source.new).is_honest ≡ true }
     ensures steady { (S.seen source.old).is_steady ≡ true → (S.seen source.new).is_steady ≡ true }
 {
-    let bytes = read_whole(alloc, source, max_bytes)?;
+    let bytes = match read_whole(alloc, source, max_bytes) {
+        Ok(bytes) => bytes,
+        Err(fault) => return Err(CheckFault::from(fault)),
+    };
     Tree::of(alloc, bytes)
 }
 

@@ -6,8 +6,8 @@ use Rattle.prolly_check.proofs.verdict.checker.check.Goals as goal
 
 pub returns-clause-files : goal.returns-clause-files
 returns-clause-files g c = λ honest content f within. IfErr-weaker c.of.result _ _
-    (λ fault. not_refused c.in_ok-bytes.bytes.items (g.S.Source.seen c.args.source.now).left content fault
-    (omega arith) (c.in_ok-bytes.ensures.whole honest) f) c.of.ensures.err
+    (λ fault. not_refused c.in-Ok.bytes.items (g.S.Source.seen c.args.source.now).left content fault
+    (omega arith) (c.in-Ok.ensures.whole honest) f) c.of.ensures.err
 
 pub returns-clause-refused : goal.returns-clause-refused
 returns-clause-refused g c = grind (arith, refusal)
