@@ -65,7 +65,9 @@ module _ (version : Version) where
   bad_same [] [] c d after rest e h k bad worse = refl
   bad_same [] (o ∷ other) c d after rest e h k bad worse = search rules
   bad_same (b ∷ before) [] c d after rest e h k bad worse = search rules
-  bad_same (b ∷ before) (o ∷ other) c d after rest e h k bad worse = simp (bad_same before other c d after rest (tail_is b o (before ++ c ∷ after) (other ++ d ∷ rest) e) h.1 k.1 bad worse)
+  bad_same (b ∷ before) (o ∷ other) c d after rest e h k bad worse =
+      ap suc (bad_same before other c d after rest
+      (tail_is b o (before ++ c ∷ after) (other ++ d ∷ rest) e) h.1 k.1 bad worse)
 
   read_one : (cs : List (List ℕ)) (r s : Result (List (List Pair)) CheckFault) →
       IsRead version cs r → IsRead version cs s → r ≡ s

@@ -5,7 +5,8 @@ use Rattle.std.specs.Prelude.{◌==◌, nat_lt, [], ◌∷◌, Result, Ok, Err, 
 use Rattle.std.specs.declared.ops.Range.{Range}
 use Rattle.prolly_file.specs.Frame.{framed, IsSmall, has_no_frame}
 use Rattle.prolly_check.specs.declared.verdict.fault.CheckFault.{CheckFault}
-use Rattle.prolly_check.specs.declared.verdict.fault.CheckFault.TheVariants.{Truncated, Trailing, BadFrame}
+use Rattle.prolly_check.specs.declared.verdict.fault.CheckFault.TheVariants.{Truncated, Trailing}
+use Rattle.prolly_check.specs.declared.verdict.fault.CheckFault.TheVariants.{BadFrame}
 
 -- The chunk that lies there.
 abbrev pub chunk_in : List ℕ → Range ℕ → List ℕ

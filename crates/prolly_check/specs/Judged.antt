@@ -15,8 +15,8 @@ use Rattle.prolly_tree.specs.File.{root_reference}
 use Rattle.prolly_check.specs.Content.{Content}
 use Rattle.prolly_check.specs.Held.{pairs_held}
 use Rattle.prolly_check.specs.declared.verdict.fault.CheckFault.{CheckFault}
-use Rattle.prolly_check.specs.declared.verdict.fault.CheckFault.TheVariants.{KeysOutOfOrder, NotCanonical}
-use Rattle.prolly_check.specs.declared.verdict.fault.CheckFault.TheVariants.{BadEnd, Collision}
+use Rattle.prolly_check.specs.declared.verdict.fault.CheckFault.TheVariants.{KeysOutOfOrder, BadEnd}
+use Rattle.prolly_check.specs.declared.verdict.fault.CheckFault.TheVariants.{NotCanonical, Collision}
 
 -- Each key of the pairs is greater than the one before it, the first one greater than the last one
 -- before them.

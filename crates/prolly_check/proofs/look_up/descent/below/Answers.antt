@@ -14,7 +14,8 @@ step_of-requires-clause-ordered c = rw (c.version.ensures, c.chunk-chunk.ensures
 
 pub step_of-requires-clause-mark : goal.step_of-requires-clause-mark
 step_of-requires-clause-mark c = c.first.ensures.first c.version.result c.chunk-chunk.result.now
-    (some_byte c.version.result c.chunk-chunk.result.now (rw (c.version.ensures, c.chunk-chunk.ensures)
+    (some_byte c.version.result c.chunk-chunk.result.now
+    (rw (c.version.ensures, c.chunk-chunk.ensures)
     (is_ordered c.args.file.now c.requires.file c.args.at.number c.requires.top).whole))
 
 pub returns-in_err-child-clause-named : goal.returns-in_err-child-clause-named

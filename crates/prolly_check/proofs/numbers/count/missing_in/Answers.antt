@@ -24,7 +24,8 @@ known c others is = subst (λ r. has_reference others r ≡ not c.is_none.result
 pub loop-number-preserved : goal.loop-number-preserved
 loop-number-preserved c = elim c.if-is_none.branch [
   | then-is_none w ↦ counted c.args.index.now c.args.chunks.now c.loop-number.number
-      c.loop-number.missing c.if-is_none.missing (omega arith) (λ others is. known c others is ∙ ap not w.if-is_none.true)
+      c.loop-number.missing c.if-is_none.missing (omega arith)
+      (λ others is. known c others is ∙ ap not w.if-is_none.true)
       (ap (λ m. m.chunks) w.missing-is) (ap (λ m. m.bytes) w.missing-is ∙
       ap (λ chunk. c.loop-number.missing.bytes + length chunk) w.chunk.ensures)
       c.loop-number.invariant
