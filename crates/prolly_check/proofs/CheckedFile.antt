@@ -1,35 +1,175 @@
--- What the steps of the checker find, in the words of the verdict.
-use Rattle.std.proofs.Common.{◌≡◌, ℕ, ◌≤◌, ◌^◌, ◌<◌, true, List, [], length, map, drop, Option}
-use Rattle.std.proofs.Common.{Some, None, Result, Ok, Err, inr, refl, sym, ap, ◌∙◌, subst, arith}
+-- What is known of a file that is checked, and of one that was accepted.
+use Rattle.std.proofs.Common.{rules, ◌≡◌, ℕ, zero, suc, ◌-◌, ◌^◌, ◌<◌, List, [], ◌∷◌, ◌++◌, length}
+use Rattle.std.proofs.Common.{map, get_or, Ok, Err, inl, inr, ◌⊎◌, refl, sym, ap, ◌∙◌, subst, arith}
+use Rattle.std.proofs.Common.{◌≤◌, drop, length-drop, true, Option, Some, None, Result, ◌+◌, take}
+use Rattle.std.proofs.Common.{append_assoc, append-nil, false, not}
+use Rattle.std.specs.Int.{w64, to_be_bytes}
+use Rattle.std.specs.List.{flat_map, AllByRecursion}
 use Rattle.std.specs.Prelude.{slice_index}
-use Rattle.std.specs.List.{flat_map}
+use Rattle.std.specs.Str.{bytes_eq}
 use Rattle.std.specs.declared.ops.Range.{Range}
+use Rattle.std.proofs.lemmas.Bool.{false≢true, not-false}
+use Rattle.std.proofs.lemmas.Grind.{common_steps}
+use Rattle.std.proofs.lemmas.List.{length-append, length-map, map_push, length-take-le, drop-drop}
+use Rattle.std.proofs.lemmas.List.Concat.{flat_map-append}
+use Rattle.std.proofs.lemmas.Slice.Eq.{bytes_eq-Decides}
+use Rattle.prolly_entry.specs.Cut.{sha512_cut}
 use Rattle.prolly_entry.specs.Pair.{Pair}
-use Rattle.prolly_entry.specs.Overlay.{or_else}
+use Rattle.prolly_entry.specs.Reference.{reference_of}
+use Rattle.prolly_entry.specs.Spelling.{pair_spelling}
+use Rattle.prolly_entry.specs.declared.reference.Ref.{Ref}
+use Rattle.prolly_entry.specs.declared.version.Version.{Version}
+use Rattle.prolly_entry.specs.lemmas.Lists.{all_append}
+use Rattle.prolly_tree.specs.Chunk.{Chunk, chunk_of, chunks, post_order, IsIn}
+use Rattle.prolly_tree.specs.File.{header, end_record}
+use Rattle.prolly_tree.specs.Tree.{Tree, bytes_of, tree_of}
 use Rattle.prolly_tree.specs.lemmas.Splits.{flat}
-use Rattle.prolly_check.specs.declared.fault.CheckFault.{CheckFault}
-use Rattle.prolly_file.specs.declared.format.header.Header.{Header}
-use Rattle.prolly_check.specs.Content.{Content}
-use Rattle.prolly_file.specs.Frame.{has_no_frame}
+use Rattle.prolly_file.specs.Frame.{framed, has_no_frame, IsSmall, BeginsFrame}
+use Rattle.prolly_file.specs.FrameLaws.{frames_bytes}
 use Rattle.prolly_file.specs.Header.{header_tests, header_fault, version_of}
-use Rattle.prolly_check.specs.Frames.{ending_of, IsFramed}
-use Rattle.prolly_check.specs.Spans.{chunk_in, chunks_in, FramesTo}
-use Rattle.prolly_check.specs.Entries.{IsBad, IsRead}
-use Rattle.prolly_check.specs.Whole.{AreWhole}
+use Rattle.prolly_file.specs.declared.format.header.Header.{Header}
+use Rattle.prolly_check.specs.Checked.{chunks_of, IsChecked, content_of, IsLaidOut, HasAt, IsIndex}
+use Rattle.prolly_check.specs.Checked.{AreReferences}
+use Rattle.prolly_check.specs.Content.{Content, root_bytes}
+use Rattle.prolly_check.specs.Entries.{IsBad, IsRead, IsWhole, AreWhole}
+use Rattle.prolly_check.specs.Frames.{ending_of, IsFramed, chunks_in, FramesTo, chunk_in, IsWithin}
 use Rattle.prolly_check.specs.Held.{pairs_held}
-use Rattle.prolly_check.specs.Judged.{reuse, canonical_fault, or_content, judged}
-use Rattle.prolly_check.specs.Canonical.{Says}
+use Rattle.prolly_check.specs.Judged.{Says, chunk_bytes, reuse, canonical_fault, or_content, judged}
+use Rattle.prolly_check.specs.Judged.{CompareAs, ending_of_chunks, order_fault, ending_for}
+use Rattle.prolly_check.specs.Numbers.{size_of}
+use Rattle.prolly_check.specs.Verdict.{UnlessMemory, IsVerdict, IsFileOf, ReadVerdict}
+use Rattle.prolly_check.specs.Verdict.{FramesVerdict}
 use Rattle.prolly_check.specs.declared.index.Index.{Index}
-use Rattle.prolly_check.specs.Index.{IsIndex}
-use Rattle.prolly_check.specs.Checked.{IsChecked, IsLaidOut, content_of, chunks_of}
-use Rattle.prolly_check.specs.Verdict.{ReadVerdict, FramesVerdict, HeaderVerdict, IsVerdict}
-use Rattle.prolly_check.specs.Verdict.{IsFileOf}
-use Rattle.prolly_check.proofs.Verdicts.{header_ok, ending_ok, canonical_ok, accepted_is_file}
-use Rattle.prolly_check.specs.Refusal.{UnlessMemory}
-use Rattle.std.proofs.Math.Logic.{⊎_map}
-use Rattle.std.proofs.lemmas.List.{length-map}
-use Rattle.prolly_check.proofs.FewPairs.{few_held}
-use Rattle.prolly_check.proofs.HeldPairs.{all_hold, flat_held}
+use Rattle.prolly_check.specs.declared.verdict.fault.CheckFault.{CheckFault}
+use Rattle.prolly_check.proofs.EntryLists.{leaf_pairs}
+use Rattle.prolly_check.proofs.HeldPairs.{map_holds, all_hold, flat_held}
+use Rattle.prolly_check.proofs.IndexSteps.{as_many, reference_at}
+use Rattle.prolly_check.proofs.OneVerdict.{one_verdict}
+use Rattle.prolly_check.proofs.Verdicts.{file_is_accepted, ok_same, err_ok, header_ok, ending_ok}
+use Rattle.prolly_check.proofs.Verdicts.{canonical_ok, accepted_is_file, difference_ok}
+use Rattle.prolly_check.specs.declared.verdict.fault.CheckFault.TheVariants as faults
+
+-- ---- what is known of a file that was accepted
+
+-- bytes are the file of one map
+pub one_content : (bytes : List ℕ) (a b : Content) → length bytes < 2 ^ 64 → IsFileOf bytes a →
+    IsFileOf bytes b → a ≡ b
+one_content bytes a b short f g = ok_same a b
+    (one_verdict bytes (Ok a) (Ok b) (file_is_accepted bytes a short f)
+    (file_is_accepted bytes b short g))
+
+-- ---- the number of chunks, and the last one
+
+last_is : (version : Version) (level : ℕ) (t : Tree level) → (before : List Chunk) ×
+    (post_order version level t ≡ before ++ chunk_of version level t ∷ [])
+last_is version zero t = ([], refl)
+last_is version (suc level) ts = (flat_map (post_order version level) ts, refl)
+
+last_bytes : (before : List Chunk) (c : Chunk) →
+    get_or (map (λ c. c.bytes) (before ++ c ∷ [])) (length (before ++ c ∷ []) - 1) [] ≡ c.bytes
+last_bytes before c = search (rules, common_steps)
+
+-- the chunks of a map are some, and the last is the root's
+pub chunks_some : (version : Version) (bits : ℕ) (pairs : List Pair) →
+    0 < length (chunk_bytes version bits pairs)
+chunks_some version bits pairs = grind (arith, length-map, length-append)
+
+pub chunks_last : (version : Version) (bits : ℕ) (pairs : List Pair) →
+    get_or (chunk_bytes version bits pairs) (length (chunk_bytes version bits pairs) - 1) []
+    ≡ bytes_of version (tree_of (sha512_cut bits) version pairs).level
+    (tree_of (sha512_cut bits) version pairs).tree
+chunks_last version bits pairs =
+    let tree = tree_of (sha512_cut bits) version pairs in
+    let l = last_is version tree.level tree.tree in
+    ap (λ n. get_or (chunk_bytes version bits pairs) (n - 1) [])
+    (length-map (chunks (sha512_cut bits) version pairs) (λ c. c.bytes))
+    ∙ ap (λ cs. get_or (map (λ c. c.bytes) cs) (length cs - 1) []) l.1 ∙
+    last_bytes l.0 (chunk_of version tree.level tree.tree)
+
+-- ---- no file is refused
+
+pub not_refused : (read bytes : List ℕ) (content : Content) (fault : CheckFault) →
+    length bytes < 2 ^ 64 → read ≡ bytes → IsFileOf bytes content →
+    UnlessMemory (λ fault. IsVerdict read (Err fault)) fault → (fault ≡ faults.Memory) ⊎
+    (fault ≡ faults.Read)
+not_refused read bytes content fault short e f (inl memory) = inl memory
+not_refused read bytes content fault short e f (inr v) =
+    absurd (err_ok (sym (one_verdict bytes (Ok content) (Err fault)
+    (file_is_accepted bytes content short f) (subst (λ b. IsVerdict b (Err fault)) e v))))
+
+-- ---- a file has no more pairs than bytes, and its chunks have no more bytes
+
+each_has_bytes : (pairs : List Pair) → length pairs ≤ length (flat_map pair_spelling pairs)
+each_has_bytes [] = omega arith
+each_has_bytes (p ∷ pairs) = grind (arith, length-append, each_has_bytes pairs)
+
+few_in_one : (version : Version) (chunk : List ℕ) → IsWhole version chunk →
+    length (pairs_held chunk) ≤ length chunk
+few_in_one version [] w = omega arith
+few_in_one version (zero ∷ entries) w = grind (arith, each_has_bytes, leaf_pairs)
+few_in_one version (suc level ∷ entries) w = omega arith
+
+few_in_frames : (version : Version) (cs : List (List ℕ)) → AreWhole version cs →
+    length (flat_map pairs_held cs) ≤ length (flat_map framed cs)
+few_in_frames version [] w = omega arith
+few_in_frames version (c ∷ cs) w =
+    let here = few_in_one version c w.0 in
+    let more = few_in_frames version cs w.1 in
+    let pairs = length-append (pairs_held c) (flat_map pairs_held cs) in
+    let frames = length-append (framed c) (flat_map framed cs) in
+    let frame = length-append (0x43 ∷ to_be_bytes w64 (length c)) c in
+    omega arith
+
+pub few_held : (version : Version) (bytes : List ℕ) (spans : List (Range ℕ)) (place : ℕ) →
+    FramesTo bytes spans place → AreWhole version (chunks_in bytes spans) →
+    length (flat_map pairs_held (chunks_in bytes spans)) ≤ length bytes
+few_held version bytes spans place frames whole =
+    search (rules, few_in_frames, length-append, length-drop)
+
+frames_in : (bytes : List ℕ) (content : Content) → IsFileOf bytes content →
+    length (flat_map framed (chunks_of content)) ≤ length bytes
+frames_in bytes content f = grind (arith, frames_bytes, length-append)
+
+pub few_pairs : (bytes : List ℕ) (content : Content) → IsFileOf bytes content →
+    length content.pairs ≤ length bytes
+few_pairs bytes content f = grind (arith, map_holds, few_in_frames, frames_in)
+
+-- nor have its chunks
+
+few_framed : (cs : List (List ℕ)) → size_of cs ≤ length (flat_map framed cs)
+few_framed [] = omega arith
+few_framed (c ∷ cs) = grind (arith, length-append, few_framed cs)
+
+pub few_bytes : (bytes : List ℕ) (content : Content) → IsFileOf bytes content →
+    size_of (chunks_of content) ≤ length bytes
+few_bytes bytes content f = grind (arith, few_framed, frames_in)
+
+-- ---- the chunks of a file that was checked, found by their numbers and their references
+
+-- the chunks are those of whatever the bytes are a file of
+pub chunks_are : (bytes : List ℕ) (header : Header) (spans : List (Range ℕ))
+    (index : Index) → IsChecked bytes header spans index → (content : Content) →
+    length bytes < 2 ^ 64 → IsFileOf bytes content → chunks_in bytes spans ≡ chunks_of content
+chunks_are bytes header spans index checked content short is =
+    checked.chunks_are ∙ ap chunks_of (one_content bytes
+    (content_of header (chunks_in bytes spans)) content short checked.is is)
+
+-- the last is the root
+pub root_there : (content : Content) (number : ℕ) → number ≡ length (chunks_of content) - 1 →
+    get_or (chunks_of content) number [] ≡ root_bytes content
+root_there content number is = search (rules, chunks_last)
+
+-- a chunk that has a reference has a number
+pub number_of : (chunks : List (List ℕ)) (reference : List ℕ) (chunk : List ℕ) →
+    IsIn chunk chunks → reference_of chunk ≡ reference → (n : ℕ) × HasAt chunks n reference
+number_of [] reference chunk is_in is = absurd is_in
+number_of (c ∷ cs) reference chunk (inl e) is = search rules
+number_of (c ∷ cs) reference chunk (inr there) is =
+    let at = number_of cs reference chunk there is in
+    let within = at.1.within in
+    (suc at.0, record { within = omega arith; is = at.1.is })
+
+-- ---- what the steps of the checker find, in the words of the verdict
 
 abbrev pub Refused : List ℕ → CheckFault → Type 0
 Refused bytes fault = UnlessMemory (λ fault. IsVerdict bytes (Err fault)) fault
@@ -49,26 +189,17 @@ module _ (bytes : List ℕ) (header : Header) (spans : List (Range ℕ)) (place 
       (all : has_no_frame (drop place bytes) ≡ true) where
     framed_so : (ending : Result (List ℕ) CheckFault) → ending_of (length spans)
         (drop place bytes) ≡ ending → IsFramed (drop 6 bytes) cs ending
-    framed_so ending e = record {
-      tail = drop place bytes;
-      spelled = frames.spelled;
-      small = frames.small;
-      all = all;
-      is = ap (λ n. ending_of n (drop place bytes)) (length-map spans (chunk_in bytes)) ∙ e;
-    }
+    framed_so ending e = grind (arith, length-map)
 
     verdict_so : (verdict : Result Content CheckFault) →
         FramesVerdict header.version header.bits (drop 6 bytes) verdict → IsVerdict bytes verdict
-    verdict_so verdict f = subst (λ o. HeaderVerdict o bytes verdict) (sym lawful)
-        (subst (λ v. FramesVerdict v (slice_index bytes 5) (drop 6 bytes) verdict) version_is
-        (subst (λ n. FramesVerdict header.version n (drop 6 bytes) verdict) bits_are f))
+    verdict_so verdict f = grind arith
 
     -- what follows the frames, as the code has it
     module _ (rest : List ℕ) (number : ℕ) (left : rest ≡ drop place bytes)
         (count : number ≡ length spans) where
       ending_is : ending_of (length spans) (drop place bytes) ≡ ending_of number rest
-      ending_is = ap (λ n. ending_of n (drop place bytes)) (sym count) ∙
-          ap (ending_of number) (sym left)
+      ending_is = search rules
 
       pub at_ending : (fault : CheckFault) → ending_of number rest ≡ Err fault →
           Refused bytes fault
@@ -106,17 +237,13 @@ module _ (bytes : List ℕ) (header : Header) (spans : List (Range ℕ)) (place 
           reached = frames.reached;
           ending = drop 1 rest;
           behind = sym left ∙ ending_ok number rest (drop 1 rest) ended;
-          so = λ verdict e. read_so (Ok lists) verdict (all_hold header.version cs whole) e;
+          so = read_so (Ok lists) _ (all_hold header.version cs whole) refl;
         }
 
   -- ---- the chunks of the pairs, and the references
 
   module _ (l : IsLaidOut bytes header spans place) (chunks : List (List ℕ)) (are : chunks ≡ cs)
     where
-      -- the chunks hold few pairs
-      pub few_in : length bytes < 2 ^ 64 → length (flat_map pairs_held chunks) < 2 ^ 64
-      few_in short = omega (arith, l.few, ap (λ cs. length (flat_map pairs_held cs)) are)
-
       module _ (cut : ℕ) (same : cut ≡ header.bits) (rest : List ℕ) (left : rest ≡ drop place bytes)
         where
           abbrev it : Content
@@ -124,26 +251,21 @@ module _ (bytes : List ℕ) (header : Header) (spans : List (Range ℕ)) (place 
 
           says : (o : Option CheckFault) → Says header.version cut chunks rest o →
               canonical_fault header.version header.bits cs l.ending lists ≡ o
-          says o h = subst (λ q. Says header.version q cs rest o) same
-              (subst (λ cs. Says header.version cut cs rest o) are h) l.ending (left ∙ l.behind)
+          says o h = search rules
 
           pub at_canonical : (fault : CheckFault) →
               UnlessMemory (λ fault. Says header.version cut chunks rest (Some fault)) fault →
               Refused bytes fault
-          at_canonical fault = ⊎_map (λ memory. memory)
-              (λ h. l.so (Err fault) (sym
-              (ap (λ o. or_content it (or_else o (reuse [] 0 cs))) (says (Some fault) h))))
+          at_canonical fault = grind arith
 
           module _ (canonical : Says header.version cut chunks rest None) where
             then_reuse : judged header.version header.bits cs l.ending lists ≡
                 or_content it (reuse [] 0 chunks)
-            then_reuse = ap (λ o. or_content it (or_else o (reuse [] 0 cs))) (says None canonical) ∙
-                ap (λ cs. or_content it (reuse [] 0 cs)) (sym are)
+            then_reuse = search rules
 
             pub at_references : (fault : CheckFault) →
                 UnlessMemory (λ fault. reuse [] 0 chunks ≡ Some fault) fault → Refused bytes fault
-            at_references fault = ⊎_map (λ memory. memory)
-                (λ h. l.so (Err fault) (sym (then_reuse ∙ ap (or_content it) h)))
+            at_references fault = search rules
 
             pub at_end : (index : Index) → reuse [] 0 chunks ≡ None →
                 IsIndex index chunks → IsChecked bytes header spans index
@@ -154,7 +276,7 @@ module _ (bytes : List ℕ) (header : Header) (spans : List (Range ℕ)) (place 
                 record {
                   is = subst (IsFileOf bytes) content
                       (accepted_is_file bytes it
-                      (l.so (Ok it) (sym (then_reuse ∙ ap (or_content it) apart))));
+                      (subst (IsVerdict bytes) (then_reuse ∙ ap (or_content it) apart) l.so));
                   chunks_are = subst (λ content. cs ≡ chunks_of content) content
                       (sym (canonical_ok header.version header.bits cs l.ending lists
                       (says None canonical)).same);
@@ -162,3 +284,89 @@ module _ (bytes : List ℕ) (header : Header) (spans : List (Range ℕ)) (place 
                   whole = l.whole;
                   indexed = subst (IsIndex index) are indexed;
                 }
+
+-- ---- one more frame of a file
+
+pub one_more : (bytes : List ℕ) (spans : List (Range ℕ)) (place len : ℕ) → FramesTo bytes spans place →
+    BeginsFrame (drop place bytes) len →
+    FramesTo bytes (spans ++ record { start = place + 9; end = place + 9 + len } ∷ []) (place + 9 + len)
+one_more bytes spans place len f b =
+    let span : Range ℕ = record { start = place + 9; end = place + 9 + len } in
+    let rest = drop place bytes in
+    let long : length rest ≡ length bytes - place = length-drop place bytes in
+    let inside : 9 + len ≤ length rest = b.within in
+    let reached : place ≤ length bytes = f.reached in
+    let chunk : take len (drop 9 rest) ≡ chunk_in bytes span =
+    ap (take len) (drop-drop 9 place bytes) ∙
+    ap (λ n. take n (drop (place + 9) bytes)) (let e : len ≡ place + 9 + len - (place + 9) =
+    omega arith in e) in
+    let behind : drop (9 + len) rest ≡ drop (place + 9 + len) bytes =
+    drop-drop (9 + len) place bytes ∙ ap (λ n. drop n bytes) (let e : place + (9 + len) ≡ place +
+    9 + len = omega arith in e) in
+    let cs = chunks_in bytes spans in
+    let short : length (take len (drop 9 rest)) ≡ len =
+    length-take-le len (drop 9 rest) (omega (arith, length-drop 9 rest)) in
+    let fits : place + 9 + len ≤ length bytes = omega arith in
+    record {
+      reached = fits;
+      spelled = f.spelled ∙ ap (λ x. flat_map framed cs ++ x) b.is ∙
+          sym (append_assoc (flat_map framed cs) (framed (take len (drop 9 rest)))
+          (drop (9 + len) rest))
+          ∙ ap (λ x. x ++ drop (9 + len) rest)
+          (sym (flat_map-append framed cs (take len (drop 9 rest) ∷ []) ∙
+          ap (λ x. flat_map framed cs ++ x) (append-nil (framed (take len (drop 9 rest))))))
+          ∙ ap (λ c. flat_map framed (cs ++ c ∷ []) ++ drop (9 + len) rest) chunk
+          ∙ ap (λ x. flat_map framed x ++ drop (9 + len) rest)
+          (sym (map_push (chunk_in bytes) spans span))
+          ∙ ap (λ x. flat_map framed (chunks_in bytes (spans ++ span ∷ [])) ++ x) behind;
+      small = subst (AllByRecursion IsSmall) (sym (map_push (chunk_in bytes) spans span))
+          (all_append IsSmall cs (chunk_in bytes span ∷ []) f.small
+          (subst IsSmall chunk (let s : len < 2 ^ 64 = b.small in omega arith), tt));
+      within = all_append (IsWithin bytes) spans (span ∷ []) f.within ((omega arith, fits), tt);
+    }
+
+-- ---- the tests against the file of the pairs
+
+-- what `!=` of bytes says
+pub unequal : (x y : List ℕ) → true ≡ not (bytes_eq x y) → x ≡ y → ⊥
+unequal x y e f = false≢true (sym (e ∙ ap not ((bytes_eq-Decides x y).1 f)))
+
+pub equal : (x y : List ℕ) → false ≡ not (bytes_eq x y) → x ≡ y
+equal x y e = (bytes_eq-Decides x y).0 (not-false (bytes_eq x y) (sym e))
+
+own_ending : (version : Version) (bits : ℕ) (pairs : List Pair) →
+    ending_of_chunks (chunk_bytes version bits pairs) ≡ ending_for version bits pairs
+own_ending version bits pairs = grind (arith, chunks_last, length-map)
+
+-- the end record of the last reference and the number of chunks is theirs
+pub ends_so : (cs : List (List ℕ)) (references : List Ref) (count : ℕ) (other : Ref) →
+    AreReferences cs references → count ≡ length cs → 0 < length cs →
+    end_record (get_or references (count - 1) other).0 count ≡ 0x45 ∷ ending_of_chunks cs
+ends_so cs references count other are e some = search (rules, reference_at, as_many, get_or)
+
+-- where the keys rise, the chunks are tested, and then the end record
+module _ (version : Version) (bits : ℕ) (cs : List (List ℕ))
+    (rise : order_fault None 0 (map pairs_held cs) ≡ None) (behind : List ℕ) where
+  pub chunks_say : (fault : CheckFault) → CompareAs version bits cs (Some fault) →
+      Says version bits cs behind (Some fault)
+  chunks_say fault differ ending e = rw (rise, flat_held cs, differ)
+
+  module _ (same : CompareAs version bits cs None) where
+    abbrev wanted : List ℕ
+    wanted = ending_for version bits (flat_map pairs_held cs)
+
+    are_chunks : chunk_bytes version bits (flat_map pairs_held cs) ≡ cs
+    are_chunks = difference_ok 0 (chunk_bytes version bits (flat_map pairs_held cs)) cs same
+
+    pub some_chunks : 0 < length cs
+    some_chunks = search (rules, are_chunks, chunks_some)
+
+    ends_as : 0x45 ∷ ending_of_chunks cs ≡ 0x45 ∷ wanted
+    ends_as = search (rules, are_chunks, own_ending)
+
+    pub end_says : (fault : CheckFault) → (fault ≡ faults.BadEnd) ×
+        (behind ≡ 0x45 ∷ ending_of_chunks cs → ⊥) → Says version bits cs behind (Some fault)
+    end_says fault bad ending e = search (rules, flat_held, ends_as)
+
+    pub all_say : behind ≡ 0x45 ∷ ending_of_chunks cs → Says version bits cs behind None
+    all_say is ending e = search (rules, flat_held, ends_as)

@@ -1,32 +1,34 @@
 -- The child of a node that a look-up goes on in.
-use Rattle.std.proofs.Common.{◌≡◌, ℕ, suc, ◌+◌, ◌-◌, ◌^◌, ◌<◌, ◌≤◌, nat_lt, inl, inr, Bool, false, List}
-use Rattle.std.proofs.Common.{[]}
-use Rattle.std.proofs.Common.{◌∷◌, ◌++◌, length, map, Option, Some, None, refl, sym, ap, ◌∙◌, subst}
-use Rattle.std.proofs.Common.{arith}
-use Rattle.std.specs.Prelude.{option_map}
+use Rattle.std.proofs.Common.{rules, ◌≡◌, ℕ, suc, ◌+◌, ◌-◌, ◌^◌, ◌<◌, ◌≤◌, nat_lt, inl, inr, Bool}
+use Rattle.std.proofs.Common.{false, List, [], ◌∷◌, ◌++◌, length, map, Option, Some, None, refl}
+use Rattle.std.proofs.Common.{sym, ap, ◌∙◌, subst, arith, drop, append_assoc}
 use Rattle.std.specs.List.{AllByRecursion, flat_map}
 use Rattle.std.specs.Ordering.{is_lt}
+use Rattle.std.specs.Prelude.{option_map}
 use Rattle.std.proofs.lemmas.Bool.{cases_Bool, cond-false, cond-true, ltb-false, ltb-true}
-use Rattle.std.proofs.lemmas.List.{length-append}
+use Rattle.std.proofs.lemmas.Grind.{common_steps}
+use Rattle.std.proofs.lemmas.List.{length-append, drop-drop, length-drop}
 use Rattle.std.proofs.lemmas.List.Concat.{flat_map-append}
 use Rattle.std.proofs.lemmas.Nat.{from_be_bytes-to_be_bytes_8}
-use Rattle.prolly_entry.specs.Keys.{key_order, KeyBelow}
+use Rattle.prolly_entry.specs.Keys.{key_order, KeyBelow, Rising, RisingFrom}
 use Rattle.prolly_entry.specs.Pair.{Pair}
 use Rattle.prolly_entry.specs.Reference.{reference_of}
 use Rattle.prolly_entry.specs.declared.version.Version.{Version}
 use Rattle.prolly_entry.specs.declared.version.Version.TheVariants.{Two}
+use Rattle.prolly_entry.specs.lemmas.Orders.{order_trans}
 use Rattle.prolly_tree.specs.Tree.{Tree, bytes_of, greatest_key, pair_count, pairs_below}
 use Rattle.prolly_tree.specs.lemmas.Maps.{Rises, rises, rises_front}
-use Rattle.prolly_check.specs.Children.{child_for, child_with}
 use Rattle.prolly_check.specs.Descent.{IsTreeOf, child_of}
-use Rattle.prolly_check.specs.Entries.{Child}
+use Rattle.prolly_check.specs.Entries.{Child, IsNode, children_in}
 use Rattle.prolly_check.specs.Leaves.{pairs_from}
-use Rattle.prolly_check.specs.Sought.{Sought, child_sought, counted_child, found_child}
-use Rattle.prolly_check.specs.Sought.{reference_and_sought}
+use Rattle.prolly_check.specs.Sought.{child_for, child_with, Sought, child_sought, counted_child}
+use Rattle.prolly_check.specs.Sought.{found_child, reference_and_sought, IsMark}
 use Rattle.prolly_check.specs.Sought.Sought.{Key, Number}
-use Rattle.prolly_check.proofs.Lookups.{child_some, trees_below}
-use Rattle.prolly_check.proofs.Scans.{some_from}
-use Rattle.prolly_check.proofs.Verdicts.{is_less, some_none}
+use Rattle.prolly_check.specs.declared.look_up.sought.Mark.{Mark}
+use Rattle.prolly_check.proofs.MapTree.{child_some}
+use Rattle.prolly_check.proofs.PairsFrom.{trees_below, some_from}
+use Rattle.prolly_check.proofs.RisingKeys.{is_less}
+use Rattle.prolly_check.proofs.Verdicts.{some_none}
 
 -- ---- the child to which a key leads
 
@@ -279,23 +281,80 @@ module _ (version : Version) (cs : List (List ℕ)) (level : ℕ) (trees : List 
   pub chosen : (sought next : Sought) (reference : List ℕ) → CanCount version sought all →
       option_map reference_and_sought (child_sought sought (map (child_of version level) trees)) ≡
       Some (reference, next) → ChosenIn version level trees sought next reference
-  chosen (Key key) next reference can e = key_chosen key next reference
-      (picked version level key trees) refl e
-  chosen (Number n) next reference can e = number_chosen n next reference
-      (child_with n (map (child_of version level) trees)) can.0 can.1 refl e
+  chosen (Key key) next reference can e = search (rules, key_chosen)
+  chosen (Number n) next reference can e = search (rules, number_chosen)
 
   pub none_chosen : (sought : Sought) → CanCount version sought all →
       child_sought sought (map (child_of version level) trees) ≡ None → AllPast sought all
-  none_chosen (Key key) can e = trees_below level trees key (rises all b.rising)
-      (leads_nowhere version level key trees (no_key (picked version level key trees) e))
-    where
-      no_key : (o : Option Child) → option_map (found_child key) o ≡ None → o ≡ None
-      no_key None e = refl
-      no_key (Some c) e = cc
-  none_chosen (Number n) can e = counts_past level trees n can.1
-      (ap (λ v. child_with n (map (child_of v level) trees)) (sym can.0) ∙
-      no_number (child_with n (map (child_of version level) trees)) e)
-    where
-      no_number : (o : Option (Child × ℕ)) → option_map counted_child o ≡ None → o ≡ None
-      no_number None e = refl
-      no_number (Some c) e = cc
+  none_chosen (Key key) can e = grind (arith, trees_below, rises, leads_nowhere)
+  none_chosen (Number n) can e = grind (arith, counts_past)
+
+-- ---- children below a key
+
+abbrev keys : List Child → List (List ℕ)
+keys children = map (λ c. c.key) children
+
+rising_rest : (x : List ℕ) (xs : List (List ℕ)) → RisingFrom x xs → Rising xs
+rising_rest x [] rising = tt
+rising_rest x (y ∷ ys) rising = rising.1
+
+module _ (child : Child) (others : List Child) where
+  before_it : (x : List ℕ) (before : List Child) →
+      RisingFrom x (keys (before ++ child ∷ others)) → KeyBelow x child.key
+  before_it x [] rising = rising.0
+  before_it x (b ∷ before) rising = search (rules, order_trans, before_it b.key before rising.1)
+
+  -- where one of rising children is below the key, those before it are, too
+  pub passed_over : (key : List ℕ) (before : List Child) →
+      Rising (keys (before ++ child ∷ others)) → KeyBelow child.key key →
+      child_for key (before ++ child ∷ others) ≡ child_for key (child ∷ others)
+  passed_over key [] rising below = refl
+  passed_over key (b ∷ before) rising below = search (
+    rules,
+    common_steps,
+    cond-true,
+    order_trans,
+    before_it,
+    rising_rest,
+    passed_over key before (rising_rest b.key (keys (before ++ child ∷ others)) rising) below,
+  )
+
+-- ---- marks
+
+-- behind the child that stands there
+module _ (version : Version) (chunk : List ℕ) (mark : Mark) (is : IsMark version chunk mark)
+    (child : Child) (entries rest : List ℕ) (are : entries ≡ drop mark.offset chunk)
+    (first : children_in version entries ≡ child ∷ children_in version rest)
+    (shorter : length rest < length entries)
+    (behind : rest ≡ drop (length entries - length rest) entries)
+    (node : IsNode version rest []) where
+  size : length entries ≡ length chunk - mark.offset
+  size = ap length are ∙ length-drop mark.offset chunk
+
+  rest_there : rest ≡ drop (length chunk - length rest) chunk
+  rest_there = grind (arith, drop-drop, size)
+
+  pub mark_behind : (next : Mark) → next.number ≡ mark.number + 1 →
+      next.offset ≡ length chunk - length rest → IsMark version chunk next
+  mark_behind next number place =
+      let there : rest ≡ drop next.offset chunk =
+      rest_there ∙ ap (λ n. drop n chunk) (sym place) in record {
+        before = is.before ++ child ∷ [];
+        are = is.are ∙ ap (λ cs. is.before ++ cs)
+            (ap (children_in version) (sym are) ∙ first ∙
+            ap (λ bytes. child ∷ children_in version bytes) there) ∙
+            sym (append_assoc is.before (child ∷ []) (children_in version (drop next.offset chunk)));
+        number = omega (arith, number, is.number, length-append is.before (child ∷ []));
+        node = λ whole. subst (λ bytes. IsNode version bytes []) there node;
+        few = omega (arith, number, place, is.few, is.within, shorter, size);
+        within = omega (arith, place);
+      }
+
+-- from a mark behind which a child is below the key
+pub begins_there : (version : Version) (chunk : List ℕ) (mark : Mark) →
+    IsMark version chunk mark → (child : Child) (others : List Child) →
+    children_in version (drop mark.offset chunk) ≡ child ∷ others → (key : List ℕ) →
+    Rising (keys (children_in version (drop 1 chunk))) → KeyBelow child.key key →
+    child_for key (children_in version (drop 1 chunk)) ≡
+    child_for key (children_in version (drop mark.offset chunk))
+begins_there version chunk mark is child others first key rising below = search (rules, passed_over)

@@ -1,9 +1,26 @@
 -- Entries that bytes spell, read one after another.
-use Rattle.std.proofs.Common.{◌≡◌, ℕ, zero, suc, ◌<◌, ◌≤◌, List, [], ◌∷◌, ◌++◌, length, drop, map}
-use Rattle.std.proofs.Common.{refl, sym, ap, ◌∙◌, arith, append_assoc}
+use Rattle.std.proofs.Common.{rules, ◌≡◌, ℕ, zero, suc, ◌<◌, ◌≤◌, List, [], ◌∷◌, ◌++◌, length, drop}
+use Rattle.std.proofs.Common.{map, refl, sym, ap, ◌∙◌, arith, append_assoc, ◌+◌, ◌==◌, Some}
+use Rattle.std.proofs.Common.{length-drop, ◌-◌, take}
+use Rattle.std.specs.Int.{w32, to_be_bytes}
 use Rattle.std.specs.List.{flat_map, AllByRecursion}
-use Rattle.std.proofs.lemmas.List.{length-append}
-use Rattle.prolly_check.specs.Entries.{BeginsWith, entries_up_to, entries_in}
+use Rattle.std.proofs.lemmas.Bool.Decides.{nat_tests}
+use Rattle.std.proofs.lemmas.Grind.{common_steps}
+use Rattle.std.proofs.lemmas.List.{length-append, take_at, drop-drop, map-id}
+use Rattle.prolly_entry.specs.ChildAt.{tail_length, NoChildAt}
+use Rattle.prolly_entry.specs.Front.{NoPairAt}
+use Rattle.prolly_entry.specs.Pair.{Pair, IsPair}
+use Rattle.prolly_entry.specs.Reading.{key_length}
+use Rattle.prolly_entry.specs.Spelling.{key_spelling, pair_spelling, count_spelling}
+use Rattle.prolly_entry.specs.declared.version.Version.{Version}
+use Rattle.prolly_entry.specs.declared.version.Version.TheVariants.{One, Two}
+use Rattle.prolly_entry.specs.lemmas.Spellings.{numbers, key_size, pair_spellings_apart, found_key}
+use Rattle.prolly_entry.specs.lemmas.Spellings.{key_there, after_two, child_spellings_apart}
+use Rattle.prolly_tree.specs.RecordFile.{record_file}
+use Rattle.prolly_check.specs.Entries.{BeginsWith, entries_up_to, entries_in, NoLeaf, IsLeaf}
+use Rattle.prolly_check.specs.Entries.{first_pair, behind_pair, pairs_in, NoNode, Child, IsChild}
+use Rattle.prolly_check.specs.Entries.{IsNode, entry_of, first_count, first_child, behind_child}
+use Rattle.prolly_check.specs.Entries.{children_in, IsSomeLeaf}
 
 -- ---- lawful entries and nothing else
 
@@ -27,12 +44,7 @@ module _ {A : Type 0} (spelling : A → List ℕ) (Lawful : A → Type 0)
     (apart : AreApart spelling Lawful) where
   pub shorter : (bytes rest : List ℕ) (entry : A) → BeginsWith spelling Lawful bytes entry rest →
       length rest < length bytes
-  shorter bytes rest entry b = omega (
-    arith,
-    ap length b.is,
-    length-append (spelling entry) rest,
-    apart.some entry,
-  )
+  shorter bytes rest entry b = grind (arith, length-append)
 
   pub one_more : (bytes rest : List ℕ) (entry : A) → BeginsWith spelling Lawful bytes entry rest →
       AreEntries spelling Lawful rest → AreEntries spelling Lawful bytes
@@ -93,22 +105,16 @@ module _ {B : Type 0} (first : List ℕ → B) (behind : List ℕ → List ℕ) 
     enough (suc n) zero [] h k = refl
     enough (suc n) (suc m) [] h k = refl
     enough zero m (b ∷ bytes) h k = absurd (let h' : suc (length bytes) ≤ 0 = h in omega arith)
-    enough (suc n) zero (b ∷ bytes) h k = absurd (let k' : suc (length bytes) ≤ 0 = k in
-        omega arith)
-    enough (suc n) (suc m) (b ∷ bytes) h k =
-        let h' : suc (length bytes) ≤ suc n = h in
-        let k' : suc (length bytes) ≤ suc m = k in
-        let less = shrinks b bytes in
-        ap (λ entries. first (b ∷ bytes) ∷ entries)
-        (enough n m (behind (b ∷ bytes)) (omega arith) (omega arith))
+    enough (suc n) zero (b ∷ bytes) h k = search rules
+    enough (suc n) (suc m) (b ∷ bytes) h k = simp (
+      common_steps,
+      enough n m (behind (b ∷ bytes)) (omega arith) (omega arith),
+    )
 
     pub first_in : (bytes : List ℕ) → 0 < length bytes →
         entries_in first behind bytes ≡ first bytes ∷ entries_in first behind (behind bytes)
     first_in [] h = absurd (omega arith)
-    first_in (b ∷ bytes) h =
-        ap (λ entries. first (b ∷ bytes) ∷ entries)
-        (enough (length bytes) (length (behind (b ∷ bytes))) (behind (b ∷ bytes))
-        (shrinks b bytes) (omega arith))
+    first_in (b ∷ bytes) h = grind (arith, enough)
 
 pub drop_front : (xs ys : List ℕ) (n : ℕ) → n ≡ length xs → drop n (xs ++ ys) ≡ ys
 drop_front [] ys n e = ap (λ m. drop m ys) e
@@ -126,12 +132,7 @@ module _ {B : Type 0} (first : List ℕ → B) (behind : List ℕ → List ℕ) 
     pub reads_on : (bytes spelled more : List ℕ) (entry : B) → Reads first behind spelled entry →
         bytes ≡ spelled ++ more → entries_in first behind bytes ≡ entry ∷ entries_in first behind
         more
-    reads_on bytes spelled more entry r e =
-        first_in first behind shrinks bytes (let some = r.some in
-        omega (arith, ap length e, length-append spelled more))
-        ∙ ap (λ b. first b ∷ entries_in first behind (behind b)) e
-        ∙ ap (λ b. b ∷ entries_in first behind (behind (spelled ++ more))) (r.read more)
-        ∙ ap (λ b. entry ∷ entries_in first behind b) (r.left more)
+    reads_on bytes spelled more entry r e = grind (arith, first_in, length-append)
 
     pub reads_all : {A : Type 0} (spelling : A → List ℕ) (read : A → B) (Lawful : A → Type 0) →
         ((a : A) → Lawful a → Reads first behind (spelling a) (read a)) →
@@ -142,3 +143,220 @@ module _ {B : Type 0} (first : List ℕ → B) (behind : List ℕ → List ℕ) 
         reads_on (flat_map spelling (a ∷ entries)) (spelling a) (flat_map spelling entries) (read a)
         (reads a h.0) refl
         ∙ ap (λ bs. read a ∷ bs) (reads_all spelling read Lawful reads entries h.1)
+
+-- ---- the pairs that entries spell
+
+pub leaf_apart : AreApart pair_spelling IsPair
+leaf_apart = grind (arith, pair_spellings_apart)
+
+pub some_leaf : (entries : List ℕ) → AreEntries pair_spelling IsPair entries → IsSomeLeaf entries
+some_leaf entries e = record { pairs = e.entries; is = record { is = e.is; lawful = e.lawful } }
+
+module _ (entries rest : List ℕ) (p : Pair) (b : BeginsWith pair_spelling IsPair entries p rest)
+  where
+    pub leaf_more : IsSomeLeaf rest → IsSomeLeaf entries
+    leaf_more l = search (rules, some_leaf, one_more, leaf_apart)
+
+    pub leaf_less : IsSomeLeaf entries → IsSomeLeaf rest
+    leaf_less l = search (rules, some_leaf, one_less, leaf_apart)
+
+pub leaf_left : (entries : List ℕ) → NoPairAt entries → IsSomeLeaf entries → entries ≡ []
+leaf_left entries none l = search (rules, nothing_left, leaf_apart)
+
+-- behind lawful pairs there are bytes that no pair's spelling begins
+pub no_leaf : NoLeaf
+no_leaf done pairs rest lawful left none l =
+    rest_is_none pair_spelling IsPair leaf_apart done rest lawful left none
+    (record { entries = pairs; is = l.is; lawful = l.lawful })
+
+-- ---- what is read of them
+
+pair_shrinks : Shrinks behind_pair
+pair_shrinks b bytes = grind (arith, length-drop)
+
+pair_reads : (p : Pair) → IsPair p → Reads first_pair behind_pair (pair_spelling p) p
+pair_reads p h = record {
+  some = leaf_apart.some p;
+  read = λ more. (both more).0;
+  left = λ more. (both more).1;
+}
+  where
+    both : (more : List ℕ) → (first_pair (pair_spelling p ++ more) ≡ p) ×
+        (behind_pair (pair_spelling p ++ more) ≡ more)
+    both more =
+        let entries = pair_spelling p ++ more in
+        let n = numbers (record { key = p.key; value = Some p.value }) more entries
+        (record { key = h.key; value = h.value }) refl in
+        let front = key_spelling p.key ++ to_be_bytes w32 (length p.value) in
+        let parts : entries ≡ front ++ (p.value ++ more) = simp append_assoc in
+        let size : 6 + length p.key ≡ length front =
+        omega (
+          arith,
+          length-append (key_spelling p.key) (to_be_bytes w32 (length p.value)),
+          key_size p.key,
+        ) in
+        let left : drop (6 + length p.key) entries ≡ p.value ++ more =
+        ap (drop (6 + length p.key)) parts ∙
+        drop_front front (p.value ++ more) (6 + length p.key) size in (
+          rw (n.there, n.value, n.key, left, take_at p.value more (length p.value) refl) refl,
+          rw (n.value, n.key) (sym (drop-drop (length p.value) (6 + length p.key) entries) ∙
+              ap (drop (length p.value)) left ∙ drop_front p.value more (length p.value) refl),
+        )
+
+pub leaf_pairs : (entries : List ℕ) (pairs : List Pair) → IsLeaf entries pairs →
+    pairs_in entries ≡ pairs
+unfolding pairs_in
+leaf_pairs entries pairs h =
+    ap (entries_in first_pair behind_pair) h.is ∙ reads_all first_pair behind_pair pair_shrinks
+    pair_spelling (λ p. p) IsPair pair_reads pairs h.lawful ∙ map-id pairs
+
+pub next_pair : (entries : List ℕ) (p : Pair) (rest : List ℕ) →
+    BeginsWith pair_spelling IsPair entries p rest → pairs_in entries ≡ p ∷ pairs_in rest
+unfolding pairs_in
+next_pair entries p rest b = search (rules, reads_on, pair_shrinks, pair_reads)
+
+pub no_next : (entries : List ℕ) → NoPairAt entries → IsSomeLeaf entries → pairs_in entries ≡ []
+unfolding pairs_in
+no_next entries none l = ap (entries_in first_pair behind_pair) (leaf_left entries none l)
+
+-- the bytes of a leaf's entries are the spellings of its pairs
+pub leaf_spelled : (entries : List ℕ) → IsSomeLeaf entries →
+    entries ≡ record_file (pairs_in entries)
+leaf_spelled entries l = l.is.is ∙ ap record_file (sym (leaf_pairs entries l.pairs l.is))
+
+-- so entries that have the same pairs are the same
+pub entries_same : (entries other : List ℕ) → IsSomeLeaf entries → IsSomeLeaf other →
+    pairs_in entries ≡ pairs_in other → entries ≡ other
+entries_same entries other l m e = leaf_spelled entries l ∙ ap record_file e ∙
+    sym (leaf_spelled other m)
+
+-- and entries have bytes exactly where they have pairs
+pub some_spelled : (entries : List ℕ) → IsSomeLeaf entries →
+    (length entries == 0) ≡ (length (pairs_in entries) == 0)
+some_spelled entries l = ap (λ bytes. length bytes == 0) (leaf_spelled entries l) ∙
+    some (pairs_in entries)
+  where
+    some : (pairs : List Pair) → (length (record_file pairs) == 0) ≡ (length pairs == 0)
+    some [] = refl
+    some (p ∷ ps) = grind (arith, nat_tests)
+
+-- ---- the children that entries spell
+
+pub node_apart : (version : Version) → AreApart (entry_of version) IsChild
+node_apart version = record {
+  some = λ c. omega arith;
+  rests = λ c d x y h k e. (child_spellings_apart version c.key d.key c.reference d.reference
+      c.count d.count x y h.key k.key (h.reference ∙ sym k.reference) e).3;
+}
+
+some_node : (version : Version) (entries : List ℕ) → AreEntries (entry_of version) IsChild entries →
+    IsNode version entries []
+some_node version entries e = grind arith
+
+node_entries : (version : Version) (entries : List ℕ) → IsNode version entries [] →
+    AreEntries (entry_of version) IsChild entries
+node_entries version entries n = record { entries = n.children; is = n.is; lawful = n.lawful }
+
+module _ (version : Version) (entries rest : List ℕ) (c : Child)
+    (b : BeginsWith (entry_of version) IsChild entries c rest) where
+  pub node_more : IsNode version rest [] → IsNode version entries []
+  node_more n = search (rules, some_node, one_more, node_apart)
+
+  pub node_less : IsNode version entries [] → IsNode version rest []
+  node_less n = search (rules, some_node, one_less, node_apart)
+
+  pub behind_first : rest ≡ drop (length entries - length rest) entries
+  behind_first =
+      let size = length entries - length rest in
+      sym (ap (drop size) b.is ∙ drop_front (entry_of version c) rest size (omega (
+        arith,
+        ap length b.is,
+        length-append (entry_of version c) rest,
+      )))
+
+pub node_left : (version : Version) (entries : List ℕ) → NoChildAt version entries →
+    IsNode version entries [] → entries ≡ []
+node_left version entries none n = nothing_left (entry_of version) IsChild (node_apart version)
+    entries
+    (λ c more h e. none c.key c.reference c.count more h.key h.reference e)
+    (node_entries version entries n)
+
+-- behind lawful child entries there are bytes that none begins
+pub no_node : (version : Version) → NoNode version
+no_node version done pairs rest lawful left none n =
+    rest_is_none (entry_of version) IsChild (node_apart version) done rest lawful left none
+    (record { entries = n.children; is = n.is; lawful = n.lawful })
+
+-- ---- what is read of them
+
+pub child_shrinks : (version : Version) → Shrinks (behind_child version)
+child_shrinks version b bytes = grind (arith, length-drop)
+
+-- a child as it is read from its entry
+abbrev pub as_read : Version → Child → Child
+as_read version c = record {
+  key = c.key;
+  reference = c.reference;
+  count = first_count version (count_spelling version c.count);
+}
+
+count_in_front : (version : Version) (count : ℕ) (more : List ℕ) →
+    first_count version (count_spelling version count ++ more) ≡
+    first_count version (count_spelling version count)
+count_in_front One count more = refl
+count_in_front Two count more = refl
+
+tail_size : (version : Version) (count : ℕ) →
+    tail_length version ≡ 20 + length (count_spelling version count)
+tail_size One count = refl
+tail_size Two count = refl
+
+pub child_reads : (version : Version) (c : Child) → IsChild c →
+    Reads (first_child version) (behind_child version) (entry_of version c) (as_read version c)
+child_reads version c h = record {
+  some = (node_apart version).some c;
+  read = λ more. (both more).0;
+  left = λ more. (both more).1;
+}
+  where
+    both : (more : List ℕ) → (first_child version (entry_of version c ++ more) ≡ as_read version c)
+        × (behind_child version (entry_of version c ++ more) ≡ more)
+    both more =
+        let size = length c.key in
+        let tail = count_spelling version c.count in
+        let rest = c.reference ++ (tail ++ more) in
+        let bytes = key_spelling c.key ++ rest in
+        let parts : entry_of version c ++ more ≡ bytes = simp append_assoc in
+        let found : key_length bytes ≡ size = found_key c.key rest h.key in
+        let behind : drop (2 + size) bytes ≡ rest = after_two c.key rest size refl in
+        let reference : take 20 rest ≡ c.reference = take_at c.reference (tail ++ more) 20 h.reference
+        in
+        let counted : drop (2 + size + 20) bytes ≡ tail ++ more =
+        sym (drop-drop 20 (2 + size) bytes) ∙ ap (drop 20) behind ∙
+        drop_front c.reference (tail ++ more) 20 (sym h.reference) in
+        let left : drop (2 + size + tail_length version) bytes ≡ more =
+        sym (drop-drop (tail_length version) (2 + size) bytes) ∙
+        ap (drop (tail_length version)) (behind ∙ sym (append_assoc c.reference tail more))
+        ∙ drop_front (c.reference ++ tail) more (tail_length version) (tail_size version c.count ∙
+        omega (arith, length-append c.reference tail, h.reference)) in (
+          ap (first_child version) parts ∙
+              rw (found, key_there c.key rest size refl, behind, reference, counted, count_in_front version c.count more) refl,
+          ap (behind_child version) parts ∙ rw found left,
+        )
+
+pub next_child : (version : Version) (entries rest : List ℕ) (c : Child) →
+    BeginsWith (entry_of version) IsChild entries c rest →
+    first_count version (count_spelling version c.count) ≡ c.count →
+    children_in version entries ≡ c ∷ children_in version rest
+unfolding children_in
+next_child version entries rest c b counted =
+    reads_on (first_child version) (behind_child version) (child_shrinks version) entries
+    (entry_of version c) rest (as_read version c) (child_reads version c b.lawful) b.is
+    ∙ ap (λ n. record { key = c.key; reference = c.reference; count = n } ∷ entries_in
+    (first_child version) (behind_child version) rest) counted
+
+pub no_next_child : (version : Version) (entries : List ℕ) → NoChildAt version entries →
+    IsNode version entries [] → children_in version entries ≡ []
+unfolding children_in
+no_next_child version entries none n = ap (entries_in (first_child version) (behind_child version))
+    (node_left version entries none n)

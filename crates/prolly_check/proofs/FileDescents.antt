@@ -1,6 +1,5 @@
 -- Going down the tree of a file that was checked.
-use Rattle.std.proofs.Common.{◌≡◌, ℕ, suc, ◌<◌, ◌≤◌, inl, inr, ◌⊎◌, List, [], ◌∷◌, ◌++◌}
-use Rattle.std.proofs.Common.{length}
+use Rattle.std.proofs.Common.{rules, ◌≡◌, ℕ, suc, ◌<◌, ◌≤◌, inl, inr, List, [], ◌∷◌, ◌++◌, length}
 use Rattle.std.proofs.Common.{map, refl, sym, ap, ◌∙◌, subst, arith}
 use Rattle.std.specs.Borrow.{Bor}
 use Rattle.std.specs.List.{AllByRecursion}
@@ -8,28 +7,25 @@ use Rattle.std.proofs.lemmas.List.{length-append, map-append}
 use Rattle.prolly_entry.specs.Pair.{Pair}
 use Rattle.prolly_entry.specs.Reference.{reference_of}
 use Rattle.prolly_entry.specs.lemmas.Lists.{all_append}
-use Rattle.prolly_laws.specs.Trees.{top_in}
 use Rattle.prolly_tree.specs.Chunk.{IsIn, chunk_of}
 use Rattle.prolly_tree.specs.Tree.{bytes_of, pairs_below}
-use Rattle.prolly_check.specs.Checked.{HasFile, HasReference, chunks_of}
-use Rattle.prolly_check.specs.Content.{Content}
+use Rattle.prolly_laws.specs.Trees.{top_in}
+use Rattle.prolly_check.specs.Checked.{HasFile, HasReference, chunks_of, HasAt}
+use Rattle.prolly_check.specs.Content.{Content, root_bytes}
 use Rattle.prolly_check.specs.FileWays.{IsCounted, IsEnd, IsNamedAt, IsNext, IsTop, nth_chunk}
 use Rattle.prolly_check.specs.Held.{pairs_held}
-use Rattle.prolly_check.specs.Index.{HasAt}
 use Rattle.prolly_check.specs.Kinds.{kind_of}
-use Rattle.prolly_check.specs.Root.{root_bytes}
 use Rattle.prolly_check.specs.Sought.{Sought, EndsAt, LeadsOn, sought_of}
 use Rattle.prolly_check.specs.Sought.Sought.{Key, Number}
 use Rattle.prolly_check.specs.Way.{Clash, IsOrdered, Lead, LevelsFall, level_of}
 use Rattle.prolly_check.specs.declared.look_up.descent.At.{At}
 use Rattle.prolly_check.specs.lemmas.Ways.{lead_more}
+use Rattle.prolly_check.proofs.CheckedFile.{few_pairs}
 use Rattle.prolly_check.proofs.Chosen.{CanCount}
-use Rattle.prolly_check.proofs.FewPairs.{few_pairs}
-use Rattle.prolly_check.proofs.Lookups.{one_chunk, reference_leads, root_is}
-use Rattle.prolly_check.proofs.Standing.{Tells, stands_in_all}
-use Rattle.prolly_check.proofs.TreeTops.{top_is_read}
-use Rattle.prolly_check.proofs.TreeWays.{GoesTo, goes_to, way_right}
-use Rattle.prolly_check.proofs.WayDown.{height_is, is_there, root_of, root_pairs}
+use Rattle.prolly_check.specs.lemmas.Chunks.{one_chunk}
+use Rattle.prolly_check.proofs.MapTree.{root_is, top_is_read, height_is, is_there}
+use Rattle.prolly_check.proofs.MapTree.{root_of, root_pairs}
+use Rattle.prolly_check.proofs.TreeWays.{Tells, stands_in_all, GoesTo, goes_to, way_right}
 
 -- ---- from one chunk to the next
 
@@ -66,20 +62,17 @@ module _ (content : Content) (f : HasFile content) (number : ℕ) (top : IsTop c
     }
 
     counted_still : IsCounted content.version next
-    counted_still = still next to.at.can
-      where
-        still : (s : Sought) → CanCount content.version s (pairs_below to.level to.t) →
-            IsCounted content.version s
-        still (Key key) can = tt
-        still (Number n) can = can.0
+    counted_still = grind arith
 
     pub one_below : (n : ℕ) → HasAt (chunks_of content) n reference →
         IsTop content n × (level_of (nth_chunk content number) ≡ suc (level_of (nth_chunk content n)))
         × IsCounted content.version next
+    unfolding to is_there_below
     one_below n at =
         let is : nth_chunk content n ≡ bytes_of content.version to.level to.t =
-        (reference_leads content.version).0 (chunks_of content) to.level to.t (nth_chunk content n)
-        f.is.apart to.at.of.has (is_there (chunks_of content) n at.within) (at.is ∙ to.named) in
+        one_chunk (chunks_of content) (nth_chunk content n)
+        (bytes_of content.version to.level to.t) f.is.apart
+        (is_there (chunks_of content) n at.within) is_there_below.is_in (at.is ∙ to.named) in
         let few : length (pairs_below to.level to.t) ≤ length (pairs_below top.level top.tree) =
         part to.at.stands.before (pairs_below to.level to.t) to.at.stands.after
         (pairs_below top.level top.tree) to.at.stands.are in (
@@ -137,8 +130,7 @@ falls_more (c ∷ d ∷ chunks) chunk below down one =
 pub pushed : (items new : List (Bor (List ℕ))) (one : Bor (List ℕ)) (chunk : List ℕ) →
     new ≡ items ++ one ∷ [] → one.now ≡ chunk →
     map (λ c. c.now) new ≡ map (λ c. c.now) items ++ chunk ∷ []
-pushed items new one chunk is at = ap (map (λ c. c.now)) is ∙
-    map-append (λ c. c.now) items (one ∷ []) ∙ ap (λ c. map (λ c. c.now) items ++ c ∷ []) at
+pushed items new one chunk is at = search (rules, map-append)
 
 -- these chunks of the file led a look-up to the chunk of this number
 pub record OnWay (content : Content) (sought : Sought) (above : List (List ℕ)) (number : ℕ)
@@ -185,21 +177,11 @@ module _ (content : Content) (sought : Sought) (above : List (List ℕ)) (at : A
   chunk = nth_chunk content at.number
 
   all_inside : AllByRecursion (λ c. IsIn c (chunks_of content)) (above ++ chunk ∷ [])
-  all_inside = all_append (λ c. IsIn c (chunks_of content)) above (chunk ∷ []) on.inside
-      (is_there (chunks_of content) at.number on.top.within, tt)
+  all_inside = search (rules, all_append, is_there)
 
   pub way_goes_on : (next : At) → IsNext content at next →
       OnWay content sought (above ++ chunk ∷ []) next.number (sought_of next.sought)
-  way_goes_on next to = record {
-    top = to.top;
-    counted = to.counted;
-    lead = lead_more content.version sought (reference_of (root_bytes content)) above
-        (reference_of chunk) (sought_of at.sought) chunk
-        (reference_of (nth_chunk content next.number)) (sought_of next.sought) on.lead named
-        to.leads;
-    down = falls_more above chunk (nth_chunk content next.number) on.down to.falls;
-    inside = all_inside;
-  }
+  way_goes_on next to = grind (arith, lead_more, falls_more, all_inside)
 
   pub way_ends : EndsAt (sought_of at.sought) (kind_of content.version chunk) →
       IsEnd content sought at
@@ -239,22 +221,9 @@ module _ (content : Content) (f : HasFile content) where
   can_in : (sought : Sought) → IsCounted content.version sought →
       CanCount content.version sought content.pairs
   can_in (Key key) counted = tt
-  can_in (Number n) counted = (
-    counted,
-    let short = f.short in omega (arith, few_pairs f.bytes content f.is),
-  )
+  can_in (Number n) counted = grind (arith, few_pairs)
 
   pub end_tells : (sought : Sought) → IsCounted content.version sought → (at : At) →
       IsEnd content sought at → Tells sought content.pairs (sought_of at.sought)
       (pairs_held (nth_chunk content at.number))
-  end_tells sought counted at end =
-      subst (λ c. Tells sought content.pairs (sought_of at.sought) (pairs_held c)) end.last
-      (subst (λ s. Tells sought content.pairs s (pairs_held end.way.last)) end.there
-      (tells (way_right content.version content.bits content.pairs sought end.chunks f.is.rising
-      f.is.lawful (can_in sought counted) end.way)))
-    where
-      tells : Tells sought content.pairs end.way.there (pairs_held end.way.last) ⊎
-          Clash end.chunks (chunks_of content) →
-          Tells sought content.pairs end.way.there (pairs_held end.way.last)
-      tells (inl told) = told
-      tells (inr clash) = absurd (no_clash end.chunks end.inside clash)
+  end_tells sought counted at end = grind (arith, way_right, can_in, no_clash)

@@ -1,29 +1,35 @@
--- The pairs that chunks hold.
-use Rattle.std.proofs.Common.{◌≡◌, ℕ, zero, suc, ◌<◌, List, [], ◌∷◌, ◌++◌, length, map, get_or}
-use Rattle.std.proofs.Common.{refl, sym, ap, ◌∙◌, subst, arith, append-nil}
+-- The pairs that chunks hold, and testing chunks one after another.
+use Rattle.std.proofs.Common.{rules, ◌≡◌, ℕ, zero, suc, ◌<◌, List, [], ◌∷◌, ◌++◌, length, map}
+use Rattle.std.proofs.Common.{get_or, refl, sym, ap, ◌∙◌, subst, arith, append-nil, take, drop}
 use Rattle.std.specs.List.{flat_map, AllByRecursion}
-use Rattle.std.proofs.lemmas.List.{map-append}
+use Rattle.std.specs.declared.ops.Range.{Range}
+use Rattle.std.proofs.Math.Seq.{drop-cons}
+use Rattle.std.proofs.lemmas.Grind.{common_steps}
+use Rattle.std.proofs.lemmas.List.{map-append, length-map, length-take, take-append-drop}
 use Rattle.std.proofs.lemmas.List.Concat.{flat_map-append}
-use Rattle.prolly_entry.specs.lemmas.Lists.{all_front, all_back, all_append}
-use Rattle.prolly_tree.specs.lemmas.Splits.{flat}
-use Rattle.prolly_laws.specs.Trees.{pairs_are}
-use Rattle.prolly_entry.specs.Cut.{sha512_cut}
-use Rattle.prolly_check.specs.Judged.{chunk_bytes}
-use Rattle.prolly_tree.specs.lemmas.Maps.{last_key_short}
-use Rattle.prolly_entry.specs.lemmas.Spellings.{reference_length}
 use Rattle.prolly_entry.specs.Pair.{Pair, IsPair}
 use Rattle.prolly_entry.specs.Reference.{reference_of}
-use Rattle.prolly_tree.specs.Tree.{Tree, pairs_below, greatest_key, pair_count, bytes_of, tree_of}
-use Rattle.prolly_tree.specs.Tree.{child_entry}
-use Rattle.prolly_tree.specs.Chunk.{Chunk, chunk_of, post_order}
 use Rattle.prolly_entry.specs.declared.version.Version.{Version}
-use Rattle.prolly_check.specs.Entries.{Child, IsChild, entry_of, Holds, AllHold, pairs_in}
+use Rattle.prolly_entry.specs.lemmas.Lists.{all_front, all_back, all_append}
+use Rattle.prolly_entry.specs.lemmas.Spellings.{reference_length}
+use Rattle.prolly_tree.specs.Chunk.{Chunk, chunk_of, post_order}
+use Rattle.prolly_tree.specs.Tree.{Tree, pairs_below, greatest_key, pair_count, bytes_of}
+use Rattle.prolly_tree.specs.Tree.{child_entry}
+use Rattle.prolly_tree.specs.lemmas.Maps.{last_key_short}
+use Rattle.prolly_tree.specs.lemmas.Splits.{flat}
+use Rattle.prolly_laws.specs.Trees.{pairs_are}
+use Rattle.prolly_check.specs.Entries.{Child, IsChild, entry_of, Holds, AllHold, pairs_in, IsBad}
+use Rattle.prolly_check.specs.Entries.{IsWhole, AreWhole}
+use Rattle.prolly_check.specs.Frames.{chunk_in, chunks_in}
 use Rattle.prolly_check.specs.Held.{pairs_held}
+use Rattle.prolly_check.specs.Judged.{chunk_bytes}
 use Rattle.prolly_check.specs.Kinds.{kind_of}
-use Rattle.prolly_check.specs.Whole.{IsWhole, AreWhole}
 use Rattle.prolly_check.specs.declared.entries.Entries.{Entries}
 use Rattle.prolly_check.specs.declared.entries.Entries.TheVariants.{Leaf, Node}
-use Rattle.prolly_check.proofs.LeafPairs.{leaf_pairs}
+use Rattle.prolly_check.proofs.EntryLists.{leaf_pairs}
+use Rattle.prolly_check.specs.declared.verdict.fault.CheckFault.TheVariants as faults
+
+-- ---- the pairs that chunks hold
 
 abbrev pub bytes_in : List Chunk → List (List ℕ)
 bytes_in cs = map (λ c. c.bytes) cs
@@ -59,33 +65,26 @@ module _ (version : Version) where
   lists_are [] [] h = refl
   lists_are [] (held ∷ lists) h = absurd h
   lists_are (chunk ∷ chunks) [] h = absurd h
-  lists_are (chunk ∷ chunks) (held ∷ lists) h = ap (λ ps. ps ∷ lists) (held_is chunk held h.0) ∙
-      ap (λ ls. pairs_held chunk ∷ ls) (lists_are chunks lists h.1)
+  lists_are (chunk ∷ chunks) (held ∷ lists) h = search (rules, held_is, lists_are chunks lists h.1)
 
   -- and they are whole; whole chunks have them
   pub are_whole : (chunks : List (List ℕ)) (lists : List (List Pair)) →
       AllHold version chunks lists → AreWhole version chunks
   are_whole [] lists h = tt
   are_whole (chunk ∷ chunks) [] h = absurd h
-  are_whole (chunk ∷ chunks) (held ∷ lists) h =
-      (record { pairs = held; holds = h.0 }, are_whole chunks lists h.1)
+  are_whole (chunk ∷ chunks) (held ∷ lists) h = search (rules, are_whole chunks lists h.1)
 
   pub all_hold : (chunks : List (List ℕ)) → AreWhole version chunks →
       AllHold version chunks (map pairs_held chunks)
   all_hold [] w = tt
-  all_hold (chunk ∷ chunks) w = (
-    subst (Holds version chunk) (held_is chunk w.0.pairs w.0.holds)
-        w.0.holds,
-    all_hold chunks w.1,
-  )
+  all_hold (chunk ∷ chunks) w = grind (arith, held_is, all_hold chunks w.1)
 
   pub each_whole : (chunks : List (List ℕ)) (number : ℕ) → AreWhole version chunks →
       number < length chunks → IsWhole version (get_or chunks number [])
   each_whole [] number w within = absurd (omega arith)
   each_whole (chunk ∷ chunks) zero w within = w.0
   each_whole (chunk ∷ chunks) (suc number) w within =
-      let within' : suc number < suc (length chunks) = within in
-      each_whole chunks number w.1 (omega arith)
+      search (rules, each_whole chunks number w.1 (omega arith))
 
   -- a whole chunk has a first byte
   pub some_byte : (chunk : List ℕ) → IsWhole version chunk → 0 < length chunk
@@ -102,14 +101,10 @@ pub record HoldPairs (version : Version) (chunks : List (List ℕ)) (pairs : Lis
 module _ (version : Version) where
   both : (cs ds : List (List ℕ)) (ps qs : List Pair) → HoldPairs version cs ps →
       HoldPairs version ds qs → HoldPairs version (cs ++ ds) (ps ++ qs)
-  both cs ds ps qs h k = record {
-    whole = all_append (IsWhole version) cs ds h.whole k.whole;
-    are = flat_map-append pairs_held cs ds ∙ ap (λ a. a ++ flat_map pairs_held ds) h.are ∙
-        ap (λ b. ps ++ b) k.are;
-  }
+  both cs ds ps qs h k = grind (arith, all_append, flat_map-append)
 
-  abbrev child_of : (level : ℕ) → Tree level → Child
-  child_of level t = record {
+  abbrev child_below : (level : ℕ) → Tree level → Child
+  child_below level t = record {
     key = greatest_key level t;
     reference = reference_of (bytes_of version level t);
     count = pair_count level t;
@@ -117,23 +112,22 @@ module _ (version : Version) where
 
   entries_are : (level : ℕ) (ts : List (Tree level)) →
       flat_map (child_entry version level) ts ≡ flat_map (entry_of version)
-      (map (child_of level) ts)
+      (map (child_below level) ts)
   entries_are level [] = refl
-  entries_are level (t ∷ ts) = ap (λ a. entry_of version (child_of level t) ++ a)
-      (entries_are level ts)
+  entries_are level (t ∷ ts) = search (rules, entries_are level ts)
 
   all_children : (level : ℕ) (ts : List (Tree level)) →
       AllByRecursion IsPair (flat_map (pairs_below level) ts) →
-      AllByRecursion IsChild (map (child_of level) ts)
+      AllByRecursion IsChild (map (child_below level) ts)
   all_children level [] h = tt
-  all_children level (t ∷ ts) h = (
-    record {
-      key = last_key_short (pairs_below level t)
-          (all_front IsPair (pairs_below level t) (flat_map (pairs_below level) ts) h);
-      reference = reference_length (bytes_of version level t);
-    },
-    all_children level ts (all_back IsPair (pairs_below level t) (flat_map (pairs_below level) ts)
-        h),
+  all_children level (t ∷ ts) h = search (
+    rules,
+    common_steps,
+    last_key_short,
+    all_front,
+    reference_length,
+    all_back,
+    all_children level ts (all_back IsPair (pairs_below level t) (flat_map (pairs_below level) ts) h),
   )
 
   abbrev Holding : (level : ℕ) → Tree level → Type 0
@@ -156,11 +150,7 @@ module _ (version : Version) where
       (all_trees level holding ts (all_back IsPair own rest h)))
 
   pub tree_holds : (level : ℕ) (t : Tree level) → Holding level t
-  tree_holds zero leaf h = record {
-    whole = (record { pairs = leaf; holds = record { is = refl; lawful = h } }, tt);
-    are = append-nil (pairs_held (bytes_of version 0 leaf)) ∙
-        leaf_pairs _ leaf (record { is = refl; lawful = h });
-  }
+  tree_holds zero leaf h = grind (arith, append-nil, leaf_pairs)
   tree_holds (suc level) ts h =
       let pairs = flat_map (pairs_below level) ts in
       let below = flat_map (post_order version level) ts in
@@ -170,7 +160,7 @@ module _ (version : Version) where
           record {
             pairs = [];
             holds = record {
-              children = map (child_of level) ts;
+              children = map (child_below level) ts;
               is = entries_are level ts;
               lawful = all_children level ts h;
               none = refl;
@@ -187,17 +177,34 @@ module _ (version : Version) where
       (both (bytes_in below) (bytes_of version (suc level) ts ∷ []) pairs []
       (all_trees level (tree_holds level) ts h) own))
 
-  pub trees_hold : (level : ℕ) (ts : List (Tree level)) →
-      AllByRecursion IsPair (flat_map (pairs_below level) ts) →
-      HoldPairs version (bytes_in (flat_map (post_order version level) ts))
-      (flat_map (pairs_below level) ts)
-  trees_hold level ts h = all_trees level (tree_holds level) ts h
-
 -- the chunks of a map hold its pairs
 pub map_holds : (version : Version) (bits : ℕ) (pairs : List Pair) → AllByRecursion IsPair pairs →
     HoldPairs version (chunk_bytes version bits pairs) pairs
-map_holds version bits pairs lawful =
-    let t = tree_of (sha512_cut bits) version pairs in
-    let below : pairs_below t.level t.tree ≡ pairs = pairs_are (sha512_cut bits) version pairs in
-    subst (HoldPairs version (chunk_bytes version bits pairs)) below
-    (tree_holds version t.level t.tree (subst (AllByRecursion IsPair) (sym below) lawful))
+map_holds version bits pairs lawful = grind (arith, pairs_are, tree_holds)
+
+-- ---- testing the chunks of a file one after another
+
+module _ (version : Version) (bytes : List ℕ) (spans : List (Range ℕ)) (n : ℕ) (other : Range ℕ)
+    (chunk : List ℕ) (within : n < length spans)
+    (is : chunk ≡ chunk_in bytes (get_or spans n other))
+    (before : AreWhole version (chunks_in bytes (take n spans))) where
+  pub bad_next : ((pairs : List Pair) → Holds version chunk pairs → ⊥) →
+      IsBad version (chunks_in bytes spans) (faults.BadChunk n)
+  bad_next bad = record {
+    before = chunks_in bytes (take n spans);
+    chunk = chunk;
+    after = chunks_in bytes (drop (suc n) spans);
+    lists = map pairs_held (chunks_in bytes (take n spans));
+    whole = ap (chunks_in bytes) (sym (take-append-drop n spans) ∙
+        ap (λ rest. take n spans ++ rest) (drop-cons spans n other within))
+        ∙ map-append (chunk_in bytes) (take n spans) (get_or spans n other ∷ drop (suc n) spans)
+        ∙ ap (λ c. chunks_in bytes (take n spans) ++ c ∷ chunks_in bytes (drop (suc n) spans))
+        (sym is);
+    good = all_hold version (chunks_in bytes (take n spans)) before;
+    bad = bad;
+    is = ap faults.BadChunk (omega (
+      arith,
+      length-map (take n spans) (chunk_in bytes),
+      length-take n spans,
+    ));
+  }

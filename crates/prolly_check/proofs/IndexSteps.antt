@@ -1,29 +1,30 @@
 -- The references of the chunks of a file, and an index of them.
-use Rattle.std.proofs.Common.{◌≡◌, ℕ, suc, ◌+◌, ◌<◌, ◌≤◌, Bool, true, false, ◌||◌, List, []}
-use Rattle.std.proofs.Common.{◌∷◌, length, take, drop, get_or, Some, None, inl, inr, refl, sym, ap}
+use Rattle.std.proofs.Common.{rules, ◌≡◌, ℕ, suc, ◌+◌, ◌<◌, Bool, true, false, ◌||◌, List, []}
+use Rattle.std.proofs.Common.{◌∷◌, length, take, drop, get_or, Some, None, inl, inr, sym, ap}
 use Rattle.std.proofs.Common.{◌∙◌, subst, arith}
-use Rattle.std.specs.Ordering.{nat_cmp, is_lt, ordering_index}
-use Rattle.std.specs.declared.cmp.Ordering.TheVariants.{Less, Equal, Greater}
 use Rattle.std.specs.Cmp.Lexicographic.{slice_cmp}
-use Rattle.std.specs.Str.{bytes_eq}
 use Rattle.std.specs.List.{All, list_any}
 use Rattle.std.specs.List.Sorted.{IsNonDecreasingBy, IsPartitionPoint}
+use Rattle.std.specs.Ordering.{nat_cmp, is_lt, ordering_index}
+use Rattle.std.specs.Str.{bytes_eq}
+use Rattle.std.specs.declared.cmp.Ordering.TheVariants.{Less, Equal, Greater}
+use Rattle.std.proofs.Math.Bool.{or_comm}
 use Rattle.std.proofs.Math.Seq.{drop-cons}
-use Rattle.std.proofs.lemmas.Bool.{cond-true, cond-false, cases_lt, false≢true}
+use Rattle.std.proofs.lemmas.Bool.{cond-false, cases_lt, false≢true}
 use Rattle.std.proofs.lemmas.Cmp.{nat_list_cmp_total}
-use Rattle.std.proofs.lemmas.List.{drop_all, length-map, get_or-map, get_or_default}
+use Rattle.std.proofs.lemmas.List.{length-map, get_or-map, get_or_default}
 use Rattle.std.proofs.lemmas.List.Elements.{recursion_from_All}
 use Rattle.std.proofs.lemmas.List.Folds.{list_any_more}
 use Rattle.std.proofs.lemmas.List.Sorted.{All-permutation, Contains-permutation, ranks_by}
 use Rattle.std.proofs.lemmas.List.Sorted.{searchable_from_sorted, sorted_far}
-use Rattle.prolly_entry.specs.declared.reference.Ref.{Ref}
 use Rattle.prolly_entry.specs.Reference.{reference_of}
+use Rattle.prolly_entry.specs.declared.reference.Ref.{Ref}
 use Rattle.prolly_entry.specs.lemmas.Orders.{order_self}
-use Rattle.prolly_check.specs.declared.fault.CheckFault.TheVariants.{Collision}
-use Rattle.prolly_check.specs.declared.index.Index.{Index}
-use Rattle.prolly_check.specs.Index.{AreReferences, HasAt, IsIndex}
+use Rattle.prolly_check.specs.Checked.{AreReferences, HasAt, IsIndex}
 use Rattle.prolly_check.specs.Judged.{reuse}
 use Rattle.prolly_check.specs.Verdict.{AllApart}
+use Rattle.prolly_check.specs.declared.index.Index.{Index}
+use Rattle.prolly_check.specs.declared.verdict.fault.CheckFault.TheVariants.{Collision}
 use Rattle.prolly_check.proofs.Verdicts.{reuse_is}
 
 -- ---- references
@@ -31,8 +32,7 @@ use Rattle.prolly_check.proofs.Verdicts.{reuse_is}
 -- there are as many as chunks
 pub as_many : (chunks : List (List ℕ)) (references : List Ref) → AreReferences chunks references →
     length references ≡ length chunks
-as_many chunks references are = sym (length-map references (λ r. r.0)) ∙ ap length are ∙
-    length-map chunks reference_of
+as_many chunks references are = search (rules, length-map)
 
 -- each is that of the chunk at its place
 pub reference_at : (chunks : List (List ℕ)) (references : List Ref) (n : ℕ) (other : Ref) →
@@ -147,16 +147,9 @@ module _ (index : Index) (chunks : List (List ℕ)) (i : IsIndex index chunks) w
           ]
 
       pub none_reused : reuse [] 0 chunks ≡ None
-      none_reused = (reuse_is [] 0 chunks).1
-          (recursion_from_All (λ c. Unit {0}) chunks (λ k d h. tt), apart chunks chunks_differ)
+      none_reused = search (rules, reuse_is, recursion_from_All, apart, chunks_differ)
 
 -- ---- the first chunk whose reference an earlier one has
-
-turned : (a b : Bool) → (a || b) ≡ (b || a)
-turned true true = refl
-turned true false = refl
-turned false true = refl
-turned false false = refl
 
 -- none of the first n chunks is it
 pub record Passed (chunks : List (List ℕ)) (references : List Ref) (n : ℕ) : Type 0 where
@@ -165,14 +158,8 @@ pub record Passed (chunks : List (List ℕ)) (references : List Ref) (n : ℕ) :
   pub known : (reference : List ℕ) → list_any (λ d. bytes_eq (reference_of d) reference) before ≡
       list_any (λ r. bytes_eq r.0 reference) (take n references)
 
-pub none_passed : (chunks : List (List ℕ)) (references : List Ref) → Passed chunks references 0
-none_passed chunks references = record { before = []; same = refl; known = λ reference. refl }
-
 module _ (chunks : List (List ℕ)) (references : List Ref) (are : AreReferences chunks references)
     (n : ℕ) (p : Passed chunks references n) where
-  pub all_passed : length chunks ≤ n → reuse [] 0 chunks ≡ None
-  all_passed h = p.same ∙ ap (reuse p.before n) (drop_all n chunks h)
-
   module _ (other : Ref) (within : n < length references) where
     abbrev chunk : List ℕ
     chunk = get_or chunks n []
@@ -181,8 +168,7 @@ module _ (chunks : List (List ℕ)) (references : List Ref) (are : AreReferences
     known = list_any (λ d. bytes_eq (reference_of d) (reference_of chunk)) p.before
 
     reuse_here : reuse [] 0 chunks ≡ reuse p.before n (chunk ∷ drop (suc n) chunks)
-    reuse_here = p.same ∙ ap (reuse p.before n)
-        (drop-cons chunks n [] (omega (arith, as_many chunks references are)))
+    reuse_here = search (rules, drop-cons, as_many)
 
     known_is : known ≡ list_any (λ r. bytes_eq r.0 (get_or references n other).0)
         (take n references)
@@ -192,8 +178,7 @@ module _ (chunks : List (List ℕ)) (references : List Ref) (are : AreReferences
 
     pub is_reused : list_any (λ r. bytes_eq r.0 (get_or references n other).0)
         (take n references) ≡ true → reuse [] 0 chunks ≡ Some (Collision n)
-    is_reused e = reuse_here ∙ cond-true known (Some (Collision n))
-        (reuse (chunk ∷ p.before) (suc n) (drop (suc n) chunks)) (known_is ∙ e)
+    is_reused e = search (rules, reuse_here, known_is)
 
     pub is_passed : list_any (λ r. bytes_eq r.0 (get_or references n other).0)
         (take n references) ≡ false → Passed chunks references (n + 1)
@@ -208,7 +193,7 @@ module _ (chunks : List (List ℕ)) (references : List Ref) (are : AreReferences
               let here = ap (λ x. bytes_eq x reference)
               (reference_at chunks references n other are within) in
               ap (λ b. bytes_eq (reference_of chunk) reference || b) (p.known reference) ∙
-              turned (bytes_eq (reference_of chunk) reference)
+              or_comm (bytes_eq (reference_of chunk) reference)
               (list_any (λ r. bytes_eq r.0 reference) (take n references)) ∙
               ap (λ b. list_any (λ r. bytes_eq r.0 reference) (take n references) || b) (sym here) ∙
               sym (list_any_more (λ r. bytes_eq r.0 reference) references n other within);

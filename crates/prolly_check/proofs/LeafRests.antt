@@ -1,18 +1,21 @@
--- What is left of a map from a key on, leaf by leaf.
-use Rattle.std.proofs.Common.{◌≡◌, ℕ, ◌+◌, ◌<◌, Bool, true, false, not, cond, List, [], ◌∷◌, ◌++◌}
-use Rattle.std.proofs.Common.{length, drop, take, get_or, refl, sym, ap, ◌∙◌, subst, arith}
-use Rattle.std.proofs.Common.{take-append-drop}
-use Rattle.std.specs.Ordering.{is_lt}
+-- What is left of a map, leaf by leaf, and what was written of it.
+use Rattle.std.proofs.Common.{rules, ◌≡◌, ℕ, ◌+◌, ◌<◌, Bool, true, false, not, cond, List, [], ◌∷◌}
+use Rattle.std.proofs.Common.{◌++◌, length, drop, take, get_or, refl, sym, ap, ◌∙◌, subst, arith}
+use Rattle.std.proofs.Common.{take-append-drop, Ok, Err, append_assoc}
 use Rattle.std.specs.List.{flat_map}
+use Rattle.std.specs.Ordering.{is_lt}
 use Rattle.std.proofs.lemmas.List.{drop_all}
 use Rattle.std.proofs.lemmas.List.Concat.{flat_map-append}
 use Rattle.prolly_entry.specs.Keys.{KeyBelow, key_order}
 use Rattle.prolly_entry.specs.Pair.{Pair}
+use Rattle.prolly_entry.specs.Spelling.{pair_spelling}
 use Rattle.prolly_entry.specs.lemmas.Lists.{all_back, all_front}
 use Rattle.prolly_entry.specs.lemmas.Orders.{less_self}
-use Rattle.prolly_tree.specs.Difference.{IsMap}
+use Rattle.prolly_tree.specs.RecordFile.{record_file}
 use Rattle.prolly_tree.specs.Tree.{last_key}
-use Rattle.prolly_tree.specs.lemmas.Maps.{Above, Rises, rises, rises_back, rises_front}
+use Rattle.prolly_tree.specs.lemmas.Maps.{Above, Rises, rises, rises_back}
+use Rattle.prolly_file.specs.Sink.{SinkView, TakesPrefix}
+use Rattle.prolly_file.specs.Writes.{Writes}
 use Rattle.prolly_check.specs.Checked.{HasFile, chunks_of}
 use Rattle.prolly_check.specs.Content.{Content}
 use Rattle.prolly_check.specs.Entries.{pairs_in}
@@ -20,9 +23,10 @@ use Rattle.prolly_check.specs.Held.{pairs_held}
 use Rattle.prolly_check.specs.Leaves.{pairs_from}
 use Rattle.prolly_check.specs.ScanWay.{AreFirstFrom, next_key}
 use Rattle.prolly_check.proofs.HeldPairs.{map_holds}
-use Rattle.prolly_check.proofs.Lookups.{rising_is}
+use Rattle.prolly_check.proofs.PairsFrom.{from_behind, pairs_from-append}
 use Rattle.prolly_check.proofs.RebuildSteps.{held_next}
-use Rattle.prolly_check.proofs.Scans.{from_behind, pairs_from-append}
+
+-- ---- what is left of a map from a key on, leaf by leaf
 
 -- no bytes spell no pair
 pub no_pairs : pairs_in [] ≡ []
@@ -32,21 +36,12 @@ no_pairs = refl
 -- the first of rising pairs from a key on are those of a part that has some: so none stands before it
 above_from : (x key : List ℕ) (ps : List Pair) → Above x ps → Above x (pairs_from key ps)
 above_from x key [] h = tt
-above_from x key (p ∷ ps) h = go (is_lt (key_order p.key key)) (above_from x key ps h.1)
-  where
-    go : (b : Bool) → Above x (pairs_from key ps) →
-        Above x (cond (not b) (p ∷ pairs_from key ps) (pairs_from key ps))
-    go true rest = rest
-    go false rest = (h.0, rest)
+above_from x key (p ∷ ps) h = grind (arith, above_from x key ps h.1)
 
 not_first : (x : Pair) (found xs rest : List Pair) → Above x.key found → x ∷ xs ≡ found ++ rest →
     (found ≡ [] → ⊥) → ⊥
 not_first x [] xs rest above e some = some refl
-not_first x (p ∷ ps) xs rest above e some = less_self x.key
-    (subst (λ q. KeyBelow x.key q.key) (sym (same x p xs (ps ++ rest) e)) above.0)
-  where
-    same : (x y : Pair) (xs ys : List Pair) → x ∷ xs ≡ y ∷ ys → x ≡ y
-    same x y xs ys e = cc
+not_first x (p ∷ ps) xs rest above e some = grind (arith, less_self)
 
 first_leaf : (key : List ℕ) (xs leaf ys rest : List Pair) → Rises (xs ++ (leaf ++ ys)) →
     pairs_from key (xs ++ (leaf ++ ys)) ≡ pairs_from key leaf ++ rest →
@@ -82,17 +77,12 @@ module _ (content : Content) (f : HasFile content) (number : ℕ) where
       flat_map-append pairs_held (take number cs) (drop number cs)
 
   rest_rises : Rises (behind number)
-  rest_rises = rises_back front (behind number)
-      (subst Rises in_front (rises content.pairs f.is.rising))
+  rest_rises = search (rules, rises_back, in_front, rises)
 
   module _ (within : number < length (chunks_of content)) (leaf : List Pair)
       (is : leaf ≡ pairs_held (get_or (chunks_of content) number [])) where
     parts : behind number ≡ leaf ++ behind (number + 1)
     parts = held_next (chunks_of content) number leaf within is
-
-    pub leaf_is_map : IsMap leaf
-    leaf_is_map = rising_is leaf
-        (rises_front leaf (behind (number + 1)) (subst Rises parts rest_rises))
 
     -- what the leaf has from a key on are the first that the map has: none before it, and all
     -- behind it; and where it has none, there are none
@@ -103,10 +93,7 @@ module _ (content : Content) (f : HasFile content) (number : ℕ) where
 
       found : pairs_from key content.pairs ≡
           pairs_from key front ++ (pairs_from key leaf ++ pairs_from key (behind (number + 1)))
-      found = ap (pairs_from key) whole ∙
-          pairs_from-append key front (leaf ++ behind (number + 1)) ∙
-          ap (λ ps. pairs_from key front ++ ps)
-          (pairs_from-append key leaf (behind (number + 1)))
+      found = grind (arith, whole, pairs_from-append)
 
       none_found : pairs_from key leaf ≡ [] → pairs_from key content.pairs ≡ []
       none_found none = subst (AreFirstFrom key content.pairs) none first
@@ -133,19 +120,48 @@ module _ (content : Content) (f : HasFile content) (number : ℕ) where
               (λ none. some p ps (sym is ∙ none))
 
       pub from_number : pairs_from key content.pairs ≡ pairs_from key (behind number)
-      from_number = found ∙ ap (λ ps. ps ++ (pairs_from key leaf ++
-          pairs_from key (behind (number + 1)))) none_before ∙
-          sym (ap (pairs_from key) parts ∙ pairs_from-append key leaf (behind (number + 1)))
+      from_number = grind (arith, found, none_before, parts, pairs_from-append)
 
       pub from_leaf : (pairs_from key leaf ≡ [] → ⊥) →
           pairs_from key leaf ++ behind (number + 1) ≡ pairs_from key content.pairs
-      from_leaf some = sym (found ∙ ap (λ ps. ps ++ (pairs_from key leaf ++
-          pairs_from key (behind (number + 1)))) none_before ∙
-          ap (λ ps. pairs_from key leaf ++ ps)
-          (from_behind key leaf (behind (number + 1)) (subst Rises parts rest_rises) some))
+      from_leaf some = search (rules, found, none_before, from_behind, parts, rest_rises)
 
       pub from_none : (end : ℕ) → end ≡ length (chunks_of content) → pairs_from key leaf ≡ [] →
           pairs_from key leaf ++ behind end ≡ pairs_from key content.pairs
-      from_none end is none = ap (λ ps. ps ++ behind end) none ∙
-          ap (flat_map pairs_held) (drop_all end (chunks_of content) (omega (arith, is))) ∙
-          sym (none_found none)
+      from_none end is none = grind (arith, drop_all, none_found)
+
+-- ---- pairs that are written as a record file, part by part
+
+-- of all pairs these are left, and those before them were written
+pub record IsDumped (pairs left : List Pair) (old new : SinkView) : Type 0 where
+  pub done : List Pair
+  pub all : pairs ≡ done ++ left
+  pub written : old.is_keeping ≡ true → new.taken ≡ old.taken ++ record_file done
+  pub keeping : old.is_keeping ≡ true → new.is_keeping ≡ true
+  pub failures : new.failures ≡ old.failures
+
+-- ---- one part more
+
+module _ (pairs left part rest : List Pair) (split : left ≡ part ++ rest) (old mid new : SinkView)
+    (d : IsDumped pairs left old mid) where
+  abbrev own : List ℕ
+  own = record_file part
+
+  one_more : record_file (d.done ++ part) ≡ record_file d.done ++ own
+  one_more = flat_map-append pair_spelling d.done part
+
+  all_parts : record_file pairs ≡ record_file d.done ++ (own ++ record_file rest)
+  all_parts = grind (arith, flat_map-append)
+
+  pub one_dumped : {T E : Type 0} (x : T) → Writes {T = T} {E = E} own mid new (Ok x) →
+      IsDumped pairs rest old new
+  one_dumped x w = grind (arith, append_assoc, one_more)
+
+  -- a prefix of its records is one of all records, behind those that were written
+  part_of_all : old.is_keeping ≡ true → TakesPrefix mid.taken new.taken own →
+      TakesPrefix old.taken new.taken (record_file pairs)
+  part_of_all k t = grind (arith, append_assoc, all_parts)
+
+  pub dump_failed : {T E : Type 0} (x y : E) → Writes {T = T} {E = E} own mid new (Err x) →
+      Writes {T = T} {E = E} (record_file pairs) old new (Err y)
+  dump_failed x y w = grind (arith, part_of_all)

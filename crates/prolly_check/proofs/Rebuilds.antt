@@ -1,41 +1,38 @@
 -- Events that pass levels of nodes, and the chunks of a file.
-use Rattle.std.proofs.Common.{◌≡◌, ℕ, zero, suc, ◌+◌, ◌<◌, ◌≤◌, Bool, true, false, cond, ◌&&◌}
-use Rattle.std.proofs.Common.{nat_le, List, [], ◌∷◌, ◌++◌, length, map, take, drop, get_or, Option}
-use Rattle.std.proofs.Common.{Some, None, Result, Ok, Err, refl, sym, ap, ◌∙◌, subst, arith}
-use Rattle.std.proofs.Common.{append_assoc, append-nil, length-take}
+use Rattle.std.proofs.Common.{rules, ◌≡◌, ℕ, zero, suc, ◌+◌, ◌<◌, ◌≤◌, Bool, true, false, cond}
+use Rattle.std.proofs.Common.{List, [], ◌∷◌, ◌++◌, length, map, take, drop, get_or, Option, Some}
+use Rattle.std.proofs.Common.{None, Result, Ok, Err, refl, sym, ap, ◌∙◌, subst, arith, append_assoc}
+use Rattle.std.proofs.Common.{append-nil, length-take}
+use Rattle.std.specs.Option.{option_to_list}
+use Rattle.std.specs.Str.{bytes_eq}
 use Rattle.std.proofs.Math.Seq.{drop-cons}
-use Rattle.std.proofs.lemmas.Bool.{cond-true, cond-false, false_from_ne_true}
+use Rattle.std.proofs.lemmas.Bool.{cond-false, false_from_ne_true}
+use Rattle.std.proofs.lemmas.Grind.{common_steps}
 use Rattle.std.proofs.lemmas.List.{length-append, length-map, append_cancel_left, take_more}
 use Rattle.std.proofs.lemmas.List.{drop_all, map-append}
 use Rattle.std.proofs.lemmas.Result.{on_ok_weaker}
 use Rattle.std.proofs.lemmas.Slice.Eq.{bytes_eq-Decides}
-use Rattle.std.specs.Str.{bytes_eq}
-use Rattle.std.specs.List.{filter}
-use Rattle.std.specs.Option.{option_to_list}
-use Rattle.prolly_entry.specs.declared.version.Version.{Version}
 use Rattle.prolly_entry.specs.Cut.{Cut, sha512_cut}
 use Rattle.prolly_entry.specs.Pair.{Pair}
+use Rattle.prolly_entry.specs.Prefix.{IsPrefix}
 use Rattle.prolly_entry.specs.Reference.{reference_of}
 use Rattle.prolly_entry.specs.declared.reference.Ref.{Ref}
-use Rattle.prolly_entry.specs.Prefix.{IsPrefix}
-use Rattle.prolly_tree.specs.Split.{is_closed, closed_groups, open_groups, open_entries}
-use Rattle.prolly_tree.specs.Tree.{leaves, pair_is_boundary}
+use Rattle.prolly_entry.specs.declared.version.Version.{Version}
+use Rattle.prolly_entry.specs.lemmas.Lists.{all_back}
 use Rattle.prolly_tree.specs.Chunk.{Chunk, chunk_of}
 use Rattle.prolly_tree.specs.Events.{Closing, clean, faulty, leaf_events, inner_events, group_event}
-use Rattle.prolly_tree.specs.Events.{event_is_boundary, has_level}
-use Rattle.prolly_entry.specs.lemmas.Lists.{all_back}
+use Rattle.prolly_tree.specs.Events.{event_is_boundary}
+use Rattle.prolly_tree.specs.Tree.{leaves}
 use Rattle.prolly_laws.specs.Stages.{fault_is_prefix, stage_step}
 use Rattle.prolly_chunk.specs.NodeLevel.{NodeState, NodeTakes, node_level}
 use Rattle.prolly_chunk.specs.lemmas.{node_passes}
-use Rattle.prolly_check.specs.declared.fault.CheckFault.{CheckFault}
-use Rattle.prolly_check.specs.declared.fault.CheckFault.TheVariants as faults
 use Rattle.prolly_check.specs.Judged.{difference}
 use Rattle.prolly_check.specs.Rebuilt.{sent_through, AreBehind, AreBelow, AreFirst, DifferAs}
 use Rattle.prolly_check.specs.Rebuilt.{AreCompared, IsExpected, Passes}
-use Rattle.prolly_check.specs.Refusal.{UnlessMemory}
+use Rattle.prolly_check.specs.Verdict.{UnlessMemory}
+use Rattle.prolly_check.specs.declared.verdict.fault.CheckFault.{CheckFault}
 use Rattle.prolly_check.proofs.HeldPairs.{bytes_in, bytes_append}
-use Rattle.prolly_check.proofs.IndexSteps.{as_many}
-use Rattle.std.proofs.Math.Logic.{⊎_map}
+use Rattle.prolly_check.specs.declared.verdict.fault.CheckFault.TheVariants as faults
 
 -- ---- what is sent of more events goes on
 
@@ -91,39 +88,25 @@ module _ (cut : Cut) (version : Version) where
 pub difference_along : (chunks rest : List (List ℕ)) (start number : ℕ) → number ≤ length chunks →
     difference start (take number chunks ++ rest) chunks ≡ difference (start + number) rest
     (drop number chunks)
-difference_along chunks rest start zero h =
-    let e : start ≡ start + 0 = omega arith in ap (λ n. difference n rest chunks) e
+difference_along chunks rest start zero h = search rules
 difference_along [] rest start (suc number) h = absurd (omega arith)
 difference_along (c ∷ chunks) rest start (suc number) h =
-    let h' : suc number ≤ suc (length chunks) = h in
-    let e : suc start + number ≡ start + suc number = omega arith in
-    cond-true (bytes_eq c c) (difference (suc start) (take number chunks ++ rest) chunks)
-    (Some (faults.NotCanonical start)) ((bytes_eq-Decides c c).1 refl)
-    ∙ difference_along chunks rest (suc start) number (omega arith) ∙
-    ap (λ n. difference n rest (drop number chunks)) e
+    search (rules, difference_along chunks rest (suc start) number (omega arith))
 
 -- a difference stays one
 pub still_differ : (chunks : List (List ℕ)) (sent all : List Chunk) (fault : CheckFault) →
     IsPrefix sent all →
     UnlessMemory (DifferAs chunks sent) fault → UnlessMemory (DifferAs chunks all) fault
-still_differ chunks sent all fault p = ⊎_map (λ memory. memory) (differ fault)
-  where
-    differ : (fault : CheckFault) → DifferAs chunks sent fault → DifferAs chunks all fault
-    differ fault h more =
-        ap (λ cs. difference 0 (cs ++ more) chunks) (ap bytes_in p.1 ∙ bytes_append sent p.0)
-        ∙ ap (λ cs. difference 0 cs chunks) (append_assoc (bytes_in sent) (bytes_in p.0) more) ∙
-        h (bytes_in p.0 ++ more)
+still_differ chunks sent all fault p = search (rules, bytes_append, append_assoc)
 
 -- there are as many references as chunks that were sent
 pub as_many_sent : (chunks : List (List ℕ)) (references : List Ref) (sent : List Chunk) →
     AreFirst chunks references sent → length references ≡ length sent
-as_many_sent chunks references sent a =
-    as_many (bytes_in sent) references a.named ∙ length-map sent (λ c. c.bytes)
+as_many_sent chunks references sent a = search (rules, length-map)
 
 pub first_are : (chunks : List (List ℕ)) (references : List Ref) (sent : List Chunk) →
     AreFirst chunks references sent → bytes_in sent ≡ take (length references) chunks
-first_are chunks references sent a =
-    a.are ∙ ap (λ n. take n chunks) (sym (as_many_sent chunks references sent a))
+first_are chunks references sent a = search (rules, as_many_sent)
 
 -- one chunk more
 module _ (chunks : List (List ℕ)) (references : List Ref) (event : Chunk) (sent : List Chunk)
@@ -135,27 +118,14 @@ module _ (chunks : List (List ℕ)) (references : List Ref) (event : Chunk) (sen
   count = as_many_sent chunks references sent a
 
   within : number ≤ length chunks
-  within = omega (
-    arith,
-    count,
-    ap length (first_are chunks references sent a),
-    length-map sent (λ c. c.bytes),
-    length-take number chunks,
-  )
+  within = grind (arith, length-map, length-take)
 
   one_more : bytes_in (sent ++ event ∷ []) ≡ take number chunks ++ event.bytes ∷ []
-  one_more = bytes_append sent (event ∷ []) ∙
-      ap (λ cs. cs ++ event.bytes ∷ []) (first_are chunks references sent a)
+  one_more = search (rules, bytes_append, first_are)
 
   then : (more : List (List ℕ)) → difference 0 (bytes_in (sent ++ event ∷ []) ++ more) chunks ≡
       difference number (event.bytes ∷ more) (drop number chunks)
-  then more =
-      let e : 0 + number ≡ number = omega arith in
-      ap (λ cs. difference 0 (cs ++ more) chunks) one_more
-      ∙ ap (λ cs. difference 0 cs chunks) (append_assoc (take number chunks) (event.bytes ∷ [])
-      more)
-      ∙ difference_along chunks (event.bytes ∷ more) 0 number within
-      ∙ ap (λ n. difference n (event.bytes ∷ more) (drop number chunks)) e
+  then more = grind (arith, one_more, append_assoc, difference_along, within)
 
   pub is_past : length chunks ≤ number → DifferAs chunks (sent ++ event ∷ [])
       (faults.NotCanonical number)
@@ -177,17 +147,7 @@ module _ (chunks : List (List ℕ)) (references : List Ref) (event : Chunk) (sen
       number < length chunks → get_or chunks number [] ≡ event.bytes →
       AreFirst chunks (references ++ reference ∷ []) (sent ++ event ∷ [])
   is_same reference is h same =
-      let next : number + 1 ≡ length (sent ++ event ∷ []) =
-      omega (arith, count, length-append sent (event ∷ [])) in
-      record {
-        are = one_more ∙ ap (λ c. take number chunks ++ c ∷ []) (sym same) ∙
-            sym (take_more chunks number [] h) ∙ ap (λ n. take n chunks) next;
-        named = map-append (λ r. r.0) references (reference ∷ []) ∙
-            ap (λ rs. rs ++ reference.0 ∷ []) a.named ∙
-            ap (λ r. map reference_of (bytes_in sent) ++ r ∷ []) is ∙
-            sym (ap (map reference_of) (bytes_append sent (event ∷ [])) ∙
-            map-append reference_of (bytes_in sent) (event.bytes ∷ []));
-      }
+      search (rules, count, length-append, one_more, take_more, map-append, bytes_in, bytes_append)
 
 -- ---- what the levels do with an event
 
@@ -196,9 +156,7 @@ forwards : (bits : ℕ) (version : Version) (level : ℕ) (events : List Chunk) 
     suc event.level < level →
     NodeTakes sha512_cut (node_level sha512_cut bits version level events)
     (node_level sha512_cut bits version level events) event None
-forwards bits version level events event h =
-    let state = node_level sha512_cut bits version level events in
-    node_passes sha512_cut state state.node event refl (omega arith) (λ e. omega arith)
+forwards bits version level events event h = grind (arith, node_passes)
 
 -- so do all levels above it
 pub behind_on : (bits : ℕ) (version : Version) (level : ℕ) (states : List (NodeState ℕ))
@@ -240,40 +198,17 @@ pub closed_below : (cut : Cut) (version : Version) (level : ℕ) (events : List 
     inner_events level cut version faulty (events ++ event ∷ []) ≡ inner_events level cut version
     faulty events ++ event ∷ option_to_list closed →
     AreBelow (suc level) (option_to_list closed)
-closed_below cut version zero events event closed e =
-    let h : event ∷ [] ≡ event ∷ option_to_list closed =
-    append_cancel_left events (event ∷ []) (event ∷ option_to_list closed) e in
-    let none : [] ≡ option_to_list closed = cc in
-    subst (AreBelow 1) none tt
+closed_below cut version zero events event closed e = search (rules, append_cancel_left)
 closed_below cut version (suc below) events event closed e =
-    let test = event_is_boundary cut version in
-    let event_of = group_event version (suc below) in
-    let group = open_entries test 2 (filter (has_level below) events) ++ event ∷ [] in
-    let b = has_level below event && is_closed test 2 group in
-    let h : event ∷ cond b (event_of group ∷ []) [] ≡ event ∷ option_to_list closed =
-    append_cancel_left (inner_events (suc below) cut version faulty events)
-    (event ∷ cond b (event_of group ∷ []) []) (event ∷ option_to_list closed)
-    (sym (stage_step below event_of test events event).0 ∙ e) in
-    let same : cond b (event_of group ∷ []) [] ≡ option_to_list closed = cc in
-    subst (AreBelow (suc (suc below))) same (grouped_below version (suc below) b (group ∷ []))
+    search (rules, append_cancel_left, stage_step, grouped_below)
 
 pub ended_below : (cut : Cut) (version : Version) (level : ℕ) (events : List Chunk)
     (last : Option Chunk) →
     inner_events level cut version clean events ≡ inner_events level cut version faulty events ++
     option_to_list last → AreBelow (suc level) (option_to_list last)
-ended_below cut version zero events last e =
-    subst (AreBelow 1) (append_cancel_left events [] (option_to_list last) (append-nil events ∙ e))
-    tt
+ended_below cut version zero events last e = search (rules, common_steps)
 ended_below cut version (suc below) events last e =
-    let test = event_is_boundary cut version in
-    let event_of = group_event version (suc below) in
-    let entries = filter (has_level below) events in
-    let b = nat_le 2 (length entries) in
-    let same = append_cancel_left (inner_events (suc below) cut version faulty events)
-    (cond b (map event_of (open_groups test 2 entries)) []) (option_to_list last)
-    (sym (stage_step below event_of test events (group_event version 0 [])).1 ∙ e) in
-    subst (AreBelow (suc (suc below))) same (grouped_below version (suc below) b
-    (open_groups test 2 entries))
+    search (rules, append_cancel_left, grouped_below)
 
 leaves_below : (version : Version) (leaves : List (List Pair)) →
     AreBelow 1 (map (chunk_of version 0) leaves)
@@ -284,12 +219,7 @@ pub leaf_below : (cut : Cut) (version : Version) (closing : Closing) (pairs : Li
     (sent : List Chunk) (last : Option Chunk) →
     leaf_events cut version closing pairs ≡ sent ++ option_to_list last →
     AreBelow 1 (option_to_list last)
-leaf_below cut version closing pairs sent last e =
-    all_back (λ c. c.level < 1) sent (option_to_list last) (subst (AreBelow 1) e (all closing))
-  where
-    all : (closing : Closing) → AreBelow 1 (leaf_events cut version closing pairs)
-    all clean = leaves_below version (leaves cut pairs)
-    all faulty = leaves_below version (closed_groups (pair_is_boundary cut) 1 pairs)
+leaf_below cut version closing pairs sent last e = search (rules, all_back, leaves_below)
 
 -- ---- an event on its way
 

@@ -1,36 +1,138 @@
 -- The ways of look-ups down a tree, for who knows the root alone.
-use Rattle.std.proofs.Common.{◌≡◌, ℕ, zero, suc, inl, inr, ◌⊎◌, List, [], ◌∷◌, ◌++◌, true, false}
-use Rattle.std.proofs.Common.{Bool, refl, sym, ap, ◌∙◌, subst}
+use Rattle.std.proofs.Common.{rules, ◌≡◌, ℕ, inl, inr, ◌⊎◌, List, [], ◌∷◌, ◌++◌, refl, sym, ap, ◌∙◌}
+use Rattle.std.proofs.Common.{subst, arith, append_assoc, append-nil, zero, suc, true, false, Bool}
+use Rattle.std.specs.List.{AllByRecursion, flat_map}
 use Rattle.std.specs.Prelude.{option_map}
-use Rattle.std.specs.List.{AllByRecursion}
 use Rattle.std.specs.Str.{bytes_eq}
 use Rattle.std.proofs.lemmas.Bool.{false≢true}
+use Rattle.std.proofs.lemmas.Grind.{common_steps}
+use Rattle.std.proofs.lemmas.List.{length-append}
+use Rattle.std.proofs.lemmas.List.Concat.{flat_map-append}
+use Rattle.std.proofs.lemmas.Option.{slice_get_past}
 use Rattle.std.proofs.lemmas.Slice.Eq.{bytes_eq-Decides}
 use Rattle.prolly_entry.specs.Cut.{sha512_cut}
 use Rattle.prolly_entry.specs.Pair.{Pair, IsPair}
 use Rattle.prolly_entry.specs.Reference.{reference_of}
 use Rattle.prolly_entry.specs.declared.version.Version.{Version}
 use Rattle.prolly_entry.specs.declared.version.Version.TheVariants.{Two}
-use Rattle.prolly_laws.specs.Trees.{pairs_are, top_in}
+use Rattle.prolly_entry.specs.lemmas.Lists.{all_append}
 use Rattle.prolly_tree.specs.Chunk.{IsIn, chunk_of}
 use Rattle.prolly_tree.specs.Difference.{IsMap}
 use Rattle.prolly_tree.specs.File.{root_reference}
 use Rattle.prolly_tree.specs.LookUp.{find, nth}
-use Rattle.prolly_tree.specs.Tree.{Tree, bytes_of, pairs_below, tree_of}
+use Rattle.prolly_tree.specs.Tree.{Tree, pairs_below, bytes_of, tree_of}
 use Rattle.prolly_tree.specs.lemmas.Maps.{Rises, rises}
+use Rattle.prolly_tree.specs.lemmas.Trees.{in_back, in_front}
+use Rattle.prolly_laws.specs.Trees.{pairs_are, top_in}
 use Rattle.prolly_check.specs.Descent.{HasTree, IsTreeOf}
 use Rattle.prolly_check.specs.Held.{pairs_held}
 use Rattle.prolly_check.specs.Judged.{chunk_bytes}
 use Rattle.prolly_check.specs.Kinds.{kind_of}
-use Rattle.prolly_check.specs.ScanWay.{AreFirstFrom, ScansAreRight}
+use Rattle.prolly_check.specs.Leaves.{pairs_from}
+use Rattle.prolly_check.specs.ScanWay.{AreFirstFrom, ScansAreRight, HaveFirstFrom, ScansGoOn}
+use Rattle.prolly_check.specs.ScanWay.{from_behind, joined}
 use Rattle.prolly_check.specs.Sought.{Sought, EndsAt, LeadsOn, child_sought, reference_and_sought}
 use Rattle.prolly_check.specs.Sought.Sought.{Key, Number}
-use Rattle.prolly_check.specs.Way.{Clash, CountWaysAreRight, IsNamed, IsWayTo, Lead, WaysAreRight}
-use Rattle.prolly_check.proofs.Chosen.{CanCount, chosen, none_chosen}
-use Rattle.prolly_check.proofs.Lookups.{child_is, root_is}
-use Rattle.prolly_check.proofs.Standing.{StandsIn, Tells, can_below, stands_below, stands_in_all}
-use Rattle.prolly_check.proofs.Standing.{tells_leaf, tells_none}
-use Rattle.prolly_check.proofs.WayDown.{children_are, own_pairs}
+use Rattle.prolly_check.specs.Way.{nth_sought, Clash, CountWaysAreRight, IsNamed, IsWayTo, Lead}
+use Rattle.prolly_check.specs.Way.{WaysAreRight}
+use Rattle.prolly_check.proofs.Chosen.{AllPast, CanCount, ChosenIn, Has, IsPast, chosen}
+use Rattle.prolly_check.proofs.Chosen.{none_chosen}
+use Rattle.prolly_check.proofs.MapTree.{child_is, root_is, children_are, own_pairs}
+use Rattle.prolly_check.proofs.PairsFrom.{find_in_part, first_in_part, find_over, nth_back}
+use Rattle.prolly_check.proofs.PairsFrom.{nth_front, none_from}
+
+-- ---- what a look-up seeks in a map, and below a tree to which it has come
+
+-- what is sought in the map is sought in these of its pairs
+pub record StandsIn (sought : Sought) (m : List Pair) (there : Sought) (pairs : List Pair) : Type 0
+  where
+    pub before : List Pair
+    pub after : List Pair
+    pub are : m ≡ before ++ (pairs ++ after)
+    pub past : IsPast sought before there
+    pub here : (after ≡ []) ⊎ Has there pairs
+
+-- so that these tell of it what the map does
+abbrev pub Tells : Sought → List Pair → Sought → List Pair → Type 0
+Tells (Key key) m there pairs = (find pairs key ≡ find m key) ×
+    AreFirstFrom key m (pairs_from key pairs)
+Tells (Number n) m there pairs = nth_sought there pairs ≡ nth m n
+
+-- ---- at the top
+
+past_none : (sought : Sought) → IsPast sought [] sought
+past_none (Key key) = (tt, refl)
+past_none (Number n) = omega arith
+
+pub stands_in_all : (sought : Sought) (m pairs : List Pair) → pairs ≡ m →
+    StandsIn sought m sought pairs
+stands_in_all sought m pairs same = record {
+  before = [];
+  after = [];
+  are = sym same ∙ sym (append-nil pairs);
+  past = past_none sought;
+  here = inl refl;
+}
+
+-- ---- one level down
+
+past_more : (sought there next : Sought) (xs ys : List Pair) → IsPast sought xs there →
+    IsPast there ys next → IsPast sought (xs ++ ys) next
+past_more (Key key) (Key same) (Key other) xs ys h k = grind (arith, all_append)
+past_more (Key key) (Key same) (Number n) xs ys h k = absurd k
+past_more (Key key) (Number n) next xs ys h k = absurd h
+past_more (Number n) (Key key) next xs ys h k = absurd h
+past_more (Number n) (Number k) (Key key) xs ys h l = absurd l
+past_more (Number n) (Number k) (Number i) xs ys h l = omega (arith, h, l, length-append xs ys)
+
+can_more : (version : Version) (there next : Sought) (pre own rest : List Pair) →
+    CanCount version there (pre ++ (own ++ rest)) → IsPast there pre next →
+    CanCount version next own
+can_more version (Key key) (Key other) pre own rest can past = tt
+can_more version (Key key) (Number n) pre own rest can past = absurd past
+can_more version (Number n) (Key key) pre own rest can past = absurd past
+can_more version (Number n) (Number k) pre own rest can past = search (rules, length-append)
+
+module _ (sought : Sought) (m : List Pair) (version : Version) (level : ℕ)
+    (trees : List (Tree level)) (there next : Sought) (reference : List ℕ)
+    (c : ChosenIn version level trees there next reference) where
+  abbrev pre : List Pair
+  pre = flat_map (pairs_below level) c.before
+
+  abbrev own : List Pair
+  own = pairs_below level c.child
+
+  abbrev back : List Pair
+  back = flat_map (pairs_below level) c.after
+
+  pub parts : flat_map (pairs_below level) trees ≡ pre ++ (own ++ back)
+  parts = search (rules, flat_map-append)
+
+  pub stands_below : StandsIn sought m there (flat_map (pairs_below level) trees) →
+      StandsIn sought m next own
+  stands_below s = grind (arith, parts, past_more, append_assoc)
+
+  pub can_below : CanCount version there (flat_map (pairs_below level) trees) →
+      CanCount version next own
+  can_below can = search (rules, can_more, parts)
+
+-- ---- at the end
+
+-- in the pairs of a leaf
+pub tells_leaf : (sought there : Sought) (m pairs : List Pair) → Rises m →
+    StandsIn sought m there pairs → Tells sought m there pairs
+tells_leaf (Key key) (Number n) m pairs rising s = absurd s.past
+tells_leaf (Number n) (Key key) m pairs rising s = absurd s.past
+tells_leaf (Key key) (Key other) m pairs rising s = search (rules, find_in_part, first_in_part)
+tells_leaf (Number n) (Number k) m pairs rising s = search (rules, nth_back, nth_front)
+
+-- at a node, behind all of whose pairs it is
+pub tells_none : (sought there : Sought) (m pairs : List Pair) → StandsIn sought m there pairs →
+    AllPast there pairs → Tells sought m there []
+tells_none sought there m pairs s all =
+    search (rules, all_append, find_over, none_from, slice_get_past, length-append)
+
+-- ---- the ways of look-ups down a tree, for who knows the root alone
 
 module _ (version : Version) (cs : List (List ℕ)) where
   -- a chunk that has the reference of a tree's top is that, or shows a clash
@@ -54,14 +156,7 @@ module _ (version : Version) (cs : List (List ℕ)) where
       })
 
   lifted : (chunk : List ℕ) (chunks : List (List ℕ)) → Clash chunks cs → Clash (chunk ∷ chunks) cs
-  lifted chunk chunks c = record {
-    one = c.one;
-    other = c.other;
-    in_one = inr c.in_one;
-    in_other = c.in_other;
-    differ = c.differ;
-    same = c.same;
-  }
+  lifted chunk chunks c = grind arith
 
   module _ (m : List Pair) (sought : Sought) where
     -- a look-up has come to the top of this tree
@@ -103,8 +198,7 @@ module _ (version : Version) (cs : List (List ℕ)) where
     tells_end : Rises m → (there : Sought) (level : ℕ) (t : Tree level) → IsAt there level t →
         EndsAt there (kind_of version (bytes_of version level t)) →
         Tells sought m there (pairs_held (bytes_of version level t))
-    tells_end rising there zero leaf at ends = subst (Tells sought m there)
-        (sym (own_pairs leaf at.of.lawful)) (tells_leaf sought there m leaf rising at.stands)
+    tells_end rising there zero leaf at ends = search (rules, own_pairs, tells_leaf)
     tells_end rising there (suc level) ts at ends =
         tells_none sought there m (pairs_below (suc level) ts) at.stands
         (none_chosen version cs level ts at.of there at.can
@@ -199,3 +293,37 @@ count_ways_are_right bits m n chunks pair few rising lawful w =
         (pair ≡ nth m n) ⊎ Clash chunks (chunk_bytes Two bits m)
     found (inl tells) = inl (w.pair_is ∙ tells)
     found (inr clash) = inr clash
+
+-- ---- scans that go on leaf by leaf, for who knows the root alone
+
+module _ (cs : List (List ℕ)) where
+  clash_front : (way : List (List ℕ)) (ways : List (List (List ℕ))) → Clash way cs →
+      Clash (joined (way ∷ ways)) cs
+  clash_front way ways c = grind (arith, in_front)
+
+  clash_back : (way : List (List ℕ)) (ways : List (List (List ℕ))) → Clash (joined ways) cs →
+      Clash (joined (way ∷ ways)) cs
+  clash_back way ways c = grind (arith, in_back)
+
+-- pairs that were found before the others
+one_more : (from : List ℕ) (m found : List Pair) (lists : List (List Pair)) →
+    AreFirstFrom from m found → HaveFirstFrom (from_behind from found) m lists →
+    HaveFirstFrom from m (found ∷ lists)
+one_more from m [] [] first rest = grind (arith, common_steps)
+one_more from m [] (more ∷ lists) first rest = grind (arith, common_steps)
+one_more from m (p ∷ ps) [] first rest = grind (arith, append_assoc)
+one_more from m (p ∷ ps) (more ∷ lists) first rest = grind (arith, append_assoc)
+
+pub scans_go_on : ScansGoOn
+scans_go_on version bits m from [] [] rising lawful scanned = grind arith
+scans_go_on version bits m from [] (way ∷ ways) rising lawful scanned = absurd scanned
+scans_go_on version bits m from (found ∷ lists) [] rising lawful scanned = absurd scanned
+scans_go_on version bits m from (found ∷ lists) (way ∷ ways) rising lawful scanned = search (
+  rules,
+  common_steps,
+  scans_are_right,
+  clash_front,
+  clash_back,
+  one_more,
+  scans_go_on version bits m (from_behind from found) lists ways rising lawful scanned.1,
+)

@@ -1,48 +1,46 @@
--- What is accepted is the file of a map.
-use Rattle.std.proofs.Common.{◌≡◌, ◌↔◌, ℕ, zero, suc, ◌≤◌, Bool, true, false, not, ◌||◌, ◌==◌}
-use Rattle.std.proofs.Common.{nat_le, nat_lt, cond, List, [], ◌∷◌, ◌++◌, length, map, drop, Option}
-use Rattle.std.proofs.Common.{Some, None, Result, Ok, Err, Ordering, refl, sym, ap, ◌∙◌, subst}
-use Rattle.std.specs.declared.cmp.Ordering.TheVariants.{Less, Equal, Greater}
-use Rattle.std.specs.Ordering.{is_lt}
+-- Bytes are accepted exactly where they are the file of a map.
+use Rattle.std.proofs.Common.{rules, ◌≡◌, ◌↔◌, ℕ, zero, suc, ◌≤◌, Bool, true, false, cond, List, []}
+use Rattle.std.proofs.Common.{◌∷◌, ◌++◌, length, drop, Option, Some, None, Result, Ok, Err, refl}
+use Rattle.std.proofs.Common.{sym, ap, ◌∙◌, subst, ◌+◌, ◌^◌, ◌<◌, map, arith, append_assoc}
+use Rattle.std.specs.Int.{w64, to_be_bytes}
+use Rattle.std.specs.List.{flat_map, list_any, AllByRecursion}
 use Rattle.std.specs.Prelude.{slice_index}
 use Rattle.std.specs.Str.{bytes_eq}
+use Rattle.std.proofs.lemmas.Bool.{cond-true, cond-false}
+use Rattle.std.proofs.lemmas.Grind.{common_steps}
+use Rattle.std.proofs.lemmas.List.{length-append}
 use Rattle.std.proofs.lemmas.Slice.Eq.{bytes_eq-Decides}
-use Rattle.std.proofs.lemmas.Bool.{leb-true, false≢true, and_parts, and_from, or_parts, not-false}
-use Rattle.std.proofs.lemmas.Bool.{cond-true, cond-false, or_from, false_from_ne_true}
-use Rattle.std.proofs.lemmas.Bool.Decides.{Decides-eqb}
-use Rattle.std.specs.List.{flat_map, list_any, AllByRecursion}
-use Rattle.prolly_entry.specs.Keys.{key_order, Rising, RisingFrom}
+use Rattle.prolly_entry.specs.Cut.{sha512_cut}
+use Rattle.prolly_entry.specs.Keys.{Rising}
 use Rattle.prolly_entry.specs.Pair.{Pair, IsPair}
 use Rattle.prolly_entry.specs.Position.{Position}
-use Rattle.prolly_check.proofs.OrderSteps.{rises_append}
-use Rattle.prolly_entry.specs.declared.version.Version.TheVariants.{One, Two}
-use Rattle.prolly_entry.specs.declared.version.Version.{Version}
-use Rattle.prolly_entry.specs.Cut.{sha512_cut}
 use Rattle.prolly_entry.specs.Reference.{reference_of}
-use Rattle.prolly_entry.specs.Version.{version_byte}
+use Rattle.prolly_entry.specs.declared.version.Version.{Version}
+use Rattle.prolly_entry.specs.declared.version.Version.TheVariants.{One, Two}
+use Rattle.prolly_entry.specs.lemmas.Lists.{all_append}
+use Rattle.prolly_entry.specs.lemmas.Spellings.{reference_length}
 use Rattle.prolly_tree.specs.Chunk.{chunks}
-use Rattle.prolly_tree.specs.File.{header, frame}
-use Rattle.prolly_entry.specs.Overlay.{or_else}
-use Rattle.prolly_file.specs.Frame.{framed}
+use Rattle.prolly_tree.specs.File.{header, frame, file}
+use Rattle.prolly_tree.specs.lemmas.Splits.{flat}
+use Rattle.prolly_file.specs.Frame.{framed, IsSmall}
 use Rattle.prolly_file.specs.FrameLaws.{frames_bytes}
 use Rattle.prolly_file.specs.Header.{header_tests, header_fault, version_of}
-use Rattle.prolly_file.specs.declared.format.header.HeaderFault.{HeaderFault}
-use Rattle.prolly_file.specs.declared.format.header.HeaderFault.TheVariants.{BadByte}
-use Rattle.prolly_check.specs.declared.fault.CheckFault.{CheckFault}
-use Rattle.prolly_check.specs.declared.fault.CheckFault.TheVariants.{Truncated, Trailing}
-use Rattle.prolly_check.specs.declared.fault.CheckFault.TheVariants.{BadEnd, BadFrame}
-use Rattle.prolly_check.specs.declared.fault.CheckFault.TheVariants.{KeysOutOfOrder, NotCanonical}
-use Rattle.prolly_check.specs.declared.fault.CheckFault.TheVariants.{Collision}
 use Rattle.prolly_check.specs.Content.{Content}
-use Rattle.prolly_check.specs.Frames.{ending_of, IsFramed}
 use Rattle.prolly_check.specs.Entries.{Holds, AllHold, IsRead}
-use Rattle.prolly_check.specs.Order.{rises_behind, last_behind}
+use Rattle.prolly_check.specs.Frames.{ending_of, IsFramed}
+use Rattle.prolly_check.specs.Held.{pairs_held}
 use Rattle.prolly_check.specs.Judged.{order_fault, difference, end_fault, reuse, chunk_bytes}
-use Rattle.prolly_check.specs.Judged.{ending_for, canonical_fault, or_content, judged}
-use Rattle.prolly_check.specs.Verdict.{ReadVerdict, EndVerdict, HeaderVerdict, IsVerdict, AllApart}
-use Rattle.prolly_check.specs.Verdict.{IsFileOf}
-use Rattle.prolly_tree.specs.lemmas.Splits.{flat}
-use Rattle.prolly_entry.specs.lemmas.Lists.{all_append}
+use Rattle.prolly_check.specs.Judged.{ending_for, canonical_fault, judged, rises_behind}
+use Rattle.prolly_check.specs.Judged.{last_behind}
+use Rattle.prolly_check.specs.Verdict.{ReadVerdict, EndVerdict, IsVerdict, AllApart, IsFileOf}
+use Rattle.prolly_check.specs.Verdict.{FramesVerdict, AcceptsFiles}
+use Rattle.prolly_check.specs.declared.verdict.fault.CheckFault.{CheckFault}
+use Rattle.prolly_check.specs.declared.verdict.fault.CheckFault.TheVariants.{NotCanonical}
+use Rattle.prolly_check.specs.declared.verdict.fault.CheckFault.TheVariants.{Collision}
+use Rattle.prolly_check.proofs.HeldPairs.{flat_held, all_hold, map_holds}
+use Rattle.prolly_check.proofs.RisingKeys.{rises_append, rising_is}
+
+-- ---- what is accepted is the file of a map
 
 pub some_none : {A : Type 0} {x : A} → ◌≡◌ {A = Option A} (Some x) None → ⊥
 some_none e = cc
@@ -53,11 +51,6 @@ ok_same a b e = cc
 pub err_ok : {A : Type 0} {x : A} {f : CheckFault} → ◌≡◌ {A = Result A CheckFault} (Err f) (Ok x) →
     ⊥
 err_ok e = cc
-
-pub if_ok : {A : Type 0} (t : Bool) (f : CheckFault) (r : Result A CheckFault) (x : A) →
-    cond t (Err f) r ≡ Ok x → (t ≡ false) × (r ≡ Ok x)
-if_ok true f r x e = absurd (err_ok e)
-if_ok false f r x e = (refl, e)
 
 pub if_none : {F : Type 0} (t : Bool) (f : F) (o : Option F) → cond t o (Some f) ≡ None →
     (t ≡ true) × (o ≡ None)
@@ -71,69 +64,19 @@ unless_none false f o e = (refl, e)
 
 -- ---- the header
 
--- the bytes begin with one that passes the test
-record Passes (test : ℕ → Bool) (tests : List (ℕ → Bool)) (bytes : List ℕ) : Type 0 where
-  byte : ℕ
-  rest : List ℕ
-  is : bytes ≡ byte ∷ rest
-  so : test byte ≡ true
-  more : header_fault tests rest ≡ None
-
-passes : (test : ℕ → Bool) (tests : List (ℕ → Bool)) (bytes : List ℕ) →
-    header_fault (test ∷ tests) bytes ≡ None → Passes test tests bytes
-passes test tests [] h = absurd (some_none h)
-passes test tests (b ∷ bytes) h =
-    let s = if_none (test b) BadByte (header_fault tests bytes) h in
-    record { byte = b; rest = bytes; is = refl; so = s.0; more = s.1 }
-
 pub record HeaderIs (bytes : List ℕ) : Type 0 where
   pub bits : slice_index bytes 5 ≤ 24
   pub is : bytes ≡ header (version_of (slice_index bytes 4)) (slice_index bytes 5) ++ drop 6 bytes
 
-version_ok : (v : ℕ) → ((v == 1) || (v == 2)) ≡ true → v ≡ version_byte (version_of v)
-version_ok v h = go (v == 1) refl h
-  where
-    go : (t : Bool) → (v == 1) ≡ t → (t || (v == 2)) ≡ true → v ≡ version_byte (version_of v)
-    go true e k = (Decides-eqb v 1).0 e ∙ sym (ap (λ t. version_byte (cond t One Two)) e)
-    go false e k = (Decides-eqb v 2).0 k ∙ sym (ap (λ t. version_byte (cond t One Two)) e)
-
 pub header_ok : (bytes : List ℕ) → header_fault header_tests bytes ≡ None → HeaderIs bytes
-header_ok bytes h =
-    let p = passes (λ b. b == 0x50) (drop 1 header_tests) bytes h in
-    let r = passes (λ b. b == 0x52) (drop 2 header_tests) p.rest p.more in
-    let l = passes (λ b. b == 0x4C) (drop 3 header_tests) r.rest r.more in
-    let y = passes (λ b. b == 0x59) (drop 4 header_tests) l.rest l.more in
-    let v = passes (λ b. (b == 1) || (b == 2)) (drop 5 header_tests) y.rest y.more in
-    let q = passes (λ b. nat_le b 24) [] v.rest v.more in
-    let front : 0x50 ∷ 0x52 ∷ 0x4C ∷ 0x59 ∷ v.byte ∷ q.byte ∷ q.rest ≡ bytes =
-    cc (
-      p.is,
-      r.is,
-      l.is,
-      y.is,
-      v.is,
-      q.is,
-      (Decides-eqb p.byte 0x50).0 p.so,
-      (Decides-eqb r.byte 0x52).0 r.so,
-      (Decides-eqb l.byte 0x4C).0 l.so,
-      (Decides-eqb y.byte 0x59).0 y.so,
-    ) in
-    subst HeaderIs front (record {
-      bits = leb-true q.byte 24 q.so;
-      is = ap (λ w. 0x50 ∷ 0x52 ∷ 0x4C ∷ 0x59 ∷ w ∷ q.byte ∷ q.rest) (version_ok v.byte v.so);
-    })
+header_ok bytes h = grind arith
 
 -- ---- the end
 
 pub ending_ok : (number : ℕ) (tail ending : List ℕ) → ending_of number tail ≡ Ok ending →
     tail ≡ 0x45 ∷ ending
 ending_ok number [] ending e = absurd (err_ok e)
-ending_ok number (b ∷ rest) ending e =
-    let s1 = if_ok (b == 0x43) Truncated _ ending e in
-    let s2 = if_ok (not (b == 0x45)) (BadFrame number) _ ending s1.1 in
-    let s3 = if_ok (nat_lt (length rest) 28) Truncated _ ending s2.1 in
-    let s4 = if_ok (nat_lt 28 (length rest)) Trailing _ ending s3.1 in
-    cc ((Decides-eqb b 0x45).0 (not-false (b == 0x45) s2.0), s4.1)
+ending_ok number (b ∷ rest) ending e = grind arith
 
 -- ---- the pairs
 
@@ -153,40 +96,11 @@ hold_pairs version (c ∷ cs) (ps ∷ lists) h = all_append IsPair ps (flat list
 
 -- ---- their order
 
-pub is_less : (o : Ordering) → is_lt o ≡ true → o ≡ Less
-is_less Less h = refl
-is_less Equal h = absurd (false≢true h)
-is_less Greater h = absurd (false≢true h)
-
-rises_is : (key : List ℕ) (ps : List Pair) → (rises_behind (Some key) ps ≡ true) ↔ RisingFrom key
-    (map (λ p. p.key) ps)
-rises_is key [] = (λ h. tt, λ h. refl)
-rises_is key (p ∷ ps) =
-    let here = is_lt (key_order key p.key) in
-    let more = rises_is p.key ps in (
-      λ h. let s = and_parts here (rises_behind (Some p.key) ps) h in
-          (is_less (key_order key p.key) s.0, more.0 s.1),
-      λ h. and_from here (rises_behind (Some p.key) ps) (ap is_lt h.0) (more.1 h.1),
-    )
-
-pub rising_is : (ps : List Pair) → (rises_behind None ps ≡ true) ↔ Rising (map (λ p. p.key) ps)
-rising_is [] = (λ h. tt, λ h. refl)
-rising_is (p ∷ ps) = rises_is p.key ps
-
 pub order_is : (last : Position) (number : ℕ) (lists : List (List Pair)) →
     (order_fault last number lists ≡ None) ↔ (rises_behind last (flat lists) ≡ true)
 order_is last number [] = (λ h. refl, λ h. refl)
 order_is last number (ps ∷ lists) =
-    let here = rises_behind last ps in
-    let there = rises_behind (last_behind last ps) (flat lists) in
-    let rest = order_fault (last_behind last ps) (suc number) lists in
-    let more = order_is (last_behind last ps) (suc number) lists in
-    let parts = rises_append last ps (flat lists) in (
-      λ h. let s = if_none here (KeysOutOfOrder number) rest h in
-          parts ∙ and_from here there s.0 (more.0 s.1),
-      λ h. let s = and_parts here there (sym parts ∙ h) in
-          cond-true here rest (Some (KeysOutOfOrder number)) s.0 ∙ more.1 s.1,
-    )
+    search (rules, rises_append, order_is (last_behind last ps) (suc number) lists)
 
 -- ---- the one file
 
@@ -200,10 +114,7 @@ difference_ok number (c ∷ cs) (d ∷ ds) h =
     ap (λ xs. d ∷ xs) (difference_ok (suc number) cs ds s.1)
 
 pub end_is : (found wanted : List ℕ) → (end_fault found wanted ≡ None) ↔ (found ≡ wanted)
-end_is found wanted = (
-  λ h. (bytes_eq-Decides found wanted).0 (if_none (bytes_eq found wanted) BadEnd None h).0,
-  λ e. cond-true (bytes_eq found wanted) None (Some BadEnd) ((bytes_eq-Decides found wanted).1 e),
-)
+end_is found wanted = grind (arith, bytes_eq-Decides)
 
 -- ---- references
 
@@ -214,26 +125,12 @@ is_new : (c : List ℕ) (before : List (List ℕ)) →
     (list_any (λ d. bytes_eq (reference_of d) (reference_of c)) before ≡ false) ↔ AllByRecursion
     (Other c) before
 is_new c [] = (λ h. tt, λ h. refl)
-is_new c (d ∷ ds) =
-    let same = bytes_eq (reference_of d) (reference_of c) in
-    let others = list_any (λ d. bytes_eq (reference_of d) (reference_of c)) ds in
-    let decides = bytes_eq-Decides (reference_of d) (reference_of c) in
-    let more = is_new c ds in (
-      λ h. let s = or_parts same others h in (
-        (λ e. false≢true (sym s.0 ∙ decides.1 e)),
-        more.0 s.1,
-      ),
-      λ h. or_from same others (false_from_ne_true same (λ t. h.0 (decides.0 t))) (more.1 h.1),
-    )
+is_new c (d ∷ ds) = search (rules, is_new c ds)
 
 all_both : (P Q : List ℕ → Type 0) (cs : List (List ℕ)) →
     AllByRecursion (λ c. P c × Q c) cs ↔ (AllByRecursion P cs × AllByRecursion Q cs)
 all_both P Q [] = (λ h. (tt, tt), λ h. tt)
-all_both P Q (c ∷ cs) =
-    let more = all_both P Q cs in (
-      λ h. ((h.0.0, (more.0 h.1).0), (h.0.1, (more.0 h.1).1)),
-      λ h. ((h.0.0, h.1.0), more.1 (h.0.1, h.1.1)),
-    )
+all_both P Q (c ∷ cs) = grind (arith, all_both P Q cs)
 
 pub reuse_is : (before : List (List ℕ)) (number : ℕ) (cs : List (List ℕ)) →
     (reuse before number cs ≡ None) ↔ (AllByRecursion (λ c. AllByRecursion (Other c) before) cs ×
@@ -255,15 +152,6 @@ reuse_is before number (c ∷ cs) =
 
 -- ---- all of it
 
-content_ok : (is content : Content) (fault : Option CheckFault) → Ok content ≡ or_content is fault →
-    (content ≡ is) × (fault ≡ None)
-content_ok is content None e = (ok_same content is e, refl)
-content_ok is content (Some fault) e = absurd (err_ok (sym e))
-
-pub none_left : (a b : Option CheckFault) → or_else a b ≡ None → (a ≡ None) × (b ≡ None)
-none_left None b e = (refl, e)
-none_left (Some x) b e = absurd (some_none e)
-
 -- nothing is wrong with the keys, the chunks and the end record
 pub record IsCanonical (version : Version) (bits : ℕ) (cs : List (List ℕ)) (ending : List ℕ)
     (lists : List (List Pair)) : Type 0 where
@@ -274,13 +162,7 @@ pub record IsCanonical (version : Version) (bits : ℕ) (cs : List (List ℕ)) (
 pub canonical_ok : (version : Version) (bits : ℕ) (cs : List (List ℕ)) (ending : List ℕ)
     (lists : List (List Pair)) → canonical_fault version bits cs ending lists ≡ None →
     IsCanonical version bits cs ending lists
-canonical_ok version bits cs ending lists e =
-    let wanted = chunk_bytes version bits (flat lists) in
-    let last = ending_for version bits (flat lists) in
-    let a = none_left (order_fault None 0 lists)
-    (or_else (difference 0 wanted cs) (end_fault ending last)) e in
-    let b = none_left (difference 0 wanted cs) (end_fault ending last) a.1 in
-    record { order = a.0; same = difference_ok 0 wanted cs b.0; last = (end_is ending last).0 b.1 }
+canonical_ok version bits cs ending lists e = search (rules, difference_ok)
 
 judged_file : (bytes : List ℕ) (content : Content) → HeaderIs bytes →
     (cs : List (List ℕ)) (ending : List ℕ) (lists : List (List Pair)) →
@@ -289,26 +171,7 @@ judged_file : (bytes : List ℕ) (content : Content) → HeaderIs bytes →
     Ok content ≡ judged (version_of (slice_index bytes 4)) (slice_index bytes 5) cs ending lists →
     IsFileOf bytes content
 judged_file bytes content header cs ending lists spelled hold so =
-    let version = version_of (slice_index bytes 4) in
-    let bits = slice_index bytes 5 in
-    let pairs = flat lists in
-    let s = content_ok (record { version = version; bits = bits; pairs = pairs }) content
-    (or_else (canonical_fault version bits cs ending lists) (reuse [] 0 cs)) so in
-    let a = none_left (canonical_fault version bits cs ending lists) (reuse [] 0 cs) s.1 in
-    let c = canonical_ok version bits cs ending lists a.0 in
-    let rest : drop 6 bytes ≡ flat_map frame (chunks (sha512_cut bits) version pairs) ++
-    0x45 ∷ ending_for version bits pairs =
-    spelled ∙ ap (λ cs. flat_map framed cs ++ 0x45 ∷ ending) (sym c.same) ∙
-    ap (λ x. x ++ 0x45 ∷ ending) (sym (frames_bytes (chunks (sha512_cut bits) version pairs)))
-    ∙ ap (λ e. flat_map frame (chunks (sha512_cut bits) version pairs) ++ 0x45 ∷ e) c.last in
-    let it : IsFileOf bytes (record { version = version; bits = bits; pairs = pairs }) = record {
-      bits = header.bits;
-      lawful = hold_pairs version cs lists hold;
-      rising = (rising_is pairs).0 ((order_is None 0 lists).0 c.order);
-      is = header.is ∙ ap (λ x. 0x50 ∷ 0x52 ∷ 0x4C ∷ 0x59 ∷ version_byte version ∷ bits ∷ x) rest;
-      apart = subst AllApart (sym c.same) ((reuse_is [] 0 cs).0 a.1).1;
-    } in
-    subst (IsFileOf bytes) (sym s.0) it
+    search (rules, canonical_ok, frames_bytes, hold_pairs, rising_is, order_is, reuse_is)
 
 read_file : (bytes : List ℕ) (content : Content) → HeaderIs bytes →
     (cs : List (List ℕ)) (ending : List ℕ) →
@@ -317,25 +180,103 @@ read_file : (bytes : List ℕ) (content : Content) → HeaderIs bytes →
     IsRead (version_of (slice_index bytes 4)) cs read →
     ReadVerdict (version_of (slice_index bytes 4)) (slice_index bytes 5) cs ending read
     (Ok content) → IsFileOf bytes content
-read_file bytes content header cs ending spelled (Ok lists) is so =
-    judged_file bytes content header cs ending lists spelled is so
+read_file bytes content header cs ending spelled (Ok lists) is so = search (rules, judged_file)
 read_file bytes content header cs ending spelled (Err fault) is so = absurd (err_ok (sym so))
 
 end_file : (bytes : List ℕ) (content : Content) → HeaderIs bytes →
     (cs : List (List ℕ)) (ending : Result (List ℕ) CheckFault) → IsFramed (drop 6 bytes) cs ending →
     EndVerdict (version_of (slice_index bytes 4)) (slice_index bytes 5) cs ending (Ok content) →
     IsFileOf bytes content
-end_file bytes content header cs (Ok ending) is so =
-    read_file bytes content header cs ending (is.spelled ∙
-    ap (λ x. flat_map framed cs ++ x) (ending_ok (length cs) is.tail ending is.is)) so.read
-    so.is so.so
+end_file bytes content header cs (Ok ending) is so = search (rules, common_steps, read_file)
 end_file bytes content header cs (Err fault) is so = absurd (err_ok (sym so))
 
 pub accepted_is_file : (bytes : List ℕ) (content : Content) → IsVerdict bytes (Ok content) →
     IsFileOf bytes content
-accepted_is_file bytes content v = go (header_fault header_tests bytes) refl v
-  where
-    go : (fault : Option HeaderFault) → header_fault header_tests bytes ≡ fault →
-        HeaderVerdict fault bytes (Ok content) → IsFileOf bytes content
-    go (Some fault) e v = absurd (err_ok (sym v))
-    go None e v = end_file bytes content (header_ok bytes e) v.chunks v.ending v.is v.so
+accepted_is_file bytes content v = grind (arith, end_file, header_ok)
+
+-- ---- the one file and the references
+
+pub difference_same : (number : ℕ) (cs : List (List ℕ)) → difference number cs cs ≡ None
+difference_same number [] = refl
+difference_same number (c ∷ cs) = cond-true (bytes_eq c c) (difference (suc number) cs cs)
+    (Some (NotCanonical number)) ((bytes_eq-Decides c c).1 refl) ∙ difference_same (suc number) cs
+
+no_before : (cs : List (List ℕ)) → AllByRecursion (λ c. AllByRecursion (Other c) []) cs
+no_before [] = tt
+no_before (c ∷ cs) = (tt, no_before cs)
+
+-- ---- all of it
+
+judged_ok : (version : Version) (bits : ℕ) (lists : List (List Pair)) (pairs : List Pair) →
+    flat lists ≡ pairs → Rising (map (λ p. p.key) pairs) →
+    AllApart (chunk_bytes version bits pairs) →
+    judged version bits (chunk_bytes version bits pairs) (ending_for version bits pairs) lists ≡
+    Ok (record { version = version; bits = bits; pairs = pairs })
+judged_ok version bits lists pairs e rising apart =
+    let cs = chunk_bytes version bits pairs in
+    let rises = (order_is None 0 lists).1 ((rising_is (flat lists)).1
+    (subst (λ ps. Rising (map (λ p. p.key) ps)) (sym e) rising)) in
+    rw (
+      rises,
+      e,
+      difference_same 0 cs,
+      (end_is (ending_for version bits pairs)
+          (ending_for version bits pairs)).1 refl,
+      (reuse_is [] 0 cs).1 (no_before cs, apart),
+    )
+
+header_verdict : (version : Version) (bits : ℕ) (rest : List ℕ)
+    (verdict : Result Content CheckFault) → bits ≤ 24 → FramesVerdict version bits rest verdict →
+    IsVerdict (header version bits ++ rest) verdict
+header_verdict One bits rest verdict h f = search rules
+header_verdict Two bits rest verdict h f = search rules
+
+pub ending_long : (version : Version) (bits : ℕ) (pairs : List Pair) →
+    length (ending_for version bits pairs) ≡ 28
+ending_long version bits pairs = grind (arith, length-append, reference_length)
+
+-- a list is as short as one that it is a part of
+pub all_small : (cs : List (List ℕ)) (tail : List ℕ) →
+    length (flat_map framed cs ++ tail) < 2 ^ 64 → AllByRecursion IsSmall cs
+all_small [] tail h = tt
+all_small (c ∷ cs) tail h =
+    let a : length (flat_map framed (c ∷ cs) ++ tail) ≡ length (framed c) +
+    length (flat_map framed cs ++ tail) =
+    ap length (append_assoc (framed c) (flat_map framed cs) tail) ∙
+    length-append (framed c) (flat_map framed cs ++ tail) in
+    let b : length (framed c) ≡ 9 + length c =
+    length-append (0x43 ∷ to_be_bytes w64 (length c)) c in
+    (omega arith, all_small cs tail (omega arith))
+
+-- the frames of the file of a map
+pub file_framed : (version : Version) (bits : ℕ) (pairs : List Pair) →
+    length (file (sha512_cut bits) version pairs) < 2 ^ 64 →
+    IsFramed (flat_map frame (chunks (sha512_cut bits) version pairs) ++ 0x45 ∷ ending_for version
+    bits pairs) (chunk_bytes version bits pairs) (Ok (ending_for version bits pairs))
+file_framed version bits pairs short = search (rules, frames_bytes, all_small, ending_long)
+
+pub file_is_accepted : (bytes : List ℕ) (content : Content) → length bytes < 2 ^ 64 →
+    IsFileOf bytes content → IsVerdict bytes (Ok content)
+file_is_accepted bytes content short f =
+    let version = content.version in
+    let pairs = content.pairs in
+    let rest = flat_map frame (chunks (sha512_cut content.bits) version pairs) ++
+    0x45 ∷ ending_for version content.bits pairs in
+    let cs = chunk_bytes version content.bits pairs in
+    let holding = map_holds version content.bits pairs f.lawful in
+    let verdict : FramesVerdict version content.bits rest (Ok content) = record {
+      chunks = cs;
+      ending = Ok (ending_for version content.bits pairs);
+      is = file_framed version content.bits pairs (subst (λ b. length b < 2 ^ 64) f.is short);
+      so = record {
+        read = Ok (map pairs_held cs);
+        is = all_hold version cs holding.whole;
+        so = sym (judged_ok version content.bits (map pairs_held cs) pairs (flat_held cs ∙
+            holding.are) f.rising f.apart);
+      };
+    } in
+    subst (λ b. IsVerdict b (Ok content)) (sym f.is)
+    (header_verdict version content.bits rest (Ok content) f.bits verdict)
+
+pub accepts_files : AcceptsFiles
+accepts_files bytes content = (accepted_is_file bytes content, file_is_accepted bytes content)

@@ -1,19 +1,46 @@
--- What is kept of a file that was accepted.
-use Rattle.std.specs.Prelude.{◌≡◌, ℕ, ◌<◌, ◌≤◌, ◌^◌, List, ◌∷◌, length, map, drop, Result}
+-- What is kept of a file that was accepted, and how its chunks are found by their references.
+use Rattle.std.specs.Cmp.Lexicographic.{slice_cmp}
 use Rattle.std.specs.List.{flat_map, AllByRecursion}
+use Rattle.std.specs.List.Sorted.{IsPermutation, IsSortedByKey}
+use Rattle.std.specs.Ordering.{nat_cmp}
+use Rattle.std.specs.Prelude.{◌≡◌, ℕ, ◌<◌, get_or, List, [], length, map, ◌≤◌, ◌^◌, ◌∷◌, drop}
 use Rattle.std.specs.declared.ops.Range.{Range}
-use Rattle.prolly_tree.specs.Chunk.{IsIn}
 use Rattle.prolly_entry.specs.Reference.{reference_of}
-use Rattle.prolly_check.specs.declared.fault.CheckFault.{CheckFault}
+use Rattle.prolly_entry.specs.declared.reference.Ref.{Ref}
+use Rattle.prolly_tree.specs.Chunk.{IsIn}
 use Rattle.prolly_file.specs.declared.format.header.Header.{Header}
 use Rattle.prolly_check.specs.Content.{Content}
+use Rattle.prolly_check.specs.Entries.{AreWhole}
+use Rattle.prolly_check.specs.Frames.{IsWithin, chunks_in}
 use Rattle.prolly_check.specs.Held.{pairs_held}
-use Rattle.prolly_check.specs.declared.index.Index.{Index}
-use Rattle.prolly_check.specs.Index.{IsIndex}
 use Rattle.prolly_check.specs.Judged.{chunk_bytes, judged}
-use Rattle.prolly_check.specs.Spans.{IsWithin, chunks_in}
 use Rattle.prolly_check.specs.Verdict.{IsFileOf, IsVerdict}
-use Rattle.prolly_check.specs.Whole.{AreWhole}
+use Rattle.prolly_check.specs.declared.index.Index.{Index}
+
+-- The references of the chunks, in their order.
+abbrev pub AreReferences : List (List ℕ) → List Ref → Type 0
+AreReferences chunks references = map (λ r. r.0) references ≡ map reference_of chunks
+
+-- The chunk of this number has the reference.
+pub record HasAt (chunks : List (List ℕ)) (number : ℕ) (reference : List ℕ) : Type 0 where
+  pub within : number < length chunks
+  pub is : reference_of (get_or chunks number []) ≡ reference
+
+-- The entries are the references with their numbers.
+pub record AreNumbered (references : List Ref) (entries : List (Ref × ℕ)) : Type 0 where
+  pub many : length entries ≡ length references
+  pub each : (k : ℕ) (other : Ref × ℕ) → k < length references →
+      get_or entries k other ≡ (get_or references k other.0, k)
+
+-- The entries of the index are the references of the chunks with the chunks' numbers, in the order
+-- of the references.
+pub record IsIndex (index : Index) (chunks : List (List ℕ)) : Type 0 where
+  pub references : List Ref
+  pub are : AreReferences chunks references
+  pub numbered : List (Ref × ℕ)
+  pub in_turn : AreNumbered references numbered
+  pub moved : IsPermutation numbered index.entries.items
+  pub sorted : IsSortedByKey (λ e. e.0.0) (slice_cmp nat_cmp) index.entries.items
 
 -- The bytes are the file of some map, no two of whose chunks have one reference.
 pub record IsFile (bytes : List ℕ) : Type 0 where
@@ -43,9 +70,8 @@ pub record IsLaidOut (bytes : List ℕ) (header : Header) (spans : List (Range �
   pub reached : place ≤ length bytes
   pub ending : List ℕ
   pub behind : drop place bytes ≡ 0x45 ∷ ending
-  pub so : (verdict : Result Content CheckFault) →
-      verdict ≡ judged header.version header.bits (chunks_in bytes spans) ending
-      (map pairs_held (chunks_in bytes spans)) → IsVerdict bytes verdict
+  pub so : IsVerdict bytes (judged header.version header.bits (chunks_in bytes spans) ending
+      (map pairs_held (chunks_in bytes spans)))
 
 -- The header, the places of the chunks and the index are those of the file.
 pub record IsChecked (bytes : List ℕ) (header : Header) (spans : List (Range ℕ))

@@ -1,16 +1,16 @@
 -- The entries that chunks hold.
+use Rattle.std.specs.List.{flat_map, AllByRecursion}
 use Rattle.std.specs.Prelude.{◌≡◌, ℕ, zero, suc, ◌+◌, List, [], ◌∷◌, ◌++◌, length, take, drop}
 use Rattle.std.specs.Prelude.{Result, Ok, Err}
-use Rattle.std.specs.List.{flat_map, AllByRecursion}
-use Rattle.prolly_entry.specs.declared.version.Version.{Version}
-pub use Rattle.prolly_entry.specs.Child.{Child, IsChild, entry_of, first_count}
 use Rattle.prolly_entry.specs.ChildAt.{tail_length}
 use Rattle.prolly_entry.specs.Pair.{Pair, IsPair}
 use Rattle.prolly_entry.specs.Reading.{key_length, value_length}
-pub use Rattle.prolly_entry.specs.Spelling.{BeginsWith}
 use Rattle.prolly_entry.specs.Spelling.{pair_spelling}
-use Rattle.prolly_check.specs.declared.fault.CheckFault.{CheckFault}
-use Rattle.prolly_check.specs.declared.fault.CheckFault.TheVariants.{BadChunk}
+use Rattle.prolly_entry.specs.declared.version.Version.{Version}
+use Rattle.prolly_check.specs.declared.verdict.fault.CheckFault.{CheckFault}
+use Rattle.prolly_check.specs.declared.verdict.fault.CheckFault.TheVariants.{BadChunk}
+pub use Rattle.prolly_entry.specs.Child.{Child, IsChild, entry_of, first_count}
+pub use Rattle.prolly_entry.specs.Spelling.{BeginsWith}
 
 -- The entries of a leaf are the spellings of these pairs.
 pub record IsLeaf (entries : List ℕ) (pairs : List Pair) : Type 0 where
@@ -103,3 +103,17 @@ NoNode version = (done : List Child) (pairs : List Pair) (rest : List ℕ) →
     AllByRecursion IsChild done → (rest ≡ [] → ⊥) →
     ((c : Child) (x : List ℕ) → IsChild c → rest ≡ entry_of version c ++ x → ⊥) →
     IsNode version (flat_map (entry_of version) done ++ rest) pairs → ⊥
+
+-- The entries are a leaf's, whatever pairs they are.
+pub record IsSomeLeaf (entries : List ℕ) : Type 0 where
+  pub pairs : List Pair
+  pub is : IsLeaf entries pairs
+
+-- The chunk is such, whatever pairs it has.
+pub record IsWhole (version : Version) (chunk : List ℕ) : Type 0 where
+  pub pairs : List Pair
+  pub holds : Holds version chunk pairs
+
+-- The chunks are such, whatever pairs they have.
+abbrev pub AreWhole : Version → List (List ℕ) → Type 0
+AreWhole version chunks = AllByRecursion (IsWhole version) chunks

@@ -1,16 +1,15 @@
 -- Look-ups in a file that was checked.
-use Rattle.std.specs.Prelude.{◌≡◌, ℕ, suc, ◌^◌, ◌<◌, List, [], length, get_or}
 use Rattle.std.specs.List.{AllByRecursion}
+use Rattle.std.specs.Prelude.{◌≡◌, ℕ, suc, ◌^◌, ◌<◌, List, [], length, get_or}
 use Rattle.prolly_entry.specs.Reference.{reference_of}
 use Rattle.prolly_entry.specs.declared.version.Version.{Version}
 use Rattle.prolly_entry.specs.declared.version.Version.TheVariants.{Two}
 use Rattle.prolly_tree.specs.Chunk.{IsIn}
 use Rattle.prolly_tree.specs.Tree.{Tree, bytes_of, pairs_below}
 use Rattle.prolly_check.specs.Checked.{chunks_of}
-use Rattle.prolly_check.specs.Content.{Content}
+use Rattle.prolly_check.specs.Content.{Content, root_bytes}
 use Rattle.prolly_check.specs.Descent.{IsTreeOf}
 use Rattle.prolly_check.specs.Kinds.{kind_of}
-use Rattle.prolly_check.specs.Root.{root_bytes}
 use Rattle.prolly_check.specs.Sought.{Sought, LeadsOn, sought_of}
 use Rattle.prolly_check.specs.Sought.Sought.{Key, Number}
 use Rattle.prolly_check.specs.Way.{IsNamed, IsWayTo, level_of}

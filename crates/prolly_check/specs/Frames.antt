@@ -1,10 +1,31 @@
--- The frames of a chunk file, and what follows them.
-use Rattle.std.specs.Prelude.{◌≡◌, ℕ, true, not, ◌==◌, nat_lt, List, [], ◌∷◌, ◌++◌, length, Result}
-use Rattle.std.specs.Prelude.{Ok, Err, if◌then◌else◌}
+-- The frames of a chunk file: where its chunks lie, and what follows them.
 use Rattle.std.specs.List.{flat_map, AllByRecursion}
-use Rattle.prolly_file.specs.Frame.{framed, has_no_frame, IsSmall}
-use Rattle.prolly_check.specs.declared.fault.CheckFault.{CheckFault}
-use Rattle.prolly_check.specs.declared.fault.CheckFault.TheVariants.{Truncated, Trailing, BadFrame}
+use Rattle.std.specs.Prelude.{◌≡◌, ℕ, ◌-◌, ◌≤◌, List, ◌++◌, length, take, drop, map, true, not}
+use Rattle.std.specs.Prelude.{◌==◌, nat_lt, [], ◌∷◌, Result, Ok, Err, if◌then◌else◌}
+use Rattle.std.specs.declared.ops.Range.{Range}
+use Rattle.prolly_file.specs.Frame.{framed, IsSmall, has_no_frame}
+use Rattle.prolly_check.specs.declared.verdict.fault.CheckFault.{CheckFault}
+use Rattle.prolly_check.specs.declared.verdict.fault.CheckFault.TheVariants.{Truncated, Trailing}
+use Rattle.prolly_check.specs.declared.verdict.fault.CheckFault.TheVariants.{BadFrame}
+
+-- The chunk that lies there.
+abbrev pub chunk_in : List ℕ → Range ℕ → List ℕ
+chunk_in bytes span = take (span.end - span.start) (drop span.start bytes)
+
+-- The chunks that lie there.
+abbrev pub chunks_in : List ℕ → List (Range ℕ) → List (List ℕ)
+chunks_in bytes spans = map (chunk_in bytes) spans
+
+-- The chunk lies within the bytes.
+abbrev pub IsWithin : List ℕ → Range ℕ → Type 0
+IsWithin bytes span = (span.start ≤ span.end) × (span.end ≤ length bytes)
+
+-- Behind the header the frames of the chunks go up to the place.
+pub record FramesTo (bytes : List ℕ) (spans : List (Range ℕ)) (place : ℕ) : Type 0 where
+  pub reached : place ≤ length bytes
+  pub spelled : drop 6 bytes ≡ flat_map framed (chunks_in bytes spans) ++ drop place bytes
+  pub small : AllByRecursion IsSmall (chunks_in bytes spans)
+  pub within : AllByRecursion (IsWithin bytes) spans
 
 -- What follows the last whole frame, which has this number: the 28 bytes behind an end record's
 -- first, or a fault.

@@ -1,22 +1,38 @@
 -- What is wrong with the pairs and the chunks of a file that is well formed: the first fault.
-use Rattle.std.specs.Prelude.{ℕ, suc, List, [], ◌∷◌, ◌++◌, length, map, Option, Some, None, Result}
-use Rattle.std.specs.Prelude.{Ok, Err, if◌then◌else◌}
 use Rattle.std.specs.Int.{w64, to_be_bytes}
 use Rattle.std.specs.List.{flat_map, list_any}
+use Rattle.std.specs.Prelude.{◌≡◌, Bool, true, ◌&&◌, List, [], ◌∷◌, Some, ℕ, suc, ◌++◌, length, map}
+use Rattle.std.specs.Prelude.{Option, None, Result, Ok, Err, if◌then◌else◌, ◌-◌, get_or}
 use Rattle.std.specs.Str.{bytes_eq}
-use Rattle.prolly_entry.specs.declared.version.Version.{Version}
-use Rattle.prolly_entry.specs.Pair.{Pair}
-use Rattle.prolly_entry.specs.Position.{Position}
 use Rattle.prolly_entry.specs.Cut.{sha512_cut}
+use Rattle.prolly_entry.specs.Overlay.{or_else}
+use Rattle.prolly_entry.specs.Pair.{Pair}
+use Rattle.prolly_entry.specs.Position.{Position, is_before}
 use Rattle.prolly_entry.specs.Reference.{reference_of}
+use Rattle.prolly_entry.specs.declared.version.Version.{Version}
 use Rattle.prolly_tree.specs.Chunk.{chunks}
 use Rattle.prolly_tree.specs.File.{root_reference}
-use Rattle.prolly_entry.specs.Overlay.{or_else}
-use Rattle.prolly_check.specs.declared.fault.CheckFault.{CheckFault}
-use Rattle.prolly_check.specs.declared.fault.CheckFault.TheVariants.{KeysOutOfOrder, NotCanonical}
-use Rattle.prolly_check.specs.declared.fault.CheckFault.TheVariants.{BadEnd, Collision}
 use Rattle.prolly_check.specs.Content.{Content}
-use Rattle.prolly_check.specs.Order.{rises_behind, last_behind}
+use Rattle.prolly_check.specs.Held.{pairs_held}
+use Rattle.prolly_check.specs.declared.verdict.fault.CheckFault.{CheckFault}
+use Rattle.prolly_check.specs.declared.verdict.fault.CheckFault.TheVariants.{KeysOutOfOrder, BadEnd}
+use Rattle.prolly_check.specs.declared.verdict.fault.CheckFault.TheVariants.{NotCanonical, Collision}
+
+-- Each key of the pairs is greater than the one before it, the first one greater than the last one
+-- before them.
+abbrev pub rises_behind : Position → List Pair → Bool
+rises_behind last [] = true
+rises_behind last (p ∷ ps) = is_before last (Some p.key) && rises_behind (Some p.key) ps
+
+-- The position of the last key of the pairs, or where there are none the one before them.
+abbrev pub last_behind : Position → List Pair → Position
+last_behind last [] = last
+last_behind last (p ∷ ps) = last_behind (Some p.key) ps
+
+-- The keys of the pairs rise behind the one, up to the other.
+pub record RisesTo (last : Position) (pairs : List Pair) (new : Position) : Type 0 where
+  pub rises : rises_behind last pairs ≡ true
+  pub last_is : new ≡ last_behind last pairs
 
 -- The first chunk, from this number on, whose keys do not rise behind the last key before them.
 abbrev pub order_fault : Position → ℕ → List (List Pair) → Option CheckFault
@@ -77,3 +93,20 @@ abbrev pub judged : Version → ℕ → List (List ℕ) → List ℕ → List (L
 judged version bits chunks ending lists =
     or_content (record { version = version; bits = bits; pairs = flat_map (λ pairs. pairs) lists })
     (or_else (canonical_fault version bits chunks ending lists) (reuse [] 0 chunks))
+
+-- What follows the letter E in a file with these chunks: the last chunk's reference and their
+-- number.
+abbrev pub ending_of_chunks : List (List ℕ) → List ℕ
+ending_of_chunks chunks = reference_of (get_or chunks (length chunks - 1) []) ++
+    to_be_bytes w64 (length chunks)
+
+-- This is what is wrong with the keys, the chunks or the end record of a file with these chunks, of
+-- the pairs that they hold, where an end record follows them.
+abbrev pub Says : Version → ℕ → List (List ℕ) → List ℕ → Option CheckFault → Type 0
+Says version bits chunks behind fault = (ending : List ℕ) → behind ≡ 0x45 ∷ ending →
+    canonical_fault version bits chunks ending (map pairs_held chunks) ≡ fault
+
+-- So the chunks compare with those of the pairs that they hold.
+abbrev pub CompareAs : Version → ℕ → List (List ℕ) → Option CheckFault → Type 0
+CompareAs version bits chunks fault = difference 0
+    (chunk_bytes version bits (flat_map pairs_held chunks)) chunks ≡ fault

@@ -1,23 +1,23 @@
 -- Rebuilding the chunks of pairs one by one, by levels that stand one above another.
+use Rattle.std.specs.Global.{Vec}
+use Rattle.std.specs.List.{AllByRecursion}
+use Rattle.std.specs.Option.{option_to_list}
 use Rattle.std.specs.Prelude.{◌≡◌, ℕ, zero, suc, ◌<◌, List, [], ◌∷◌, ◌++◌, length, take, map}
 use Rattle.std.specs.Prelude.{Option, Some, Result, Ok, Err, OnOk}
-use Rattle.prolly_entry.specs.declared.version.Version.{Version}
 use Rattle.prolly_entry.specs.Cut.{Cut, sha512_cut}
+use Rattle.prolly_entry.specs.Pair.{Pair}
+use Rattle.prolly_entry.specs.declared.reference.Ref.{Ref}
+use Rattle.prolly_entry.specs.declared.version.Version.{Version}
 use Rattle.prolly_tree.specs.Chunk.{Chunk}
 use Rattle.prolly_tree.specs.Events.{clean, faulty, leaf_events, inner_events}
 use Rattle.prolly_tree.specs.Pipeline.{pipeline_events}
-use Rattle.std.specs.List.{AllByRecursion}
-use Rattle.std.specs.Option.{option_to_list}
-use Rattle.std.specs.Global.{Vec}
-use Rattle.prolly_entry.specs.Pair.{Pair}
-use Rattle.prolly_entry.specs.declared.reference.Ref.{Ref}
 use Rattle.prolly_chunk.specs.LeafLevel.{leaf_level}
 use Rattle.prolly_chunk.specs.NodeLevel.{NodeState, node_level, NodeBegins}
-use Rattle.prolly_check.specs.declared.fault.CheckFault.{CheckFault}
-use Rattle.prolly_check.specs.Index.{AreReferences}
+use Rattle.prolly_check.specs.Checked.{AreReferences}
 use Rattle.prolly_check.specs.Judged.{difference}
-use Rattle.prolly_check.specs.Refusal.{UnlessMemory}
-use Rattle.prolly_check.specs.declared.rebuild.Rebuild.{Rebuild}
+use Rattle.prolly_check.specs.Verdict.{UnlessMemory}
+use Rattle.prolly_check.specs.declared.verdict.fault.CheckFault.{CheckFault}
+use Rattle.prolly_check.specs.declared.verdict.rebuild.Rebuild.{Rebuild}
 
 -- What so many levels, from this one on, have sent of events, each taking what the one below it
 -- sent.

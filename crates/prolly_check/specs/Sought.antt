@@ -1,8 +1,9 @@
 -- What a look-up seeks, and which child of a node it goes on in. (This project's rules.)
-use Rattle.std.specs.Prelude.{◌≡◌, ◌<◌, ◌≤◌, ℕ, List, [], ◌∷◌, ◌++◌, length, drop, Option, Some, None}
-use Rattle.std.specs.Prelude.{option_map}
+use Rattle.std.specs.Ordering.{is_lt}
+use Rattle.std.specs.Prelude.{ℕ, ◌-◌, nat_lt, List, [], ◌∷◌, Option, Some, None, if◌then◌else◌, ◌≡◌}
+use Rattle.std.specs.Prelude.{◌<◌, ◌≤◌, ◌++◌, length, drop, option_map}
+use Rattle.prolly_entry.specs.Keys.{key_order}
 use Rattle.prolly_entry.specs.declared.version.Version.{Version}
-use Rattle.prolly_check.specs.Children.{child_for, child_with}
 use Rattle.prolly_check.specs.Entries.{Child, IsNode, children_in}
 use Rattle.prolly_check.specs.declared.entries.Entries.{Entries}
 use Rattle.prolly_check.specs.declared.entries.Entries.TheVariants.{Leaf, Node}
@@ -11,6 +12,18 @@ use Rattle.prolly_check.specs.declared.look_up.sought.Mark.{Mark}
 use Rattle.prolly_check.specs.declared.look_up.sought.Sought.{Sought as Asked}
 use Rattle.prolly_check.specs.declared.look_up.sought.Sought.TheVariants.{Key as AskedKey}
 use Rattle.prolly_check.specs.declared.look_up.sought.Sought.TheVariants.{Number as AskedNumber}
+pub use Rattle.prolly_entry.specs.Child.{value_of}
+
+-- The first child whose greatest key is not below the key.
+abbrev pub child_for : List ℕ → List Child → Option Child
+child_for key [] = None
+child_for key (c ∷ cs) = if is_lt (key_order c.key key) then child_for key cs else Some c
+
+-- The first child that has the pair of this number below it, by the counts, and how many pairs
+-- below it come before that pair.
+abbrev pub child_with : ℕ → List Child → Option (Child × ℕ)
+child_with n [] = None
+child_with n (c ∷ cs) = if nat_lt n c.count then Some (c, n) else child_with (n - c.count) cs
 
 -- What a look-up seeks: a key, or the pair of this number, counted from 0 in the order of keys.
 pub data Sought : Type 0 where

@@ -4,12 +4,11 @@ use Rattle.prolly_entry.specs.Keys.{Rising}
 use Rattle.prolly_entry.specs.Pair.{Pair}
 use Rattle.prolly_entry.specs.Reference.{reference_of}
 use Rattle.prolly_entry.specs.declared.version.Version.{Version}
-use Rattle.prolly_check.specs.Entries.{Holds}
+use Rattle.prolly_check.specs.Entries.{Holds, IsWhole}
 use Rattle.prolly_check.specs.Held.{pairs_held}
 use Rattle.prolly_check.specs.Kinds.{kind_of}
 use Rattle.prolly_check.specs.Sought.{Sought, EndsAt, LeadsOn, sought_of}
 use Rattle.prolly_check.specs.Way.{FallsTo, IsNamed, keys_of, level_of}
-use Rattle.prolly_check.specs.Whole.{IsWhole}
 use Rattle.prolly_check.specs.declared.look_up.step.ChunkFlaw.{ChunkFlaw}
 use Rattle.prolly_check.specs.declared.look_up.step.ChunkFlaw.TheVariants.{Entries, Level, Order}
 use Rattle.prolly_check.specs.declared.look_up.step.ChunkFlaw.TheVariants.{Reference}

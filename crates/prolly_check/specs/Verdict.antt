@@ -1,21 +1,40 @@
 -- Which bytes are the file of a map, and which fault others have.
-use Rattle.std.specs.Prelude.{◌≡◌, ℕ, ◌<◌, ◌≤◌, ◌^◌, slice_index, List, [], ◌∷◌, length, drop, map}
-use Rattle.std.specs.Prelude.{Option, Some, None, Result, Ok, Err}
 use Rattle.std.specs.List.{AllByRecursion}
-use Rattle.prolly_entry.specs.declared.version.Version.{Version}
+use Rattle.std.specs.Prelude.{◌≡◌, ◌⊎◌, ℕ, ◌<◌, ◌≤◌, ◌^◌, slice_index, List, [], ◌∷◌, length, drop}
+use Rattle.std.specs.Prelude.{map, Option, Some, None, Result, Ok, Err}
+use Rattle.prolly_entry.specs.Cut.{sha512_cut}
 use Rattle.prolly_entry.specs.Keys.{Rising}
 use Rattle.prolly_entry.specs.Pair.{Pair, IsPair}
-use Rattle.prolly_entry.specs.Cut.{sha512_cut}
 use Rattle.prolly_entry.specs.Reference.{reference_of}
+use Rattle.prolly_entry.specs.declared.version.Version.{Version}
 use Rattle.prolly_tree.specs.File.{file}
-use Rattle.prolly_check.specs.declared.fault.CheckFault.{CheckFault}
-use Rattle.prolly_check.specs.Content.{Content}
 use Rattle.prolly_file.specs.Header.{header_tests, header_fault, version_of}
 use Rattle.prolly_file.specs.declared.format.header.HeaderFault.{HeaderFault}
-use Rattle.prolly_check.specs.Frames.{IsFramed}
+use Rattle.prolly_file.specs.declared.whole.WholeFault.{WholeFault}
+use Rattle.prolly_check.specs.Content.{Content}
 use Rattle.prolly_check.specs.Entries.{IsRead}
+use Rattle.prolly_check.specs.Frames.{IsFramed}
 use Rattle.prolly_check.specs.Judged.{judged, chunk_bytes}
-use Rattle.prolly_check.specs.Refusal.{fault_of_header}
+use Rattle.prolly_check.specs.declared.verdict.fault.CheckFault.{CheckFault}
+use Rattle.prolly_check.specs.declared.verdict.fault.CheckFault.TheVariants.{Memory, Read, TooLong}
+use Rattle.prolly_check.specs.declared.verdict.fault.CheckFault.TheVariants.{BadHeader, Truncated}
+use Rattle.prolly_file.specs.declared.format.header.HeaderFault.TheVariants as header
+use Rattle.prolly_file.specs.declared.whole.WholeFault.TheVariants as whole
+
+-- The fault is want of memory, or it is such a one.
+abbrev pub UnlessMemory : (CheckFault → Type 0) → CheckFault → Type 0
+UnlessMemory P fault = (fault ≡ Memory) ⊎ P fault
+
+-- The fault of reading the bytes, as one of checking.
+abbrev pub fault_of : WholeFault → CheckFault
+fault_of whole.Memory = Memory
+fault_of whole.Read = Read
+fault_of whole.TooLong = TooLong
+
+-- The fault of a header, as one of checking.
+abbrev pub fault_of_header : HeaderFault → CheckFault
+fault_of_header header.Truncated = Truncated
+fault_of_header header.BadByte = BadHeader
 
 -- ---- The faults, step by step.
 
@@ -84,3 +103,11 @@ abbrev pub AcceptsFiles : Type 0
 AcceptsFiles = (bytes : List ℕ) (content : Content) →
     (IsVerdict bytes (Ok content) → IsFileOf bytes content)
     × (length bytes < 2 ^ 64 → IsFileOf bytes content → IsVerdict bytes (Ok content))
+
+-- There are more bytes than are allowed, or there are not and the fault is the verdict on them;
+-- want of memory and failed reads may come over any.
+abbrev pub IsRefusal : List ℕ → ℕ → CheckFault → Type 0
+IsRefusal bytes max_bytes Memory = Unit {0}
+IsRefusal bytes max_bytes Read = Unit {0}
+IsRefusal bytes max_bytes TooLong = max_bytes < length bytes
+IsRefusal bytes max_bytes fault = (length bytes ≤ max_bytes) × IsVerdict bytes (Err fault)

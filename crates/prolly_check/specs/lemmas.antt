@@ -1,3 +1,5 @@
--- Lemmas for the crates above, by subject: what a proof may use of ways.
+-- Lemmas for the crates above, by subject: what a proof may use of ways and of chunks.
 -- Where a look-up goes on, and where it ends.
 pub mod Ways
+-- Chunks of which no two have one reference.
+pub mod Chunks

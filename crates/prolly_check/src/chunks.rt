@@ -2,12 +2,12 @@
 ghost use Rattle.std.specs.Prelude.{◌≡◌, ◌<◌, [], get_or, length};
 ghost use Rattle.std.specs.List.{AllByRecursion};
 ghost use Rattle.prolly_check.specs.Held.{pairs_held};
-ghost use Rattle.prolly_check.specs.Spans.{IsWithin, chunks_in};
-ghost use Rattle.prolly_check.specs.Whole.{AreWhole};
+ghost use Rattle.prolly_check.specs.Frames.{IsWithin, chunks_in};
+ghost use Rattle.prolly_check.specs.Entries.{AreWhole};
 
 use crate::entries::pairs_of;
-use crate::frames::chunk_at;
 use crate::leaf::Pairs;
+use crate::verdict::chunk_at;
 use prolly_file::Header;
 use std::marker::Model;
 use std::ops::Range;
@@ -30,8 +30,8 @@ pub(crate) struct Chunks<'a> {
 impl<'a> Model for Chunks<'a> {
     ghost use Rattle.std.specs.Prelude.{ℕ, List};
     ghost use Rattle.std.specs.List.{AllByRecursion};
-    ghost use Rattle.prolly_check.specs.Spans.{IsWithin, chunks_in};
-    ghost use Rattle.prolly_check.specs.Whole.{AreWhole};
+    ghost use Rattle.prolly_check.specs.Frames.{IsWithin, chunks_in};
+    ghost use Rattle.prolly_check.specs.Entries.{AreWhole};
 
     ghost Value = { List (List ℕ) };
 

@@ -4,7 +4,7 @@ ghost use Rattle.prolly_tree.specs.RecordFile.{record_file};
 ghost use Rattle.prolly_file.specs.Sink.{IsSettled};
 ghost use Rattle.prolly_file.specs.Writes.{Writes};
 
-use crate::leaves::Leaves;
+use crate::look_up::Leaves;
 use prolly_file::{Sink, WriteFault, write_all};
 
 /// Writes the pairs of leaves to a sink, as a record file, and flushes the sink.

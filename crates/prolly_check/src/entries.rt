@@ -2,7 +2,7 @@
 ghost use Rattle.std.specs.Prelude.{◌≡◌};
 ghost use Rattle.prolly_check.specs.Held.{pairs_held};
 ghost use Rattle.prolly_check.specs.Kinds.{kind_of};
-ghost use Rattle.prolly_check.specs.Whole.{IsWhole};
+ghost use Rattle.prolly_check.specs.Entries.{IsWhole};
 
 use crate::leaf::{LEAF, Pairs};
 use crate::node::Children;

@@ -1,11 +1,10 @@
 //! A file that was checked, as look-ups see it.
 ghost use Rattle.std.specs.Prelude.{◌≡◌, ◌<◌, ◌^◌, [], length, get_or};
 ghost use Rattle.prolly_check.specs.Held.{pairs_held};
-ghost use Rattle.prolly_check.specs.Index.{HasAt, IsIndex};
-ghost use Rattle.prolly_check.specs.Levels.{AreOfMap};
-ghost use Rattle.prolly_check.specs.Missing.{size_of};
-ghost use Rattle.prolly_check.specs.Root.{root_bytes};
-ghost use Rattle.prolly_check.specs.Checked.{HasFile, HasReference, chunks_of, content_of};
+ghost use Rattle.prolly_check.specs.Checked.{HasAt, IsIndex, HasFile, HasReference, chunks_of};
+ghost use Rattle.prolly_check.specs.Checked.{content_of};
+ghost use Rattle.prolly_check.specs.Numbers.{AreOfMap, size_of};
+ghost use Rattle.prolly_check.specs.Content.{root_bytes};
 
 use crate::chunks::Chunks;
 use crate::index::Index;
@@ -25,9 +24,8 @@ pub(crate) struct CheckedFile<'a> {
 // A file is seen as what it says.
 impl<'a> Model for CheckedFile<'a> {
     ghost use Rattle.std.specs.Prelude.{◌≡◌};
-    ghost use Rattle.prolly_check.specs.Checked.{HasFile, chunks_of, content_of};
+    ghost use Rattle.prolly_check.specs.Checked.{HasFile, chunks_of, content_of, IsIndex};
     ghost use Rattle.prolly_check.specs.Content.{Content};
-    ghost use Rattle.prolly_check.specs.Index.{IsIndex};
 
     ghost Value = { Content };
 

@@ -1,11 +1,11 @@
 //! Finding chunks by their references.
-ghost use Rattle.std.specs.Prelude.{◌≡◌, ◌+◌, ◌<◌, ℕ, List, [], true, None, length, get_or};
-ghost use Rattle.std.specs.Prelude.{IfOk, IfErr, MatchOption, OnOk, option_map};
-ghost use Rattle.prolly_check.specs.Index.{AreNumbered, AreReferences, HasAt, IsIndex};
+ghost use Rattle.std.specs.Prelude.{◌≡◌, ◌+◌, ◌<◌, ℕ, List, [], true, None, length, get_or, IfOk};
+ghost use Rattle.std.specs.Prelude.{IfErr, MatchOption, OnOk, option_map};
+ghost use Rattle.prolly_check.specs.Checked.{AreNumbered, AreReferences, HasAt, IsIndex};
 ghost use Rattle.prolly_check.specs.Judged.{reuse};
-ghost use Rattle.prolly_check.specs.Refusal.{UnlessMemory};
+ghost use Rattle.prolly_check.specs.Verdict.{UnlessMemory};
 
-use crate::fault::CheckFault;
+use crate::verdict::CheckFault;
 use prolly_entry::Ref;
 use std::alloc::{AllocError, Global};
 

@@ -1,8 +1,6 @@
 //! Laws of the verdict and of look-ups. Each is the contract of a function that does nothing: to
 //! call it is to know the law, and to prove the crate is to prove it.
 ghost use Rattle.prolly_entry.specs.declared.version.Version.{Version};
-ghost use Rattle.prolly_check.specs.Descent.{ReferenceLeads, FindInChild, FindInNone, NthInChild};
-ghost use Rattle.prolly_check.specs.Descent.{StandsAtRoot, FirstEntry, StepsDown};
 ghost use Rattle.prolly_check.specs.Descent.{RootIsTree, ChildIsTree, TopIsRead};
 ghost use Rattle.prolly_check.specs.Entries.{NoLeaf, NoNode};
 ghost use Rattle.prolly_check.specs.Verdict.{OneVerdict, AcceptsFiles};
@@ -21,21 +19,8 @@ pub fn rests_make_chunks_bad()
     ensures nodes { (version : Version) → NoNode version }
 {}
 
-/// A look-up goes down from the root to the first child whose greatest key is not below the key.
-pub fn look_ups_go_down()
-    ensures references { (version : Version) → ReferenceLeads version }
-    ensures found { FindInChild }
-    ensures none { FindInNone }
-    ensures nth { NthInChild }
-    ensures root { StandsAtRoot }
-    ensures first { (version : Version) → FirstEntry version }
-    ensures down { (version : Version) → StepsDown version }
-{}
-
-/// The chunks of a map are the tops of trees, each of them can be read, and where no two have one
-/// reference, the reference of one leads to it.
+/// The chunks of a map are the tops of trees, and each of them can be read.
 pub fn tops_are_read()
-    ensures references { (version : Version) → ReferenceLeads version }
     ensures root { RootIsTree }
     ensures child { (version : Version) → ChildIsTree version }
     ensures read { (version : Version) → TopIsRead version }

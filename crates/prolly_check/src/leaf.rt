@@ -3,8 +3,7 @@ ghost use Rattle.std.specs.Prelude.{◌≡◌, ◌↔◌, ◌==◌, ◌≤◌, [
 ghost use Rattle.std.specs.Prelude.{IsTrue, IfSome, IfNone, MatchOption};
 ghost use Rattle.prolly_entry.specs.Pair.{Pair as PairValue};
 ghost use Rattle.prolly_tree.specs.RecordFile.{record_file};
-ghost use Rattle.prolly_check.specs.Entries.{IsLeaf, pairs_in};
-ghost use Rattle.prolly_check.specs.Whole.{IsSomeLeaf};
+ghost use Rattle.prolly_check.specs.Entries.{IsLeaf, pairs_in, IsSomeLeaf};
 
 use prolly_entry::split_pair;
 use std::marker::Model;
@@ -33,8 +32,7 @@ pub struct Pairs<'a> {
 impl<'a> Model for Pairs<'a> {
     ghost use Rattle.std.specs.Prelude.{List};
     ghost use Rattle.prolly_entry.specs.Pair.{Pair as PairValue};
-    ghost use Rattle.prolly_check.specs.Entries.{pairs_in};
-    ghost use Rattle.prolly_check.specs.Whole.{IsSomeLeaf};
+    ghost use Rattle.prolly_check.specs.Entries.{pairs_in, IsSomeLeaf};
 
     ghost Value = { List PairValue };
 

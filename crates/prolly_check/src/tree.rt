@@ -7,23 +7,18 @@ ghost use Rattle.prolly_tree.specs.File.{root_reference};
 ghost use Rattle.prolly_tree.specs.LookUp.{find, nth, scan};
 ghost use Rattle.prolly_check.specs.Content.{Content};
 ghost use Rattle.prolly_check.specs.Counted.{pair_of};
-ghost use Rattle.prolly_check.specs.Refusal.{UnlessMemory};
-ghost use Rattle.prolly_check.specs.Verdict.{IsVerdict, IsFileOf};
+ghost use Rattle.prolly_check.specs.Verdict.{UnlessMemory, IsVerdict, IsFileOf};
 ghost use Rattle.prolly_check.specs.Way.{IsWay};
 ghost use Rattle.prolly_check.specs.Checked.{IsChecked, IsFile, HasFile, chunks_of};
-ghost use Rattle.prolly_check.specs.Levels.{AreLevels, AreOfMap};
-ghost use Rattle.prolly_check.specs.Missing.{AreSo, lacking, size_of};
+ghost use Rattle.prolly_check.specs.Numbers.{AreLevels, AreOfMap, AreSo, lacking, size_of};
 
-use crate::checker::inspect;
 use crate::chunks::{Chunks, Layout};
-use crate::count::{Level, Missing, count_pairs, levels_in, missing_in, size_in};
 use crate::dump::write_records;
-use crate::fault::CheckFault;
 use crate::file::CheckedFile;
 use crate::index::Index;
-use crate::leaves::Leaves;
-use crate::look_up::{find_nth, find_value, way_to};
-use crate::scan::scan_pairs;
+use crate::look_up::{Leaves, find_nth, find_value, scan_pairs, way_to};
+use crate::numbers::{Level, Missing, count_pairs, levels_in, missing_in, size_in};
+use crate::verdict::{CheckFault, inspect};
 use prolly_entry::{Pair, Ref, Version};
 use prolly_file::{Sink, WriteFault};
 use std::alloc::{AllocError, Global};
@@ -48,9 +43,8 @@ impl Model for Tree {
 
     ghost Value = { List ℕ };
 
-    ghost use Rattle.prolly_check.specs.Checked.{IsChecked};
-    ghost use Rattle.prolly_check.specs.Index.{AreReferences};
-    ghost use Rattle.prolly_check.specs.Spans.{chunks_in};
+    ghost use Rattle.prolly_check.specs.Checked.{IsChecked, AreReferences};
+    ghost use Rattle.prolly_check.specs.Frames.{chunks_in};
 
     ghost view = { λ tree. tree.bytes.items };
 

@@ -3,13 +3,14 @@ use Rattle.std.proofs.Common.{◌≡◌, ℕ, zero, suc, ◌-◌, List, [], ◌�
 use Rattle.std.proofs.Common.{Option, Some, None, refl, sym, ap, ◌∙◌, subst, arith}
 use Rattle.prolly_check.specs.Checked.{chunks_of}
 use Rattle.prolly_check.specs.Content.{Content}
-use Rattle.prolly_check.specs.Descent.{ChildIsTree, HasTree, IsTreeOf, ReferenceLeads, RootIsTree}
+use Rattle.prolly_check.specs.Descent.{ChildIsTree, HasTree, IsTreeOf, RootIsTree}
 use Rattle.prolly_check.specs.Descent.{TopIsRead, child_of}
 use Rattle.prolly_check.specs.Entries.{Child}
 use Rattle.prolly_check.specs.Kinds.{kind_of}
 use Rattle.prolly_check.specs.Sought.{Sought, IsChildOf}
 use Rattle.prolly_check.specs.Way.{FallsTo, IsOrdered, level_of}
 use Rattle.prolly_check.specs.declared.look_up.sought.ChildSought.{ChildSought}
+use Rattle.prolly_check.specs.lemmas.Chunks.{one_chunk}
 use Rattle.prolly_entry.specs.Cut.{sha512_cut}
 use Rattle.prolly_entry.specs.Reference.{reference_of}
 use Rattle.prolly_entry.specs.declared.version.Version.{Version}
@@ -171,16 +172,16 @@ top_in version chunks (suc level) ts has = has (chunk_of version (suc level) ts)
     (in_back (chunk_of version (suc level) ts) _ (chunk_of version (suc level) ts ∷ []) (inl refl))
 
 -- two tops of trees with one reference are one chunk
-pub same_chunk : ((version : Version) → ReferenceLeads version) → (content : Content) →
-    IsLawful content → (level : ℕ) (t : Tree level) (other : ℕ) (u : Tree other) →
-    IsTreeOf content.version (chunks_of content) level t →
+same_chunk : (content : Content) → IsLawful content → (level : ℕ) (t : Tree level) (other : ℕ)
+    (u : Tree other) → IsTreeOf content.version (chunks_of content) level t →
     IsTreeOf content.version (chunks_of content) other u →
     reference_of (bytes_of content.version level t) ≡
     reference_of (bytes_of content.version other u) →
     bytes_of content.version level t ≡ bytes_of content.version other u
-same_chunk leads content lawful level t other u of also same =
-    (leads content.version).0 (chunks_of content) other u (bytes_of content.version level t)
-    lawful.apart also.has (top_in content.version (chunks_of content) level t of.has) same
+same_chunk content lawful level t other u of also = one_chunk (chunks_of content)
+    (bytes_of content.version level t) (bytes_of content.version other u) lawful.apart
+    (top_in content.version (chunks_of content) level t of.has)
+    (top_in content.version (chunks_of content) other u also.has)
 
 -- ---- at the chunk that is due
 
@@ -199,11 +200,11 @@ module _ {T : Type 0} (is_place : Content → (level : ℕ) → Tree level → T
   )
 
   -- what was kept with its reference stands on the right level
-  pub kept_falls : ((version : Version) → ReferenceLeads version) → IsLawful content →
+  pub kept_falls : IsLawful content →
       (chunk : ChunkOnWay T) → StandsInPlace is_place content chunk →
       chunk.reference.0 ≡ reference → FallsTo above chunk.chunk.items
-  kept_falls leads lawful chunk k same = subst (FallsTo above)
-      (sym (k.is ∙ same_chunk leads content lawful k.level k.t at.level at.t k.below at.below
+  kept_falls lawful chunk k same = subst (FallsTo above)
+      (sym (k.is ∙ same_chunk content lawful k.level k.t at.level at.t k.below at.below
       (sym k.named ∙ same ∙ at.named))) at.falls
 
 -- ---- at the root

@@ -2,20 +2,19 @@
 use Rattle.std.proofs.Common.{◌≡◌, ◌≤◌, List, ℕ, length, ◌⊎◌, inl, inr, subst, ap, Result, Ok, Err}
 use Rattle.std.specs.Prelude.{◌↔◌, IfOk, IsErrOf, OnErr}
 use Rattle.prolly_entry.specs.Record.{Record}
+use Rattle.prolly_check.specs.Checked.{IsFile}
+use Rattle.prolly_check.specs.Content.{Content}
+use Rattle.prolly_check.specs.Verdict.{IsRefusal, IsFileOf}
+use Rattle.prolly_check.specs.declared.verdict.fault.CheckFault.{CheckFault}
+use Rattle.prolly_check.specs.declared.verdict.fault.CheckFault.TheVariants.{Read}
 use Rattle.prolly_fault.specs.declared.fault.RunFault.{RunFault}
 use Rattle.prolly_fault.specs.declared.fault.RunFault.TheVariants.{Write}
+use Rattle.prolly_tool.specs.Answers.{ShowsFault}
+use Rattle.prolly_tool.specs.LookUps.{IsLookedUp, IsNoFileAs, file_limit}
+use Rattle.prolly_tool.specs.Outputs.{IsAnswer, IsCutOff, IsCutShort, IsStopped}
 use Rattle.prolly_tool.specs.declared.answer.Answer.{Answer}
 use Rattle.prolly_tool.specs.declared.fault.Fault.{Fault}
 use Rattle.prolly_tool.specs.declared.fault.Fault.TheVariants.{Run}
-use Rattle.prolly_check.specs.Check.{IsRefusal}
-use Rattle.prolly_check.specs.declared.fault.CheckFault.{CheckFault}
-use Rattle.prolly_check.specs.declared.fault.CheckFault.TheVariants.{Read}
-use Rattle.prolly_tool.specs.Answers.{ShowsFault}
-use Rattle.prolly_tool.specs.Outputs.{IsAnswer, IsCutOff, IsCutShort, IsStopped}
-use Rattle.prolly_tool.specs.LookUps.{IsLookedUp, IsNoFileAs, file_limit}
-use Rattle.prolly_check.specs.Checked.{IsFile}
-use Rattle.prolly_check.specs.Content.{Content}
-use Rattle.prolly_check.specs.Verdict.{IsFileOf}
 
 pub short_answer : {E : Type 0} (makes : List ℕ → List ℕ → Type 0) (at_fault : Fault → Type 0)
     (took_all took_part : List ℕ → Type 0) (untouched : Type 0)

@@ -1,22 +1,22 @@
 -- Counting the changes of a difference, record by record.
 use Rattle.std.proofs.Common.{◌≡◌, ℕ, ◌+◌, Bool, true, false, cond, List, [], ◌∷◌, ◌++◌, length}
 use Rattle.std.proofs.Common.{Result, Ok, Err, refl, sym, ap, ◌∙◌, arith, append_assoc}
-use Rattle.std.specs.Prelude.{◌&&◌, not, codes, IfOk}
 use Rattle.std.specs.List.{count_by}
 use Rattle.std.specs.Option.{is_some}
+use Rattle.std.specs.Prelude.{◌&&◌, not, codes, IfOk}
 use Rattle.std.proofs.lemmas.List.Sums.{sum_by-cons}
-use Rattle.prolly_check.specs.Checked.{chunks_of}
-use Rattle.prolly_check.specs.Content.{Content}
-use Rattle.prolly_check.specs.Missing.{AreSo, lacking}
-use Rattle.prolly_check.specs.Verdict.{IsFileOf}
-use Rattle.prolly_check.specs.declared.count.Missing.{Missing}
 use Rattle.prolly_entry.specs.Pair.{Pair}
 use Rattle.prolly_entry.specs.Record.{Record}
 use Rattle.prolly_tree.specs.LookUp.{find}
-use Rattle.prolly_tool.specs.declared.change_counts.ChangeCounts.{ChangeCounts}
-use Rattle.prolly_tool.specs.Counts.{AreCounts, is_added, is_changed, is_removed}
-use Rattle.prolly_tool.specs.Counts.{stat_line, stat_text}
+use Rattle.prolly_check.specs.Checked.{chunks_of}
+use Rattle.prolly_check.specs.Content.{Content}
+use Rattle.prolly_check.specs.Numbers.{AreSo, lacking}
+use Rattle.prolly_check.specs.Verdict.{IsFileOf}
+use Rattle.prolly_check.specs.declared.numbers.count.Missing.{Missing}
+use Rattle.prolly_tool.specs.Counts.{AreCounts, is_added, is_changed, is_removed, stat_line}
+use Rattle.prolly_tool.specs.Counts.{stat_text}
 use Rattle.prolly_tool.specs.Diff.{stat_shown}
+use Rattle.prolly_tool.specs.declared.change_counts.ChangeCounts.{ChangeCounts}
 
 -- ---- kinds of records
 

@@ -1,15 +1,14 @@
 -- How many changes the difference of two maps has, and the line that tells it.
-use Rattle.std.specs.Prelude.{◌≡◌, ◌&&◌, ℕ, List, [], ◌∷◌, ◌++◌, length, Bool, true, false}
-use Rattle.std.specs.Prelude.{codes}
 use Rattle.std.specs.Fmt.{decimal}
 use Rattle.std.specs.List.{count_by}
 use Rattle.std.specs.Option.{is_none, is_some}
-use Rattle.prolly_check.specs.Checked.{chunks_of}
-use Rattle.prolly_check.specs.Content.{Content}
-use Rattle.prolly_check.specs.Missing.{lacking, size_of}
+use Rattle.std.specs.Prelude.{◌≡◌, ◌&&◌, ℕ, List, [], ◌∷◌, ◌++◌, length, Bool, true, false, codes}
 use Rattle.prolly_entry.specs.Pair.{Pair}
 use Rattle.prolly_entry.specs.Record.{Record}
 use Rattle.prolly_tree.specs.LookUp.{find}
+use Rattle.prolly_check.specs.Checked.{chunks_of}
+use Rattle.prolly_check.specs.Content.{Content}
+use Rattle.prolly_check.specs.Numbers.{lacking, size_of}
 use Rattle.prolly_tool.specs.declared.change_counts.ChangeCounts.{ChangeCounts}
 
 -- ---- kinds of changes

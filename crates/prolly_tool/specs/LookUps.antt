@@ -1,27 +1,26 @@
 -- What the commands that read a chunk file print.
-use Rattle.std.specs.Prelude.{◌≡◌, ◌↔◌, ◌⊎◌, ℕ, List, [], ◌∷◌, ◌++◌, length, Option, Some, None}
-use Rattle.std.specs.Prelude.{codes, option_map, Result, Ok, Err, IfOk, ◌≢◌, true}
-use Rattle.std.specs.declared.alloc.AllocError.{AllocError}
 use Rattle.std.specs.Fmt.{decimal}
 use Rattle.std.specs.Global.{Vec}
 use Rattle.std.specs.List.{flat_map}
-use Rattle.prolly_check.specs.Check.{IsRefusal}
-use Rattle.prolly_check.specs.Content.{Content}
-use Rattle.prolly_check.specs.Verdict.{IsFileOf}
-use Rattle.prolly_check.specs.declared.fault.CheckFault.{CheckFault}
-use Rattle.prolly_check.specs.declared.fault.CheckFault.TheVariants.{Read}
+use Rattle.std.specs.Prelude.{◌≡◌, ◌↔◌, ◌⊎◌, ℕ, List, [], ◌∷◌, ◌++◌, length, Option, Some, None}
+use Rattle.std.specs.Prelude.{codes, option_map, Result, Ok, Err, IfOk, ◌≢◌, true}
+use Rattle.std.specs.declared.alloc.AllocError.{AllocError}
+use Rattle.prolly_entry.specs.Cut.{sha512_cut}
+use Rattle.prolly_entry.specs.Pair.{Pair}
+use Rattle.prolly_entry.specs.Reference.{reference_text}
 use Rattle.prolly_entry.specs.declared.version.Version.{Version}
 use Rattle.prolly_entry.specs.declared.version.Version.TheVariants.{One, Two}
+use Rattle.prolly_tree.specs.Chunk.{chunks}
+use Rattle.prolly_tree.specs.File.{root_reference}
+use Rattle.prolly_tree.specs.LookUp.{find, nth, scan}
 use Rattle.prolly_file.specs.Source.{SourceView}
+use Rattle.prolly_check.specs.Content.{Content}
+use Rattle.prolly_check.specs.Verdict.{IsRefusal, IsFileOf}
+use Rattle.prolly_check.specs.declared.verdict.fault.CheckFault.{CheckFault}
+use Rattle.prolly_check.specs.declared.verdict.fault.CheckFault.TheVariants.{Read}
 use Rattle.prolly_root.specs.declared.root_fault.RootFault.{RootFault}
 use Rattle.prolly_text.specs.Notations.{separator, written}
 use Rattle.prolly_text.specs.declared.notation.Notation.{Notation}
-use Rattle.prolly_tree.specs.Chunk.{chunks}
-use Rattle.prolly_entry.specs.Cut.{sha512_cut}
-use Rattle.prolly_tree.specs.File.{root_reference}
-use Rattle.prolly_tree.specs.LookUp.{find, nth, scan}
-use Rattle.prolly_entry.specs.Pair.{Pair}
-use Rattle.prolly_entry.specs.Reference.{reference_text}
 use Rattle.prolly_tool.specs.Answers.{Shows, ShowsLine, ShowsNothing, ShowsFault}
 use Rattle.prolly_tool.specs.Input.{IsReadWhole}
 use Rattle.prolly_tool.specs.declared.answer.Answer.{Answer}

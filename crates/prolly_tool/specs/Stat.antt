@@ -3,14 +3,13 @@ use Rattle.std.specs.Prelude.{◌≡◌, ◌≢◌, ℕ, ◌⊎◌, Bool, true, 
 use Rattle.std.specs.Prelude.{Option, Some, None, Result, IfOk}
 use Rattle.std.specs.Str.{bytes_eq}
 use Rattle.std.specs.declared.alloc.AllocError.{AllocError}
-use Rattle.prolly_check.specs.Checked.{chunks_of}
-use Rattle.prolly_check.specs.Content.{Content}
-use Rattle.prolly_check.specs.Levels.{AreLevels}
-use Rattle.prolly_check.specs.Missing.{size_of}
 use Rattle.prolly_entry.specs.Cut.{sha512_cut}
 use Rattle.prolly_entry.specs.Reference.{reference_text}
-use Rattle.prolly_fault.specs.declared.fault.RunFault.TheVariants as runs
+use Rattle.prolly_tree.specs.File.{root_reference}
 use Rattle.prolly_file.specs.Source.{HandedOutFewer, SourceView}
+use Rattle.prolly_check.specs.Checked.{chunks_of}
+use Rattle.prolly_check.specs.Content.{Content}
+use Rattle.prolly_check.specs.Numbers.{AreLevels, size_of}
 use Rattle.prolly_load.specs.Fault.{fault_of}
 use Rattle.prolly_load.specs.declared.surveyed.FlawedRecord.{FlawedRecord}
 use Rattle.prolly_load.specs.declared.surveyed.Survey.{Survey}
@@ -19,7 +18,6 @@ use Rattle.prolly_stat.specs.Records.{records_of}
 use Rattle.prolly_stat.specs.Table.{table_of}
 use Rattle.prolly_stat.specs.declared.records.RecordNumbers.{RecordNumbers}
 use Rattle.prolly_stat.specs.declared.tree.TreeNumbers.{TreeNumbers}
-use Rattle.prolly_tree.specs.File.{root_reference}
 use Rattle.prolly_tool.specs.Answers.{Shows, ShowsFault}
 use Rattle.prolly_tool.specs.LookUps.{IsLookUp, ShowsFailedRead}
 use Rattle.prolly_tool.specs.Surveys.{AreOfSurvey, IsSurveyAnswer, IsUnread}
@@ -27,6 +25,7 @@ use Rattle.prolly_tool.specs.declared.answer.Answer.{Answer}
 use Rattle.prolly_tool.specs.declared.fault.Fault.TheVariants.{Run}
 use Rattle.prolly_tool.specs.declared.stat_form.StatForm.{StatForm}
 use Rattle.prolly_tool.specs.declared.stat_form.StatForm.TheVariants.{Lines, Json}
+use Rattle.prolly_fault.specs.declared.fault.RunFault.TheVariants as runs
 
 -- ---- a chunk file
 

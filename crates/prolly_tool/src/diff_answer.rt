@@ -5,7 +5,7 @@ ghost use Rattle.std.specs.Fmt.{decimal};
 ghost use Rattle.std.specs.List.{AllByRecursion};
 ghost use Rattle.prolly_check.specs.Content.{Content};
 ghost use Rattle.prolly_check.specs.Verdict.{IsFileOf};
-ghost use Rattle.prolly_check.specs.declared.fault.CheckFault.TheVariants.{Read};
+ghost use Rattle.prolly_check.specs.declared.verdict.fault.CheckFault.TheVariants.{Read};
 ghost use Rattle.prolly_diff.specs.Walk.{AreMaps};
 ghost use Rattle.prolly_entry.specs.Pair.{IsPair};
 ghost use Rattle.prolly_entry.specs.Record.{Record as RecordValue};

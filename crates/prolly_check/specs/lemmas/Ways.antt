@@ -1,13 +1,9 @@
 -- Where a look-up goes on, and where it ends.
-use Rattle.std.proofs.Common.{◌≡◌, ℕ, List, [], ◌∷◌, ◌++◌, Option, Some, None, refl, sym, ap, ◌∙◌}
-use Rattle.std.proofs.Common.{subst}
-use Rattle.std.specs.Prelude.{option_map}
+use Rattle.std.proofs.Common.{rules, arith, ◌≡◌, ℕ, List, [], ◌∷◌, ◌++◌, Option}
 use Rattle.prolly_entry.specs.Reference.{reference_of}
 use Rattle.prolly_entry.specs.declared.version.Version.{Version}
-use Rattle.prolly_check.specs.Entries.{Child}
 use Rattle.prolly_check.specs.Kinds.{kind_of}
-use Rattle.prolly_check.specs.Sought.{Sought, EndsAt, IsChildOf, LeadsOn, child_sought}
-use Rattle.prolly_check.specs.Sought.{reference_and_sought, sought_of}
+use Rattle.prolly_check.specs.Sought.{Sought, EndsAt, IsChildOf, LeadsOn, sought_of}
 use Rattle.prolly_check.specs.Steps.{IsFlawed}
 use Rattle.prolly_check.specs.Way.{FallsTo, IsNamed, IsOrdered, Lead}
 use Rattle.prolly_check.specs.declared.entries.Entries.{Entries as EntriesOf}
@@ -21,38 +17,27 @@ use Rattle.prolly_check.specs.declared.look_up.step.ChunkFlaw.TheVariants.{Refer
 pub no_way_on : (sought : Sought) (entries : EntriesOf) (reference : List ℕ) (next : Sought) →
     EndsAt sought entries → LeadsOn sought entries reference next → ⊥
 no_way_on sought (Leaf pairs) reference next ends on = on
-no_way_on sought (Node children) reference next ends on =
-    none_leads (child_sought sought children) ends on
-  where
-    none_leads : (o : Option (Child × Sought)) → o ≡ None →
-        option_map reference_and_sought o ≡ Some (reference, next) → ⊥
-    none_leads o none on = cc
+no_way_on sought (Node children) reference next ends on = grind arith
 
 -- It goes on at one reference, and seeks one thing there.
 pub one_way_on : (sought : Sought) (entries : EntriesOf) (x y : List ℕ × Sought) →
     LeadsOn sought entries x.0 x.1 → LeadsOn sought entries y.0 y.1 → x ≡ y
 one_way_on sought (Leaf pairs) x y on too = absurd on
-one_way_on sought (Node children) x y on too = one (sym on ∙ too)
-  where
-    one : ◌≡◌ {A = Option (List ℕ × Sought)} (Some (x.0, x.1)) (Some (y.0, y.1)) → x ≡ y
-    one e = cc
+one_way_on sought (Node children) x y on too = grind arith
 
 -- It goes on at the child that was found.
 pub child_leads : (sought : Sought) (entries : EntriesOf) (child : ChildSought) →
     IsChildOf sought entries child →
     LeadsOn sought entries child.reference.0 (sought_of child.sought)
 child_leads sought (Leaf pairs) child is = is
-child_leads sought (Node children) child is =
-    ap (option_map reference_and_sought) is.sought_there ∙
-    ap (λ r. Some (r, sought_of child.sought)) (sym is.reference)
+child_leads sought (Node children) child is = grind arith
 
 -- A chunk that has the reference, can be read and stands where it may has no flaw.
 pub no_flaw : (version : Version) (due : List ℕ) (above : Option ℕ) (chunk : List ℕ)
     (flaw : ChunkFlaw) → reference_of chunk ≡ due → IsOrdered version chunk → FallsTo above chunk →
     IsFlawed version due above chunk flaw → ⊥
 no_flaw version due above chunk Reference is ordered falls h = h is
-no_flaw version due above chunk Entries is ordered falls h =
-    h.1 ordered.whole.pairs ordered.whole.holds
+no_flaw version due above chunk Entries is ordered falls h = search rules
 no_flaw version due above chunk Order is ordered falls h = h.2 ordered.rising
 no_flaw version due above chunk Level is ordered falls h = h.1 falls
 
@@ -62,17 +47,9 @@ pub lead_more : (version : Version) (sought : Sought) (from : List ℕ) (chunks 
     Lead version sought from chunks to there → IsNamed version to chunk →
     LeadsOn there (kind_of version chunk) reference next →
     Lead version sought from (chunks ++ chunk ∷ []) reference next
-lead_more version sought from [] to there chunk reference next lead named on = (
-  subst (λ r. IsNamed version r chunk) (sym lead.0) named,
-  reference,
-  next,
-  subst (λ s. LeadsOn s (kind_of version chunk) reference next) (sym lead.1) on,
-  (refl, refl),
-)
-lead_more version sought from (c ∷ chunks) to there chunk reference next lead named on = (
-  lead.0,
-  lead.1,
-  lead.2,
-  lead.3,
-  lead_more version lead.2 lead.1 chunks to there chunk reference next lead.4 named on,
-)
+lead_more version sought from [] to there chunk reference next lead named on = search rules
+lead_more version sought from (c ∷ chunks) to there chunk reference next lead named on =
+    search (
+      rules,
+      lead_more version lead.2 lead.1 chunks to there chunk reference next lead.4 named on,
+    )

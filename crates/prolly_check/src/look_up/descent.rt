@@ -3,9 +3,10 @@ ghost use Rattle.std.specs.Prelude.{map, IfOk, IfSome, IfNone};
 ghost use Rattle.prolly_entry.specs.Reference.{reference_of};
 ghost use Rattle.prolly_tree.specs.LookUp.{find};
 ghost use Rattle.prolly_check.specs.Checked.{HasFile};
-ghost use Rattle.prolly_check.specs.FileWays.{IsCounted, IsEnd, IsNamedAt, IsNext, IsTop, nth_chunk};
+ghost use Rattle.prolly_check.specs.FileWays.{IsCounted, IsEnd, IsNamedAt, IsNext, IsTop};
+ghost use Rattle.prolly_check.specs.FileWays.{nth_chunk};
 ghost use Rattle.prolly_check.specs.Kinds.{kind_of};
-ghost use Rattle.prolly_check.specs.Root.{root_bytes};
+ghost use Rattle.prolly_check.specs.Content.{root_bytes};
 ghost use Rattle.prolly_check.specs.Sought.{EndsAt, sought_of};
 ghost use Rattle.prolly_check.specs.Way.{IsWay};
 
@@ -71,12 +72,8 @@ fn below<'a>(file: &CheckedFile<'_>, at: At<'a>) -> Option<At<'a>>
     ensures ends { IfNone result (EndsAt (sought_of at.entry.sought)
         (kind_of file.now.version (nth_chunk file.now at.entry.number))) }
 {
-    let child = step_of(
-        file.version(),
-        file.chunk(at.number),
-        Mark::first(),
-        at.sought,
-    )?;
+    let chunk = file.chunk(at.number);
+    let child = step_of(file.version(), chunk, Mark::first(), at.sought)?;
     Some(At {
         number: file.child(&child.reference),
         sought: child.sought,

@@ -1,9 +1,9 @@
 //! What a look-up seeks, and which child of a node it goes on in.
 ghost use Rattle.std.specs.Prelude.{◌≡◌, ◌<◌, ◌∷◌, [], List, map, drop, Some, None, IfSome, IfNone};
 ghost use Rattle.std.specs.Prelude.{MatchOption};
-ghost use Rattle.prolly_check.specs.Children.{value_of};
+ghost use Rattle.prolly_check.specs.Sought.{value_of, IsChildSought, IsMark, child_sought};
+ghost use Rattle.prolly_check.specs.Sought.{sought_of};
 ghost use Rattle.prolly_check.specs.Entries.{Child as ChildValue, IsNode, children_in};
-ghost use Rattle.prolly_check.specs.Sought.{IsChildSought, IsMark, child_sought, sought_of};
 ghost use Rattle.prolly_entry.specs.Keys.{Rising};
 
 use crate::node::split_first_child;

@@ -1,7 +1,6 @@
 //! The step of a look-up at one chunk.
 ghost use Rattle.std.specs.Prelude.{◌≡◌, ◌↔◌, ℕ, [], ◌∷◌, ◌<◌, All, length, Option, IsTrue, IfSome};
-ghost use Rattle.std.specs.Prelude.{IfNone};
-ghost use Rattle.std.specs.Prelude.{IfOk, IfErr, OnOk, MatchOption};
+ghost use Rattle.std.specs.Prelude.{IfNone, IfOk, IfErr, OnOk, MatchOption};
 ghost use Rattle.prolly_entry.specs.Byte.{IsByte};
 ghost use Rattle.prolly_entry.specs.Keys.{Rising};
 ghost use Rattle.prolly_check.specs.Kinds.{kind_of};
@@ -12,7 +11,7 @@ ghost use Rattle.prolly_check.specs.Way.{FallsTo, IsNamed, IsOrdered, keys_of};
 use crate::entries::{Entries, entries_of, pairs_of};
 use crate::leaf::Pairs;
 use crate::look_up::sought::{ChildSought, Mark, Sought, child_sought};
-use crate::whole::is_whole;
+use crate::verdict::is_whole;
 use prolly_entry::{Ref, Version, key_rises};
 
 /// The chunk that is due next on the way of a look-up.

@@ -136,8 +136,6 @@ pub(crate) fn chunk_at<T: Copy + Drop, S: ChunkSource<Place = T>>(
     ensures keeps { (content : Content) → S.has source.old content → S.has source.new content }
     ensures reads { TellsReads (S.failures source.old) (S.failures source.new) result }
 {
-    // By this law the chunk with the reference of a lawful one is that one.
-    tops_are_read();
     let chunk = kept_or_read(alloc, source, version, kept, due.reference, place)?;
     if !falls_to(due.above, &chunk.chunk) {
         return Err(RootFault::Level {

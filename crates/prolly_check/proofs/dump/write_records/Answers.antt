@@ -1,23 +1,11 @@
-use Rattle.std.proofs.Common.{arith, ap, length, length-append}
 use Rattle.std.proofs.lemmas.Result.{err_from_is_err_and}
-use Rattle.prolly_check.proofs.Dumps.{none_dumped, one_dumped, dump_failed, dump_flushed}
-use Rattle.prolly_check.proofs.Dumps.{dump_unflushed}
+use Rattle.prolly_check.proofs.LeafRests.{one_dumped, dump_failed}
 use Rattle.prolly_check.proofs.dump.write_records.Goals as goal
-
-pub loop-leaf-init : goal.loop-leaf-init
-loop-leaf-init g c = none_dumped _ _
 
 pub loop-leaf-preserved : goal.loop-leaf-preserved
 loop-leaf-preserved g c =
     let own = rw c.spellings.ensures at c.in_ok-write_all.ensures.writes in
     one_dumped _ _ c.in-Some.leaf _ c.in-Some.ensures.next _ _ _ c.loop-leaf.invariant _ own
-
-pub loop-leaf-smaller : goal.loop-leaf-smaller
-loop-leaf-smaller g c = omega (
-  arith,
-  c.in-Some.ensures.some,
-  simp length-append at (ap length c.in-Some.ensures.next),
-)
 
 pub returns-in_err-write_all-clause-written : goal.returns-in_err-write_all-clause-written
 returns-in_err-write_all-clause-written g c =
@@ -25,13 +13,3 @@ returns-in_err-write_all-clause-written g c =
     let own = rw c.spellings.ensures at c.in_err-write_all.ensures.writes in
     rw p.1 (dump_failed _ _ c.in-Some.leaf _ c.in-Some.ensures.next _ _ _ c.loop-leaf.invariant _ _
     own)
-
-pub returns-in-Ok-clause-written : goal.returns-in-Ok-clause-written
-returns-in-Ok-clause-written g c =
-    dump_flushed _ _ c.in_default.ensures.next _ _ _ c.loop-leaf.invariant c.in-Ok.ensures.bytes
-    c.in-Ok.ensures.keeping _ c.in-Ok.ensures.failures
-
-pub returns-in-Err-clause-written : goal.returns-in-Err-clause-written
-returns-in-Err-clause-written g c =
-    dump_unflushed _ _ c.in_default.ensures.next _ _ _ c.loop-leaf.invariant c.in-Err.ensures.bytes
-    c.in-Err.ensures.keeping _ c.in-Err.ensures.failures

@@ -1,5 +1,5 @@
 use Rattle.std.proofs.Common.{length}
-use Rattle.prolly_check.proofs.Dumps.{IsDumped}
+use Rattle.prolly_check.proofs.LeafRests.{IsDumped}
 use Rattle.prolly_check.proofs.dump.write_records.Given as goal
 
 abbrev pub invariant-loop-leaf : goal.invariant-loop-leaf

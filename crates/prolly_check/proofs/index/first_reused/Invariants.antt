@@ -1,5 +1,5 @@
 use Rattle.std.proofs.Common.{ℕ, List}
-use Rattle.prolly_check.specs.Index.{AreReferences}
+use Rattle.prolly_check.specs.Checked.{AreReferences}
 use Rattle.prolly_check.proofs.IndexSteps.{Passed}
 use Rattle.prolly_check.proofs.index.first_reused.Given as goal
 

@@ -1,5 +1,5 @@
 use Rattle.prolly_check.proofs.OneVerdict.{one_verdict}
-use Rattle.prolly_check.proofs.Acceptance.{accepts_files}
+use Rattle.prolly_check.proofs.Verdicts.{accepts_files}
 use Rattle.prolly_check.proofs.laws.files_are_accepted.Goals as goal
 
 pub returns : goal.returns

@@ -1,5 +1,4 @@
-use Rattle.prolly_check.proofs.LeafPairs.{no_leaf}
-use Rattle.prolly_check.proofs.NodeChildren.{no_node}
+use Rattle.prolly_check.proofs.EntryLists.{no_leaf, no_node}
 use Rattle.prolly_check.proofs.laws.rests_make_chunks_bad.Goals as goal
 
 pub returns : goal.returns

@@ -1,5 +1,5 @@
-use Rattle.prolly_check.proofs.ScanRuns.{scans_go_on}
-use Rattle.prolly_check.proofs.TreeWays.{count_ways_are_right, scans_are_right, ways_are_right}
+use Rattle.prolly_check.proofs.TreeWays.{scans_go_on, count_ways_are_right, scans_are_right}
+use Rattle.prolly_check.proofs.TreeWays.{ways_are_right}
 use Rattle.prolly_check.proofs.laws.ways_are_right.Goals as goal
 
 pub returns-clause-found : goal.returns-clause-found

@@ -1,6 +1,5 @@
-use Rattle.std.proofs.Common.{◌==◌, length, sym, ap, ◌∙◌}
-use Rattle.std.proofs.lemmas.Bool.{false≢true}
-use Rattle.prolly_check.proofs.LeafPairs.{leaf_more, leaf_less, leaf_left}
+use Rattle.std.proofs.Common.{arith}
+use Rattle.prolly_check.proofs.EntryLists.{leaf_more, leaf_less, leaf_left}
 use Rattle.prolly_check.proofs.leaf.is_leaf.Goals as goal
 
 pub loop-rest-preserved : goal.loop-rest-preserved
@@ -12,6 +11,4 @@ loop-rest-preserved c = (
 )
 
 pub returns-clause-other : goal.returns-clause-other
-returns-clause-other c = λ e pairs leaf. false≢true (sym e ∙ c.is_empty.ensures
-    ∙ ap (λ x. length x == 0) (leaf_left c.loop-rest.entries.now c.in_default.ensures.none
-    (c.loop-rest.invariant.0 (record { pairs = pairs; is = leaf }))))
+returns-clause-other c = grind (arith, leaf_left)

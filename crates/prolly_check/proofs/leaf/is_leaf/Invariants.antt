@@ -1,5 +1,5 @@
 use Rattle.std.proofs.Common.{◌↔◌, length}
-use Rattle.prolly_check.specs.Whole.{IsSomeLeaf}
+use Rattle.prolly_check.specs.Entries.{IsSomeLeaf}
 use Rattle.prolly_check.proofs.leaf.is_leaf.Given as goal
 
 abbrev pub invariant-loop-rest : goal.invariant-loop-rest

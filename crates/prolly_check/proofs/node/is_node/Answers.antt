@@ -1,6 +1,5 @@
-use Rattle.std.proofs.Common.{◌==◌, length, refl, sym, ap, ◌∙◌}
-use Rattle.std.proofs.lemmas.Bool.{false≢true}
-use Rattle.prolly_check.proofs.NodeChildren.{node_more, node_less, node_left}
+use Rattle.std.proofs.Common.{arith}
+use Rattle.prolly_check.proofs.EntryLists.{node_more, node_less, node_left}
 use Rattle.prolly_check.proofs.node.is_node.Goals as goal
 
 pub loop-rest-preserved : goal.loop-rest-preserved
@@ -12,12 +11,4 @@ loop-rest-preserved c = (
 )
 
 pub returns-clause-other : goal.returns-clause-other
-returns-clause-other c = λ e pairs n. false≢true (sym e ∙ c.is_empty.ensures
-    ∙ ap (λ x. length x == 0) (node_left c.args.version c.loop-rest.entries.now
-    c.in_default.ensures.none
-    (c.loop-rest.invariant.0 (record {
-      children = n.children;
-      is = n.is;
-      lawful = n.lawful;
-      none = refl;
-    }))))
+returns-clause-other c = grind (arith, node_left)

@@ -1,7 +1,7 @@
+use Rattle.std.proofs.Common.{rules}
 use Rattle.prolly_check.specs.Entries.{IsChild, entry_of}
-use Rattle.prolly_check.proofs.EntryLists.{shorter}
-use Rattle.prolly_check.proofs.NodeChildren.{behind_first, next_child, no_next_child}
-use Rattle.prolly_check.proofs.NodeChildren.{node_apart, node_less}
+use Rattle.prolly_check.proofs.EntryLists.{shorter, behind_first, next_child, no_next_child}
+use Rattle.prolly_check.proofs.EntryLists.{node_apart, node_less}
 use Rattle.prolly_check.proofs.node.split_first_child.Goals as goal
 
 pub returns : goal.returns
@@ -17,5 +17,4 @@ returns c =
     }
 
 pub returns-in_err-child-clause-first : goal.returns-in_err-child-clause-first
-returns-in_err-child-clause-first c = rw c.from_residual.ensures (no_next_child c.args.version
-    c.args.entries.now c.in_err-child.ensures.none c.requires)
+returns-in_err-child-clause-first c = search (rules, no_next_child)

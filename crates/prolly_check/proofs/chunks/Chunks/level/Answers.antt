@@ -1,6 +1,6 @@
 use Rattle.std.proofs.Common.{◌<◌, ◌∙◌, [], ap, get_or, length, subst, sym, arith}
 use Rattle.std.proofs.lemmas.List.{get_or-map, length-map}
-use Rattle.prolly_check.specs.Spans.{chunk_in, chunks_in}
+use Rattle.prolly_check.specs.Frames.{chunk_in, chunks_in}
 use Rattle.prolly_check.proofs.HeldPairs.{each_whole, some_byte}
 use Rattle.prolly_check.proofs.chunks.Chunks.level.Goals as goal
 

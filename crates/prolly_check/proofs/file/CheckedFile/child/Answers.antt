@@ -1,7 +1,6 @@
 use Rattle.std.proofs.Common.{sym, ap, ◌∙◌, subst}
 use Rattle.prolly_check.specs.Checked.{HasReference, chunks_of}
-use Rattle.prolly_check.specs.Index.{HasAt}
-use Rattle.prolly_check.proofs.FileSteps.{number_of}
+use Rattle.prolly_check.proofs.CheckedFile.{number_of}
 use Rattle.prolly_check.proofs.file.CheckedFile.child.Goals as goal
 
 pub unreachable-requires : goal.unreachable-requires
@@ -10,8 +9,3 @@ unreachable-requires c =
     (sym (c.self.invariant.1 ∙ ap chunks_of c.self.view_is)) c.requires in
     let at = number_of c.self.inside.chunks c.args.reference.now.0 has.chunk has.is_in has.is in
     (rw c.in-None.is at (c.find.ensures c.self.inside.chunks c.self.invariant.2)) at.0 at.1
-
-pub returns : goal.returns
-returns c = subst (λ cs. HasAt cs c.in-Some.number c.args.reference.now.0)
-    (c.self.invariant.1 ∙ ap chunks_of c.self.view_is)
-    (rw c.in-Some.is at (c.find.ensures c.self.inside.chunks c.self.invariant.2))

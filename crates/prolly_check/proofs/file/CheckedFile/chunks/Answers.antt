@@ -1,7 +1,7 @@
 use Rattle.std.proofs.Common.{ap, arith}
 use Rattle.prolly_check.specs.Checked.{content_of}
-use Rattle.prolly_check.specs.Missing.{size_of}
-use Rattle.prolly_check.proofs.FewPairs.{few_bytes}
+use Rattle.prolly_check.specs.Numbers.{size_of}
+use Rattle.prolly_check.proofs.CheckedFile.{few_bytes}
 use Rattle.prolly_check.proofs.file.CheckedFile.chunks.Goals as goal
 
 pub returns-clause-small : goal.returns-clause-small

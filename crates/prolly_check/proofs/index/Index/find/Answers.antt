@@ -1,8 +1,8 @@
 use Rattle.std.proofs.Common.{◌<◌, get_or, length, sym, subst, ◌∙◌, ap, rules}
 use Rattle.std.proofs.lemmas.List.Sorted.{answers_always}
-use Rattle.prolly_entry.specs.lemmas.Orders.{order_same}
 use Rattle.prolly_entry.specs.Keys.{key_order}
-use Rattle.prolly_check.specs.Index.{HasAt}
+use Rattle.prolly_entry.specs.lemmas.Orders.{order_same}
+use Rattle.prolly_check.specs.Checked.{HasAt}
 use Rattle.prolly_check.proofs.IndexSteps.{each_right, search_ends}
 use Rattle.prolly_check.proofs.index.Index.find.Goals as goal
 

@@ -1,5 +1,5 @@
-use Rattle.std.proofs.Common.{sym, ◌∙◌}
-use Rattle.prolly_check.proofs.LeafPairs.{next_pair, no_next, leaf_less}
+use Rattle.std.proofs.Common.{rules, sym, ◌∙◌}
+use Rattle.prolly_check.proofs.EntryLists.{next_pair, no_next, leaf_less}
 use Rattle.prolly_check.proofs.leaf.Pairs.next.Goals as goal
 
 pub invariant_of-self : goal.invariant_of-self
@@ -11,9 +11,7 @@ returns-clause-next c = sym c.self.view_is ∙ next_pair c.self.inside.entries.n
     c.in_ok-key.rest.now c.in_ok-key.ensures.some
 
 pub returns-in_err-key-clause-next : goal.returns-in_err-key-clause-next
-returns-in_err-key-clause-next c = rw c.from_residual.ensures (sym c.self.view_is ∙
-    no_next c.self.inside.entries.now c.in_err-key.ensures.none c.self.invariant)
+returns-in_err-key-clause-next c = search (rules, no_next)
 
 pub returns-in_err-key-clause-none : goal.returns-in_err-key-clause-none
-returns-in_err-key-clause-none c = rw c.from_residual.ensures (sym c.self.view_is ∙
-    no_next c.self.inside.entries.now c.in_err-key.ensures.none c.self.invariant)
+returns-in_err-key-clause-none c = search (rules, no_next)

@@ -1,6 +1,6 @@
 use Rattle.std.proofs.Common.{◌∙◌, ap}
 use Rattle.prolly_tree.specs.RecordFile.{record_file}
-use Rattle.prolly_check.proofs.LeafPairs.{leaf_spelled}
+use Rattle.prolly_check.proofs.EntryLists.{leaf_spelled}
 use Rattle.prolly_check.proofs.leaf.Pairs.spellings.Goals as goal
 
 pub returns : goal.returns

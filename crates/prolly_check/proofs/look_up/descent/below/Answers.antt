@@ -4,22 +4,23 @@ use Rattle.prolly_check.specs.FileWays.{nth_chunk}
 use Rattle.prolly_check.specs.Kinds.{kind_of}
 use Rattle.prolly_check.specs.Sought.{sought_of}
 use Rattle.prolly_check.specs.lemmas.Ways.{child_leads}
+use Rattle.prolly_check.proofs.HeldPairs.{some_byte}
 use Rattle.prolly_check.proofs.FileDescents.{is_ordered, is_there_below, next_is}
-use Rattle.prolly_check.proofs.Marks.{has_level}
 use Rattle.prolly_check.proofs.look_up.descent.below.Goals as goal
 
 pub step_of-requires-clause-ordered : goal.step_of-requires-clause-ordered
-step_of-requires-clause-ordered c = rw (c.version.ensures, c.chunk.ensures)
+step_of-requires-clause-ordered c = rw (c.version.ensures, c.chunk-chunk.ensures)
     (is_ordered c.args.file.now c.requires.file c.args.at.number c.requires.top)
 
 pub step_of-requires-clause-mark : goal.step_of-requires-clause-mark
-step_of-requires-clause-mark c = c.first.ensures.first c.version.result c.chunk.result.now
-    (has_level c.version.result c.chunk.result.now (rw (c.version.ensures, c.chunk.ensures)
+step_of-requires-clause-mark c = c.first.ensures.first c.version.result c.chunk-chunk.result.now
+    (some_byte c.version.result c.chunk-chunk.result.now
+    (rw (c.version.ensures, c.chunk-chunk.ensures)
     (is_ordered c.args.file.now c.requires.file c.args.at.number c.requires.top).whole))
 
 pub returns-in_err-child-clause-named : goal.returns-in_err-child-clause-named
 returns-in_err-child-clause-named c = record {
-  bytes = subst (All IsByte) c.chunk.ensures c.step_of.ensures.bytes;
+  bytes = subst (All IsByte) c.chunk-chunk.ensures c.step_of.ensures.bytes;
   is = refl;
   ordered = is_ordered c.args.file.now c.requires.file c.args.at.number c.requires.top;
 }
@@ -29,11 +30,11 @@ child-requires c = is_there_below c.args.file.now c.requires.file c.args.at.numb
     (sought_of c.args.at.sought) (sought_of c.in_ok-child.child.sought)
     c.in_ok-child.child.reference.0 c.requires.counted (child_leads (sought_of c.args.at.sought)
     (kind_of c.args.file.now.version (nth_chunk c.args.file.now c.args.at.number))
-    c.in_ok-child.child (rw (c.version.ensures, c.chunk.ensures) at c.in_ok-child.ensures.on))
+    c.in_ok-child.child (rw (c.version.ensures, c.chunk-chunk.ensures) at c.in_ok-child.ensures.on))
 
 pub returns-clause-named : goal.returns-clause-named
 returns-clause-named c = record {
-  bytes = subst (All IsByte) c.chunk.ensures c.step_of.ensures.bytes;
+  bytes = subst (All IsByte) c.chunk-chunk.ensures c.step_of.ensures.bytes;
   is = refl;
   ordered = is_ordered c.args.file.now c.requires.file c.args.at.number c.requires.top;
 }
@@ -43,5 +44,5 @@ returns-clause-on c = next_is c.args.file.now c.requires.file c.args.at
     (record { number = c.child.result; sought = c.in_ok-child.child.sought }) c.requires.top
     c.in_ok-child.child.reference.0 c.requires.counted (child_leads (sought_of c.args.at.sought)
     (kind_of c.args.file.now.version (nth_chunk c.args.file.now c.args.at.number))
-    c.in_ok-child.child (rw (c.version.ensures, c.chunk.ensures) at c.in_ok-child.ensures.on))
+    c.in_ok-child.child (rw (c.version.ensures, c.chunk-chunk.ensures) at c.in_ok-child.ensures.on))
     c.child.ensures

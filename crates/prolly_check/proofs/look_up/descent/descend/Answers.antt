@@ -1,4 +1,4 @@
-use Rattle.std.proofs.Common.{[], ◌∷◌, ◌++◌}
+use Rattle.std.proofs.Common.{arith, [], ◌∷◌, ◌++◌}
 use Rattle.prolly_check.specs.FileWays.{nth_chunk}
 use Rattle.prolly_check.specs.Sought.{sought_of}
 use Rattle.prolly_check.proofs.FileDescents.{way_begins, way_ends, way_goes_on}
@@ -11,15 +11,6 @@ loop-next-init c = record {
       c.root.ensures.within c.root.ensures.is c.requires;
 }
 
-pub below-requires-clause-file : goal.below-requires-clause-file
-below-requires-clause-file c = c.root.ensures.file
-
-pub below-requires-clause-top : goal.below-requires-clause-top
-below-requires-clause-top c = c.loop-next.invariant.on.top
-
-pub below-requires-clause-counted : goal.below-requires-clause-counted
-below-requires-clause-counted c = c.loop-next.invariant.on.counted
-
 pub loop-next-preserved : goal.loop-next-preserved
 loop-next-preserved c =
     let before = c.loop-next.invariant in
@@ -30,6 +21,4 @@ loop-next-preserved c =
     }
 
 pub returns-clause-end : goal.returns-clause-end
-returns-clause-end c = way_ends c.args.file.now (sought_of c.args.sought)
-    c.loop-next.invariant.above c.loop-next.at c.loop-next.invariant.on c.below.ensures.named
-    c.in_default.ensures.ends
+returns-clause-end c = grind (arith, way_ends)

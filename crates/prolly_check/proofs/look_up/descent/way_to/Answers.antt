@@ -11,15 +11,6 @@ loop-chunks-init c = rw c.new-chunks.ensures.items
     (way_begins c.args.file.now (Key c.args.key.now) c.root.result c.root.ensures.file
     c.root.ensures.within c.root.ensures.is tt)
 
-pub below-requires-clause-file : goal.below-requires-clause-file
-below-requires-clause-file c = c.root.ensures.file
-
-pub below-requires-clause-top : goal.below-requires-clause-top
-below-requires-clause-top c = c.loop-chunks.invariant.top
-
-pub below-requires-clause-counted : goal.below-requires-clause-counted
-below-requires-clause-counted c = c.loop-chunks.invariant.counted
-
 pub loop-chunks-preserved : goal.loop-chunks-preserved
 loop-chunks-preserved c = rw (pushed c.loop-chunks.chunks.items c.push.new.self.items
     c.chunk.result _ c.in_ok-push.ensures.items c.chunk.ensures)

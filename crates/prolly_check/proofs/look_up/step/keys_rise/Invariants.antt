@@ -2,7 +2,7 @@ use Rattle.std.proofs.Common.{◌↔◌, length}
 use Rattle.std.specs.Option.{option_copied}
 use Rattle.prolly_entry.specs.Keys.{Rising}
 use Rattle.prolly_check.specs.Way.{keys_of}
-use Rattle.prolly_check.proofs.StepLemmas.{RisesOn}
+use Rattle.prolly_check.proofs.RisingKeys.{RisesOn}
 use Rattle.prolly_check.proofs.look_up.step.keys_rise.Given as goal
 
 abbrev pub invariant-loop-key : goal.invariant-loop-key

@@ -1,10 +1,8 @@
-use Rattle.std.proofs.Common.{◌∙◌, sym, ap, subst, arith}
-use Rattle.prolly_check.specs.Checked.{chunks_of, content_of}
-use Rattle.prolly_check.specs.Index.{AreReferences, IsIndex}
-use Rattle.prolly_check.specs.Missing.{AreSo, lacking}
-use Rattle.prolly_check.specs.Spans.{chunks_in}
+use Rattle.std.proofs.Common.{rules, ◌∙◌, sym, ap, subst}
+use Rattle.prolly_check.specs.Checked.{chunks_of, content_of, AreReferences}
+use Rattle.prolly_check.specs.Frames.{chunks_in}
 use Rattle.prolly_check.specs.Verdict.{IsFileOf}
-use Rattle.prolly_check.proofs.FileSteps.{chunks_are}
+use Rattle.prolly_check.proofs.CheckedFile.{chunks_are}
 use Rattle.prolly_check.proofs.tree.Tree.missing_from.Goals as goal
 
 -- the references are those of the chunks
@@ -19,10 +17,4 @@ missing_in-requires-clause-references c =
     (subst (λ cs. AreReferences cs c.self.inside.references.items) are c.self.invariant.1)
 
 pub returns : goal.returns
-returns c = λ content others f g.
-    subst (λ cs. AreSo (lacking (chunks_of others) cs) c.missing_in.result)
-    (c.chunks.ensures.chunks ∙ ap chunks_of (c.file.ensures.is content f))
-    (c.missing_in.ensures (chunks_of others) (subst (IsIndex c.other.inside.index)
-    (chunks_are c.other.inside.bytes.items c.other.inside.layout.header
-    c.other.inside.layout.spans.items c.other.inside.index c.other.invariant.0 others (omega arith)
-    (subst (λ b. IsFileOf b others) (sym c.other.view_is) g)) c.other.invariant.0.indexed))
+returns c = search (rules, chunks_are)

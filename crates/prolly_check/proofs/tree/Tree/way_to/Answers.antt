@@ -1,7 +1,7 @@
 use Rattle.std.proofs.Common.{IfOk, Result, Ok, Err, map, subst}
 use Rattle.prolly_entry.specs.Reference.{reference_of}
 use Rattle.prolly_tree.specs.LookUp.{find}
-use Rattle.prolly_check.specs.Root.{root_bytes}
+use Rattle.prolly_check.specs.Content.{root_bytes}
 use Rattle.prolly_check.specs.Way.{IsWay}
 use Rattle.prolly_check.proofs.tree.Tree.way_to.Goals as goal
 

@@ -16,8 +16,7 @@ returns-then-not-falls_to-clause-only g c content has same keeps at =
     let above = c.args.due.now.above in
     let chunk = c.in_ok-chunk.chunk in
     let falls = kept_falls g.S.ChunkSource.is_place content c.args.due.now.reference.0 above
-    c.args.place at c.tops_are_read.ensures.references
-    (g.met.S.ChunkSource.lawful c.args.source.now content has) chunk
+    c.args.place at (g.met.S.ChunkSource.lawful c.args.source.now content has) chunk
     (c.in_ok-chunk.ensures.kept content above has same keeps at)
     (ap (λ r. r.0) c.in_ok-chunk.ensures.is.1) in
     absurd (false≢true (c.if-not-falls_to.ensures.1

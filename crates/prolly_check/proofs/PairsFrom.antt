@@ -1,0 +1,337 @@
+-- What is found among the pairs of a map: at a key, from a key on, at a number.
+use mathlib.Core.List.{cons≢nil}
+use Rattle.std.proofs.Common.{rules, ◌≡◌, ℕ, zero, suc, ◌+◌, ◌<◌, false, cond, List, [], ◌∷◌, ◌++◌}
+use Rattle.std.proofs.Common.{length, None, Ordering, refl, sym, ap, ◌∙◌, subst, arith, ◌≤◌, Bool}
+use Rattle.std.proofs.Common.{true, not, take, drop, inl, inr, ◌⊎◌, append_assoc, append-nil}
+use Rattle.std.specs.List.{flat_map, slice_get, AllByRecursion}
+use Rattle.std.specs.Ordering.{is_lt, nat_cmp, ordering_reverse, ordering_then}
+use Rattle.std.specs.declared.cmp.Ordering.TheVariants.{Less, Equal, Greater}
+use Rattle.std.proofs.lemmas.Bool.{false≢true}
+use Rattle.std.proofs.lemmas.Cmp.{nat_cmp_total}
+use Rattle.std.proofs.lemmas.List.Elements.{filter-append}
+use Rattle.prolly_entry.specs.Keys.{key_order, KeyBelow, Rising, RisingFrom}
+use Rattle.prolly_entry.specs.Pair.{Pair}
+use Rattle.prolly_entry.specs.lemmas.Lists.{all_append, all_back}
+use Rattle.prolly_entry.specs.lemmas.Orders.{order_trans, order_same, greater_below, below_greater}
+use Rattle.prolly_tree.specs.LookUp.{find}
+use Rattle.prolly_tree.specs.Tree.{Tree, pairs_below, greatest_key, last_key}
+use Rattle.prolly_tree.specs.lemmas.Maps.{Above, Rises, rises_front, rises_back, above_more}
+use Rattle.prolly_tree.specs.lemmas.Maps.{find_above}
+use Rattle.prolly_file.specs.Scratch.{keys_in}
+use Rattle.prolly_check.specs.Held.{pairs_held}
+use Rattle.prolly_check.specs.Leaves.{pairs_from}
+use Rattle.prolly_check.specs.ScanWay.{next_key, AreFirstFrom}
+use Rattle.prolly_check.proofs.RisingKeys.{is_less}
+
+-- ---- keys
+
+pub all_below : (ps : List Pair) (key : List ℕ) → Rises ps → KeyBelow (last_key ps) key →
+    AllByRecursion (λ p. KeyBelow p.key key) ps
+all_below [] key h k = tt
+all_below (p ∷ []) key h k = (k, tt)
+all_below (p ∷ q ∷ ps) key h k = search (rules, order_trans, all_below (q ∷ ps) key h.1 k)
+
+-- where the greatest keys of trees are below a key, all keys below them are
+pub trees_below : (level : ℕ) (ts : List (Tree level)) (key : List ℕ) →
+    Rises (flat_map (pairs_below level) ts) →
+    AllByRecursion (λ u. KeyBelow (greatest_key level u) key) ts →
+    AllByRecursion (λ p. KeyBelow p.key key) (flat_map (pairs_below level) ts)
+trees_below level [] key h k = tt
+trees_below level (t ∷ ts) key h k =
+    let own = pairs_below level t in
+    let rest = flat_map (pairs_below level) ts in
+    all_append (λ p. KeyBelow p.key key) own rest (all_below own key (rises_front own rest h) k.0)
+    (trees_below level ts key (rises_back own rest h) k.1)
+
+pub find_over : (xs ys : List Pair) (key : List ℕ) → AllByRecursion (λ p. KeyBelow p.key key) xs →
+    find (xs ++ ys) key ≡ find ys key
+find_over [] ys key h = refl
+find_over (p ∷ xs) ys key h = search (rules, find_over xs ys key h.1)
+
+pub find_first : (xs ys : List Pair) (key : List ℕ) → find ys key ≡ None →
+    find (xs ++ ys) key ≡ find xs key
+find_first [] ys key h = h
+find_first (p ∷ xs) ys key h = search (rules, find_first xs ys key h)
+
+pub above_last : (ps ys : List Pair) → 0 < length ps → Rises (ps ++ ys) → Above (last_key ps) ys
+above_last [] ys some h = absurd (omega arith)
+above_last (p ∷ []) ys some h = h.0
+above_last (p ∷ q ∷ ps) ys some h = above_last (q ∷ ps) ys (omega arith) h.1
+
+pub above_not : (x key : List ℕ) (ps : List Pair) → is_lt (key_order x key) ≡ false → Above x ps →
+    Above key ps
+above_not x key ps h k = go (key_order x key) refl h
+  where
+    go : (o : Ordering) → key_order x key ≡ o → is_lt o ≡ false → Above key ps
+    go Less e l = absurd (false≢true (sym l))
+    go Equal e l = subst (λ y. Above y ps) (order_same x key e) k
+    go Greater e l = above_more key x ps (greater_below x key e) k
+
+from_rises : (p : Pair) (ps : List Pair) → Above p.key ps → Rises ps → RisingFrom p.key (keys_in ps)
+from_rises p [] h k = tt
+from_rises p (q ∷ ps) h k = (h.0, from_rises q ps k.0 k.1)
+
+pub rising_is : (ps : List Pair) → Rises ps → Rising (keys_in ps)
+rising_is [] h = tt
+rising_is (p ∷ ps) h = from_rises p ps h.0 h.1
+
+-- ---- places
+
+pub nth_front : (xs ys : List Pair) (n : ℕ) → n < length xs → slice_get (xs ++ ys) n ≡ slice_get xs n
+nth_front [] ys n h = absurd (omega arith)
+nth_front (x ∷ xs) ys zero h = refl
+nth_front (x ∷ xs) ys (suc n) h = search (rules, nth_front xs ys n (omega arith))
+
+pub nth_back : (xs ys : List Pair) (n : ℕ) → slice_get (xs ++ ys) (length xs + n) ≡ slice_get ys n
+nth_back [] ys n = let e : 0 + n ≡ n = omega arith in rw e refl
+nth_back (x ∷ xs) ys n = search (rules, nth_back xs ys n)
+
+-- ---- scanning pairs from a key on, in a leaf and over chunks
+
+-- the pairs from a key on, of two lists
+pub pairs_from-append : (from : List ℕ) (xs ys : List Pair) →
+    pairs_from from (xs ++ ys) ≡ pairs_from from xs ++ pairs_from from ys
+pairs_from-append from xs ys = filter-append (λ p. not (is_lt (key_order p.key from))) xs ys
+
+-- pairs whose keys are below it are none of them
+pub none_from : (from : List ℕ) (ps : List Pair) → AllByRecursion (λ p. KeyBelow p.key from) ps →
+    pairs_from from ps ≡ []
+none_from from [] h = refl
+none_from from (p ∷ ps) h = search (rules, none_from from ps h.1)
+
+-- pairs of which the last is not below it have one
+pub some_from : (from : List ℕ) (ps : List Pair) → 0 < length ps →
+    is_lt (key_order (last_key ps) from) ≡ false → pairs_from from ps ≡ [] → ⊥
+some_from from [] some h e = absurd (omega arith)
+some_from from (p ∷ []) some h e = grind arith
+some_from from (p ∷ q ∷ ps) some h e = go (not (is_lt (key_order p.key from)))
+    (λ f. some_from from (q ∷ ps) (omega arith) h f) e
+  where
+    go : (b : Bool) → (pairs_from from (q ∷ ps) ≡ [] → ⊥) →
+        cond b (p ∷ pairs_from from (q ∷ ps)) (pairs_from from (q ∷ ps)) ≡ [] → ⊥
+    go true more f = cons≢nil f
+    go false more f = more f
+
+-- ---- in a map
+
+-- pairs above a key are all from it on
+pub from_all : (key : List ℕ) (ps : List Pair) → Above key ps → pairs_from key ps ≡ ps
+from_all key [] h = refl
+from_all key (p ∷ ps) h = grind (arith, below_greater, from_all key ps h.1)
+
+-- where the first one of a map is from the key on, all are
+pub from_first : (key : List ℕ) (p : Pair) (ps : List Pair) → Rises (p ∷ ps) →
+    is_lt (key_order p.key key) ≡ false → pairs_from key (p ∷ ps) ≡ p ∷ ps
+from_first key p ps h here = grind (arith, from_all, above_not)
+
+-- a pair below the key is passed over
+pub from_second : (key : List ℕ) (p : Pair) (ps : List Pair) →
+    is_lt (key_order p.key key) ≡ true → pairs_from key (p ∷ ps) ≡ pairs_from key ps
+from_second key p ps past = search rules
+
+-- behind pairs of a map of which one is from the key on, all are
+pub from_behind : (key : List ℕ) (ps qs : List Pair) → Rises (ps ++ qs) →
+    (pairs_from key ps ≡ [] → ⊥) → pairs_from key qs ≡ qs
+from_behind key [] qs h some = absurd (some refl)
+from_behind key (p ∷ ps) qs h some = go (from_behind key ps qs h.1)
+    (is_lt (key_order p.key key)) refl
+  where
+    go : ((pairs_from key ps ≡ [] → ⊥) → pairs_from key qs ≡ qs) → (b : Bool) →
+        is_lt (key_order p.key key) ≡ b → pairs_from key qs ≡ qs
+    go behind true past = behind (λ none. some (from_second key p ps past ∙ none))
+    go behind false here = from_all key qs (above_not p.key key qs here
+        (all_back (λ q. KeyBelow p.key q.key) ps qs h.0))
+
+-- what holds of all pairs holds of those from a key on
+pub all_from : (P : Pair → Type 0) (key : List ℕ) (ps : List Pair) → AllByRecursion P ps →
+    AllByRecursion P (pairs_from key ps)
+all_from P key [] h = tt
+all_from P key (p ∷ ps) h = grind (arith, all_from P key ps h.1)
+
+-- they rise, too
+pub rises_from : (key : List ℕ) (ps : List Pair) → Rises ps → Rises (pairs_from key ps)
+rises_from key [] h = tt
+rises_from key (p ∷ ps) h = grind (arith, all_from, rises_from key ps h.1)
+
+-- ---- in a leaf
+
+-- of the pairs of a leaf the rest is left, and the scan has come to it with these
+pub record LeafScan (from : List ℕ) (limit : ℕ) (old leaf pairs rest : List Pair) : Type 0 where
+  pub within : length pairs ≤ limit
+  pub same : take limit (old ++ pairs_from from leaf) ≡ take limit (pairs ++ pairs_from from rest)
+
+-- ---- over chunks
+
+-- of these chunks those from the number on are left, and the scan has come to them with these pairs
+pub record ChunkScan (chunks : List (List ℕ)) (from : List ℕ) (limit first : ℕ) (pairs : List Pair)
+    (number : ℕ) : Type 0 where
+  pub within : length pairs ≤ limit
+  pub same : take limit (pairs_from from (flat_map pairs_held (drop first chunks))) ≡
+      take limit (pairs ++ pairs_from from (flat_map pairs_held (drop number chunks)))
+
+-- ---- the least key above another
+
+-- it is above that one
+pub below_next : (key : List ℕ) → KeyBelow key (next_key key)
+below_next [] = refl
+below_next (b ∷ key) = search (rules, below_next key)
+
+-- and not above any other key above it
+pub least_above : (key other : List ℕ) → KeyBelow key other →
+    is_lt (key_order other (next_key key)) ≡ false
+least_above [] [] h = cc
+least_above [] (zero ∷ []) h = refl
+least_above [] (zero ∷ c ∷ other) h = refl
+least_above [] (suc b ∷ other) h = search rules
+least_above (a ∷ key) [] h = cc
+least_above (a ∷ key) (b ∷ other) h = go (least_above key other) (nat_cmp a b) refl h
+  where
+    back : (o : Ordering) → nat_cmp a b ≡ o →
+        key_order (b ∷ other) (next_key (a ∷ key)) ≡
+        ordering_then (ordering_reverse o) (key_order other (next_key key))
+    back o e = ap (λ o. ordering_then o (key_order other (next_key key)))
+        (nat_cmp_total.antisymm b a ∙ ap ordering_reverse e)
+
+    go : (KeyBelow key other → is_lt (key_order other (next_key key)) ≡ false) → (o : Ordering) →
+        nat_cmp a b ≡ o → ordering_then o (key_order key other) ≡ Less →
+        is_lt (key_order (b ∷ other) (next_key (a ∷ key))) ≡ false
+    go more Less e below = ap is_lt (back Less e)
+    go more Equal e below = ap is_lt (back Equal e) ∙ more below
+    go more Greater e below = cc
+
+-- ---- pairs of a map that were found
+
+-- the first key is not below this one, and those behind it are above it
+abbrev NotBelow : List ℕ → List Pair → Type 0
+NotBelow key [] = Unit {0}
+NotBelow key (p ∷ ps) = (is_lt (key_order p.key key) ≡ false) × Above key ps
+
+-- before them stand those below the key, and others behind them, but none where they are none
+pub record IsFoundIn (key : List ℕ) (all found : List Pair) : Type 0 where
+  pub before : List Pair
+  pub after : List Pair
+  pub are : all ≡ before ++ (found ++ after)
+  pub below : AllByRecursion (λ p. KeyBelow p.key key) before
+  pub here : NotBelow key found
+  pub none : found ≡ [] → after ≡ []
+
+from_here : (key : List ℕ) (ps : List Pair) → NotBelow key ps → pairs_from key ps ≡ ps
+from_here key [] h = refl
+from_here key (p ∷ ps) h = search (rules, from_all)
+
+from_next : (key : List ℕ) (ps : List Pair) → Above key ps → pairs_from (next_key key) ps ≡ ps
+from_next key [] h = refl
+from_next key (p ∷ ps) h = grind (arith, least_above, from_next key ps h.1)
+
+-- of pairs whose keys rise, those from the key on stand behind the others
+in_leaf : (key : List ℕ) (ps : List Pair) → Rises ps → IsFoundIn key ps (pairs_from key ps)
+in_leaf key [] r = grind arith
+in_leaf key (p ∷ ps) r = go (in_leaf key ps r.1) (is_lt (key_order p.key key)) refl
+  where
+    go : IsFoundIn key ps (pairs_from key ps) → (b : Bool) → is_lt (key_order p.key key) ≡ b →
+        IsFoundIn key (p ∷ ps) (cond (not b) (p ∷ pairs_from key ps) (pairs_from key ps))
+    go rest true e =
+        record {
+          before = p ∷ rest.before;
+          after = rest.after;
+          are = ap (λ qs. p ∷ qs) rest.are;
+          below = (is_less (key_order p.key key) e, rest.below);
+          here = rest.here;
+          none = rest.none;
+        }
+    go rest false e =
+        let above = above_not p.key key ps e r.0 in
+        let all = from_all key ps above in
+        record {
+          before = [];
+          after = [];
+          are = ap (λ qs. p ∷ qs) (sym all ∙ sym (append-nil (pairs_from key ps)));
+          below = tt;
+          here = (e, subst (Above key) (sym all) above);
+          none = λ f. refl;
+        }
+
+last_key_append : (xs : List Pair) (p : Pair) (ps : List Pair) →
+    last_key (xs ++ p ∷ ps) ≡ last_key (p ∷ ps)
+last_key_append [] p ps = refl
+last_key_append (x ∷ []) p ps = refl
+last_key_append (x ∷ y ∷ xs) p ps = last_key_append (y ∷ xs) p ps
+
+above_back : (key : List ℕ) (ps after : List Pair) → Above key (ps ++ after) → Above key after
+above_back key ps after h = all_back (λ q. KeyBelow key q.key) ps after h
+
+-- so they are the first ones from the key on
+first_from : (key : List ℕ) (m found : List Pair) → Rises m → IsFoundIn key m found →
+    AreFirstFrom key m found
+first_from key m [] r f = search (rules, none_from)
+first_from key m (p ∷ ps) r f =
+    let found = p ∷ ps in
+    let last = last_key found in
+    let whole : Rises (f.before ++ (found ++ f.after)) = subst Rises f.are r in
+    let back = rises_back f.before (found ++ f.after) whole in
+    let front : Rises (f.before ++ found) = rises_front (f.before ++ found) f.after
+    (subst Rises (sym (append_assoc f.before found f.after)) whole) in
+    let after : Above key f.after = above_not p.key key f.after f.here.0
+    (above_back p.key ps f.after back.0) in
+    let past : AllByRecursion (λ q. KeyBelow q.key (next_key last)) (f.before ++ found) =
+    all_below (f.before ++ found) (next_key last) front
+    (subst (λ k. KeyBelow k (next_key last)) (sym (last_key_append f.before p ps))
+    (below_next last)) in
+    ap (pairs_from key) f.are ∙ pairs_from-append key f.before (found ++ f.after) ∙
+    ap (λ qs. qs ++ pairs_from key (found ++ f.after)) (none_from key f.before f.below) ∙
+    pairs_from-append key found f.after ∙
+    ap (λ qs. qs ++ pairs_from key f.after) (from_here key found f.here) ∙
+    ap (λ qs. found ++ qs) (from_all key f.after after ∙
+    sym (ap (pairs_from (next_key last)) (f.are ∙ sym (append_assoc f.before found f.after)) ∙
+    pairs_from-append (next_key last) (f.before ++ found) f.after ∙
+    ap (λ qs. qs ++ pairs_from (next_key last) f.after)
+    (none_from (next_key last) (f.before ++ found) past) ∙
+    from_next last f.after (above_last found f.after (omega arith) back)))
+
+-- ---- a part of a map
+
+-- pairs behind one that is not below the key are above it
+pub above_some : (key : List ℕ) (ps after : List Pair) → Rises (ps ++ after) →
+    (pairs_from key ps ≡ [] → ⊥) → Above key after
+above_some key [] after r some = absurd (some refl)
+above_some key (p ∷ ps) after r some =
+    go (is_lt (key_order p.key key)) refl (above_some key ps after r.1) some
+  where
+    go : (b : Bool) → is_lt (key_order p.key key) ≡ b →
+        ((pairs_from key ps ≡ [] → ⊥) → Above key after) →
+        (cond (not b) (p ∷ pairs_from key ps) (pairs_from key ps) ≡ [] → ⊥) → Above key after
+    go true e more some = more some
+    go false e more some = above_not p.key key after e (above_back p.key ps after r.0)
+
+module _ (key : List ℕ) (m before pairs after : List Pair) (r : Rises m)
+    (are : m ≡ before ++ (pairs ++ after))
+    (past : AllByRecursion (λ p. KeyBelow p.key key) before)
+    (here : (after ≡ []) ⊎ (pairs_from key pairs ≡ [] → ⊥)) where
+  behind : Rises (pairs ++ after)
+  behind = rises_back before (pairs ++ after) (subst Rises are r)
+
+  pub find_in_part : find pairs key ≡ find m key
+  find_in_part = grind (arith, find_over, find_first, find_above, above_some, behind)
+
+  pub first_in_part : AreFirstFrom key m (pairs_from key pairs)
+  first_in_part =
+      let own = in_leaf key pairs (rises_front pairs after behind) in
+      first_from key m (pairs_from key pairs) r (record {
+        before = before ++ own.before;
+        after = own.after ++ after;
+        are = are ∙ ap (λ ps. before ++ (ps ++ after)) own.are ∙
+            regroup before own.before (pairs_from key pairs) own.after after;
+        below = all_append (λ p. KeyBelow p.key key) before own.before past own.below;
+        here = own.here;
+        none = λ e. ap (λ ps. ps ++ after) (own.none e) ∙ last e here;
+      })
+    where
+      regroup : (xs before found after ys : List Pair) →
+          xs ++ ((before ++ (found ++ after)) ++ ys) ≡
+          (xs ++ before) ++ (found ++ (after ++ ys))
+      regroup xs before found after ys = simp append_assoc
+
+      last : pairs_from key pairs ≡ [] → (after ≡ []) ⊎ (pairs_from key pairs ≡ [] → ⊥) →
+          after ≡ []
+      last e (inl none) = none
+      last e (inr some) = absurd (some e)

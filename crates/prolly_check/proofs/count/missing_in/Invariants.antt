@@ -1,5 +1,0 @@
-use Rattle.prolly_check.proofs.MissingSteps.{CountedTo}
-use Rattle.prolly_check.proofs.count.missing_in.Given as goal
-
-abbrev pub invariant-loop-number : goal.invariant-loop-number
-invariant-loop-number l = CountedTo l.index l.chunks l.number l.missing

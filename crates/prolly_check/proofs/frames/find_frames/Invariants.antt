@@ -1,9 +1,0 @@
-use Rattle.std.proofs.Common.{◌-◌, length}
-use Rattle.prolly_check.specs.Spans.{FramesTo}
-use Rattle.prolly_check.proofs.frames.find_frames.Given as goal
-
-abbrev pub invariant-loop-len : goal.invariant-loop-len
-invariant-loop-len l = FramesTo l.bytes l.spans.items l.end
-
-abbrev pub decreases-loop-len : goal.decreases-loop-len
-decreases-loop-len l = length l.bytes - l.end

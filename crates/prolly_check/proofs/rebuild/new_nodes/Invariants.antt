@@ -1,9 +1,0 @@
-use Rattle.std.proofs.Common.{◌≡◌, length}
-use Rattle.prolly_check.specs.Rebuilt.{AreUnused}
-use Rattle.prolly_check.proofs.rebuild.new_nodes.Given as goal
-
-abbrev pub invariant-loop-level : goal.invariant-loop-level
-invariant-loop-level l = record {
-  unused : AreUnused l.cut l.version 1 l.nodes.items;
-  count : length l.nodes.items ≡ l.level;
-}

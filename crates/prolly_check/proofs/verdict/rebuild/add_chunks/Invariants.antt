@@ -1,0 +1,10 @@
+use Rattle.std.proofs.Common.{drop}
+use Rattle.std.specs.List.{flat_map}
+use Rattle.prolly_check.specs.Held.{pairs_held}
+use Rattle.prolly_check.proofs.RebuildSteps.{PartTaken}
+use Rattle.prolly_check.proofs.verdict.rebuild.add_chunks.Given as goal
+
+abbrev pub invariant-loop-number : goal.invariant-loop-number
+invariant-loop-number l =
+    PartTaken l.chunks l.fn.rebuild l.rebuild (flat_map pairs_held l.chunks)
+    (flat_map pairs_held (drop l.number l.chunks))

@@ -1,0 +1,14 @@
+use Rattle.std.proofs.Common.{ℕ, List, vec_len}
+use Rattle.prolly_entry.specs.Pair.{Pair}
+use Rattle.prolly_entry.specs.declared.version.Version.{Version}
+use Rattle.prolly_check.specs.Rebuilt.{HasTaken}
+use Rattle.prolly_check.proofs.RebuildSteps.{IsEnding}
+use Rattle.prolly_check.proofs.verdict.rebuild.finish.Given as goal
+
+abbrev pub invariant-loop-references : goal.invariant-loop-references
+invariant-loop-references l = (bits : ℕ) (version : Version) (pairs : List Pair) →
+    HasTaken bits version l.chunks pairs l.fn.rebuild →
+    IsEnding bits version pairs l.chunks l.nodes.items l.last l.references.items
+
+abbrev pub decreases-loop-references : goal.decreases-loop-references
+decreases-loop-references l = vec_len l.nodes

@@ -1,0 +1,108 @@
+//! The leaves of a file that was checked, one after another.
+ghost use Rattle.std.specs.Prelude.{◌≡◌, ◌<◌, [], ◌++◌, length, IfSome, IfNone, MatchOption};
+ghost use Rattle.prolly_check.specs.Checked.{HasFile};
+ghost use Rattle.prolly_check.specs.Leaves.{pairs_from};
+ghost use Rattle.prolly_tree.specs.Difference.{IsMap};
+
+use crate::file::CheckedFile;
+use crate::leaf::Pairs;
+use crate::look_up::descent::descend;
+use crate::look_up::sought::Sought;
+use prolly_entry::key_order;
+use std::marker::Model;
+use std::mem;
+
+/// The leaves of a checked file, or those of them that are left, in the order of their keys.
+#[derive(Drop)]
+pub struct Leaves<'a> {
+    file: CheckedFile<'a>,
+    // What is given before the chunks from the number on.
+    first: Pairs<'a>,
+    number: usize,
+}
+
+// They are seen as what is left of the map: the first pairs, and those of the chunks from the
+// number on.
+impl<'a> Model for Leaves<'a> {
+    ghost use Rattle.std.specs.Prelude.{◌++◌, List, drop};
+    ghost use Rattle.std.specs.List.{flat_map};
+    ghost use Rattle.prolly_entry.specs.Pair.{Pair as PairValue};
+    ghost use Rattle.prolly_check.specs.Checked.{chunks_of};
+    ghost use Rattle.prolly_check.specs.Held.{pairs_held};
+
+    ghost Value = { List PairValue };
+
+    ghost view = { λ l. l.first ++ flat_map pairs_held (drop l.number (chunks_of l.file)) };
+}
+
+impl<'a> Leaves<'a> {
+    /// All leaves of the file.
+    pub(crate) fn new(file: CheckedFile<'a>) -> Leaves<'a>
+        requires { HasFile file }
+        ensures { result ≡ file.entry.pairs }
+    {
+        Leaves {
+            file,
+            first: Pairs::new(&[]),
+            number: 0,
+        }
+    }
+
+    /// The leaves of the pairs whose key is not less than `from`: of the first leaf only these.
+    /// Reads one chunk a level.
+    pub(crate) fn from_key(file: CheckedFile<'a>, from: &[u8]) -> Leaves<'a>
+        requires { HasFile file }
+        ensures { result ≡ pairs_from from.now file.entry.pairs }
+    {
+        let end = descend(&file, Sought::Key(from));
+        let first = rest_from(file.pairs(end.number), from);
+        // Where that leaf has none of them, the map has none.
+        let number = if first.is_empty() {
+            file.len()
+        } else {
+            end.number + 1
+        };
+        Leaves {
+            file,
+            first,
+            number,
+        }
+    }
+
+    /// The next leaf that has a pair: only the leaf of the empty map has none.
+    ///
+    /// Takes no memory. Passes over the nodes before the leaf, of each of which it reads one byte.
+    pub fn next(&mut self) -> Option<Pairs<'a>>
+        ensures next { MatchOption result (self.old ≡ []) (λ leaf. self.old ≡ leaf ++ self.new) }
+        ensures some { IfSome result (λ leaf. 0 < length leaf) }
+        ensures none { IfNone result (self.new ≡ []) }
+    {
+        let first = mem::replace(&mut self.first, Pairs::new(&[]));
+        if !first.is_empty() {
+            return Some(first);
+        }
+        // The leaves stand in the order of their pairs, and a node has no pair itself.
+        while self.number < self.file.len() {
+            let leaf = self.file.pairs(self.number);
+            self.number += 1;
+            if !leaf.is_empty() {
+                return Some(leaf);
+            }
+        }
+        None
+    }
+}
+
+/// The pairs of a leaf whose key is not less than `from`. Takes no memory.
+fn rest_from<'a>(mut leaf: Pairs<'a>, from: &[u8]) -> Pairs<'a>
+    requires { IsMap leaf }
+    ensures { result ≡ pairs_from from.now leaf.entry }
+{
+    while let Some((key, _)) = leaf.first() {
+        if !key_order(key, from).is_lt() {
+            return leaf;
+        }
+        let _ = leaf.next();
+    }
+    leaf
+}

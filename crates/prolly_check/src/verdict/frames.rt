@@ -1,0 +1,43 @@
+//! The frames of a chunk file.
+ghost use Rattle.std.specs.Prelude.{◌≡◌, ◌≤◌, true, length, drop, IfOk};
+ghost use Rattle.prolly_file.specs.Frame.{has_no_frame};
+ghost use Rattle.prolly_check.specs.Frames.{FramesTo, IsWithin, chunk_in};
+
+use prolly_file::{FRAME_START, HEADER_SIZE, frame_at};
+use std::alloc::{AllocError, Global};
+use std::ops::Range;
+
+/// Where the chunks of a file lie, and where their frames end.
+#[derive(Drop)]
+pub(crate) struct Frames {
+    pub(crate) spans: Vec<Range<usize>>,
+    pub(crate) end: usize,
+}
+
+/// The frames behind the header, up to the first bytes that no whole frame begins.
+pub(crate) fn find_frames(alloc: Global, bytes: &[u8]) -> Result<Frames, AllocError>
+    requires { HEADER_SIZE ≤ length bytes.now }
+    ensures frames { IfOk result (λ r. FramesTo bytes.now r.spans.items r.end) }
+    ensures all { IfOk result (λ r. has_no_frame (drop r.end bytes.now) ≡ true) }
+{
+    let mut spans = Vec::new(alloc);
+    let mut end = HEADER_SIZE;
+    loop {
+        let (_, rest) = bytes.split_at(end);
+        let len = match frame_at(rest) {
+            Some(len) => len,
+            None => return Ok(Frames { spans, end }),
+        };
+        let start = end + FRAME_START;
+        end = start + len;
+        spans.push(start..end)?;
+    }
+}
+
+/// The chunk that lies there.
+pub(crate) fn chunk_at<'a>(bytes: &'a [u8], span: &Range<usize>) -> &'a [u8]
+    requires { IsWithin bytes.now span.now }
+    ensures { result.now ≡ chunk_in bytes.now span.now }
+{
+    &bytes[span.start..span.end]
+}

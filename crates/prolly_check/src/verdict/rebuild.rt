@@ -1,0 +1,208 @@
+//! Rebuilding the chunks of pairs that come one by one, and comparing each with that of a file.
+ghost use Rattle.std.specs.Prelude.{◌≡◌, [], ◌∷◌, ◌<◌, ◌≤◌, ◌^◌, None, Some, List, ℕ, length, OnOk};
+ghost use Rattle.std.specs.Prelude.{IfOk, IfErr};
+ghost use Rattle.std.specs.List.{flat_map};
+ghost use Rattle.prolly_check.specs.Judged.{CompareAs};
+ghost use Rattle.prolly_check.specs.Held.{pairs_held};
+ghost use Rattle.prolly_check.specs.Checked.{AreReferences};
+ghost use Rattle.prolly_check.specs.Rebuilt.{AreUnused, Ends, HasTaken, IsExpected, Passes, Takes};
+ghost use Rattle.prolly_check.specs.Rebuilt.{node_levels};
+ghost use Rattle.prolly_check.specs.Verdict.{UnlessMemory};
+
+use crate::chunks::Chunks;
+use crate::leaf::Pairs;
+use crate::verdict::fault::CheckFault;
+use prolly_chunk::{ChunkEvent, LeafLevel, NodeLevel};
+use prolly_entry::{Pair, Ref, Sha512Cut, Version};
+use std::alloc::{AllocError, Global};
+
+/// The number of levels of nodes. A tree of fewer than 2^64 pairs has no more.
+const NODE_LEVELS: u8 = 64;
+
+/// What is rebuilt so far of the chunks of pairs: the open chunk of each level, and the references
+/// of the chunks that were closed and found in a file.
+#[derive(Drop)]
+struct Rebuild {
+    leaf: LeafLevel<Sha512Cut>,
+    nodes: Vec<NodeLevel<Sha512Cut>>,
+    references: Vec<Ref>,
+}
+
+/// All levels of nodes, before the first chunk.
+fn new_nodes(
+    alloc: Global,
+    cut: Sha512Cut,
+    version: Version,
+) -> Result<Vec<NodeLevel<Sha512Cut>>, AllocError>
+    ensures unused { IfOk result (λ nodes. AreUnused cut version 1 nodes.items) }
+    ensures count { IfOk result (λ nodes. length nodes.items ≡ node_levels) }
+{
+    let mut nodes = Vec::new(alloc);
+    for level in 0..NODE_LEVELS {
+        nodes.push(NodeLevel::new(alloc, version, level + 1, cut)?)?;
+    }
+    Ok(nodes)
+}
+
+/// The beginning, before the first pair.
+fn begin(alloc: Global, cut: Sha512Cut, version: Version) -> Result<Rebuild, AllocError>
+    ensures { IfOk result (λ rebuild.
+        (chunks : List (List ℕ)) → HasTaken cut version chunks [] rebuild) }
+{
+    Ok(Rebuild {
+        leaf: LeafLevel::new(alloc, cut)?,
+        nodes: new_nodes(alloc, cut, version)?,
+        references: Vec::new(alloc),
+    })
+}
+
+/// Tests that the next chunk of a file, behind those whose references are there, is that of the
+/// event, and adds its reference. Answers the event, which carries it from then on.
+fn expect_chunk(
+    chunks: &Chunks,
+    references: &mut Vec<Ref>,
+    event: ChunkEvent,
+) -> Result<ChunkEvent, CheckFault>
+    ensures expected { IsExpected chunks.now references.old.items references.new.items event
+        result }
+    ensures same { IfOk result (λ same. same ≡ event) }
+{
+    let number = references.len();
+    if number >= chunks.len() {
+        return Err(CheckFault::NotCanonical { chunk: number });
+    }
+    if chunks.chunk(number) != event.bytes() {
+        return Err(CheckFault::NotCanonical { chunk: number });
+    }
+    let event = event.with_reference();
+    let Ok(()) = references.push(event.reference()) else {
+        return Err(CheckFault::Memory);
+    };
+    Ok(event)
+}
+
+/// Lets an event pass the levels, if there is one, and compares what leaves the last one with the
+/// next chunks of a file, behind those whose references are there. Adds theirs.
+///
+/// The event leaves the last level first: the first level takes it, and those above let it pass.
+/// Then the node that the first level closes, if it does, passes those above in the same way.
+fn pass(
+    alloc: Global,
+    levels: &mut [NodeLevel<Sha512Cut>],
+    event: Option<ChunkEvent>,
+    chunks: &Chunks,
+    references: &mut Vec<Ref>,
+) -> Result<(), CheckFault>
+    ensures passed { Passes chunks.now levels.old levels.new event references.old.items
+        references.new.items result }
+    ensures size { length levels.new ≡ length levels.old }
+{
+    let Some(event) = event else {
+        return Ok(());
+    };
+    let event = expect_chunk(chunks, references, event)?;
+    match levels.split_first_mut() {
+        None => Ok(()),
+        Some((level, above)) => {
+            let closed = level.push(alloc, &event)?;
+            pass(alloc, above, closed, chunks, references)
+        }
+    }
+}
+
+/// Takes a copy of a pair, and compares the chunks that it closes.
+fn add_copy(
+    alloc: Global,
+    rebuild: &mut Rebuild,
+    key: &[u8],
+    value: &[u8],
+    chunks: &Chunks,
+) -> Result<(), CheckFault>
+    requires key { length key.now ≤ 1024 }
+    requires value { length value.now ≤ 65536 }
+    ensures { Takes chunks.now rebuild.old rebuild.new
+        (record { key = key.now; value = value.now } ∷ []) result }
+{
+    let pair = Pair::copy_of(alloc, key, value)?;
+    let closed = rebuild.leaf.push(alloc, &pair)?;
+    pass(
+        alloc,
+        &mut rebuild.nodes,
+        closed,
+        chunks,
+        &mut rebuild.references,
+    )
+}
+
+/// Takes the pairs of a leaf.
+fn add_leaf(
+    alloc: Global,
+    rebuild: &mut Rebuild,
+    mut leaf: Pairs,
+    chunks: &Chunks,
+) -> Result<(), CheckFault>
+    ensures { Takes chunks.now rebuild.old rebuild.new leaf.entry result }
+{
+    while let Some((key, value)) = leaf.next() {
+        add_copy(alloc, rebuild, key, value, chunks)?;
+    }
+    Ok(())
+}
+
+/// Takes the pairs of all chunks of a file.
+fn add_chunks(alloc: Global, rebuild: &mut Rebuild, chunks: &Chunks) -> Result<(), CheckFault>
+    ensures { Takes chunks.now rebuild.old rebuild.new (flat_map pairs_held chunks.now) result }
+{
+    for number in 0..chunks.len() {
+        add_leaf(alloc, rebuild, chunks.pairs(number), chunks)?;
+    }
+    Ok(())
+}
+
+/// Closes what is left open, level by level from the leaves up, and answers the references of all
+/// chunks.
+fn finish(alloc: Global, rebuild: Rebuild, chunks: &Chunks) -> Result<Vec<Ref>, CheckFault>
+    ensures { Ends chunks.now rebuild result }
+{
+    let Rebuild {
+        leaf,
+        mut nodes,
+        mut references,
+    } = rebuild;
+    let mut last = leaf.finish();
+    loop {
+        pass(alloc, &mut nodes, last, chunks, &mut references)?;
+        if nodes.len() == 0 {
+            return Ok(references);
+        }
+        last = nodes.remove(0).finish();
+    }
+}
+
+/// Tests that the chunks of a file are those of the pairs that they hold, and answers the reference
+/// of each.
+///
+/// Holds one open chunk a level beside the file, and takes one hash of each chunk, and memory for
+/// its reference, once the chunk was found right.
+pub(crate) fn test_rebuilt(
+    alloc: Global,
+    cut: Sha512Cut,
+    version: Version,
+    chunks: &Chunks,
+) -> Result<Vec<Ref>, CheckFault>
+    requires { length (flat_map pairs_held chunks.now) < 2 ^ 64 }
+    ensures ok { OnOk result (CompareAs version cut chunks.now None) }
+    ensures references { IfOk result (λ references.
+        AreReferences chunks.now references.items) }
+    ensures err { IfErr result (UnlessMemory (λ fault.
+        CompareAs version cut chunks.now (Some fault))) }
+{
+    let mut rebuild = begin(alloc, cut, version)?;
+    add_chunks(alloc, &mut rebuild, chunks)?;
+    let references = finish(alloc, rebuild, chunks)?;
+    let count = references.len();
+    if count < chunks.len() {
+        return Err(CheckFault::NotCanonical { chunk: count });
+    }
+    Ok(references)
+}
