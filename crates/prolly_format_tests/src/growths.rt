@@ -11,8 +11,7 @@ use prolly_entry::{
     append_record, records,
 };
 use prolly_file::{
-    FromRead, ScratchFault, ScriptSink, Sink, SinkFault, WholeFault, read_whole,
-    scratch_as,
+    FromRead, ScratchFault, ScriptSink, Sink, SinkFault, WholeFault, read_whole, scratch_as,
 };
 use prolly_root::{Reader, RootFault, Subtree};
 use prolly_test_parts::{joined, pairs_of};

@@ -32,11 +32,7 @@ fn value_of_a(alloc: Global, chunks: &mut Chunks) -> Result<Option<Vec<u8>>, Roo
 }
 
 /// The pair of the number 2.
-fn third_pair(
-    alloc: Global,
-    chunks: &mut Chunks,
-    root: &Ref,
-) -> Result<Option<Pair>, RootFault> {
+fn third_pair(alloc: Global, chunks: &mut Chunks, root: &Ref) -> Result<Option<Pair>, RootFault> {
     let mut reader = Reader::open(alloc, chunks, Version::Two, root)?;
     reader.nth(alloc, chunks, 2)
 }
