@@ -397,9 +397,7 @@ def is_ended(place, name, flags):
             for beside in place.folder.glob("out.*.tmp"):
                 beside.unlink()
         elif left not in (OLD_TREE, whole):
-            is_begun = len(left) >= 6
-            fault = b"truncated" if is_begun else b"bad header"
-            place.answers(place.run("check", "out"), (4, b"", b"prolly: chunk file: " + fault + b"\n"))
+            place.answers(place.run("check", "out"), (4, b"", b"prolly: chunk file: truncated\n"))
             if not whole.startswith(left):
                 place.note("OUT is no first part")
     place.holds(out=None, in_rec=None)
