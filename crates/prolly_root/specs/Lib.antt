@@ -10,7 +10,7 @@ pub mod ChunkSource
 pub mod Walk
 -- Places that are remembered while the root is sought.
 pub mod Marks
--- Going down from the root in a file on a device.
+-- Going down from the root, from each chunk to the one that it refers to.
 pub mod Descent
 -- Trees in a chunk file on a device.
 pub mod Subtree

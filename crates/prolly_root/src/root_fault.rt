@@ -11,7 +11,7 @@ use std::alloc::AllocError;
 pub enum RootFault {
     /// Memory was refused.
     Memory,
-    /// The device failed.
+    /// A read failed.
     Read,
     /// The bytes do not begin as a chunk file does: they are something else.
     Header,
