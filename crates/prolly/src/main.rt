@@ -18,7 +18,7 @@ use crate::commands::answer_of;
 use crate::patient::Patient;
 use crate::streams::ClosedStreams;
 use crate::words::read_words;
-use prolly_fault::RunFault;
+use prolly_link::RunFault;
 use prolly_tool::{Answer, Fault, parse};
 use std::alloc::AllocError;
 use std::io::Write;

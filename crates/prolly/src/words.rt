@@ -1,5 +1,5 @@
 //! The words of the command line.
-use prolly_fault::RunFault;
+use prolly_link::RunFault;
 use prolly_tool::Fault;
 use std::env;
 use std::io::ErrorKind;

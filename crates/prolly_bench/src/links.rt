@@ -2,8 +2,7 @@
 ghost use Rattle.std.specs.Prelude.{◌≤◌};
 
 use anyhow::{Result, bail};
-use prolly_fault::{End, Next, RunFault};
-use prolly_link::{In, Out, batch_link, link};
+use prolly_link::{End, In, Next, Out, RunFault, batch_link, link};
 use std::alloc::Global;
 use std::io::Print;
 use std::sync::Wait;
@@ -20,7 +19,7 @@ pub fn time_link<R: Print + Clock + Threads + Wait + Copy + Send + 'static>(
     alloc: Global,
     count: u32,
 ) -> Result<()> {
-    let Ok((sender, receiver)) = link::<u64, RunFault>(alloc, CAPACITY) else {
+    let Ok((sender, receiver)) = link::<u64>(alloc, CAPACITY) else {
         bail!("out of memory");
     };
     let (nanos, sum) = time_across(rt, sender, receiver, count)?;
@@ -37,7 +36,7 @@ pub fn time_batches<R: Print + Clock + Threads + Wait + Copy + Send + 'static>(
 ) -> Result<()>
     requires { (1 ≤ batch) × (batch ≤ 1024) }
 {
-    let Ok((sender, receiver)) = batch_link::<u64, RunFault>(alloc, CAPACITY, batch) else {
+    let Ok((sender, receiver)) = batch_link::<u64>(alloc, CAPACITY, batch) else {
         bail!("out of memory");
     };
     let (nanos, sum) = time_across(rt, sender, receiver, count)?;
@@ -48,8 +47,8 @@ pub fn time_batches<R: Print + Clock + Threads + Wait + Copy + Send + 'static>(
 /// Sends so many numbers from another thread to this one. Gives the time that one took, in
 /// nanoseconds, and the sum of all.
 fn time_across<
-    O: Out<u64, RunFault> + Send + Drop + 'static,
-    I: In<u64, RunFault> + Drop,
+    O: Out<u64> + Send + Drop + 'static,
+    I: In<u64> + Drop,
     R: Clock + Threads + Wait + Copy + Send + 'static,
 >(rt: R, sender: O, mut receiver: I, count: u32) -> Result<(u128, u64)>
 where
@@ -65,14 +64,14 @@ where
     Ok((nanos, sum))
 }
 
-fn send_all<O: Out<u64, RunFault>, R: Wait>(rt: &R, mut out: O, count: u32) -> O::Closed {
+fn send_all<O: Out<u64>, R: Wait>(rt: &R, mut out: O, count: u32) -> O::Closed {
     for number in 0..count {
         let _ = out.send(rt, u64::from(number));
     }
     out.close(rt, End::Clean)
 }
 
-fn receive_all<I: In<u64, RunFault>, R: Wait>(rt: &R, input: &mut I) -> u64 {
+fn receive_all<I: In<u64>, R: Wait>(rt: &R, input: &mut I) -> u64 {
     let mut sum = 0u64;
     for _ in rt.forever() {
         match input.recv(rt) {

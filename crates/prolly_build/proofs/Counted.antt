@@ -11,10 +11,11 @@ use Rattle.prolly_entry.specs.declared.flaw.Flaw.TheVariants as flaws
 use Rattle.prolly_laws.specs.Readings.{reading_is}
 use Rattle.prolly_file.specs.Source.{SourceView}
 use Rattle.prolly_link.specs.Views.{Batching}
-use Rattle.prolly_fault.specs.Ends.{End, Whole}
+use Rattle.prolly_link.specs.Views.{Whole}
+use Rattle.prolly_link.specs.declared.end.End.{End}
 use Rattle.prolly_link.specs.declared.end.End.TheVariants.{Clean, Fault}
-use Rattle.prolly_fault.specs.declared.fault.RunFault.{RunFault}
-use Rattle.prolly_fault.specs.declared.fault.RunFault.TheVariants as faults
+use Rattle.prolly_link.specs.declared.fault.RunFault.{RunFault}
+use Rattle.prolly_link.specs.declared.fault.RunFault.TheVariants as faults
 use Rattle.prolly_load.specs.Loading.{FailsAs, EndsAs}
 use Rattle.prolly_merge.specs.Inputs.{input_of, fault_of}
 use Rattle.prolly_build.specs.Merging.{sent_input}

@@ -5,9 +5,10 @@ use Rattle.prolly_tree.specs.Merge.{Input}
 use Rattle.prolly_entry.specs.Record.{Record}
 use Rattle.prolly_file.specs.Source.{SourceView}
 use Rattle.prolly_link.specs.Views.{Batching}
-use Rattle.prolly_fault.specs.Ends.{Receiving, Whole, end_given}
+use Rattle.prolly_link.specs.Views.{Receiving, Whole}
+use Rattle.prolly_link.specs.Receipts.{end_given}
 use Rattle.prolly_link.specs.Receipts.{HasEnded}
-use Rattle.prolly_fault.specs.declared.fault.RunFault.{RunFault}
+use Rattle.prolly_link.specs.declared.fault.RunFault.{RunFault}
 use Rattle.prolly_link.specs.declared.progress.Progress.TheVariants.{Ended}
 use Rattle.prolly_merge.specs.Inputs.{input_of}
 use Rattle.prolly_build.specs.Feeding.{IsFed}

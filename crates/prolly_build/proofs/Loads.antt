@@ -8,10 +8,11 @@ use Rattle.prolly_entry.specs.Reading.{Begins, IsReading}
 use Rattle.prolly_entry.specs.Record.{Record}
 use Rattle.prolly_file.specs.Source.{SourceView}
 use Rattle.prolly_link.specs.Views.{Batching}
-use Rattle.prolly_fault.specs.Ends.{End, Whole}
+use Rattle.prolly_link.specs.Views.{Whole}
+use Rattle.prolly_link.specs.declared.end.End.{End}
 use Rattle.prolly_link.specs.declared.end.End.TheVariants.{Clean, Fault}
-use Rattle.prolly_fault.specs.declared.fault.RunFault.{RunFault}
-use Rattle.prolly_fault.specs.declared.fault.RunFault.TheVariants as faults
+use Rattle.prolly_link.specs.declared.fault.RunFault.{RunFault}
+use Rattle.prolly_link.specs.declared.fault.RunFault.TheVariants as faults
 use Rattle.prolly_load.specs.Loading.{FailsAs, EndsAs}
 use Rattle.prolly_merge.specs.Inputs.{fault_of, lists_of}
 use Rattle.prolly_build.specs.Built.{IsRead, AreRead, IsKept, AreKept, IsInputFault}

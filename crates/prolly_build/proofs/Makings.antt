@@ -18,14 +18,14 @@ use Rattle.prolly_tree.specs.Tree.{tree_of, level_count}
 use Rattle.prolly_laws.specs.Stages.{composition, enough_stages, within_is_prefix}
 use Rattle.prolly_laws.specs.Trees.{few_chunks}
 use Rattle.prolly_file.specs.Sink.{SinkView, TakesPrefix}
-use Rattle.prolly_fault.specs.Ends.{End}
+use Rattle.prolly_link.specs.declared.end.End.{End}
 use Rattle.prolly_link.specs.declared.end.End.TheVariants.{Clean, Fault}
-use Rattle.prolly_fault.specs.declared.fault.RunFault.{RunFault}
-use Rattle.prolly_fault.specs.declared.fault.RunFault.TheVariants.{Memory, Read, Truncated}
-use Rattle.prolly_fault.specs.declared.fault.RunFault.TheVariants.{KeyTooLong, ValueTooLong}
-use Rattle.prolly_fault.specs.declared.fault.RunFault.TheVariants.{OutOfOrder, TooManyRecords}
-use Rattle.prolly_fault.specs.declared.fault.RunFault.TheVariants.{Write, TooTall, NoThread, Lost}
-use Rattle.prolly_fault.specs.declared.fault.RunFault.TheVariants.{TooManyFiles}
+use Rattle.prolly_link.specs.declared.fault.RunFault.{RunFault}
+use Rattle.prolly_link.specs.declared.fault.RunFault.TheVariants.{Memory, Read, Truncated}
+use Rattle.prolly_link.specs.declared.fault.RunFault.TheVariants.{KeyTooLong, ValueTooLong}
+use Rattle.prolly_link.specs.declared.fault.RunFault.TheVariants.{OutOfOrder, TooManyRecords}
+use Rattle.prolly_link.specs.declared.fault.RunFault.TheVariants.{Write, TooTall, NoThread, Lost}
+use Rattle.prolly_link.specs.declared.fault.RunFault.TheVariants.{TooManyFiles}
 use Rattle.prolly_build.specs.declared.report.Report.{Report}
 use Rattle.prolly_build.specs.declared.run.written.Begun.{Begun}
 use Rattle.prolly_build.specs.declared.run.written.Top.{Top}

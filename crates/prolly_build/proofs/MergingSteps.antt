@@ -5,11 +5,13 @@ use Rattle.prolly_tree.specs.Merge.{Input, merged_part}
 use Rattle.prolly_entry.specs.Overlay.{AllRising}
 use Rattle.prolly_entry.specs.Pair.{Pair}
 use Rattle.prolly_entry.specs.Record.{Record}
-use Rattle.prolly_fault.specs.Ends.{End, Receiving, end_given}
+use Rattle.prolly_link.specs.Views.{Receiving}
+use Rattle.prolly_link.specs.Receipts.{end_given}
+use Rattle.prolly_link.specs.declared.end.End.{End}
 use Rattle.prolly_link.specs.Receipts.{HasEnded}
 use Rattle.prolly_link.specs.Growth.{items_between}
 use Rattle.prolly_merge.specs.Each.{Each}
-use Rattle.prolly_fault.specs.declared.fault.RunFault.{RunFault}
+use Rattle.prolly_link.specs.declared.fault.RunFault.{RunFault}
 use Rattle.prolly_merge.specs.Inputs.{input_of, inputs_of, lists_of, stop_end, Ends}
 use Rattle.prolly_merge.specs.Sent.{Sends}
 use Rattle.prolly_build.specs.Ran.{IsUnread}

@@ -8,12 +8,14 @@ use Rattle.prolly_tree.specs.Chunk.{Chunk}
 use Rattle.prolly_tree.specs.File.{header}
 use Rattle.prolly_tree.specs.Pipeline.{before_second}
 use Rattle.prolly_file.specs.Sink.{SinkView, TakesPrefix}
-use Rattle.prolly_fault.specs.Ends.{End, Receiving, end_given}
+use Rattle.prolly_link.specs.Views.{Receiving}
+use Rattle.prolly_link.specs.Receipts.{end_given}
+use Rattle.prolly_link.specs.declared.end.End.{End}
 use Rattle.prolly_link.specs.Receipts.{HasEnded}
 use Rattle.prolly_link.specs.Growth.{items_between}
 use Rattle.prolly_link.specs.declared.end.End.TheVariants.{Clean, Fault}
-use Rattle.prolly_fault.specs.declared.fault.RunFault.{RunFault}
-use Rattle.prolly_fault.specs.declared.fault.RunFault.TheVariants.{Write}
+use Rattle.prolly_link.specs.declared.fault.RunFault.{RunFault}
+use Rattle.prolly_link.specs.declared.fault.RunFault.TheVariants.{Write}
 use Rattle.prolly_build.specs.Settings.{Settings}
 use Rattle.prolly_build.specs.Built.{IsBegun}
 use Rattle.prolly_build.specs.Writing.{HasWritten, IsEndFault, frames_of}

@@ -24,10 +24,11 @@ use Rattle.prolly_laws.specs.Readings.{begins_all, first_are_good, one_reading, 
 use Rattle.prolly_file.specs.Source.{SourceView}
 use Rattle.prolly_file.specs.Sink.{SinkView, TakesPrefix}
 use Rattle.prolly_link.specs.Views.{Batching}
-use Rattle.prolly_fault.specs.Ends.{End, Whole}
+use Rattle.prolly_link.specs.Views.{Whole}
+use Rattle.prolly_link.specs.declared.end.End.{End}
 use Rattle.prolly_link.specs.declared.end.End.TheVariants.{Fault}
-use Rattle.prolly_fault.specs.declared.fault.RunFault.{RunFault}
-use Rattle.prolly_fault.specs.declared.fault.RunFault.TheVariants.{Memory}
+use Rattle.prolly_link.specs.declared.fault.RunFault.{RunFault}
+use Rattle.prolly_link.specs.declared.fault.RunFault.TheVariants.{Memory}
 use Rattle.prolly_merge.specs.Inputs.{fault_of, input_of, stop_end}
 use Rattle.prolly_merge.specs.Sent.{Sends}
 use Rattle.prolly_entry.specs.lemmas.Lists.{prefix_trans}

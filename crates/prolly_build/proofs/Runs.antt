@@ -12,11 +12,11 @@ use Rattle.prolly_entry.specs.Record.{Record}
 use Rattle.prolly_laws.specs.Merging.{overlay_is_small}
 use Rattle.prolly_file.specs.Source.{SourceView}
 use Rattle.prolly_file.specs.Sink.{SinkView}
-use Rattle.prolly_fault.specs.Ends.{End}
+use Rattle.prolly_link.specs.declared.end.End.{End}
 use Rattle.prolly_link.specs.declared.end.End.TheVariants.{Clean, Fault}
-use Rattle.prolly_fault.specs.declared.fault.RunFault.{RunFault}
-use Rattle.prolly_fault.specs.declared.fault.RunFault.TheVariants.{Memory, NoThread, Lost}
-use Rattle.prolly_fault.specs.declared.fault.RunFault.TheVariants.{TooManyFiles}
+use Rattle.prolly_link.specs.declared.fault.RunFault.{RunFault}
+use Rattle.prolly_link.specs.declared.fault.RunFault.TheVariants.{Memory, NoThread, Lost}
+use Rattle.prolly_link.specs.declared.fault.RunFault.TheVariants.{TooManyFiles}
 use Rattle.prolly_build.specs.declared.end.halt.Halt.{Halt}
 use Rattle.prolly_build.specs.declared.end.halt.Halt.TheVariants.{NoThread as NoThread_halt}
 use Rattle.prolly_build.specs.declared.end.halt.Halt.TheVariants.{Lost as Lost_halt}

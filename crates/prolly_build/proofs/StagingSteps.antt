@@ -8,7 +8,9 @@ use Rattle.prolly_entry.specs.Pair.{Pair}
 use Rattle.prolly_tree.specs.Pipeline.{pipeline_events}
 use Rattle.prolly_file.specs.Source.{SourceView}
 use Rattle.prolly_link.specs.Views.{Batching}
-use Rattle.prolly_fault.specs.Ends.{End, Receiving, Whole, end_given}
+use Rattle.prolly_link.specs.Views.{Receiving, Whole}
+use Rattle.prolly_link.specs.Receipts.{end_given}
+use Rattle.prolly_link.specs.declared.end.End.{End}
 use Rattle.prolly_link.specs.declared.progress.Progress.TheVariants.{Ended}
 use Rattle.prolly_stage.specs.Sends.{Sends}
 use Rattle.prolly_stage.specs.lemmas.Joins.{stage_follows}

@@ -16,10 +16,10 @@ use Rattle.prolly_entry.specs.Record.{Record}
 use Rattle.prolly_laws.specs.Merging.{cut_behind_stop, merge_joined, merged_part_rises}
 use Rattle.prolly_laws.specs.Merging.{merged_part_is_small}
 use Rattle.prolly_file.specs.Source.{SourceView}
-use Rattle.prolly_fault.specs.Ends.{End}
+use Rattle.prolly_link.specs.declared.end.End.{End}
 use Rattle.prolly_link.specs.declared.end.End.TheVariants.{Clean, Fault}
-use Rattle.prolly_fault.specs.declared.fault.RunFault.{RunFault}
-use Rattle.prolly_fault.specs.declared.fault.RunFault.TheVariants.{Memory}
+use Rattle.prolly_link.specs.declared.fault.RunFault.{RunFault}
+use Rattle.prolly_link.specs.declared.fault.RunFault.TheVariants.{Memory}
 use Rattle.prolly_merge.specs.Inputs.{fault_of, end_of, input_of, lists_of, stop_end}
 use Rattle.prolly_merge.specs.Sent.{Sends}
 use Rattle.prolly_stage.specs.Sends.{closing_of, Sends as StageSends}

@@ -10,11 +10,11 @@ use Rattle.prolly_entry.specs.Pair.{Pair}
 use Rattle.prolly_tree.specs.Pipeline.{pipeline_events, before_second, within_stages}
 use Rattle.prolly_laws.specs.Stages.{composition}
 use Rattle.prolly_file.specs.Sink.{SinkView, TakesPrefix}
-use Rattle.prolly_fault.specs.Ends.{End}
+use Rattle.prolly_link.specs.declared.end.End.{End}
 use Rattle.prolly_link.specs.declared.end.End.TheVariants.{Clean, Fault}
-use Rattle.prolly_fault.specs.declared.fault.RunFault.{RunFault}
-use Rattle.prolly_fault.specs.declared.fault.RunFault.TheVariants.{Memory, Write}
-use Rattle.prolly_fault.specs.declared.fault.RunFault.TheVariants.{TooTall as TooTall_fault, Lost}
+use Rattle.prolly_link.specs.declared.fault.RunFault.{RunFault}
+use Rattle.prolly_link.specs.declared.fault.RunFault.TheVariants.{Memory, Write}
+use Rattle.prolly_link.specs.declared.fault.RunFault.TheVariants.{TooTall as TooTall_fault, Lost}
 use Rattle.prolly_build.specs.declared.run.written.Written.{Written}
 use Rattle.prolly_build.specs.declared.run.written.Written.TheVariants.{Whole, TooTall, Failed}
 use Rattle.prolly_build.specs.Settings.{Settings}

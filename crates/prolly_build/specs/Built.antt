@@ -14,10 +14,10 @@ use Rattle.prolly_entry.specs.Record.{Record}
 use Rattle.prolly_tree.specs.Tree.{level_count}
 use Rattle.prolly_file.specs.Source.{SourceView}
 use Rattle.prolly_file.specs.Sink.{IsSettled, SinkView, TakesPrefix}
-use Rattle.prolly_fault.specs.Ends.{End}
+use Rattle.prolly_link.specs.declared.end.End.{End}
 use Rattle.prolly_link.specs.declared.end.End.TheVariants.{Clean, Fault}
-use Rattle.prolly_fault.specs.declared.fault.RunFault.{RunFault}
-use Rattle.prolly_fault.specs.declared.fault.RunFault.TheVariants as faults
+use Rattle.prolly_link.specs.declared.fault.RunFault.{RunFault}
+use Rattle.prolly_link.specs.declared.fault.RunFault.TheVariants as faults
 use Rattle.prolly_build.specs.declared.report.Report.{Report}
 use Rattle.prolly_build.specs.Settings.{Settings}
 use Rattle.prolly_build.specs.Writing.{AreSmall, frames_of}

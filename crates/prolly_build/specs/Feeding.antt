@@ -4,8 +4,9 @@ use Rattle.prolly_tree.specs.Merge.{Input}
 use Rattle.prolly_entry.specs.Record.{Record}
 use Rattle.prolly_file.specs.Source.{SourceView}
 use Rattle.prolly_link.specs.Views.{Batching}
-use Rattle.prolly_fault.specs.Ends.{End, Whole}
-use Rattle.prolly_fault.specs.declared.fault.RunFault.{RunFault}
+use Rattle.prolly_link.specs.Views.{Whole}
+use Rattle.prolly_link.specs.declared.end.End.{End}
+use Rattle.prolly_link.specs.declared.fault.RunFault.{RunFault}
 use Rattle.prolly_merge.specs.Inputs.{input_of}
 use Rattle.prolly_build.specs.Forks.{IsForked}
 use Rattle.prolly_build.specs.Merging.{MergesTwo, sent_input}

@@ -5,9 +5,11 @@ use Rattle.prolly_entry.specs.Overlay.{AllRising}
 use Rattle.prolly_entry.specs.Pair.{Pair}
 use Rattle.prolly_entry.specs.Record.{Record}
 use Rattle.prolly_link.specs.Views.{Batching}
-use Rattle.prolly_fault.specs.Ends.{End, Receiving, Whole, end_given}
+use Rattle.prolly_link.specs.Views.{Receiving, Whole}
+use Rattle.prolly_link.specs.Receipts.{end_given}
+use Rattle.prolly_link.specs.declared.end.End.{End}
 use Rattle.prolly_link.specs.Receipts.{HasEnded}
-use Rattle.prolly_fault.specs.declared.fault.RunFault.{RunFault}
+use Rattle.prolly_link.specs.declared.fault.RunFault.{RunFault}
 use Rattle.prolly_merge.specs.Inputs.{input_of, lists_of, stop_end}
 use Rattle.prolly_merge.specs.Sent.{Sends, Counts}
 

@@ -2,8 +2,8 @@
 use Rattle.std.specs.Prelude.{◌≡◌, ◌≢◌, List, Result, IfOk, IfErr, OnOk}
 use Rattle.prolly_file.specs.Sink.{SinkView}
 use Rattle.prolly_file.specs.Source.{SourceView}
-use Rattle.prolly_fault.specs.declared.fault.RunFault.{RunFault}
-use Rattle.prolly_fault.specs.declared.fault.RunFault.TheVariants.{Memory, Write, NoThread, Lost}
+use Rattle.prolly_link.specs.declared.fault.RunFault.{RunFault}
+use Rattle.prolly_link.specs.declared.fault.RunFault.TheVariants.{Memory, Write, NoThread, Lost}
 use Rattle.prolly_build.specs.Built.{IsBegun, IsBuilt, IsUnmade, IsStartFault, IsWriterFault}
 use Rattle.prolly_build.specs.Built.{AreKept}
 use Rattle.prolly_build.specs.Refused.{IsRefused}

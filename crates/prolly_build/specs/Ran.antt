@@ -6,12 +6,13 @@ use Rattle.prolly_tree.specs.File.{header}
 use Rattle.prolly_file.specs.Source.{SourceView}
 use Rattle.prolly_file.specs.Sink.{SinkView}
 use Rattle.prolly_link.specs.Views.{Batching}
-use Rattle.prolly_fault.specs.Ends.{Receiving, Whole, end_given}
+use Rattle.prolly_link.specs.Views.{Receiving, Whole}
+use Rattle.prolly_link.specs.Receipts.{end_given}
 use Rattle.prolly_link.specs.Receipts.{HasEnded}
 use Rattle.prolly_link.specs.declared.progress.Progress.TheVariants.{Open}
-use Rattle.prolly_fault.specs.declared.fault.RunFault.{RunFault}
-use Rattle.prolly_fault.specs.declared.fault.RunFault.TheVariants.{NoThread as NoThread_fault}
-use Rattle.prolly_fault.specs.declared.fault.RunFault.TheVariants.{Lost as Lost_fault}
+use Rattle.prolly_link.specs.declared.fault.RunFault.{RunFault}
+use Rattle.prolly_link.specs.declared.fault.RunFault.TheVariants.{NoThread as NoThread_fault}
+use Rattle.prolly_link.specs.declared.fault.RunFault.TheVariants.{Lost as Lost_fault}
 use Rattle.prolly_build.specs.declared.end.halt.Halt.{Halt}
 use Rattle.prolly_build.specs.declared.end.halt.Halt.TheVariants.{NoThread, Lost}
 use Rattle.prolly_build.specs.Settings.{Settings}

@@ -5,7 +5,7 @@ use Rattle.prolly_entry.specs.Cut.{sha512_cut}
 use Rattle.prolly_entry.specs.Pair.{Pair}
 use Rattle.prolly_tree.specs.Pipeline.{pipeline_events}
 use Rattle.prolly_file.specs.Source.{SourceView}
-use Rattle.prolly_fault.specs.Ends.{End}
+use Rattle.prolly_link.specs.declared.end.End.{End}
 use Rattle.prolly_stage.specs.Sends.{Sends}
 use Rattle.prolly_build.specs.Gathering.{IsGathered}
 use Rattle.prolly_build.specs.Settings.{Settings}

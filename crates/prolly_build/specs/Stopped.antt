@@ -12,8 +12,8 @@ use Rattle.prolly_entry.specs.Reading.{IsReading}
 use Rattle.prolly_entry.specs.declared.flaw.Flaw.{Flaw}
 use Rattle.prolly_file.specs.Source.{SourceView}
 use Rattle.prolly_file.specs.Sink.{SinkView, TakesPrefix}
-use Rattle.prolly_fault.specs.declared.fault.RunFault.{RunFault}
-use Rattle.prolly_fault.specs.declared.fault.RunFault.TheVariants as faults
+use Rattle.prolly_link.specs.declared.fault.RunFault.{RunFault}
+use Rattle.prolly_link.specs.declared.fault.RunFault.TheVariants as faults
 use Rattle.prolly_load.specs.Fault.{fault_of as fault_of_flaw}
 use Rattle.prolly_load.specs.Loading.{IsReadTo}
 use Rattle.prolly_build.specs.Settings.{Settings}

@@ -4,10 +4,11 @@ use Rattle.prolly_tree.specs.Chunk.{Chunk}
 use Rattle.prolly_tree.specs.Events.{Closing}
 use Rattle.prolly_file.specs.Source.{SourceView}
 use Rattle.prolly_link.specs.Views.{Batching}
-use Rattle.prolly_fault.specs.Ends.{Receiving, Whole, end_given}
+use Rattle.prolly_link.specs.Views.{Receiving, Whole}
+use Rattle.prolly_link.specs.Receipts.{end_given}
 use Rattle.prolly_link.specs.Receipts.{HasEnded}
 use Rattle.prolly_link.specs.declared.end.End.TheVariants.{Fault}
-use Rattle.prolly_fault.specs.declared.fault.RunFault.TheVariants.{Read}
+use Rattle.prolly_link.specs.declared.fault.RunFault.TheVariants.{Read}
 use Rattle.prolly_entry.specs.Record.{Record}
 use Rattle.prolly_load.specs.Loading.{IsLoaded}
 use Rattle.prolly_stage.specs.Sends.{Sends}

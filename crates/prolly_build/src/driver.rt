@@ -1,6 +1,6 @@
 //! The pipelined build.
 ghost use Rattle.std.specs.Prelude.{◌≡◌, ◌≢◌, ◌+◌, ◌<◌, ◌≤◌, ◌↔◌, Err, vec_len, IfOk, IfErr};
-ghost use Rattle.prolly_fault.specs.declared.fault.RunFault.TheVariants.{TooManyFiles};
+ghost use Rattle.prolly_link.specs.declared.fault.RunFault.TheVariants.{TooManyFiles};
 ghost use Rattle.prolly_build.specs.Settings.{AreLawful};
 ghost use Rattle.prolly_build.specs.Ran.{HandsOn};
 ghost use Rattle.prolly_build.specs.Staging.{HasStaged};
@@ -13,8 +13,8 @@ use crate::report::Report;
 use crate::run::{Ran, run_from_top};
 use crate::start::{AllStart, Permit, Site};
 use prolly_chunk::ChunkEvent;
-use prolly_fault::RunFault;
 use prolly_file::{Sink, Source};
+use prolly_link::RunFault;
 use prolly_stage::Gate;
 use std::alloc::Global;
 use std::sync::Wait;

@@ -1,7 +1,7 @@
 //! What came out, compared with what is expected. A comparison that can show both its sides makes a
 //! large proof, so that it stands here once.
 use prolly_build::Report;
-use prolly_fault::RunFault;
+use prolly_link::RunFault;
 use std::fmt::Debug;
 use std::process::Abort;
 

@@ -10,8 +10,8 @@ use Rattle.prolly_link.specs.declared.progress.Progress.TheVariants.{Open, Ended
 use Rattle.prolly_link.proofs.MessageLemmas.{is_open-item, is_open-last, is_closed-item}
 use Rattle.prolly_link.proofs.MessageLemmas.{is_closed-last, end_in-last}
 
-module _ {T F : Type 0} where
-  pub agrees_item : (p : Progress F) (ms all : List (Message T F)) (x : T) → p ≡ Open →
+module _ {T : Type 0} where
+  pub agrees_item : (p : Progress) (ms all : List (Message T)) (x : T) → p ≡ Open →
       is_open ms ≡ is_before_end p → all ≡ ms ++ Item x ∷ [] → Agrees p all
   agrees_item Open ms all x is o e = record {
     open_is = ap is_open e ∙ is_open-item ms x ∙ o;
@@ -21,7 +21,7 @@ module _ {T F : Type 0} where
   agrees_item (Ended d) ms all x is o e = cc
   agrees_item Lost ms all x is o e = cc
 
-  pub agrees_last : (p : Progress F) (ms all : List (Message T F)) (d : End F) → p ≡ Open →
+  pub agrees_last : (p : Progress) (ms all : List (Message T)) (d : End) → p ≡ Open →
       is_open ms ≡ is_before_end p → all ≡ ms ++ Last d ∷ [] → Agrees (Ended d) all
   agrees_last Open ms all d is o e = record {
     open_is = ap is_open e ∙ is_open-last ms d;

@@ -12,20 +12,20 @@ use Rattle.prolly_link.specs.declared.next.Next.TheVariants.{Lost as next_lost}
 use Rattle.prolly_link.specs.declared.progress.Progress.{Progress}
 use Rattle.prolly_link.specs.declared.progress.Progress.TheVariants.{Open, Ended, Lost}
 
-module _ {T F : Type 0} where
-  gives_nothing_again : (p : Progress F) (n : Next T F) → GivesAgain p n → HasEnded p →
+module _ {T : Type 0} where
+  gives_nothing_again : (p : Progress) (n : Next T) → GivesAgain p n → HasEnded p →
       given_items n ≡ []
   gives_nothing_again Open n h ended = absurd ended
   gives_nothing_again (Ended e) n h ended = ap given_items h
   gives_nothing_again Lost n h ended = ap given_items h
 
-  progress_again : (p : Progress F) (n : Next T F) → GivesAgain p n → HasEnded p →
+  progress_again : (p : Progress) (n : Next T) → GivesAgain p n → HasEnded p →
       progress_after n ≡ p
   progress_again Open n h ended = absurd ended
   progress_again (Ended e) n h ended = ap progress_after h
   progress_again Lost n h ended = ap progress_after h
 
-  pub later_by_one : (a b : Receiving T F) (n : Next T F) → b.items ≡ a.items ++ given_items n →
+  pub later_by_one : (a b : Receiving T) (n : Next T) → b.items ≡ a.items ++ given_items n →
       b.progress ≡ progress_after n → GivesAgain a.progress n → IsLater a b
   later_by_one a b n items progress again = record {
     grew = items ∙ ap (λ xs. a.items ++ xs) (sym (rest_is a.items (given_items n) b.items items));
@@ -35,7 +35,7 @@ module _ {T F : Type 0} where
   }
 
   -- a receiver that gives an item had not ended, and is drained as far as before
-  pub drains_item : (p before after : Progress F) (xs ys zs : List T) (x : T) →
+  pub drains_item : (p before after : Progress) (xs ys zs : List T) (x : T) →
       Drains p xs before ys → GivesAgain before (next_item x) → after ≡ Open → zs ≡ ys ++ x ∷ [] →
       Drains p xs after zs
   drains_item Open before after xs ys zs x d again o is =

@@ -58,8 +58,8 @@ module _ {T : Type 0} where
         ap (λ r. r ++ items_of p.0) (sym e) ∙ sym (items_of-append came p.0) ∙ ap items_of p.1,
   )
 
-module _ {T F : Type 0} where
-  open_in_hand : (p : Progress F) (left rest : List T) (x : T) → empty_after p left ≡ true →
+module _ {T : Type 0} where
+  open_in_hand : (p : Progress) (left rest : List T) (x : T) → empty_after p left ≡ true →
       left ≡ x ∷ rest → p ≡ Open
   open_in_hand Open left rest x h e = refl
   open_in_hand (Ended d) [] rest x h e = cc
@@ -67,12 +67,12 @@ module _ {T F : Type 0} where
   open_in_hand Lost [] rest x h e = cc
   open_in_hand Lost (y ∷ left) rest x h e = cc
 
-  empty_rest : (p : Progress F) (rest : List T) → p ≡ Open → empty_after p rest ≡ true
+  empty_rest : (p : Progress) (rest : List T) → p ≡ Open → empty_after p rest ≡ true
   empty_rest Open rest o = refl
   empty_rest (Ended d) rest o = cc
   empty_rest Lost rest o = cc
 
-  took_one : (r : Receiving (List T) F) (left rest : List T) (x : T) (n m : ℕ) → IsInHand r left n →
+  took_one : (r : Receiving (List T)) (left rest : List T) (x : T) (n m : ℕ) → IsInHand r left n →
       left ≡ x ∷ rest → m + 1 ≡ n → IsInHand r rest m
   took_one r left rest x n m h is k = record {
     counted_is = let d : n ≡ length rest + 1 = h.counted_is ∙ ap length is ∙
@@ -81,7 +81,7 @@ module _ {T F : Type 0} where
     ends_is = still_ends (items_of r.items) left rest x h.ends_is is;
   }
 
-  took_none : (r : Receiving (List T) F) (left rest : List T) (n m : ℕ) → IsInHand r left n →
+  took_none : (r : Receiving (List T)) (left rest : List T) (n m : ℕ) → IsInHand r left n →
       left ≡ rest → n ≡ 0 → m ≡ 0 → IsInHand r rest m
   took_none r left rest n m h is k j = record {
     counted_is = j ∙ sym k ∙ h.counted_is ∙ ap length is;
@@ -90,13 +90,13 @@ module _ {T F : Type 0} where
   }
 
   -- what is left in hand once `next` of it answered o
-  pub hand_after : (r : Receiving (List T) F) (left rest : List T) (n m : ℕ) (o : Option T) →
+  pub hand_after : (r : Receiving (List T)) (left rest : List T) (n m : ℕ) (o : Option T) →
       IsInHand r left n → left ≡ option_to_list o ++ rest
       → MatchOption o ((n ≡ 0) × (m ≡ 0)) (λ x. m + 1 ≡ n) → IsInHand r rest m
   hand_after r left rest n m (Some x) h is k = took_one r left rest x n m h is k
   hand_after r left rest n m None h is k = took_none r left rest n m h is k.0 k.1
 
-  pub batch_in_hand : (old new : Receiving (List T) F) (b : List T) (x : T) (rest : List T) (n : ℕ)
+  pub batch_in_hand : (old new : Receiving (List T)) (b : List T) (x : T) (rest : List T) (n : ℕ)
       → new.items ≡ old.items ++ b ∷ [] → new.progress ≡ Open → b ≡ x ∷ rest → n ≡ length rest →
       IsInHand new rest n
   batch_in_hand old new b x rest n is o l c =
@@ -108,7 +108,7 @@ module _ {T F : Type 0} where
             (front_is (items_of old.items ++ x ∷ []) rest (items_of new.items) came));
       }
 
-  pub first_given : (old new : Receiving (List T) F) (b : List T) (x : T) (left rest : List T)
+  pub first_given : (old new : Receiving (List T)) (b : List T) (x : T) (left rest : List T)
       (n : ℕ)
       → IsInHand old left n → n ≡ 0 → new.items ≡ old.items ++ b ∷ [] → b ≡ x ∷ rest →
       (given_of new rest).items ≡ (given_of old left).items ++ x ∷ []
@@ -119,12 +119,12 @@ module _ {T F : Type 0} where
       (no_items left n h.counted_is none)))
 
   -- the items given begin those sent in full batches
-  pub given_begins_whole : (r : Receiving (List T) F) (sent : List (List T)) (left : List T) (n : ℕ)
+  pub given_begins_whole : (r : Receiving (List T)) (sent : List (List T)) (left : List T) (n : ℕ)
       → IsInHand r left n → IsPrefix r.items sent → IsPrefix (given_of r left).items (items_of sent)
   given_begins_whole r sent left n h p = given_begins_items r.items sent left h.ends_is p
 
   -- the items given begin those sent, in full batches and in an open one
-  pub given_begins : (r : Receiving (List T) F) (sent : List (List T)) (left pending : List T)
+  pub given_begins : (r : Receiving (List T)) (sent : List (List T)) (left pending : List T)
       (n : ℕ)
       → IsInHand r left n → IsPrefix r.items sent →
       IsPrefix (given_of r left).items (items_of sent ++ pending)
@@ -135,7 +135,7 @@ module _ {T F : Type 0} where
             pending) ∙ ap (λ xs. xs ++ pending) begins.1,
       )
 
-  left_none_ended : (p : Progress F) (left : List T) → empty_after p left ≡ true → p ≢ Open →
+  left_none_ended : (p : Progress) (left : List T) → empty_after p left ≡ true → p ≢ Open →
       left ≡ []
   left_none_ended Open left h o = absurd (o refl)
   left_none_ended (Ended e) [] h o = refl
@@ -145,9 +145,9 @@ module _ {T F : Type 0} where
 
   -- a receiver of batches that has an end gave all that was sent, where the batches that came are
   -- those that were sent
-  pub given_whole : (r : Receiving (List T) F) (sent : List (List T)) (left : List T) (last : End F)
+  pub given_whole : (r : Receiving (List T)) (sent : List (List T)) (left : List T) (last : End)
       (n : ℕ) → IsInHand r left n
-      → ((e : End F) → r.progress ≡ Ended e → (e ≡ last) × (r.items ≡ sent)) → (e : End F) →
+      → ((e : End) → r.progress ≡ Ended e → (e ≡ last) × (r.items ≡ sent)) → (e : End) →
       r.progress ≡ Ended e → (e ≡ last) × ((given_of r left).items ≡ items_of sent)
   given_whole r sent left last n h whole e ended =
       let none = left_none_ended r.progress left h.empty_is (λ unended. cc (unended, ended)) in (
@@ -156,7 +156,7 @@ module _ {T F : Type 0} where
             ap items_of (whole e ended).1,
       )
 
-  drained_items : (p after : Progress F) (came got : List (List T)) (left : List T) →
+  drained_items : (p after : Progress) (came got : List (List T)) (left : List T) →
       empty_after p left ≡ true → items_of came ≡ before_rest (items_of came) left ++ left
       → Drains p came after got → Drains p (before_rest (items_of came) left) after (items_of got)
   drained_items Open after came got left h e d = given_begins_items came got left e d
@@ -172,7 +172,7 @@ module _ {T F : Type 0} where
   )
 
   -- draining the batches drains their items
-  pub drained_batches : (r : Receiving (List T) F) (after : Progress F) (got : List (List T))
+  pub drained_batches : (r : Receiving (List T)) (after : Progress) (got : List (List T))
       (left : List T) (n : ℕ)
       → IsInHand r left n → Drains r.progress r.items after got →
       Drains r.progress (given_of r left).items after (items_of got)

@@ -12,29 +12,29 @@ use Rattle.prolly_link.specs.declared.message.Message.TheVariants.{Item, Last}
 use Rattle.prolly_link.specs.declared.progress.Progress.{Progress}
 use Rattle.prolly_link.specs.declared.progress.Progress.TheVariants.{Open, Ended, Lost}
 
-module _ {T F : Type 0} where
-  open_front : (ms ns : List (Message T F)) → is_open (ms ++ ns) ≡ true → is_open ms ≡ true
+module _ {T : Type 0} where
+  open_front : (ms ns : List (Message T)) → is_open (ms ++ ns) ≡ true → is_open ms ≡ true
   open_front [] ns o = refl
   open_front (Item x ∷ ms) ns o = open_front ms ns o
   open_front (Last e ∷ ms) ns o = cc
 
   -- the items that came are a prefix of those that were sent
-  pub items_begin : (ms ns all : List (Message T F)) → ms ++ ns ≡ all →
+  pub items_begin : (ms ns all : List (Message T)) → ms ++ ns ≡ all →
       IsPrefix (items_in ms) (items_in all)
   items_begin ms ns all e = (items_in ns, sym (items_in-append ms ns) ∙ ap items_in e)
 
   -- where no end was sent, none was received
-  pub not_ended : (p : Progress F) (ms ns all : List (Message T F)) → Agrees p ms →
-      is_open all ≡ true → ms ++ ns ≡ all → (e : End F) → p ≢ Ended e
+  pub not_ended : (p : Progress) (ms ns all : List (Message T)) → Agrees p ms →
+      is_open all ≡ true → ms ++ ns ≡ all → (e : End) → p ≢ Ended e
   not_ended p ms ns all a o is e ended =
       let begins : is_open ms ≡ true = open_front ms ns (ap is_open is ∙ o) in
       let stops : is_before_end p ≡ is_before_end (Ended e) = ap is_before_end ended in
       cc (begins, stops, a.open_is)
 
   -- an end that was received is the one that was sent, after all items
-  pub ended_whole : (p : Progress F) (ms ns all : List (Message T F)) → Agrees p ms →
+  pub ended_whole : (p : Progress) (ms ns all : List (Message T)) → Agrees p ms →
       is_closed all ≡ true → ms ++ ns ≡ all →
-      (e : End F) → p ≡ Ended e → (e ≡ end_in all) × (items_in ms ≡ items_in all)
+      (e : End) → p ≡ Ended e → (e ≡ end_in all) × (items_in ms ≡ items_in all)
   ended_whole p ms ns all a c is e ended =
       let whole = closed_is_whole ms ns all (a.closed_is ∙ ap is_ended ended) c is in
       let own : Ended (end_in ms) ≡ Ended e = sym (ap (λ q. with_end q (end_in ms)) ended) ∙
@@ -42,20 +42,20 @@ module _ {T F : Type 0} where
       let first : end_in ms ≡ e = cc own in
       (sym first ∙ ap end_in whole, ap items_in whole)
 
-  open_messages-append : (xs ys : List T) → open_messages {F = F} (xs ++ ys) ≡ open_messages xs ++
+  open_messages-append : (xs ys : List T) → open_messages (xs ++ ys) ≡ open_messages xs ++
       open_messages ys
   open_messages-append [] ys = refl
   open_messages-append (x ∷ xs) ys = ap (λ ms. Item x ∷ ms) (open_messages-append xs ys)
 
   begins_open : (xs sent : List T) → IsPrefix xs sent →
-      IsPrefix (open_messages {F = F} xs) (open_messages sent)
+      IsPrefix (open_messages xs) (open_messages sent)
   begins_open xs sent b = (
     open_messages b.0,
     sym (open_messages-append xs b.0) ∙
         ap open_messages b.1,
   )
 
-  begins_closed : (xs sent : List T) (e : End F) → IsPrefix xs sent →
+  begins_closed : (xs sent : List T) (e : End) → IsPrefix xs sent →
       IsPrefix (open_messages xs) (closed_messages sent e)
   begins_closed xs sent e b =
       let front = begins_open xs sent b in (
@@ -64,14 +64,14 @@ module _ {T F : Type 0} where
             ap (λ ms. ms ++ Last e ∷ []) front.1,
       )
 
-  pub received_of_open : (p : Progress F) (xs sent : List T) → IsPrefix xs sent →
-      ((e : End F) → p ≢ Ended e) → IsPrefix (given_messages xs p) (open_messages sent)
+  pub received_of_open : (p : Progress) (xs sent : List T) → IsPrefix xs sent →
+      ((e : End) → p ≢ Ended e) → IsPrefix (given_messages xs p) (open_messages sent)
   received_of_open Open xs sent b n = begins_open xs sent b
   received_of_open (Ended e) xs sent b n = absurd (n e refl)
   received_of_open Lost xs sent b n = begins_open xs sent b
 
-  pub received_of_closed : (p : Progress F) (xs sent : List T) (last : End F) → IsPrefix xs sent →
-      ((e : End F) → p ≡ Ended e → (e ≡ last) × (xs ≡ sent)) →
+  pub received_of_closed : (p : Progress) (xs sent : List T) (last : End) → IsPrefix xs sent →
+      ((e : End) → p ≡ Ended e → (e ≡ last) × (xs ≡ sent)) →
       IsPrefix (given_messages xs p) (closed_messages sent last)
   received_of_closed Open xs sent last b w = begins_closed xs sent last b
   received_of_closed (Ended e) xs sent last b w =

@@ -6,27 +6,26 @@ use Rattle.prolly_link.specs.declared.message.Message.{Message}
 use Rattle.prolly_link.specs.declared.progress.Progress.{Progress}
 use Rattle.prolly_link.specs.declared.progress.Progress.TheVariants.{Open, Ended, Lost}
 
-module _ {F : Type 0} where
-  -- a receiver that has come this far has popped no end
-  abbrev pub is_before_end : Progress F → Bool
-  is_before_end Open = true
-  is_before_end (Ended e) = false
-  is_before_end Lost = true
+-- a receiver that has come this far has popped no end
+abbrev pub is_before_end : Progress → Bool
+is_before_end Open = true
+is_before_end (Ended e) = false
+is_before_end Lost = true
 
-  -- it has popped an end
-  abbrev pub is_ended : Progress F → Bool
-  is_ended Open = false
-  is_ended (Ended e) = true
-  is_ended Lost = false
+-- it has popped an end
+abbrev pub is_ended : Progress → Bool
+is_ended Open = false
+is_ended (Ended e) = true
+is_ended Lost = false
 
-  -- the progress, with this end in the place of its end
-  abbrev pub with_end : Progress F → End F → Progress F
-  with_end Open e = Open
-  with_end (Ended d) e = Ended e
-  with_end Lost e = Lost
+-- the progress, with this end in the place of its end
+abbrev pub with_end : Progress → End → Progress
+with_end Open e = Open
+with_end (Ended d) e = Ended e
+with_end Lost e = Lost
 
 -- a receiver that popped these messages has come this far
-pub record Agrees {T F : Type 0} (p : Progress F) (ms : List (Message T F)) : Type 0 where
+pub record Agrees {T : Type 0} (p : Progress) (ms : List (Message T)) : Type 0 where
   pub open_is : is_open ms ≡ is_before_end p
   pub closed_is : is_closed ms ≡ is_ended p
   pub end_is : with_end p (end_in ms) ≡ p

@@ -8,7 +8,7 @@ use Rattle.prolly_link.specs.declared.batch.ends.BatchDrained.TheVariants.{Ended
 use Rattle.prolly_link.specs.declared.batch.ends.BatchDrained.TheVariants.{Lost as drained_lost}
 
 -- what `drain` makes of a receiver of batches
-abbrev pub IsBatchDrainOf : {T F : Type 0} → Receiving T F → BatchDrained T F → Type 0
+abbrev pub IsBatchDrainOf : {T : Type 0} → Receiving T → BatchDrained T → Type 0
 IsBatchDrainOf r (drained_ended d) = (d.link ≡ r.link) ×
     Drains r.progress r.items (Ended d.end) d.items
 IsBatchDrainOf r (drained_lost d) = (d.link ≡ r.link) × Drains r.progress r.items Lost d.items

@@ -9,5 +9,5 @@ module _ {T : Type 0} where
   items_of (b ∷ bs) = b ++ items_of bs
 
 -- a link of batches, as a link of their items
-abbrev pub unbatched : {T F : Type 0} → Whole (List T) F → Whole T F
+abbrev pub unbatched : {T : Type 0} → Whole (List T) → Whole T
 unbatched w = record { link = w.link; items = items_of w.items; end = w.end }

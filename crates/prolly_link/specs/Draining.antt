@@ -8,16 +8,16 @@ use Rattle.prolly_link.specs.declared.ends.Drained.{Drained}
 use Rattle.prolly_link.specs.declared.ends.Drained.TheVariants.{Ended as drained_ended}
 use Rattle.prolly_link.specs.declared.ends.Drained.TheVariants.{Lost as drained_lost}
 
-module _ {T F : Type 0} where
+module _ {T : Type 0} where
   -- a receiver that had come to `before` with the items xs is left with the items ys, having come
   -- to `after`
-  abbrev pub Drains : Progress F → List T → Progress F → List T → Type 0
+  abbrev pub Drains : Progress → List T → Progress → List T → Type 0
   Drains Open xs after ys = IsPrefix xs ys
   Drains (Ended e) xs after ys = (after ≡ Ended e) × (ys ≡ xs)
   Drains Lost xs after ys = (after ≡ Lost) × (ys ≡ xs)
 
   -- what `drain` makes of a receiver
-  abbrev pub IsDrainOf : Receiving T F → Drained T F → Type 0
+  abbrev pub IsDrainOf : Receiving T → Drained T → Type 0
   IsDrainOf r (drained_ended d) = (d.link ≡ r.link) ×
       Drains r.progress r.items (Ended d.end) d.items
   IsDrainOf r (drained_lost d) = (d.link ≡ r.link) × Drains r.progress r.items Lost d.items

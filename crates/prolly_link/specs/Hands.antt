@@ -6,10 +6,10 @@ use Rattle.prolly_link.specs.Batches.{items_of}
 use Rattle.prolly_link.specs.declared.progress.Progress.{Progress}
 use Rattle.prolly_link.specs.declared.progress.Progress.TheVariants.{Open, Ended, Lost}
 
-module _ {T F : Type 0} where
+module _ {T : Type 0} where
   -- a receiver of batches: the items of those that came, without those that are left of the last
   -- one
-  abbrev pub given_of : Receiving (List T) F → List T → Receiving T F
+  abbrev pub given_of : Receiving (List T) → List T → Receiving T
   given_of r left = record {
     link = r.link;
     items = before_rest (items_of r.items) left;
@@ -17,7 +17,7 @@ module _ {T F : Type 0} where
   }
 
   -- an end or Lost is given only where nothing is left in hand
-  abbrev pub empty_after : Progress F → List T → Bool
+  abbrev pub empty_after : Progress → List T → Bool
   empty_after Open xs = true
   empty_after (Ended e) [] = true
   empty_after (Ended e) (x ∷ xs) = false
@@ -25,7 +25,7 @@ module _ {T F : Type 0} where
   empty_after Lost (x ∷ xs) = false
 
   -- `left` is what is left of the batch that came last, and `count` how much that is
-  pub record IsInHand (r : Receiving (List T) F) (left : List T) (count : ℕ) : Type 0 where
+  pub record IsInHand (r : Receiving (List T)) (left : List T) (count : ℕ) : Type 0 where
     pub counted_is : count ≡ length left
     pub empty_is : empty_after r.progress left ≡ true
     pub ends_is : items_of r.items ≡ before_rest (items_of r.items) left ++ left

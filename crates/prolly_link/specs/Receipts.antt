@@ -1,32 +1,41 @@
 -- What a receiver gives, and how far it has come by that.
 use Rattle.std.specs.Prelude.{◌≡◌, List, [], ◌∷◌}
+use Rattle.prolly_link.specs.declared.end.End.{End}
+use Rattle.prolly_link.specs.declared.end.End.TheVariants.{Clean, Fault}
+use Rattle.prolly_link.specs.declared.fault.RunFault.TheVariants.{Lost as lost_fault}
 use Rattle.prolly_link.specs.declared.next.Next.{Next}
 use Rattle.prolly_link.specs.declared.next.Next.TheVariants.{Item as next_item, End as next_end}
 use Rattle.prolly_link.specs.declared.next.Next.TheVariants.{Lost as next_lost}
 use Rattle.prolly_link.specs.declared.progress.Progress.{Progress}
 use Rattle.prolly_link.specs.declared.progress.Progress.TheVariants.{Open, Ended, Lost}
 
-module _ {T F : Type 0} where
+module _ {T : Type 0} where
   -- the items that a receiver gave: one or none
-  abbrev pub given_items : Next T F → List T
+  abbrev pub given_items : Next T → List T
   given_items (next_item x) = x ∷ []
   given_items (next_end e) = []
   given_items next_lost = []
 
   -- how far a receiver has come once it gave this
-  abbrev pub progress_after : Next T F → Progress F
+  abbrev pub progress_after : Next T → Progress
   progress_after (next_item x) = Open
   progress_after (next_end e) = Ended e
   progress_after next_lost = Lost
 
   -- a receiver that gave an end or Lost gives the same again
-  abbrev pub GivesAgain : Progress F → Next T F → Type 0
+  abbrev pub GivesAgain : Progress → Next T → Type 0
   GivesAgain Open given = Unit {0}
   GivesAgain (Ended e) given = given ≡ next_end e
   GivesAgain Lost given = given ≡ next_lost
 
 -- it gave its end, or Lost
-abbrev pub HasEnded : {F : Type 0} → Progress F → Type 0
+abbrev pub HasEnded : Progress → Type 0
 HasEnded Open = ⊥
 HasEnded (Ended e) = Unit {0}
 HasEnded Lost = Unit {0}
+
+-- the end that a receiver gave. A lost one counts as ended by a fault of its own
+abbrev pub end_given : Progress → End
+end_given Open = Clean
+end_given (Ended e) = e
+end_given Lost = Fault lost_fault

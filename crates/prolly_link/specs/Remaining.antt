@@ -6,37 +6,37 @@ use Rattle.prolly_link.specs.declared.end.End.{End}
 use Rattle.prolly_link.specs.declared.progress.Progress.{Progress}
 use Rattle.prolly_link.specs.declared.progress.Progress.TheVariants.{Open, Ended}
 
-pub data Remaining (T F : Type 0) : Type 0 where
-  Unread : List T → End F → Remaining T F
-  Read : End F → Remaining T F
+pub data Remaining (T : Type 0) : Type 0 where
+  Unread : List T → End → Remaining T
+  Read : End → Remaining T
 
-module _ {T F : Type 0} where
-  abbrev pub remaining : Bool → List T → End F → Remaining T F
+module _ {T : Type 0} where
+  abbrev pub remaining : Bool → List T → End → Remaining T
   remaining true xs e = Read e
   remaining false xs e = Unread xs e
 
-  abbrev pub items_left : Remaining T F → List T
+  abbrev pub items_left : Remaining T → List T
   items_left (Unread xs e) = xs
   items_left (Read e) = []
 
-  abbrev pub last_end : Remaining T F → End F
+  abbrev pub last_end : Remaining T → End
   last_end (Unread xs e) = e
   last_end (Read e) = e
 
-  abbrev pub progress_of : Remaining T F → Progress F
+  abbrev pub progress_of : Remaining T → Progress
   progress_of (Unread xs e) = Open
   progress_of (Read e) = Ended e
 
   -- what was lost at the front
-  abbrev pub front_lost : Remaining T F → Remaining T F → List T
+  abbrev pub front_lost : Remaining T → Remaining T → List T
   front_lost before after = before_rest (items_left before) (items_left after)
 
-  abbrev pub LostFront : Remaining T F → Remaining T F → Type 0
+  abbrev pub LostFront : Remaining T → Remaining T → Type 0
   LostFront before after = (items_left before ≡ front_lost before after ++ items_left after) ×
       (last_end after ≡ last_end before)
 
   -- the same list later: it lost items at its front, and where it had given its end it stayed as it
   -- was
-  pub record IsLaterList (before after : Remaining T F) : Type 0 where
+  pub record IsLaterList (before after : Remaining T) : Type 0 where
     pub lost : LostFront before after
     pub stays : HasEnded (progress_of before) → after ≡ before

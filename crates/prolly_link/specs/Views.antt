@@ -10,16 +10,16 @@ pub record Sending (T : Type 0) : Type 0 where
   pub items : List T
 
 -- the items that a receiver gave, and how far it has come
-pub record Receiving (T F : Type 0) : Type 0 where
+pub record Receiving (T : Type 0) : Type 0 where
   pub link : LinkId
   pub items : List T
-  pub progress : Progress F
+  pub progress : Progress
 
 -- all items of a link, and the end after them
-pub record Whole (T F : Type 0) : Type 0 where
+pub record Whole (T : Type 0) : Type 0 where
   pub link : LinkId
   pub items : List T
-  pub end : End F
+  pub end : End
 
 -- the items that were given to a sender of batches, and for how many more it has taken room
 pub record Batching (T : Type 0) : Type 0 where

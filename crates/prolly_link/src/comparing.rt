@@ -8,7 +8,7 @@ use crate::sender::Sender;
 
 /// Shows that what was received begins what was sent, where both ends are in one thread. Beside an
 /// open sender no receiver has an end.
-pub fn compare<T, F: Copy>(sender: &mut Sender<T, F>, receiver: &mut Receiver<T, F>)
+pub fn compare<T>(sender: &mut Sender<T>, receiver: &mut Receiver<T>)
     requires { sender.old.link ≡ receiver.old.link }
     ensures sender { sender.new ≡ sender.old }
     ensures receiver { receiver.new ≡ receiver.old }
@@ -19,7 +19,7 @@ pub fn compare<T, F: Copy>(sender: &mut Sender<T, F>, receiver: &mut Receiver<T,
 
 /// Shows that what was received begins what was sent, where both ends are in one thread. The
 /// sender's end may be on its way still; a receiver that has an end has that one, after all items.
-pub fn compare_closed<T, F: Copy>(closed: &mut ClosedSender<T, F>, receiver: &mut Receiver<T, F>)
+pub fn compare_closed<T>(closed: &mut ClosedSender<T>, receiver: &mut Receiver<T>)
     requires { closed.old.link ≡ receiver.old.link }
     ensures sender { closed.new ≡ closed.old }
     ensures receiver { receiver.new ≡ receiver.old }

@@ -6,15 +6,15 @@ use std::marker::Model;
 
 /// The sending end of a link, once it has sent the end. Contracts see that end too.
 #[derive(Drop)]
-pub struct ClosedSender<T, F> {
-    pub(crate) ring: Producer<Message<T, F>>,
+pub struct ClosedSender<T> {
+    pub(crate) ring: Producer<Message<T>>,
 }
 
-impl<T, F> Model for ClosedSender<T, F> {
+impl<T> Model for ClosedSender<T> {
     ghost use Rattle.prolly_link.specs.Rings.{whole_sent, SentEnd};
     ghost use Rattle.prolly_link.specs.Views.{Whole};
 
-    ghost Value = { Whole T F };
+    ghost Value = { Whole T };
 
     ghost view = { λ s. whole_sent s.ring };
 
@@ -24,15 +24,15 @@ impl<T, F> Model for ClosedSender<T, F> {
 /// The receiving end of a link, once it has given the end. Contracts see its link, all items of the
 /// link, and the end.
 #[derive(Drop)]
-pub struct EndedReceiver<T, F> {
-    pub(crate) ring: Consumer<Message<T, F>>,
+pub struct EndedReceiver<T> {
+    pub(crate) ring: Consumer<Message<T>>,
 }
 
-impl<T, F> Model for EndedReceiver<T, F> {
+impl<T> Model for EndedReceiver<T> {
     ghost use Rattle.prolly_link.specs.Rings.{whole_received, ReceivedEnd};
     ghost use Rattle.prolly_link.specs.Views.{Whole};
 
-    ghost Value = { Whole T F };
+    ghost Value = { Whole T };
 
     ghost view = { λ r. whole_received r.ring };
 
@@ -42,11 +42,11 @@ impl<T, F> Model for EndedReceiver<T, F> {
 /// The receiving end of a link that lost its sender. Contracts see its link, and the items that
 /// came.
 #[derive(Drop)]
-pub struct LostReceiver<T, F> {
-    pub(crate) ring: Consumer<Message<T, F>>,
+pub struct LostReceiver<T> {
+    pub(crate) ring: Consumer<Message<T>>,
 }
 
-impl<T, F> Model for LostReceiver<T, F> {
+impl<T> Model for LostReceiver<T> {
     ghost use Rattle.prolly_link.specs.Rings.{received_so_far, ReceivedNoEnd};
     ghost use Rattle.prolly_link.specs.Views.{Sending};
 
@@ -59,23 +59,23 @@ impl<T, F> Model for LostReceiver<T, F> {
 
 /// A receiver that gave the end, or one that lost its sender.
 #[derive(Drop)]
-pub enum Drained<T, F> {
-    Ended(EndedReceiver<T, F>),
-    Lost(LostReceiver<T, F>),
+pub enum Drained<T> {
+    Ended(EndedReceiver<T>),
+    Lost(LostReceiver<T>),
 }
 
 /// The two ends of a link, of which one received all that the other sent. Contracts see the link,
 /// its items and its end.
 #[derive(Drop)]
-pub struct Met<T, F> {
-    pub(crate) sender: ClosedSender<T, F>,
-    pub(crate) receiver: EndedReceiver<T, F>,
+pub struct Met<T> {
+    pub(crate) sender: ClosedSender<T>,
+    pub(crate) receiver: EndedReceiver<T>,
 }
 
-impl<T, F> Model for Met<T, F> {
+impl<T> Model for Met<T> {
     ghost use Rattle.prolly_link.specs.Views.{Whole};
 
-    ghost Value = { Whole T F };
+    ghost Value = { Whole T };
 
     ghost view = { λ m. m.receiver };
 }

@@ -8,12 +8,12 @@ use crate::next::Next;
 use std::sync::Wait;
 
 /// An end that gives items, and then one end.
-pub trait In<T, F> {
+pub trait In<T> {
     /// The link that it is of.
     ghost link: { Self → LinkId };
 
     /// Whether it has given its end, or `Lost`.
-    ghost progress: { Self → Progress F };
+    ghost progress: { Self → Progress };
 
     /// `Follows a b` says that b is the end a, at the same time or later.
     ghost Follows: { Self → Self → Type 0 };
@@ -22,7 +22,7 @@ pub trait In<T, F> {
     ghost received: { Self → Self → List T };
 
     /// The next item, or the end. An end, or `Lost`, is given again and again.
-    fn recv<R: Wait>(&mut self, rt: &R) -> Next<T, F>
+    fn recv<R: Wait>(&mut self, rt: &R) -> Next<T>
         ensures link { link self.new ≡ link self.old }
         ensures follows { Follows self.old self.new }
         ensures received { received self.old self.new ≡ given_items result }

@@ -1,5 +1,5 @@
 //! Links between workers: items go from one sender to one receiver, in order, and then one end.
-//! What an end tells of a fault is a parameter: a link hands it on, and does not look at it.
+//! An end is clean, or tells why a run has no answer. A link hands it on, and does not look at it.
 //!
 //! `link` carries items one by one over a bounded ring, and `batch_link` in batches. A worker is
 //! written over the traits `In` and `Out`, which `ListIn` and `ListOut` meet too, so that it can be
@@ -14,6 +14,7 @@ mod bell;
 mod comparing;
 mod end;
 mod ends;
+mod fault;
 mod in_flight;
 mod input;
 mod list_in;
@@ -41,6 +42,7 @@ pub use batch::sender::BatchSender;
 pub use comparing::{compare, compare_closed};
 pub use end::End;
 pub use ends::{ClosedSender, Drained, EndedReceiver, LostReceiver, Met};
+pub use fault::RunFault;
 pub use input::In;
 pub use list_in::ListIn;
 pub use list_out::{ClosedList, ListOut};

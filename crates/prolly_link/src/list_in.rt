@@ -12,27 +12,27 @@ use std::vec::IntoIter;
 
 /// An end that gives the items of a list, and then an end. Contracts see what is left of both.
 #[derive(Drop)]
-pub struct ListIn<T, F> {
+pub struct ListIn<T> {
     items: IntoIter<T, Global>,
-    last: End<F>,
+    last: End,
     // Whether the end was given.
     ended: bool,
 }
 
-impl<T, F> Model for ListIn<T, F> {
+impl<T> Model for ListIn<T> {
     ghost use Rattle.std.specs.Prelude.{◌≡◌, length};
     ghost use Rattle.std.specs.Vec.Iter.{into_iter_items, into_iter_len};
     ghost use Rattle.prolly_link.specs.Remaining.{Remaining, remaining};
 
-    ghost Value = { Remaining T F };
+    ghost Value = { Remaining T };
 
     ghost view = { λ i. remaining i.ended (into_iter_items i.items) i.last };
 
     ghost invariant = { λ i. into_iter_len i.items ≡ length (into_iter_items i.items) };
 }
 
-impl<T, F> ListIn<T, F> {
-    pub fn new(items: Vec<T>, last: End<F>) -> ListIn<T, F>
+impl<T> ListIn<T> {
+    pub fn new(items: Vec<T>, last: End) -> ListIn<T>
         ensures { result ≡ Unread items.items last }
     {
         ListIn {
@@ -43,7 +43,7 @@ impl<T, F> ListIn<T, F> {
     }
 }
 
-impl<T, F: Copy> In<T, F> for ListIn<T, F> {
+impl<T> In<T> for ListIn<T> {
     ghost use Rattle.prolly_link.specs.Identity.{no_link};
     ghost use Rattle.prolly_link.specs.Remaining.{progress_of, front_lost, IsLaterList};
     ghost use Rattle.prolly_link.specs.RemainingLaws.{lost_nothing, lost_more, later_list_same};
@@ -70,7 +70,7 @@ impl<T, F: Copy> In<T, F> for ListIn<T, F> {
 
     ghost ended_stays = { read_stays };
 
-    fn recv<R: Wait>(&mut self, _rt: &R) -> Next<T, F> {
+    fn recv<R: Wait>(&mut self, _rt: &R) -> Next<T> {
         if self.ended {
             return Next::End(self.last);
         }

@@ -23,9 +23,9 @@ impl<T> Model for ListOut<T> {
 
 /// What was sent, and the end.
 #[derive(Drop)]
-pub struct ClosedList<T, F> {
+pub struct ClosedList<T> {
     pub items: Vec<T>,
-    pub last: End<F>,
+    pub last: End,
 }
 
 impl<T> ListOut<T> {
@@ -38,10 +38,10 @@ impl<T> ListOut<T> {
     }
 }
 
-impl<T, F> Out<T, F> for ListOut<T> {
+impl<T> Out<T> for ListOut<T> {
     ghost use Rattle.prolly_link.specs.Identity.{no_link};
 
-    type Closed = ClosedList<T, F>;
+    type Closed = ClosedList<T>;
 
     ghost link = { λ _. no_link };
 
@@ -60,10 +60,7 @@ impl<T, F> Out<T, F> for ListOut<T> {
         }
     }
 
-    fn close<R: Wait>(self, _rt: &R, end: End<F>) -> ClosedList<T, F>
-        ensures sent { result.items.items ≡ self }
-        ensures end { result.last ≡ end }
-    {
+    fn close<R: Wait>(self, _rt: &R, end: End) -> ClosedList<T> {
         let ListOut { items } = self;
         ClosedList { items, last: end }
     }

@@ -4,7 +4,7 @@ ghost use Rattle.std.specs.Prelude.{◌≡◌};
 use crate::ends::{ClosedSender, EndedReceiver, Met};
 
 /// Shows that all that was sent was received, and nothing else.
-pub fn meet<T, F>(sender: ClosedSender<T, F>, receiver: EndedReceiver<T, F>) -> Met<T, F>
+pub fn meet<T>(sender: ClosedSender<T>, receiver: EndedReceiver<T>) -> Met<T>
     requires { sender.link ≡ receiver.link }
     ensures sent { result ≡ sender }
     ensures received { result ≡ receiver }

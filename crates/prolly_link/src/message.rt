@@ -3,7 +3,7 @@ use crate::end::End;
 
 /// An item, or the end.
 #[derive(Drop)]
-pub(crate) enum Message<T, F> {
+pub(crate) enum Message<T> {
     Item(T),
-    Last(End<F>),
+    Last(End),
 }

@@ -3,9 +3,9 @@ use crate::end::End;
 
 /// An item, or why there is none.
 #[derive(Drop, PartialEq, Eq, Debug)]
-pub enum Next<T, F> {
+pub enum Next<T> {
     Item(T),
-    End(End<F>),
+    End(End),
     /// The sender was dropped before it had closed, and no message is left.
     Lost,
 }

@@ -16,10 +16,10 @@ pub enum LinkFault {
 
 /// The two ends of a new link, with room for `capacity` messages. The end is a message, as an item
 /// is.
-pub fn link<T: Send + Drop, F: Send + Copy>(
+pub fn link<T: Send + Drop>(
     alloc: Global,
     capacity: usize,
-) -> Result<(Sender<T, F>, Receiver<T, F>), LinkFault>
+) -> Result<(Sender<T>, Receiver<T>), LinkFault>
     requires least { 1 ≤ capacity }
     requires most { capacity ≤ 4096 }
     ensures link { IfOk result (λ ends. ends.0.link ≡ ends.1.link) }

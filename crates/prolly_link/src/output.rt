@@ -7,7 +7,7 @@ use crate::end::End;
 use std::sync::Wait;
 
 /// An end that items go into, and then one end.
-pub trait Out<T, F> {
+pub trait Out<T> {
     /// What is left of it once the end was sent.
     type Closed;
 
@@ -24,7 +24,7 @@ pub trait Out<T, F> {
     ghost all_sent: { Self.Closed → List T };
 
     /// The end that a closed one sent.
-    ghost end_sent: { Self.Closed → End F };
+    ghost end_sent: { Self.Closed → End };
 
     /// Sends an item, or hands it back for want of memory.
     fn send<R: Wait>(&mut self, rt: &R, item: T) -> Result<(), T>
@@ -51,7 +51,7 @@ pub trait Out<T, F> {
     }
 
     /// Sends the end.
-    fn close<R: Wait>(self, rt: &R, end: End<F>) -> Self::Closed
+    fn close<R: Wait>(self, rt: &R, end: End) -> Self::Closed
         ensures link { closed_link result ≡ link self }
         ensures sent { all_sent result ≡ sent self }
         ensures end { end_sent result ≡ end };

@@ -3,8 +3,8 @@ use crate::end::End;
 
 /// Whether a receiver has given its end, or that it has lost its sender.
 #[derive(Clone, Copy, PartialEq, Eq, Debug)]
-pub enum Progress<F> {
+pub enum Progress {
     Open,
-    Ended(End<F>),
+    Ended(End),
     Lost,
 }

@@ -16,16 +16,16 @@ use std::sync::Wait;
 /// The receiving end of a link. Contracts see its link, the items that it has given, oldest first,
 /// and how far it has come.
 #[derive(Drop)]
-pub struct Receiver<T, F> {
-    pub(crate) ring: Consumer<Message<T, F>>,
-    pub(crate) progress: Progress<F>,
+pub struct Receiver<T> {
+    pub(crate) ring: Consumer<Message<T>>,
+    pub(crate) progress: Progress,
     pub(crate) patience: Patience,
 }
 
-impl<T, F> Model for Receiver<T, F> {
+impl<T> Model for Receiver<T> {
     ghost use Rattle.prolly_link.specs.Views.{Receiving};
 
-    ghost Value = { Receiving T F };
+    ghost Value = { Receiving T };
 
     ghost use Rattle.rtrb.specs.Ring.{received as popped};
     ghost use Rattle.prolly_link.specs.Identity.{consumer_link};
@@ -42,12 +42,12 @@ impl<T, F> Model for Receiver<T, F> {
     ghost invariant = { λ r. Agrees r.progress (popped r.ring) };
 }
 
-impl<T, F: Copy> Receiver<T, F> {
+impl<T> Receiver<T> {
     ghost use Rattle.prolly_link.specs.Draining.{IsDrainOf};
 
     /// The next item, or the end, waiting for a message. An end, or `Lost`, is given again and
     /// again.
-    pub fn recv<R: Wait>(&mut self, rt: &R) -> Next<T, F>
+    pub fn recv<R: Wait>(&mut self, rt: &R) -> Next<T>
         ensures link { self.new.link ≡ self.old.link }
         ensures items { self.new.items ≡ self.old.items ++ given_items result }
         ensures progress { self.new.progress ≡ progress_after result }
@@ -77,7 +77,7 @@ impl<T, F: Copy> Receiver<T, F> {
     }
 
     /// Receives until the end, and lets the items go.
-    pub fn drain<R: Wait>(self, rt: &R) -> Drained<T, F>
+    pub fn drain<R: Wait>(self, rt: &R) -> Drained<T>
     where
         T: Drop,
         ensures { IsDrainOf self result }
@@ -100,7 +100,7 @@ impl<T, F: Copy> Receiver<T, F> {
     }
 }
 
-impl<T, F: Copy> In<T, F> for Receiver<T, F> {
+impl<T> In<T> for Receiver<T> {
     ghost use Rattle.prolly_link.specs.Growth.{items_between, between_nothing};
     ghost use Rattle.prolly_link.specs.Following.{IsLater, later_same, later_more};
     ghost use Rattle.prolly_link.specs.Following.{received_in_both, nothing_after_end};
@@ -125,7 +125,7 @@ impl<T, F: Copy> In<T, F> for Receiver<T, F> {
 
     ghost ended_stays = { λ a b h. h.progress_stays };
 
-    fn recv<R: Wait>(&mut self, rt: &R) -> Next<T, F> {
+    fn recv<R: Wait>(&mut self, rt: &R) -> Next<T> {
         Receiver::recv(self, rt)
     }
 }

@@ -7,7 +7,7 @@ use crate::next::Next;
 use std::sync::Wait;
 
 /// Receives until the end, and lets the items go, so that the sender does not wait for room.
-pub fn receive_rest<T: Drop, F: Copy, I: In<T, F>, R: Wait>(rt: &R, input: &mut I)
+pub fn receive_rest<T: Drop, I: In<T>, R: Wait>(rt: &R, input: &mut I)
     ensures link { I.link input.new ≡ I.link input.old }
     ensures follows { I.Follows input.old input.new }
     ensures ended { HasEnded (I.progress input.new) }

@@ -13,12 +13,12 @@ use std::sync::Wait;
 
 /// The sending end of a link. Contracts see its link and the items that it has sent, oldest first.
 #[derive(Drop)]
-pub struct Sender<T, F> {
-    pub(crate) ring: Producer<Message<T, F>>,
+pub struct Sender<T> {
+    pub(crate) ring: Producer<Message<T>>,
     pub(crate) patience: Patience,
 }
 
-impl<T, F> Model for Sender<T, F> {
+impl<T> Model for Sender<T> {
     ghost use Rattle.prolly_link.specs.Views.{Sending};
 
     ghost Value = { Sending T };
@@ -30,7 +30,7 @@ impl<T, F> Model for Sender<T, F> {
     ghost invariant = { λ s. SentNoEnd s.ring };
 }
 
-impl<T, F: Copy> Sender<T, F> {
+impl<T> Sender<T> {
     // Sends an item, waiting for room.
     pub(crate) fn put<R: Wait>(&mut self, rt: &R, item: T, wake: Wake)
         ensures link { self.new.link ≡ self.old.link }
@@ -60,7 +60,7 @@ impl<T, F: Copy> Sender<T, F> {
     }
 
     /// Sends the end, waiting for room.
-    pub fn close<R: Wait>(self, rt: &R, end: End<F>) -> ClosedSender<T, F>
+    pub fn close<R: Wait>(self, rt: &R, end: End) -> ClosedSender<T>
         ensures link { result.link ≡ self.link }
         ensures items { result.items ≡ self.items }
         ensures end { result.end ≡ end }
@@ -71,8 +71,8 @@ impl<T, F: Copy> Sender<T, F> {
     }
 }
 
-impl<T, F: Copy> Out<T, F> for Sender<T, F> {
-    type Closed = ClosedSender<T, F>;
+impl<T> Out<T> for Sender<T> {
+    type Closed = ClosedSender<T>;
 
     ghost link = { λ s. s.link };
 
@@ -92,11 +92,7 @@ impl<T, F: Copy> Out<T, F> for Sender<T, F> {
         self.ring.cached_slots() <= self.ring.capacity() / 2
     }
 
-    fn close<R: Wait>(self, rt: &R, end: End<F>) -> ClosedSender<T, F>
-        ensures link { result.link ≡ self.link }
-        ensures sent { result.items ≡ self.items }
-        ensures end { result.end ≡ end }
-    {
+    fn close<R: Wait>(self, rt: &R, end: End) -> ClosedSender<T> {
         Sender::close(self, rt, end)
     }
 }

@@ -11,8 +11,8 @@ use Rattle.prolly_entry.specs.NextRecord.{IsUndecided, IsFlawed}
 use Rattle.prolly_laws.specs.Readings.{ends_clean, ends_flawed, ends_cut, first_are_good}
 use Rattle.prolly_laws.specs.Readings.{begins_all}
 use Rattle.prolly_link.specs.declared.end.End.TheVariants.{Clean, Fault}
-use Rattle.prolly_fault.specs.declared.fault.RunFault.{RunFault}
-use Rattle.prolly_fault.specs.declared.fault.RunFault.TheVariants as faults
+use Rattle.prolly_link.specs.declared.fault.RunFault.{RunFault}
+use Rattle.prolly_link.specs.declared.fault.RunFault.TheVariants as faults
 use Rattle.prolly_load.specs.Buffered.{Buffered}
 use Rattle.prolly_load.specs.Fault.{fault_of}
 use Rattle.prolly_load.specs.Loading.{IsReadTo, AreFirstGood, FailsAs, IsLoaded}

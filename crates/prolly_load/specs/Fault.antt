@@ -2,8 +2,8 @@
 use Rattle.std.specs.Prelude.{ℕ}
 use Rattle.prolly_entry.specs.declared.flaw.Flaw.{Flaw}
 use Rattle.prolly_entry.specs.declared.flaw.Flaw.TheVariants as flaws
-use Rattle.prolly_fault.specs.declared.fault.RunFault.{RunFault}
-use Rattle.prolly_fault.specs.declared.fault.RunFault.TheVariants as faults
+use Rattle.prolly_link.specs.declared.fault.RunFault.{RunFault}
+use Rattle.prolly_link.specs.declared.fault.RunFault.TheVariants as faults
 
 -- The fault of a file whose record at a place has a flaw.
 abbrev pub fault_of : ℕ → ℕ → Flaw → RunFault

@@ -5,10 +5,10 @@ use Rattle.prolly_entry.specs.declared.flaw.Flaw.TheVariants as flaws
 use Rattle.prolly_entry.specs.Prefix.{IsPrefix}
 use Rattle.prolly_entry.specs.Reading.{Begins, IsReading}
 use Rattle.prolly_entry.specs.Record.{Record}
-use Rattle.prolly_fault.specs.Ends.{End}
+use Rattle.prolly_link.specs.declared.end.End.{End}
 use Rattle.prolly_link.specs.declared.end.End.TheVariants.{Clean, Fault}
-use Rattle.prolly_fault.specs.declared.fault.RunFault.{RunFault}
-use Rattle.prolly_fault.specs.declared.fault.RunFault.TheVariants as faults
+use Rattle.prolly_link.specs.declared.fault.RunFault.{RunFault}
+use Rattle.prolly_link.specs.declared.fault.RunFault.TheVariants as faults
 
 -- The records are the good ones of the bytes, and these end with them or in the middle of a record.
 pub record IsReadTo (bytes : List ℕ) (limit : ℕ) (records : List Record) : Type 0 where

@@ -3,7 +3,7 @@ ghost use Rattle.std.specs.Prelude.{◌≡◌};
 ghost use Rattle.prolly_load.specs.Fault.{fault_of};
 
 use prolly_entry::Flaw;
-use prolly_fault::RunFault;
+use prolly_link::RunFault;
 
 /// The fault of the file of this number whose record at `place` has a flaw.
 pub fn fault_of(file: u32, place: u32, flaw: Flaw) -> RunFault

@@ -1,24 +1,23 @@
 //! Loading a record file.
 ghost use Rattle.std.specs.Prelude.{◌≡◌, ◌≢◌, ◌↔◌, true};
 ghost use Rattle.prolly_link.specs.declared.end.End.TheVariants.{Fault};
-ghost use Rattle.prolly_fault.specs.declared.fault.RunFault.TheVariants.{Read};
+ghost use Rattle.prolly_link.specs.declared.fault.RunFault.TheVariants.{Read};
 ghost use Rattle.prolly_load.specs.Loading.{IsLoaded};
 
 use crate::sending::send_records;
 use prolly_entry::Record;
-use prolly_fault::RunFault;
 use prolly_file::Source;
-use prolly_link::Out;
+use prolly_link::{Out, RunFault};
 use std::alloc::Global;
 use std::sync::Wait;
 
 /// What a loader gives back.
 #[derive(Drop)]
-pub struct Loaded<S, C> {
+pub struct Loaded<S, O: Out<Record>> {
     /// The source, as the reads left it.
     pub source: S,
     /// The output, closed.
-    pub out: C,
+    pub out: O::Closed,
 }
 
 /// Loads a record file: sends the good records of what the source has left, at most `limit`, and
@@ -32,14 +31,14 @@ pub struct Loaded<S, C> {
 /// Takes time linear in the bytes, and copies each record's bytes once. Where the receiver is far
 /// behind, it takes the hash of a pair's boundary, which the pair carries then. Holds one buffer of
 /// 130 KiB, however long the file is, and offers each read 64 KiB or more.
-pub fn load<R: Wait, S: Source, O: Out<Record, RunFault>>(
+pub fn load<R: Wait, S: Source, O: Out<Record>>(
     rt: &R,
     alloc: Global,
     file: u32,
     mut source: S,
     limit: u32,
     mut out: O,
-) -> Loaded<S, O::Closed>
+) -> Loaded<S, O>
     ensures link { O.closed_link result.out ≡ O.link out }
     ensures loaded { IsLoaded file limit (S.seen source).is_honest (S.seen source).left
         (S.seen result.source).left (O.sent out) (O.all_sent result.out) (O.end_sent result.out) }

@@ -7,14 +7,13 @@ use crate::buffer::Buffer;
 use crate::fault::fault_of;
 use crate::taking::{Taken, take_record};
 use prolly_entry::{Flaw, Record};
-use prolly_fault::{End, RunFault};
 use prolly_file::Source;
-use prolly_link::Out;
+use prolly_link::{End, Out, RunFault};
 use std::alloc::Global;
 use std::sync::Wait;
 
 /// Sends the good records of what the source has left, and answers the end that follows them.
-pub(crate) fn send_records<R: Wait, S: Source, O: Out<Record, RunFault>>(
+pub(crate) fn send_records<R: Wait, S: Source, O: Out<Record>>(
     rt: &R,
     alloc: Global,
     file: u32,

@@ -1,7 +1,7 @@
 -- What equal values of a variant have.
 use Rattle.std.proofs.Common.{◌≡◌, Some, None}
 use Rattle.prolly_entry.specs.Record.{Record}
-use Rattle.prolly_fault.specs.Ends.{End}
+use Rattle.prolly_link.specs.declared.end.End.{End}
 use Rattle.prolly_merge.specs.declared.head.Head.TheVariants.{Ready, Ended}
 
 pub none_some : {A : Type 0} (x : A) → None ≡ Some x → ⊥

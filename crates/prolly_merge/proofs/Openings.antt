@@ -3,7 +3,7 @@ use Rattle.std.proofs.Common.{◌≡◌, ℕ, suc, List, [], ◌∷◌, ◌++◌
 use Rattle.std.proofs.Common.{sym, ap, ◌∙◌, subst, arith}
 use Rattle.prolly_entry.specs.Record.{Record}
 use Rattle.prolly_link.specs.Identity.{LinkId}
-use Rattle.prolly_fault.specs.Ends.{Progress}
+use Rattle.prolly_link.specs.declared.progress.Progress.{Progress}
 use Rattle.prolly_merge.specs.declared.head.Head.{Head}
 use Rattle.prolly_merge.specs.declared.peeked.Peeked.{Peeked}
 use Rattle.prolly_merge.specs.Each.{Each}

@@ -15,9 +15,9 @@ use Rattle.prolly_tree.specs.Merge.{raw_merged_part, merged_part, stop_fault}
 use Rattle.prolly_entry.specs.Position.{Position, last_position, is_before}
 use Rattle.prolly_entry.specs.lemmas.RisingRecords.{IsRising, is_rising, rising_is, found_above}
 use Rattle.prolly_entry.specs.lemmas.RisingRecords.{above_trans}
-use Rattle.prolly_fault.specs.Ends.{End}
+use Rattle.prolly_link.specs.declared.end.End.{End}
 use Rattle.prolly_link.specs.declared.end.End.TheVariants.{Clean, Fault}
-use Rattle.prolly_fault.specs.declared.fault.RunFault.{RunFault}
+use Rattle.prolly_link.specs.declared.fault.RunFault.{RunFault}
 use Rattle.prolly_merge.specs.declared.head.Head.{Head}
 use Rattle.prolly_merge.specs.declared.head.Head.TheVariants.{Ready, Ended}
 use Rattle.prolly_merge.specs.Inputs.{fault_of, end_of, input_of, lists_of, stop_end}

@@ -7,7 +7,8 @@ use Rattle.prolly_entry.specs.Record.{Record}
 use Rattle.prolly_entry.specs.Overlay.{change_of, or_else, last_change_of}
 use Rattle.prolly_entry.specs.lemmas.Orders.{order_self}
 use Rattle.prolly_link.specs.Identity.{LinkId}
-use Rattle.prolly_fault.specs.Ends.{End, Progress}
+use Rattle.prolly_link.specs.declared.end.End.{End}
+use Rattle.prolly_link.specs.declared.progress.Progress.{Progress}
 use Rattle.prolly_merge.specs.declared.head.Head.{Head}
 use Rattle.prolly_merge.specs.declared.head.Head.TheVariants.{Ready, Ended}
 use Rattle.prolly_merge.specs.declared.step.Step.TheVariants.{Send}

@@ -6,7 +6,8 @@ use Rattle.std.specs.List.{AllByRecursion}
 use Rattle.prolly_entry.specs.Record.{Record}
 use Rattle.prolly_entry.specs.Overlay.{last_change_of}
 use Rattle.prolly_link.specs.Identity.{LinkId}
-use Rattle.prolly_fault.specs.Ends.{End, Progress}
+use Rattle.prolly_link.specs.declared.end.End.{End}
+use Rattle.prolly_link.specs.declared.progress.Progress.{Progress}
 use Rattle.prolly_merge.specs.declared.peeked.Peeked.{Peeked}
 use Rattle.prolly_merge.specs.declared.step.Step.TheVariants.{Send, Stop}
 use Rattle.prolly_merge.specs.Heads.{in_hand, IsHeld, has_key, Allows, MovesIf, Stops}

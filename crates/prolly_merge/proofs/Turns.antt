@@ -13,7 +13,7 @@ use Rattle.prolly_merge.specs.declared.head.Head.TheVariants.{Ready, Ended}
 use Rattle.prolly_merge.specs.declared.step.Step.TheVariants.{Send}
 use Rattle.prolly_merge.specs.declared.turn.Turn.TheVariants.{Left, Right, Both}
 use Rattle.prolly_link.specs.Identity.{LinkId}
-use Rattle.prolly_fault.specs.Ends.{Progress}
+use Rattle.prolly_link.specs.declared.progress.Progress.{Progress}
 use Rattle.prolly_merge.specs.declared.peeked.Peeked.{Peeked}
 use Rattle.prolly_merge.specs.Heads.{in_hand, Allows, has_key}
 use Rattle.prolly_merge.specs.PeekedInputs.{Advances}

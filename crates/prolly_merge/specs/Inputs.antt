@@ -4,9 +4,11 @@ use Rattle.prolly_entry.specs.Record.{Record}
 use Rattle.prolly_tree.specs.Merge.{Input, stop, stop_fault}
 use Rattle.prolly_link.specs.Identity.{LinkId}
 use Rattle.prolly_link.specs.Receipts.{HasEnded}
-use Rattle.prolly_fault.specs.Ends.{End, Progress, end_given}
+use Rattle.prolly_link.specs.Receipts.{end_given}
+use Rattle.prolly_link.specs.declared.end.End.{End}
+use Rattle.prolly_link.specs.declared.progress.Progress.{Progress}
 use Rattle.prolly_link.specs.declared.end.End.TheVariants.{Clean, Fault}
-use Rattle.prolly_fault.specs.declared.fault.RunFault.{RunFault}
+use Rattle.prolly_link.specs.declared.fault.RunFault.{RunFault}
 
 -- The fault of an end.
 abbrev pub fault_of : End → Option RunFault

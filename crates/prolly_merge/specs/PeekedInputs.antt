@@ -3,7 +3,8 @@ use Rattle.std.specs.Prelude.{◌≡◌, List, [], ◌∷◌, ◌++◌, map}
 use Rattle.std.specs.List.{AllByRecursion}
 use Rattle.prolly_entry.specs.Record.{Record}
 use Rattle.prolly_link.specs.Identity.{LinkId}
-use Rattle.prolly_fault.specs.Ends.{Progress, end_given}
+use Rattle.prolly_link.specs.Receipts.{end_given}
+use Rattle.prolly_link.specs.declared.progress.Progress.{Progress}
 use Rattle.prolly_merge.specs.Inputs.{input_of, Ends}
 use Rattle.prolly_merge.specs.Heads.{in_hand, IsHeld, Fits}
 use Rattle.prolly_merge.specs.Places.{Place}

@@ -3,10 +3,10 @@ use Rattle.std.specs.Prelude.{◌≡◌, List, [], ◌∷◌, ◌++◌, map, ◌
 use Rattle.prolly_entry.specs.Record.{Record}
 use Rattle.prolly_entry.specs.Overlay.{AllRising}
 use Rattle.prolly_tree.specs.Merge.{Input, stop, stop_fault, raw_merged_part}
-use Rattle.prolly_fault.specs.Ends.{End}
+use Rattle.prolly_link.specs.declared.end.End.{End}
 use Rattle.prolly_link.specs.declared.end.End.TheVariants.{Fault}
-use Rattle.prolly_fault.specs.declared.fault.RunFault.{RunFault}
-use Rattle.prolly_fault.specs.declared.fault.RunFault.TheVariants.{Memory}
+use Rattle.prolly_link.specs.declared.fault.RunFault.{RunFault}
+use Rattle.prolly_link.specs.declared.fault.RunFault.TheVariants.{Memory}
 use Rattle.prolly_merge.specs.Inputs.{lists_of}
 use Rattle.prolly_merge.specs.Heads.{in_hand, Fits, Stops}
 use Rattle.prolly_merge.specs.declared.head.Head.{Head}

@@ -1,9 +1,9 @@
 -- What a merger sent.
 use Rattle.std.specs.Prelude.{◌≡◌, ℕ, List, ◌++◌, ◌⊎◌, length, min}
 use Rattle.prolly_entry.specs.Prefix.{IsPrefix}
-use Rattle.prolly_fault.specs.Ends.{End}
+use Rattle.prolly_link.specs.declared.end.End.{End}
 use Rattle.prolly_link.specs.declared.end.End.TheVariants.{Fault}
-use Rattle.prolly_fault.specs.declared.fault.RunFault.TheVariants.{Memory}
+use Rattle.prolly_link.specs.declared.fault.RunFault.TheVariants.{Memory}
 
 -- After `before`, all of the items were sent, and then the end; or memory was refused, and a prefix
 -- of them was sent.

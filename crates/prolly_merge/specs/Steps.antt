@@ -4,7 +4,7 @@ use Rattle.std.specs.List.{AllByRecursion}
 use Rattle.prolly_entry.specs.Record.{Record}
 use Rattle.prolly_entry.specs.Overlay.{last_change_of}
 use Rattle.prolly_link.specs.Identity.{LinkId}
-use Rattle.prolly_fault.specs.Ends.{Progress}
+use Rattle.prolly_link.specs.declared.progress.Progress.{Progress}
 use Rattle.prolly_merge.specs.Each.{Each}
 use Rattle.prolly_merge.specs.Heads.{in_hand, IsHeld, Allows, Moves, Stops}
 use Rattle.prolly_merge.specs.PeekedInputs.{heads_in}

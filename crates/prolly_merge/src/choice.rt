@@ -4,7 +4,7 @@ ghost use Rattle.prolly_merge.specs.Choices.{IsChoice, IsLeast};
 
 use crate::head::Head;
 use prolly_entry::{Record, key_order};
-use prolly_fault::End;
+use prolly_link::End;
 use std::cmp::Ordering;
 
 /// The last head of the least key, and whether another one before it has the key too.

@@ -3,8 +3,7 @@ ghost use Rattle.std.specs.Prelude.{◌≡◌};
 ghost use Rattle.prolly_merge.specs.Heads.{in_hand, IsHeld};
 
 use prolly_entry::Record;
-use prolly_fault::{End, Next, RunFault};
-use prolly_link::In;
+use prolly_link::{End, In, Next, RunFault};
 use std::sync::Wait;
 
 /// What an input gave last: its next record, or its end.
@@ -15,7 +14,7 @@ pub(crate) enum Head {
 }
 
 /// Receives the next head. An input that is lost counts as one that ended with a fault.
-pub(crate) fn receive<I: In<Record, RunFault>, R: Wait>(rt: &R, input: &mut I) -> Head
+pub(crate) fn receive<I: In<Record>, R: Wait>(rt: &R, input: &mut I) -> Head
     ensures link { I.link input.new ≡ I.link input.old }
     ensures follows { I.Follows input.old input.new }
     ensures received { I.received input.old input.new ≡ in_hand result }

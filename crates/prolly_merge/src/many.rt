@@ -16,14 +16,13 @@ use crate::put::send_put;
 use crate::round::next_of_many;
 use crate::step::Step;
 use prolly_entry::{Pair, Record};
-use prolly_fault::{End, RunFault};
-use prolly_link::{In, Out};
+use prolly_link::{End, In, Out, RunFault};
 use std::alloc::Global;
 use std::sync::Wait;
 
 /// What a merger of many inputs gives back: each input in its place.
 #[derive(Drop)]
-pub struct Merged<I, O: Out<Pair, RunFault>> {
+pub struct Merged<I, O: Out<Pair>> {
     pub inputs: Vec<I>,
     pub out: O::Closed,
     /// The number of pairs that were sent, or the greatest number where there were more.
@@ -31,7 +30,7 @@ pub struct Merged<I, O: Out<Pair, RunFault>> {
 }
 
 // Sends pairs until the merger stops, or memory is refused. Gives their number, and the end.
-fn send_many<I: In<Record, RunFault>, O: Out<Pair, RunFault>, R: Wait>(
+fn send_many<I: In<Record>, O: Out<Pair>, R: Wait>(
     rt: &R,
     inputs: &mut [I],
     heads: &mut [Head],
@@ -61,7 +60,7 @@ fn send_many<I: In<Record, RunFault>, O: Out<Pair, RunFault>, R: Wait>(
 }
 
 // Merges inputs in their places. Gives the number of pairs sent, and what is left of the output.
-fn merge_all<I: In<Record, RunFault>, O: Out<Pair, RunFault>, R: Wait>(
+fn merge_all<I: In<Record>, O: Out<Pair>, R: Wait>(
     rt: &R,
     alloc: Global,
     inputs: &mut [I],
@@ -99,7 +98,7 @@ fn merge_all<I: In<Record, RunFault>, O: Out<Pair, RunFault>, R: Wait>(
 /// Takes one comparison of keys an input for each record, and one more for those before it where
 /// inputs share its key. Where the receiver is far behind, it takes the hash of a pair's boundary,
 /// which the pair carries then.
-pub fn merge<I: In<Record, RunFault>, O: Out<Pair, RunFault>, R: Wait>(
+pub fn merge<I: In<Record>, O: Out<Pair>, R: Wait>(
     rt: &R,
     alloc: Global,
     mut inputs: Vec<I>,

@@ -5,14 +5,13 @@ ghost use Rattle.prolly_merge.specs.PeekedInputs.{peeked_of, Opens};
 
 use crate::head::{Head, receive};
 use prolly_entry::Record;
-use prolly_fault::RunFault;
-use prolly_link::In;
+use prolly_link::{In, RunFault};
 use std::alloc::Global;
 use std::sync::Wait;
 
 /// Receives the first head of each input. The memory for all of them is taken before, and where it
 /// is refused no input is received from.
-pub(crate) fn receive_heads<I: In<Record, RunFault>, R: Wait>(
+pub(crate) fn receive_heads<I: In<Record>, R: Wait>(
     rt: &R,
     alloc: Global,
     inputs: &mut [I],

@@ -6,8 +6,7 @@ ghost use Rattle.prolly_merge.specs.PeekedInputs.{Advances, Opens, Finishes};
 use crate::ending::finish;
 use crate::head::{Head, receive};
 use prolly_entry::Record;
-use prolly_fault::RunFault;
-use prolly_link::In;
+use prolly_link::{In, RunFault};
 use std::mem;
 use std::sync::Wait;
 
@@ -17,7 +16,7 @@ pub(crate) struct Peeked<I> {
     pub(crate) head: Head,
 }
 
-impl<I: In<Record, RunFault>> Peeked<I> {
+impl<I: In<Record>> Peeked<I> {
     /// The input with its first head.
     pub(crate) fn new<R: Wait>(rt: &R, mut input: I) -> Peeked<I>
         ensures { Opens I.link I.progress I.Follows I.received input result }

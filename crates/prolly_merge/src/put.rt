@@ -3,13 +3,12 @@ ghost use Rattle.std.specs.Prelude.{◌≡◌, ◌+◌, ◌++◌, OnOk, OnErr, I
 ghost use Rattle.prolly_entry.specs.Overlay.{pairs_of_change};
 
 use prolly_entry::{Pair, Record};
-use prolly_fault::RunFault;
-use prolly_link::Out;
+use prolly_link::{Out, RunFault};
 use std::alloc::AllocError;
 use std::sync::Wait;
 
 /// Sends the pair that a record puts; a removal puts none. Gives the count of pairs with it.
-pub(crate) fn send_put<O: Out<Pair, RunFault>, R: Wait>(
+pub(crate) fn send_put<O: Out<Pair>, R: Wait>(
     rt: &R,
     out: &mut O,
     merged: Record,

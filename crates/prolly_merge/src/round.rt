@@ -11,13 +11,12 @@ use crate::choice::{Choice, Least, choose};
 use crate::head::{Head, receive};
 use crate::step::Step;
 use prolly_entry::{Record, key_order};
-use prolly_fault::RunFault;
-use prolly_link::In;
+use prolly_link::{In, RunFault};
 use std::mem;
 use std::sync::Wait;
 
 // Gives the head of input number `at`, and receives its next one.
-fn next_of<I: In<Record, RunFault>, R: Wait>(
+fn next_of<I: In<Record>, R: Wait>(
     rt: &R,
     inputs: &mut [I],
     heads: &mut [Head],
@@ -46,7 +45,7 @@ fn has_key(head: &Head, sent: &Record) -> bool
 
 // Lets the inputs before number `at` that have the key of the record that is sent move on: theirs
 // are left out.
-fn skip_key<I: In<Record, RunFault>, R: Wait>(
+fn skip_key<I: In<Record>, R: Wait>(
     rt: &R,
     inputs: &mut [I],
     heads: &mut [Head],
@@ -67,7 +66,7 @@ fn skip_key<I: In<Record, RunFault>, R: Wait>(
 }
 
 // Takes the record of the chosen input. The others that have its key move on too.
-fn take<I: In<Record, RunFault>, R: Wait>(
+fn take<I: In<Record>, R: Wait>(
     rt: &R,
     least: Least,
     inputs: &mut [I],
@@ -90,7 +89,7 @@ fn take<I: In<Record, RunFault>, R: Wait>(
 }
 
 /// The next record of the inputs, which they give away, or why there is none.
-pub(crate) fn next_of_many<I: In<Record, RunFault>, R: Wait>(
+pub(crate) fn next_of_many<I: In<Record>, R: Wait>(
     rt: &R,
     inputs: &mut [I],
     heads: &mut [Head],

@@ -1,6 +1,6 @@
 //! What a merger does next.
 use prolly_entry::Record;
-use prolly_fault::End;
+use prolly_link::End;
 
 /// A merger sends a record, or stops with an end.
 #[derive(Drop)]

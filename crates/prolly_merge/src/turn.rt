@@ -3,7 +3,7 @@ ghost use Rattle.prolly_merge.specs.Turns.{IsTurn};
 
 use crate::head::Head;
 use prolly_entry::key_order;
-use prolly_fault::End;
+use prolly_link::End;
 use std::cmp::Ordering;
 
 /// The input whose record is sent next. Of two records with one key the right one is sent, and the

@@ -16,13 +16,12 @@ use crate::peeked::Peeked;
 use crate::step::Step;
 use crate::turn::{Turn, turn_of};
 use prolly_entry::Record;
-use prolly_fault::{End, RunFault};
-use prolly_link::{In, Out};
+use prolly_link::{End, In, Out, RunFault};
 use std::sync::Wait;
 
 /// What a merger of two inputs gives back.
 #[derive(Drop)]
-pub struct MergedTwo<I, O: Out<Record, RunFault>> {
+pub struct MergedTwo<I, O: Out<Record>> {
     pub left: I,
     pub right: I,
     pub out: O::Closed,
@@ -31,7 +30,7 @@ pub struct MergedTwo<I, O: Out<Record, RunFault>> {
 }
 
 // The next record of the two, which its inputs give away, or why there is none.
-fn next_of_two<I: In<Record, RunFault>, R: Wait>(
+fn next_of_two<I: In<Record>, R: Wait>(
     rt: &R,
     left: &mut Peeked<I>,
     right: &mut Peeked<I>,
@@ -56,7 +55,7 @@ fn next_of_two<I: In<Record, RunFault>, R: Wait>(
 
 // Sends records until the merger stops, or one is refused. Gives the number of records sent, and
 // the end.
-fn send_two<I: In<Record, RunFault>, O: Out<Record, RunFault>, R: Wait>(
+fn send_two<I: In<Record>, O: Out<Record>, R: Wait>(
     rt: &R,
     left: &mut Peeked<I>,
     right: &mut Peeked<I>,
@@ -98,7 +97,7 @@ fn send_two<I: In<Record, RunFault>, O: Out<Record, RunFault>, R: Wait>(
 /// of others it is known only that they have ended, and how many records were sent.
 ///
 /// Takes one comparison of keys a record, and no memory of its own.
-pub fn merge_two<I: In<Record, RunFault>, O: Out<Record, RunFault>, R: Wait>(
+pub fn merge_two<I: In<Record>, O: Out<Record>, R: Wait>(
     rt: &R,
     left: I,
     right: I,

@@ -8,10 +8,10 @@ use Rattle.prolly_tree.specs.Tree.{level_count}
 use Rattle.prolly_tree.specs.Chunk.{Chunk, chunks, begun_chunks}
 use Rattle.prolly_tree.specs.Events.{Closing, faulty, inner_events}
 use Rattle.prolly_tree.specs.Pipeline.{pipeline_events, within_stages, HasSecond}
-use Rattle.prolly_fault.specs.Ends.{End}
+use Rattle.prolly_link.specs.declared.end.End.{End}
 use Rattle.prolly_link.specs.declared.end.End.TheVariants.{Clean, Fault}
-use Rattle.prolly_fault.specs.declared.fault.RunFault.{RunFault}
-use Rattle.prolly_fault.specs.declared.fault.RunFault.TheVariants.{Memory}
+use Rattle.prolly_link.specs.declared.fault.RunFault.{RunFault}
+use Rattle.prolly_link.specs.declared.fault.RunFault.TheVariants.{Memory}
 use Rattle.prolly_stage.specs.Sends.{Sends}
 
 -- A stage keeps prefixes: what it makes of a list with a fault is a prefix of what it makes of a

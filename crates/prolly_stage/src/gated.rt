@@ -57,14 +57,14 @@ impl<'a, G: Ask, O> Gated<'a, G, O> {
     }
 
     /// Sends the next item, which takes so many bytes, and which the gate has opened for.
-    pub(crate) fn send_next<T, F, R: Wait>(
+    pub(crate) fn send_next<T, R: Wait>(
         &mut self,
         rt: &R,
         item: T,
         bytes: usize,
     ) -> Result<(), T>
     where
-        O: Out<T, F>,
+        O: Out<T>,
         requires { G.HasOpened self.old.gate self.old.worker self.old.next }
         ensures link { O.link self.new.out ≡ O.link self.old.out }
         ensures ok { OnOk result (O.sent self.new.out ≡ O.sent self.old.out ++ item ∷ []) }
@@ -79,9 +79,9 @@ impl<'a, G: Ask, O> Gated<'a, G, O> {
     }
 
     /// Whether the output's receiver is far behind.
-    pub(crate) fn is_ahead_of<T, F>(&self) -> bool
+    pub(crate) fn is_ahead_of<T>(&self) -> bool
     where
-        O: Out<T, F>,
+        O: Out<T>,
     {
         self.out.is_ahead()
     }

@@ -8,7 +8,7 @@ use crate::gated::Gated;
 use prolly_link::{End, Out};
 use std::sync::Wait;
 
-impl<'a, T, F, G: Gate, O: Out<T, F>> Out<T, F> for Gated<'a, G, O> {
+impl<'a, T, G: Gate, O: Out<T>> Out<T> for Gated<'a, G, O> {
     type Closed = O::Closed;
 
     ghost link = { λ g. O.link g.out };
@@ -41,11 +41,7 @@ impl<'a, T, F, G: Gate, O: Out<T, F>> Out<T, F> for Gated<'a, G, O> {
     }
 
     /// Sends the end. The gate is not asked, since an end is no item.
-    fn close<R: Wait>(self, rt: &R, end: End<F>) -> O::Closed
-        ensures link { O.closed_link result ≡ O.link self.entry.out }
-        ensures sent { O.all_sent result ≡ O.sent self.entry.out }
-        ensures end { O.end_sent result ≡ end }
-    {
+    fn close<R: Wait>(self, rt: &R, end: End) -> O::Closed {
         self.into_out().close(rt, end)
     }
 }

@@ -3,7 +3,7 @@ ghost use Rattle.std.specs.Prelude.{◌≡◌, ◌≤◌, ◌++◌, IfOk, OnOk, 
 ghost use Rattle.prolly_entry.specs.declared.version.Version.TheVariants.{One};
 ghost use Rattle.prolly_tree.specs.Events.{inner_events};
 ghost use Rattle.prolly_link.specs.Receipts.{HasEnded};
-ghost use Rattle.prolly_fault.specs.Ends.{end_given};
+ghost use Rattle.prolly_link.specs.Receipts.{end_given};
 ghost use Rattle.prolly_stage.specs.Sends.{closing_of, Sends, GivesUp};
 ghost use Rattle.prolly_stage.specs.Taking.{SendsNode, SendsNodeInPart};
 
@@ -11,13 +11,12 @@ use crate::sending::{send_closed, send_event};
 use crate::staged::{Staged, give_up};
 use prolly_chunk::{ChunkEvent, NodeLevel};
 use prolly_entry::{Cut, Version};
-use prolly_fault::{End, Next, RunFault};
-use prolly_link::{In, Out};
+use prolly_link::{End, In, Next, Out, RunFault};
 use std::alloc::{AllocError, Global};
 use std::sync::Wait;
 
 /// As [`inner_stage_as`], of version One.
-pub fn inner_stage<C: Cut, I: In<ChunkEvent, RunFault>, O: Out<ChunkEvent, RunFault>, R: Wait>(
+pub fn inner_stage<C: Cut, I: In<ChunkEvent>, O: Out<ChunkEvent>, R: Wait>(
     rt: &R,
     alloc: Global,
     level: u8,
@@ -47,7 +46,7 @@ pub fn inner_stage<C: Cut, I: In<ChunkEvent, RunFault>, O: Out<ChunkEvent, RunFa
 /// the bytes of one node, and takes one look at the cut for each child. It takes the hash of each
 /// chunk whose event does not carry its reference, and sends the event with it. It returns if the
 /// ends do.
-pub fn inner_stage_as<C: Cut, I: In<ChunkEvent, RunFault>, O: Out<ChunkEvent, RunFault>, R: Wait>(
+pub fn inner_stage_as<C: Cut, I: In<ChunkEvent>, O: Out<ChunkEvent>, R: Wait>(
     rt: &R,
     alloc: Global,
     version: Version,
@@ -75,7 +74,7 @@ pub fn inner_stage_as<C: Cut, I: In<ChunkEvent, RunFault>, O: Out<ChunkEvent, Ru
 }
 
 /// Receives events, sends them with those of the nodes above them, and answers their end.
-fn send_nodes<C: Cut, I: In<ChunkEvent, RunFault>, O: Out<ChunkEvent, RunFault>, R: Wait>(
+fn send_nodes<C: Cut, I: In<ChunkEvent>, O: Out<ChunkEvent>, R: Wait>(
     rt: &R,
     alloc: Global,
     version: Version,
@@ -112,7 +111,7 @@ fn send_nodes<C: Cut, I: In<ChunkEvent, RunFault>, O: Out<ChunkEvent, RunFault>,
 }
 
 /// Takes an event, and sends it, with its reference, and then the node that it closes, if any.
-fn take_event<C: Cut, O: Out<ChunkEvent, RunFault>, R: Wait>(
+fn take_event<C: Cut, O: Out<ChunkEvent>, R: Wait>(
     rt: &R,
     alloc: Global,
     nodes: &mut NodeLevel<C>,

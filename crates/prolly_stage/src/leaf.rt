@@ -3,7 +3,7 @@ ghost use Rattle.std.specs.Prelude.{◌≡◌, ◌++◌, IfOk, OnOk, OnErr};
 ghost use Rattle.prolly_entry.specs.declared.version.Version.{Version as VersionValue};
 ghost use Rattle.prolly_tree.specs.Events.{leaf_events};
 ghost use Rattle.prolly_link.specs.Receipts.{HasEnded};
-ghost use Rattle.prolly_fault.specs.Ends.{end_given};
+ghost use Rattle.prolly_link.specs.Receipts.{end_given};
 ghost use Rattle.prolly_stage.specs.Sends.{closing_of, Sends, GivesUp};
 ghost use Rattle.prolly_stage.specs.Taking.{SendsLeaf};
 
@@ -11,8 +11,7 @@ use crate::sending::send_closed;
 use crate::staged::{Staged, give_up};
 use prolly_chunk::{ChunkEvent, LeafLevel};
 use prolly_entry::{Cut, Pair};
-use prolly_fault::{End, Next, RunFault};
-use prolly_link::{In, Out};
+use prolly_link::{End, In, Next, Out, RunFault};
 use std::alloc::{AllocError, Global};
 use std::sync::Wait;
 
@@ -24,7 +23,7 @@ use std::sync::Wait;
 /// Where memory is refused it closes with that fault, and receives its input to the end. It keeps
 /// the bytes of one leaf, and takes one look at the cut for each pair. The hash of a leaf is left
 /// to whoever asks for its reference first. It returns if the ends do.
-pub fn leaf_stage<C: Cut, I: In<Pair, RunFault>, O: Out<ChunkEvent, RunFault>, R: Wait>(
+pub fn leaf_stage<C: Cut, I: In<Pair>, O: Out<ChunkEvent>, R: Wait>(
     rt: &R,
     alloc: Global,
     cut: C,
@@ -49,7 +48,7 @@ pub fn leaf_stage<C: Cut, I: In<Pair, RunFault>, O: Out<ChunkEvent, RunFault>, R
 }
 
 /// Receives the pairs, sends their leaves, and answers the end of the pairs.
-fn send_leaves<C: Cut, I: In<Pair, RunFault>, O: Out<ChunkEvent, RunFault>, R: Wait>(
+fn send_leaves<C: Cut, I: In<Pair>, O: Out<ChunkEvent>, R: Wait>(
     rt: &R,
     alloc: Global,
     cut: C,
@@ -83,7 +82,7 @@ fn send_leaves<C: Cut, I: In<Pair, RunFault>, O: Out<ChunkEvent, RunFault>, R: W
 }
 
 /// Takes a pair, and sends the leaf that it closes, if any. An `Err` has sent nothing.
-fn take_pair<C: Cut, O: Out<ChunkEvent, RunFault>, R: Wait>(
+fn take_pair<C: Cut, O: Out<ChunkEvent>, R: Wait>(
     rt: &R,
     alloc: Global,
     leaves: &mut LeafLevel<C>,

@@ -3,13 +3,12 @@ ghost use Rattle.std.specs.Prelude.{◌≡◌, ◌∷◌, [], ◌++◌, OnOk, On
 ghost use Rattle.std.specs.Option.{option_to_list};
 
 use prolly_chunk::ChunkEvent;
-use prolly_fault::RunFault;
-use prolly_link::Out;
+use prolly_link::{Out, RunFault};
 use std::alloc::AllocError;
 use std::sync::Wait;
 
 /// Sends an event. An `Err` has sent nothing.
-pub(crate) fn send_event<O: Out<ChunkEvent, RunFault>, R: Wait>(
+pub(crate) fn send_event<O: Out<ChunkEvent>, R: Wait>(
     rt: &R,
     out: &mut O,
     event: ChunkEvent,
@@ -26,7 +25,7 @@ pub(crate) fn send_event<O: Out<ChunkEvent, RunFault>, R: Wait>(
 }
 
 /// Sends the event of a chunk, if one closed. An `Err` has sent nothing.
-pub(crate) fn send_closed<O: Out<ChunkEvent, RunFault>, R: Wait>(
+pub(crate) fn send_closed<O: Out<ChunkEvent>, R: Wait>(
     rt: &R,
     out: &mut O,
     closed: Option<ChunkEvent>,

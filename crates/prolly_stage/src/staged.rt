@@ -2,22 +2,21 @@
 ghost use Rattle.std.specs.Prelude.{◌≡◌};
 ghost use Rattle.prolly_link.specs.Receipts.{HasEnded};
 ghost use Rattle.prolly_link.specs.declared.end.End.TheVariants.{Fault};
-ghost use Rattle.prolly_fault.specs.declared.fault.RunFault.TheVariants.{Memory};
+ghost use Rattle.prolly_link.specs.declared.fault.RunFault.TheVariants.{Memory};
 
 use prolly_chunk::ChunkEvent;
-use prolly_fault::{End, RunFault};
-use prolly_link::{In, Out, receive_rest};
+use prolly_link::{End, In, Out, RunFault, receive_rest};
 use std::sync::Wait;
 
 /// The ends that a stage was given: the input has ended, and the output is closed.
-pub struct Staged<I, O: Out<ChunkEvent, RunFault>> {
+pub struct Staged<I, O: Out<ChunkEvent>> {
     pub input: I,
     pub out: O::Closed,
 }
 
 /// Gives up for want of memory: closes the output, and then receives the input to its end, so that
 /// its sender does not wait for room for good.
-pub(crate) fn give_up<T: Drop, I: In<T, RunFault>, O: Out<ChunkEvent, RunFault>, R: Wait>(
+pub(crate) fn give_up<T: Drop, I: In<T>, O: Out<ChunkEvent>, R: Wait>(
     rt: &R,
     mut input: I,
     out: O,

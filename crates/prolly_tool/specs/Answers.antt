@@ -5,7 +5,7 @@ use Rattle.prolly_line.specs.declared.command.ParseFault.TheVariants.{Memory, Us
 use Rattle.prolly_line.specs.declared.command.ParseFault.TheVariants.{BadKey as BadKeyWord}
 use Rattle.prolly_line.specs.declared.command.ParseFault.TheVariants.{BadTextKey as BadTextKeyWord}
 use Rattle.prolly_line.specs.declared.command.ParseFault.TheVariants.{BadRoot as BadRootWord}
-use Rattle.prolly_fault.specs.declared.fault.RunFault.TheVariants.{Memory as OutOfMemory}
+use Rattle.prolly_link.specs.declared.fault.RunFault.TheVariants.{Memory as OutOfMemory}
 use Rattle.prolly_text.specs.Names.{shown_name}
 use Rattle.prolly_tool.specs.declared.answer.Answer.{Answer}
 use Rattle.prolly_tool.specs.declared.fault.Fault.{Fault}

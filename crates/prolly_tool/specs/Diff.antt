@@ -3,7 +3,7 @@ use Rattle.std.specs.Prelude.{◌⊎◌, ℕ, List, [], Option, Some, None, Bool
 use Rattle.prolly_check.specs.Content.{Content}
 use Rattle.prolly_entry.specs.Pair.{Pair}
 use Rattle.prolly_entry.specs.Record.{Record}
-use Rattle.prolly_fault.specs.declared.fault.RunFault.{RunFault}
+use Rattle.prolly_link.specs.declared.fault.RunFault.{RunFault}
 use Rattle.prolly_tree.specs.Difference.{IsDifference}
 use Rattle.prolly_tool.specs.Answers.{Shows}
 use Rattle.prolly_tool.specs.Counts.{are_some, stat_line}

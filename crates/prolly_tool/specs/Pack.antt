@@ -21,7 +21,7 @@ use Rattle.prolly_tool.specs.declared.line.LineFlaw.{LineFlaw}
 use Rattle.prolly_tool.specs.declared.line.LineFlaw.TheVariants as flaws
 use Rattle.prolly_tool.specs.declared.fault.Fault.{Fault}
 use Rattle.prolly_tool.specs.declared.fault.Fault.TheVariants.{Pack, Run}
-use Rattle.prolly_fault.specs.declared.fault.RunFault.TheVariants.{Read}
+use Rattle.prolly_link.specs.declared.fault.RunFault.TheVariants.{Read}
 use Rattle.prolly_file.specs.Sink.{SinkView}
 use Rattle.prolly_file.specs.Source.{SourceView}
 use Rattle.prolly_tool.specs.Answers.{ShowsFault}

@@ -2,7 +2,7 @@
 use Rattle.std.specs.Prelude.{◌⊎◌, ℕ, List, Option}
 use Rattle.prolly_check.specs.Content.{Content}
 use Rattle.prolly_entry.specs.declared.version.Version.{Version}
-use Rattle.prolly_fault.specs.declared.fault.RunFault.TheVariants.{Write}
+use Rattle.prolly_link.specs.declared.fault.RunFault.TheVariants.{Write}
 use Rattle.prolly_root.specs.ProofFault.{IsFault}
 use Rattle.prolly_root.specs.ProofFile.{IsProof, IsProofOf}
 use Rattle.prolly_text.specs.declared.notation.Notation.{Notation}

@@ -8,8 +8,8 @@ use Rattle.prolly_entry.specs.Cut.{sha512_cut}
 use Rattle.prolly_entry.specs.RecordList.{ArePairsOf, IsFaultOf}
 use Rattle.prolly_entry.specs.Reference.{reference_text}
 use Rattle.prolly_file.specs.Scratch.{Builds, IsTooTall}
-use Rattle.prolly_fault.specs.declared.fault.RunFault.{RunFault}
-use Rattle.prolly_fault.specs.declared.fault.RunFault.TheVariants as runs
+use Rattle.prolly_link.specs.declared.fault.RunFault.{RunFault}
+use Rattle.prolly_link.specs.declared.fault.RunFault.TheVariants as runs
 use Rattle.prolly_tool.specs.declared.fault.Fault.{Fault}
 use Rattle.prolly_tool.specs.declared.fault.Fault.TheVariants.{Run}
 use Rattle.prolly_tool.specs.Input.{IsReadWhole, IsInputFault}

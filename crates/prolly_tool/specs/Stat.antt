@@ -25,7 +25,7 @@ use Rattle.prolly_tool.specs.declared.answer.Answer.{Answer}
 use Rattle.prolly_tool.specs.declared.fault.Fault.TheVariants.{Run}
 use Rattle.prolly_tool.specs.declared.stat_form.StatForm.{StatForm}
 use Rattle.prolly_tool.specs.declared.stat_form.StatForm.TheVariants.{Lines, Json}
-use Rattle.prolly_fault.specs.declared.fault.RunFault.TheVariants as runs
+use Rattle.prolly_link.specs.declared.fault.RunFault.TheVariants as runs
 
 -- ---- a chunk file
 

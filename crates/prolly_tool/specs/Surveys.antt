@@ -4,7 +4,7 @@ use Rattle.std.specs.Prelude.{Result, IfOk}
 use Rattle.std.specs.Fmt.{decimal}
 use Rattle.std.specs.Option.{option_copied}
 use Rattle.std.specs.declared.alloc.AllocError.{AllocError}
-use Rattle.prolly_fault.specs.declared.fault.RunFault.TheVariants as runs
+use Rattle.prolly_link.specs.declared.fault.RunFault.TheVariants as runs
 use Rattle.prolly_file.specs.Source.{SourceView}
 use Rattle.prolly_load.specs.Survey.{IsSurvey, bytes_of}
 use Rattle.prolly_load.specs.declared.surveyed.FlawedRecord.{FlawedRecord}

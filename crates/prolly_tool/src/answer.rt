@@ -8,8 +8,8 @@ ghost use Rattle.prolly_tool.specs.LookUps.{ShowsPair, ShowsValue};
 use crate::fault::Fault;
 use crate::line_parts::append_pair;
 use crate::name_fault::NameFault;
-use prolly_fault::RunFault;
 use prolly_line::ParseFault;
+use prolly_link::RunFault;
 use prolly_text::{Notation, append_name};
 use std::alloc::{AllocError, Global};
 

@@ -6,7 +6,7 @@ use crate::answer::Answer;
 use crate::fault::Fault;
 use crate::line_parts::append_number;
 use prolly_build::Report;
-use prolly_fault::RunFault;
+use prolly_link::RunFault;
 use std::alloc::{AllocError, Global};
 
 /// What `build` answers: one line with the text of the root and the numbers of chunks, pairs and

@@ -14,8 +14,8 @@ use crate::fault::Fault;
 use crate::input::INPUT_LIMIT;
 use crate::record_form::RecordForm;
 use prolly_check::{Tree, check};
-use prolly_fault::RunFault;
 use prolly_file::{Sink, Source, WriteFault};
+use prolly_link::RunFault;
 use std::alloc::{AllocError, Global};
 
 /// What `dump` answers: it reads a chunk file from the source, writes its pairs to the sink, as

@@ -7,8 +7,8 @@ ghost use Rattle.prolly_tool.specs.declared.record_form.RecordForm.TheVariants.{
 
 use crate::record_form::append_line;
 use prolly_check::{Leaves, Pairs};
-use prolly_fault::RunFault;
 use prolly_file::{Sink, write_all};
+use prolly_link::RunFault;
 use prolly_text::Notation;
 use std::alloc::{AllocError, Global};
 

@@ -6,7 +6,7 @@ ghost use Rattle.prolly_tool.specs.Faults.{fault_status};
 use crate::fault_texts::{CheckText, ProofText, RootText, RunText, SideText};
 use crate::pack::PackFault;
 use prolly_check::CheckFault;
-use prolly_fault::RunFault;
+use prolly_link::RunFault;
 use prolly_root::{ProofFault, RootFault};
 use std::fmt;
 use std::fmt::{Display, Formatter};

@@ -5,7 +5,7 @@ ghost use Rattle.prolly_tool.specs.Faults.{run_text};
 ghost use Rattle.prolly_tool.specs.Messages.{message_text};
 
 use prolly_check::CheckFault;
-use prolly_fault::RunFault;
+use prolly_link::RunFault;
 use prolly_root::{ProofFault, RootFault};
 use std::fmt;
 use std::fmt::{Display, Formatter};

@@ -3,8 +3,8 @@ ghost use Rattle.std.specs.Prelude.{◌≡◌, ◌≢◌, ◌≤◌, true, lengt
 ghost use Rattle.prolly_tool.specs.Input.{IsReadWhole, IsInputFault};
 
 use crate::fault::Fault;
-use prolly_fault::RunFault;
 use prolly_file::{Source, WholeFault, read_whole};
+use prolly_link::RunFault;
 use std::alloc::Global;
 
 /// How many bytes a command reads at most.

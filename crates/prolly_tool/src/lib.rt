@@ -51,7 +51,7 @@ pub use name_fault::NameFault;
 pub use nth_answer::{answer_nth, answer_nth_as};
 pub use pack::{PackFault, pack_lines, pack_lines_as};
 pub use pack_answer::{answer_pack, answer_pack_as};
-pub use prolly_build::{Config, ConfigFault, Report};
+pub use prolly_build::{AllStart, Config, ConfigFault, Permit, Report, build, build_with};
 pub use prolly_line::{Command, ParseFault, WriteMode, parse};
 pub use prolly_text::Notation;
 pub use prove_answer::answer_prove;

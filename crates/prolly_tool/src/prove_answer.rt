@@ -8,8 +8,8 @@ use crate::answer::Answer;
 use crate::fault::Fault;
 use crate::input::INPUT_LIMIT;
 use prolly_check::check;
-use prolly_fault::RunFault;
 use prolly_file::{Sink, Source, WriteFault, write_whole};
+use prolly_link::RunFault;
 use prolly_root::prove;
 use std::alloc::{AllocError, Global};
 

@@ -12,8 +12,8 @@ use crate::answer::Answer;
 use crate::fault::Fault;
 use crate::input::{RECORD_LIMIT, input_of};
 use prolly_entry::{Pair, RecordFault, Ref, Sha512Cut, Version, records};
-use prolly_fault::RunFault;
 use prolly_file::{ScratchFault, Sink, Source, WriteFault, scratch_as, write_whole};
+use prolly_link::RunFault;
 use std::alloc::{AllocError, Global};
 
 /// How many levels a tree has at most. No map that fits into memory has as many.

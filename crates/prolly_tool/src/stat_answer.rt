@@ -8,8 +8,8 @@ use crate::record_stat::survey_answer;
 use crate::stat_form::StatForm;
 use crate::tree_stat::tree_answer;
 use prolly_check::check;
-use prolly_fault::RunFault;
 use prolly_file::{Rejoined, Source, SourceFault, take_front};
+use prolly_link::RunFault;
 use prolly_load::survey;
 use std::alloc::{AllocError, Global};
 

@@ -1,6 +1,6 @@
 //! The command `verify`: what a proof says of a key, for who knows the root alone.
 ghost use Rattle.std.specs.Prelude.{◌≡◌, ◌≢◌, true, IfOk};
-ghost use Rattle.prolly_fault.specs.declared.fault.RunFault.TheVariants.{Read};
+ghost use Rattle.prolly_link.specs.declared.fault.RunFault.TheVariants.{Read};
 ghost use Rattle.prolly_tool.specs.Answers.{ShowsFault};
 ghost use Rattle.prolly_tool.specs.Proofs.{IsVerify};
 

@@ -10,9 +10,8 @@ use crate::merging::{bytes_of_pairs, bytes_of_records, list_of, lists_of};
 use crate::stages::lists::{leaves_of, two_stages};
 use crate::stages::{KEYS, levels_of};
 use prolly_entry::{KeyCut, Version};
-use prolly_fault::{End, Next, RunFault};
 use prolly_file::FromRead;
-use prolly_link::{In, LinkFault, ListOut, Out, batch_link, link};
+use prolly_link::{End, In, LinkFault, ListOut, Next, Out, RunFault, batch_link, link};
 use prolly_merge::{merge, merge_two};
 use prolly_test_parts::pairs_of;
 use std::alloc::Global;
@@ -23,7 +22,7 @@ use std::test::Fail;
 const MEMORY: End = End::Fault(RunFault::Memory);
 
 /// Sends these, a second time where one was refused, and then a clean end.
-fn send_all<O: Out<u32, RunFault>>(
+fn send_all<O: Out<u32>>(
     rt: &(impl Abort + Wait),
     mut out: O,
     items: &[u32],
@@ -38,7 +37,7 @@ fn send_all<O: Out<u32, RunFault>>(
 }
 
 /// Fails unless these are received, and then a clean end.
-fn expect_received<I: In<u32, RunFault>>(
+fn expect_received<I: In<u32>>(
     rt: &(impl Abort + Wait),
     mut input: I,
     items: &[u32],

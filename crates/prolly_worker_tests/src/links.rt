@@ -3,13 +3,7 @@ ghost use Rattle.std.specs.Prelude.{◌≡◌};
 
 use comparing::expect_eq;
 use copies::{Copies, copy_all, copy_list};
-use prolly_fault::{
-    BatchReceiver, ClosedBatch, ClosedSender, End, ListIn, Next, Receiver, RunFault,
-};
-use prolly_link::{
-    BatchDrained, Drained, In, LinkFault, ListOut, Out, batch_link, compare, compare_batches,
-    compare_closed, compare_closed_batches, link, meet, meet_batches, receive_rest,
-};
+use prolly_link::{BatchDrained, BatchReceiver, ClosedBatch, ClosedSender, Drained, End, In, LinkFault, ListIn, ListOut, Next, Out, Receiver, RunFault, batch_link, compare, compare_batches, compare_closed, compare_closed_batches, link, meet, meet_batches, receive_rest};
 use std::alloc::Global;
 use std::process::Abort;
 use std::sync::Wait;
@@ -32,7 +26,7 @@ fn expect_taken(rt: &impl Abort, sent: Result<(), u32>) {
 }
 
 // Fails unless each of these items is taken.
-fn sends<O: Out<u32, RunFault>>(rt: &(impl Abort + Wait), out: &mut O, items: &[u32])
+fn sends<O: Out<u32>>(rt: &(impl Abort + Wait), out: &mut O, items: &[u32])
     ensures { O.link out.new ≡ O.link out.old }
 {
     for &item in items {
@@ -41,7 +35,7 @@ fn sends<O: Out<u32, RunFault>>(rt: &(impl Abort + Wait), out: &mut O, items: &[
 }
 
 // Fails unless this is received, in this order.
-fn receives<I: In<u32, RunFault>>(rt: &(impl Abort + Wait), input: &mut I, expected: &[Next<u32>])
+fn receives<I: In<u32>>(rt: &(impl Abort + Wait), input: &mut I, expected: &[Next<u32>])
     ensures { I.link input.new ≡ I.link input.old }
 {
     for next in expected {
@@ -64,7 +58,7 @@ fn batches_give(rt: &(impl Abort + Wait), receiver: &mut BatchReceiver<u32>, exp
 }
 
 // Sends these, each of which must be taken, and then a clean end.
-fn send_all<O: Out<u32, RunFault>>(rt: &(impl Abort + Wait), mut out: O, items: &[u32]) -> O::Closed
+fn send_all<O: Out<u32>>(rt: &(impl Abort + Wait), mut out: O, items: &[u32]) -> O::Closed
     ensures { O.closed_link result ≡ O.link out }
 {
     sends(rt, &mut out, items);
@@ -200,7 +194,7 @@ fn a_thousand_numbers_go_across(rt: HostRuntime) -> Result<(), Fail> {
 
 // Fails unless four messages of these items are taken, and the sender is ahead from the second one
 // on, where half of the room is left.
-fn fills_four<O: Out<u32, RunFault>>(rt: &(impl Abort + Wait), out: &mut O, message: &[u32]) {
+fn fills_four<O: Out<u32>>(rt: &(impl Abort + Wait), out: &mut O, message: &[u32]) {
     for is_ahead in [false, true, true, true] {
         sends(rt, out, message);
         expect_eq(rt, &out.is_ahead(), &is_ahead);
@@ -236,7 +230,7 @@ fn a_long_wait_ends(rt: HostRuntime) -> Result<(), Fail> {
 }
 
 // The receiver of a new link to which all of this input was copied.
-fn copied_to_link<I: In<u32, RunFault> + Drop>(
+fn copied_to_link<I: In<u32> + Drop>(
     rt: &impl Wait,
     alloc: Global,
     input: I,
@@ -247,7 +241,7 @@ fn copied_to_link<I: In<u32, RunFault> + Drop>(
 }
 
 // The same over batches.
-fn copied_to_batches<I: In<u32, RunFault> + Drop>(
+fn copied_to_batches<I: In<u32> + Drop>(
     rt: &impl Wait,
     alloc: Global,
     input: I,

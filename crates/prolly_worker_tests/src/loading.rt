@@ -3,9 +3,8 @@ ghost use Rattle.std.specs.Prelude.{◌<◌};
 
 use crate::links::comparing::expect_sent;
 use prolly_entry::{Record, append_record};
-use prolly_fault::{ClosedList, End, RunFault};
 use prolly_file::{FromRead, ScriptSource, Source};
-use prolly_link::ListOut;
+use prolly_link::{ClosedList, End, ListOut, RunFault};
 use prolly_load::{Loaded, load};
 use prolly_test_parts::Zeros;
 use sources::Watched;
@@ -25,7 +24,7 @@ pub(crate) fn load_all<S: Source>(
     alloc: Global,
     source: S,
     limit: u32,
-) -> Loaded<S, ClosedList<Record>> {
+) -> Loaded<S, ListOut<Record>> {
     load(rt, alloc, 0, source, limit, ListOut::new(alloc))
 }
 

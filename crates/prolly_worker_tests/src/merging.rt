@@ -1,9 +1,8 @@
 //! The mergers, over lists and over links.
 use crate::links::comparing::{expect_all_taken, expect_bytes, expect_eq, expect_sent};
 use prolly_entry::{Pair, Record};
-use prolly_fault::{End, ListIn, Receiver, RunFault};
 use prolly_file::FromRead;
-use prolly_link::{In, ListOut, link};
+use prolly_link::{End, In, ListIn, ListOut, Receiver, RunFault, link};
 use prolly_load::load;
 use prolly_merge::{merge, merge_two};
 use std::alloc::{AllocError, Global};
@@ -64,7 +63,7 @@ static MANY_INPUTS: [(&[(&[u8], End)], &[u8], End); 13] = [
 
 /// Merges these inputs, and fails unless they are given back, and these pairs, spelled as in
 /// `records_of`, are sent, and then this end.
-fn expect_merged<I: In<Record, RunFault> + Drop, R: Abort + Wait>(
+fn expect_merged<I: In<Record> + Drop, R: Abort + Wait>(
     rt: &R,
     alloc: Global,
     inputs: Vec<I>,
@@ -115,7 +114,7 @@ fn merges_two_inputs_with_their_removals(rt: HostRuntime) -> Result<(), Fail> {
 }
 
 /// Merges two inputs, and compares the records and the end.
-fn expect_two_merged<I: In<Record, RunFault> + Drop, R: Abort + Wait>(
+fn expect_two_merged<I: In<Record> + Drop, R: Abort + Wait>(
     rt: &R,
     alloc: Global,
     left: I,

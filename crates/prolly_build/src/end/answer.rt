@@ -7,9 +7,9 @@ ghost use Rattle.prolly_entry.specs.Pair.{Pair as PairValue};
 ghost use Rattle.prolly_tree.specs.Pipeline.{pipeline_events, before_second};
 ghost use Rattle.prolly_file.specs.Sink.{SinkView, TakesPrefix};
 ghost use Rattle.prolly_link.specs.Receipts.{HasEnded};
-ghost use Rattle.prolly_fault.specs.Ends.{end_given};
+ghost use Rattle.prolly_link.specs.Receipts.{end_given};
 ghost use Rattle.prolly_link.specs.declared.end.End.TheVariants.{Clean, Fault};
-ghost use Rattle.prolly_fault.specs.declared.fault.RunFault.TheVariants.{Memory, Write};
+ghost use Rattle.prolly_link.specs.declared.fault.RunFault.TheVariants.{Memory, Write};
 ghost use Rattle.prolly_build.specs.Settings.{AreLawful};
 ghost use Rattle.prolly_build.specs.Writing.{HasWritten, frames_of};
 ghost use Rattle.prolly_build.specs.Built.{IsBegun, IsRunOf, IsFileOf, IsUnmadeOf, IsInputEnd};
@@ -22,8 +22,8 @@ use crate::links::meet;
 use crate::report::Report;
 use crate::run::{Ran, Wrote};
 use prolly_chunk::ChunkEvent;
-use prolly_fault::RunFault;
 use prolly_file::Sink;
+use prolly_link::RunFault;
 use std::sync::Wait;
 
 /// Meets the last link, and then ends the file.

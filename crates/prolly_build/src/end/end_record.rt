@@ -11,8 +11,8 @@ ghost use Rattle.prolly_build.specs.Writing.{HasWritten, HasEnded, IsEndFault};
 
 use crate::report::Report;
 use crate::run::{Begun, Written};
-use prolly_fault::{End, RunFault};
 use prolly_file::Sink;
+use prolly_link::{End, RunFault};
 
 /// What the build answers once all workers have ended: the fault that came through the last link,
 /// or else that a write failed, that the tree is too tall, or what was made, with the end record

@@ -2,7 +2,7 @@
 ghost use Rattle.std.specs.Prelude.{◌≡◌};
 ghost use Rattle.prolly_build.specs.Ran.{IsHaltFault};
 
-use prolly_fault::{BatchReceiver, BatchSender, End, RunFault};
+use prolly_link::{BatchReceiver, BatchSender, End, RunFault};
 use std::sync::Wait;
 
 /// Why the workers were not all met.

@@ -6,7 +6,7 @@ use crate::config::Config;
 use crate::links::fork::{Fork, new_forks};
 use crate::links::link::{NewLink, new_link};
 use prolly_entry::Record;
-use prolly_fault::{BatchReceiver, BatchSender, ClosedBatch};
+use prolly_link::{BatchReceiver, BatchSender, ClosedBatch};
 use std::alloc::{AllocError, Global};
 
 /// The links below the last merger, and the room for the closed ends of those into it.

@@ -15,8 +15,8 @@ use crate::run::ran::Ran;
 use crate::start::{Input, LastEnds, Permit, Runtime, Site, start_last};
 use prolly_chunk::ChunkEvent;
 use prolly_entry::{Pair, Record};
-use prolly_fault::{BatchReceiver, BatchSender, ClosedBatch};
 use prolly_file::Sink;
+use prolly_link::{BatchReceiver, BatchSender, ClosedBatch};
 use prolly_stage::Gate;
 use std::sync::Wait;
 

@@ -8,8 +8,8 @@ use crate::run::writer::{Wrote, write_all};
 use crate::start::{Input, Permit, Runtime, Site, start_loader};
 use prolly_chunk::ChunkEvent;
 use prolly_entry::Record;
-use prolly_fault::{BatchReceiver, BatchSender, ClosedBatch};
 use prolly_file::Sink;
+use prolly_link::{BatchReceiver, BatchSender, ClosedBatch};
 use prolly_load::Loaded;
 use prolly_stage::Gate;
 

@@ -12,8 +12,8 @@ use crate::run::writer::Wrote;
 use crate::start::{Input, Permit, Runtime, Site, TwoEnds, start_two};
 use prolly_chunk::ChunkEvent;
 use prolly_entry::Record;
-use prolly_fault::{BatchReceiver, BatchSender, ClosedBatch};
 use prolly_file::Sink;
+use prolly_link::{BatchReceiver, BatchSender, ClosedBatch};
 use prolly_stage::Gate;
 
 /// Starts a merger of two for each fork, the last one first, then loads and writes, joins the

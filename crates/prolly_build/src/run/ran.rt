@@ -9,7 +9,7 @@ use crate::links::meet;
 use crate::run::writer::Wrote;
 use crate::start::StageEnds;
 use prolly_chunk::ChunkEvent;
-use prolly_fault::ClosedBatch;
+use prolly_link::ClosedBatch;
 use std::sync::Wait;
 
 /// What the workers up to one of them gave back: its closed output, how many pairs the last merger

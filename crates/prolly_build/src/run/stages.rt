@@ -10,8 +10,8 @@ use crate::run::ran::Ran;
 use crate::start::{Input, Permit, Runtime, Site, start_leaves, start_nodes};
 use prolly_chunk::ChunkEvent;
 use prolly_entry::Pair;
-use prolly_fault::{BatchReceiver, BatchSender};
 use prolly_file::Sink;
+use prolly_link::{BatchReceiver, BatchSender};
 use prolly_stage::Gate;
 
 /// Starts the stage of the leaves, then all workers below it, writes, joins it, and meets the link

@@ -3,16 +3,15 @@
 ghost use Rattle.std.specs.Prelude.{◌≡◌, ℕ, List, []};
 ghost use Rattle.prolly_file.specs.Sink.{SinkView};
 ghost use Rattle.prolly_link.specs.Receipts.{HasEnded};
-ghost use Rattle.prolly_fault.specs.Ends.{end_given};
+ghost use Rattle.prolly_link.specs.Receipts.{end_given};
 ghost use Rattle.prolly_build.specs.Ran.{IsWritten};
 ghost use Rattle.prolly_build.specs.Writing.{HasWritten};
 
 use crate::config::Config;
 use crate::run::written::Written;
 use prolly_chunk::ChunkEvent;
-use prolly_fault::{BatchReceiver, End, Next, RunFault};
 use prolly_file::Sink;
-use prolly_link::In;
+use prolly_link::{BatchReceiver, End, In, Next, RunFault};
 use std::sync::Wait;
 
 /// What the writer gives back: the last link's receiver, which has ended, with its end, and how far
@@ -41,7 +40,7 @@ pub(crate) fn write_all<R: Wait, W: Sink>(
 }
 
 /// Receives to the end, and writes.
-fn write_events<I: In<ChunkEvent, RunFault>, W: Sink, R: Wait>(
+fn write_events<I: In<ChunkEvent>, W: Sink, R: Wait>(
     rt: &R,
     input: &mut I,
     sink: &mut W,

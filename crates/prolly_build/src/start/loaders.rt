@@ -5,8 +5,8 @@ ghost use Rattle.prolly_build.specs.Workers.{IsLoadedFrom};
 use crate::start::permit::{Permit, permitted};
 use crate::start::site::Site;
 use prolly_entry::Record;
-use prolly_fault::{BatchSender, ClosedBatch};
 use prolly_file::Source;
+use prolly_link::BatchSender;
 use prolly_load::{Loaded, load};
 use prolly_stage::{Gate, Gated, Worker};
 use std::alloc::Global;
@@ -23,7 +23,7 @@ pub(crate) struct LoadPromise<S> {
     pub out: Snapshot<BatchSender<Record>>,
 }
 
-impl<S: Source> Promise<Loaded<S, ClosedBatch<Record>>> for LoadPromise<S> {
+impl<S: Source> Promise<Loaded<S, BatchSender<Record>>> for LoadPromise<S> {
     ghost use Rattle.prolly_build.specs.Workers.{IsLoadedFrom};
 
     ghost kept_by = { λ p loaded. IsLoadedFrom S.seen p.file p.limit p.source.value p.out.value
@@ -39,12 +39,13 @@ fn run_loader<R: Wait, G: Gate, S: Source>(
     limit: u32,
     source: S,
     out: BatchSender<Record>,
-) -> Loaded<S, ClosedBatch<Record>>
+) -> Loaded<S, BatchSender<Record>>
     requires { out.items ≡ [] }
     ensures { IsLoadedFrom S.seen file limit source out result.source result.out }
 {
     let out = Gated::new(out, Worker::Loader(file), gate);
-    load(rt, alloc, file, source, limit, out)
+    let Loaded { source, out } = load(rt, alloc, file, source, limit, out);
+    Loaded { source, out }
 }
 
 /// Starts a loader. `None` where it may not start, and its output is closed and its source dropped,
@@ -54,7 +55,7 @@ pub(crate) fn start_loader<'s, E, R: Wait + Sync, G: Gate, P: Permit, S: Source 
     file: u32,
     source: S,
     out: BatchSender<Record>,
-) -> Option<PromisedHandle<Loaded<S, ClosedBatch<Record>>, LoadPromise<S>>>
+) -> Option<PromisedHandle<Loaded<S, BatchSender<Record>>, LoadPromise<S>>>
     requires { out.items ≡ [] }
     ensures file { IfSome result (λ handle. (handle.promise.file ≡ file) ×
         (handle.promise.limit ≡ site.now.config.max_records)) }
@@ -71,7 +72,7 @@ pub(crate) fn start_loader<'s, E, R: Wait + Sync, G: Gate, P: Permit, S: Source 
             source: Snapshot::of(&source),
             out: Snapshot::of(&out),
         },
-        move || -> Loaded<S, ClosedBatch<Record>>
+        move || -> Loaded<S, BatchSender<Record>>
             requires { out.items ≡ [] }
             ensures { IsLoadedFrom S.seen file limit source out result.source result.out }
         { run_loader(rt, alloc, gate, file, limit, source, out) },

@@ -6,7 +6,7 @@ ghost use Rattle.prolly_build.specs.Merging.{IsMergedTwo, IsMerged};
 use crate::start::permit::{Permit, permitted};
 use crate::start::site::Site;
 use prolly_entry::{Pair, Record};
-use prolly_fault::{BatchReceiver, BatchSender, ClosedBatch};
+use prolly_link::{BatchReceiver, BatchSender, ClosedBatch};
 use prolly_merge::{Merged, MergedTwo, merge, merge_two};
 use prolly_stage::{Gate, Gated, Worker};
 use std::alloc::Global;

@@ -1,7 +1,7 @@
 //! Who may start.
 ghost use Rattle.std.specs.Prelude.{◌≡◌, IfSome};
 
-use prolly_fault::{BatchSender, End, RunFault};
+use prolly_link::{BatchSender, End, RunFault};
 use prolly_stage::Worker;
 use std::sync::Wait;
 

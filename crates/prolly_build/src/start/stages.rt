@@ -9,7 +9,7 @@ use crate::start::permit::{Permit, permitted};
 use crate::start::site::Site;
 use prolly_chunk::ChunkEvent;
 use prolly_entry::{Pair, Sha512Cut, Version};
-use prolly_fault::{BatchReceiver, BatchSender, ClosedBatch};
+use prolly_link::{BatchReceiver, BatchSender, ClosedBatch};
 use prolly_stage::{Gate, Gated, Staged, Worker, inner_stage_as, leaf_stage};
 use std::alloc::Global;
 use std::snapshot::Snapshot;

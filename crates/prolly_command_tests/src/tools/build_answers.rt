@@ -1,7 +1,7 @@
 //! What `build` answers.
 use super::expect_answer;
 use prolly_entry::Ref;
-use prolly_fault::RunFault;
+use prolly_link::RunFault;
 use prolly_tool::{Report, answer_build};
 use std::test::Fail;
 

@@ -7,14 +7,14 @@ use std::marker::Model;
 /// The sending end of a batch link, once it has sent the end. Contracts see its link, all items and
 /// the end.
 #[derive(Drop)]
-pub struct ClosedBatch<T, F> {
-    pub(crate) sender: ClosedSender<Batch<T>, F>,
+pub struct ClosedBatch<T> {
+    pub(crate) sender: ClosedSender<Batch<T>>,
 }
 
-impl<T, F> Model for ClosedBatch<T, F> {
+impl<T> Model for ClosedBatch<T> {
     ghost use Rattle.prolly_link.specs.Views.{Whole};
 
-    ghost Value = { Whole T F };
+    ghost Value = { Whole T };
 
     ghost use Rattle.prolly_link.specs.Batches.{unbatched};
 
@@ -24,14 +24,14 @@ impl<T, F> Model for ClosedBatch<T, F> {
 /// The receiving end of a batch link, once it has given the end. Contracts see its link, all items
 /// and the end.
 #[derive(Drop)]
-pub struct EndedBatch<T, F> {
-    pub(crate) receiver: EndedReceiver<Batch<T>, F>,
+pub struct EndedBatch<T> {
+    pub(crate) receiver: EndedReceiver<Batch<T>>,
 }
 
-impl<T, F> Model for EndedBatch<T, F> {
+impl<T> Model for EndedBatch<T> {
     ghost use Rattle.prolly_link.specs.Views.{Whole};
 
-    ghost Value = { Whole T F };
+    ghost Value = { Whole T };
 
     ghost use Rattle.prolly_link.specs.Batches.{unbatched};
 
@@ -41,11 +41,11 @@ impl<T, F> Model for EndedBatch<T, F> {
 /// The receiving end of a batch link that lost its sender. Contracts see its link, and the items of
 /// the batches that came.
 #[derive(Drop)]
-pub struct LostBatch<T, F> {
-    pub(crate) receiver: LostReceiver<Batch<T>, F>,
+pub struct LostBatch<T> {
+    pub(crate) receiver: LostReceiver<Batch<T>>,
 }
 
-impl<T, F> Model for LostBatch<T, F> {
+impl<T> Model for LostBatch<T> {
     ghost use Rattle.prolly_link.specs.Views.{Sending};
 
     ghost Value = { Sending T };
@@ -57,22 +57,22 @@ impl<T, F> Model for LostBatch<T, F> {
 
 /// A receiver that gave the end, or one that lost its sender.
 #[derive(Drop)]
-pub enum BatchDrained<T, F> {
-    Ended(EndedBatch<T, F>),
-    Lost(LostBatch<T, F>),
+pub enum BatchDrained<T> {
+    Ended(EndedBatch<T>),
+    Lost(LostBatch<T>),
 }
 
 /// The two ends of a batch link, of which one received all that the other sent. Contracts see the
 /// link, its items and its end.
 #[derive(Drop)]
-pub struct MetBatch<T, F> {
-    pub(crate) met: Met<Batch<T>, F>,
+pub struct MetBatch<T> {
+    pub(crate) met: Met<Batch<T>>,
 }
 
-impl<T, F> Model for MetBatch<T, F> {
+impl<T> Model for MetBatch<T> {
     ghost use Rattle.prolly_link.specs.Views.{Whole};
 
-    ghost Value = { Whole T F };
+    ghost Value = { Whole T };
 
     ghost use Rattle.prolly_link.specs.Batches.{unbatched};
 

@@ -5,7 +5,7 @@ use crate::batch::ends::{ClosedBatch, EndedBatch, MetBatch};
 use crate::meeting::meet;
 
 /// Shows that all that was sent was received, and nothing else.
-pub fn meet_batches<T, F>(sender: ClosedBatch<T, F>, receiver: EndedBatch<T, F>) -> MetBatch<T, F>
+pub fn meet_batches<T>(sender: ClosedBatch<T>, receiver: EndedBatch<T>) -> MetBatch<T>
     requires { sender.link ≡ receiver.link }
     ensures sent { result ≡ sender }
     ensures received { result ≡ receiver }

@@ -13,11 +13,11 @@ use std::collections::VecDeque;
 
 /// The two ends of a new link whose messages are batches of up to `batch` items, with room for
 /// `capacity` messages. It takes the memory of the first batch.
-pub fn batch_link<T: Send + Drop, F: Send + Copy>(
+pub fn batch_link<T: Send + Drop>(
     alloc: Global,
     capacity: usize,
     batch: usize,
-) -> Result<(BatchSender<T, F>, BatchReceiver<T, F>), LinkFault>
+) -> Result<(BatchSender<T>, BatchReceiver<T>), LinkFault>
     requires least { 1 ≤ capacity }
     requires most { capacity ≤ 4096 }
     requires least_batch { 1 ≤ batch }

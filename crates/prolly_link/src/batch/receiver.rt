@@ -21,8 +21,8 @@ use std::sync::{Arc, Wait};
 /// The receiving end of a batch link. Contracts see its link, the items that it has given, oldest
 /// first, and how far it has come.
 #[derive(Drop)]
-pub struct BatchReceiver<T, F> {
-    pub(crate) receiver: Receiver<Batch<T>, F>,
+pub struct BatchReceiver<T> {
+    pub(crate) receiver: Receiver<Batch<T>>,
     // What is left of the batch that came last.
     pub(crate) hand: VecDeque<T, Global>,
     // The way back to the sender for the memory of batches that are given away.
@@ -30,11 +30,11 @@ pub struct BatchReceiver<T, F> {
     pub(crate) in_flight: Arc<InFlight>,
 }
 
-impl<T, F> Model for BatchReceiver<T, F> {
+impl<T> Model for BatchReceiver<T> {
     ghost use Rattle.std.specs.VecDeque.{deque_len};
     ghost use Rattle.prolly_link.specs.Views.{Receiving};
 
-    ghost Value = { Receiving T F };
+    ghost Value = { Receiving T };
 
     ghost use Rattle.prolly_link.specs.Hands.{given_of, IsInHand};
 
@@ -47,13 +47,13 @@ impl<T, F> Model for BatchReceiver<T, F> {
 // the batch that was in hand goes back to the sender, if there is room on the way. It stands apart
 // so that what all other items take stays small.
 #[inline(never)]
-fn recv_batch<T: Drop, F: Copy, R: Wait>(
+fn recv_batch<T: Drop, R: Wait>(
     rt: &R,
-    receiver: &mut Receiver<Batch<T>, F>,
+    receiver: &mut Receiver<Batch<T>>,
     in_flight: &InFlight,
     hand: &mut VecDeque<T, Global>,
     spent: &mut Producer<Vec<T>>,
-) -> Next<T, F>
+) -> Next<T>
     requires hand { IsInHand receiver.old hand.old.items (deque_len hand.old) }
     requires empty { deque_len hand.old ≡ 0 }
     ensures hand { IsInHand receiver.new hand.new.items (deque_len hand.new) }
@@ -75,12 +75,12 @@ fn recv_batch<T: Drop, F: Copy, R: Wait>(
     }
 }
 
-impl<T: Drop, F: Copy> BatchReceiver<T, F> {
+impl<T: Drop> BatchReceiver<T> {
     ghost use Rattle.prolly_link.specs.BatchDraining.{IsBatchDrainOf};
 
     /// The next item, or the end. It waits for a message only where no item is left of the batch in
     /// hand.
-    pub fn recv<R: Wait>(&mut self, rt: &R) -> Next<T, F>
+    pub fn recv<R: Wait>(&mut self, rt: &R) -> Next<T>
         ensures link { self.new.link ≡ self.old.link }
         ensures items { self.new.items ≡ self.old.items ++ given_items result }
         ensures progress { self.new.progress ≡ progress_after result }
@@ -99,7 +99,7 @@ impl<T: Drop, F: Copy> BatchReceiver<T, F> {
     }
 
     /// Receives until the end, and lets the items go.
-    pub fn drain<R: Wait>(self, rt: &R) -> BatchDrained<T, F>
+    pub fn drain<R: Wait>(self, rt: &R) -> BatchDrained<T>
         ensures { IsBatchDrainOf self result }
     {
         let BatchReceiver {
@@ -116,7 +116,7 @@ impl<T: Drop, F: Copy> BatchReceiver<T, F> {
     }
 }
 
-impl<T: Drop, F: Copy> In<T, F> for BatchReceiver<T, F> {
+impl<T: Drop> In<T> for BatchReceiver<T> {
     ghost use Rattle.prolly_link.specs.Growth.{items_between, between_nothing};
     ghost use Rattle.prolly_link.specs.Following.{IsLater, later_same, later_more};
     ghost use Rattle.prolly_link.specs.Following.{received_in_both, nothing_after_end};
@@ -141,7 +141,7 @@ impl<T: Drop, F: Copy> In<T, F> for BatchReceiver<T, F> {
 
     ghost ended_stays = { λ a b h. h.progress_stays };
 
-    fn recv<R: Wait>(&mut self, rt: &R) -> Next<T, F> {
+    fn recv<R: Wait>(&mut self, rt: &R) -> Next<T> {
         BatchReceiver::recv(self, rt)
     }
 }

@@ -19,8 +19,8 @@ use std::sync::{Arc, Wait};
 /// The sending end of a batch link. Contracts see its link, the items that were given to `send`,
 /// oldest first, and for how many more it has taken room.
 #[derive(Drop)]
-pub struct BatchSender<T, F> {
-    pub(crate) sender: Sender<Batch<T>, F>,
+pub struct BatchSender<T> {
+    pub(crate) sender: Sender<Batch<T>>,
     // The items of the open batch: it has room for `size` of them, or has not begun.
     pub(crate) pending: Vec<T>,
     pub(crate) size: usize,
@@ -32,7 +32,7 @@ pub struct BatchSender<T, F> {
     pub(crate) alloc: Global,
 }
 
-impl<T, F> Model for BatchSender<T, F> {
+impl<T> Model for BatchSender<T> {
     ghost use Rattle.std.specs.Prelude.{◌<◌, vec_len, vec_capacity};
     ghost use Rattle.prolly_link.specs.Views.{Batching};
     ghost use Rattle.prolly_link.specs.declared.in_flight.TheConstants.{LARGE_BATCH_BYTES};
@@ -77,9 +77,9 @@ fn take_room<T: Drop>(
 
 // Sends a batch where it has items. A large one waits until no more than the link's bound is in
 // flight with it.
-fn send_items<T: Drop, F: Copy, R: Wait>(
+fn send_items<T: Drop, R: Wait>(
     rt: &R,
-    sender: &mut Sender<Batch<T>, F>,
+    sender: &mut Sender<Batch<T>>,
     in_flight: &InFlight,
     items: Vec<T>,
     size: usize,
@@ -101,7 +101,7 @@ fn send_items<T: Drop, F: Copy, R: Wait>(
     sender.put(rt, Batch::new(items, size, bytes), wake);
 }
 
-impl<T: Drop, F: Copy> BatchSender<T, F> {
+impl<T: Drop> BatchSender<T> {
     /// Sends an item with the others of its batch, waiting for room once the batch is full. It
     /// takes memory where a batch begins, and hands the item back where that is refused.
     pub fn send<R: Wait>(&mut self, rt: &R, item: T) -> Result<(), T>
@@ -168,7 +168,7 @@ impl<T: Drop, F: Copy> BatchSender<T, F> {
     }
 
     /// Sends the open batch where it has items, and then the end, waiting for room.
-    pub fn close<R: Wait>(self, rt: &R, end: End<F>) -> ClosedBatch<T, F>
+    pub fn close<R: Wait>(self, rt: &R, end: End) -> ClosedBatch<T>
         ensures link { result.link ≡ self.link }
         ensures items { result.items ≡ self.items }
         ensures end { result.end ≡ end }
@@ -189,8 +189,8 @@ impl<T: Drop, F: Copy> BatchSender<T, F> {
     }
 }
 
-impl<T: Drop, F: Copy> Out<T, F> for BatchSender<T, F> {
-    type Closed = ClosedBatch<T, F>;
+impl<T: Drop> Out<T> for BatchSender<T> {
+    type Closed = ClosedBatch<T>;
 
     ghost link = { λ s. s.link };
 
@@ -214,11 +214,7 @@ impl<T: Drop, F: Copy> Out<T, F> for BatchSender<T, F> {
         self.sender.is_ahead()
     }
 
-    fn close<R: Wait>(self, rt: &R, end: End<F>) -> ClosedBatch<T, F>
-        ensures link { result.link ≡ self.link }
-        ensures sent { result.items ≡ self.items }
-        ensures end { result.end ≡ end }
-    {
+    fn close<R: Wait>(self, rt: &R, end: End) -> ClosedBatch<T> {
         BatchSender::close(self, rt, end)
     }
 }

@@ -9,10 +9,10 @@ use Rattle.prolly_tree.specs.Tree.{level_count}
 use Rattle.prolly_tree.specs.Chunk.{Chunk, chunks}
 use Rattle.prolly_tree.specs.Events.{Closing, clean, faulty}
 use Rattle.prolly_tree.specs.Pipeline.{pipeline_events, within_stages, HasSecond, StagesMakeTree}
-use Rattle.prolly_fault.specs.Ends.{End}
+use Rattle.prolly_link.specs.declared.end.End.{End}
 use Rattle.prolly_link.specs.declared.end.End.TheVariants.{Clean, Fault}
-use Rattle.prolly_fault.specs.declared.fault.RunFault.{RunFault}
-use Rattle.prolly_fault.specs.declared.fault.RunFault.TheVariants.{Memory}
+use Rattle.prolly_link.specs.declared.fault.RunFault.{RunFault}
+use Rattle.prolly_link.specs.declared.fault.RunFault.TheVariants.{Memory}
 use Rattle.prolly_stage.specs.Sends.{closing_of, SendsPrefix}
 use Rattle.prolly_stage.specs.Workers.{TakesTree, WriterTakes}
 use Rattle.prolly_entry.specs.lemmas.Lists.{prefix_trans}

@@ -6,8 +6,7 @@ ghost use Rattle.prolly_link.specs.declared.progress.Progress.TheVariants.{Ended
 
 use super::gather::gather;
 use super::numbers::send_numbers;
-use prolly_fault::{End, RunFault};
-use prolly_link::{BatchDrained, Drained, In, Out, batch_link, link, meet, meet_batches};
+use prolly_link::{BatchDrained, Drained, End, In, Out, RunFault, batch_link, link, meet, meet_batches};
 use std::alloc::Global;
 use std::snapshot::Snapshot;
 use std::sync::Wait;
@@ -21,7 +20,7 @@ struct SendsNumbers<O> {
     count: u32,
 }
 
-impl<O: Out<u32, RunFault>> Promise<O::Closed> for SendsNumbers<O> {
+impl<O: Out<u32>> Promise<O::Closed> for SendsNumbers<O> {
     ghost kept_by = { λ p r. (O.closed_link r ≡ O.link p.sender.value) × (O.end_sent r ≡ Clean →
         O.all_sent r ≡ O.sent p.sender.value ++ range_with_len 0 p.count) };
 }
@@ -36,8 +35,8 @@ fn send_and_gather<I, O, R>(
     count: u32,
 ) -> Result<(O::Closed, Vec<u32>), RunFault>
 where
-    I: In<u32, RunFault>,
-    O: Out<u32, RunFault> + Send + Drop + 'static,
+    I: In<u32>,
+    O: Out<u32> + Send + Drop + 'static,
     O::Closed: Send + Drop + 'static,
     R: Threads + Wait + Copy + Send + 'static,
     ensures reads { I.link receiver.new ≡ I.link receiver.old }

@@ -1,7 +1,6 @@
 //! What came out, compared with what is expected. A comparison that can show both its sides makes a
 //! large proof, so that it stands here once.
-use prolly_fault::{End, RunFault};
-use prolly_link::Out;
+use prolly_link::{End, Out, RunFault};
 use std::fmt::Debug;
 use std::process::Abort;
 use std::sync::Wait;
@@ -22,7 +21,7 @@ pub(crate) fn expect_sent(rt: &impl Abort, sent: (u64, End), expected: (u64, End
 }
 
 /// Sends these, and fails unless each of them is taken.
-pub(crate) fn expect_all_taken<T: Drop, O: Out<T, RunFault>>(
+pub(crate) fn expect_all_taken<T: Drop, O: Out<T>>(
     rt: &(impl Abort + Wait),
     out: &mut O,
     items: Vec<T>,

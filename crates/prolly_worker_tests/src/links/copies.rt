@@ -1,11 +1,10 @@
 //! A worker that sends what it receives.
 ghost use Rattle.std.specs.Prelude.{◌≡◌, ◌≢◌, ◌++◌};
 ghost use Rattle.prolly_link.specs.Receipts.{HasEnded};
-ghost use Rattle.prolly_fault.specs.Ends.{end_given};
+ghost use Rattle.prolly_link.specs.Receipts.{end_given};
 ghost use Rattle.prolly_link.specs.declared.end.End.TheVariants.{Fault};
 
-use prolly_fault::{ClosedList, End, ListIn, Next, RunFault};
-use prolly_link::{In, ListOut, Out, receive_rest};
+use prolly_link::{ClosedList, End, In, ListIn, ListOut, Next, Out, RunFault, receive_rest};
 use std::alloc::Global;
 use std::sync::Wait;
 
@@ -18,7 +17,7 @@ pub(super) struct Copies<I, C> {
 
 // Sends what it receives, and closes with the end that it received, or with a fault where an item
 // was refused.
-pub(super) fn copy_all<T: Drop, I: In<T, RunFault>, O: Out<T, RunFault>, R: Wait>(
+pub(super) fn copy_all<T: Drop, I: In<T>, O: Out<T>, R: Wait>(
     rt: &R,
     input: I,
     out: O,

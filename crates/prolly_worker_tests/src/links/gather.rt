@@ -1,13 +1,12 @@
 //! A worker that keeps what it receives.
 ghost use Rattle.std.specs.Prelude.{◌≡◌, IfOk};
 
-use prolly_fault::{End, Next, RunFault};
-use prolly_link::{In, Progress, receive_rest};
+use prolly_link::{End, In, Next, Progress, RunFault, receive_rest};
 use std::alloc::Global;
 use std::sync::Wait;
 
 // Receives to the end, and keeps the items.
-pub(super) fn gather<I: In<u32, RunFault>, R: Wait>(
+pub(super) fn gather<I: In<u32>, R: Wait>(
     rt: &R,
     alloc: Global,
     input: &mut I,

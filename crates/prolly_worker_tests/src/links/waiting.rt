@@ -2,8 +2,7 @@
 ghost use Rattle.std.specs.Prelude.{◌≤◌};
 
 use super::{CLEAN, batches_give, expect_taken, link_gives, send_all};
-use prolly_fault::{BatchSender, End, Next, RunFault};
-use prolly_link::{BatchDrained, batch_link, link};
+use prolly_link::{BatchDrained, BatchSender, End, Next, RunFault, batch_link, link};
 use std::alloc::Global;
 use std::process::Abort;
 use std::sync::Wait;
@@ -41,7 +40,7 @@ fn ends_a_wait<R: Threads + Wait + Clock + Abort + Copy + Send + 'static>(
     requires least { 1 ≤ capacity }
     requires most { capacity ≤ 4096 }
 {
-    let (sender, mut receiver) = link::<u32, RunFault>(alloc, capacity)?;
+    let (sender, mut receiver) = link::<u32>(alloc, capacity)?;
     let late = thread::spawn(&rt, move || {
         keep_waiting(&rt);
         if is_closed {

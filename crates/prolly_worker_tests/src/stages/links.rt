@@ -3,11 +3,11 @@ ghost use Rattle.std.specs.Prelude.{◌≡◌, []};
 ghost use Rattle.prolly_entry.specs.declared.version.Version.{Version as VersionValue};
 ghost use Rattle.prolly_entry.specs.Cut.{key_cut};
 ghost use Rattle.prolly_tree.specs.Events.{leaf_events};
-ghost use Rattle.prolly_fault.specs.Ends.{end_given};
+ghost use Rattle.prolly_link.specs.Receipts.{end_given};
 ghost use Rattle.prolly_stage.specs.Sends.{Sends};
 
 use prolly_entry::{KeyCut, Pair};
-use prolly_fault::{BatchReceiver, BatchSender, ClosedBatch};
+use prolly_link::{BatchReceiver, BatchSender, ClosedBatch};
 use prolly_stage::{ChunkEvent, Gate, Gated, Staged, Worker, leaf_stage};
 use std::alloc::Global;
 use std::sync::Wait;

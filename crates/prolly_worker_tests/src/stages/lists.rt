@@ -6,8 +6,7 @@ ghost use Rattle.prolly_tree.specs.Pipeline.{pipeline_events};
 ghost use Rattle.prolly_stage.specs.Sends.{Sends};
 
 use prolly_entry::{Cut, Pair, Version};
-use prolly_fault::{ClosedList, End, ListIn};
-use prolly_link::ListOut;
+use prolly_link::{ClosedList, End, ListIn, ListOut};
 use prolly_stage::laws::stages_follow;
 use prolly_stage::{ChunkEvent, Staged, inner_stage_as, leaf_stage};
 use std::alloc::Global;

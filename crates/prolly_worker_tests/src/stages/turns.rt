@@ -50,7 +50,7 @@ pub(super) struct Counted<'a, O> {
     pub(super) turns: &'a Turns,
 }
 
-impl<'a, T, F, O: Out<T, F>> Out<T, F> for Counted<'a, O> {
+impl<'a, T, O: Out<T>> Out<T> for Counted<'a, O> {
     type Closed = O::Closed;
 
     ghost closed_link = { O.closed_link };
@@ -69,11 +69,7 @@ impl<'a, T, F, O: Out<T, F>> Out<T, F> for Counted<'a, O> {
         sent
     }
 
-    fn close<R: Wait>(self, rt: &R, end: End<F>) -> O::Closed
-        ensures link { O.closed_link result ≡ O.link self.entry.out }
-        ensures sent { O.all_sent result ≡ O.sent self.entry.out }
-        ensures end { O.end_sent result ≡ end }
-    {
+    fn close<R: Wait>(self, rt: &R, end: End) -> O::Closed {
         let Counted { out, turns: _ } = self;
         out.close(rt, end)
     }

@@ -1,5 +1,5 @@
 use Rattle.std.proofs.Common.{◌≡◌, refl}
-use Rattle.prolly_fault.specs.declared.fault.RunFault.TheVariants.{Memory, TooManyFiles}
+use Rattle.prolly_link.specs.declared.fault.RunFault.TheVariants.{Memory, TooManyFiles}
 use Rattle.prolly_build.proofs.Loads.{same_kept}
 use Rattle.prolly_build.proofs.RanSteps.{nothing_begun}
 use Rattle.prolly_build.proofs.Refusals.{untouched_refused}

@@ -1,7 +1,7 @@
 use Rattle.std.proofs.Common.{Err, ◌≡◌, ◌≢◌, ◌⊎◌, inl, inr, ℕ, List, true, refl, sym, ◌∙◌, subst}
 use Rattle.std.proofs.Common.{arith}
 use Rattle.prolly_entry.specs.declared.version.Version.{Version}
-use Rattle.prolly_fault.specs.declared.fault.RunFault.TheVariants.{Write}
+use Rattle.prolly_link.specs.declared.fault.RunFault.TheVariants.{Write}
 use Rattle.prolly_file.specs.Failures.{after_failure}
 use Rattle.prolly_file.specs.Sink.{IsSettled, SinkView}
 use Rattle.prolly_root.specs.Reader.{ReaderView}

@@ -3,7 +3,8 @@ use Rattle.std.proofs.lemmas.Result.{on_ok_weaker, IfErr-weaker}
 use Rattle.prolly_tree.specs.Chunk.{Chunk}
 use Rattle.prolly_tree.specs.File.{header}
 use Rattle.prolly_file.specs.Sink.{SinkView}
-use Rattle.prolly_fault.specs.Ends.{End, end_given}
+use Rattle.prolly_link.specs.Receipts.{end_given}
+use Rattle.prolly_link.specs.declared.end.End.{End}
 use Rattle.prolly_link.specs.declared.end.End.TheVariants.{Clean}
 use Rattle.prolly_build.specs.Built.{IsInputEnd}
 use Rattle.prolly_build.specs.Writing.{HasWritten, IsEndFault}

@@ -1,5 +1,5 @@
 use Rattle.std.proofs.Common.{◌++◌, ◌∙◌, ap}
-use Rattle.prolly_fault.specs.Ends.{end_given}
+use Rattle.prolly_link.specs.Receipts.{end_given}
 use Rattle.prolly_link.specs.Remaining.{items_left, last_end, front_lost}
 use Rattle.prolly_link.specs.RemainingLaws.{all_lost}
 use Rattle.prolly_worker_tests.proofs.links.copies.copy_list.Goals as goal

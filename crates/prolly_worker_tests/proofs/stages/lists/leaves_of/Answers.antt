@@ -1,6 +1,6 @@
 use Rattle.std.proofs.Common.{◌∙◌, ap}
 use Rattle.prolly_tree.specs.Events.{leaf_events}
-use Rattle.prolly_fault.specs.Ends.{end_given}
+use Rattle.prolly_link.specs.Receipts.{end_given}
 use Rattle.prolly_link.specs.Remaining.{items_left, last_end}
 use Rattle.prolly_link.specs.RemainingLaws.{all_lost}
 use Rattle.prolly_stage.specs.lemmas.Steps.{sends_of}

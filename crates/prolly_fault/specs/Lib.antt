@@ -1,2 +1,0 @@
--- The ends of links that tell why a run has no answer.
-pub mod Ends
