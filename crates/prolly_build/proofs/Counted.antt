@@ -117,7 +117,7 @@ module _ {S : Type 0} (seen : S → SourceView) (limit : ℕ) where
       one_fault file s t records handed fault bytes kept ends all failed
 
   abbrev One : ℕ → S → Batching Record → S → Whole Record → Type 0
-  One file s o t c = IsLoadedFrom seen file limit s o t c
+  One file s o t c = IsLoadedFrom seen file limit s o.link t c
 
   one_counts : (file : ℕ) (s : S) (o : Batching Record) (t : S) (c : Whole Record) →
       One file s o t c → (seen s).is_honest ≡ true → All IsByte (seen s).left →

@@ -76,7 +76,7 @@ clean_end (Fault f) e = absurd cc
 
 module _ {S : Type 0} (seen : S → SourceView) (limit : ℕ) where
   abbrev One : ℕ → S → Batching Record → S → Whole Record → Type 0
-  One file s o t c = IsLoadedFrom seen file limit s o t c
+  One file s o t c = IsLoadedFrom seen file limit s o.link t c
 
   pub begun : (file : ℕ) (s : S) (o : Batching Record) (t : S) (c : Whole Record)
       (h : One file s o t c) → Begun h.loaded.handed limit c.items

@@ -193,7 +193,7 @@ module _ {S : Type 0} (seen : S → SourceView) (limit : ℕ) where
 
   -- what a loader sent are the first good records of its file
   one_front : (file : ℕ) (s : S) (o : Batching Record) (t : S) (c : Whole Record) →
-      IsLoadedFrom seen file limit s o t c → (seen s).is_honest ≡ true →
+      IsLoadedFrom seen file limit s o.link t c → (seen s).is_honest ≡ true →
       (good : List Record) (ending : Option Flaw) → IsReading (seen s).left limit good ending →
       IsFrontOf good (sent_input c)
   one_front file s o t c h honest good ending reading =

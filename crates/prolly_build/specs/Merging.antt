@@ -4,7 +4,7 @@ use Rattle.prolly_tree.specs.Merge.{Input, raw_merged_part, merged_part}
 use Rattle.prolly_entry.specs.Overlay.{AllRising}
 use Rattle.prolly_entry.specs.Pair.{Pair}
 use Rattle.prolly_entry.specs.Record.{Record}
-use Rattle.prolly_link.specs.Views.{Batching}
+use Rattle.prolly_link.specs.Identity.{LinkId}
 use Rattle.prolly_link.specs.Views.{Receiving, Whole}
 use Rattle.prolly_link.specs.Receipts.{end_given}
 use Rattle.prolly_link.specs.declared.end.End.{End}
@@ -32,21 +32,21 @@ MergesAll inputs sent end = AllRising (lists_of inputs) →
 
 -- Both inputs of a merger of two have ended, and what it makes of them was sent, on the links that
 -- it was given.
-pub record IsMergedTwo (left right : Receiving Record) (out : Batching Record)
+pub record IsMergedTwo (left right : Receiving Record) (link : LinkId)
     (left' right' : Receiving Record) (closed : Whole Record) : Type 0 where
   pub reads_left : left'.link ≡ left.link
   pub reads_right : right'.link ≡ right.link
   pub left_ended : HasEnded left'.progress
   pub right_ended : HasEnded right'.progress
-  pub writes : closed.link ≡ out.link
+  pub writes : closed.link ≡ link
   pub merges : MergesTwo (received_input left') (received_input right') closed.items closed.end
 
 -- All inputs of the last merger have ended, and the pairs that it makes of them were sent, on the
 -- links that it was given.
-pub record IsMerged (inputs : List (Receiving Record)) (out : Batching Pair)
+pub record IsMerged (inputs : List (Receiving Record)) (link : LinkId)
     (inputs' : List (Receiving Record)) (closed : Whole Pair) (count : ℕ) : Type 0 where
   pub reads : map (λ r. r.link) inputs' ≡ map (λ r. r.link) inputs
   pub have_ended : All (λ r. HasEnded r.progress) inputs'
-  pub writes : closed.link ≡ out.link
+  pub writes : closed.link ≡ link
   pub counts : Counts [] closed.items count
   pub merges : MergesAll (map received_input inputs') closed.items closed.end

@@ -48,7 +48,7 @@ abbrev pub AreLoaded : {S : Type 0} → (S → SourceView) → ℕ → ℕ → L
     List S → List (Whole Record) → Type 0
 AreLoaded seen limit file [] [] [] [] = Unit {0}
 AreLoaded seen limit file (s ∷ ss) (o ∷ os) (t ∷ ts) (c ∷ cs) =
-    IsLoadedFrom seen file limit s o t c × AreLoaded seen limit (file + 1) ss os ts cs
+    IsLoadedFrom seen file limit s o.link t c × AreLoaded seen limit (file + 1) ss os ts cs
 AreLoaded seen limit file _ _ _ _ = ⊥
 
 -- Nothing was sent yet.

@@ -3,7 +3,7 @@ use Rattle.std.specs.Prelude.{◌≡◌, ◌≢◌, ◌↔◌, ℕ, true, List, 
 use Rattle.prolly_tree.specs.Chunk.{Chunk}
 use Rattle.prolly_tree.specs.Events.{Closing}
 use Rattle.prolly_file.specs.Source.{SourceView}
-use Rattle.prolly_link.specs.Views.{Batching}
+use Rattle.prolly_link.specs.Identity.{LinkId}
 use Rattle.prolly_link.specs.Views.{Receiving, Whole}
 use Rattle.prolly_link.specs.Receipts.{end_given}
 use Rattle.prolly_link.specs.Receipts.{HasEnded}
@@ -16,19 +16,18 @@ use Rattle.prolly_stage.specs.Sends.{Sends}
 -- The stage's input has ended, and what the stage makes of it was sent, on the links that it was
 -- given.
 pub record IsStaged {A : Type 0} (stage : Closing → List A → List Chunk) (input : Receiving A)
-    (out : Batching Chunk) (ended : Receiving A) (closed : Whole Chunk) : Type 0 where
+    (link : LinkId) (ended : Receiving A) (closed : Whole Chunk) : Type 0 where
   pub reads : ended.link ≡ input.link
   pub has_ended : HasEnded ended.progress
-  pub writes : closed.link ≡ out.link
+  pub writes : closed.link ≡ link
   pub sends : Sends stage ended.items (end_given ended.progress) [] closed.items closed.end
 
--- The source was loaded into the output, whose link is kept: what was sent and the end are what the
--- bytes come to, and the end tells a failed read exactly where a read failed. An honest source
+-- The source was loaded into the output of this link: what was sent and the end are what the bytes
+-- come to, and the end tells a failed read exactly where a read failed. An honest source
 -- stays honest.
 pub record IsLoadedFrom {S : Type 0} (seen : S → SourceView) (file limit : ℕ) (source : S)
-    (out : Batching Record)
-    (source' : S) (closed : Whole Record) : Type 0 where
-  pub writes : closed.link ≡ out.link
+    (link : LinkId) (source' : S) (closed : Whole Record) : Type 0 where
+  pub writes : closed.link ≡ link
   pub loaded : IsLoaded file limit (seen source).is_honest (seen source).left (seen source').left []
       closed.items closed.end
   pub read : (closed.end ≡ Fault (Read file)) ↔ ((seen source').failures ≢ (seen source).failures)

@@ -1,6 +1,6 @@
-//! The start of each kind of worker, in a function of its own: what the worker promises, and its
-//! thread.
+//! The work of each kind of worker, and how one is started on a thread of its own.
 mod bounds;
+mod job;
 mod loaders;
 mod mergers;
 mod permit;
@@ -9,8 +9,8 @@ mod stack;
 mod stages;
 
 pub(crate) use bounds::{Input, Runtime};
-pub(crate) use loaders::start_loader;
-pub(crate) use mergers::{LastEnds, TwoEnds, start_last, start_two};
+pub(crate) use loaders::Load;
+pub(crate) use mergers::{MergeLast, MergeTwo};
 pub use permit::{AllStart, Permit};
 pub(crate) use site::Site;
-pub(crate) use stages::{StageEnds, start_leaves, start_nodes};
+pub(crate) use stages::{CutLeaves, CutNodes};

@@ -16,12 +16,7 @@ use std::mem;
 use std::sync::Wait;
 
 // Gives the head of input number `at`, and receives its next one.
-fn next_of<I: In<Record>, R: Wait>(
-    rt: &R,
-    inputs: &mut [I],
-    heads: &mut [Head],
-    at: usize,
-) -> Head
+fn next_of<I: In<Record>, R: Wait>(rt: &R, inputs: &mut [I], heads: &mut [Head], at: usize) -> Head
     requires input { at < length inputs.old }
     requires head { at < length heads.old }
     ensures { (old new : Peeked I) × (slice_get (peeked_of inputs.old heads.old) at ≡ Some old)

@@ -30,11 +30,7 @@ pub struct MergedTwo<I, O: Out<Record>> {
 }
 
 // The next record of the two, which its inputs give away, or why there is none.
-fn next_of_two<I: In<Record>, R: Wait>(
-    rt: &R,
-    left: &mut Peeked<I>,
-    right: &mut Peeked<I>,
-) -> Step
+fn next_of_two<I: In<Record>, R: Wait>(rt: &R, left: &mut Peeked<I>, right: &mut Peeked<I>) -> Step
     ensures { IsStep I.link I.progress I.Follows I.received (left.old ∷ right.old ∷ []) result
         (left.new ∷ right.new ∷ []) }
 {

@@ -57,12 +57,7 @@ impl<'a, G: Ask, O> Gated<'a, G, O> {
     }
 
     /// Sends the next item, which takes so many bytes, and which the gate has opened for.
-    pub(crate) fn send_next<T, R: Wait>(
-        &mut self,
-        rt: &R,
-        item: T,
-        bytes: usize,
-    ) -> Result<(), T>
+    pub(crate) fn send_next<T, R: Wait>(&mut self, rt: &R, item: T, bytes: usize) -> Result<(), T>
     where
         O: Out<T>,
         requires { G.HasOpened self.old.gate self.old.worker self.old.next }

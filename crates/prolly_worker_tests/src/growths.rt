@@ -22,11 +22,7 @@ use std::test::Fail;
 const MEMORY: End = End::Fault(RunFault::Memory);
 
 /// Sends these, a second time where one was refused, and then a clean end.
-fn send_all<O: Out<u32>>(
-    rt: &(impl Abort + Wait),
-    mut out: O,
-    items: &[u32],
-) -> O::Closed {
+fn send_all<O: Out<u32>>(rt: &(impl Abort + Wait), mut out: O, items: &[u32]) -> O::Closed {
     for &item in items {
         if let Err(back) = out.send(rt, item) {
             expect_eq(rt, &back, &item);
@@ -37,11 +33,7 @@ fn send_all<O: Out<u32>>(
 }
 
 /// Fails unless these are received, and then a clean end.
-fn expect_received<I: In<u32>>(
-    rt: &(impl Abort + Wait),
-    mut input: I,
-    items: &[u32],
-) -> I {
+fn expect_received<I: In<u32>>(rt: &(impl Abort + Wait), mut input: I, items: &[u32]) -> I {
     for &item in items {
         expect_eq(rt, &input.recv(rt), &Next::Item(item));
     }

@@ -3,7 +3,11 @@ ghost use Rattle.std.specs.Prelude.{◌≡◌};
 
 use comparing::expect_eq;
 use copies::{Copies, copy_all, copy_list};
-use prolly_link::{BatchDrained, BatchReceiver, ClosedBatch, ClosedSender, Drained, End, In, LinkFault, ListIn, ListOut, Next, Out, Receiver, RunFault, batch_link, compare, compare_batches, compare_closed, compare_closed_batches, link, meet, meet_batches, receive_rest};
+use prolly_link::{
+    BatchDrained, BatchReceiver, ClosedBatch, ClosedSender, Drained, End, In, LinkFault, ListIn,
+    ListOut, Next, Out, Receiver, RunFault, batch_link, compare, compare_batches, compare_closed,
+    compare_closed_batches, link, meet, meet_batches, receive_rest,
+};
 use std::alloc::Global;
 use std::process::Abort;
 use std::sync::Wait;

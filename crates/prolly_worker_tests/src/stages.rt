@@ -5,7 +5,10 @@ use crate::links::comparing::{expect_all_taken, expect_bytes, expect_eq, expect_
 use links::leaves_over_links;
 use lists::{leaves_of, two_stages};
 use prolly_entry::{KeyCut, Pair, Sha512Cut, Version};
-use prolly_link::{BatchReceiver, BatchSender, End, ListIn, ListOut, Next, RunFault, batch_link, link, receive_rest};
+use prolly_link::{
+    BatchReceiver, BatchSender, End, ListIn, ListOut, Next, RunFault, batch_link, link,
+    receive_rest,
+};
 use prolly_stage::{ChunkEvent, Gated, OpenGate, Staged, Worker, inner_stage, leaf_stage};
 use prolly_test_parts::pairs_of;
 use std::alloc::{AllocError, Global};

@@ -6,7 +6,9 @@ ghost use Rattle.prolly_build.specs.declared.end.halt.Halt.TheVariants.{Lost};
 
 use crate::config::Config;
 use crate::end::Halt;
-use prolly_link::{BatchDrained, BatchReceiver, BatchSender, ClosedBatch, LinkFault, batch_link, meet_batches};
+use prolly_link::{
+    BatchDrained, BatchReceiver, BatchSender, ClosedBatch, LinkFault, batch_link, meet_batches,
+};
 use std::alloc::{AllocError, Global};
 use std::sync::Wait;
 

@@ -12,7 +12,7 @@ use crate::links::{Feed, meet};
 use crate::run::lists::pop_first;
 use crate::run::merger_tree::merge_tree;
 use crate::run::ran::Ran;
-use crate::start::{Input, LastEnds, Permit, Runtime, Site, start_last};
+use crate::start::{Input, MergeLast, Permit, Runtime, Site};
 use prolly_chunk::ChunkEvent;
 use prolly_entry::{Pair, Record};
 use prolly_file::Sink;
@@ -64,13 +64,16 @@ pub(crate) fn gather<'s, E, R: Runtime, G: Gate, P: Permit, S: Input + 's, W: Si
         inputs,
         mut closed,
     } = feed;
-    let number = forks.len() as u32;
-    let Some(handle) = start_last(site, number, inputs, out) else {
+    let job = MergeLast {
+        number: forks.len() as u32,
+        inputs,
+    };
+    let Some(handle) = site.start(job, out) else {
         close_all(site.rt, outs);
         return Err(refuse(site.rt, (forks, closed), last));
     };
     let wrote = merge_tree(site, forks, outs, sources, &mut closed, last, sink);
-    let LastEnds { inputs, out, pairs } = handle.join(site.rt);
+    let ((inputs, pairs), out) = handle.join(site.rt);
     let wrote = wrote?;
     meet_all(site.rt, closed, inputs)?;
     Ok(Ran { out, pairs, wrote })

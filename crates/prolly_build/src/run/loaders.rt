@@ -5,12 +5,11 @@ ghost use Rattle.prolly_build.specs.Ran.{HandsOn, IsUnsent, AreLoaded};
 use crate::end::{Halt, close_all, refuse};
 use crate::run::lists::{pop_first, push_first};
 use crate::run::writer::{Wrote, write_all};
-use crate::start::{Input, Permit, Runtime, Site, start_loader};
+use crate::start::{Input, Load, Permit, Runtime, Site};
 use prolly_chunk::ChunkEvent;
 use prolly_entry::Record;
 use prolly_file::Sink;
 use prolly_link::{BatchReceiver, BatchSender, ClosedBatch};
-use prolly_load::Loaded;
 use prolly_stage::Gate;
 
 /// Starts a loader for each source, from file number `file` on, then writes, and joins them.
@@ -43,12 +42,18 @@ pub(crate) fn load_all<'s, E, R: Runtime, G: Gate, P: Permit, S: Input + 's, W: 
     let Some(source) = pop_first(sources) else {
         unreachable!()
     };
-    let Some(handle) = start_loader(site, file, source, out) else {
+    let limit = site.config.max_records();
+    let job = Load {
+        file,
+        limit,
+        source,
+    };
+    let Some(handle) = site.start(job, out) else {
         close_all(site.rt, outs);
         return Err(refuse(site.rt, (), last));
     };
     let wrote = load_all(site, file + 1, outs, sources, closed, last, sink);
-    let Loaded { source, out } = handle.join(site.rt);
+    let (source, out) = handle.join(site.rt);
     push_first(sources, source);
     push_first(closed, out);
     wrote

@@ -9,7 +9,7 @@ use crate::run::lists::{fork_at, join_at};
 use crate::run::loaders::load_all;
 use crate::run::merger_place::place_of_merger;
 use crate::run::writer::Wrote;
-use crate::start::{Input, Permit, Runtime, Site, TwoEnds, start_two};
+use crate::start::{Input, MergeTwo, Permit, Runtime, Site};
 use prolly_chunk::ChunkEvent;
 use prolly_entry::Record;
 use prolly_file::Sink;
@@ -54,13 +54,17 @@ pub(crate) fn merge_tree<'s, E, R: Runtime, G: Gate, P: Permit, S: Input + 's, W
         receiver: right,
     } = right;
     let out = fork_at(&mut outs, place, left_out, right_out);
-    let number = number as u32;
-    let Some(handle) = start_two(site, number, left, right, out) else {
+    let job = MergeTwo {
+        number: number as u32,
+        left,
+        right,
+    };
+    let Some(handle) = site.start(job, out) else {
         close_all(site.rt, outs);
         return Err(refuse(site.rt, forks, last));
     };
     let wrote = merge_tree(site, forks, outs, sources, closed, last, sink);
-    let TwoEnds { left, right, out } = handle.join(site.rt);
+    let ((left, right), out) = handle.join(site.rt);
     let wrote = wrote?;
     let (left_sent, right_sent) = join_at(closed, place, out);
     meet(site.rt, left_sent, left)?;

@@ -7,9 +7,8 @@ ghost use Rattle.prolly_build.specs.declared.end.halt.Halt.TheVariants.{Lost};
 use crate::end::Halt;
 use crate::links::meet;
 use crate::run::writer::Wrote;
-use crate::start::StageEnds;
 use prolly_chunk::ChunkEvent;
-use prolly_link::ClosedBatch;
+use prolly_link::{BatchReceiver, ClosedBatch};
 use std::sync::Wait;
 
 /// What the workers up to one of them gave back: its closed output, how many pairs the last merger
@@ -22,17 +21,18 @@ pub(crate) struct Ran<T> {
 }
 
 impl<T: Drop> Ran<T> {
-    /// The same up to the stage above, which has ended: meets the link into it.
+    /// The same up to the stage above, which gave these ends back: meets the link into it.
     pub(crate) fn up_to_stage<R: Wait>(
         self,
         rt: &R,
-        stage: StageEnds<T>,
+        input: BatchReceiver<T>,
+        out: ClosedBatch<ChunkEvent>,
     ) -> Result<Ran<ChunkEvent>, Halt>
-        requires { self.out.link ≡ stage.input.link }
+        requires { self.out.link ≡ input.link }
         ensures ran { IfOk result (λ ran.
-            ran ≡ record { out = stage.out; pairs = self.pairs; wrote = self.wrote }) }
-        ensures met { OnOk result (HasEnded stage.input.progress →
-            (stage.input.items ≡ self.out.items) × (stage.input.progress ≡ Ended self.out.end)) }
+            ran ≡ record { out = out; pairs = self.pairs; wrote = self.wrote }) }
+        ensures met { OnOk result (HasEnded input.progress → (input.items ≡ self.out.items) ×
+            (input.progress ≡ Ended self.out.end)) }
         ensures lost { IfErr result (λ halt. halt ≡ Lost) }
     {
         let Ran {
@@ -40,7 +40,6 @@ impl<T: Drop> Ran<T> {
             pairs,
             wrote,
         } = self;
-        let StageEnds { input, out } = stage;
         meet(rt, sent, input)?;
         Ok(Ran { out, pairs, wrote })
     }

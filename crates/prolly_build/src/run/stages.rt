@@ -7,7 +7,7 @@ use crate::end::{Halt, refuse};
 use crate::links::{Feed, NewLink};
 use crate::run::last_merger::gather;
 use crate::run::ran::Ran;
-use crate::start::{Input, Permit, Runtime, Site, start_leaves, start_nodes};
+use crate::start::{CutLeaves, CutNodes, Input, Permit, Runtime, Site};
 use prolly_chunk::ChunkEvent;
 use prolly_entry::Pair;
 use prolly_file::Sink;
@@ -35,12 +35,16 @@ fn run_from_leaves<'s, E, R: Runtime, G: Gate, P: Permit, S: Input + 's, W: Sink
         sources.new.items ran.out.items ran.out.end ran.pairs) }
 {
     let NewLink { sender, receiver } = pairs;
-    let Some(handle) = start_leaves(site, receiver, out) else {
+    let job = CutLeaves {
+        cut: site.config.cut(),
+        pairs: receiver,
+    };
+    let Some(handle) = site.start(job, out) else {
         return Err(refuse(site.rt, (feed, sender), last));
     };
     let gathered = gather(site, feed, sender, sources, last, sink);
-    let stage = handle.join(site.rt);
-    gathered?.up_to_stage(site.rt, stage)
+    let (input, out) = handle.join(site.rt);
+    gathered?.up_to_stage(site.rt, input, out)
 }
 
 /// Starts a stage of nodes for each link, the highest one first, then all workers below them,
@@ -71,10 +75,16 @@ pub(crate) fn run_from_top<'s, E, R: Runtime, G: Gate, P: Permit, S: Input + 's,
     };
     let level = events.len() as u8 + 1;
     let NewLink { sender, receiver } = link;
-    let Some(handle) = start_nodes(site, level, receiver, out) else {
+    let job = CutNodes {
+        level,
+        cut: site.config.cut(),
+        version: site.config.version(),
+        chunks: receiver,
+    };
+    let Some(handle) = site.start(job, out) else {
         return Err(refuse(site.rt, (events, pairs, feed, sender), last));
     };
     let ran = run_from_top(site, events, pairs, feed, sender, sources, last, sink);
-    let stage = handle.join(site.rt);
-    ran?.up_to_stage(site.rt, stage)
+    let (input, out) = handle.join(site.rt);
+    ran?.up_to_stage(site.rt, input, out)
 }

@@ -6,7 +6,9 @@ ghost use Rattle.prolly_link.specs.declared.progress.Progress.TheVariants.{Ended
 
 use super::gather::gather;
 use super::numbers::send_numbers;
-use prolly_link::{BatchDrained, Drained, End, In, Out, RunFault, batch_link, link, meet, meet_batches};
+use prolly_link::{
+    BatchDrained, Drained, End, In, Out, RunFault, batch_link, link, meet, meet_batches,
+};
 use std::alloc::Global;
 use std::snapshot::Snapshot;
 use std::sync::Wait;

@@ -9,8 +9,8 @@ use Rattle.prolly_build.proofs.RanSteps.{nothing_begun, unmet_hands_on}
 use Rattle.prolly_build.proofs.FeedingSteps.{fed_by_loaders, fed_by_merger, merges_met}
 use Rattle.prolly_build.proofs.run.merger_tree.+merge_tree.Goals as goal
 
-pub returns-in_default-start_two : goal.returns-in_default-start_two
-returns-in_default-start_two g t c = record {
+pub returns-in_default-start : goal.returns-in_default-start
+returns-in_default-start g t c = record {
   fed = tt;
   hands_on = record {
     written = tt;
@@ -24,12 +24,13 @@ returns-in_default-clause-fed g t c =
     on_ok_weaker c.load_all.result (fed_by_loaders g.S.Source.seen _ _ _ _ _)
     c.load_all.ensures.loaded
 
-pub start_two-requires-after_bounds : goal.start_two-requires-after_bounds
-start_two-requires-after_bounds g t c κs within = (
-  c.in-Some.fork.left.unreceived,
-  c.in-Some.fork.right.unreceived,
-  forked_one IsUnsent c.fork_at-out.ensures.items c.requires.unsent,
-)
+pub start-requires-clause-ready : goal.start-requires-clause-ready
+start-requires-clause-ready g t c κs within =
+    (c.in-Some.fork.left.unreceived, c.in-Some.fork.right.unreceived)
+
+pub start-requires-clause-unsent : goal.start-requires-clause-unsent
+start-requires-clause-unsent g t c κs within =
+    forked_one IsUnsent c.fork_at-out.ensures.items c.requires.unsent
 
 pub merge_tree-wrote-requires-clause-unsent : goal.merge_tree-wrote-requires-clause-unsent
 merge_tree-wrote-requires-clause-unsent g t c κs within =
@@ -61,7 +62,7 @@ meet-requires g t c =
     c.join_at-left_sent.ensures.items c.fork_at-out.ensures.items
     c.in_ok-wrote.ensures.fed.links in
     m.0 ∙ (c.in-Some.fork.left.paired ∙ sym (c.join-left.ensures.reads_left ∙
-    ap (λ r. r.link) c.in-Some-start_two.ensures.left))
+    ap (λ j. j.left.link) c.in-Some-start.ensures.job))
 
 pub meet-requires-2 : goal.meet-requires-2
 meet-requires-2 g t c =
@@ -69,15 +70,15 @@ meet-requires-2 g t c =
     c.join_at-left_sent.ensures.items c.fork_at-out.ensures.items
     c.in_ok-wrote.ensures.fed.links in
     m.1 ∙ (c.in-Some.fork.right.paired ∙ sym (c.join-left.ensures.reads_right ∙
-    ap (λ r. r.link) c.in-Some-start_two.ensures.right))
+    ap (λ j. j.right.link) c.in-Some-start.ensures.job))
 
 pub returns-clause-fed : goal.returns-clause-fed
 returns-clause-fed g t c =
     fed_by_merger g.S.Source.seen _ _ _ _ _ _ _ _ _ _ _ _ _ _
     c.in_ok-wrote.ensures.fed c.fork_at-out.ensures.items c.join_at-left_sent.ensures.items
-    (c.join-left.ensures.writes ∙ ap (λ o. o.link) c.in-Some-start_two.ensures.out)
-    (merges_met c.join-left.result.left c.join-left.result.right c.join_at-left_sent.result.0
-    c.join_at-left_sent.result.1 c.join-left.result.out c.join-left.ensures.merges
+    (c.join-left.ensures.writes ∙ ap (λ o. o.link) c.in-Some-start.ensures.out)
+    (merges_met c.join-left.result.0.0 c.join-left.result.0.1 c.join_at-left_sent.result.0
+    c.join_at-left_sent.result.1 c.join-left.result.1 c.join-left.ensures.merges
     (c.in_ok-meet.ensures.met c.join-left.ensures.left_ended)
     (c.in_ok-meet-2.ensures.met c.join-left.ensures.right_ended))
 
@@ -119,8 +120,8 @@ fork_at-out-requires-clause-room g t c =
     let popped = c.in-Some.ensures in
     omega (arith, c.requires.each, c.requires.room.2, popped.len, popped.cases)
 
-pub overflow_cast-number : goal.overflow_cast-number
-overflow_cast-number g t c =
+pub overflow_cast-job : goal.overflow_cast-job
+overflow_cast-job g t c =
     let popped = c.in-Some.ensures in
     omega (arith, c.len-number.ensures, c.requires.each, c.requires.few, popped.len, popped.cases)
 

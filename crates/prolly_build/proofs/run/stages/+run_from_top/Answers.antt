@@ -4,8 +4,8 @@ use Rattle.prolly_build.proofs.RanSteps.{met_hands_on, nothing_begun, of_made}
 use Rattle.prolly_build.proofs.StagingSteps.{nodes_staged}
 use Rattle.prolly_build.proofs.run.stages.+run_from_top.Goals as goal
 
-pub returns-in_default-start_nodes : goal.returns-in_default-start_nodes
-returns-in_default-start_nodes g t c = record {
+pub returns-in_default-start : goal.returns-in_default-start
+returns-in_default-start g t c = record {
   link = tt;
   staged = tt;
   hands_on = record {
@@ -19,12 +19,13 @@ pub returns-clause-staged : goal.returns-clause-staged
 returns-clause-staged g t c =
     of_made _ _ _ c.up_to_stage.result c.up_to_stage.ensures.ran c.up_to_stage.ensures.met
     (λ met. nodes_staged g.S.Source.seen c.args.site.now.config _ _ _
-    (vec_len c.pop.new.self) c.in-Some-start_nodes.handle.promise.level (vec_len c.args.events) _ _
-    (c.in-Some-start_nodes.ensures.level ∙ (omega (arith, c.len.ensures)))
+    (vec_len c.pop.new.self) c.in-Some-start.handle.promise.job.value.level (vec_len c.args.events) _ _
+    (ap (λ j. j.level) c.in-Some-start.ensures.job ∙ (omega (arith, c.len.ensures)))
     (omega (arith, c.in-Some.ensures.cases))
-    c.in-Some-start_nodes.ensures.cut.0 c.in-Some-start_nodes.ensures.cut.1
-    _ _ c.join-stage.result.input c.join-stage.result.out c.in_ok-ran.field-0.out
-    c.in_ok-ran.ensures.staged c.join-stage.ensures (met c.join-stage.ensures.has_ended))
+    (ap (λ j. j.cut) c.in-Some-start.ensures.job ∙ c.cut.ensures)
+    (ap (λ j. j.version) c.in-Some-start.ensures.job ∙ c.version.ensures)
+    _ _ c.join-input.result.0 c.join-input.result.1 c.in_ok-ran.field-0.out
+    c.in_ok-ran.ensures.staged c.join-input.ensures (met c.join-input.ensures.has_ended))
 
 pub returns-clause-hands_on : goal.returns-clause-hands_on
 returns-clause-hands_on g t c =
@@ -56,10 +57,10 @@ run_from_top-ran-requires-clause-levels g t c κs within =
 pub up_to_stage-requires : goal.up_to_stage-requires
 up_to_stage-requires g t c =
     c.in_ok-ran.ensures.link ∙ (c.in-Some.link.paired ∙
-    sym (c.join-stage.ensures.reads ∙ ap (λ r. r.link) c.in-Some-start_nodes.ensures.input))
+    sym (c.join-input.ensures.reads ∙ ap (λ j. j.chunks.link) c.in-Some-start.ensures.job))
 
 pub returns-clause-link : goal.returns-clause-link
 returns-clause-link g t c =
     IfOk-weaker c.up_to_stage.result _ _ (λ ran is. ap (λ r. r.out.link) is ∙
-    (c.join-stage.ensures.writes ∙ ap (λ o. o.link) c.in-Some-start_nodes.ensures.out))
+    (c.join-input.ensures.writes ∙ ap (λ o. o.link) c.in-Some-start.ensures.out))
     c.up_to_stage.ensures.ran

@@ -17,22 +17,23 @@ returns-in_default g c = record {
 
 pub up_to_stage-requires : goal.up_to_stage-requires
 up_to_stage-requires g c =
-    let stage = c.join-stage.ensures c.args.site.now.config.version in
+    let stage = c.join-input.ensures c.args.site.now.config.version in
     c.in_ok-gathered.ensures.link ∙ (c.args.pairs.paired ∙
-    sym (stage.reads ∙ ap (λ r. r.link) c.in-Some.ensures.input))
+    sym (stage.reads ∙ ap (λ j. j.pairs.link) c.in-Some.ensures.job))
 
 pub returns-clause-link : goal.returns-clause-link
 returns-clause-link g c =
-    let stage = c.join-stage.ensures c.args.site.now.config.version in
+    let stage = c.join-input.ensures c.args.site.now.config.version in
     IfOk-weaker c.up_to_stage.result _ _ (λ ran is. ap (λ r. r.out.link) is ∙
     (stage.writes ∙ ap (λ o. o.link) c.in-Some.ensures.out)) c.up_to_stage.ensures.ran
 
 pub returns-clause-staged : goal.returns-clause-staged
 returns-clause-staged g c =
-    let stage = c.join-stage.ensures c.args.site.now.config.version in
+    let stage = c.join-input.ensures c.args.site.now.config.version in
     of_made _ _ _ c.up_to_stage.result c.up_to_stage.ensures.ran c.up_to_stage.ensures.met
-    (λ met. leaves_staged g.S.Source.seen c.args.site.now.config _ _ _ _ c.in-Some.ensures.cut
-    _ _ c.join-stage.result.input c.join-stage.result.out c.in_ok-gathered.field-0.out
+    (λ met. leaves_staged g.S.Source.seen c.args.site.now.config _ _ _ _
+    (ap (λ j. j.cut) c.in-Some.ensures.job ∙ c.cut.ensures)
+    _ _ c.join-input.result.0 c.join-input.result.1 c.in_ok-gathered.field-0.out
     c.in_ok-gathered.ensures.gathered stage (met stage.has_ended))
 
 pub returns-clause-hands_on : goal.returns-clause-hands_on
