@@ -56,6 +56,21 @@ impl Chunk {
         })
     }
 
+    /// A chunk of these bytes, whose key is not known.
+    pub(crate) fn with_bytes(level: u8, bytes: Vec<u8>, count: u64) -> Chunk
+        ensures level { result.level ≡ level }
+        ensures count { result.count ≡ count }
+        ensures bytes { result.bytes ≡ bytes.items }
+    {
+        Chunk {
+            level,
+            bytes,
+            key_start: 0,
+            key_length: 0,
+            count,
+        }
+    }
+
     /// Adds a pair, and says whether it is a boundary. An `Err` leaves the chunk as it was.
     pub(crate) fn add_pair<C: Cut>(&mut self, cut: &C, pair: &Pair) -> Result<bool, AllocError>
         ensures added { OnOk result (self.new ≡ with_pair self.old pair.now) }
@@ -118,7 +133,7 @@ impl Chunk {
     {
         let mut next = Chunk::new(alloc, self.level)?;
         next.bytes.try_reserve_exact(self.bytes.len())?;
-        Ok(ChunkEvent::new(mem::replace(self, next)))
+        Ok(ChunkEvent::of(mem::replace(self, next)))
     }
 
     pub(crate) fn level(&self) -> u8

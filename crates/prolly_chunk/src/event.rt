@@ -1,5 +1,5 @@
 //! What the levels of a tree tell one another.
-ghost use Rattle.std.specs.Prelude.{◌≡◌, ◌≤◌, length};
+ghost use Rattle.std.specs.Prelude.{◌≡◌, ◌≤◌, length, vec_len};
 ghost use Rattle.prolly_entry.specs.Reference.{reference_of};
 
 use crate::chunk::Chunk;
@@ -15,29 +15,55 @@ use std::marker::Model;
 #[derive(Drop)]
 pub struct ChunkEvent {
     chunk: Chunk,
+    // The greatest key where the event was made from its parts; else it lies in the chunk's bytes.
+    key: Option<Vec<u8>>,
     reference: Option<Ref>,
 }
 
 impl Model for ChunkEvent {
-    ghost use Rattle.std.specs.Prelude.{◌≡◌, IfSome};
+    ghost use Rattle.std.specs.Prelude.{◌≡◌, ◌≤◌, IfSome, vec_len};
     ghost use Rattle.prolly_entry.specs.Reference.{reference_of};
     ghost use Rattle.prolly_tree.specs.Chunk.{Chunk as ChunkValue};
+    ghost use Rattle.prolly_chunk.specs.Event.{key_or};
 
     ghost Value = { ChunkValue };
 
-    ghost view = { λ e. e.chunk };
+    ghost view = { λ e. record {
+      level = e.chunk.level;
+      key = key_or e.key e.chunk.key;
+      count = e.chunk.count;
+      bytes = e.chunk.bytes;
+    } };
 
-    ghost invariant = { λ e. IfSome e.reference
-        (λ reference. reference.0 ≡ reference_of e.chunk.bytes) };
+    ghost invariant = { λ e. IfSome e.key (λ key. vec_len key ≤ 1024) ×
+        IfSome e.reference (λ reference. reference.0 ≡ reference_of e.chunk.bytes) };
 }
 
 impl ChunkEvent {
+    /// The event of a chunk from its parts, for whoever has events that come from no level of this
+    /// crate. Takes no hash, and no memory.
+    pub fn new(level: u8, key: Vec<u8>, reference: Ref, bytes: Vec<u8>, count: u64) -> ChunkEvent
+        requires short { vec_len key ≤ 1024 }
+        requires reference { reference.0 ≡ reference_of bytes.items }
+        ensures { result ≡ record
+            { level = level; key = key.items; count = count; bytes = bytes.items } }
+    {
+        let chunk = Chunk::with_bytes(level, bytes, count);
+        let (key, reference) = (Some(key), Some(reference));
+        ChunkEvent {
+            chunk,
+            key,
+            reference,
+        }
+    }
+
     /// The event of a chunk that closes. Takes no hash, and no memory.
-    pub(crate) fn new(chunk: Chunk) -> ChunkEvent
+    pub(crate) fn of(chunk: Chunk) -> ChunkEvent
         ensures { result ≡ chunk }
     {
         ChunkEvent {
             chunk,
+            key: None,
             reference: None,
         }
     }
@@ -77,7 +103,10 @@ impl ChunkEvent {
         ensures key { result.now ≡ self.now.key }
         ensures short { length self.now.key ≤ 1024 }
     {
-        self.chunk.key()
+        match &self.key {
+            Some(key) => key,
+            None => self.chunk.key(),
+        }
     }
 
     /// The reference of the bytes. Takes one hash of them where the event does not carry it.

@@ -59,7 +59,7 @@ impl<C: Cut> LeafLevel<C> {
         ensures { LeafEnds C.cut self result }
     {
         if !self.has_pairs || self.leaf.has_entries() {
-            return Some(ChunkEvent::new(self.leaf));
+            return Some(ChunkEvent::of(self.leaf));
         }
         None
     }

@@ -109,7 +109,7 @@ impl<C: Cut> NodeLevel<C> {
         ensures { NodeEnds C.cut self result }
     {
         if self.received.is_several() && self.node.has_entries() {
-            return Some(ChunkEvent::new(self.node));
+            return Some(ChunkEvent::of(self.node));
         }
         None
     }

@@ -11,7 +11,7 @@ returns-then-not-self g c =
       | then-not-self-via-else-not-self+then-has_entries w ↦ search rules
     ] in
     leaf_ends g.C.Cut.cut c.args.self c.self.inside.cut c.self.inside.leaf c.self.inside.has_pairs _
-    true c.self.view_is is_left (ap Some c.new.ensures)
+    true c.self.view_is is_left (ap Some c.of.ensures)
 
 pub returns : goal.returns
 returns g c =

@@ -10,7 +10,7 @@ returns-then-has_entries g c =
     let is_left : true ≡ (is_several old.received && nat_le 2 (length old.node.bytes)) =
     search rules in
     node_ends g.C.Cut.cut c.args.self old.cut old.version old.node old.received _ true
-    c.self.view_is c.self.invariant is_left (ap Some c.new.ensures)
+    c.self.view_is c.self.invariant is_left (ap Some c.of.ensures)
 
 pub returns : goal.returns
 returns g c =
