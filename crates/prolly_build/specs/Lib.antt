@@ -22,5 +22,7 @@ pub mod Built
 pub mod Stopped
 -- What a build leaves where a worker was refused memory.
 pub mod Refused
+-- What the end of a build makes of a run whose workers have all ended.
+pub mod Finished
 -- What a build has answered, and what it has made of its sources and of the sink then.
 pub mod Outcome

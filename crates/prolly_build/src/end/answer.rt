@@ -1,20 +1,13 @@
 //! What a build does once its workers have been joined.
-ghost use Rattle.std.specs.Prelude.{◌≡◌, ◌≢◌, ◌-◌, ◌<◌, ◌^◌, true, List, length, IfOk, IfErr, OnOk};
-ghost use Rattle.prolly_entry.specs.Cut.{sha512_cut};
-ghost use Rattle.prolly_tree.specs.Events.{faulty};
-ghost use Rattle.prolly_tree.specs.File.{header};
+ghost use Rattle.std.specs.Prelude.{◌≡◌, ◌-◌, List};
 ghost use Rattle.prolly_entry.specs.Pair.{Pair as PairValue};
-ghost use Rattle.prolly_tree.specs.Pipeline.{pipeline_events, before_second};
-ghost use Rattle.prolly_file.specs.Sink.{SinkView, TakesPrefix};
-ghost use Rattle.prolly_link.specs.Receipts.{HasEnded};
-ghost use Rattle.prolly_link.specs.Receipts.{end_given};
-ghost use Rattle.prolly_link.specs.declared.end.End.TheVariants.{Clean, Fault};
-ghost use Rattle.prolly_link.specs.declared.fault.RunFault.TheVariants.{Memory, Write};
+ghost use Rattle.prolly_tree.specs.File.{header};
+ghost use Rattle.prolly_file.specs.Sink.{SinkView};
+ghost use Rattle.prolly_link.specs.Receipts.{end_given, HasEnded};
 ghost use Rattle.prolly_build.specs.Settings.{AreLawful};
-ghost use Rattle.prolly_build.specs.Writing.{HasWritten, frames_of};
-ghost use Rattle.prolly_build.specs.Built.{IsBegun, IsRunOf, IsFileOf, IsUnmadeOf, IsInputEnd};
-ghost use Rattle.prolly_build.specs.Built.{IsStartFault, IsWriterFault};
-ghost use Rattle.prolly_build.specs.Stopped.{IsFileFault, TookBegun};
+ghost use Rattle.prolly_build.specs.Writing.{HasWritten};
+ghost use Rattle.prolly_build.specs.Built.{IsInputEnd, IsRunOf};
+ghost use Rattle.prolly_build.specs.Finished.{IsFinished};
 
 use crate::config::Config;
 use crate::end::end_record::end_build;
@@ -42,39 +35,11 @@ pub(crate) fn finish<R: Wait, W: Sink>(
     requires written { (old : SinkView) × HasWritten (header config.version config.bits)
         (config.stages - 1) ran.wrote.last.items old
         (W.seen sink.old) ran.wrote.written }
-    ensures ok { (m : List PairValue) (old : SinkView) →
+    ensures { (m : List PairValue) (old : SinkView) →
         IsRunOf config m ran.out.items ran.out.end ran.pairs →
         HasWritten (header config.version config.bits) (config.stages - 1) ran.wrote.last.items old
         (W.seen sink.old) ran.wrote.written →
-        IfOk result (IsFileOf config m old (W.seen sink.new)) }
-    ensures clean { OnOk result (ran.out.end ≡ Clean) }
-    ensures unmade { (m : List PairValue) (old : SinkView) →
-        IsRunOf config m ran.out.items ran.out.end ran.pairs →
-        HasWritten (header config.version config.bits) (config.stages - 1) ran.wrote.last.items old
-        (W.seen sink.old) ran.wrote.written →
-        IfErr result (λ fault. IsWriterFault fault → (ran.out.end ≡ Clean)
-        × IsUnmadeOf config m old (W.seen sink.new) fault) }
-    ensures begun { (old : SinkView) → HasWritten (header config.version config.bits)
-        (config.stages - 1) ran.wrote.last.items old
-        (W.seen sink.old) ran.wrote.written →
-        IfErr result (λ fault. fault ≢ Write
-        → IsBegun config old (W.seen sink.new)) }
-    ensures stopped { (old : SinkView) → HasWritten (header config.version config.bits)
-        (config.stages - 1) ran.wrote.last.items old
-        (W.seen sink.old) ran.wrote.written →
-        IfErr result (λ fault. IsFileFault fault → (ran.out.end ≡ Fault fault) ×
-        ((p : List PairValue) → length p < 2 ^ 64 →
-        ran.out.items ≡ pipeline_events (config.stages - 1) (sha512_cut config.bits)
-        config.version faulty p →
-        TookBegun config p old (W.seen sink.new))) }
-    ensures refused { (old : SinkView) → HasWritten (header config.version config.bits)
-        (config.stages - 1) ran.wrote.last.items old
-        (W.seen sink.old) ran.wrote.written →
-        IfErr result (λ fault. fault ≡ Memory → (ran.out.end ≡ Fault Memory) ×
-        (old.is_keeping ≡ true →
-        TakesPrefix old.taken (W.seen sink.new).taken (frames_of (header config.version config.bits)
-        (before_second (config.stages - 1) ran.out.items)))) }
-    ensures err { IfErr result (λ fault. IsStartFault fault → ⊥) }
+        IsFinished config m ran.out old (W.seen sink.new) result }
 {
     let Ran { out, pairs, wrote } = ran;
     let Wrote { last, end, written } = wrote;

@@ -51,25 +51,23 @@ returns-in-Ok-clause-outcome g c =
     (omega (arith, c.requires.files, c.args.sources.now.ok.0)) c.requires.levels
     (ap (λ v. v.items) c.replace-lent.ensures.value) _ _ staged in
     let written = at_ok _ _ _ c.in-Ok.is c.scoped-ran.ensures.1.1.0.written in
-    let clean : OnOk c.finish.result (c.in-Ok.ran.out.end ≡ Clean) = c.finish.ensures.clean in
+    let finished = c.finish.ensures (overlay r.goods) _ r.run written.written in
     let back = c.sink-1.given.1 (sym c.scoped-ran.ensures.1.1.1.1) in
     subst (λ (w : g.row.W.Denot). IsOutcome g.S.Source.seen c.args.config before after
     (g.W.Sink.seen c.args.sink.now) (g.W.Sink.seen w)
     (w ≡ c.args.sink.now) c.finish.result) (sym back) (record {
       built = if_ok c.finish.result _ _ _ (λ clean report file. built r.goods (r.read clean) file)
-          clean
-          (c.finish.ensures.ok (overlay r.goods) _ r.run written.written);
+          finished.clean finished.made;
       kept = if_ok_any c.finish.result r.kept;
       unmade = IfErr-weaker c.finish.result _ _
-          (λ fault h w. not_built r.goods (r.read (h w).0) (h w).1)
-          (c.finish.ensures.unmade (overlay r.goods) _ r.run written.written);
+          (λ fault h w. not_built r.goods (r.read (h w).0) (h w).1) finished.unmade;
       stopped = IfErr-weaker c.finish.result _ _ (λ fault h file honest. stopped fault file
           (lent_stops g.S.Source.seen source.left_are_bytes _ _ c.args.sources.now.items
           c.replace-lent.result.items c.scoped-ran.result.1.items _ c.requires.lawful
           (omega (arith, c.requires.files, c.args.sources.now.ok.0)) c.requires.levels
           (ap (λ v. v.items) c.replace-lent.ensures.value) honest _ _ fault staged (h file).0)
           (h file).1)
-          (c.finish.ensures.stopped _ written.written);
+          finished.stopped;
       refused = IfErr-weaker c.finish.result _ _
           (λ fault h memory honest. refused g.S.Source.seen _ before after _
           (lent_refused g.S.Source.seen source.left_are_bytes _ _ c.args.sources.now.items
@@ -77,15 +75,23 @@ returns-in-Ok-clause-outcome g c =
           (omega (arith, c.requires.files, c.args.sources.now.ok.0)) c.requires.levels
           (ap (λ v. v.items) c.replace-lent.ensures.value) honest _ _ staged (h memory).0)
           (h memory).1)
-          (c.finish.ensures.refused _ written.written);
-      begun = c.finish.ensures.begun _ written.written;
+          finished.refused;
+      begun = finished.begun;
       unstarted = IfErr-weaker c.finish.result _ _ (λ fault h start. absurd (h start))
-          c.finish.ensures.err;
-      left_behind = IfErr-weaker c.finish.result _ _ (λ fault h a b. r.kept) c.finish.ensures.err;
+          finished.started;
+      left_behind = IfErr-weaker c.finish.result _ _ (λ fault h a b. r.kept) finished.started;
     })
 
 pub returns-in-Ok-clause-started : goal.returns-in-Ok-clause-started
-returns-in-Ok-clause-started g c = IfErr-weaker c.finish.result _ _ not_counted c.finish.ensures.err
+returns-in-Ok-clause-started g c =
+    let r = lent_run g.S.Source.seen _ _ c.args.sources.now.items c.replace-lent.result.items
+    c.scoped-ran.result.1.items _ c.requires.lawful
+    (omega (arith, c.requires.files, c.args.sources.now.ok.0)) c.requires.levels
+    (ap (λ v. v.items) c.replace-lent.ensures.value) _ _
+    (at_ok _ _ _ c.in-Ok.is c.scoped-ran.ensures.1.1.1.0) in
+    let written = at_ok _ _ _ c.in-Ok.is c.scoped-ran.ensures.1.1.0.written in
+    IfErr-weaker c.finish.result _ _ not_counted
+    (c.finish.ensures (overlay r.goods) _ r.run written.written).started
 
 pub returns-in-Err-clause-outcome : goal.returns-in-Err-clause-outcome
 returns-in-Err-clause-outcome g c =

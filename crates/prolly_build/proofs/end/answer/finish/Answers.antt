@@ -6,6 +6,7 @@ use Rattle.prolly_file.specs.Sink.{SinkView}
 use Rattle.prolly_link.specs.Receipts.{end_given}
 use Rattle.prolly_link.specs.declared.end.End.{End}
 use Rattle.prolly_link.specs.declared.end.End.TheVariants.{Clean}
+use Rattle.prolly_link.specs.declared.fault.RunFault.{RunFault}
 use Rattle.prolly_build.specs.Built.{IsInputEnd}
 use Rattle.prolly_build.specs.Writing.{HasWritten, IsEndFault}
 use Rattle.prolly_build.proofs.RanSteps.{written_begun, ended_begun}
@@ -40,110 +41,57 @@ end_build-requires-clause-some g c = λ begun is clean.
     (subst (λ (es : List Chunk). HasWritten head (c.args.config.stages - 1) es c.requires.written.0
     now c.args.ran.wrote.written) met.0 c.requires.written.1)
 
-pub returns-in-Ok-clause-ok : goal.returns-in-Ok-clause-ok
-returns-in-Ok-clause-ok g c = λ m old run written.
+pub returns-in-Ok : goal.returns-in-Ok
+returns-in-Ok g c = λ m old run written.
     let met = c.in-Ok.ensures.met c.requires.ended in
-    let now : SinkView = g.W.Sink.seen c.args.sink.now in
-    let head = header c.args.config.version c.args.config.bits in
-    let level = c.args.config.stages - 1 in
-    if_ok c.end_build.result _ _ _
-    (λ clean report ended.
-    let out_clean : c.args.ran.out.end ≡ Clean = sym (c.requires.end ∙ ap end_given met.1) ∙
-    clean in
-    file_made c.args.config c.requires.lawful.stages.0 c.requires.lawful.stages.1 m
-    c.args.ran.out.items c.args.ran.pairs (run out_clean) old _ report ended)
-    c.end_build.ensures.clean
-    (c.end_build.ensures.ok head level c.args.ran.out.items old
-    (subst (λ (es : List Chunk). HasWritten head level es old now c.args.ran.wrote.written) met.0
-    written))
-
-pub returns-in-Ok-clause-err : goal.returns-in-Ok-clause-err
-returns-in-Ok-clause-err g c =
-    let met = c.in-Ok.ensures.met c.requires.ended in
-    let head = header c.args.config.version c.args.config.bits in
-    let level = c.args.config.stages - 1 in
-    let input : IsInputEnd c.args.ran.wrote.end =
-    subst IsInputEnd (sym (c.requires.end ∙ ap end_given met.1)) c.requires.faults in
-    IfErr-weaker c.end_build.result _ _
-    (λ fault h. no_start_fault head level c.args.ran.wrote.last.items c.requires.written.0 _ _
-    c.args.ran.wrote.end fault input h)
-    (c.end_build.ensures.err head level c.args.ran.wrote.last.items c.requires.written.0
-    c.requires.written.1)
-
-pub returns-in-Ok-clause-clean : goal.returns-in-Ok-clause-clean
-returns-in-Ok-clause-clean g c =
-    let met = c.in-Ok.ensures.met c.requires.ended in
-    on_ok_weaker c.end_build.result (λ clean. sym (c.requires.end ∙ ap end_given met.1) ∙ clean)
-    c.end_build.ensures.clean
-
-pub returns-in-Ok-clause-unmade : goal.returns-in-Ok-clause-unmade
-returns-in-Ok-clause-unmade g c = λ m old run written.
-    let met = c.in-Ok.ensures.met c.requires.ended in
-    let now : SinkView = g.W.Sink.seen c.args.sink.now in
-    let head = header c.args.config.version c.args.config.bits in
-    let after : SinkView = g.W.Sink.seen c.end_build.new.sink in
-    let level = c.args.config.stages - 1 in
-    IfErr-weaker c.end_build.result _ _
-    (λ fault h. unmade_at c.args.config c.requires.lawful.stages.0 c.requires.lawful.stages.1 m
-    c.args.ran.out.items c.args.ran.pairs c.args.ran.out.end run c.requires.faults old now after
-    fault
-    (subst (λ (e : End). IsEndFault head level c.args.ran.out.items old now after e fault)
-    (c.requires.end ∙ ap end_given met.1) h))
-    (c.end_build.ensures.err head level c.args.ran.out.items old
-    (subst (λ (es : List Chunk). HasWritten head level es old now c.args.ran.wrote.written) met.0
-    written))
-
-pub returns-in-Ok-clause-begun : goal.returns-in-Ok-clause-begun
-returns-in-Ok-clause-begun g c = λ old written.
+    let ended = c.requires.end ∙ ap end_given met.1 in
+    let settings = c.args.config in
+    let stages = c.requires.lawful.stages in
+    let sent = c.args.ran.out in
+    let writer = c.args.ran.wrote in
     let now : SinkView = g.W.Sink.seen c.args.sink.now in
     let after : SinkView = g.W.Sink.seen c.end_build.new.sink in
-    let level = c.args.config.stages - 1 in
-    IfErr-weaker c.end_build.result _ _
-    (λ fault h other. ended_begun c.args.config level c.args.ran.wrote.last.items old now after
-    c.args.ran.wrote.written c.args.ran.wrote.end fault written h other)
-    (c.end_build.ensures.err (header c.args.config.version c.args.config.bits) level
-    c.args.ran.wrote.last.items old written)
+    let head = header settings.version settings.bits in
+    let level = settings.stages - 1 in
+    let result = c.end_build.result in
+    let of_sent = subst (λ (es : List Chunk). HasWritten head level es old now writer.written) met.0
+    written in
+    let fault_of_sent = c.end_build.ensures.err head level sent.items old of_sent in
+    let fault_of_last = c.end_build.ensures.err head level writer.last.items old written in
+    let as_sent : (fault : RunFault) → IsEndFault head level sent.items old now after writer.end fault
+    → IsEndFault head level sent.items old now after sent.end fault =
+    λ fault h. subst (λ (e : End). IsEndFault head level sent.items old now after e fault) ended h in
+    record {
+      made = if_ok result _ _ _
+          (λ clean report whole. file_made settings stages.0 stages.1 m sent.items c.args.ran.pairs
+          (run (sym ended ∙ clean)) old _ report whole)
+          c.end_build.ensures.clean (c.end_build.ensures.ok head level sent.items old of_sent);
+      clean = on_ok_weaker result (λ clean. sym ended ∙ clean) c.end_build.ensures.clean;
+      unmade = IfErr-weaker result _ _
+          (λ fault h. unmade_at settings stages.0 stages.1 m sent.items c.args.ran.pairs sent.end run
+          c.requires.faults old now after fault (as_sent fault h)) fault_of_sent;
+      stopped = IfErr-weaker result _ _
+          (λ fault h. stopped_at settings stages.0 sent.items old now after writer.written sent.end
+          fault of_sent (as_sent fault h)) fault_of_sent;
+      refused = IfErr-weaker result _ _
+          (λ fault h. refused_at head level sent.items old now after writer.written sent.end fault
+          of_sent (as_sent fault h)) fault_of_sent;
+      begun = IfErr-weaker result _ _
+          (λ fault h other. ended_begun settings level writer.last.items old now after writer.written
+          writer.end fault written h other) fault_of_last;
+      started = IfErr-weaker result _ _
+          (λ fault h. no_start_fault head level writer.last.items old _ _ writer.end fault
+          (subst IsInputEnd (sym ended) c.requires.faults) h) fault_of_last;
+    }
 
-pub returns-in-Err-clause-begun : goal.returns-in-Err-clause-begun
-returns-in-Err-clause-begun g c = λ old written other.
-    written_begun c.args.config (c.args.config.stages - 1) c.args.ran.wrote.last.items old _
-    c.args.ran.wrote.written written
-
-pub returns-in-Ok-clause-stopped : goal.returns-in-Ok-clause-stopped
-returns-in-Ok-clause-stopped g c = λ old written.
-    let met = c.in-Ok.ensures.met c.requires.ended in
-    let now : SinkView = g.W.Sink.seen c.args.sink.now in
-    let after : SinkView = g.W.Sink.seen c.end_build.new.sink in
-    let head = header c.args.config.version c.args.config.bits in
-    let level = c.args.config.stages - 1 in
-    IfErr-weaker c.end_build.result _ _
-    (λ fault h. stopped_at c.args.config c.requires.lawful.stages.0 c.args.ran.out.items old now
-    after c.args.ran.wrote.written c.args.ran.out.end fault
-    (subst (λ (es : List Chunk). HasWritten head level es old now c.args.ran.wrote.written) met.0
-    written)
-    (subst (λ (e : End). IsEndFault head level c.args.ran.out.items old now after e fault)
-    (c.requires.end ∙ ap end_given met.1) h))
-    (c.end_build.ensures.err head level c.args.ran.out.items old
-    (subst (λ (es : List Chunk). HasWritten head level es old now c.args.ran.wrote.written) met.0
-    written))
-
-pub returns-in-Ok-clause-refused : goal.returns-in-Ok-clause-refused
-returns-in-Ok-clause-refused g c = λ old written.
-    let met = c.in-Ok.ensures.met c.requires.ended in
-    let now : SinkView = g.W.Sink.seen c.args.sink.now in
-    let after : SinkView = g.W.Sink.seen c.end_build.new.sink in
-    let head = header c.args.config.version c.args.config.bits in
-    let level = c.args.config.stages - 1 in
-    IfErr-weaker c.end_build.result _ _
-    (λ fault h. refused_at head level c.args.ran.out.items old now after c.args.ran.wrote.written
-    c.args.ran.out.end fault
-    (subst (λ (es : List Chunk). HasWritten head level es old now c.args.ran.wrote.written) met.0
-    written)
-    (subst (λ (e : End). IsEndFault head level c.args.ran.out.items old now after e fault)
-    (c.requires.end ∙ ap end_given met.1) h))
-    (c.end_build.ensures.err head level c.args.ran.out.items old
-    (subst (λ (es : List Chunk). HasWritten head level es old now c.args.ran.wrote.written) met.0
-    written))
-
-pub returns-in-Err-clause-refused : goal.returns-in-Err-clause-refused
-returns-in-Err-clause-refused g c = λ old written memory. absurd (lost_is_no_memory memory)
+pub returns-in-Err : goal.returns-in-Err
+returns-in-Err g c = λ m old run written. record {
+  made = tt;
+  clean = tt;
+  unmade = λ w. absurd w;
+  stopped = λ file. absurd file;
+  refused = λ memory. absurd (lost_is_no_memory memory);
+  begun = λ other. written_begun c.args.config (c.args.config.stages - 1)
+      c.args.ran.wrote.last.items old _ c.args.ran.wrote.written written;
+  started = λ start. absurd start;
+}
