@@ -58,7 +58,11 @@ fn write_events<I: In<ChunkEvent>, W: Sink, R: Wait>(
     let mut written = begun;
     for _ in rt.forever() {
         match input.recv(rt) {
-            Next::Item(event) => written = written.push(sink, last_level, &event),
+            Next::Item(event) => {
+                written = written.push(sink, last_level, &event);
+                // So its drop is one step of the proof.
+                drop(event);
+            }
             Next::End(end) => return (written, end),
             Next::Lost => return (written, End::Fault(RunFault::Lost)),
         }
