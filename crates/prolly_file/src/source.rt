@@ -29,12 +29,6 @@ pub trait Source {
         ensures succeeds { (seen self.old).is_steady ≡ true → IsOk result }
         ensures steady { (seen self.old).is_steady ≡ true → (seen self.new).is_steady ≡ true };
 
-    /// Is told, now and then, how many records were made of the bytes that it gave. A source that
-    /// shows how far a run has come keeps the number; any other one does nothing.
-    fn note_records(&mut self, records: u32)
-        ensures { seen self.new ≡ seen self.old }
-    {}
-
     /// What an honest source has left are bytes, which contracts see as numbers.
     ghost left_are_bytes: { (s : Self) → (seen s).is_honest ≡ true → All IsByte (seen s).left };
 }
