@@ -4,9 +4,25 @@ ghost use Rattle.prolly_entry.specs.Byte.{IsByte};
 ghost use Rattle.prolly_file.specs.Failures.{CountsFailure};
 ghost use Rattle.prolly_file.specs.Source.{SourceView, HandsOut};
 
+use std::error::Error;
+use std::fmt;
+use std::fmt::{Display, Formatter};
+
 /// A read that failed.
 #[derive(Clone, Copy, Debug, PartialEq, Eq)]
 pub struct SourceFault;
+
+impl Display for SourceFault {
+    ghost use Rattle.std.specs.Prelude.{Some, codes};
+
+    ghost output = { λ _. Some (codes "read failed") };
+
+    fn fmt<W: fmt::Write>(&self, f: &mut Formatter<W>) -> fmt::Result {
+        f.write_str("read failed")
+    }
+}
+
+impl Error for SourceFault {}
 
 /// What gives bytes, a part at a time.
 pub trait Source {
