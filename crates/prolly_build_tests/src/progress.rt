@@ -1,7 +1,8 @@
 //! Progress: that bytes are counted, and that something is shown, or nothing.
 use crate::expect::expect_eq;
 use prolly_file::{ScriptSink, ScriptSource, Sink, SinkFault, Source, SourceFault};
-use prolly_progress::{CountedSink, CountedSource, Counts, Progress, watched};
+use prolly_progress::{CountedSink, CountedSource, CountingGate, Counts, Progress, watched};
+use prolly_stage::{Gate, Worker};
 use std::alloc::Global;
 use std::fmt::Display;
 use std::io::{Eprint, IsTerminal};
@@ -149,18 +150,19 @@ fn bytes_are_counted_where_they_are_read(rt: HostRuntime) -> Result<(), Fail> {
 }
 
 #[test]
-fn records_are_counted_once(rt: HostRuntime) -> Result<(), Fail> {
+fn records_are_counted_once(rt: HostRuntime) {
     let counts = Counts::new();
-    let first = ScriptSource::new(Vec::new(rt.alloc()), 4, None);
-    let second = ScriptSource::new(Vec::new(rt.alloc()), 4, None);
-    let mut first = CountedSource::new(first, &counts);
-    let mut second = CountedSource::new(second, &counts);
-    first.note_records(3);
-    second.note_records(10);
-    first.note_records(3);
-    first.note_records(5);
-    expect_eq(&rt, &counts.records.count(), &15);
-    Ok(())
+    let gate = CountingGate::new(&counts);
+    for nth in 0..200 {
+        gate.before_send(&rt, Worker::Loader(0), nth);
+        gate.before_send(&rt, Worker::Merger(0), nth);
+        gate.before_send(&rt, Worker::Stage(0), nth);
+    }
+    for nth in 0..70 {
+        gate.before_send(&rt, Worker::Loader(1), nth);
+    }
+    // Three times 64 of the first file, and once of the second.
+    expect_eq(&rt, &counts.records.count(), &256);
 }
 
 #[test]

@@ -34,5 +34,7 @@ pub mod ScanWay
 pub mod Steps
 -- Look-ups in a file that was checked.
 pub mod FileWays
+-- What is said of a file that is no chunk file. (This project's texts.)
+pub mod FaultTexts
 -- Lemmas for the crates above, by subject.
 pub mod lemmas

@@ -44,5 +44,7 @@ pub mod Overlay
 pub mod RecordList
 -- Prefixes of lists.
 pub mod Prefix
+-- What is said of faults. (This project's texts.)
+pub mod FaultTexts
 -- Lemmas for the crates above, by subject.
 pub mod lemmas

@@ -6,6 +6,7 @@ mod appending;
 mod boundary;
 mod child;
 mod cut;
+mod fault_text;
 mod flaw;
 mod front;
 mod keys;
@@ -23,6 +24,7 @@ mod version;
 
 pub use child::{Child, ChildAt, append_child, append_child_as, front_child, front_child_as};
 pub use cut::{BITS_LIMIT, Cut, KeyCut, Sha512Cut};
+pub use fault_text::FaultText;
 pub use flaw::Flaw;
 pub use front::{Front, FrontRecord, front_pair, front_record, split_pair};
 pub use keys::{key_order, key_rises};

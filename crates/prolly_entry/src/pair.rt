@@ -5,6 +5,9 @@ use crate::boundary::boundary_number;
 use crate::limits::{KEY_LIMIT, VALUE_LIMIT};
 use crate::storage::Storage;
 use std::alloc::{AllocError, Global};
+use std::error::Error;
+use std::fmt;
+use std::fmt::{Display, Formatter};
 use std::marker::Model;
 
 /// Why there is no such pair or record.
@@ -15,6 +18,22 @@ pub enum EntryFault {
     /// The value has more than 65,536 bytes.
     ValueTooLong,
 }
+
+impl Display for EntryFault {
+    ghost use Rattle.std.specs.Prelude.{Some};
+    ghost use Rattle.prolly_entry.specs.FaultTexts.{entry_fault_text};
+
+    ghost output = { λ fault. Some (entry_fault_text fault) };
+
+    fn fmt<W: fmt::Write>(&self, f: &mut Formatter<W>) -> fmt::Result {
+        match self {
+            EntryFault::KeyTooLong => f.write_str("key too long"),
+            EntryFault::ValueTooLong => f.write_str("value too long"),
+        }
+    }
+}
+
+impl Error for EntryFault {}
 
 /// A key of at most 1,024 bytes and the value at it, of at most 65,536 bytes. Either may be empty.
 ///

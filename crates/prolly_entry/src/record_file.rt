@@ -5,13 +5,16 @@ ghost use Rattle.prolly_entry.specs.Overlay.{pairs_of_change};
 ghost use Rattle.prolly_entry.specs.Record.{IsRecord};
 ghost use Rattle.prolly_entry.specs.RecordAt.{LiesIn, record_at};
 ghost use Rattle.prolly_entry.specs.RecordList.{ArePairsOf, IsFaultOf, fault_of};
-ghost use Rattle.prolly_entry.specs.declared.record_file.RecordFault.TheVariants.{Memory};
 
+use crate::fault_text::FaultText;
 use crate::flaw::Flaw;
 use crate::next::{NextRecord, next_record};
 use crate::pair::Pair;
 use crate::record_at::RecordAt;
-use std::alloc::Global;
+use std::alloc::{AllocError, Global};
+use std::error::Error;
+use std::fmt;
+use std::fmt::{Display, Formatter};
 
 /// Why bytes are no record file. A place is the number of good records before the flawed one, so
 /// the flawed one's own number, counted from 0.
@@ -29,6 +32,55 @@ pub enum RecordFault {
     OutOfOrder { place: u32 },
     /// As many records as are allowed are good, and a further byte follows.
     TooManyRecords,
+}
+
+impl RecordFault {
+    ghost use Rattle.prolly_entry.specs.FaultTexts.{record_fault_text, shown_text};
+
+    /// What is said of it.
+    fn text(self) -> FaultText
+        ensures { shown_text result ≡ record_fault_text self }
+    {
+        match self {
+            RecordFault::Memory => FaultText::Plain("out of memory"),
+            RecordFault::Truncated { place } => {
+                FaultText::Holding("record ", u64::from(place), " is cut")
+            }
+            RecordFault::KeyTooLong { place } => {
+                FaultText::Holding("record ", u64::from(place), ": key too long")
+            }
+            RecordFault::ValueTooLong { place } => {
+                FaultText::Holding("record ", u64::from(place), ": value too long")
+            }
+            RecordFault::OutOfOrder { place } => {
+                FaultText::Holding("record ", u64::from(place), ": key out of order")
+            }
+            RecordFault::TooManyRecords => FaultText::Plain("too many records"),
+        }
+    }
+}
+
+impl Display for RecordFault {
+    ghost use Rattle.std.specs.Prelude.{Some};
+    ghost use Rattle.prolly_entry.specs.FaultTexts.{record_fault_text};
+
+    ghost output = { λ fault. Some (record_fault_text fault) };
+
+    fn fmt<W: fmt::Write>(&self, f: &mut Formatter<W>) -> fmt::Result {
+        self.text().fmt(f)
+    }
+}
+
+impl Error for RecordFault {}
+
+impl From<AllocError> for RecordFault {
+    ghost use Rattle.prolly_entry.specs.declared.record_file.RecordFault.TheVariants.{Memory};
+
+    ghost from_gives = { λ _ fault. fault ≡ Memory };
+
+    fn from(_: AllocError) -> Self {
+        RecordFault::Memory
+    }
 }
 
 /// The pairs that the records of a record file put, in the order of their keys, where the bytes are
@@ -69,21 +121,14 @@ fn push_put(
     alloc: Global,
     bytes: &[u8],
     at: RecordAt,
-) -> Result<(), RecordFault>
+) -> Result<(), AllocError>
     requires lies { LiesIn bytes.now at }
     requires lawful { IsRecord (record_at bytes.now at) }
-    ensures added { OnOk result (pairs.new.items ≡ pairs.old.items ++
+    ensures { OnOk result (pairs.new.items ≡ pairs.old.items ++
         pairs_of_change (record_at bytes.now at).key (record_at bytes.now at).value) }
-    ensures refused { IfErr result (λ fault. fault ≡ Memory) }
 {
-    let Some(value) = at.value(bytes) else {
-        return Ok(());
-    };
-    let Ok(pair) = Pair::copy_of(alloc, at.key(bytes), value) else {
-        return Err(RecordFault::Memory);
-    };
-    if pairs.push(pair).is_err() {
-        return Err(RecordFault::Memory);
+    if let Some(value) = at.value(bytes) {
+        pairs.push(Pair::copy_of(alloc, at.key(bytes), value)?)?;
     }
     Ok(())
 }

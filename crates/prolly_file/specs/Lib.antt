@@ -36,3 +36,5 @@ pub mod Writer
 pub mod Scratch
 -- What making the levels of a tree may come to.
 pub mod Levels
+-- What is said of faults. (This project's texts.)
+pub mod FaultTexts

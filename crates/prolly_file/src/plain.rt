@@ -8,8 +8,11 @@ ghost use Rattle.prolly_file.specs.Scratch.{IsScratched};
 use crate::levels::{all_chunks, first_fall};
 use crate::whole_file::append_file;
 use prolly_chunk::ChunkEvent;
-use prolly_entry::{Cut, Pair, Ref, Version};
+use prolly_entry::{Cut, FaultText, Pair, Ref, Version};
 use std::alloc::{AllocError, Global};
+use std::error::Error;
+use std::fmt;
+use std::fmt::{Display, Formatter};
 
 /// Why there is no file of pairs.
 #[derive(Clone, Copy, Debug, PartialEq, Eq)]
@@ -22,6 +25,37 @@ pub enum ScratchFault {
     /// The tree has more levels than are allowed.
     TooTall,
 }
+
+impl ScratchFault {
+    ghost use Rattle.prolly_entry.specs.FaultTexts.{shown_text};
+    ghost use Rattle.prolly_file.specs.FaultTexts.{scratch_fault_text};
+
+    /// What is said of it.
+    fn text(self) -> FaultText
+        ensures { shown_text result ≡ scratch_fault_text self }
+    {
+        match self {
+            ScratchFault::Memory => FaultText::Plain("out of memory"),
+            ScratchFault::OutOfOrder { pair } => {
+                FaultText::Holding("pair ", pair as u64, ": key out of order")
+            }
+            ScratchFault::TooTall => FaultText::Plain("tree too tall"),
+        }
+    }
+}
+
+impl Display for ScratchFault {
+    ghost use Rattle.std.specs.Prelude.{Some};
+    ghost use Rattle.prolly_file.specs.FaultTexts.{scratch_fault_text};
+
+    ghost output = { λ fault. Some (scratch_fault_text fault) };
+
+    fn fmt<W: fmt::Write>(&self, f: &mut Formatter<W>) -> fmt::Result {
+        self.text().fmt(f)
+    }
+}
+
+impl Error for ScratchFault {}
 
 impl From<AllocError> for ScratchFault {
     ghost use Rattle.prolly_file.specs.declared.plain.ScratchFault.TheVariants.{Memory};

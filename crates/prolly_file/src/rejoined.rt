@@ -63,8 +63,4 @@ impl<'a, S: Source> Source for Rejoined<'a, S> {
         self.front = &self.front[count..];
         Ok(count)
     }
-
-    fn note_records(&mut self, records: u32) {
-        self.rest.note_records(records);
-    }
 }

@@ -3,9 +3,25 @@ ghost use Rattle.std.specs.Prelude.{◌≡◌, ◌≤◌, true, length, IfOk, On
 ghost use Rattle.prolly_file.specs.Failures.{CountsFailure};
 ghost use Rattle.prolly_file.specs.Sink.{SinkView, Takes, CountsWriteFailure, IsSettled};
 
+use std::error::Error;
+use std::fmt;
+use std::fmt::{Display, Formatter};
+
 /// A write or a flush that failed.
 #[derive(Clone, Copy, Debug, PartialEq, Eq)]
 pub struct SinkFault;
+
+impl Display for SinkFault {
+    ghost use Rattle.std.specs.Prelude.{Some, codes};
+
+    ghost output = { λ _. Some (codes "write failed") };
+
+    fn fmt<W: fmt::Write>(&self, f: &mut Formatter<W>) -> fmt::Result {
+        f.write_str("write failed")
+    }
+}
+
+impl Error for SinkFault {}
 
 /// What takes bytes, a part at a time.
 pub trait Sink {

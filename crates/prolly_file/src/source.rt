@@ -4,9 +4,25 @@ ghost use Rattle.prolly_entry.specs.Byte.{IsByte};
 ghost use Rattle.prolly_file.specs.Failures.{CountsFailure};
 ghost use Rattle.prolly_file.specs.Source.{SourceView, HandsOut};
 
+use std::error::Error;
+use std::fmt;
+use std::fmt::{Display, Formatter};
+
 /// A read that failed.
 #[derive(Clone, Copy, Debug, PartialEq, Eq)]
 pub struct SourceFault;
+
+impl Display for SourceFault {
+    ghost use Rattle.std.specs.Prelude.{Some, codes};
+
+    ghost output = { λ _. Some (codes "read failed") };
+
+    fn fmt<W: fmt::Write>(&self, f: &mut Formatter<W>) -> fmt::Result {
+        f.write_str("read failed")
+    }
+}
+
+impl Error for SourceFault {}
 
 /// What gives bytes, a part at a time.
 pub trait Source {
@@ -28,12 +44,6 @@ pub trait Source {
         ensures failures { CountsFailure (seen self.old).failures (seen self.new).failures result }
         ensures succeeds { (seen self.old).is_steady ≡ true → IsOk result }
         ensures steady { (seen self.old).is_steady ≡ true → (seen self.new).is_steady ≡ true };
-
-    /// Is told, now and then, how many records were made of the bytes that it gave. A source that
-    /// shows how far a run has come keeps the number; any other one does nothing.
-    fn note_records(&mut self, records: u32)
-        ensures { seen self.new ≡ seen self.old }
-    {}
 
     /// What an honest source has left are bytes, which contracts see as numbers.
     ghost left_are_bytes: { (s : Self) → (seen s).is_honest ≡ true → All IsByte (seen s).left };

@@ -2,8 +2,11 @@
 ghost use Rattle.std.specs.Prelude.{◌≡◌, ◌≢◌, ◌↔◌, ◌<◌, ◌≤◌, true, [], length, vec_len, IfOk, OnOk};
 ghost use Rattle.std.specs.Prelude.{IsErrOf};
 
-use crate::source::Source;
+use crate::source::{Source, SourceFault};
 use std::alloc::{AllocError, Global};
+use std::error::Error;
+use std::fmt;
+use std::fmt::{Display, Formatter};
 
 /// How many bytes are asked for at a time.
 const PART_BYTES: usize = 65_536;
@@ -19,6 +22,23 @@ pub enum WholeFault {
     TooLong,
 }
 
+impl Display for WholeFault {
+    ghost use Rattle.std.specs.Prelude.{Some};
+    ghost use Rattle.prolly_file.specs.FaultTexts.{whole_fault_text};
+
+    ghost output = { λ fault. Some (whole_fault_text fault) };
+
+    fn fmt<W: fmt::Write>(&self, f: &mut Formatter<W>) -> fmt::Result {
+        match self {
+            WholeFault::Memory => f.write_str("out of memory"),
+            WholeFault::Read => f.write_str("read failed"),
+            WholeFault::TooLong => f.write_str("input too long"),
+        }
+    }
+}
+
+impl Error for WholeFault {}
+
 impl From<AllocError> for WholeFault {
     ghost use Rattle.prolly_file.specs.declared.whole.WholeFault.TheVariants.{Memory};
 
@@ -26,6 +46,16 @@ impl From<AllocError> for WholeFault {
 
     fn from(_: AllocError) -> Self {
         WholeFault::Memory
+    }
+}
+
+impl From<SourceFault> for WholeFault {
+    ghost use Rattle.prolly_file.specs.declared.whole.WholeFault.TheVariants.{Read};
+
+    ghost from_gives = { λ _ fault. fault ≡ Read };
+
+    fn from(_: SourceFault) -> Self {
+        WholeFault::Read
     }
 }
 
@@ -56,10 +86,7 @@ pub fn read_whole<S: Source>(
     let mut whole = Vec::new(alloc);
     let mut part = part_buffer(alloc)?;
     loop {
-        let count = match source.read(&mut part) {
-            Ok(count) => count,
-            Err(_) => return Err(WholeFault::Read),
-        };
+        let count = source.read(&mut part)?;
         if count == 0 {
             return Ok(whole);
         }

@@ -13,13 +13,36 @@ ghost use Rattle.prolly_file.specs.Sink.{IsSettled, TakesPrefix};
 use crate::format::end_record::end_record;
 use crate::format::frame::frame_start;
 use crate::format::header::Header;
-use crate::sink::Sink;
+use crate::sink::{Sink, SinkFault};
 use prolly_entry::{Ref, Version};
+use std::error::Error;
+use std::fmt;
+use std::fmt::{Display, Formatter};
 use std::marker::Model;
 
 /// A part of a file was not written whole: the sink failed, in this call or a former one.
 #[derive(Clone, Copy, Debug, PartialEq, Eq)]
 pub struct WriteFault;
+
+impl Display for WriteFault {
+    ghost use Rattle.std.specs.Prelude.{Some, codes};
+
+    ghost output = { λ _. Some (codes "write failed") };
+
+    fn fmt<W: fmt::Write>(&self, f: &mut Formatter<W>) -> fmt::Result {
+        f.write_str("write failed")
+    }
+}
+
+impl Error for WriteFault {}
+
+impl From<SinkFault> for WriteFault {
+    ghost from_gives = { λ _ _. Unit {0} };
+
+    fn from(_: SinkFault) -> Self {
+        WriteFault
+    }
+}
 
 /// The writer of a chunk file, which counts its chunks.
 ///
@@ -152,9 +175,8 @@ pub fn write_whole<W: Sink>(sink: &mut W, bytes: &[u8]) -> Result<(), WriteFault
         ((W.seen sink.new).failures) result }
     ensures keeping { (W.seen sink.old).is_keeping ≡ true → (W.seen sink.new).is_keeping ≡ true }
 {
-    if write_all(sink, bytes).is_err() || sink.flush().is_err() {
-        return Err(WriteFault);
-    }
+    write_all(sink, bytes)?;
+    sink.flush()?;
     Ok(())
 }
 

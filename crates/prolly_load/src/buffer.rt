@@ -101,13 +101,8 @@ impl Buffer {
         self.unparsed.start = start + len;
     }
 
-    /// Tells the source how many records were made of its bytes, reads once, and answers how many
-    /// unparsed bytes came. Only at the end of the source is it 0.
-    pub(crate) fn fill<S: Source>(
-        &mut self,
-        source: &mut S,
-        records: u32,
-    ) -> Result<usize, SourceFault>
+    /// Reads once, and answers how many unparsed bytes came. Only at the end of the source is it 0.
+    pub(crate) fn fill<S: Source>(&mut self, source: &mut S) -> Result<usize, SourceFault>
         requires { length self.old.unparsed < RECORD_BYTES }
         ensures last_key { self.new.last_key ≡ self.old.last_key }
         ensures fills { Fills (S.seen source.old).is_honest (S.seen source.old).left
@@ -121,7 +116,6 @@ impl Buffer {
         ensures succeeds { (S.seen source.old).is_steady ≡ true → IsOk result }
     {
         self.make_room();
-        source.note_records(records);
         let count = read_behind(source, self.bytes.as_mut_slice(), self.unparsed)?;
         self.unparsed.end += count;
         Ok(count)

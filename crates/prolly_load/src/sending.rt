@@ -46,7 +46,7 @@ pub(crate) fn send_records<R: Wait, S: Source, O: Out<Record>>(
                 }
                 count += 1;
             }
-            Ok(Taken::Nothing) => match buffer.fill(source, count) {
+            Ok(Taken::Nothing) => match buffer.fill(source) {
                 Ok(0) => {
                     if buffer.unparsed().is_empty() {
                         return End::Clean;

@@ -85,7 +85,7 @@ fn pass_records<S: Source>(
             Passed::Record { removes, len } => {
                 tally.count(alloc, removes, len, buffer.last_key())?;
             }
-            Passed::Nothing => match buffer.fill(source, tally.records) {
+            Passed::Nothing => match buffer.fill(source) {
                 Ok(0) => return Ok(Ok(cut_in(buffer))),
                 Ok(_) => {}
                 Err(fault) => return Ok(Err(fault)),

@@ -16,5 +16,7 @@ pub mod Descent
 pub mod Subtree
 -- A reader that looks up by the root again and again.
 pub mod Reader
+-- What is said of faults. (This project's texts.)
+pub mod FaultTexts
 -- What the proofs of the crates above may use.
 pub mod lemmas

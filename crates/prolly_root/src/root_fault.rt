@@ -2,8 +2,12 @@
 ghost use Rattle.std.specs.Prelude.{◌≡◌};
 
 use prolly_check::ChunkFlaw;
+use prolly_entry::FaultText;
 use prolly_file::SourceFault;
 use std::alloc::AllocError;
+use std::error::Error;
+use std::fmt;
+use std::fmt::{Display, Formatter};
 
 /// The first fault that a look-up by a root meets. Chunks are numbered from 0 in the order of the
 /// file.
@@ -39,6 +43,9 @@ pub enum RootFault {
 }
 
 impl RootFault {
+    ghost use Rattle.prolly_entry.specs.FaultTexts.{shown_text};
+    ghost use Rattle.prolly_root.specs.FaultTexts.{root_fault_text};
+
     /// The fault that the chunk of this number has.
     pub(crate) fn of_flaw(flaw: ChunkFlaw, chunk: u64) -> RootFault
         ensures { result ≡ RootFault.Read → ⊥ }
@@ -50,7 +57,46 @@ impl RootFault {
             ChunkFlaw::Level => RootFault::Level { chunk },
         }
     }
+
+    /// What is said of it.
+    fn text(self) -> FaultText
+        ensures { shown_text result ≡ root_fault_text self }
+    {
+        match self {
+            RootFault::Memory => FaultText::Plain("out of memory"),
+            RootFault::Read => FaultText::Plain("chunk file: read failed"),
+            RootFault::Header => FaultText::Plain("chunk file: bad header"),
+            RootFault::Version => FaultText::Plain("chunk file: wrong version"),
+            RootFault::Truncated => FaultText::Plain("chunk file: truncated"),
+            RootFault::Frame { chunk } => FaultText::Ending("chunk file: bad frame ", chunk),
+            RootFault::Trailing => FaultText::Plain("chunk file: bytes after the end"),
+            RootFault::Missing => FaultText::Plain("chunk file: chunks are missing"),
+            RootFault::Reference { chunk } => {
+                FaultText::Holding("chunk file: chunk ", chunk, " is not the one referred to")
+            }
+            RootFault::Chunk { chunk } => FaultText::Ending("chunk file: bad chunk ", chunk),
+            RootFault::KeysOutOfOrder { chunk } => {
+                FaultText::Ending("chunk file: keys out of order in chunk ", chunk)
+            }
+            RootFault::Level { chunk } => {
+                FaultText::Ending("chunk file: wrong level in chunk ", chunk)
+            }
+        }
+    }
 }
+
+impl Display for RootFault {
+    ghost use Rattle.std.specs.Prelude.{Some};
+    ghost use Rattle.prolly_root.specs.FaultTexts.{root_fault_text};
+
+    ghost output = { λ fault. Some (root_fault_text fault) };
+
+    fn fmt<W: fmt::Write>(&self, f: &mut Formatter<W>) -> fmt::Result {
+        self.text().fmt(f)
+    }
+}
+
+impl Error for RootFault {}
 
 impl From<AllocError> for RootFault {
     ghost use Rattle.prolly_root.specs.declared.root_fault.RootFault.TheVariants.{Memory};

@@ -8,8 +8,7 @@ use crate::target::Target;
 use prolly_build::{FILES_LIMIT, Report, build};
 use prolly_file::{Buffered, FromRead, Sink, ToWrite};
 use prolly_link::RunFault;
-use prolly_progress::{CountedSink, CountedSource, Counts, watched};
-use prolly_stage::OpenGate;
+use prolly_progress::{CountedSink, CountedSource, CountingGate, Counts, watched};
 use prolly_tool::{Answer, Config, Fault, WriteMode, answer_build};
 use std::alloc::AllocError;
 use std::fs::File;
@@ -113,10 +112,11 @@ fn shown_build<T: Wait + Threads + Clock + Sync, W: Sink>(
     sink: &mut W,
 ) -> Result<Report, RunFault> {
     let alloc = rt.alloc();
+    let gate = CountingGate::new(run.counts);
     if run.quiet {
-        return build(threads, alloc, run.config, sources, sink, &OpenGate);
+        return build(threads, alloc, run.config, sources, sink, &gate);
     }
     watched(threads, &rt.stderr(), run.counts, run.total, || {
-        build(threads, alloc, run.config, sources, sink, &OpenGate)
+        build(threads, alloc, run.config, sources, sink, &gate)
     })
 }

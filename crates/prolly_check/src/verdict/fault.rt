@@ -1,7 +1,11 @@
 //! Why bytes are no chunk file.
 
+use prolly_entry::FaultText;
 use prolly_file::{HeaderFault, WholeFault};
 use std::alloc::AllocError;
+use std::error::Error;
+use std::fmt;
+use std::fmt::{Display, Formatter};
 
 /// Why a chunk file is refused. Chunks are numbered from 0, in the order of the file.
 #[derive(Clone, Copy, Debug, PartialEq, Eq)]
@@ -32,6 +36,57 @@ pub enum CheckFault {
     /// This chunk is the first whose reference an earlier one has too.
     Collision { chunk: usize },
 }
+
+impl CheckFault {
+    ghost use Rattle.std.specs.Prelude.{◌≡◌};
+    ghost use Rattle.prolly_entry.specs.FaultTexts.{shown_text};
+    ghost use Rattle.prolly_check.specs.FaultTexts.{check_fault_text};
+
+    /// What is said of it.
+    fn text(self) -> FaultText
+        ensures { shown_text result ≡ check_fault_text self }
+    {
+        match self {
+            CheckFault::Memory => FaultText::Plain("out of memory"),
+            CheckFault::Read => FaultText::Plain("chunk file: read failed"),
+            CheckFault::TooLong => FaultText::Plain("chunk file: too long"),
+            CheckFault::BadHeader => FaultText::Plain("chunk file: bad header"),
+            CheckFault::BadFrame { chunk } => {
+                FaultText::Ending("chunk file: bad frame ", chunk as u64)
+            }
+            CheckFault::Truncated => FaultText::Plain("chunk file: truncated"),
+            CheckFault::Trailing => FaultText::Plain("chunk file: bytes after the end"),
+            CheckFault::BadChunk { chunk } => {
+                FaultText::Ending("chunk file: bad chunk ", chunk as u64)
+            }
+            CheckFault::KeysOutOfOrder { chunk } => {
+                FaultText::Ending("chunk file: keys out of order in chunk ", chunk as u64)
+            }
+            CheckFault::NotCanonical { chunk } => {
+                FaultText::Holding("chunk file: chunk ", chunk as u64, " is not canonical")
+            }
+            CheckFault::BadEnd => FaultText::Plain("chunk file: bad end record"),
+            CheckFault::Collision { chunk } => FaultText::Holding(
+                "chunk file: reference of chunk ",
+                chunk as u64,
+                " is used twice",
+            ),
+        }
+    }
+}
+
+impl Display for CheckFault {
+    ghost use Rattle.std.specs.Prelude.{Some};
+    ghost use Rattle.prolly_check.specs.FaultTexts.{check_fault_text};
+
+    ghost output = { λ fault. Some (check_fault_text fault) };
+
+    fn fmt<W: fmt::Write>(&self, f: &mut Formatter<W>) -> fmt::Result {
+        self.text().fmt(f)
+    }
+}
+
+impl Error for CheckFault {}
 
 impl From<AllocError> for CheckFault {
     ghost use Rattle.std.specs.Prelude.{◌≡◌};

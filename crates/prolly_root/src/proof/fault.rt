@@ -2,6 +2,10 @@
 ghost use Rattle.prolly_root.specs.ProofFault.{fault_of};
 
 use prolly_check::ChunkFlaw;
+use prolly_entry::FaultText;
+use std::error::Error;
+use std::fmt;
+use std::fmt::{Display, Formatter};
 
 /// The first fault of bytes that are no proof. Chunks are numbered from 0, which is the root's.
 #[derive(Clone, Copy, Debug, PartialEq, Eq)]
@@ -33,6 +37,8 @@ pub enum ProofFault {
 
 impl ProofFault {
     ghost use Rattle.std.specs.Prelude.{◌≡◌};
+    ghost use Rattle.prolly_entry.specs.FaultTexts.{shown_text};
+    ghost use Rattle.prolly_root.specs.FaultTexts.{proof_fault_text};
 
     /// The fault that the chunk of this number has.
     pub(crate) fn of_flaw(flaw: ChunkFlaw, chunk: usize) -> ProofFault
@@ -45,4 +51,40 @@ impl ProofFault {
             ChunkFlaw::Level => ProofFault::Level { chunk },
         }
     }
+
+    /// What is said of it.
+    fn text(self) -> FaultText
+        ensures { shown_text result ≡ proof_fault_text self }
+    {
+        match self {
+            ProofFault::Header => FaultText::Plain("proof: bad header"),
+            ProofFault::Version => FaultText::Plain("proof: wrong version"),
+            ProofFault::Truncated => FaultText::Plain("proof: truncated"),
+            ProofFault::Frame { chunk } => FaultText::Ending("proof: bad frame ", chunk as u64),
+            ProofFault::Reference { chunk } => {
+                FaultText::Holding("proof: chunk ", chunk as u64, " is not the one referred to")
+            }
+            ProofFault::Chunk { chunk } => FaultText::Ending("proof: bad chunk ", chunk as u64),
+            ProofFault::KeysOutOfOrder { chunk } => {
+                FaultText::Ending("proof: keys out of order in chunk ", chunk as u64)
+            }
+            ProofFault::Level { chunk } => {
+                FaultText::Ending("proof: wrong level in chunk ", chunk as u64)
+            }
+            ProofFault::Trailing => FaultText::Plain("proof: bytes after the end"),
+        }
+    }
 }
+
+impl Display for ProofFault {
+    ghost use Rattle.std.specs.Prelude.{Some};
+    ghost use Rattle.prolly_root.specs.FaultTexts.{proof_fault_text};
+
+    ghost output = { λ fault. Some (proof_fault_text fault) };
+
+    fn fmt<W: fmt::Write>(&self, f: &mut Formatter<W>) -> fmt::Result {
+        self.text().fmt(f)
+    }
+}
+
+impl Error for ProofFault {}

@@ -32,4 +32,4 @@ loop-at-preserved c =
     goes_on c.args.bytes.now c.args.limit rest _ c.loop-at.count
     (option_copied c.loop-at.last_key) (Some c.key.result.now) c.loop-at.pairs.items
     c.push_put.new.pairs.items (record_at rest at) at.len c.loop-at.invariant c.in-Record.ensures.0
-    c.in_ok-push_put-in-Record.ensures.added (rest_is rest at.len) (ap Some c.key.ensures)
+    c.in_ok-push_put-in-Record.ensures (rest_is rest at.len) (ap Some c.key.ensures)

@@ -1,8 +1,8 @@
 use Rattle.std.proofs.Common.{◌≡◌, ◌<◌, ◌≤◌, ◌-◌, ◌++◌, true, vec_len}
 use Rattle.prolly_file.proofs.whole.read_whole.Given as goal
 
-abbrev pub invariant-loop-count : goal.invariant-loop-count
-invariant-loop-count g l = record {
+abbrev pub invariant-loop-part : goal.invariant-loop-part
+invariant-loop-part g l = record {
   honest : (g.S.Source.seen l.initial.source).is_honest ≡ true →
       (g.S.Source.seen l.source).is_honest ≡ true;
   bytes : (g.S.Source.seen l.initial.source).is_honest ≡ true →
@@ -14,5 +14,5 @@ invariant-loop-count g l = record {
   room : 0 < vec_len l.part;
 }
 
-abbrev pub decreases-loop-count : goal.decreases-loop-count
-decreases-loop-count g l = l.max_bytes - vec_len l.whole
+abbrev pub decreases-loop-part : goal.decreases-loop-part
+decreases-loop-part g l = l.max_bytes - vec_len l.whole

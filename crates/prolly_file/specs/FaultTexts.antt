@@ -1,0 +1,18 @@
+-- What is said of faults. (This project's texts.)
+use Rattle.std.specs.Prelude.{ℕ, List, ◌++◌, codes}
+use Rattle.std.specs.Fmt.{decimal}
+use Rattle.prolly_file.specs.declared.plain.ScratchFault.{ScratchFault}
+use Rattle.prolly_file.specs.declared.plain.ScratchFault.TheVariants as scratches
+use Rattle.prolly_file.specs.declared.whole.WholeFault.{WholeFault}
+use Rattle.prolly_file.specs.declared.whole.WholeFault.TheVariants as wholes
+
+abbrev pub whole_fault_text : WholeFault → List ℕ
+whole_fault_text wholes.Memory = codes "out of memory"
+whole_fault_text wholes.Read = codes "read failed"
+whole_fault_text wholes.TooLong = codes "input too long"
+
+abbrev pub scratch_fault_text : ScratchFault → List ℕ
+scratch_fault_text scratches.Memory = codes "out of memory"
+scratch_fault_text (scratches.OutOfOrder pair) = codes "pair " ++ decimal pair ++
+    codes ": key out of order"
+scratch_fault_text scratches.TooTall = codes "tree too tall"
