@@ -6,6 +6,7 @@ use Rattle.std.specs.List.{AllByRecursion}
 use Rattle.std.proofs.lemmas.List.{length-append, map-append}
 use Rattle.prolly_entry.specs.Pair.{Pair}
 use Rattle.prolly_entry.specs.Reference.{reference_of}
+use Rattle.prolly_entry.specs.declared.version.Version.{Version}
 use Rattle.prolly_entry.specs.lemmas.Lists.{all_append}
 use Rattle.prolly_tree.specs.Chunk.{IsIn, chunk_of}
 use Rattle.prolly_tree.specs.Tree.{bytes_of, pairs_below}
@@ -35,6 +36,11 @@ can_count : (content : Content) (there : Sought) (number : ℕ) (top : IsTop con
 can_count content (Key key) number top counted = tt
 can_count content (Number n) number top counted = (counted, top.few)
 
+is_counted : (version : Version) (sought : Sought) (pairs : List Pair) →
+    CanCount version sought pairs → IsCounted version sought
+is_counted version (Key key) pairs can = tt
+is_counted version (Number n) pairs can = can.0
+
 module _ (content : Content) (f : HasFile content) (number : ℕ) (top : IsTop content number) where
   pub is_ordered : IsOrdered content.version (nth_chunk content number)
   is_ordered = subst (IsOrdered content.version) (sym top.is)
@@ -61,9 +67,6 @@ module _ (content : Content) (f : HasFile content) (number : ℕ) (top : IsTop c
       is = sym to.named;
     }
 
-    counted_still : IsCounted content.version next
-    counted_still = grind arith
-
     pub one_below : (n : ℕ) → HasAt (chunks_of content) n reference →
         IsTop content n × (level_of (nth_chunk content number) ≡ suc (level_of (nth_chunk content n)))
         × IsCounted content.version next
@@ -86,7 +89,7 @@ module _ (content : Content) (f : HasFile content) (number : ℕ) (top : IsTop c
           },
           ap level_of top.is ∙ height_is content.version top.level top.tree ∙ to.lower ∙
               ap suc (sym (ap level_of is ∙ height_is content.version to.level to.t)),
-          counted_still,
+          is_counted content.version next (pairs_below to.level to.t) to.at.can,
         )
       where
         part : (before own after m : List Pair) → m ≡ before ++ (own ++ after) →

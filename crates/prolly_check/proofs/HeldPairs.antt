@@ -103,20 +103,20 @@ module _ (version : Version) where
       HoldPairs version ds qs → HoldPairs version (cs ++ ds) (ps ++ qs)
   both cs ds ps qs h k = grind (arith, all_append, flat_map-append)
 
-  abbrev child_below : (level : ℕ) → Tree level → Child
+  abbrev pub child_below : (level : ℕ) → Tree level → Child
   child_below level t = record {
     key = greatest_key level t;
     reference = reference_of (bytes_of version level t);
     count = pair_count level t;
   }
 
-  entries_are : (level : ℕ) (ts : List (Tree level)) →
+  pub entries_are : (level : ℕ) (ts : List (Tree level)) →
       flat_map (child_entry version level) ts ≡ flat_map (entry_of version)
       (map (child_below level) ts)
   entries_are level [] = refl
   entries_are level (t ∷ ts) = search (rules, entries_are level ts)
 
-  all_children : (level : ℕ) (ts : List (Tree level)) →
+  pub all_children : (level : ℕ) (ts : List (Tree level)) →
       AllByRecursion IsPair (flat_map (pairs_below level) ts) →
       AllByRecursion IsChild (map (child_below level) ts)
   all_children level [] h = tt
@@ -129,6 +129,19 @@ module _ (version : Version) where
     all_back,
     all_children level ts (all_back IsPair (pairs_below level t) (flat_map (pairs_below level) ts) h),
   )
+
+  pub top_is_whole : (level : ℕ) (t : Tree level) → AllByRecursion IsPair (pairs_below level t) →
+      IsWhole version (bytes_of version level t)
+  top_is_whole zero leaf h = record { pairs = leaf; holds = record { is = refl; lawful = h } }
+  top_is_whole (suc level) ts h = record {
+    pairs = [];
+    holds = record {
+      children = map (child_below level) ts;
+      is = entries_are level ts;
+      lawful = all_children level ts h;
+      none = refl;
+    };
+  }
 
   abbrev Holding : (level : ℕ) → Tree level → Type 0
   Holding level t = AllByRecursion IsPair (pairs_below level t) →
@@ -155,21 +168,8 @@ module _ (version : Version) where
       let pairs = flat_map (pairs_below level) ts in
       let below = flat_map (post_order version level) ts in
       -- a node has no pairs itself
-      let own : HoldPairs version (bytes_of version (suc level) ts ∷ []) [] = record {
-        whole = (
-          record {
-            pairs = [];
-            holds = record {
-              children = map (child_below level) ts;
-              is = entries_are level ts;
-              lawful = all_children level ts h;
-              none = refl;
-            };
-          },
-          tt,
-        );
-        are = refl;
-      } in
+      let own : HoldPairs version (bytes_of version (suc level) ts ∷ []) [] =
+      record { whole = (top_is_whole (suc level) ts h, tt); are = refl } in
       subst (λ cs. HoldPairs version cs pairs)
       (sym (bytes_append below (chunk_of version (suc level) ts ∷ [])))
       (subst (HoldPairs version (bytes_in below ++ bytes_of version (suc level) ts ∷ []))

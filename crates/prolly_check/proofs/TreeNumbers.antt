@@ -2,7 +2,7 @@
 use Rattle.std.proofs.Common.{rules, ◌≡◌, ℕ, ◌+◌, ◌<◌, ◌≤◌, Bool, true, false, cond, List, [], ◌∷◌}
 use Rattle.std.proofs.Common.{◌++◌, length, take, drop, get_or, Option, Some, None, sym, ap, ◌∙◌}
 use Rattle.std.proofs.Common.{subst, arith, not, zero, suc, ◌-◌, ◌/◌, nat_lt, nat_le, map, refl}
-use Rattle.std.proofs.Common.{length-drop, inl, inr, ◌⊎◌}
+use Rattle.std.proofs.Common.{length-drop, inl, inr, ◌⊎◌, append-nil}
 use Rattle.std.specs.List.{flat_map, count_by, filter, slice_get, AllByRecursion}
 use Rattle.std.specs.List.Sorted.{IsPermutation, IsNonDecreasing}
 use Rattle.std.specs.Prelude.{MatchOption, is_some, sum, ◌==◌}
@@ -12,7 +12,7 @@ use Rattle.std.proofs.lemmas.Grind.{common_steps, flat_map-append, get_or_defaul
 use Rattle.std.proofs.lemmas.List.{get_or_default, length-append, take-append-drop, get_or-drop}
 use Rattle.std.proofs.lemmas.List.{length-map, length-take-le, get_or_append_left, get_or_push}
 use Rattle.std.proofs.lemmas.List.Concat.{length-flat_map}
-use Rattle.std.proofs.lemmas.List.Elements.{filter-append}
+use Rattle.std.proofs.lemmas.List.Elements.{filter-append, filter_more}
 use Rattle.std.proofs.lemmas.List.Folds.{Any-from_list_any, list_any_at}
 use Rattle.std.proofs.lemmas.List.Sorted.{IsPermutation-filter_both, length_permutation}
 use Rattle.std.proofs.lemmas.List.Sorted.{sum_by-IsPermutation}
@@ -35,8 +35,8 @@ use Rattle.prolly_check.specs.Numbers.{IsAtPlace, IsLevel, at_level, AreLevels, 
 use Rattle.prolly_check.specs.Numbers.{has_reference, lacking, size_of}
 use Rattle.prolly_check.specs.Way.{level_of}
 use Rattle.prolly_check.specs.declared.index.Index.{Index}
-use Rattle.prolly_check.specs.declared.numbers.count.Level.{Level}
-use Rattle.prolly_check.specs.declared.numbers.count.Missing.{Missing}
+use Rattle.prolly_check.specs.declared.numbers.Level.{Level}
+use Rattle.prolly_check.specs.declared.numbers.Missing.{Missing}
 use Rattle.prolly_check.proofs.CheckedFile.{chunks_last}
 use Rattle.prolly_check.proofs.HeldPairs.{bytes_append, bytes_in}
 use Rattle.prolly_check.proofs.MapTree.{height_is}
@@ -82,22 +82,20 @@ module _ (chunks : List (List ℕ)) (n : ℕ) (h : n < length chunks) where
   size_more = grind (arith, common_steps)
 
   module _ (others : List (List ℕ)) where
-    parted : lacking others (take (n + 1) chunks) ≡ lacking others (take n chunks) ++
-        lacking others (chunk ∷ [])
-    parted = grind (arith, common_steps)
+    more : lacking others (take (n + 1) chunks) ≡ lacking others (take n chunks) ++
+        cond (not (has_reference others (reference_of chunk))) (chunk ∷ []) []
+    more = filter_more (λ c. not (has_reference others (reference_of c))) chunks n [] h
 
-    last : (b : Bool) → has_reference others (reference_of chunk) ≡ b →
-        lacking others (chunk ∷ []) ≡ cond b [] (chunk ∷ [])
-    last true e = ap (λ b. cond (not b) (chunk ∷ []) []) e
-    last false e = ap (λ b. cond (not b) (chunk ∷ []) []) e
+    abbrev before : List (List ℕ)
+    before = lacking others (take n chunks)
 
     pub had : has_reference others (reference_of chunk) ≡ true →
-        lacking others (take (n + 1) chunks) ≡ lacking others (take n chunks)
-    had e = search (rules, parted)
+        lacking others (take (n + 1) chunks) ≡ before
+    had e = more ∙ ap (λ b. before ++ cond (not b) (chunk ∷ []) []) e ∙ append-nil before
 
     pub lacked : has_reference others (reference_of chunk) ≡ false →
-        lacking others (take (n + 1) chunks) ≡ lacking others (take n chunks) ++ chunk ∷ []
-    lacked e = parted ∙ ap (λ cs. lacking others (take n chunks) ++ cs) (last false e)
+        lacking others (take (n + 1) chunks) ≡ before ++ chunk ∷ []
+    lacked e = more ∙ ap (λ b. before ++ cond (not b) (chunk ∷ []) []) e
 
 -- one that is had is passed over
 pub passed : (index : Index) (chunks : List (List ℕ)) (n : ℕ) (missing : Missing) →

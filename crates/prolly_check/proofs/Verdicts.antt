@@ -42,24 +42,14 @@ use Rattle.prolly_check.proofs.RisingKeys.{rises_append, rising_is}
 
 -- ---- what is accepted is the file of a map
 
-pub some_none : {A : Type 0} {x : A} → ◌≡◌ {A = Option A} (Some x) None → ⊥
-some_none e = cc
-
-pub ok_same : (a b : Content) → ◌≡◌ {A = Result Content CheckFault} (Ok a) (Ok b) → a ≡ b
-ok_same a b e = cc
-
-pub err_ok : {A : Type 0} {x : A} {f : CheckFault} → ◌≡◌ {A = Result A CheckFault} (Err f) (Ok x) →
-    ⊥
-err_ok e = cc
-
 pub if_none : {F : Type 0} (t : Bool) (f : F) (o : Option F) → cond t o (Some f) ≡ None →
     (t ≡ true) × (o ≡ None)
 if_none true f o e = (refl, e)
-if_none false f o e = absurd (some_none e)
+if_none false f o e = cc
 
 pub unless_none : (t : Bool) (f : CheckFault) (o : Option CheckFault) → cond t (Some f) o ≡ None →
     (t ≡ false) × (o ≡ None)
-unless_none true f o e = absurd (some_none e)
+unless_none true f o e = cc
 unless_none false f o e = (refl, e)
 
 -- ---- the header
@@ -75,7 +65,7 @@ header_ok bytes h = grind arith
 
 pub ending_ok : (number : ℕ) (tail ending : List ℕ) → ending_of number tail ≡ Ok ending →
     tail ≡ 0x45 ∷ ending
-ending_ok number [] ending e = absurd (err_ok e)
+ending_ok number [] ending e = cc
 ending_ok number (b ∷ rest) ending e = grind arith
 
 -- ---- the pairs
@@ -106,8 +96,8 @@ order_is last number (ps ∷ lists) =
 
 pub difference_ok : (number : ℕ) (cs ds : List (List ℕ)) → difference number cs ds ≡ None → cs ≡ ds
 difference_ok number [] [] h = refl
-difference_ok number [] (d ∷ ds) h = absurd (some_none h)
-difference_ok number (c ∷ cs) [] h = absurd (some_none h)
+difference_ok number [] (d ∷ ds) h = cc
+difference_ok number (c ∷ cs) [] h = cc
 difference_ok number (c ∷ cs) (d ∷ ds) h =
     let s = if_none (bytes_eq c d) (NotCanonical number) (difference (suc number) cs ds) h in
     ap (λ x. x ∷ cs) ((bytes_eq-Decides c d).0 s.0) ∙
@@ -181,14 +171,14 @@ read_file : (bytes : List ℕ) (content : Content) → HeaderIs bytes →
     ReadVerdict (version_of (slice_index bytes 4)) (slice_index bytes 5) cs ending read
     (Ok content) → IsFileOf bytes content
 read_file bytes content header cs ending spelled (Ok lists) is so = search (rules, judged_file)
-read_file bytes content header cs ending spelled (Err fault) is so = absurd (err_ok (sym so))
+read_file bytes content header cs ending spelled (Err fault) is so = cc
 
 end_file : (bytes : List ℕ) (content : Content) → HeaderIs bytes →
     (cs : List (List ℕ)) (ending : Result (List ℕ) CheckFault) → IsFramed (drop 6 bytes) cs ending →
     EndVerdict (version_of (slice_index bytes 4)) (slice_index bytes 5) cs ending (Ok content) →
     IsFileOf bytes content
 end_file bytes content header cs (Ok ending) is so = search (rules, common_steps, read_file)
-end_file bytes content header cs (Err fault) is so = absurd (err_ok (sym so))
+end_file bytes content header cs (Err fault) is so = cc
 
 pub accepted_is_file : (bytes : List ℕ) (content : Content) → IsVerdict bytes (Ok content) →
     IsFileOf bytes content

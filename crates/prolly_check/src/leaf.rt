@@ -30,10 +30,6 @@ pub struct Pairs<'a> {
 }
 
 impl<'a> Model for Pairs<'a> {
-    ghost use Rattle.std.specs.Prelude.{List};
-    ghost use Rattle.prolly_entry.specs.Pair.{Pair as PairValue};
-    ghost use Rattle.prolly_check.specs.Entries.{pairs_in, IsSomeLeaf};
-
     ghost Value = { List PairValue };
 
     ghost view = { λ p. pairs_in p.entries.now };

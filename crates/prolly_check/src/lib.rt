@@ -2,7 +2,6 @@
 #![tactic(auto)]
 
 mod chunks;
-mod dump;
 mod entries;
 mod file;
 mod index;

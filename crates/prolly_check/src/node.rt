@@ -3,7 +3,7 @@ ghost use Rattle.std.specs.Prelude.{◌≡◌, ◌<◌, ◌-◌, true, false, Li
 ghost use Rattle.std.specs.Prelude.{IfSome, MatchOption};
 ghost use Rattle.prolly_entry.specs.Child.{value_of};
 ghost use Rattle.prolly_entry.specs.Pair.{Pair as PairValue};
-ghost use Rattle.prolly_check.specs.Entries.{IsNode, children_in};
+ghost use Rattle.prolly_check.specs.Entries.{Child as ChildValue, IsNode, children_in};
 
 use prolly_entry::{Child, Version};
 use std::marker::Model;
@@ -43,9 +43,6 @@ pub struct Children<'a> {
 }
 
 impl<'a> Model for Children<'a> {
-    ghost use Rattle.std.specs.Prelude.{List, []};
-    ghost use Rattle.prolly_check.specs.Entries.{Child as ChildValue, IsNode, children_in};
-
     ghost Value = { List ChildValue };
 
     ghost view = { λ c. children_in c.version c.entries.now };

@@ -1,6 +1,6 @@
 //! The step of a look-up at one chunk.
-ghost use Rattle.std.specs.Prelude.{◌≡◌, ◌↔◌, ℕ, [], ◌∷◌, ◌<◌, All, length, Option, IsTrue, IfSome};
-ghost use Rattle.std.specs.Prelude.{IfNone, IfOk, IfErr, OnOk, MatchOption};
+ghost use Rattle.std.specs.Prelude.{◌≡◌, ◌↔◌, ℕ, ◌<◌, All, length, map, Option, IsTrue, IfSome, IfNone};
+ghost use Rattle.std.specs.Prelude.{IfOk, IfErr, OnOk};
 ghost use Rattle.prolly_entry.specs.Byte.{IsByte};
 ghost use Rattle.prolly_entry.specs.Keys.{Rising};
 ghost use Rattle.prolly_check.specs.Kinds.{kind_of};
@@ -11,7 +11,8 @@ ghost use Rattle.prolly_check.specs.Way.{FallsTo, IsNamed, IsOrdered, keys_of};
 use crate::entries::{Entries, entries_of, pairs_of};
 use crate::leaf::Pairs;
 use crate::look_up::sought::{ChildSought, Mark, Sought, child_sought};
-use crate::verdict::is_whole;
+use crate::node::Children;
+use crate::verdict::{is_whole, last_in};
 use prolly_entry::{Ref, Version, key_rises};
 
 /// The chunk that is due next on the way of a look-up.
@@ -131,32 +132,25 @@ pub fn step_of<'a>(
 }
 
 /// Whether each key of the entries is greater than the one before it.
-fn keys_rise(mut entries: Entries) -> bool
+fn keys_rise(entries: Entries) -> bool
     ensures { IsTrue result ↔ Rising (keys_of entries.entry) }
 {
-    let mut last = None;
-    while let Some(key) = next_key(&mut entries) {
-        if !key_rises(last, key) {
-            return false;
-        }
-        last = Some(key);
+    match entries {
+        Entries::Leaf(pairs) => last_in(None, pairs).is_ok(),
+        Entries::Node(children) => children_rise(children),
     }
-    true
 }
 
-/// The key of the next entry.
-fn next_key<'a>(entries: &mut Entries<'a>) -> Option<&'a [u8]>
-    ensures { MatchOption result (keys_of entries.old ≡ [])
-        (λ key. keys_of entries.old ≡ key.now ∷ keys_of entries.new) }
+/// Whether each key of the children is greater than the one before it.
+fn children_rise(mut children: Children) -> bool
+    ensures { IsTrue result ↔ Rising (map (λ c. c.key) children.entry) }
 {
-    match entries {
-        Entries::Leaf(pairs) => {
-            let (key, _) = pairs.next()?;
-            Some(key)
+    let mut last = None;
+    while let Some(child) = children.next() {
+        if !key_rises(last, child.key) {
+            return false;
         }
-        Entries::Node(children) => {
-            let child = children.next()?;
-            Some(child.key)
-        }
+        last = Some(child.key);
     }
+    true
 }

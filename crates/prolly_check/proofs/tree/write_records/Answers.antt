@@ -1,6 +1,6 @@
 use Rattle.std.proofs.lemmas.Result.{err_from_is_err_and}
 use Rattle.prolly_check.proofs.LeafRests.{one_dumped, dump_failed}
-use Rattle.prolly_check.proofs.dump.write_records.Goals as goal
+use Rattle.prolly_check.proofs.tree.write_records.Goals as goal
 
 pub loop-leaf-preserved : goal.loop-leaf-preserved
 loop-leaf-preserved g c =

@@ -1,5 +1,5 @@
 use Rattle.std.proofs.Common.{◌≡◌, ◌+◌, length}
-use Rattle.prolly_check.proofs.numbers.count.count_pairs.Given as goal
+use Rattle.prolly_check.proofs.numbers.count_pairs.Given as goal
 
 abbrev pub invariant-loop-leaf : goal.invariant-loop-leaf
 invariant-loop-leaf l = l.count + length l.leaves ≡ length l.fn.leaves

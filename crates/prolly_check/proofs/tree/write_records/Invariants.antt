@@ -1,6 +1,6 @@
 use Rattle.std.proofs.Common.{length}
 use Rattle.prolly_check.proofs.LeafRests.{IsDumped}
-use Rattle.prolly_check.proofs.dump.write_records.Given as goal
+use Rattle.prolly_check.proofs.tree.write_records.Given as goal
 
 abbrev pub invariant-loop-leaf : goal.invariant-loop-leaf
 invariant-loop-leaf g l = IsDumped l.fn.leaves l.leaves (g.W.Sink.seen l.initial.sink)

@@ -1,5 +1,5 @@
 use Rattle.std.proofs.Common.{◌≡◌, ◌+◌, length}
-use Rattle.prolly_check.proofs.numbers.count.count_in.Given as goal
+use Rattle.prolly_check.proofs.numbers.count_in.Given as goal
 
 abbrev pub invariant-loop-count : goal.invariant-loop-count
 invariant-loop-count l = l.count + length l.leaf ≡ length l.fn.leaf

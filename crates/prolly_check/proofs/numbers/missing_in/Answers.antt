@@ -6,8 +6,8 @@ use Rattle.prolly_check.specs.Numbers.{has_reference}
 use Rattle.prolly_check.proofs.IndexSteps.{as_many, reference_at}
 use Rattle.prolly_check.proofs.TreeNumbers.{CountedTo, Tells, counted, passed, search_tells}
 use Rattle.prolly_check.proofs.TreeNumbers.{size_up_to}
-use Rattle.prolly_check.proofs.numbers.count.missing_in.Goals.{then-is_none, else-is_none}
-use Rattle.prolly_check.proofs.numbers.count.missing_in.Goals as goal
+use Rattle.prolly_check.proofs.numbers.missing_in.Goals.{then-is_none, else-is_none}
+use Rattle.prolly_check.proofs.numbers.missing_in.Goals as goal
 
 pub overflow_add-missing-then-is_none : goal.overflow_add-missing-then-is_none
 overflow_add-missing-then-is_none c = grind (arith, common_steps, size_up_to)

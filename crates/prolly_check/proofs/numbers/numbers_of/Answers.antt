@@ -3,7 +3,7 @@ use Rattle.std.specs.List.Sorted.{IsPermutation}
 use Rattle.std.specs.Prelude.{sum}
 use Rattle.std.proofs.lemmas.List.Sorted.{IsNonDecreasingBy-from_sort}
 use Rattle.prolly_check.proofs.TreeNumbers.{is_level}
-use Rattle.prolly_check.proofs.numbers.count.numbers_of.Goals as goal
+use Rattle.prolly_check.proofs.numbers.numbers_of.Goals as goal
 
 pub returns : goal.returns
 returns c = λ chunks is.

@@ -4,7 +4,7 @@ use Rattle.std.proofs.lemmas.List.{length-map}
 use Rattle.prolly_check.specs.Numbers.{at_level}
 use Rattle.prolly_check.proofs.TreeNumbers.{size_within, sizes_sum, IsTower, all_levels, is_tower}
 use Rattle.prolly_check.proofs.TreeNumbers.{one_more}
-use Rattle.prolly_check.proofs.numbers.count.levels_in.Goals as goal
+use Rattle.prolly_check.proofs.numbers.levels_in.Goals as goal
 
 pub numbers_of-requires-clause-some : goal.numbers_of-requires-clause-some
 numbers_of-requires-clause-some c =
