@@ -80,6 +80,10 @@ past_more (Number n) (Number k) (Number i) xs ys h l = omega (arith, h, l, lengt
 
 -- ---- the tree that it goes on in
 
+pub none_left : (sought : Sought) → child_sought sought [] ≡ None
+none_left (Key key) = refl
+none_left (Number n) = refl
+
 one_same : {A : Type 0} (x y : A) → ◌≡◌ {A = Option A} (Some x) (Some y) → x ≡ y
 one_same x y e = cc
 

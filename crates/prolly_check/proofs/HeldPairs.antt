@@ -19,7 +19,7 @@ use Rattle.prolly_tree.specs.lemmas.Maps.{last_key_short}
 use Rattle.prolly_tree.specs.lemmas.Splits.{flat}
 use Rattle.prolly_laws.specs.Trees.{pairs_are}
 use Rattle.prolly_check.specs.Entries.{Child, IsChild, entry_of, Holds, AllHold, pairs_in, IsBad}
-use Rattle.prolly_check.specs.Entries.{IsWhole, AreWhole}
+use Rattle.prolly_check.specs.Entries.{IsWhole, AreWhole, IsNode, children_in}
 use Rattle.prolly_check.specs.Frames.{chunk_in, chunks_in}
 use Rattle.prolly_check.specs.Held.{pairs_held}
 use Rattle.prolly_check.specs.Judged.{chunk_bytes}
@@ -58,6 +58,26 @@ module _ (version : Version) where
   node_holds [] children e = refl
   node_holds (zero ∷ entries) children e = absurd (leaf_node (pairs_in entries) children e)
   node_holds (suc level ∷ entries) children e = refl
+
+  -- what is read of a node are its children, and it is whole
+  pub node_kind : (chunk : List ℕ) (children : List Child) →
+      kind_of version chunk ≡ Node children →
+      kind_of version chunk ≡ Node (children_in version (drop 1 chunk))
+  node_kind [] children e = absurd (leaf_node [] children e)
+  node_kind (zero ∷ entries) children e = absurd (leaf_node (pairs_in entries) children e)
+  node_kind (suc level ∷ entries) children e = refl
+
+  pub node_whole : (chunk : List ℕ) (children : List Child) →
+      kind_of version chunk ≡ Node children → IsWhole version chunk →
+      IsNode version (drop 1 chunk) []
+  node_whole [] children e w = absurd (leaf_node [] children e)
+  node_whole (zero ∷ entries) children e w = absurd (leaf_node (pairs_in entries) children e)
+  node_whole (suc level ∷ entries) children e w = record {
+    children = w.holds.children;
+    is = w.holds.is;
+    lawful = w.holds.lawful;
+    none = refl;
+  }
 
   -- chunks that have lists of pairs have just these
   pub lists_are : (chunks : List (List ℕ)) (lists : List (List Pair)) →

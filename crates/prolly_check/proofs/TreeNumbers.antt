@@ -8,9 +8,11 @@ use Rattle.std.specs.List.Sorted.{IsPermutation, IsNonDecreasing}
 use Rattle.std.specs.Prelude.{MatchOption, is_some, sum, ◌==◌}
 use Rattle.std.specs.Str.{bytes_eq}
 use Rattle.std.proofs.lemmas.Bool.{false_from_ne_true, le-leb, le-ltb, cases_lt}
+use Rattle.std.proofs.lemmas.Bool.Decides.{Decides-eqb}
 use Rattle.std.proofs.lemmas.Grind.{common_steps, flat_map-append, get_or_default_zero}
 use Rattle.std.proofs.lemmas.List.{get_or_default, length-append, take-append-drop, get_or-drop}
 use Rattle.std.proofs.lemmas.List.{length-map, length-take-le, get_or_append_left, get_or_push}
+use Rattle.std.proofs.lemmas.List.{map-append}
 use Rattle.std.proofs.lemmas.List.Concat.{length-flat_map}
 use Rattle.std.proofs.lemmas.List.Elements.{filter-append, filter_more}
 use Rattle.std.proofs.lemmas.List.Folds.{Any-from_list_any, list_any_at}
@@ -118,6 +120,29 @@ size_up_to chunks n =
     ap length (flat_map-append (λ c. c) (take n chunks) (drop n chunks)) ∙
     length-append (flat_map (λ c. c) (take n chunks)) (flat_map (λ c. c) (drop n chunks)) in
     omega arith
+
+-- so are the sizes of those of a level
+module _ (level : ℕ) (chunks : List (List ℕ)) (n : ℕ) (h : n < length chunks) (sizes : List ℕ)
+    (are : sizes ≡ map length (at_level level (take n chunks))) where
+  more_sizes : (b : Bool) → (level_of (get_or chunks n []) == level) ≡ b →
+      map length (at_level level (take (n + 1) chunks)) ≡
+      sizes ++ map length (cond b (get_or chunks n [] ∷ []) [])
+  more_sizes b e =
+      let before = at_level level (take n chunks) in
+      let chunk = get_or chunks n [] in
+      ap (map length) (filter_more (λ c. level_of c == level) chunks n [] h ∙
+      ap (λ b. before ++ cond b (chunk ∷ []) []) e) ∙
+      map-append length before (cond b (chunk ∷ []) []) ∙
+      ap (λ sizes. sizes ++ map length (cond b (chunk ∷ []) [])) (sym are)
+
+  pub size_added : level_of (get_or chunks n []) ≡ level →
+      map length (at_level level (take (n + 1) chunks)) ≡ sizes ++ length (get_or chunks n []) ∷ []
+  size_added e = more_sizes true ((Decides-eqb (level_of (get_or chunks n [])) level).1 e)
+
+  pub size_left_out : (level_of (get_or chunks n []) ≡ level → ⊥) →
+      map length (at_level level (take (n + 1) chunks)) ≡ sizes
+  size_left_out other = more_sizes false (false_from_ne_true (level_of (get_or chunks n []) == level)
+      (λ t. other ((Decides-eqb (level_of (get_or chunks n [])) level).0 t))) ∙ append-nil sizes
 
 -- ---- the places of sizes that were sorted
 
