@@ -219,6 +219,11 @@ pub no_next : (entries : List ℕ) → NoPairAt entries → IsSomeLeaf entries �
 unfolding pairs_in
 no_next entries none l = ap (entries_in first_pair behind_pair) (leaf_left entries none l)
 
+-- no bytes spell no pair
+pub no_pairs : pairs_in [] ≡ []
+unfolding pairs_in
+no_pairs = refl
+
 -- the bytes of a leaf's entries are the spellings of its pairs
 pub leaf_spelled : (entries : List ℕ) → IsSomeLeaf entries →
     entries ≡ record_file (pairs_in entries)

@@ -19,13 +19,12 @@ use Rattle.prolly_tree.specs.lemmas.Maps.{last_key_short}
 use Rattle.prolly_tree.specs.lemmas.Splits.{flat}
 use Rattle.prolly_laws.specs.Trees.{pairs_are}
 use Rattle.prolly_check.specs.Entries.{Child, IsChild, entry_of, Holds, AllHold, pairs_in, IsBad}
-use Rattle.prolly_check.specs.Entries.{IsWhole, AreWhole, IsNode, children_in}
+use Rattle.prolly_check.specs.Entries.{IsWhole, AreWhole, IsNode, IsSomeLeaf, children_in}
 use Rattle.prolly_check.specs.Frames.{chunk_in, chunks_in}
 use Rattle.prolly_check.specs.Held.{pairs_held}
 use Rattle.prolly_check.specs.Judged.{chunk_bytes}
 use Rattle.prolly_check.specs.Kinds.{kind_of}
-use Rattle.prolly_check.specs.declared.entries.Entries.{Entries}
-use Rattle.prolly_check.specs.declared.entries.Entries.TheVariants.{Leaf, Node}
+use Rattle.prolly_check.specs.Kinds.Entries.{Leaf, Node}
 use Rattle.prolly_check.proofs.EntryLists.{leaf_pairs}
 use Rattle.prolly_check.specs.declared.verdict.fault.CheckFault.TheVariants as faults
 
@@ -41,9 +40,16 @@ pub flat_held : (chunks : List (List ℕ)) → flat (map pairs_held chunks) ≡ 
 flat_held [] = refl
 flat_held (chunk ∷ chunks) = ap (λ ps. pairs_held chunk ++ ps) (flat_held chunks)
 
-pub leaf_node : (pairs : List Pair) (children : List Child) →
-    ◌≡◌ {A = Entries} (Leaf pairs) (Node children) → ⊥
-leaf_node pairs children e = cc
+-- what the first byte of a whole chunk tells
+pub record IsOfPairs (version : Version) (chunk : List ℕ) : Type 0 where
+  pub kind : kind_of version chunk ≡ Leaf (pairs_in (drop 1 chunk))
+  pub held : pairs_held chunk ≡ pairs_in (drop 1 chunk)
+  pub is : IsSomeLeaf (drop 1 chunk)
+
+pub record IsOfChildren (version : Version) (chunk : List ℕ) : Type 0 where
+  pub kind : kind_of version chunk ≡ Node (children_in version (drop 1 chunk))
+  pub held : pairs_held chunk ≡ []
+  pub is : IsNode version (drop 1 chunk) []
 
 module _ (version : Version) where
   held_is : (chunk : List ℕ) (held : List Pair) → Holds version chunk held → held ≡ pairs_held chunk
@@ -51,32 +57,26 @@ module _ (version : Version) where
   held_is (zero ∷ entries) held h = sym (leaf_pairs entries held h)
   held_is (suc level ∷ entries) held h = h.none
 
-  -- a node holds none
-  pub node_holds : (chunk : List ℕ) (children : List Child) →
-      kind_of version chunk ≡ Node children → pairs_held chunk ≡ pairs_in []
-  unfolding pairs_in
-  node_holds [] children e = refl
-  node_holds (zero ∷ entries) children e = absurd (leaf_node (pairs_in entries) children e)
-  node_holds (suc level ∷ entries) children e = refl
+  pub of_pairs : (chunk : List ℕ) → IsWhole version chunk → get_or chunk 0 0 ≡ 0 →
+      IsOfPairs version chunk
+  of_pairs [] w e = absurd w.holds
+  of_pairs (zero ∷ entries) w e =
+      record { kind = refl; held = refl; is = record { pairs = w.pairs; is = w.holds } }
+  of_pairs (suc level ∷ entries) w e = absurd (omega (arith, e))
 
-  -- what is read of a node are its children, and it is whole
-  pub node_kind : (chunk : List ℕ) (children : List Child) →
-      kind_of version chunk ≡ Node children →
-      kind_of version chunk ≡ Node (children_in version (drop 1 chunk))
-  node_kind [] children e = absurd (leaf_node [] children e)
-  node_kind (zero ∷ entries) children e = absurd (leaf_node (pairs_in entries) children e)
-  node_kind (suc level ∷ entries) children e = refl
-
-  pub node_whole : (chunk : List ℕ) (children : List Child) →
-      kind_of version chunk ≡ Node children → IsWhole version chunk →
-      IsNode version (drop 1 chunk) []
-  node_whole [] children e w = absurd (leaf_node [] children e)
-  node_whole (zero ∷ entries) children e w = absurd (leaf_node (pairs_in entries) children e)
-  node_whole (suc level ∷ entries) children e w = record {
-    children = w.holds.children;
-    is = w.holds.is;
-    lawful = w.holds.lawful;
-    none = refl;
+  pub of_children : (chunk : List ℕ) → IsWhole version chunk → (get_or chunk 0 0 ≡ 0 → ⊥) →
+      IsOfChildren version chunk
+  of_children [] w other = absurd w.holds
+  of_children (zero ∷ entries) w other = absurd (other refl)
+  of_children (suc level ∷ entries) w other = record {
+    kind = refl;
+    held = refl;
+    is = record {
+      children = w.holds.children;
+      is = w.holds.is;
+      lawful = w.holds.lawful;
+      none = refl;
+    };
   }
 
   -- chunks that have lists of pairs have just these

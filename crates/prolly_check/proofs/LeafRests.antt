@@ -18,7 +18,6 @@ use Rattle.prolly_file.specs.Sink.{SinkView, TakesPrefix}
 use Rattle.prolly_file.specs.Writes.{Writes}
 use Rattle.prolly_check.specs.Checked.{HasFile, chunks_of}
 use Rattle.prolly_check.specs.Content.{Content}
-use Rattle.prolly_check.specs.Entries.{pairs_in}
 use Rattle.prolly_check.specs.Held.{pairs_held}
 use Rattle.prolly_check.specs.Leaves.{pairs_from}
 use Rattle.prolly_check.specs.ScanWay.{AreFirstFrom, next_key}
@@ -27,11 +26,6 @@ use Rattle.prolly_check.proofs.PairsFrom.{above_some, from_all, pairs_from-appen
 use Rattle.prolly_check.proofs.RebuildSteps.{held_next}
 
 -- ---- what is left of a map from a key on, leaf by leaf
-
--- no bytes spell no pair
-pub no_pairs : pairs_in [] ≡ []
-unfolding pairs_in
-no_pairs = refl
 
 -- the first of rising pairs from a key on are those of a part that has some: so none stands before it
 above_from : (x key : List ℕ) (ps : List Pair) → Above x ps → Above x (pairs_from key ps)

@@ -26,7 +26,7 @@ use Rattle.prolly_check.specs.Entries.{pairs_in, children_in}
 use Rattle.prolly_check.specs.Judged.{chunk_bytes}
 use Rattle.prolly_check.specs.Kinds.{kind_of}
 use Rattle.prolly_check.specs.Way.{keys_of}
-use Rattle.prolly_check.specs.declared.entries.Entries.TheVariants.{Leaf, Node}
+use Rattle.prolly_check.specs.Kinds.Entries.{Leaf, Node}
 use Rattle.prolly_check.proofs.EntryLists.{as_read, children_read, leaf_pairs}
 use Rattle.prolly_check.proofs.HeldPairs.{all_children, child_below, entries_are, top_is_whole}
 use Rattle.prolly_check.proofs.PairsFrom.{rising_is, above_last}

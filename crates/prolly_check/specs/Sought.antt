@@ -5,8 +5,8 @@ use Rattle.std.specs.Prelude.{◌<◌, ◌≤◌, ◌++◌, length, drop, option
 use Rattle.prolly_entry.specs.Keys.{key_order}
 use Rattle.prolly_entry.specs.declared.version.Version.{Version}
 use Rattle.prolly_check.specs.Entries.{Child, IsNode, children_in}
-use Rattle.prolly_check.specs.declared.entries.Entries.{Entries}
-use Rattle.prolly_check.specs.declared.entries.Entries.TheVariants.{Leaf, Node}
+use Rattle.prolly_check.specs.Kinds.{Entries}
+use Rattle.prolly_check.specs.Kinds.Entries.{Leaf, Node}
 use Rattle.prolly_check.specs.declared.look_up.sought.ChildSought.{ChildSought}
 use Rattle.prolly_check.specs.declared.look_up.sought.Mark.{Mark}
 use Rattle.prolly_check.specs.declared.look_up.sought.Sought.{Sought as Asked}

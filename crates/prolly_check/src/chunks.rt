@@ -6,8 +6,7 @@ ghost use Rattle.prolly_check.specs.Frames.{IsWithin, chunks_in};
 ghost use Rattle.prolly_check.specs.Entries.{AreWhole};
 ghost use Rattle.prolly_check.specs.Way.{level_of};
 
-use crate::entries::pairs_of;
-use crate::leaf::Pairs;
+use crate::leaf::{Pairs, pairs_of};
 use crate::verdict::chunk_at;
 use prolly_file::Header;
 use std::marker::Model;

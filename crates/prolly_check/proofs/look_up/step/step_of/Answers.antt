@@ -1,31 +1,26 @@
-use Rattle.std.proofs.Common.{◌≡◌, ◌∙◌, IfNone, IfSome, drop, subst, sym}
+use Rattle.std.proofs.Common.{subst}
 use Rattle.prolly_entry.specs.Keys.{Rising}
-use Rattle.prolly_check.specs.Entries.{children_in}
-use Rattle.prolly_check.specs.Kinds.{kind_of}
-use Rattle.prolly_check.specs.Sought.{EndsAt, IsChildOf, sought_of}
 use Rattle.prolly_check.specs.Way.{keys_of}
-use Rattle.prolly_check.specs.declared.entries.Entries.TheVariants.{Node}
-use Rattle.prolly_check.proofs.HeldPairs.{node_kind, node_whole}
+use Rattle.prolly_check.proofs.HeldPairs.{of_children, of_pairs}
 use Rattle.prolly_check.proofs.look_up.step.step_of.Goals as goal
 
--- what is read of the chunk, which is a node
-read : (c : goal.In-Node) → kind_of c.args.version c.args.chunk.now ≡
-    Node (children_in c.args.version (drop 1 c.args.chunk.now))
-read c = node_kind c.args.version c.args.chunk.now c.in-Node.field-0
-    (sym c.entries_of.ensures ∙ c.in-Node.is)
+pub returns-then-chunk-eq-LEAF-clause-ends : goal.returns-then-chunk-eq-LEAF-clause-ends
+returns-then-chunk-eq-LEAF-clause-ends c = rw (of_pairs c.args.version c.args.chunk.now
+    c.requires.ordered.whole c.if-chunk-eq-LEAF.true).kind tt
 
 pub child_sought-requires-clause-rising : goal.child_sought-requires-clause-rising
-child_sought-requires-clause-rising c =
-    subst (λ entries. Rising (keys_of entries)) (read c) c.requires.ordered.rising
+child_sought-requires-clause-rising c = subst (λ entries. Rising (keys_of entries))
+    (of_children c.args.version c.args.chunk.now c.requires.ordered.whole
+    c.if-chunk-eq-LEAF.false).kind c.requires.ordered.rising
 
 pub child_sought-requires-clause-node : goal.child_sought-requires-clause-node
-child_sought-requires-clause-node c = node_whole c.args.version c.args.chunk.now
-    c.in-Node.field-0 (sym c.entries_of.ensures ∙ c.in-Node.is) c.requires.ordered.whole
+child_sought-requires-clause-node c = (of_children c.args.version c.args.chunk.now
+    c.requires.ordered.whole c.if-chunk-eq-LEAF.false).is
 
-pub returns-in-Node-clause-on : goal.returns-in-Node-clause-on
-returns-in-Node-clause-on c = rw (node_kind c.args.version c.args.chunk.now c.in-Node.field-0
-    (sym c.entries_of.ensures ∙ c.in-Node.is)) c.child_sought.ensures.some
+pub returns-clause-on : goal.returns-clause-on
+returns-clause-on c = rw (of_children c.args.version c.args.chunk.now c.requires.ordered.whole
+    c.if-chunk-eq-LEAF.false).kind c.child_sought.ensures.some
 
-pub returns-in-Node-clause-ends : goal.returns-in-Node-clause-ends
-returns-in-Node-clause-ends c = rw (node_kind c.args.version c.args.chunk.now c.in-Node.field-0
-    (sym c.entries_of.ensures ∙ c.in-Node.is)) c.child_sought.ensures.none
+pub returns-clause-ends : goal.returns-clause-ends
+returns-clause-ends c = rw (of_children c.args.version c.args.chunk.now c.requires.ordered.whole
+    c.if-chunk-eq-LEAF.false).kind c.child_sought.ensures.none
