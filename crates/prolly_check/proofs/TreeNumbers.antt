@@ -12,7 +12,7 @@ use Rattle.std.proofs.lemmas.Bool.Decides.{Decides-eqb}
 use Rattle.std.proofs.lemmas.Grind.{common_steps, flat_map-append, get_or_default_zero}
 use Rattle.std.proofs.lemmas.List.{get_or_default, length-append, take-append-drop, get_or-drop}
 use Rattle.std.proofs.lemmas.List.{length-map, length-take-le, get_or_append_left, get_or_push}
-use Rattle.std.proofs.lemmas.List.{map-append}
+use Rattle.std.proofs.lemmas.List.{map-append, take_more}
 use Rattle.std.proofs.lemmas.List.Concat.{length-flat_map}
 use Rattle.std.proofs.lemmas.List.Elements.{filter-append, filter_more}
 use Rattle.std.proofs.lemmas.List.Folds.{Any-from_list_any, list_any_at}
@@ -75,13 +75,20 @@ abbrev pub Tells : Index → List ℕ → Bool → Type 0
 Tells index reference there = (others : List (List ℕ)) → IsIndex index others →
     has_reference others reference ≡ there
 
+-- so many bytes one chunk more has
+size_push : (chunks : List (List ℕ)) (chunk : List ℕ) →
+    size_of (chunks ++ chunk ∷ []) ≡ size_of chunks + length chunk
+size_push chunks chunk = ap length (flat_map-append (λ c. c) chunks (chunk ∷ [])) ∙
+    length-append (flat_map (λ c. c) chunks) (chunk ++ []) ∙
+    ap (λ bytes. size_of chunks + length bytes) (append-nil chunk)
+
 -- the first n + 1 are the first n, and one
 module _ (chunks : List (List ℕ)) (n : ℕ) (h : n < length chunks) where
   abbrev chunk : List ℕ
   chunk = get_or chunks n []
 
   pub size_more : size_of (take (n + 1) chunks) ≡ size_of (take n chunks) + length chunk
-  size_more = grind (arith, common_steps)
+  size_more = ap size_of (take_more chunks n [] h) ∙ size_push (take n chunks) chunk
 
   module _ (others : List (List ℕ)) where
     more : lacking others (take (n + 1) chunks) ≡ lacking others (take n chunks) ++
@@ -103,15 +110,31 @@ module _ (chunks : List (List ℕ)) (n : ℕ) (h : n < length chunks) where
 pub passed : (index : Index) (chunks : List (List ℕ)) (n : ℕ) (missing : Missing) →
     n < length chunks → Tells index (reference_of (get_or chunks n [])) true →
     CountedTo index chunks n missing → CountedTo index chunks (n + 1) missing
-passed index chunks n missing h e c = grind (arith, size_more, had)
+passed index chunks n missing h e c = record {
+  so = λ others is. subst (λ cs. AreSo cs missing) (sym (had chunks n h others (e others is)))
+      (c.so others is);
+  few = let few = c.few in omega arith;
+  small = let small = c.small in omega (arith, size_more chunks n h);
+}
 
 -- one that is lacked is counted
 pub counted : (index : Index) (chunks : List (List ℕ)) (n : ℕ) (missing new : Missing) →
     n < length chunks → Tells index (reference_of (get_or chunks n [])) false →
     new.chunks ≡ missing.chunks + 1 → new.bytes ≡ missing.bytes + length (get_or chunks n []) →
     CountedTo index chunks n missing → CountedTo index chunks (n + 1) new
-counted index chunks n missing new h e chunks_are bytes_are c =
-    search (rules, size_more, lacked, length-append, get_or, flat_map-append)
+counted index chunks n missing new h e chunks_are bytes_are c = record {
+  so = λ others is.
+      let before = lacking others (take n chunks) in
+      let chunk = get_or chunks n [] in
+      subst (λ cs. AreSo cs new) (sym (lacked chunks n h others (e others is))) (record {
+        chunks_are = chunks_are ∙ ap (λ n. n + 1) (c.so others is).chunks_are ∙
+            sym (length-append before (chunk ∷ []));
+        bytes_are = bytes_are ∙ ap (λ n. n + length chunk) (c.so others is).bytes_are ∙
+            sym (size_push before chunk);
+      });
+  few = let few = c.few in omega (arith, chunks_are);
+  small = let small = c.small in omega (arith, bytes_are, size_more chunks n h);
+}
 
 -- the first n are not more than all
 pub size_up_to : (chunks : List (List ℕ)) (n : ℕ) → size_of (take n chunks) ≤ size_of chunks
@@ -218,7 +241,20 @@ pub is_level : (chunks : List (List ℕ)) (sorted : List ℕ) (level : Level) �
     level.middle ≡ get_or sorted (length sorted / 2) level.middle →
     level.greatest ≡ get_or sorted (length sorted - 1) level.greatest → IsLevel chunks level
 is_level chunks sorted level moved rises some number bytes least middle greatest =
-    search (rules, length_permutation, length-map, sizes_sum, at_place)
+    let sizes = map length chunks in
+    let count : length chunks ≡ length sorted =
+    sym (length-map chunks length) ∙ sym (length_permutation sizes sorted moved) in
+    let at = at_place sizes sorted moved rises in
+    record {
+      some = omega arith;
+      chunks_are = number ∙ sym count;
+      bytes_are = bytes ∙ sizes_sum chunks;
+      least_is = at 0 level.least some least;
+      middle_is = subst (λ n. IsAtPlace sizes (n / 2) level.middle) (sym count)
+          (at (length sorted / 2) level.middle (omega arith) middle);
+      greatest_is = subst (λ n. IsAtPlace sizes (n - 1) level.greatest) (sym count)
+          (at (length sorted - 1) level.greatest (omega arith) greatest);
+    }
 
 -- ---- no level is empty
 
@@ -300,7 +336,18 @@ pub record IsTower (chunks : List (List ℕ)) (top : ℕ) : Type 0 where
 -- so they stand, up to the level of the last
 pub is_tower : (chunks : List (List ℕ)) (root top : ℕ) → AreOfMap chunks →
     root ≡ length chunks - 1 → top ≡ level_of (get_or chunks root []) → IsTower chunks top
-is_tower chunks root top m last level = search (rules, chunks_last, height_is, map_has, tree_within)
+is_tower chunks root top m last level =
+    let content = m.content in
+    let tree = tree_of (sha512_cut content.bits) content.version content.pairs in
+    let height : top ≡ tree.level = level ∙ ap (λ n. level_of (get_or chunks n [])) last ∙
+    ap (λ cs. level_of (get_or cs (length cs - 1) [])) m.are ∙
+    ap level_of (chunks_last content.version content.bits content.pairs) ∙
+    height_is content.version tree.level tree.tree in
+    subst (λ cs. IsTower cs top) (sym m.are) (record {
+      some = λ number h. map_has content.version content.bits content.pairs number
+          (omega (arith, height, h));
+      all = tree_within content.version top tree.level (omega (arith, height)) tree.tree;
+    })
 
 -- ---- level by level
 
