@@ -9,7 +9,6 @@ use Rattle.std.specs.declared.cmp.Ordering.TheVariants.{Less, Equal, Greater}
 use Rattle.std.proofs.lemmas.Bool.{cases_Bool, cond_both, false≢true}
 use Rattle.std.proofs.lemmas.Cmp.{nat_cmp_total}
 use Rattle.std.proofs.lemmas.Grind.{common_steps}
-use Rattle.std.proofs.lemmas.List.{take_all, take-append-le}
 use Rattle.std.proofs.lemmas.List.Elements.{filter-append}
 use Rattle.prolly_entry.specs.Keys.{key_order, KeyBelow, Rising, RisingFrom}
 use Rattle.prolly_entry.specs.Pair.{Pair}
@@ -141,17 +140,6 @@ pub leaf_scanned : (from : List ℕ) (limit : ℕ) (old leaf pairs rest : List P
     LeafScan from limit old leaf new more
 leaf_scanned from limit old leaf pairs rest s part more e new is =
     grind (arith, common_steps, pairs_from-append)
-
--- it has all that there are, or as many as it may have
-pub scan_ended : (from : List ℕ) (limit : ℕ) (old leaf pairs rest : List Pair) →
-    LeafScan from limit old leaf pairs rest → (rest ≡ []) ⊎ (length pairs ≡ limit) →
-    pairs ≡ take limit (old ++ pairs_from from leaf)
-scan_ended from limit old leaf pairs rest s (inl none) =
-    sym (s.same ∙ ap (λ rest. take limit (pairs ++ pairs_from from rest)) none ∙
-    ap (take limit) (append-nil pairs) ∙ take_all limit pairs s.within)
-scan_ended from limit old leaf pairs rest s (inr full) =
-    sym (s.same ∙ take-append-le limit pairs (pairs_from from rest) (omega arith) ∙
-    take_all limit pairs s.within)
 
 -- ---- the least key above another
 

@@ -13,18 +13,9 @@ pub step_of-requires-clause-mark : goal.step_of-requires-clause-mark
 step_of-requires-clause-mark c = c.first.ensures.first c.args.version c.args.chunk.now
     (some_byte c.args.version c.args.chunk.now c.in_ok-test_chunk.ensures.ok.ordered.whole)
 
-pub returns-in-Some-clause-falls : goal.returns-in-Some-clause-falls
-returns-in-Some-clause-falls c = c.falls_to.ensures.0 c.if-not-falls_to.false
-
 pub returns-in-Some-clause-step : goal.returns-in-Some-clause-step
 returns-in-Some-clause-step c = (
   child_leads (sought_of c.args.due.now.sought) (kind_of c.args.version c.args.chunk.now)
       c.in-Some.child c.in-Some.ensures.on,
   refl,
 )
-
-pub pairs_of-requires : goal.pairs_of-requires
-pairs_of-requires c = c.in_ok-test_chunk.ensures.ok.ordered.whole
-
-pub returns-in-None-clause-step : goal.returns-in-None-clause-step
-returns-in-None-clause-step c = (c.in-None.ensures.ends, c.pairs_of.ensures)
