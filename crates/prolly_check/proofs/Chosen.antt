@@ -84,7 +84,7 @@ pub none_left : (sought : Sought) → child_sought sought [] ≡ None
 none_left (Key key) = refl
 none_left (Number n) = refl
 
-one_same : {A : Type 0} (x y : A) → ◌≡◌ {A = Option A} (Some x) (Some y) → x ≡ y
+pub one_same : {A : Type 0} (x y : A) → ◌≡◌ {A = Option A} (Some x) (Some y) → x ≡ y
 one_same x y e = cc
 
 module _ (version : Version) (level : ℕ) where

@@ -1,9 +1,10 @@
 -- Going down the tree of a file that was checked.
 use Rattle.std.proofs.Common.{rules, ◌≡◌, ℕ, suc, ◌<◌, ◌≤◌, inl, inr, List, [], ◌∷◌, ◌++◌, length}
-use Rattle.std.proofs.Common.{map, refl, sym, ap, ◌∙◌, subst, arith}
+use Rattle.std.proofs.Common.{All, map, refl, sym, ap, ◌∙◌, subst, arith}
 use Rattle.std.specs.Borrow.{Bor}
 use Rattle.std.specs.List.{AllByRecursion}
 use Rattle.std.proofs.lemmas.List.{length-append, map-append}
+use Rattle.prolly_entry.specs.Byte.{IsByte}
 use Rattle.prolly_entry.specs.Pair.{Pair}
 use Rattle.prolly_entry.specs.Reference.{reference_of}
 use Rattle.prolly_entry.specs.declared.version.Version.{Version}
@@ -45,6 +46,9 @@ module _ (content : Content) (f : HasFile content) (number : ℕ) (top : IsTop c
   pub is_ordered : IsOrdered content.version (nth_chunk content number)
   is_ordered = subst (IsOrdered content.version) (sym top.is)
       (top_is_read content.version (chunks_of content) top.level top.tree top.of).0
+
+  pub named_at : All IsByte (nth_chunk content number) → IsNamedAt content number
+  named_at bytes = record { bytes = bytes; is = refl; ordered = is_ordered }
 
   module _ (there next : Sought) (reference : List ℕ) (counted : IsCounted content.version there)
       (on : LeadsOn there (kind_of content.version (nth_chunk content number)) reference next) where

@@ -11,7 +11,7 @@ use Rattle.std.proofs.lemmas.Bool.{false_from_ne_true, le-leb, le-ltb, cases_lt}
 use Rattle.std.proofs.lemmas.Bool.Decides.{Decides-eqb}
 use Rattle.std.proofs.lemmas.Grind.{common_steps, flat_map-append, get_or_default_zero}
 use Rattle.std.proofs.lemmas.List.{get_or_default, length-append, take-append-drop, get_or-drop}
-use Rattle.std.proofs.lemmas.List.{length-map, length-take-le, get_or_append_left, get_or_push}
+use Rattle.std.proofs.lemmas.List.{length-map, length-take-le}
 use Rattle.std.proofs.lemmas.List.{map-append, take_more}
 use Rattle.std.proofs.lemmas.List.Concat.{length-flat_map}
 use Rattle.std.proofs.lemmas.List.Elements.{filter-append, filter_more}
@@ -20,7 +20,7 @@ use Rattle.std.proofs.lemmas.List.Sorted.{IsPermutation-filter_both, length_perm
 use Rattle.std.proofs.lemmas.List.Sorted.{sum_by-IsPermutation}
 use Rattle.std.proofs.lemmas.List.Sums.{count_by-le-length, count_by_more_yes, sum-map}
 use Rattle.std.proofs.lemmas.List.Sums.{sum_by-append, sum_by-le, sum_by-take-drop, sum_by-take-le}
-use Rattle.std.proofs.lemmas.Option.{get_or_from_slice_get, slice_get-get_or, slice_get_within}
+use Rattle.std.proofs.lemmas.Option.{slice_get_within}
 use Rattle.std.proofs.lemmas.Slice.Eq.{bytes_eq-Decides}
 use Rattle.prolly_entry.specs.Cut.{sha512_cut}
 use Rattle.prolly_entry.specs.Pair.{Pair}
@@ -41,7 +41,9 @@ use Rattle.prolly_check.specs.declared.numbers.Level.{Level}
 use Rattle.prolly_check.specs.declared.numbers.Missing.{Missing}
 use Rattle.prolly_check.proofs.CheckedFile.{chunks_last}
 use Rattle.prolly_check.proofs.HeldPairs.{bytes_append, bytes_in}
+use Rattle.prolly_check.proofs.Chosen.{one_same}
 use Rattle.prolly_check.proofs.MapTree.{height_is}
+use Rattle.prolly_check.proofs.PairsFrom.{nth_back, nth_front}
 
 -- ---- whether a reference is there
 
@@ -368,17 +370,17 @@ one_more chunks number levels new level e a is =
   where
     at : (k : ℕ) (found : Level) → slice_get (levels ++ level ∷ []) k ≡ Some found →
         (k < length levels) ⊎ (length levels ≤ k) → IsLevel (at_level k chunks) found
-    at k found e (inl within) = a.are k found (slice_get-get_or levels k found within ∙
-        ap Some (sym (get_or_append_left levels (level ∷ []) found k within) ∙
-        get_or_from_slice_get (levels ++ level ∷ []) k found found e))
+    at k found e (inl within) =
+        a.are k found (sym (nth_front levels (level ∷ []) k within) ∙ e)
     at k found e (inr past) =
         let within = slice_get_within (levels ++ level ∷ []) k found e in
-        let size = length-append levels (level ∷ []) in
-        let last : length levels ≡ k = omega arith in
-        subst (λ n. IsLevel (at_level n chunks) found) (sym a.count ∙ last)
-        (subst (IsLevel (at_level number chunks))
-        (sym (get_or_push levels level found k last) ∙
-        get_or_from_slice_get (levels ++ level ∷ []) k found found e) is)
+        let last : k ≡ length levels + 0 =
+        omega (arith, length-append levels (level ∷ [])) in
+        let same : Some level ≡ Some found = sym (nth_back levels (level ∷ []) 0) ∙
+        ap (slice_get (levels ++ level ∷ [])) (sym last) ∙ e in
+        let here : number ≡ k = omega (arith, a.count) in
+        subst (λ n. IsLevel (at_level n chunks) found) here
+        (subst (IsLevel (at_level number chunks)) (one_same level found same) is)
 
 pub all_levels : (chunks : List (List ℕ)) (top : ℕ) (levels : List Level) → IsTower chunks top →
     AreUpTo chunks (top + 1) levels → AreLevels chunks levels

@@ -1,4 +1,4 @@
-use Rattle.std.proofs.Common.{[], ◌∙◌, arith, inr}
+use Rattle.std.proofs.Common.{[], ◌≤◌, ◌∙◌, arith, inr, length}
 use Rattle.std.specs.List.{flat_map}
 use Rattle.std.proofs.lemmas.Result.{err_from_is_err_and}
 use Rattle.prolly_check.specs.Held.{pairs_held}
@@ -36,20 +36,19 @@ returns-then-count-len-clause-err c =
     (c.in_ok-add_chunks.ensures c.args.cut c.args.version []
     (c.in_ok-rebuild.ensures c.args.chunks.now))) (omega (arith, count))))
 
-pub returns-clause-ok : goal.returns-clause-ok
-returns-clause-ok c =
-    let count = c.len-count.ensures ∙ c.in_ok-references.references.ok.0 in
+pub returns : goal.returns
+returns c =
+    let references = c.in_ok-references.references in
+    let count = c.len-count.ensures ∙ references.ok.0 in
     let pairs = flat_map pairs_held c.args.chunks.now in
-    verdict_none c.args.cut c.args.version c.args.chunks.now pairs c.requires
-    c.in_ok-references.references.items (c.in_ok-references.ensures c.args.cut c.args.version pairs
+    let first = c.in_ok-references.ensures c.args.cut c.args.version pairs
     (c.in_ok-add_chunks.ensures c.args.cut c.args.version []
-    (c.in_ok-rebuild.ensures c.args.chunks.now))) (omega (arith, count))
-
-pub returns-clause-references : goal.returns-clause-references
-returns-clause-references c =
-    let count = c.len-count.ensures ∙ c.in_ok-references.references.ok.0 in
-    let pairs = flat_map pairs_held c.args.chunks.now in
-    all_named c.args.cut c.args.version c.args.chunks.now pairs c.requires
-    c.in_ok-references.references.items (c.in_ok-references.ensures c.args.cut c.args.version pairs
-    (c.in_ok-add_chunks.ensures c.args.cut c.args.version []
-    (c.in_ok-rebuild.ensures c.args.chunks.now))) (omega (arith, count))
+    (c.in_ok-rebuild.ensures c.args.chunks.now)) in
+    let all : length c.args.chunks.now ≤ length references.items = omega (arith, count) in
+    record {
+      ok = verdict_none c.args.cut c.args.version c.args.chunks.now pairs c.requires
+          references.items first all;
+      references = all_named c.args.cut c.args.version c.args.chunks.now pairs c.requires
+          references.items first all;
+      err = tt;
+    }
