@@ -45,8 +45,8 @@ use Rattle.prolly_check.proofs.EntryLists.{leaf_pairs}
 use Rattle.prolly_check.proofs.HeldPairs.{map_holds, all_hold, flat_held}
 use Rattle.prolly_check.proofs.IndexSteps.{as_many, reference_at}
 use Rattle.prolly_check.proofs.OneVerdict.{one_verdict}
-use Rattle.prolly_check.proofs.Verdicts.{file_is_accepted, ok_same, err_ok, header_ok, ending_ok}
-use Rattle.prolly_check.proofs.Verdicts.{canonical_ok, accepted_is_file, difference_ok}
+use Rattle.prolly_check.proofs.Verdicts.{file_is_accepted, header_ok, ending_ok, canonical_ok}
+use Rattle.prolly_check.proofs.Verdicts.{accepted_is_file, difference_ok}
 use Rattle.prolly_check.specs.declared.verdict.fault.CheckFault.TheVariants as faults
 
 -- ---- what is known of a file that was accepted
@@ -54,9 +54,9 @@ use Rattle.prolly_check.specs.declared.verdict.fault.CheckFault.TheVariants as f
 -- bytes are the file of one map
 pub one_content : (bytes : List ℕ) (a b : Content) → length bytes < 2 ^ 64 → IsFileOf bytes a →
     IsFileOf bytes b → a ≡ b
-one_content bytes a b short f g = ok_same a b
-    (one_verdict bytes (Ok a) (Ok b) (file_is_accepted bytes a short f)
-    (file_is_accepted bytes b short g))
+one_content bytes a b short f g =
+    let one = one_verdict bytes (Ok a) (Ok b) (file_is_accepted bytes a short f)
+    (file_is_accepted bytes b short g) in cc
 
 -- ---- the number of chunks, and the last one
 
@@ -94,8 +94,8 @@ pub not_refused : (read bytes : List ℕ) (content : Content) (fault : CheckFaul
     (fault ≡ faults.Read)
 not_refused read bytes content fault short e f (inl memory) = inl memory
 not_refused read bytes content fault short e f (inr v) =
-    absurd (err_ok (sym (one_verdict bytes (Ok content) (Err fault)
-    (file_is_accepted bytes content short f) (subst (λ b. IsVerdict b (Err fault)) e v))))
+    let one = one_verdict bytes (Ok content) (Err fault)
+    (file_is_accepted bytes content short f) (subst (λ b. IsVerdict b (Err fault)) e v) in cc
 
 -- ---- a file has no more pairs than bytes, and its chunks have no more bytes
 

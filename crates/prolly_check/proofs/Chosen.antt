@@ -1,190 +1,33 @@
 -- The child of a node that a look-up goes on in.
 use Rattle.std.proofs.Common.{rules, ◌≡◌, ℕ, suc, ◌+◌, ◌-◌, ◌^◌, ◌<◌, ◌≤◌, nat_lt, inl, inr, Bool}
-use Rattle.std.proofs.Common.{false, List, [], ◌∷◌, ◌++◌, length, map, Option, Some, None, refl}
-use Rattle.std.proofs.Common.{sym, ap, ◌∙◌, subst, arith, drop, append_assoc}
+use Rattle.std.proofs.Common.{true, false, cond, List, [], ◌∷◌, ◌++◌, length, map, Option, Some, None}
+use Rattle.std.proofs.Common.{refl, sym, ap, ◌∙◌, subst, arith, drop, append_assoc}
 use Rattle.std.specs.List.{AllByRecursion, flat_map}
 use Rattle.std.specs.Ordering.{is_lt}
 use Rattle.std.specs.Prelude.{option_map}
-use Rattle.std.proofs.lemmas.Bool.{cases_Bool, cond-false, cond-true, ltb-false, ltb-true}
+use Rattle.std.proofs.lemmas.Bool.{cases_Bool, cond-true, ltb-false, ltb-true}
 use Rattle.std.proofs.lemmas.Grind.{common_steps}
 use Rattle.std.proofs.lemmas.List.{length-append, drop-drop, length-drop}
-use Rattle.std.proofs.lemmas.List.Concat.{flat_map-append}
 use Rattle.std.proofs.lemmas.Nat.{from_be_bytes-to_be_bytes_8}
 use Rattle.prolly_entry.specs.Keys.{key_order, KeyBelow, Rising, RisingFrom}
 use Rattle.prolly_entry.specs.Pair.{Pair}
 use Rattle.prolly_entry.specs.Reference.{reference_of}
 use Rattle.prolly_entry.specs.declared.version.Version.{Version}
 use Rattle.prolly_entry.specs.declared.version.Version.TheVariants.{Two}
+use Rattle.prolly_entry.specs.lemmas.Lists.{all_append}
 use Rattle.prolly_entry.specs.lemmas.Orders.{order_trans}
 use Rattle.prolly_tree.specs.Tree.{Tree, bytes_of, greatest_key, pair_count, pairs_below}
-use Rattle.prolly_tree.specs.lemmas.Maps.{Rises, rises, rises_front}
-use Rattle.prolly_check.specs.Descent.{IsTreeOf, child_of}
+use Rattle.prolly_tree.specs.lemmas.Maps.{Rises, rises_back, rises_front}
+use Rattle.prolly_check.specs.Descent.{NodeFull, child_of}
 use Rattle.prolly_check.specs.Entries.{Child, IsNode, children_in}
 use Rattle.prolly_check.specs.Leaves.{pairs_from}
-use Rattle.prolly_check.specs.Sought.{child_for, child_with, Sought, child_sought, counted_child}
-use Rattle.prolly_check.specs.Sought.{found_child, reference_and_sought, IsMark}
+use Rattle.prolly_check.specs.Sought.{Sought, child_sought, reference_and_sought, IsMark}
 use Rattle.prolly_check.specs.Sought.Sought.{Key, Number}
 use Rattle.prolly_check.specs.declared.look_up.sought.Mark.{Mark}
-use Rattle.prolly_check.proofs.MapTree.{child_some}
-use Rattle.prolly_check.proofs.PairsFrom.{trees_below, some_from}
+use Rattle.prolly_check.proofs.PairsFrom.{all_below, some_from}
 use Rattle.prolly_check.proofs.RisingKeys.{is_less}
-use Rattle.prolly_check.proofs.Verdicts.{some_none}
 
--- ---- the child to which a key leads
-
--- of these trees, one is the first whose greatest key is not below the key, and this is how it is
--- read
-pub record LeadsTo (version : Version) (level : ℕ) (trees : List (Tree level)) (key : List ℕ)
-    (c : Child) : Type 0 where
-  pub before : List (Tree level)
-  pub child : Tree level
-  pub after : List (Tree level)
-  pub is : trees ≡ before ++ child ∷ after
-  pub below : AllByRecursion (λ u. KeyBelow (greatest_key level u) key) before
-  pub here : is_lt (key_order (greatest_key level child) key) ≡ false
-  pub named : c ≡ child_of version level child
-
-module _ (version : Version) (level : ℕ) (key : List ℕ) where
-  abbrev is_below : Tree level → Bool
-  is_below t = is_lt (key_order (greatest_key level t) key)
-
-  abbrev picked : List (Tree level) → Option Child
-  picked trees = child_for key (map (child_of version level) trees)
-
-  pub leads_to : (trees : List (Tree level)) (c : Child) → picked trees ≡ Some c →
-      LeadsTo version level trees key c
-  leads_to [] c e = cc
-  leads_to (t ∷ trees) c e = elim (cases_Bool (is_below t)) [
-    | inl past ↦
-        let l = leads_to trees c (sym (cond-true (is_below t) (picked trees)
-        (Some (child_of version level t)) past) ∙ e) in
-        record {
-          before = t ∷ l.before;
-          child = l.child;
-          after = l.after;
-          is = ap (λ ts. t ∷ ts) l.is;
-          below = (is_less (key_order (greatest_key level t) key) past, l.below);
-          here = l.here;
-          named = l.named;
-        }
-    | inr here ↦
-        let f : Some (child_of version level t) ≡ Some c =
-        sym (cond-false (is_below t) (picked trees) (Some (child_of version level t)) here) ∙
-        e in
-        record {
-          before = [];
-          child = t;
-          after = trees;
-          is = refl;
-          below = tt;
-          here = here;
-          named = cc;
-        }
-  ]
-
-  pub leads_nowhere : (trees : List (Tree level)) → picked trees ≡ None →
-      AllByRecursion (λ u. KeyBelow (greatest_key level u) key) trees
-  leads_nowhere [] e = tt
-  leads_nowhere (t ∷ trees) e = elim (cases_Bool (is_below t)) [
-    | inl past ↦ (
-      is_less (key_order (greatest_key level t) key) past,
-      leads_nowhere trees (sym (cond-true (is_below t) (picked trees)
-          (Some (child_of version level t)) past) ∙ e),
-    )
-    | inr here ↦ absurd (some_none (sym (cond-false (is_below t) (picked trees)
-        (Some (child_of version level t)) here) ∙ e))
-  ]
-
--- ---- the child that has a number below it
-
--- of these trees, one has the pair of this number below it, behind so many others, and this is how
--- it is read
-pub record CountsTo (level : ℕ) (trees : List (Tree level)) (n : ℕ) (c : Child) (ahead : ℕ) : Type 0
-  where
-    pub before : List (Tree level)
-    pub child : Tree level
-    pub after : List (Tree level)
-    pub is : trees ≡ before ++ child ∷ after
-    pub counted : n ≡ length (flat_map (pairs_below level) before) + ahead
-    pub here : ahead < pair_count level child
-    pub named : c ≡ child_of Two level child
-
-some_same : (c d : Child × ℕ) → ◌≡◌ {A = Option (Child × ℕ)} (Some c) (Some d) → c ≡ d
-some_same c d e = cc
-
-module _ (level : ℕ) where
-  abbrev counted_in : ℕ → List (Tree level) → Option (Child × ℕ)
-  counted_in n trees = child_with n (map (child_of Two level) trees)
-
-  count_is : (t : Tree level) → pair_count level t < 2 ^ 64 →
-      (child_of Two level t).count ≡ pair_count level t
-  count_is t few = from_be_bytes-to_be_bytes_8 (pair_count level t) few
-
-  pub counts_to : (trees : List (Tree level)) (n : ℕ) (c : Child) (ahead : ℕ) →
-      length (flat_map (pairs_below level) trees) < 2 ^ 64 → counted_in n trees ≡ Some (c, ahead) →
-      CountsTo level trees n c ahead
-  counts_to [] n c ahead few e = cc
-  counts_to (t ∷ trees) n c ahead few e =
-      let own = child_of Two level t in
-      let size = length-append (pairs_below level t) (flat_map (pairs_below level) trees) in
-      let is = count_is t (omega arith) in
-      elim (cases_Bool (nat_lt n own.count)) [
-        | inl here ↦
-            let same = some_same (own, n) (
-              c,
-              ahead,
-            ) (sym (cond-true (nat_lt n own.count) (Some (own, n))
-            (counted_in (n - own.count) trees) here) ∙ e) in
-            let number : n ≡ ahead = ap (λ x. x.1) same in
-            let under = ltb-true n own.count here in
-            record {
-              before = [];
-              child = t;
-              after = trees;
-              is = refl;
-              counted = omega arith;
-              here = omega arith;
-              named = sym (ap (λ x. x.0) same);
-            }
-        | inr past ↦
-            let l = counts_to trees (n - own.count) c ahead (omega arith)
-            (sym (cond-false (nat_lt n own.count) (Some (own, n)) (counted_in (n - own.count) trees)
-            past) ∙ e) in
-            let l_counted = l.counted in
-            let over = ltb-false n own.count past in
-            let parts = length-append (pairs_below level t) (flat_map (pairs_below level) l.before)
-            in
-            record {
-              before = t ∷ l.before;
-              child = l.child;
-              after = l.after;
-              is = ap (λ ts. t ∷ ts) l.is;
-              counted = omega arith;
-              here = l.here;
-              named = l.named;
-            }
-      ]
-
-  pub counts_past : (trees : List (Tree level)) (n : ℕ) →
-      length (flat_map (pairs_below level) trees) < 2 ^ 64 → counted_in n trees ≡ None →
-      length (flat_map (pairs_below level) trees) ≤ n
-  counts_past [] n few e = omega arith
-  counts_past (t ∷ trees) n few e =
-      let own = child_of Two level t in
-      let size = length-append (pairs_below level t) (flat_map (pairs_below level) trees) in
-      let is = count_is t (omega arith) in
-      elim (cases_Bool (nat_lt n own.count)) [
-        | inl here ↦ absurd (some_none (sym (cond-true (nat_lt n own.count) (Some (own, n))
-            (counted_in (n - own.count) trees) here) ∙ e))
-        | inr past ↦
-            let rest = counts_past trees (n - own.count) (omega arith)
-            (sym (cond-false (nat_lt n own.count) (Some (own, n)) (counted_in (n - own.count) trees)
-            past) ∙ e) in
-            let over = ltb-false n own.count past in
-            omega arith
-      ]
-
--- ---- either of them
+-- ---- what is sought in pairs, and in trees
 
 -- the pairs are past what is sought, which is this behind them
 abbrev pub IsPast : Sought → List Pair → Sought → Type 0
@@ -220,74 +63,160 @@ pub record ChosenIn (version : Version) (level : ℕ) (trees : List (Tree level)
   pub past : IsPast sought (flat_map (pairs_below level) before) next
   pub has : Has next (pairs_below level child)
 
-same_two : (x y : List ℕ × Sought) → ◌≡◌ {A = Option (List ℕ × Sought)} (Some x) (Some y) → x ≡ y
-same_two x y e = cc
+-- ---- pairs behind pairs
 
-module _ (version : Version) (cs : List (List ℕ)) (level : ℕ) (trees : List (Tree level))
-    (b : IsTreeOf version cs (suc level) trees) where
-  abbrev all : List Pair
-  all = flat_map (pairs_below level) trees
+pub past_none : (sought : Sought) → IsPast sought [] sought
+past_none (Key key) = (tt, refl)
+past_none (Number n) = omega arith
 
-  key_chosen : (key : List ℕ) (next : Sought) (reference : List ℕ) (o : Option Child) →
-      picked version level key trees ≡ o →
-      option_map reference_and_sought (option_map (found_child key) o) ≡ Some (reference, next) →
-      ChosenIn version level trees (Key key) next reference
-  key_chosen key next reference None is e = cc
-  key_chosen key next reference (Some c) is e =
-      let to = leads_to version level key trees c is in
-      let same = same_two (reference_and_sought (found_child key c)) (reference, next) e in
-      let pre = flat_map (pairs_below level) to.before in
-      let back = flat_map (pairs_below level) (to.child ∷ to.after) in
-      let parts : all ≡ pre ++ back = ap (flat_map (pairs_below level)) to.is ∙
-      flat_map-append (pairs_below level) to.before (to.child ∷ to.after) in
-      subst (λ next. ChosenIn version level trees (Key key) next reference) (ap (λ x. x.1) same)
-      (record {
-        before = to.before;
-        child = to.child;
-        after = to.after;
-        is = to.is;
-        named = sym (ap (λ x. x.0) same) ∙ ap (λ c. c.reference) to.named;
-        past = (
-          trees_below level to.before key
-              (rises_front pre back (subst Rises parts (rises all b.rising))) to.below,
-          refl,
-        );
-        has = some_from key (pairs_below level to.child)
-            (child_some version cs level to.before to.after to.child
-            (subst (IsTreeOf version cs (suc level)) to.is b)) to.here;
+pub past_more : (sought there next : Sought) (xs ys : List Pair) → IsPast sought xs there →
+    IsPast there ys next → IsPast sought (xs ++ ys) next
+past_more (Key key) (Key same) (Key other) xs ys h k = grind (arith, all_append)
+past_more (Key key) (Key same) (Number n) xs ys h k = absurd k
+past_more (Key key) (Number n) next xs ys h k = absurd h
+past_more (Number n) (Key key) next xs ys h k = absurd h
+past_more (Number n) (Number k) (Key key) xs ys h l = absurd l
+past_more (Number n) (Number k) (Number i) xs ys h l = omega (arith, h, l, length-append xs ys)
+
+-- ---- the tree that it goes on in
+
+pub none_left : (sought : Sought) → child_sought sought [] ≡ None
+none_left (Key key) = refl
+none_left (Number n) = refl
+
+pub one_same : {A : Type 0} (x y : A) → ◌≡◌ {A = Option A} (Some x) (Some y) → x ≡ y
+one_same x y e = cc
+
+module _ (version : Version) (level : ℕ) where
+  abbrev below : List (Tree level) → List Pair
+  below trees = flat_map (pairs_below level) trees
+
+  abbrev read : List (Tree level) → List Child
+  read trees = map (child_of version level) trees
+
+  -- it is the first one
+  in_first : (t : Tree level) (trees : List (Tree level)) (sought next : Sought)
+      (reference : List ℕ) → ◌≡◌ {A = Option (List ℕ × Sought)}
+      (Some (reference_of (bytes_of version level t), sought)) (Some (reference, next)) →
+      Has sought (pairs_below level t) → ChosenIn version level (t ∷ trees) sought next reference
+  in_first t trees sought next reference e has =
+      let same = one_same (reference_of (bytes_of version level t), sought) (reference, next) e in
+      subst (λ next. ChosenIn version level (t ∷ trees) sought next reference)
+      (ap (λ x. x.1) same) (record {
+        before = [];
+        child = t;
+        after = trees;
+        is = refl;
+        named = sym (ap (λ x. x.0) same);
+        past = past_none sought;
+        has = has;
       })
 
-  number_chosen : (n : ℕ) (next : Sought) (reference : List ℕ) (o : Option (Child × ℕ)) →
-      version ≡ Two → length all < 2 ^ 64 → child_with n (map (child_of version level) trees) ≡ o →
-      option_map reference_and_sought (option_map counted_child o) ≡ Some (reference, next) →
-      ChosenIn version level trees (Number n) next reference
-  number_chosen n next reference None two few is e = cc
-  number_chosen n next reference (Some c) two few is e =
-      let to = counts_to level trees n c.0 c.1 few
-      (ap (λ v. child_with n (map (child_of v level) trees)) (sym two) ∙ is) in
-      let same = same_two (reference_and_sought (counted_child c)) (reference, next) e in
-      subst (λ next. ChosenIn version level trees (Number n) next reference) (ap (λ x. x.1) same)
-      (record {
-        before = to.before;
-        child = to.child;
-        after = to.after;
-        is = to.is;
-        named = sym (ap (λ x. x.0) same) ∙ ap (λ c. c.reference) to.named ∙
-            ap (λ v. reference_of (bytes_of v level to.child)) (sym two);
-        past = to.counted;
-        has = to.here;
-      })
+  -- it is behind the first one
+  in_others : (t : Tree level) (trees : List (Tree level)) (sought there next : Sought)
+      (reference : List ℕ) → IsPast sought (pairs_below level t) there →
+      ChosenIn version level trees there next reference →
+      ChosenIn version level (t ∷ trees) sought next reference
+  in_others t trees sought there next reference past c = record {
+    before = t ∷ c.before;
+    child = c.child;
+    after = c.after;
+    is = ap (λ ts. t ∷ ts) c.is;
+    named = c.named;
+    past = past_more sought there next (pairs_below level t) (below c.before) past c.past;
+    has = c.has;
+  }
 
-  pub chosen : (sought next : Sought) (reference : List ℕ) → CanCount version sought all →
-      option_map reference_and_sought (child_sought sought (map (child_of version level) trees)) ≡
-      Some (reference, next) → ChosenIn version level trees sought next reference
-  chosen (Key key) next reference can e = search (rules, key_chosen)
-  chosen (Number n) next reference can e = search (rules, number_chosen)
+  -- the count is read as it is
+  count_is : (t : Tree level) → version ≡ Two → pair_count level t < 2 ^ 64 →
+      (child_of version level t).count ≡ pair_count level t
+  count_is t two few = ap (λ v. (child_of v level t).count) two ∙
+      from_be_bytes-to_be_bytes_8 (pair_count level t) few
 
-  pub none_chosen : (sought : Sought) → CanCount version sought all →
-      child_sought sought (map (child_of version level) trees) ≡ None → AllPast sought all
-  none_chosen (Key key) can e = grind (arith, trees_below, rises, leads_nowhere)
-  none_chosen (Number n) can e = grind (arith, counts_past)
+  module _ (t : Tree level) (trees : List (Tree level)) where
+    abbrev child : Child
+    child = child_of version level t
+
+    for_key : (key : List ℕ) (b : Bool) → is_lt (key_order (greatest_key level t) key) ≡ b →
+        child_sought (Key key) (read (t ∷ trees)) ≡
+        cond b (child_sought (Key key) (read trees)) (Some (child, Key key))
+    for_key key b e = ap (λ b. cond b (child_sought (Key key) (read trees)) (Some (child, Key key))) e
+
+    for_number : (n : ℕ) (b : Bool) → nat_lt n child.count ≡ b →
+        child_sought (Number n) (read (t ∷ trees)) ≡
+        cond b (Some (child, Number n)) (child_sought (Number (n - child.count)) (read trees))
+    for_number n b e = ap (λ b. cond b (Some (child, Number n))
+        (child_sought (Number (n - child.count)) (read trees))) e
+
+  pub chosen : (trees : List (Tree level)) (sought next : Sought) (reference : List ℕ) →
+      Rises (below trees) → NodeFull (suc level) trees → CanCount version sought (below trees) →
+      option_map reference_and_sought (child_sought sought (read trees)) ≡ Some (reference, next) →
+      ChosenIn version level trees sought next reference
+  chosen [] (Key key) next reference r full can e = cc
+  chosen [] (Number n) next reference r full can e = cc
+  chosen (t ∷ trees) (Key key) next reference r full can e =
+      let own = pairs_below level t in
+      let order = key_order (greatest_key level t) key in
+      elim (cases_Bool (is_lt order)) [
+        | inl past ↦ in_others t trees (Key key) (Key key) next reference
+            (all_below own key (rises_front own (below trees) r) (is_less order past), refl)
+            (chosen trees (Key key) next reference (rises_back own (below trees) r) full.1 can
+            (sym (ap (option_map reference_and_sought) (for_key t trees key true past)) ∙ e))
+        | inr here ↦ in_first t trees (Key key) next reference
+            (sym (ap (option_map reference_and_sought) (for_key t trees key false here)) ∙ e)
+            (some_from key own full.0.0 here)
+      ]
+  chosen (t ∷ trees) (Number n) next reference r full can e =
+      let own = pairs_below level t in
+      let size = length-append own (below trees) in
+      let few = can.1 in
+      let count = (child_of version level t).count in
+      let is = count_is t can.0 (omega arith) in
+      elim (cases_Bool (nat_lt n count)) [
+        | inl here ↦
+            let under = ltb-true n count here in
+            in_first t trees (Number n) next reference
+            (sym (ap (option_map reference_and_sought) (for_number t trees n true here)) ∙ e)
+            (omega arith)
+        | inr past ↦
+            let over = ltb-false n count past in
+            in_others t trees (Number n) (Number (n - count)) next reference (omega arith)
+            (chosen trees (Number (n - count)) next reference (rises_back own (below trees) r) full.1
+            (can.0, omega arith)
+            (sym (ap (option_map reference_and_sought) (for_number t trees n false past)) ∙ e))
+      ]
+
+  pub none_chosen : (trees : List (Tree level)) (sought : Sought) → Rises (below trees) →
+      CanCount version sought (below trees) → child_sought sought (read trees) ≡ None →
+      AllPast sought (below trees)
+  none_chosen [] (Key key) r can e = tt
+  none_chosen [] (Number n) r can e = omega arith
+  none_chosen (t ∷ trees) (Key key) r can e =
+      let own = pairs_below level t in
+      let order = key_order (greatest_key level t) key in
+      elim (cases_Bool (is_lt order)) [
+        | inl past ↦ all_append (λ p. KeyBelow p.key key) own (below trees)
+            (all_below own key (rises_front own (below trees) r) (is_less order past))
+            (none_chosen trees (Key key) (rises_back own (below trees) r) can
+            (sym (for_key t trees key true past) ∙ e))
+        | inr here ↦
+            let no = sym (for_key t trees key false here) ∙ e in cc
+      ]
+  none_chosen (t ∷ trees) (Number n) r can e =
+      let own = pairs_below level t in
+      let size = length-append own (below trees) in
+      let few = can.1 in
+      let count = (child_of version level t).count in
+      let is = count_is t can.0 (omega arith) in
+      elim (cases_Bool (nat_lt n count)) [
+        | inl here ↦
+            let no = sym (for_number t trees n true here) ∙ e in cc
+        | inr past ↦
+            let rest = none_chosen trees (Number (n - count)) (rises_back own (below trees) r)
+            (can.0, omega arith) (sym (for_number t trees n false past) ∙ e) in
+            let over = ltb-false n count past in
+            omega arith
+      ]
 
 -- ---- children below a key
 
@@ -307,7 +236,7 @@ module _ (child : Child) (others : List Child) where
   -- where one of rising children is below the key, those before it are, too
   pub passed_over : (key : List ℕ) (before : List Child) →
       Rising (keys (before ++ child ∷ others)) → KeyBelow child.key key →
-      child_for key (before ++ child ∷ others) ≡ child_for key (child ∷ others)
+      child_sought (Key key) (before ++ child ∷ others) ≡ child_sought (Key key) (child ∷ others)
   passed_over key [] rising below = refl
   passed_over key (b ∷ before) rising below = search (
     rules,
@@ -355,6 +284,6 @@ pub begins_there : (version : Version) (chunk : List ℕ) (mark : Mark) →
     IsMark version chunk mark → (child : Child) (others : List Child) →
     children_in version (drop mark.offset chunk) ≡ child ∷ others → (key : List ℕ) →
     Rising (keys (children_in version (drop 1 chunk))) → KeyBelow child.key key →
-    child_for key (children_in version (drop 1 chunk)) ≡
-    child_for key (children_in version (drop mark.offset chunk))
+    child_sought (Key key) (children_in version (drop 1 chunk)) ≡
+    child_sought (Key key) (children_in version (drop mark.offset chunk))
 begins_there version chunk mark is child others first key rising below = search (rules, passed_over)

@@ -134,7 +134,7 @@ module _ {B : Type 0} (first : List ℕ → B) (behind : List ℕ → List ℕ) 
         more
     reads_on bytes spelled more entry r e = grind (arith, first_in, length-append)
 
-    pub reads_all : {A : Type 0} (spelling : A → List ℕ) (read : A → B) (Lawful : A → Type 0) →
+    reads_all : {A : Type 0} (spelling : A → List ℕ) (read : A → B) (Lawful : A → Type 0) →
         ((a : A) → Lawful a → Reads first behind (spelling a) (read a)) →
         (entries : List A) → AllByRecursion Lawful entries →
         entries_in first behind (flat_map spelling entries) ≡ map read entries
@@ -219,6 +219,11 @@ pub no_next : (entries : List ℕ) → NoPairAt entries → IsSomeLeaf entries �
 unfolding pairs_in
 no_next entries none l = ap (entries_in first_pair behind_pair) (leaf_left entries none l)
 
+-- no bytes spell no pair
+pub no_pairs : pairs_in [] ≡ []
+unfolding pairs_in
+no_pairs = refl
+
 -- the bytes of a leaf's entries are the spellings of its pairs
 pub leaf_spelled : (entries : List ℕ) → IsSomeLeaf entries →
     entries ≡ record_file (pairs_in entries)
@@ -289,7 +294,7 @@ no_node version done pairs rest lawful left none n =
 
 -- ---- what is read of them
 
-pub child_shrinks : (version : Version) → Shrinks (behind_child version)
+child_shrinks : (version : Version) → Shrinks (behind_child version)
 child_shrinks version b bytes = grind (arith, length-drop)
 
 -- a child as it is read from its entry
@@ -311,7 +316,7 @@ tail_size : (version : Version) (count : ℕ) →
 tail_size One count = refl
 tail_size Two count = refl
 
-pub child_reads : (version : Version) (c : Child) → IsChild c →
+child_reads : (version : Version) (c : Child) → IsChild c →
     Reads (first_child version) (behind_child version) (entry_of version c) (as_read version c)
 child_reads version c h = record {
   some = (node_apart version).some c;
@@ -343,6 +348,12 @@ child_reads version c h = record {
               rw (found, key_there c.key rest size refl, behind, reference, counted, count_in_front version c.count more) refl,
           ap (behind_child version) parts ∙ rw found left,
         )
+
+pub children_read : (version : Version) (children : List Child) → AllByRecursion IsChild children →
+    children_in version (flat_map (entry_of version) children) ≡ map (as_read version) children
+unfolding children_in
+children_read version = reads_all (first_child version) (behind_child version)
+    (child_shrinks version) (entry_of version) (as_read version) IsChild (child_reads version)
 
 pub next_child : (version : Version) (entries rest : List ℕ) (c : Child) →
     BeginsWith (entry_of version) IsChild entries c rest →

@@ -1,11 +1,13 @@
 -- Going down the tree of a file that was checked.
 use Rattle.std.proofs.Common.{rules, ◌≡◌, ℕ, suc, ◌<◌, ◌≤◌, inl, inr, List, [], ◌∷◌, ◌++◌, length}
-use Rattle.std.proofs.Common.{map, refl, sym, ap, ◌∙◌, subst, arith}
+use Rattle.std.proofs.Common.{All, map, refl, sym, ap, ◌∙◌, subst, arith}
 use Rattle.std.specs.Borrow.{Bor}
 use Rattle.std.specs.List.{AllByRecursion}
 use Rattle.std.proofs.lemmas.List.{length-append, map-append}
+use Rattle.prolly_entry.specs.Byte.{IsByte}
 use Rattle.prolly_entry.specs.Pair.{Pair}
 use Rattle.prolly_entry.specs.Reference.{reference_of}
+use Rattle.prolly_entry.specs.declared.version.Version.{Version}
 use Rattle.prolly_entry.specs.lemmas.Lists.{all_append}
 use Rattle.prolly_tree.specs.Chunk.{IsIn, chunk_of}
 use Rattle.prolly_tree.specs.Tree.{bytes_of, pairs_below}
@@ -35,10 +37,18 @@ can_count : (content : Content) (there : Sought) (number : ℕ) (top : IsTop con
 can_count content (Key key) number top counted = tt
 can_count content (Number n) number top counted = (counted, top.few)
 
+is_counted : (version : Version) (sought : Sought) (pairs : List Pair) →
+    CanCount version sought pairs → IsCounted version sought
+is_counted version (Key key) pairs can = tt
+is_counted version (Number n) pairs can = can.0
+
 module _ (content : Content) (f : HasFile content) (number : ℕ) (top : IsTop content number) where
   pub is_ordered : IsOrdered content.version (nth_chunk content number)
   is_ordered = subst (IsOrdered content.version) (sym top.is)
       (top_is_read content.version (chunks_of content) top.level top.tree top.of).0
+
+  pub named_at : All IsByte (nth_chunk content number) → IsNamedAt content number
+  named_at bytes = record { bytes = bytes; is = refl; ordered = is_ordered }
 
   module _ (there next : Sought) (reference : List ℕ) (counted : IsCounted content.version there)
       (on : LeadsOn there (kind_of content.version (nth_chunk content number)) reference next) where
@@ -60,9 +70,6 @@ module _ (content : Content) (f : HasFile content) (number : ℕ) (top : IsTop c
           (top_in content.version to.level to.t);
       is = sym to.named;
     }
-
-    counted_still : IsCounted content.version next
-    counted_still = grind arith
 
     pub one_below : (n : ℕ) → HasAt (chunks_of content) n reference →
         IsTop content n × (level_of (nth_chunk content number) ≡ suc (level_of (nth_chunk content n)))
@@ -86,7 +93,7 @@ module _ (content : Content) (f : HasFile content) (number : ℕ) (top : IsTop c
           },
           ap level_of top.is ∙ height_is content.version top.level top.tree ∙ to.lower ∙
               ap suc (sym (ap level_of is ∙ height_is content.version to.level to.t)),
-          counted_still,
+          is_counted content.version next (pairs_below to.level to.t) to.at.can,
         )
       where
         part : (before own after m : List Pair) → m ≡ before ++ (own ++ after) →

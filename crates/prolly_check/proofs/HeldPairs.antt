@@ -19,13 +19,12 @@ use Rattle.prolly_tree.specs.lemmas.Maps.{last_key_short}
 use Rattle.prolly_tree.specs.lemmas.Splits.{flat}
 use Rattle.prolly_laws.specs.Trees.{pairs_are}
 use Rattle.prolly_check.specs.Entries.{Child, IsChild, entry_of, Holds, AllHold, pairs_in, IsBad}
-use Rattle.prolly_check.specs.Entries.{IsWhole, AreWhole}
+use Rattle.prolly_check.specs.Entries.{IsWhole, AreWhole, IsNode, IsSomeLeaf, children_in}
 use Rattle.prolly_check.specs.Frames.{chunk_in, chunks_in}
 use Rattle.prolly_check.specs.Held.{pairs_held}
 use Rattle.prolly_check.specs.Judged.{chunk_bytes}
 use Rattle.prolly_check.specs.Kinds.{kind_of}
-use Rattle.prolly_check.specs.declared.entries.Entries.{Entries}
-use Rattle.prolly_check.specs.declared.entries.Entries.TheVariants.{Leaf, Node}
+use Rattle.prolly_check.specs.Kinds.Entries.{Leaf, Node}
 use Rattle.prolly_check.proofs.EntryLists.{leaf_pairs}
 use Rattle.prolly_check.specs.declared.verdict.fault.CheckFault.TheVariants as faults
 
@@ -41,9 +40,16 @@ pub flat_held : (chunks : List (List ℕ)) → flat (map pairs_held chunks) ≡ 
 flat_held [] = refl
 flat_held (chunk ∷ chunks) = ap (λ ps. pairs_held chunk ++ ps) (flat_held chunks)
 
-pub leaf_node : (pairs : List Pair) (children : List Child) →
-    ◌≡◌ {A = Entries} (Leaf pairs) (Node children) → ⊥
-leaf_node pairs children e = cc
+-- what the first byte of a whole chunk tells
+pub record IsOfPairs (version : Version) (chunk : List ℕ) : Type 0 where
+  pub kind : kind_of version chunk ≡ Leaf (pairs_in (drop 1 chunk))
+  pub held : pairs_held chunk ≡ pairs_in (drop 1 chunk)
+  pub is : IsSomeLeaf (drop 1 chunk)
+
+pub record IsOfChildren (version : Version) (chunk : List ℕ) : Type 0 where
+  pub kind : kind_of version chunk ≡ Node (children_in version (drop 1 chunk))
+  pub held : pairs_held chunk ≡ []
+  pub is : IsNode version (drop 1 chunk) []
 
 module _ (version : Version) where
   held_is : (chunk : List ℕ) (held : List Pair) → Holds version chunk held → held ≡ pairs_held chunk
@@ -51,13 +57,27 @@ module _ (version : Version) where
   held_is (zero ∷ entries) held h = sym (leaf_pairs entries held h)
   held_is (suc level ∷ entries) held h = h.none
 
-  -- a node holds none
-  pub node_holds : (chunk : List ℕ) (children : List Child) →
-      kind_of version chunk ≡ Node children → pairs_held chunk ≡ pairs_in []
-  unfolding pairs_in
-  node_holds [] children e = refl
-  node_holds (zero ∷ entries) children e = absurd (leaf_node (pairs_in entries) children e)
-  node_holds (suc level ∷ entries) children e = refl
+  pub of_pairs : (chunk : List ℕ) → IsWhole version chunk → get_or chunk 0 0 ≡ 0 →
+      IsOfPairs version chunk
+  of_pairs [] w e = absurd w.holds
+  of_pairs (zero ∷ entries) w e =
+      record { kind = refl; held = refl; is = record { pairs = w.pairs; is = w.holds } }
+  of_pairs (suc level ∷ entries) w e = absurd (omega (arith, e))
+
+  pub of_children : (chunk : List ℕ) → IsWhole version chunk → (get_or chunk 0 0 ≡ 0 → ⊥) →
+      IsOfChildren version chunk
+  of_children [] w other = absurd w.holds
+  of_children (zero ∷ entries) w other = absurd (other refl)
+  of_children (suc level ∷ entries) w other = record {
+    kind = refl;
+    held = refl;
+    is = record {
+      children = w.holds.children;
+      is = w.holds.is;
+      lawful = w.holds.lawful;
+      none = refl;
+    };
+  }
 
   -- chunks that have lists of pairs have just these
   pub lists_are : (chunks : List (List ℕ)) (lists : List (List Pair)) →
@@ -103,20 +123,20 @@ module _ (version : Version) where
       HoldPairs version ds qs → HoldPairs version (cs ++ ds) (ps ++ qs)
   both cs ds ps qs h k = grind (arith, all_append, flat_map-append)
 
-  abbrev child_below : (level : ℕ) → Tree level → Child
+  abbrev pub child_below : (level : ℕ) → Tree level → Child
   child_below level t = record {
     key = greatest_key level t;
     reference = reference_of (bytes_of version level t);
     count = pair_count level t;
   }
 
-  entries_are : (level : ℕ) (ts : List (Tree level)) →
+  pub entries_are : (level : ℕ) (ts : List (Tree level)) →
       flat_map (child_entry version level) ts ≡ flat_map (entry_of version)
       (map (child_below level) ts)
   entries_are level [] = refl
   entries_are level (t ∷ ts) = search (rules, entries_are level ts)
 
-  all_children : (level : ℕ) (ts : List (Tree level)) →
+  pub all_children : (level : ℕ) (ts : List (Tree level)) →
       AllByRecursion IsPair (flat_map (pairs_below level) ts) →
       AllByRecursion IsChild (map (child_below level) ts)
   all_children level [] h = tt
@@ -129,6 +149,19 @@ module _ (version : Version) where
     all_back,
     all_children level ts (all_back IsPair (pairs_below level t) (flat_map (pairs_below level) ts) h),
   )
+
+  pub top_is_whole : (level : ℕ) (t : Tree level) → AllByRecursion IsPair (pairs_below level t) →
+      IsWhole version (bytes_of version level t)
+  top_is_whole zero leaf h = record { pairs = leaf; holds = record { is = refl; lawful = h } }
+  top_is_whole (suc level) ts h = record {
+    pairs = [];
+    holds = record {
+      children = map (child_below level) ts;
+      is = entries_are level ts;
+      lawful = all_children level ts h;
+      none = refl;
+    };
+  }
 
   abbrev Holding : (level : ℕ) → Tree level → Type 0
   Holding level t = AllByRecursion IsPair (pairs_below level t) →
@@ -155,21 +188,8 @@ module _ (version : Version) where
       let pairs = flat_map (pairs_below level) ts in
       let below = flat_map (post_order version level) ts in
       -- a node has no pairs itself
-      let own : HoldPairs version (bytes_of version (suc level) ts ∷ []) [] = record {
-        whole = (
-          record {
-            pairs = [];
-            holds = record {
-              children = map (child_below level) ts;
-              is = entries_are level ts;
-              lawful = all_children level ts h;
-              none = refl;
-            };
-          },
-          tt,
-        );
-        are = refl;
-      } in
+      let own : HoldPairs version (bytes_of version (suc level) ts ∷ []) [] =
+      record { whole = (top_is_whole (suc level) ts h, tt); are = refl } in
       subst (λ cs. HoldPairs version cs pairs)
       (sym (bytes_append below (chunk_of version (suc level) ts ∷ [])))
       (subst (HoldPairs version (bytes_in below ++ bytes_of version (suc level) ts ∷ []))

@@ -1,6 +1,6 @@
 -- The references of the chunks of a file, and an index of them.
 use Rattle.std.proofs.Common.{rules, ◌≡◌, ℕ, suc, ◌+◌, ◌<◌, Bool, true, false, ◌||◌, List, []}
-use Rattle.std.proofs.Common.{◌∷◌, length, take, drop, get_or, Some, None, inl, inr, sym, ap}
+use Rattle.std.proofs.Common.{◌∷◌, ◌++◌, length, take, drop, get_or, Some, None, inl, inr, sym, ap}
 use Rattle.std.proofs.Common.{◌∙◌, subst, arith}
 use Rattle.std.specs.Cmp.Lexicographic.{slice_cmp}
 use Rattle.std.specs.List.{All, list_any}
@@ -12,7 +12,8 @@ use Rattle.std.proofs.Math.Bool.{or_comm}
 use Rattle.std.proofs.Math.Seq.{drop-cons}
 use Rattle.std.proofs.lemmas.Bool.{cond-false, cases_lt, false≢true}
 use Rattle.std.proofs.lemmas.Cmp.{nat_list_cmp_total}
-use Rattle.std.proofs.lemmas.List.{length-map, get_or-map, get_or_default}
+use Rattle.std.proofs.lemmas.List.{length-append, length-map, get_or-map, get_or_default}
+use Rattle.std.proofs.lemmas.List.{get_or_append_left, get_or_push}
 use Rattle.std.proofs.lemmas.List.Elements.{recursion_from_All}
 use Rattle.std.proofs.lemmas.List.Folds.{list_any_more}
 use Rattle.std.proofs.lemmas.List.Sorted.{All-permutation, Contains-permutation, ranks_by}
@@ -53,6 +54,27 @@ apart (c ∷ cs) h = (
       (e ∙ ap reference_of (get_or_default cs k d [] within))),
   apart cs (λ i j lt within. h (suc i) (suc j) (omega arith) (omega arith)),
 )
+
+-- one more is numbered
+pub one_numbered : (references : List Ref) (entries new : List (Ref × ℕ)) (n : ℕ) (d : Ref) →
+    n < length references → length entries ≡ n →
+    ((k : ℕ) (other : Ref × ℕ) → k < n → get_or entries k other ≡ (get_or references k other.0, k)) →
+    new ≡ entries ++ (get_or references n d, n) ∷ [] →
+    (length new ≡ n + 1) × ((k : ℕ) (other : Ref × ℕ) → k < n + 1 →
+    get_or new k other ≡ (get_or references k other.0, k))
+one_numbered references entries new n d within count each e =
+    let one : Ref × ℕ = (get_or references n d, n) in (
+      omega (arith, ap length e, length-append entries (one ∷ [])),
+      λ k other behind. ap (λ xs. get_or xs k other) e ∙ elim (cases_lt k n) [
+        | inl before ↦
+            get_or_append_left entries (one ∷ []) other k (omega arith) ∙ each k other before
+        | inr past ↦
+            let here : n ≡ k = omega arith in
+            get_or_push entries one other k (omega arith) ∙
+            ap (λ r. (r, n)) (get_or_default references n d other.0 within) ∙
+            ap (λ n. (get_or references n other.0, n)) here
+      ],
+    )
 
 -- ---- the entries in their order
 

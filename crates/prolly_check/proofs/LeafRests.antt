@@ -18,20 +18,14 @@ use Rattle.prolly_file.specs.Sink.{SinkView, TakesPrefix}
 use Rattle.prolly_file.specs.Writes.{Writes}
 use Rattle.prolly_check.specs.Checked.{HasFile, chunks_of}
 use Rattle.prolly_check.specs.Content.{Content}
-use Rattle.prolly_check.specs.Entries.{pairs_in}
 use Rattle.prolly_check.specs.Held.{pairs_held}
 use Rattle.prolly_check.specs.Leaves.{pairs_from}
 use Rattle.prolly_check.specs.ScanWay.{AreFirstFrom, next_key}
 use Rattle.prolly_check.proofs.HeldPairs.{map_holds}
-use Rattle.prolly_check.proofs.PairsFrom.{from_behind, pairs_from-append}
+use Rattle.prolly_check.proofs.PairsFrom.{above_some, from_all, pairs_from-append}
 use Rattle.prolly_check.proofs.RebuildSteps.{held_next}
 
 -- ---- what is left of a map from a key on, leaf by leaf
-
--- no bytes spell no pair
-pub no_pairs : pairs_in [] ≡ []
-unfolding pairs_in
-no_pairs = refl
 
 -- the first of rising pairs from a key on are those of a part that has some: so none stands before it
 above_from : (x key : List ℕ) (ps : List Pair) → Above x ps → Above x (pairs_from key ps)
@@ -119,12 +113,13 @@ module _ (content : Content) (f : HasFile content) (number : ℕ) where
               ap (λ qs. qs ++ pairs_from (next_key (last_key (p ∷ ps))) content.pairs) (sym is))
               (λ none. some p ps (sym is ∙ none))
 
-      pub from_number : pairs_from key content.pairs ≡ pairs_from key (behind number)
-      from_number = grind (arith, found, none_before, parts, pairs_from-append)
-
       pub from_leaf : (pairs_from key leaf ≡ [] → ⊥) →
           pairs_from key leaf ++ behind (number + 1) ≡ pairs_from key content.pairs
-      from_leaf some = search (rules, found, none_before, from_behind, parts, rest_rises)
+      from_leaf some =
+          let rest = behind (number + 1) in
+          sym (found ∙ ap (λ ps. ps ++ (pairs_from key leaf ++ pairs_from key rest)) none_before ∙
+          ap (λ ps. pairs_from key leaf ++ ps)
+          (from_all key rest (above_some key leaf rest (subst Rises parts rest_rises) some)))
 
       pub from_none : (end : ℕ) → end ≡ length (chunks_of content) → pairs_from key leaf ≡ [] →
           pairs_from key leaf ++ behind end ≡ pairs_from key content.pairs

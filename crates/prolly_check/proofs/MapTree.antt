@@ -2,21 +2,19 @@
 use Rattle.std.proofs.Common.{rules, ◌≡◌, ℕ, zero, suc, ◌<◌, inl, inr, List, [], ◌∷◌, ◌++◌, length}
 use Rattle.std.proofs.Common.{sym, ap, ◌∙◌, subst, arith, map, get_or, slice_index, refl}
 use Rattle.std.specs.List.{flat_map, AllByRecursion}
-use Rattle.std.proofs.lemmas.Grind.{common_steps}
 use Rattle.std.proofs.lemmas.List.Concat.{flat_map-append}
+use Rattle.std.proofs.lemmas.Simd.{map-map}
 use Rattle.prolly_entry.specs.Cut.{sha512_cut}
 use Rattle.prolly_entry.specs.Keys.{Rising, KeyBelow, RisingFrom}
 use Rattle.prolly_entry.specs.Pair.{Pair, IsPair}
-use Rattle.prolly_entry.specs.Reference.{reference_of}
 use Rattle.prolly_entry.specs.Spelling.{pair_spelling}
 use Rattle.prolly_entry.specs.declared.version.Version.{Version}
 use Rattle.prolly_entry.specs.lemmas.Lists.{all_front, all_back}
-use Rattle.prolly_entry.specs.lemmas.Spellings.{reference_length}
 use Rattle.prolly_tree.specs.Chunk.{Chunk, chunk_of, post_order, IsIn, chunks}
 use Rattle.prolly_tree.specs.Split.{split}
-use Rattle.prolly_tree.specs.Tree.{Tree, pairs_below, tree_of, grow, LeveledTree, greatest_key}
-use Rattle.prolly_tree.specs.Tree.{pair_count, bytes_of, child_entry, last_key}
-use Rattle.prolly_tree.specs.lemmas.Maps.{Rises, rises, rises_front, rises_back, last_key_short}
+use Rattle.prolly_tree.specs.Tree.{Tree, pairs_below, tree_of, grow, LeveledTree}
+use Rattle.prolly_tree.specs.Tree.{bytes_of, child_entry, last_key}
+use Rattle.prolly_tree.specs.lemmas.Maps.{Rises, rises, rises_front, rises_back}
 use Rattle.prolly_tree.specs.lemmas.Maps.{Above, HasKey, above_key, has_last}
 use Rattle.prolly_tree.specs.lemmas.Trees.{in_front, in_back, Full, full_pairs}
 use Rattle.prolly_laws.specs.Trees.{tree_full, pairs_are}
@@ -24,14 +22,13 @@ use Rattle.prolly_file.specs.Scratch.{keys_in}
 use Rattle.prolly_check.specs.Content.{Content}
 use Rattle.prolly_check.specs.Descent.{HasTree, IsTreeOf, NodeFull, child_of, TopIsRead}
 use Rattle.prolly_check.specs.Descent.{entries_below}
-use Rattle.prolly_check.specs.Entries.{first_child, behind_child, pairs_in, children_in, IsWhole}
+use Rattle.prolly_check.specs.Entries.{pairs_in, children_in}
 use Rattle.prolly_check.specs.Judged.{chunk_bytes}
 use Rattle.prolly_check.specs.Kinds.{kind_of}
-use Rattle.prolly_check.specs.Verdict.{AllApart}
 use Rattle.prolly_check.specs.Way.{keys_of}
-use Rattle.prolly_check.specs.declared.entries.Entries.TheVariants.{Leaf, Node}
-use Rattle.prolly_check.proofs.EntryLists.{reads_all, leaf_pairs, child_shrinks, child_reads}
-use Rattle.prolly_check.proofs.HeldPairs.{bytes_append, bytes_in, tree_holds}
+use Rattle.prolly_check.specs.Kinds.Entries.{Leaf, Node}
+use Rattle.prolly_check.proofs.EntryLists.{as_read, children_read, leaf_pairs}
+use Rattle.prolly_check.proofs.HeldPairs.{all_children, child_below, entries_are, top_is_whole}
 use Rattle.prolly_check.proofs.PairsFrom.{rising_is, above_last}
 
 -- ---- the trees of a map
@@ -85,9 +82,6 @@ module _ (version : Version) (chunks : List (List ℕ)) (level : ℕ) (before af
   good : AllByRecursion (λ t. (0 < length (pairs_below level t)) × NodeFull level t) (t ∷ after)
   good = search (rules, all_back)
 
-  pub child_some : 0 < length (pairs_below level t)
-  child_some = good.0.0
-
   pub child_is : IsTreeOf version chunks level t
   child_is =
       let pre = flat_map (pairs_below level) before in
@@ -116,35 +110,13 @@ root_pairs content = pairs_are (sha512_cut content.bits) content.version content
 
 -- ---- what is read of them
 
-all_below : (level : ℕ) (ts : List (Tree level)) →
-    AllByRecursion IsPair (flat_map (pairs_below level) ts) →
-    AllByRecursion (λ t. AllByRecursion IsPair (pairs_below level t)) ts
-all_below level [] h = tt
-all_below level (t ∷ ts) h = search (
-  rules,
-  common_steps,
-  all_front,
-  all_back,
-  all_below level ts (all_back IsPair (pairs_below level t) (flat_map (pairs_below level) ts) h),
-)
-
 pub children_are : (version : Version) (level : ℕ) (ts : List (Tree level)) →
     AllByRecursion IsPair (flat_map (pairs_below level) ts) →
     children_in version (flat_map (child_entry version level) ts) ≡ map (child_of version level) ts
-unfolding children_in
 children_are version level ts h =
-    reads_all (first_child version) (behind_child version) (child_shrinks version)
-    (child_entry version level) (child_of version level)
-    (λ t. AllByRecursion IsPair (pairs_below level t))
-    (λ t lawful. child_reads version (record {
-      key = greatest_key level t;
-      reference = reference_of (bytes_of version level t);
-      count = pair_count level t;
-    })
-    (record {
-      key = last_key_short (pairs_below level t) lawful;
-      reference = reference_length (bytes_of version level t);
-    })) ts (all_below level ts h)
+    ap (children_in version) (entries_are version level ts) ∙
+    children_read version (map (child_below version level) ts) (all_children version level ts h) ∙
+    map-map (as_read version) (child_below version level) ts
 
 pub own_pairs : (leaf : List Pair) → AllByRecursion IsPair leaf →
     pairs_in (flat_map pair_spelling leaf) ≡ leaf
@@ -195,16 +167,6 @@ module _ (version : Version) (level : ℕ) where
   tops_rise (t ∷ ts) full h = grind (arith, rises, tops_from, above_last, rises_back)
 
 -- ---- the entries of a top
-
-top_is_whole : (version : Version) (level : ℕ) (t : Tree level) →
-    AllByRecursion IsPair (pairs_below level t) → IsWhole version (bytes_of version level t)
-top_is_whole version zero leaf h = (tree_holds version 0 leaf h).whole.0
-top_is_whole version (suc level) ts h =
-    let below = flat_map (post_order version level) ts in
-    (all_back (IsWhole version) (bytes_in below) (bytes_of version (suc level) ts ∷ [])
-    (subst (AllByRecursion (IsWhole version))
-    (bytes_append below (chunk_of version (suc level) ts ∷ []))
-    (tree_holds version (suc level) ts h).whole)).0
 
 module _ (version : Version) (chunks : List (List ℕ)) where
   read_so : (level : ℕ) (t : Tree level) → IsTreeOf version chunks level t →

@@ -2,23 +2,23 @@
 use mathlib.Core.List.{cons≢nil}
 use Rattle.std.proofs.Common.{rules, ◌≡◌, ℕ, zero, suc, ◌+◌, ◌<◌, false, cond, List, [], ◌∷◌, ◌++◌}
 use Rattle.std.proofs.Common.{length, None, Ordering, refl, sym, ap, ◌∙◌, subst, arith, ◌≤◌, Bool}
-use Rattle.std.proofs.Common.{true, not, take, drop, inl, inr, ◌⊎◌, append_assoc, append-nil}
-use Rattle.std.specs.List.{flat_map, slice_get, AllByRecursion}
+use Rattle.std.proofs.Common.{true, not, take, inl, inr, ◌⊎◌, append_assoc, append-nil}
+use Rattle.std.specs.List.{slice_get, AllByRecursion}
 use Rattle.std.specs.Ordering.{is_lt, nat_cmp, ordering_reverse, ordering_then}
 use Rattle.std.specs.declared.cmp.Ordering.TheVariants.{Less, Equal, Greater}
-use Rattle.std.proofs.lemmas.Bool.{false≢true}
+use Rattle.std.proofs.lemmas.Bool.{cases_Bool, cond_both, false≢true}
 use Rattle.std.proofs.lemmas.Cmp.{nat_cmp_total}
+use Rattle.std.proofs.lemmas.Grind.{common_steps}
 use Rattle.std.proofs.lemmas.List.Elements.{filter-append}
 use Rattle.prolly_entry.specs.Keys.{key_order, KeyBelow, Rising, RisingFrom}
 use Rattle.prolly_entry.specs.Pair.{Pair}
 use Rattle.prolly_entry.specs.lemmas.Lists.{all_append, all_back}
 use Rattle.prolly_entry.specs.lemmas.Orders.{order_trans, order_same, greater_below, below_greater}
 use Rattle.prolly_tree.specs.LookUp.{find}
-use Rattle.prolly_tree.specs.Tree.{Tree, pairs_below, greatest_key, last_key}
+use Rattle.prolly_tree.specs.Tree.{last_key}
 use Rattle.prolly_tree.specs.lemmas.Maps.{Above, Rises, rises_front, rises_back, above_more}
 use Rattle.prolly_tree.specs.lemmas.Maps.{find_above}
 use Rattle.prolly_file.specs.Scratch.{keys_in}
-use Rattle.prolly_check.specs.Held.{pairs_held}
 use Rattle.prolly_check.specs.Leaves.{pairs_from}
 use Rattle.prolly_check.specs.ScanWay.{next_key, AreFirstFrom}
 use Rattle.prolly_check.proofs.RisingKeys.{is_less}
@@ -30,18 +30,6 @@ pub all_below : (ps : List Pair) (key : List ℕ) → Rises ps → KeyBelow (las
 all_below [] key h k = tt
 all_below (p ∷ []) key h k = (k, tt)
 all_below (p ∷ q ∷ ps) key h k = search (rules, order_trans, all_below (q ∷ ps) key h.1 k)
-
--- where the greatest keys of trees are below a key, all keys below them are
-pub trees_below : (level : ℕ) (ts : List (Tree level)) (key : List ℕ) →
-    Rises (flat_map (pairs_below level) ts) →
-    AllByRecursion (λ u. KeyBelow (greatest_key level u) key) ts →
-    AllByRecursion (λ p. KeyBelow p.key key) (flat_map (pairs_below level) ts)
-trees_below level [] key h k = tt
-trees_below level (t ∷ ts) key h k =
-    let own = pairs_below level t in
-    let rest = flat_map (pairs_below level) ts in
-    all_append (λ p. KeyBelow p.key key) own rest (all_below own key (rises_front own rest h) k.0)
-    (trees_below level ts key (rises_back own rest h) k.1)
 
 pub find_over : (xs ys : List Pair) (key : List ℕ) → AllByRecursion (λ p. KeyBelow p.key key) xs →
     find (xs ++ ys) key ≡ find ys key
@@ -77,12 +65,12 @@ rising_is (p ∷ ps) h = from_rises p ps h.0 h.1
 
 -- ---- places
 
-pub nth_front : (xs ys : List Pair) (n : ℕ) → n < length xs → slice_get (xs ++ ys) n ≡ slice_get xs n
+pub nth_front : {A : Type 0} (xs ys : List A) (n : ℕ) → n < length xs → slice_get (xs ++ ys) n ≡ slice_get xs n
 nth_front [] ys n h = absurd (omega arith)
 nth_front (x ∷ xs) ys zero h = refl
 nth_front (x ∷ xs) ys (suc n) h = search (rules, nth_front xs ys n (omega arith))
 
-pub nth_back : (xs ys : List Pair) (n : ℕ) → slice_get (xs ++ ys) (length xs + n) ≡ slice_get ys n
+pub nth_back : {A : Type 0} (xs ys : List A) (n : ℕ) → slice_get (xs ++ ys) (length xs + n) ≡ slice_get ys n
 nth_back [] ys n = let e : 0 + n ≡ n = omega arith in rw e refl
 nth_back (x ∷ xs) ys n = search (rules, nth_back xs ys n)
 
@@ -104,13 +92,10 @@ pub some_from : (from : List ℕ) (ps : List Pair) → 0 < length ps →
     is_lt (key_order (last_key ps) from) ≡ false → pairs_from from ps ≡ [] → ⊥
 some_from from [] some h e = absurd (omega arith)
 some_from from (p ∷ []) some h e = grind arith
-some_from from (p ∷ q ∷ ps) some h e = go (not (is_lt (key_order p.key from)))
-    (λ f. some_from from (q ∷ ps) (omega arith) h f) e
-  where
-    go : (b : Bool) → (pairs_from from (q ∷ ps) ≡ [] → ⊥) →
-        cond b (p ∷ pairs_from from (q ∷ ps)) (pairs_from from (q ∷ ps)) ≡ [] → ⊥
-    go true more f = cons≢nil f
-    go false more f = more f
+some_from from (p ∷ q ∷ ps) some h e =
+    let rest = pairs_from from (q ∷ ps) in
+    cond_both (not (is_lt (key_order p.key from))) (p ∷ rest) rest (λ found. found ≡ [] → ⊥)
+    (λ here f. cons≢nil f) (λ past f. some_from from (q ∷ ps) (omega arith) h f) e
 
 -- ---- in a map
 
@@ -124,23 +109,11 @@ pub from_first : (key : List ℕ) (p : Pair) (ps : List Pair) → Rises (p ∷ p
     is_lt (key_order p.key key) ≡ false → pairs_from key (p ∷ ps) ≡ p ∷ ps
 from_first key p ps h here = grind (arith, from_all, above_not)
 
--- a pair below the key is passed over
-pub from_second : (key : List ℕ) (p : Pair) (ps : List Pair) →
-    is_lt (key_order p.key key) ≡ true → pairs_from key (p ∷ ps) ≡ pairs_from key ps
-from_second key p ps past = search rules
-
--- behind pairs of a map of which one is from the key on, all are
-pub from_behind : (key : List ℕ) (ps qs : List Pair) → Rises (ps ++ qs) →
-    (pairs_from key ps ≡ [] → ⊥) → pairs_from key qs ≡ qs
-from_behind key [] qs h some = absurd (some refl)
-from_behind key (p ∷ ps) qs h some = go (from_behind key ps qs h.1)
-    (is_lt (key_order p.key key)) refl
-  where
-    go : ((pairs_from key ps ≡ [] → ⊥) → pairs_from key qs ≡ qs) → (b : Bool) →
-        is_lt (key_order p.key key) ≡ b → pairs_from key qs ≡ qs
-    go behind true past = behind (λ none. some (from_second key p ps past ∙ none))
-    go behind false here = from_all key qs (above_not p.key key qs here
-        (all_back (λ q. KeyBelow p.key q.key) ps qs h.0))
+-- those from a key on are all from it on
+pub from_again : (key : List ℕ) (ps : List Pair) →
+    pairs_from key (pairs_from key ps) ≡ pairs_from key ps
+from_again key [] = refl
+from_again key (p ∷ ps) = grind (arith, from_again key ps)
 
 -- what holds of all pairs holds of those from a key on
 pub all_from : (P : Pair → Type 0) (key : List ℕ) (ps : List Pair) → AllByRecursion P ps →
@@ -160,14 +133,13 @@ pub record LeafScan (from : List ℕ) (limit : ℕ) (old leaf pairs rest : List 
   pub within : length pairs ≤ limit
   pub same : take limit (old ++ pairs_from from leaf) ≡ take limit (pairs ++ pairs_from from rest)
 
--- ---- over chunks
-
--- of these chunks those from the number on are left, and the scan has come to them with these pairs
-pub record ChunkScan (chunks : List (List ℕ)) (from : List ℕ) (limit first : ℕ) (pairs : List Pair)
-    (number : ℕ) : Type 0 where
-  pub within : length pairs ≤ limit
-  pub same : take limit (pairs_from from (flat_map pairs_held (drop first chunks))) ≡
-      take limit (pairs ++ pairs_from from (flat_map pairs_held (drop number chunks)))
+-- the scan has come behind a part of the rest
+pub leaf_scanned : (from : List ℕ) (limit : ℕ) (old leaf pairs rest : List Pair) →
+    LeafScan from limit old leaf pairs rest → (part more : List Pair) → rest ≡ part ++ more →
+    (new : List Pair) → new ≡ take limit (pairs ++ pairs_from from part) →
+    LeafScan from limit old leaf new more
+leaf_scanned from limit old leaf pairs rest s part more e new is =
+    grind (arith, common_steps, pairs_from-append)
 
 -- ---- the least key above another
 
@@ -295,13 +267,12 @@ pub above_some : (key : List ℕ) (ps after : List Pair) → Rises (ps ++ after)
     (pairs_from key ps ≡ [] → ⊥) → Above key after
 above_some key [] after r some = absurd (some refl)
 above_some key (p ∷ ps) after r some =
-    go (is_lt (key_order p.key key)) refl (above_some key ps after r.1) some
-  where
-    go : (b : Bool) → is_lt (key_order p.key key) ≡ b →
-        ((pairs_from key ps ≡ [] → ⊥) → Above key after) →
-        (cond (not b) (p ∷ pairs_from key ps) (pairs_from key ps) ≡ [] → ⊥) → Above key after
-    go true e more some = more some
-    go false e more some = above_not p.key key after e (above_back p.key ps after r.0)
+    let rest = pairs_from key ps in
+    elim (cases_Bool (is_lt (key_order p.key key))) [
+      | inl past ↦ above_some key ps after r.1
+          (λ none. some (ap (λ b. cond (not b) (p ∷ rest) rest) past ∙ none))
+      | inr here ↦ above_not p.key key after here (above_back p.key ps after r.0)
+    ]
 
 module _ (key : List ℕ) (m before pairs after : List Pair) (r : Rises m)
     (are : m ≡ before ++ (pairs ++ after))

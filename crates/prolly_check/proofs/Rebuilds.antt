@@ -223,7 +223,19 @@ leaf_below cut version closing pairs sent last e = search (rules, all_back, leav
 
 -- ---- an event on its way
 
+-- none is no event
+pub none_passes : (chunks : List (List ℕ)) (levels : List (NodeState ℕ)) (references : List Ref) →
+    Passes chunks levels levels None references references (Ok tt)
+none_passes chunks levels references bits version level events below behind first =
+    rw (append-nil events) (record { behind = behind; compared = first })
+
 module _ (chunks : List (List ℕ)) (old mid : List Ref) (event : Chunk) where
+  -- no level is left
+  pub top_passes : {A : Type 0} (reference : A) → IsExpected chunks old mid event (Ok reference) →
+      Passes chunks [] [] (Some event) old mid (Ok tt)
+  top_passes reference there bits version level events below behind first =
+      record { behind = tt; compared = there events first }
+
   -- the file has another chunk in its place
   pub is_refused : (A : Type 0) (levels : List (NodeState ℕ)) (fault : CheckFault) →
       IsExpected {A = A} chunks old mid event (Err fault) →

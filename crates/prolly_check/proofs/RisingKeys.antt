@@ -1,6 +1,7 @@
 -- Reading keys one after another, those of a chunk and those of a file.
 use Rattle.std.proofs.Common.{◌≡◌, ℕ, Bool, true, false, ◌&&◌, List, [], ◌∷◌, ◌++◌, drop, map}
-use Rattle.std.proofs.Common.{Option, Some, None, refl, arith, ◌↔◌, Ordering}
+use Rattle.std.proofs.Common.{Option, Some, None, Result, Ok, Err, IfOk, refl, arith, ◌↔◌, Ordering}
+use Rattle.std.specs.Prelude.{IsTrue, OnErr, is_ok}
 use Rattle.std.specs.Ordering.{is_lt}
 use Rattle.std.specs.declared.cmp.Ordering.TheVariants.{Less, Equal, Greater}
 use Rattle.std.proofs.lemmas.Bool.{false≢true}
@@ -9,7 +10,7 @@ use Rattle.prolly_entry.specs.Keys.{Rising, RisingFrom}
 use Rattle.prolly_entry.specs.Pair.{Pair}
 use Rattle.prolly_entry.specs.Position.{Position}
 use Rattle.prolly_check.specs.Held.{pairs_held}
-use Rattle.prolly_check.specs.Judged.{order_fault, rises_behind, last_behind}
+use Rattle.prolly_check.specs.Judged.{RisesTo, order_fault, rises_behind, last_behind}
 
 -- ---- pairs behind pairs
 
@@ -43,6 +44,13 @@ pub record LeafRises (first : Option (List ℕ)) (leaf : List Pair) (last : Opti
     (rest : List Pair) : Type 0 where
   pub rises : rises_behind first leaf ≡ rises_behind last rest
   pub last_is : last_behind first leaf ≡ last_behind last rest
+
+-- who has read its keys tells whether they rise
+pub read_rises : {A E : Type 0} (read : Result A E) (last : A → Position) (ps : List Pair) →
+    IfOk read (λ new. RisesTo None ps (last new)) → OnErr read (rises_behind None ps ≡ false) →
+    IsTrue (is_ok read) ↔ Rising (map (λ p. p.key) ps)
+read_rises (Ok new) last ps ok err = grind (arith, rising_is)
+read_rises (Err fault) last ps ok err = grind (arith, rising_is)
 
 -- ---- over chunks
 

@@ -2,23 +2,25 @@
 use Rattle.std.proofs.Common.{rules, ◌≡◌, ℕ, ◌+◌, ◌<◌, ◌≤◌, Bool, true, false, cond, List, [], ◌∷◌}
 use Rattle.std.proofs.Common.{◌++◌, length, take, drop, get_or, Option, Some, None, sym, ap, ◌∙◌}
 use Rattle.std.proofs.Common.{subst, arith, not, zero, suc, ◌-◌, ◌/◌, nat_lt, nat_le, map, refl}
-use Rattle.std.proofs.Common.{length-drop, inl, inr, ◌⊎◌}
+use Rattle.std.proofs.Common.{length-drop, inl, inr, ◌⊎◌, append-nil}
 use Rattle.std.specs.List.{flat_map, count_by, filter, slice_get, AllByRecursion}
 use Rattle.std.specs.List.Sorted.{IsPermutation, IsNonDecreasing}
 use Rattle.std.specs.Prelude.{MatchOption, is_some, sum, ◌==◌}
 use Rattle.std.specs.Str.{bytes_eq}
 use Rattle.std.proofs.lemmas.Bool.{false_from_ne_true, le-leb, le-ltb, cases_lt}
+use Rattle.std.proofs.lemmas.Bool.Decides.{Decides-eqb}
 use Rattle.std.proofs.lemmas.Grind.{common_steps, flat_map-append, get_or_default_zero}
 use Rattle.std.proofs.lemmas.List.{get_or_default, length-append, take-append-drop, get_or-drop}
-use Rattle.std.proofs.lemmas.List.{length-map, length-take-le, get_or_append_left, get_or_push}
+use Rattle.std.proofs.lemmas.List.{length-map, length-take-le}
+use Rattle.std.proofs.lemmas.List.{map-append, take_more}
 use Rattle.std.proofs.lemmas.List.Concat.{length-flat_map}
-use Rattle.std.proofs.lemmas.List.Elements.{filter-append}
+use Rattle.std.proofs.lemmas.List.Elements.{filter-append, filter_more}
 use Rattle.std.proofs.lemmas.List.Folds.{Any-from_list_any, list_any_at}
 use Rattle.std.proofs.lemmas.List.Sorted.{IsPermutation-filter_both, length_permutation}
 use Rattle.std.proofs.lemmas.List.Sorted.{sum_by-IsPermutation}
 use Rattle.std.proofs.lemmas.List.Sums.{count_by-le-length, count_by_more_yes, sum-map}
 use Rattle.std.proofs.lemmas.List.Sums.{sum_by-append, sum_by-le, sum_by-take-drop, sum_by-take-le}
-use Rattle.std.proofs.lemmas.Option.{get_or_from_slice_get, slice_get-get_or, slice_get_within}
+use Rattle.std.proofs.lemmas.Option.{slice_get_within}
 use Rattle.std.proofs.lemmas.Slice.Eq.{bytes_eq-Decides}
 use Rattle.prolly_entry.specs.Cut.{sha512_cut}
 use Rattle.prolly_entry.specs.Pair.{Pair}
@@ -35,11 +37,13 @@ use Rattle.prolly_check.specs.Numbers.{IsAtPlace, IsLevel, at_level, AreLevels, 
 use Rattle.prolly_check.specs.Numbers.{has_reference, lacking, size_of}
 use Rattle.prolly_check.specs.Way.{level_of}
 use Rattle.prolly_check.specs.declared.index.Index.{Index}
-use Rattle.prolly_check.specs.declared.numbers.count.Level.{Level}
-use Rattle.prolly_check.specs.declared.numbers.count.Missing.{Missing}
+use Rattle.prolly_check.specs.declared.numbers.Level.{Level}
+use Rattle.prolly_check.specs.declared.numbers.Missing.{Missing}
 use Rattle.prolly_check.proofs.CheckedFile.{chunks_last}
 use Rattle.prolly_check.proofs.HeldPairs.{bytes_append, bytes_in}
+use Rattle.prolly_check.proofs.Chosen.{one_same}
 use Rattle.prolly_check.proofs.MapTree.{height_is}
+use Rattle.prolly_check.proofs.PairsFrom.{nth_back, nth_front}
 
 -- ---- whether a reference is there
 
@@ -73,45 +77,66 @@ abbrev pub Tells : Index → List ℕ → Bool → Type 0
 Tells index reference there = (others : List (List ℕ)) → IsIndex index others →
     has_reference others reference ≡ there
 
+-- so many bytes one chunk more has
+size_push : (chunks : List (List ℕ)) (chunk : List ℕ) →
+    size_of (chunks ++ chunk ∷ []) ≡ size_of chunks + length chunk
+size_push chunks chunk = ap length (flat_map-append (λ c. c) chunks (chunk ∷ [])) ∙
+    length-append (flat_map (λ c. c) chunks) (chunk ++ []) ∙
+    ap (λ bytes. size_of chunks + length bytes) (append-nil chunk)
+
 -- the first n + 1 are the first n, and one
 module _ (chunks : List (List ℕ)) (n : ℕ) (h : n < length chunks) where
   abbrev chunk : List ℕ
   chunk = get_or chunks n []
 
   pub size_more : size_of (take (n + 1) chunks) ≡ size_of (take n chunks) + length chunk
-  size_more = grind (arith, common_steps)
+  size_more = ap size_of (take_more chunks n [] h) ∙ size_push (take n chunks) chunk
 
   module _ (others : List (List ℕ)) where
-    parted : lacking others (take (n + 1) chunks) ≡ lacking others (take n chunks) ++
-        lacking others (chunk ∷ [])
-    parted = grind (arith, common_steps)
+    more : lacking others (take (n + 1) chunks) ≡ lacking others (take n chunks) ++
+        cond (not (has_reference others (reference_of chunk))) (chunk ∷ []) []
+    more = filter_more (λ c. not (has_reference others (reference_of c))) chunks n [] h
 
-    last : (b : Bool) → has_reference others (reference_of chunk) ≡ b →
-        lacking others (chunk ∷ []) ≡ cond b [] (chunk ∷ [])
-    last true e = ap (λ b. cond (not b) (chunk ∷ []) []) e
-    last false e = ap (λ b. cond (not b) (chunk ∷ []) []) e
+    abbrev before : List (List ℕ)
+    before = lacking others (take n chunks)
 
     pub had : has_reference others (reference_of chunk) ≡ true →
-        lacking others (take (n + 1) chunks) ≡ lacking others (take n chunks)
-    had e = search (rules, parted)
+        lacking others (take (n + 1) chunks) ≡ before
+    had e = more ∙ ap (λ b. before ++ cond (not b) (chunk ∷ []) []) e ∙ append-nil before
 
     pub lacked : has_reference others (reference_of chunk) ≡ false →
-        lacking others (take (n + 1) chunks) ≡ lacking others (take n chunks) ++ chunk ∷ []
-    lacked e = parted ∙ ap (λ cs. lacking others (take n chunks) ++ cs) (last false e)
+        lacking others (take (n + 1) chunks) ≡ before ++ chunk ∷ []
+    lacked e = more ∙ ap (λ b. before ++ cond (not b) (chunk ∷ []) []) e
 
 -- one that is had is passed over
 pub passed : (index : Index) (chunks : List (List ℕ)) (n : ℕ) (missing : Missing) →
     n < length chunks → Tells index (reference_of (get_or chunks n [])) true →
     CountedTo index chunks n missing → CountedTo index chunks (n + 1) missing
-passed index chunks n missing h e c = grind (arith, size_more, had)
+passed index chunks n missing h e c = record {
+  so = λ others is. subst (λ cs. AreSo cs missing) (sym (had chunks n h others (e others is)))
+      (c.so others is);
+  few = let few = c.few in omega arith;
+  small = let small = c.small in omega (arith, size_more chunks n h);
+}
 
 -- one that is lacked is counted
 pub counted : (index : Index) (chunks : List (List ℕ)) (n : ℕ) (missing new : Missing) →
     n < length chunks → Tells index (reference_of (get_or chunks n [])) false →
     new.chunks ≡ missing.chunks + 1 → new.bytes ≡ missing.bytes + length (get_or chunks n []) →
     CountedTo index chunks n missing → CountedTo index chunks (n + 1) new
-counted index chunks n missing new h e chunks_are bytes_are c =
-    search (rules, size_more, lacked, length-append, get_or, flat_map-append)
+counted index chunks n missing new h e chunks_are bytes_are c = record {
+  so = λ others is.
+      let before = lacking others (take n chunks) in
+      let chunk = get_or chunks n [] in
+      subst (λ cs. AreSo cs new) (sym (lacked chunks n h others (e others is))) (record {
+        chunks_are = chunks_are ∙ ap (λ n. n + 1) (c.so others is).chunks_are ∙
+            sym (length-append before (chunk ∷ []));
+        bytes_are = bytes_are ∙ ap (λ n. n + length chunk) (c.so others is).bytes_are ∙
+            sym (size_push before chunk);
+      });
+  few = let few = c.few in omega (arith, chunks_are);
+  small = let small = c.small in omega (arith, bytes_are, size_more chunks n h);
+}
 
 -- the first n are not more than all
 pub size_up_to : (chunks : List (List ℕ)) (n : ℕ) → size_of (take n chunks) ≤ size_of chunks
@@ -120,6 +145,29 @@ size_up_to chunks n =
     ap length (flat_map-append (λ c. c) (take n chunks) (drop n chunks)) ∙
     length-append (flat_map (λ c. c) (take n chunks)) (flat_map (λ c. c) (drop n chunks)) in
     omega arith
+
+-- so are the sizes of those of a level
+module _ (level : ℕ) (chunks : List (List ℕ)) (n : ℕ) (h : n < length chunks) (sizes : List ℕ)
+    (are : sizes ≡ map length (at_level level (take n chunks))) where
+  more_sizes : (b : Bool) → (level_of (get_or chunks n []) == level) ≡ b →
+      map length (at_level level (take (n + 1) chunks)) ≡
+      sizes ++ map length (cond b (get_or chunks n [] ∷ []) [])
+  more_sizes b e =
+      let before = at_level level (take n chunks) in
+      let chunk = get_or chunks n [] in
+      ap (map length) (filter_more (λ c. level_of c == level) chunks n [] h ∙
+      ap (λ b. before ++ cond b (chunk ∷ []) []) e) ∙
+      map-append length before (cond b (chunk ∷ []) []) ∙
+      ap (λ sizes. sizes ++ map length (cond b (chunk ∷ []) [])) (sym are)
+
+  pub size_added : level_of (get_or chunks n []) ≡ level →
+      map length (at_level level (take (n + 1) chunks)) ≡ sizes ++ length (get_or chunks n []) ∷ []
+  size_added e = more_sizes true ((Decides-eqb (level_of (get_or chunks n [])) level).1 e)
+
+  pub size_left_out : (level_of (get_or chunks n []) ≡ level → ⊥) →
+      map length (at_level level (take (n + 1) chunks)) ≡ sizes
+  size_left_out other = more_sizes false (false_from_ne_true (level_of (get_or chunks n []) == level)
+      (λ t. other ((Decides-eqb (level_of (get_or chunks n [])) level).0 t))) ∙ append-nil sizes
 
 -- ---- the places of sizes that were sorted
 
@@ -195,7 +243,20 @@ pub is_level : (chunks : List (List ℕ)) (sorted : List ℕ) (level : Level) �
     level.middle ≡ get_or sorted (length sorted / 2) level.middle →
     level.greatest ≡ get_or sorted (length sorted - 1) level.greatest → IsLevel chunks level
 is_level chunks sorted level moved rises some number bytes least middle greatest =
-    search (rules, length_permutation, length-map, sizes_sum, at_place)
+    let sizes = map length chunks in
+    let count : length chunks ≡ length sorted =
+    sym (length-map chunks length) ∙ sym (length_permutation sizes sorted moved) in
+    let at = at_place sizes sorted moved rises in
+    record {
+      some = omega arith;
+      chunks_are = number ∙ sym count;
+      bytes_are = bytes ∙ sizes_sum chunks;
+      least_is = at 0 level.least some least;
+      middle_is = subst (λ n. IsAtPlace sizes (n / 2) level.middle) (sym count)
+          (at (length sorted / 2) level.middle (omega arith) middle);
+      greatest_is = subst (λ n. IsAtPlace sizes (n - 1) level.greatest) (sym count)
+          (at (length sorted - 1) level.greatest (omega arith) greatest);
+    }
 
 -- ---- no level is empty
 
@@ -277,7 +338,18 @@ pub record IsTower (chunks : List (List ℕ)) (top : ℕ) : Type 0 where
 -- so they stand, up to the level of the last
 pub is_tower : (chunks : List (List ℕ)) (root top : ℕ) → AreOfMap chunks →
     root ≡ length chunks - 1 → top ≡ level_of (get_or chunks root []) → IsTower chunks top
-is_tower chunks root top m last level = search (rules, chunks_last, height_is, map_has, tree_within)
+is_tower chunks root top m last level =
+    let content = m.content in
+    let tree = tree_of (sha512_cut content.bits) content.version content.pairs in
+    let height : top ≡ tree.level = level ∙ ap (λ n. level_of (get_or chunks n [])) last ∙
+    ap (λ cs. level_of (get_or cs (length cs - 1) [])) m.are ∙
+    ap level_of (chunks_last content.version content.bits content.pairs) ∙
+    height_is content.version tree.level tree.tree in
+    subst (λ cs. IsTower cs top) (sym m.are) (record {
+      some = λ number h. map_has content.version content.bits content.pairs number
+          (omega (arith, height, h));
+      all = tree_within content.version top tree.level (omega (arith, height)) tree.tree;
+    })
 
 -- ---- level by level
 
@@ -298,17 +370,17 @@ one_more chunks number levels new level e a is =
   where
     at : (k : ℕ) (found : Level) → slice_get (levels ++ level ∷ []) k ≡ Some found →
         (k < length levels) ⊎ (length levels ≤ k) → IsLevel (at_level k chunks) found
-    at k found e (inl within) = a.are k found (slice_get-get_or levels k found within ∙
-        ap Some (sym (get_or_append_left levels (level ∷ []) found k within) ∙
-        get_or_from_slice_get (levels ++ level ∷ []) k found found e))
+    at k found e (inl within) =
+        a.are k found (sym (nth_front levels (level ∷ []) k within) ∙ e)
     at k found e (inr past) =
         let within = slice_get_within (levels ++ level ∷ []) k found e in
-        let size = length-append levels (level ∷ []) in
-        let last : length levels ≡ k = omega arith in
-        subst (λ n. IsLevel (at_level n chunks) found) (sym a.count ∙ last)
-        (subst (IsLevel (at_level number chunks))
-        (sym (get_or_push levels level found k last) ∙
-        get_or_from_slice_get (levels ++ level ∷ []) k found found e) is)
+        let last : k ≡ length levels + 0 =
+        omega (arith, length-append levels (level ∷ [])) in
+        let same : Some level ≡ Some found = sym (nth_back levels (level ∷ []) 0) ∙
+        ap (slice_get (levels ++ level ∷ [])) (sym last) ∙ e in
+        let here : number ≡ k = omega (arith, a.count) in
+        subst (λ n. IsLevel (at_level n chunks) found) here
+        (subst (IsLevel (at_level number chunks)) (one_same level found same) is)
 
 pub all_levels : (chunks : List (List ℕ)) (top : ℕ) (levels : List Level) → IsTower chunks top →
     AreUpTo chunks (top + 1) levels → AreLevels chunks levels

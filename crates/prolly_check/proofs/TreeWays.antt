@@ -1,10 +1,10 @@
 -- The ways of look-ups down a tree, for who knows the root alone.
 use Rattle.std.proofs.Common.{rules, ◌≡◌, ℕ, inl, inr, ◌⊎◌, List, [], ◌∷◌, ◌++◌, refl, sym, ap, ◌∙◌}
-use Rattle.std.proofs.Common.{subst, arith, append_assoc, append-nil, zero, suc, true, false, Bool}
+use Rattle.std.proofs.Common.{subst, arith, append_assoc, append-nil, zero, suc}
 use Rattle.std.specs.List.{AllByRecursion, flat_map}
 use Rattle.std.specs.Prelude.{option_map}
 use Rattle.std.specs.Str.{bytes_eq}
-use Rattle.std.proofs.lemmas.Bool.{false≢true}
+use Rattle.std.proofs.lemmas.Bool.{cases_Bool, false≢true}
 use Rattle.std.proofs.lemmas.Grind.{common_steps}
 use Rattle.std.proofs.lemmas.List.{length-append}
 use Rattle.std.proofs.lemmas.List.Concat.{flat_map-append}
@@ -36,7 +36,7 @@ use Rattle.prolly_check.specs.Sought.Sought.{Key, Number}
 use Rattle.prolly_check.specs.Way.{nth_sought, Clash, CountWaysAreRight, IsNamed, IsWayTo, Lead}
 use Rattle.prolly_check.specs.Way.{WaysAreRight}
 use Rattle.prolly_check.proofs.Chosen.{AllPast, CanCount, ChosenIn, Has, IsPast, chosen}
-use Rattle.prolly_check.proofs.Chosen.{none_chosen}
+use Rattle.prolly_check.proofs.Chosen.{none_chosen, past_more, past_none}
 use Rattle.prolly_check.proofs.MapTree.{child_is, root_is, children_are, own_pairs}
 use Rattle.prolly_check.proofs.PairsFrom.{find_in_part, first_in_part, find_over, nth_back}
 use Rattle.prolly_check.proofs.PairsFrom.{nth_front, none_from}
@@ -60,10 +60,6 @@ Tells (Number n) m there pairs = nth_sought there pairs ≡ nth m n
 
 -- ---- at the top
 
-past_none : (sought : Sought) → IsPast sought [] sought
-past_none (Key key) = (tt, refl)
-past_none (Number n) = omega arith
-
 pub stands_in_all : (sought : Sought) (m pairs : List Pair) → pairs ≡ m →
     StandsIn sought m sought pairs
 stands_in_all sought m pairs same = record {
@@ -75,15 +71,6 @@ stands_in_all sought m pairs same = record {
 }
 
 -- ---- one level down
-
-past_more : (sought there next : Sought) (xs ys : List Pair) → IsPast sought xs there →
-    IsPast there ys next → IsPast sought (xs ++ ys) next
-past_more (Key key) (Key same) (Key other) xs ys h k = grind (arith, all_append)
-past_more (Key key) (Key same) (Number n) xs ys h k = absurd k
-past_more (Key key) (Number n) next xs ys h k = absurd h
-past_more (Number n) (Key key) next xs ys h k = absurd h
-past_more (Number n) (Number k) (Key key) xs ys h l = absurd l
-past_more (Number n) (Number k) (Number i) xs ys h l = omega (arith, h, l, length-append xs ys)
 
 can_more : (version : Version) (there next : Sought) (pre own rest : List Pair) →
     CanCount version there (pre ++ (own ++ rest)) → IsPast there pre next →
@@ -141,19 +128,18 @@ module _ (version : Version) (cs : List (List ℕ)) where
       reference_of chunk ≡ reference_of (bytes_of version level t) →
       (chunk ≡ bytes_of version level t) ⊎ Clash chunks cs
   top_or_clash level t chunk chunks has is_in same =
-      tell (bytes_eq chunk (bytes_of version level t)) refl
-    where
-      tell : (e : Bool) → bytes_eq chunk (bytes_of version level t) ≡ e →
-          (chunk ≡ bytes_of version level t) ⊎ Clash chunks cs
-      tell true e = inl ((bytes_eq-Decides chunk (bytes_of version level t)).0 e)
-      tell false e = inr (record {
-        one = chunk;
-        other = bytes_of version level t;
-        in_one = is_in;
-        in_other = has (chunk_of version level t) (top_in version level t);
-        differ = λ f. false≢true (sym e ∙ (bytes_eq-Decides chunk (bytes_of version level t)).1 f);
-        same = same;
-      })
+      let top = bytes_of version level t in
+      elim (cases_Bool (bytes_eq chunk top)) [
+        | inl e ↦ inl ((bytes_eq-Decides chunk top).0 e)
+        | inr e ↦ inr (record {
+          one = chunk;
+          other = top;
+          in_one = is_in;
+          in_other = has (chunk_of version level t) (top_in version level t);
+          differ = λ f. false≢true (sym e ∙ (bytes_eq-Decides chunk top).1 f);
+          same = same;
+        })
+      ]
 
   lifted : (chunk : List ℕ) (chunks : List (List ℕ)) → Clash chunks cs → Clash (chunk ∷ chunks) cs
   lifted chunk chunks c = grind arith
@@ -178,7 +164,8 @@ module _ (version : Version) (cs : List (List ℕ)) where
         next → GoesTo next reference level
     goes_to there next reference zero leaf at on = absurd on
     goes_to there next reference (suc level) ts at on =
-        let c = chosen version cs level ts at.of there next reference at.can
+        let c = chosen version level ts there next reference
+        (rises (pairs_below (suc level) ts) at.of.rising) at.of.full at.can
         (ap (λ cs. option_map reference_and_sought (child_sought there cs))
         (sym (children_are version level ts at.of.lawful)) ∙ on) in
         record {
@@ -201,7 +188,7 @@ module _ (version : Version) (cs : List (List ℕ)) where
     tells_end rising there zero leaf at ends = search (rules, own_pairs, tells_leaf)
     tells_end rising there (suc level) ts at ends =
         tells_none sought there m (pairs_below (suc level) ts) at.stands
-        (none_chosen version cs level ts at.of there at.can
+        (none_chosen version level ts there (rises (pairs_below (suc level) ts) at.of.rising) at.can
         (ap (child_sought there) (sym (children_are version level ts at.of.lawful)) ∙ ends))
 
     -- what is found at the end of a way is what the map has, or there is a clash
@@ -214,36 +201,28 @@ module _ (version : Version) (cs : List (List ℕ)) where
         Lead version there from before reference end → IsNamed version reference last →
         EndsAt end (kind_of version last) → Right end (before ++ last ∷ []) (pairs_held last)
     right rising [] last reference from there end level t is at lead named ends =
-        at_last (top_or_clash level t last (last ∷ []) at.of.has (inl refl)
-        (named.is ∙ sym lead.0 ∙ is))
-      where
-        at_last : (last ≡ bytes_of version level t) ⊎ Clash (last ∷ []) cs →
-            Right end (last ∷ []) (pairs_held last)
-        at_last (inl e) = inl (subst (λ c. Tells sought m end (pairs_held c)) (sym e)
-            (subst (λ s. Tells sought m s (pairs_held (bytes_of version level t))) lead.1
-            (tells_end rising there level t at
-            (subst (λ s. EndsAt s (kind_of version (bytes_of version level t))) (sym lead.1)
-            (subst (λ c. EndsAt end (kind_of version c)) e ends)))))
-        at_last (inr clash) = inr clash
+        elim (top_or_clash level t last (last ∷ []) at.of.has (inl refl)
+        (named.is ∙ sym lead.0 ∙ is)) [
+          | inl e ↦ inl (subst (λ c. Tells sought m end (pairs_held c)) (sym e)
+              (subst (λ s. Tells sought m s (pairs_held (bytes_of version level t))) lead.1
+              (tells_end rising there level t at
+              (subst (λ s. EndsAt s (kind_of version (bytes_of version level t))) (sym lead.1)
+              (subst (λ c. EndsAt end (kind_of version c)) e ends)))))
+          | inr clash ↦ inr clash
+        ]
     right rising (chunk ∷ before) last reference from there end level t is at lead named ends =
-        at_first (λ level t is at. right rising before last reference lead.1 lead.2 end level t is
-        at lead.4 named ends) (top_or_clash level t chunk (chunk ∷ (before ++ last ∷ [])) at.of.has
-        (inl refl) (lead.0.is ∙ is))
-      where
-        onward : Right end (before ++ last ∷ []) (pairs_held last) →
-            Right end (chunk ∷ (before ++ last ∷ [])) (pairs_held last)
-        onward (inl tells) = inl tells
-        onward (inr clash) = inr (lifted chunk (before ++ last ∷ []) clash)
-
-        at_first : ((level : ℕ) (t : Tree level) → lead.1 ≡ reference_of (bytes_of version level t) →
-            IsAt lead.2 level t → Right end (before ++ last ∷ []) (pairs_held last)) →
-            (chunk ≡ bytes_of version level t) ⊎ Clash (chunk ∷ (before ++ last ∷ [])) cs →
-            Right end (chunk ∷ (before ++ last ∷ [])) (pairs_held last)
-        at_first rest (inl e) =
-            let to = goes_to there lead.2 lead.1 level t at
-            (subst (λ c. LeadsOn there (kind_of version c) lead.1 lead.2) e lead.3) in
-            onward (rest to.level to.t to.named to.at)
-        at_first rest (inr clash) = inr clash
+        elim (top_or_clash level t chunk (chunk ∷ (before ++ last ∷ [])) at.of.has (inl refl)
+        (lead.0.is ∙ is)) [
+          | inl e ↦
+              let to = goes_to there lead.2 lead.1 level t at
+              (subst (λ c. LeadsOn there (kind_of version c) lead.1 lead.2) e lead.3) in
+              elim (right rising before last reference lead.1 lead.2 end to.level to.t to.named to.at
+              lead.4 named ends) [
+                | inl tells ↦ inl tells
+                | inr clash ↦ inr (lifted chunk (before ++ last ∷ []) clash)
+              ]
+          | inr clash ↦ inr clash
+        ]
 
 -- ---- from the root of a map
 
@@ -266,33 +245,24 @@ way_right version bits m sought chunks rising lawful can w =
 
 pub ways_are_right : WaysAreRight
 ways_are_right version bits m key chunks value rising lawful w =
-    found (way_right version bits m (Key key) chunks rising lawful tt w.way)
-  where
-    found : Tells (Key key) m w.way.there (pairs_held w.way.last) ⊎
-        Clash chunks (chunk_bytes version bits m) →
-        (value ≡ find m key) ⊎ Clash chunks (chunk_bytes version bits m)
-    found (inl tells) = inl (w.value_is ∙ tells.0)
-    found (inr clash) = inr clash
+    elim (way_right version bits m (Key key) chunks rising lawful tt w.way) [
+      | inl tells ↦ inl (w.value_is ∙ tells.0)
+      | inr clash ↦ inr clash
+    ]
 
 pub scans_are_right : ScansAreRight
 scans_are_right version bits m key chunks found rising lawful w =
-    first (way_right version bits m (Key key) chunks rising lawful tt w.way)
-  where
-    first : Tells (Key key) m w.way.there (pairs_held w.way.last) ⊎
-        Clash chunks (chunk_bytes version bits m) →
-        AreFirstFrom key m found ⊎ Clash chunks (chunk_bytes version bits m)
-    first (inl tells) = inl (subst (AreFirstFrom key m) (sym w.found_is) tells.1)
-    first (inr clash) = inr clash
+    elim (way_right version bits m (Key key) chunks rising lawful tt w.way) [
+      | inl tells ↦ inl (subst (AreFirstFrom key m) (sym w.found_is) tells.1)
+      | inr clash ↦ inr clash
+    ]
 
 pub count_ways_are_right : CountWaysAreRight
 count_ways_are_right bits m n chunks pair few rising lawful w =
-    found (way_right Two bits m (Number n) chunks rising lawful (refl, few) w.way)
-  where
-    found : Tells (Number n) m w.way.there (pairs_held w.way.last) ⊎
-        Clash chunks (chunk_bytes Two bits m) →
-        (pair ≡ nth m n) ⊎ Clash chunks (chunk_bytes Two bits m)
-    found (inl tells) = inl (w.pair_is ∙ tells)
-    found (inr clash) = inr clash
+    elim (way_right Two bits m (Number n) chunks rising lawful (refl, few) w.way) [
+      | inl tells ↦ inl (w.pair_is ∙ tells)
+      | inr clash ↦ inr clash
+    ]
 
 -- ---- scans that go on leaf by leaf, for who knows the root alone
 
@@ -318,12 +288,14 @@ pub scans_go_on : ScansGoOn
 scans_go_on version bits m from [] [] rising lawful scanned = grind arith
 scans_go_on version bits m from [] (way ∷ ways) rising lawful scanned = absurd scanned
 scans_go_on version bits m from (found ∷ lists) [] rising lawful scanned = absurd scanned
-scans_go_on version bits m from (found ∷ lists) (way ∷ ways) rising lawful scanned = search (
-  rules,
-  common_steps,
-  scans_are_right,
-  clash_front,
-  clash_back,
-  one_more,
-  scans_go_on version bits m (from_behind from found) lists ways rising lawful scanned.1,
-)
+scans_go_on version bits m from (found ∷ lists) (way ∷ ways) rising lawful scanned =
+    let cs = chunk_bytes version bits m in
+    elim (scans_are_right version bits m from way found rising lawful scanned.0) [
+      | inl first ↦
+          elim (scans_go_on version bits m (from_behind from found) lists ways rising lawful
+          scanned.1) [
+            | inl rest ↦ inl (one_more from m found lists first rest)
+            | inr clash ↦ inr (clash_back cs way ways clash)
+          ]
+      | inr clash ↦ inr (clash_front cs way ways clash)
+    ]

@@ -7,11 +7,11 @@ use Rattle.std.specs.List.{flat_map, list_any, AllByRecursion}
 use Rattle.std.specs.Prelude.{slice_index}
 use Rattle.std.specs.Str.{bytes_eq}
 use Rattle.std.proofs.lemmas.Bool.{cond-true, cond-false}
-use Rattle.std.proofs.lemmas.Grind.{common_steps}
 use Rattle.std.proofs.lemmas.List.{length-append}
 use Rattle.std.proofs.lemmas.Slice.Eq.{bytes_eq-Decides}
 use Rattle.prolly_entry.specs.Cut.{sha512_cut}
 use Rattle.prolly_entry.specs.Keys.{Rising}
+use Rattle.prolly_entry.specs.Overlay.{or_else}
 use Rattle.prolly_entry.specs.Pair.{Pair, IsPair}
 use Rattle.prolly_entry.specs.Position.{Position}
 use Rattle.prolly_entry.specs.Reference.{reference_of}
@@ -31,7 +31,7 @@ use Rattle.prolly_check.specs.Frames.{ending_of, IsFramed}
 use Rattle.prolly_check.specs.Held.{pairs_held}
 use Rattle.prolly_check.specs.Judged.{order_fault, difference, end_fault, reuse, chunk_bytes}
 use Rattle.prolly_check.specs.Judged.{ending_for, canonical_fault, judged, rises_behind}
-use Rattle.prolly_check.specs.Judged.{last_behind}
+use Rattle.prolly_check.specs.Judged.{last_behind, or_content}
 use Rattle.prolly_check.specs.Verdict.{ReadVerdict, EndVerdict, IsVerdict, AllApart, IsFileOf}
 use Rattle.prolly_check.specs.Verdict.{FramesVerdict, AcceptsFiles}
 use Rattle.prolly_check.specs.declared.verdict.fault.CheckFault.{CheckFault}
@@ -42,24 +42,18 @@ use Rattle.prolly_check.proofs.RisingKeys.{rises_append, rising_is}
 
 -- ---- what is accepted is the file of a map
 
-pub some_none : {A : Type 0} {x : A} → ◌≡◌ {A = Option A} (Some x) None → ⊥
-some_none e = cc
-
-pub ok_same : (a b : Content) → ◌≡◌ {A = Result Content CheckFault} (Ok a) (Ok b) → a ≡ b
-ok_same a b e = cc
-
-pub err_ok : {A : Type 0} {x : A} {f : CheckFault} → ◌≡◌ {A = Result A CheckFault} (Err f) (Ok x) →
-    ⊥
-err_ok e = cc
-
 pub if_none : {F : Type 0} (t : Bool) (f : F) (o : Option F) → cond t o (Some f) ≡ None →
     (t ≡ true) × (o ≡ None)
 if_none true f o e = (refl, e)
-if_none false f o e = absurd (some_none e)
+if_none false f o e = cc
+
+pub or_none : {A : Type 0} (a b : Option A) → or_else a b ≡ None → (a ≡ None) × (b ≡ None)
+or_none None b e = (refl, e)
+or_none (Some x) b e = cc
 
 pub unless_none : (t : Bool) (f : CheckFault) (o : Option CheckFault) → cond t (Some f) o ≡ None →
     (t ≡ false) × (o ≡ None)
-unless_none true f o e = absurd (some_none e)
+unless_none true f o e = cc
 unless_none false f o e = (refl, e)
 
 -- ---- the header
@@ -75,7 +69,7 @@ header_ok bytes h = grind arith
 
 pub ending_ok : (number : ℕ) (tail ending : List ℕ) → ending_of number tail ≡ Ok ending →
     tail ≡ 0x45 ∷ ending
-ending_ok number [] ending e = absurd (err_ok e)
+ending_ok number [] ending e = cc
 ending_ok number (b ∷ rest) ending e = grind arith
 
 -- ---- the pairs
@@ -106,8 +100,8 @@ order_is last number (ps ∷ lists) =
 
 pub difference_ok : (number : ℕ) (cs ds : List (List ℕ)) → difference number cs ds ≡ None → cs ≡ ds
 difference_ok number [] [] h = refl
-difference_ok number [] (d ∷ ds) h = absurd (some_none h)
-difference_ok number (c ∷ cs) [] h = absurd (some_none h)
+difference_ok number [] (d ∷ ds) h = cc
+difference_ok number (c ∷ cs) [] h = cc
 difference_ok number (c ∷ cs) (d ∷ ds) h =
     let s = if_none (bytes_eq c d) (NotCanonical number) (difference (suc number) cs ds) h in
     ap (λ x. x ∷ cs) ((bytes_eq-Decides c d).0 s.0) ∙
@@ -162,7 +156,23 @@ pub record IsCanonical (version : Version) (bits : ℕ) (cs : List (List ℕ)) (
 pub canonical_ok : (version : Version) (bits : ℕ) (cs : List (List ℕ)) (ending : List ℕ)
     (lists : List (List Pair)) → canonical_fault version bits cs ending lists ≡ None →
     IsCanonical version bits cs ending lists
-canonical_ok version bits cs ending lists e = search (rules, difference_ok)
+canonical_ok version bits cs ending lists e =
+    let pairs = flat lists in
+    let chunks_fault = difference 0 (chunk_bytes version bits pairs) cs in
+    let last_fault = end_fault ending (ending_for version bits pairs) in
+    let keys = or_none (order_fault None 0 lists) (or_else chunks_fault last_fault) e in
+    let others = or_none chunks_fault last_fault keys.1 in
+    record {
+      order = keys.0;
+      same = difference_ok 0 (chunk_bytes version bits pairs) cs others.0;
+      last = (end_is ending (ending_for version bits pairs)).0 others.1;
+    }
+
+judged_none : (it content : Content) (fault : Option CheckFault) →
+    ◌≡◌ {A = Result Content CheckFault} (Ok content) (or_content it fault) →
+    (fault ≡ None) × (it ≡ content)
+judged_none it content None e = (refl, cc)
+judged_none it content (Some fault) e = cc
 
 judged_file : (bytes : List ℕ) (content : Content) → HeaderIs bytes →
     (cs : List (List ℕ)) (ending : List ℕ) (lists : List (List Pair)) →
@@ -170,8 +180,26 @@ judged_file : (bytes : List ℕ) (content : Content) → HeaderIs bytes →
     AllHold (version_of (slice_index bytes 4)) cs lists →
     Ok content ≡ judged (version_of (slice_index bytes 4)) (slice_index bytes 5) cs ending lists →
     IsFileOf bytes content
-judged_file bytes content header cs ending lists spelled hold so =
-    search (rules, canonical_ok, frames_bytes, hold_pairs, rising_is, order_is, reuse_is)
+judged_file bytes content head cs ending lists spelled hold so =
+    let version = version_of (slice_index bytes 4) in
+    let bits = slice_index bytes 5 in
+    let pairs = flat lists in
+    let it : Content = record { version = version; bits = bits; pairs = pairs } in
+    let fault = canonical_fault version bits cs ending lists in
+    let none = judged_none it content (or_else fault (reuse [] 0 cs)) so in
+    let both = or_none fault (reuse [] 0 cs) none.0 in
+    let canonical = canonical_ok version bits cs ending lists both.0 in
+    let own = chunks (sha512_cut bits) version pairs in
+    subst (IsFileOf bytes) none.1 (record {
+      bits = head.bits;
+      lawful = hold_pairs version cs lists hold;
+      rising = (rising_is pairs).0 ((order_is None 0 lists).0 canonical.order);
+      is = head.is ∙ ap (λ rest. header version bits ++ rest) (spelled ∙
+          ap (λ frames. frames ++ 0x45 ∷ ending)
+          (ap (flat_map framed) (sym canonical.same) ∙ sym (frames_bytes own)) ∙
+          ap (λ ending. flat_map frame own ++ 0x45 ∷ ending) canonical.last);
+      apart = subst AllApart (sym canonical.same) ((reuse_is [] 0 cs).0 both.1).1;
+    })
 
 read_file : (bytes : List ℕ) (content : Content) → HeaderIs bytes →
     (cs : List (List ℕ)) (ending : List ℕ) →
@@ -181,14 +209,17 @@ read_file : (bytes : List ℕ) (content : Content) → HeaderIs bytes →
     ReadVerdict (version_of (slice_index bytes 4)) (slice_index bytes 5) cs ending read
     (Ok content) → IsFileOf bytes content
 read_file bytes content header cs ending spelled (Ok lists) is so = search (rules, judged_file)
-read_file bytes content header cs ending spelled (Err fault) is so = absurd (err_ok (sym so))
+read_file bytes content header cs ending spelled (Err fault) is so = cc
 
 end_file : (bytes : List ℕ) (content : Content) → HeaderIs bytes →
     (cs : List (List ℕ)) (ending : Result (List ℕ) CheckFault) → IsFramed (drop 6 bytes) cs ending →
     EndVerdict (version_of (slice_index bytes 4)) (slice_index bytes 5) cs ending (Ok content) →
     IsFileOf bytes content
-end_file bytes content header cs (Ok ending) is so = search (rules, common_steps, read_file)
-end_file bytes content header cs (Err fault) is so = absurd (err_ok (sym so))
+end_file bytes content header cs (Ok ending) is so =
+    read_file bytes content header cs ending (is.spelled ∙
+    ap (λ tail. flat_map framed cs ++ tail) (ending_ok (length cs) is.tail ending is.is)) so.read
+    so.is so.so
+end_file bytes content header cs (Err fault) is so = cc
 
 pub accepted_is_file : (bytes : List ℕ) (content : Content) → IsVerdict bytes (Ok content) →
     IsFileOf bytes content

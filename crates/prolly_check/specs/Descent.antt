@@ -12,10 +12,9 @@ use Rattle.prolly_tree.specs.Chunk.{Chunk, chunks, post_order, IsIn}
 use Rattle.prolly_file.specs.Scratch.{keys_in}
 use Rattle.prolly_check.specs.Entries.{Child, first_count}
 use Rattle.prolly_check.specs.Judged.{chunk_bytes}
-use Rattle.prolly_check.specs.Kinds.{kind_of}
+use Rattle.prolly_check.specs.Kinds.{Entries, kind_of}
 use Rattle.prolly_check.specs.Way.{IsOrdered}
-use Rattle.prolly_check.specs.declared.entries.Entries.{Entries}
-use Rattle.prolly_check.specs.declared.entries.Entries.TheVariants.{Leaf, Node}
+use Rattle.prolly_check.specs.Kinds.Entries.{Leaf, Node}
 
 -- The chunks of the tree are there.
 abbrev pub HasTree : Version → List (List ℕ) → (level : ℕ) → Tree level → Type 0

@@ -7,8 +7,8 @@ use Rattle.prolly_entry.specs.Reference.{reference_of}
 use Rattle.prolly_check.specs.Checked.{chunks_of}
 use Rattle.prolly_check.specs.Content.{Content}
 use Rattle.prolly_check.specs.Way.{level_of}
-use Rattle.prolly_check.specs.declared.numbers.count.Level.{Level}
-use Rattle.prolly_check.specs.declared.numbers.count.Missing.{Missing}
+use Rattle.prolly_check.specs.declared.numbers.Level.{Level}
+use Rattle.prolly_check.specs.declared.numbers.Missing.{Missing}
 
 -- Whether one of the chunks has the reference.
 abbrev pub has_reference : List (List ℕ) → List ℕ → Bool

@@ -3,7 +3,7 @@ use Rattle.std.specs.Global.{Vec}
 use Rattle.std.specs.List.{AllByRecursion}
 use Rattle.std.specs.Option.{option_to_list}
 use Rattle.std.specs.Prelude.{◌≡◌, ℕ, zero, suc, ◌<◌, List, [], ◌∷◌, ◌++◌, length, take, map}
-use Rattle.std.specs.Prelude.{Option, Some, Result, Ok, Err, OnOk}
+use Rattle.std.specs.Prelude.{Option, Some, Result, OnOk, MatchResult}
 use Rattle.prolly_entry.specs.Cut.{Cut, sha512_cut}
 use Rattle.prolly_entry.specs.Pair.{Pair}
 use Rattle.prolly_entry.specs.declared.reference.Ref.{Ref}
@@ -54,8 +54,8 @@ DifferAs chunks sent fault = (more : List (List ℕ)) →
 -- references; or they differ, unless memory was refused.
 abbrev pub AreCompared : {A : Type 0} → List (List ℕ) → List Chunk → List Ref →
     Result A CheckFault → Type 0
-AreCompared chunks sent references (Ok done) = AreFirst chunks references sent
-AreCompared chunks sent references (Err fault) = UnlessMemory (DifferAs chunks sent) fault
+AreCompared chunks sent references result =
+    MatchResult result (λ done. AreFirst chunks references sent) (UnlessMemory (DifferAs chunks sent))
 
 -- Whatever was sent before, of which these are the references, it is compared with this event
 -- behind it.
@@ -111,9 +111,9 @@ pub record HasTaken (bits : ℕ) (version : Version) (chunks : List (List ℕ)) 
 -- refused.
 abbrev pub Took : ℕ → Version → List (List ℕ) → List Pair → Rebuild → Result (Unit {0}) CheckFault →
     Type 0
-Took bits version chunks pairs rebuild (Ok done) = HasTaken bits version chunks pairs rebuild
-Took bits version chunks pairs rebuild (Err fault) =
-    UnlessMemory (DifferAs chunks (sent_of bits version pairs)) fault
+Took bits version chunks pairs rebuild result =
+    MatchResult result (λ done. HasTaken bits version chunks pairs rebuild)
+    (UnlessMemory (DifferAs chunks (sent_of bits version pairs)))
 
 -- Whatever pairs it took before, it took these behind them.
 abbrev pub Takes : List (List ℕ) → Rebuild → Rebuild → List Pair → Result (Unit {0}) CheckFault →
@@ -121,14 +121,11 @@ abbrev pub Takes : List (List ℕ) → Rebuild → Rebuild → List Pair → Res
 Takes chunks old new taken result = (bits : ℕ) (version : Version) (pairs : List Pair) →
     HasTaken bits version chunks pairs old → Took bits version chunks (pairs ++ taken) new result
 
--- The chunks that were sent are all that come: they begin those of a file, and these are their
--- references; or they differ, unless memory was refused.
-abbrev pub AreAllCompared : List (List ℕ) → List Chunk → Result (Vec Ref) CheckFault → Type 0
-AreAllCompared chunks sent (Ok references) = AreFirst chunks references.items sent
-AreAllCompared chunks sent (Err fault) = UnlessMemory (DifferAs chunks sent) fault
-
--- All that the last level sends of the pairs that it took is compared.
+-- All that the last level sends of the pairs that it took begins the chunks of a file, and these are
+-- their references; or it differs, unless memory was refused.
 abbrev pub Ends : List (List ℕ) → Rebuild → Result (Vec Ref) CheckFault → Type 0
 Ends chunks rebuild result = (bits : ℕ) (version : Version) (pairs : List Pair) →
     HasTaken bits version chunks pairs rebuild →
-    AreAllCompared chunks (pipeline_events node_levels (sha512_cut bits) version clean pairs) result
+    let sent = pipeline_events node_levels (sha512_cut bits) version clean pairs in
+    MatchResult result (λ references. AreFirst chunks references.items sent)
+    (UnlessMemory (DifferAs chunks sent))

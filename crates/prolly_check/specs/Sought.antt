@@ -5,25 +5,14 @@ use Rattle.std.specs.Prelude.{◌<◌, ◌≤◌, ◌++◌, length, drop, option
 use Rattle.prolly_entry.specs.Keys.{key_order}
 use Rattle.prolly_entry.specs.declared.version.Version.{Version}
 use Rattle.prolly_check.specs.Entries.{Child, IsNode, children_in}
-use Rattle.prolly_check.specs.declared.entries.Entries.{Entries}
-use Rattle.prolly_check.specs.declared.entries.Entries.TheVariants.{Leaf, Node}
+use Rattle.prolly_check.specs.Kinds.{Entries}
+use Rattle.prolly_check.specs.Kinds.Entries.{Leaf, Node}
 use Rattle.prolly_check.specs.declared.look_up.sought.ChildSought.{ChildSought}
 use Rattle.prolly_check.specs.declared.look_up.sought.Mark.{Mark}
 use Rattle.prolly_check.specs.declared.look_up.sought.Sought.{Sought as Asked}
 use Rattle.prolly_check.specs.declared.look_up.sought.Sought.TheVariants.{Key as AskedKey}
 use Rattle.prolly_check.specs.declared.look_up.sought.Sought.TheVariants.{Number as AskedNumber}
 pub use Rattle.prolly_entry.specs.Child.{value_of}
-
--- The first child whose greatest key is not below the key.
-abbrev pub child_for : List ℕ → List Child → Option Child
-child_for key [] = None
-child_for key (c ∷ cs) = if is_lt (key_order c.key key) then child_for key cs else Some c
-
--- The first child that has the pair of this number below it, by the counts, and how many pairs
--- below it come before that pair.
-abbrev pub child_with : ℕ → List Child → Option (Child × ℕ)
-child_with n [] = None
-child_with n (c ∷ cs) = if nat_lt n c.count then Some (c, n) else child_with (n - c.count) cs
 
 -- What a look-up seeks: a key, or the pair of this number, counted from 0 in the order of keys.
 pub data Sought : Type 0 where
@@ -35,18 +24,16 @@ abbrev pub sought_of : Asked → Sought
 sought_of (AskedKey key) = Key key.now
 sought_of (AskedNumber n) = Number n
 
--- A child, and what is sought below it.
-abbrev pub found_child : List ℕ → Child → Child × Sought
-found_child key child = (child, Key key)
-
-abbrev pub counted_child : Child × ℕ → Child × Sought
-counted_child c = (c.0, Number c.1)
-
--- The child that a look-up goes on in: for a key the first whose greatest key is not below it, for
--- a pair's number the first that has the pair below it, by the counts.
+-- The child that a look-up goes on in, and what is sought below it: for a key the first whose
+-- greatest key is not below it; for a pair's number the first that has the pair below it, by the
+-- counts, and how many pairs below it come before that pair.
 abbrev pub child_sought : Sought → List Child → Option (Child × Sought)
-child_sought (Key key) children = option_map (found_child key) (child_for key children)
-child_sought (Number n) children = option_map counted_child (child_with n children)
+child_sought (Key key) [] = None
+child_sought (Key key) (c ∷ cs) =
+    if is_lt (key_order c.key key) then child_sought (Key key) cs else Some (c, Key key)
+child_sought (Number n) [] = None
+child_sought (Number n) (c ∷ cs) =
+    if nat_lt n c.count then Some (c, Number n) else child_sought (Number (n - c.count)) cs
 
 -- The reference of a child, and what is sought below it.
 abbrev pub reference_and_sought : Child × Sought → List ℕ × Sought

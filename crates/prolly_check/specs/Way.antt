@@ -16,11 +16,10 @@ use Rattle.prolly_tree.specs.LookUp.{find, nth}
 use Rattle.prolly_check.specs.Entries.{IsWhole}
 use Rattle.prolly_check.specs.Held.{pairs_held}
 use Rattle.prolly_check.specs.Judged.{chunk_bytes}
-use Rattle.prolly_check.specs.Kinds.{kind_of}
+use Rattle.prolly_check.specs.Kinds.{Entries, kind_of}
 use Rattle.prolly_check.specs.Sought.{Sought, EndsAt, LeadsOn}
 use Rattle.prolly_check.specs.Sought.Sought.{Key, Number}
-use Rattle.prolly_check.specs.declared.entries.Entries.{Entries}
-use Rattle.prolly_check.specs.declared.entries.Entries.TheVariants.{Leaf, Node}
+use Rattle.prolly_check.specs.Kinds.Entries.{Leaf, Node}
 
 -- ---- one chunk
 

@@ -1,12 +1,12 @@
 //! The chunks of a file.
-ghost use Rattle.std.specs.Prelude.{◌≡◌, ◌<◌, [], get_or, length};
+ghost use Rattle.std.specs.Prelude.{◌≡◌, ℕ, ◌<◌, List, [], get_or, length};
 ghost use Rattle.std.specs.List.{AllByRecursion};
 ghost use Rattle.prolly_check.specs.Held.{pairs_held};
 ghost use Rattle.prolly_check.specs.Frames.{IsWithin, chunks_in};
 ghost use Rattle.prolly_check.specs.Entries.{AreWhole};
+ghost use Rattle.prolly_check.specs.Way.{level_of};
 
-use crate::entries::pairs_of;
-use crate::leaf::Pairs;
+use crate::leaf::{Pairs, pairs_of};
 use crate::verdict::chunk_at;
 use prolly_file::Header;
 use std::marker::Model;
@@ -28,11 +28,6 @@ pub(crate) struct Chunks<'a> {
 }
 
 impl<'a> Model for Chunks<'a> {
-    ghost use Rattle.std.specs.Prelude.{ℕ, List};
-    ghost use Rattle.std.specs.List.{AllByRecursion};
-    ghost use Rattle.prolly_check.specs.Frames.{IsWithin, chunks_in};
-    ghost use Rattle.prolly_check.specs.Entries.{AreWhole};
-
     ghost Value = { List (List ℕ) };
 
     ghost view = { λ c. chunks_in c.bytes.now c.layout.now.spans.items };
@@ -43,8 +38,6 @@ impl<'a> Model for Chunks<'a> {
 }
 
 impl<'a> Chunks<'a> {
-    ghost use Rattle.prolly_check.specs.Way.{level_of};
-
     /// The chunks that lie there. Takes no memory.
     pub(crate) fn new(bytes: &'a [u8], layout: &'a Layout) -> Chunks<'a>
         requires within { AllByRecursion (IsWithin bytes.now) layout.now.spans.items }

@@ -4,7 +4,7 @@ ghost use Rattle.prolly_check.specs.Held.{pairs_held};
 ghost use Rattle.prolly_check.specs.Checked.{HasAt, IsIndex, HasFile, HasReference, chunks_of};
 ghost use Rattle.prolly_check.specs.Checked.{content_of};
 ghost use Rattle.prolly_check.specs.Numbers.{AreOfMap, size_of};
-ghost use Rattle.prolly_check.specs.Content.{root_bytes};
+ghost use Rattle.prolly_check.specs.Content.{Content, root_bytes};
 
 use crate::chunks::Chunks;
 use crate::index::Index;
@@ -23,10 +23,6 @@ pub(crate) struct CheckedFile<'a> {
 
 // A file is seen as what it says.
 impl<'a> Model for CheckedFile<'a> {
-    ghost use Rattle.std.specs.Prelude.{◌≡◌};
-    ghost use Rattle.prolly_check.specs.Checked.{HasFile, chunks_of, content_of, IsIndex};
-    ghost use Rattle.prolly_check.specs.Content.{Content};
-
     ghost Value = { Content };
 
     ghost view = { λ f. content_of f.header f.chunks };

@@ -3,9 +3,10 @@ ghost use Rattle.std.specs.Prelude.{◌≡◌, ◌↔◌, ◌==◌, ◌≤◌, [
 ghost use Rattle.std.specs.Prelude.{IsTrue, IfSome, IfNone, MatchOption};
 ghost use Rattle.prolly_entry.specs.Pair.{Pair as PairValue};
 ghost use Rattle.prolly_tree.specs.RecordFile.{record_file};
-ghost use Rattle.prolly_check.specs.Entries.{IsLeaf, pairs_in, IsSomeLeaf};
+ghost use Rattle.prolly_check.specs.Entries.{IsLeaf, pairs_in, IsSomeLeaf, IsWhole};
+ghost use Rattle.prolly_check.specs.Held.{pairs_held};
 
-use prolly_entry::split_pair;
+use prolly_entry::{Version, split_pair};
 use std::marker::Model;
 
 /// The first byte of a leaf: its level.
@@ -30,10 +31,6 @@ pub struct Pairs<'a> {
 }
 
 impl<'a> Model for Pairs<'a> {
-    ghost use Rattle.std.specs.Prelude.{List};
-    ghost use Rattle.prolly_entry.specs.Pair.{Pair as PairValue};
-    ghost use Rattle.prolly_check.specs.Entries.{pairs_in, IsSomeLeaf};
-
     ghost Value = { List PairValue };
 
     ghost view = { λ p. pairs_in p.entries.now };
@@ -95,4 +92,16 @@ impl<'a> Pairs<'a> {
     {
         self.entries
     }
+}
+
+/// The pairs of a chunk that was tested, as by [`test_chunk`](crate::test_chunk). A node has none.
+/// Takes no memory, and reads none of them yet.
+pub fn pairs_of(version: Version, chunk: &[u8]) -> Pairs<'_>
+    requires { IsWhole version chunk.now }
+    ensures { result ≡ pairs_held chunk.now }
+{
+    if chunk[0] == LEAF {
+        return Pairs::new(&chunk[1..]);
+    }
+    Pairs::new(&[])
 }

@@ -2,8 +2,6 @@
 #![tactic(auto)]
 
 mod chunks;
-mod dump;
-mod entries;
 mod file;
 mod index;
 pub mod laws;
@@ -14,8 +12,7 @@ mod numbers;
 mod tree;
 mod verdict;
 
-pub use entries::pairs_of;
-pub use leaf::Pairs;
+pub use leaf::{Pairs, pairs_of};
 pub use look_up::{
     ChildSought, ChunkFlaw, Due, Leaves, Mark, Sought, Step, falls_to, first_pairs_from,
     pair_sought, step_at, step_of, test_chunk, value_in,

@@ -6,7 +6,6 @@ ghost use Rattle.prolly_entry.specs.Pair.{Pair as PairValue};
 ghost use Rattle.prolly_check.specs.Entries.{IsNode, children_in};
 
 use prolly_entry::{Child, Version};
-use std::marker::Model;
 
 /// The first child of the entries of a node, and the entries behind it. Takes no memory.
 pub fn split_first_child(version: Version, entries: &[u8]) -> Option<(Child<'_>, &[u8])>
@@ -32,43 +31,4 @@ pub(crate) fn is_node(version: Version, mut entries: &[u8]) -> bool
         entries = rest;
     }
     entries.is_empty()
-}
-
-/// The children of a node that was tested, or those of them that are left, as their entries lie in
-/// its bytes.
-#[derive(Drop)]
-pub struct Children<'a> {
-    version: Version,
-    entries: &'a [u8],
-}
-
-impl<'a> Model for Children<'a> {
-    ghost use Rattle.std.specs.Prelude.{List, []};
-    ghost use Rattle.prolly_check.specs.Entries.{Child as ChildValue, IsNode, children_in};
-
-    ghost Value = { List ChildValue };
-
-    ghost view = { λ c. children_in c.version c.entries.now };
-
-    ghost invariant = { λ c. IsNode c.version c.entries.now [] };
-}
-
-impl<'a> Children<'a> {
-    /// The children of the entries of a node.
-    pub(crate) fn new(version: Version, entries: &'a [u8]) -> Children<'a>
-        requires { IsNode version entries.now [] }
-        ensures { result ≡ children_in version entries.now }
-    {
-        Children { version, entries }
-    }
-
-    /// The next child. Takes no memory.
-    pub fn next(&mut self) -> Option<Child<'a>>
-        ensures { MatchOption result (self.old ≡ [])
-            (λ child. self.old ≡ value_of child ∷ self.new) }
-    {
-        let (child, rest) = split_first_child(self.version, self.entries)?;
-        self.entries = rest;
-        Some(child)
-    }
 }

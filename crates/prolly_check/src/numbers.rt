@@ -1,6 +1,145 @@
-//! What a tree has, in numbers.
+//! What a tree has, in numbers: its pairs, the bytes of its chunks, its levels, and what who has
+//! another tree lacks of it.
+ghost use Rattle.std.specs.Prelude.{◌≡◌, ◌<◌, ◌^◌, ℕ, List, length, map, sum, IfOk};
+ghost use Rattle.prolly_check.specs.Checked.{AreReferences, IsIndex};
+ghost use Rattle.prolly_check.specs.Numbers.{AreLevels, AreOfMap, IsLevel, at_level, AreSo};
+ghost use Rattle.prolly_check.specs.Numbers.{lacking, size_of};
 
-mod count;
+use crate::chunks::Chunks;
+use crate::index::Index;
+use crate::leaf::Pairs;
+use crate::look_up::Leaves;
+use prolly_entry::Ref;
+use std::alloc::{AllocError, Global};
 
-pub use count::{Level, Missing};
-pub(crate) use count::{count_pairs, levels_in, missing_in, size_in};
+/// The chunks of one level of a tree, in numbers. The bytes are those of the chunks, without the
+/// frames that stand around them in a file.
+#[derive(Clone, Copy)]
+pub struct Level {
+    /// How many chunks the level has.
+    pub chunks: u64,
+    /// How many bytes they have together.
+    pub bytes: u64,
+    /// How many bytes the smallest chunk has.
+    pub least: u64,
+    /// How many bytes the chunk in the middle has, in the order of their sizes: of an even number
+    /// of chunks the upper one of the two.
+    pub middle: u64,
+    /// How many bytes the greatest chunk has.
+    pub greatest: u64,
+}
+
+/// The chunks of a tree whose references another tree lacks: what a replica that has the other one
+/// has to fetch.
+#[derive(Clone, Copy)]
+pub struct Missing {
+    /// How many chunks these are.
+    pub chunks: u64,
+    /// How many bytes they have together, without the frames that stand around them in a file.
+    pub bytes: u64,
+}
+
+/// How many pairs are left. Takes no memory.
+pub(crate) fn count_pairs(mut leaves: Leaves) -> u64
+    requires { length leaves < 2 ^ 64 }
+    ensures { result ≡ length leaves.entry }
+{
+    let mut count = 0;
+    while let Some(leaf) = leaves.next() {
+        count += count_in(leaf);
+    }
+    count
+}
+
+/// How many pairs are left of a leaf.
+fn count_in(mut leaf: Pairs) -> u64
+    requires { length leaf < 2 ^ 64 }
+    ensures { result ≡ length leaf.entry }
+{
+    let mut count = 0;
+    while let Some(_) = leaf.next() {
+        count += 1;
+    }
+    count
+}
+
+/// How many bytes the chunks have together. Takes no memory.
+pub(crate) fn size_in(chunks: &Chunks) -> u64
+    requires { size_of chunks.now < 2 ^ 64 }
+    ensures { result ≡ size_of chunks.now }
+{
+    let mut size = 0;
+    for number in 0..chunks.len() {
+        size += chunks.chunk(number).len() as u64;
+    }
+    size
+}
+
+/// The levels of the chunks of a file, from the leaves to the root, which is the last chunk.
+/// Takes memory for the sizes of one level's chunks at a time, and goes over the chunks for each.
+pub(crate) fn levels_in(alloc: Global, chunks: &Chunks) -> Result<Vec<Level>, AllocError>
+    requires tree { AreOfMap chunks.now }
+    requires small { size_of chunks.now < 2 ^ 64 }
+    ensures { IfOk result (λ levels. AreLevels chunks.now levels.items) }
+{
+    let root = chunks.len() - 1;
+    let mut levels = Vec::new(alloc);
+    for number in 0..=chunks.level(root) {
+        let sizes = sizes_at(alloc, number, chunks)?;
+        levels.push(numbers_of(sizes))?;
+    }
+    Ok(levels)
+}
+
+/// The sizes of the chunks of a level, in their order. Takes memory for the sizes, and reads one
+/// byte of each chunk.
+fn sizes_at(alloc: Global, level: u8, chunks: &Chunks) -> Result<Vec<u64>, AllocError>
+    ensures { IfOk result (λ sizes. sizes.items ≡ map length (at_level level chunks.now)) }
+{
+    let mut sizes = Vec::new(alloc);
+    for number in 0..chunks.len() {
+        if chunks.level(number) == level {
+            sizes.push(chunks.chunk(number).len() as u64)?;
+        }
+    }
+    Ok(sizes)
+}
+
+/// The numbers of chunks that have these sizes. Takes time O(n log n).
+fn numbers_of(mut sizes: Vec<u64>) -> Level
+    requires some { 0 < length sizes.items }
+    requires small { sum sizes.items < 2 ^ 64 }
+    ensures { (chunks : List (List ℕ)) → map length chunks ≡ sizes.items → IsLevel chunks result }
+{
+    let bytes = sizes.iter().sum();
+    sizes.sort_unstable();
+    let count = sizes.len();
+    Level {
+        chunks: count as u64,
+        bytes,
+        least: sizes[0],
+        middle: sizes[count / 2],
+        greatest: sizes[count - 1],
+    }
+}
+
+/// The chunks whose references the index lacks. Takes no memory and no hash, and looks each
+/// reference up.
+pub(crate) fn missing_in(index: &Index, chunks: &Chunks, references: &[Ref]) -> Missing
+    requires small { size_of chunks.now < 2 ^ 64 }
+    requires references { AreReferences chunks.now references.now }
+    ensures { (others : List (List ℕ)) → IsIndex index.now others →
+        AreSo (lacking others chunks.now) result }
+{
+    let mut missing = Missing {
+        chunks: 0,
+        bytes: 0,
+    };
+    for number in 0..chunks.len() {
+        if index.find(&references[number]).is_none() {
+            missing.chunks += 1;
+            missing.bytes += chunks.chunk(number).len() as u64;
+        }
+    }
+    missing
+}

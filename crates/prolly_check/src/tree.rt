@@ -1,26 +1,34 @@
 //! A chunk file that was checked.
-ghost use Rattle.std.specs.Prelude.{◌≡◌, ◌↔◌, ◌^◌, ◌<◌, length, map, IfOk, IfErr, IsErr, Err, OnOk};
+ghost use Rattle.std.specs.Prelude.{◌≡◌, ◌↔◌, ℕ, ◌^◌, ◌<◌, List, length, map, IfOk, IfErr, IsErr};
+ghost use Rattle.std.specs.Prelude.{Err, OnOk};
+ghost use Rattle.std.specs.List.{AllByRecursion};
 ghost use Rattle.std.specs.Option.{option_copied};
 ghost use Rattle.prolly_tree.specs.Chunk.{chunks};
+ghost use Rattle.prolly_tree.specs.Difference.{IsMap};
 ghost use Rattle.prolly_entry.specs.Cut.{sha512_cut};
+ghost use Rattle.prolly_entry.specs.Pair.{IsPair};
 ghost use Rattle.prolly_tree.specs.File.{root_reference};
 ghost use Rattle.prolly_tree.specs.LookUp.{find, nth, scan};
+ghost use Rattle.prolly_tree.specs.RecordFile.{record_file};
+ghost use Rattle.prolly_file.specs.Sink.{IsSettled};
+ghost use Rattle.prolly_file.specs.Writes.{Writes};
 ghost use Rattle.prolly_check.specs.Content.{Content};
 ghost use Rattle.prolly_check.specs.Counted.{pair_of};
 ghost use Rattle.prolly_check.specs.Verdict.{UnlessMemory, IsVerdict, IsFileOf};
 ghost use Rattle.prolly_check.specs.Way.{IsWay};
-ghost use Rattle.prolly_check.specs.Checked.{IsChecked, IsFile, HasFile, chunks_of};
+ghost use Rattle.prolly_check.specs.Checked.{AreReferences, HasFile, IsChecked, IsFile, chunks_of};
+ghost use Rattle.prolly_check.specs.Frames.{chunks_in};
+ghost use Rattle.prolly_check.specs.Leaves.{pairs_from};
 ghost use Rattle.prolly_check.specs.Numbers.{AreLevels, AreOfMap, AreSo, lacking, size_of};
 
 use crate::chunks::{Chunks, Layout};
-use crate::dump::write_records;
 use crate::file::CheckedFile;
 use crate::index::Index;
 use crate::look_up::{Leaves, find_nth, find_value, scan_pairs, way_to};
 use crate::numbers::{Level, Missing, count_pairs, levels_in, missing_in, size_in};
 use crate::verdict::{CheckFault, inspect};
 use prolly_entry::{Pair, Ref, Version};
-use prolly_file::{Sink, WriteFault};
+use prolly_file::{Sink, WriteFault, write_all};
 use std::alloc::{AllocError, Global};
 use std::marker::Model;
 
@@ -39,12 +47,7 @@ pub struct Tree {
 
 // A tree is seen as the bytes of its file. They decide the version, the number of bits and the map.
 impl Model for Tree {
-    ghost use Rattle.std.specs.Prelude.{ℕ, List};
-
     ghost Value = { List ℕ };
-
-    ghost use Rattle.prolly_check.specs.Checked.{IsChecked, AreReferences};
-    ghost use Rattle.prolly_check.specs.Frames.{chunks_in};
 
     ghost view = { λ tree. tree.bytes.items };
 
@@ -55,14 +58,6 @@ impl Model for Tree {
 }
 
 impl Tree {
-    ghost use Rattle.std.specs.List.{AllByRecursion};
-    ghost use Rattle.prolly_entry.specs.Pair.{IsPair};
-    ghost use Rattle.prolly_tree.specs.Difference.{IsMap};
-    ghost use Rattle.prolly_tree.specs.RecordFile.{record_file};
-    ghost use Rattle.prolly_file.specs.Writes.{Writes};
-    ghost use Rattle.prolly_file.specs.Sink.{IsSettled};
-    ghost use Rattle.prolly_check.specs.Leaves.{pairs_from};
-
     /// The tree of the bytes of a file.
     pub(crate) fn of(alloc: Global, bytes: Vec<u8>) -> Result<Tree, CheckFault>
         ensures same { IfOk result (λ tree. tree ≡ bytes.items) }
@@ -162,7 +157,7 @@ impl Tree {
         ensures { IfOk result (λ pairs. (content : Content) → IsFileOf self.now content →
             pairs.items ≡ scan content.pairs from.now limit) }
     {
-        scan_pairs(alloc, &self.file(), from, limit as usize)
+        scan_pairs(alloc, self.leaves_from(from), from, limit as usize)
     }
 
     /// The key and the value of the pair of this number, counted from 0 in the order of the keys,
@@ -249,5 +244,19 @@ impl Tree {
     {
         let chunks = Chunks::new(&self.bytes, &self.layout);
         CheckedFile::new(self.layout.header, chunks, &self.index)
+    }
+}
+
+/// Writes the pairs of leaves to a sink, as a record file, and flushes the sink.
+fn write_records<W: Sink>(mut leaves: Leaves, sink: &mut W) -> Result<(), WriteFault>
+    ensures written { Writes (record_file leaves.entry) (W.seen sink.old) (W.seen sink.new) result }
+    ensures settled { OnOk result (IsSettled (W.seen sink.new)) }
+{
+    while let Some(leaf) = leaves.next() {
+        write_all(sink, leaf.spellings())?;
+    }
+    match sink.flush() {
+        Ok(()) => Ok(()),
+        Err(_) => Err(WriteFault),
     }
 }

@@ -1,7 +1,6 @@
 //! Whether bytes are the file of a map: the steps of the checker, and the faults that they find.
 
 mod checker;
-mod ending;
 mod fault;
 mod frames;
 mod order;
@@ -12,4 +11,5 @@ pub use checker::check;
 pub(crate) use checker::inspect;
 pub use fault::CheckFault;
 pub(crate) use frames::chunk_at;
+pub(crate) use order::last_in;
 pub(crate) use whole::is_whole;

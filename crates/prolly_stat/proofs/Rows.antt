@@ -4,7 +4,7 @@ use Rattle.std.proofs.Common.{slice_index_or, drop, reverse, ◌++◌, refl, sym
 use Rattle.std.proofs.lemmas.List.{flat_map_more, reverse-append}
 use Rattle.std.specs.List.{flat_map}
 use Rattle.prolly_stat.specs.Rows.{rows_from}
-use Rattle.prolly_check.specs.declared.numbers.count.Level.{Level}
+use Rattle.prolly_check.specs.declared.numbers.Level.{Level}
 
 -- The first row.
 pub first_row : (levels : List Level) (number entries : ℕ) (d : Level) → 0 < length levels →

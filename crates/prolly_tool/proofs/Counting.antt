@@ -12,7 +12,7 @@ use Rattle.prolly_check.specs.Checked.{chunks_of}
 use Rattle.prolly_check.specs.Content.{Content}
 use Rattle.prolly_check.specs.Numbers.{AreSo, lacking}
 use Rattle.prolly_check.specs.Verdict.{IsFileOf}
-use Rattle.prolly_check.specs.declared.numbers.count.Missing.{Missing}
+use Rattle.prolly_check.specs.declared.numbers.Missing.{Missing}
 use Rattle.prolly_tool.specs.Counts.{AreCounts, is_added, is_changed, is_removed, stat_line}
 use Rattle.prolly_tool.specs.Counts.{stat_text}
 use Rattle.prolly_tool.specs.Diff.{stat_shown}

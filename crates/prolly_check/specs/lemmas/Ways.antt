@@ -2,12 +2,11 @@
 use Rattle.std.proofs.Common.{rules, arith, ◌≡◌, ℕ, List, [], ◌∷◌, ◌++◌, Option}
 use Rattle.prolly_entry.specs.Reference.{reference_of}
 use Rattle.prolly_entry.specs.declared.version.Version.{Version}
-use Rattle.prolly_check.specs.Kinds.{kind_of}
+use Rattle.prolly_check.specs.Kinds.{Entries as EntriesOf, kind_of}
 use Rattle.prolly_check.specs.Sought.{Sought, EndsAt, IsChildOf, LeadsOn, sought_of}
 use Rattle.prolly_check.specs.Steps.{IsFlawed}
 use Rattle.prolly_check.specs.Way.{FallsTo, IsNamed, IsOrdered, Lead}
-use Rattle.prolly_check.specs.declared.entries.Entries.{Entries as EntriesOf}
-use Rattle.prolly_check.specs.declared.entries.Entries.TheVariants.{Leaf, Node}
+use Rattle.prolly_check.specs.Kinds.Entries.{Leaf, Node}
 use Rattle.prolly_check.specs.declared.look_up.sought.ChildSought.{ChildSought}
 use Rattle.prolly_check.specs.declared.look_up.step.ChunkFlaw.{ChunkFlaw}
 use Rattle.prolly_check.specs.declared.look_up.step.ChunkFlaw.TheVariants.{Entries, Level, Order}

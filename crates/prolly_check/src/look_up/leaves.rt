@@ -1,6 +1,10 @@
 //! The leaves of a file that was checked, one after another.
-ghost use Rattle.std.specs.Prelude.{◌≡◌, ◌<◌, [], ◌++◌, length, IfSome, IfNone, MatchOption};
-ghost use Rattle.prolly_check.specs.Checked.{HasFile};
+ghost use Rattle.std.specs.Prelude.{◌≡◌, ◌<◌, List, [], ◌++◌, length, drop, IfSome, IfNone};
+ghost use Rattle.std.specs.Prelude.{MatchOption};
+ghost use Rattle.std.specs.List.{flat_map};
+ghost use Rattle.prolly_entry.specs.Pair.{Pair as PairValue};
+ghost use Rattle.prolly_check.specs.Checked.{HasFile, chunks_of};
+ghost use Rattle.prolly_check.specs.Held.{pairs_held};
 ghost use Rattle.prolly_check.specs.Leaves.{pairs_from};
 ghost use Rattle.prolly_tree.specs.Difference.{IsMap};
 
@@ -24,12 +28,6 @@ pub struct Leaves<'a> {
 // They are seen as what is left of the map: the first pairs, and those of the chunks from the
 // number on.
 impl<'a> Model for Leaves<'a> {
-    ghost use Rattle.std.specs.Prelude.{◌++◌, List, drop};
-    ghost use Rattle.std.specs.List.{flat_map};
-    ghost use Rattle.prolly_entry.specs.Pair.{Pair as PairValue};
-    ghost use Rattle.prolly_check.specs.Checked.{chunks_of};
-    ghost use Rattle.prolly_check.specs.Held.{pairs_held};
-
     ghost Value = { List PairValue };
 
     ghost view = { λ l. l.first ++ flat_map pairs_held (drop l.number (chunks_of l.file)) };
@@ -77,19 +75,16 @@ impl<'a> Leaves<'a> {
         ensures some { IfSome result (λ leaf. 0 < length leaf) }
         ensures none { IfNone result (self.new ≡ []) }
     {
-        let first = mem::replace(&mut self.first, Pairs::new(&[]));
-        if !first.is_empty() {
-            return Some(first);
-        }
         // The leaves stand in the order of their pairs, and a node has no pair itself.
-        while self.number < self.file.len() {
-            let leaf = self.file.pairs(self.number);
+        while self.first.is_empty() && self.number < self.file.len() {
+            self.first = self.file.pairs(self.number);
             self.number += 1;
-            if !leaf.is_empty() {
-                return Some(leaf);
-            }
         }
-        None
+        let leaf = mem::replace(&mut self.first, Pairs::new(&[]));
+        if leaf.is_empty() {
+            return None;
+        }
+        Some(leaf)
     }
 }
 

@@ -1,15 +1,9 @@
 //! Scanning the pairs from a key on.
-ghost use Rattle.std.specs.Prelude.{◌≡◌, [], ◌∷◌, ◌++◌, ◌≤◌, length, take, drop, OnOk, IfOk};
-ghost use Rattle.std.specs.List.{flat_map};
-ghost use Rattle.prolly_tree.specs.LookUp.{scan};
-ghost use Rattle.prolly_check.specs.Checked.{chunks_of};
-ghost use Rattle.prolly_check.specs.Held.{pairs_held};
+ghost use Rattle.std.specs.Prelude.{◌≡◌, [], ◌∷◌, ◌++◌, ◌≤◌, length, take, OnOk, IfOk};
 ghost use Rattle.prolly_check.specs.Leaves.{pairs_from};
 
-use crate::file::CheckedFile;
 use crate::leaf::Pairs;
-use crate::look_up::descent::descend;
-use crate::look_up::sought::Sought;
+use crate::look_up::leaves::Leaves;
 use prolly_entry::{Pair, key_order};
 use std::alloc::{AllocError, Global};
 
@@ -69,38 +63,22 @@ fn scan_leaf(
     Ok(())
 }
 
-/// The first pairs of the chunks from this number on whose key is not less than `from`, at most
-/// `limit` of them. Reads no chunk behind the one that has the last of them.
-fn scan_chunks(
-    alloc: Global,
-    file: &CheckedFile,
-    first: usize,
-    from: &[u8],
-    limit: usize,
-) -> Result<Vec<Pair>, AllocError>
-    ensures { IfOk result (λ pairs. pairs.items ≡ take limit (pairs_from from.now
-        (flat_map pairs_held (drop first (chunks_of file.now))))) }
-{
-    let mut pairs = Vec::new(alloc);
-    for number in first..file.len() {
-        if pairs.len() == limit {
-            return Ok(pairs);
-        }
-        scan_leaf(alloc, file.pairs(number), from, limit, &mut pairs)?;
-    }
-    Ok(pairs)
-}
-
-/// The first pairs of a file that was checked whose key is not less than `from`, at most `limit` of
-/// them.
+/// The first pairs of leaves whose key is not less than `from`, at most `limit` of them. Reads no
+/// leaf behind the one that has the last of them.
 pub(crate) fn scan_pairs(
     alloc: Global,
-    file: &CheckedFile,
+    mut leaves: Leaves,
     from: &[u8],
     limit: usize,
 ) -> Result<Vec<Pair>, AllocError>
-    ensures { IfOk result (λ pairs. pairs.items ≡ scan file.now.pairs from.now limit) }
+    ensures { IfOk result (λ pairs. pairs.items ≡ take limit (pairs_from from.now leaves.entry)) }
 {
-    let end = descend(file, Sought::Key(from));
-    scan_chunks(alloc, file, end.number, from, limit)
+    let mut found = Vec::new(alloc);
+    while let Some(leaf) = leaves.next() {
+        scan_leaf(alloc, leaf, from, limit, &mut found)?;
+        if found.len() == limit {
+            return Ok(found);
+        }
+    }
+    Ok(found)
 }

@@ -1,17 +1,18 @@
 //! The step of a look-up at one chunk.
-ghost use Rattle.std.specs.Prelude.{◌≡◌, ◌↔◌, ℕ, [], ◌∷◌, ◌<◌, All, length, Option, IsTrue, IfSome};
-ghost use Rattle.std.specs.Prelude.{IfNone, IfOk, IfErr, OnOk, MatchOption};
+ghost use Rattle.std.specs.Prelude.{◌≡◌, ◌↔◌, ℕ, ◌<◌, All, length, map, Option, IsTrue, IfSome, IfNone};
+ghost use Rattle.std.specs.Prelude.{IfOk, IfErr, OnOk, []};
 ghost use Rattle.prolly_entry.specs.Byte.{IsByte};
 ghost use Rattle.prolly_entry.specs.Keys.{Rising};
+ghost use Rattle.prolly_check.specs.Entries.{IsNode, IsWhole, children_in};
 ghost use Rattle.prolly_check.specs.Kinds.{kind_of};
 ghost use Rattle.prolly_check.specs.Sought.{IsChildOf, IsMark, EndsAt, sought_of};
 ghost use Rattle.prolly_check.specs.Steps.{IsFlawed, IsStep};
 ghost use Rattle.prolly_check.specs.Way.{FallsTo, IsNamed, IsOrdered, keys_of};
 
-use crate::entries::{Entries, entries_of, pairs_of};
-use crate::leaf::Pairs;
+use crate::leaf::{LEAF, Pairs, pairs_of};
 use crate::look_up::sought::{ChildSought, Mark, Sought, child_sought};
-use crate::verdict::is_whole;
+use crate::node::split_first_child;
+use crate::verdict::{is_whole, last_in};
 use prolly_entry::{Ref, Version, key_rises};
 
 /// The chunk that is due next on the way of a look-up.
@@ -89,7 +90,7 @@ pub fn test_chunk(version: Version, chunk: &[u8], reference: &Ref) -> Result<(),
     if !is_whole(version, chunk) {
         return Err(ChunkFlaw::Entries);
     }
-    if !keys_rise(entries_of(version, chunk)) {
+    if !keys_rise(version, chunk) {
         return Err(ChunkFlaw::Order);
     }
     Ok(())
@@ -124,39 +125,35 @@ pub fn step_of<'a>(
     ensures passed { IfSome result (λ child. IsMark version chunk.now child.passed) }
     ensures bytes { All IsByte chunk.now }
 {
-    match entries_of(version, chunk) {
-        Entries::Leaf(_) => None,
-        Entries::Node(_) => child_sought(version, chunk, mark, sought),
+    if chunk[0] == LEAF {
+        return None;
     }
+    child_sought(version, chunk, mark, sought)
 }
 
-/// Whether each key of the entries is greater than the one before it.
-fn keys_rise(mut entries: Entries) -> bool
-    ensures { IsTrue result ↔ Rising (keys_of entries.entry) }
+/// Whether each key of a chunk's entries is greater than the one before it.
+fn keys_rise(version: Version, chunk: &[u8]) -> bool
+    requires { IsWhole version chunk.now }
+    ensures { IsTrue result ↔ Rising (keys_of (kind_of version chunk.now)) }
+{
+    if chunk[0] == LEAF {
+        return last_in(None, pairs_of(version, chunk)).is_ok();
+    }
+    children_rise(version, &chunk[1..])
+}
+
+/// Whether each key of a node's entries is greater than the one before it.
+fn children_rise(version: Version, mut entries: &[u8]) -> bool
+    requires { IsNode version entries.now [] }
+    ensures { IsTrue result ↔ Rising (map (λ c. c.key) (children_in version entries.now)) }
 {
     let mut last = None;
-    while let Some(key) = next_key(&mut entries) {
-        if !key_rises(last, key) {
+    while let Some((child, rest)) = split_first_child(version, entries) {
+        if !key_rises(last, child.key) {
             return false;
         }
-        last = Some(key);
+        last = Some(child.key);
+        entries = rest;
     }
     true
-}
-
-/// The key of the next entry.
-fn next_key<'a>(entries: &mut Entries<'a>) -> Option<&'a [u8]>
-    ensures { MatchOption result (keys_of entries.old ≡ [])
-        (λ key. keys_of entries.old ≡ key.now ∷ keys_of entries.new) }
-{
-    match entries {
-        Entries::Leaf(pairs) => {
-            let (key, _) = pairs.next()?;
-            Some(key)
-        }
-        Entries::Node(children) => {
-            let child = children.next()?;
-            Some(child.key)
-        }
-    }
 }

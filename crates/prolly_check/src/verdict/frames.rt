@@ -1,9 +1,10 @@
-//! The frames of a chunk file.
-ghost use Rattle.std.specs.Prelude.{◌≡◌, ◌≤◌, true, length, drop, IfOk};
+//! The frames of a chunk file, and what follows them.
+ghost use Rattle.std.specs.Prelude.{◌≡◌, ◌≤◌, true, Ok, Err, length, drop, IfOk, IfErr};
 ghost use Rattle.prolly_file.specs.Frame.{has_no_frame};
-ghost use Rattle.prolly_check.specs.Frames.{FramesTo, IsWithin, chunk_in};
+ghost use Rattle.prolly_check.specs.Frames.{FramesTo, IsWithin, chunk_in, ending_of};
 
-use prolly_file::{FRAME_START, HEADER_SIZE, frame_at};
+use crate::verdict::fault::CheckFault;
+use prolly_file::{END_LETTER, END_SIZE, FRAME_LETTER, FRAME_START, HEADER_SIZE, frame_at};
 use std::alloc::{AllocError, Global};
 use std::ops::Range;
 
@@ -31,6 +32,21 @@ pub(crate) fn find_frames(alloc: Global, bytes: &[u8]) -> Result<Frames, AllocEr
         let start = end + FRAME_START;
         end = start + len;
         spans.push(start..end)?;
+    }
+}
+
+/// Tests that the bytes, which no whole frame begins, are an end record. So many frames stand
+/// before.
+pub(crate) fn test_ending(bytes: &[u8], frames: usize) -> Result<(), CheckFault>
+    ensures found { IfOk result (λ r. ending_of frames bytes.now ≡ Ok (drop 1 bytes.now)) }
+    ensures err { IfErr result (λ fault. ending_of frames bytes.now ≡ Err fault) }
+{
+    match bytes {
+        [] | [FRAME_LETTER, ..] => Err(CheckFault::Truncated),
+        [END_LETTER, ..] if bytes.len() < END_SIZE => Err(CheckFault::Truncated),
+        [END_LETTER, ..] if bytes.len() > END_SIZE => Err(CheckFault::Trailing),
+        [END_LETTER, ..] => Ok(()),
+        _ => Err(CheckFault::BadFrame { chunk: frames }),
     }
 }
 

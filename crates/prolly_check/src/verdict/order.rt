@@ -11,7 +11,7 @@ use prolly_entry::key_rises;
 
 /// A key is not greater than the one before it.
 #[derive(Clone, Copy)]
-struct Falls;
+pub(crate) struct Falls;
 
 /// Tests that the keys of all chunks rise. Takes no memory: it keeps where the last key lies.
 pub(crate) fn test_order(chunks: &Chunks) -> Result<(), CheckFault>
@@ -30,7 +30,10 @@ pub(crate) fn test_order(chunks: &Chunks) -> Result<(), CheckFault>
 }
 
 /// The last key up to the end of a leaf, where its keys rise behind the last one before it.
-fn last_in<'a>(mut last: Option<&'a [u8]>, mut leaf: Pairs<'a>) -> Result<Option<&'a [u8]>, Falls>
+pub(crate) fn last_in<'a>(
+    mut last: Option<&'a [u8]>,
+    mut leaf: Pairs<'a>,
+) -> Result<Option<&'a [u8]>, Falls>
     ensures ok { IfOk result (λ new.
         RisesTo (option_copied last.entry) leaf.entry (option_copied new)) }
     ensures err { OnErr result (rises_behind (option_copied last.entry) leaf.entry ≡ false) }

@@ -2,6 +2,7 @@
 ghost use Rattle.std.specs.Prelude.{◌≡◌, [], ◌∷◌, ◌<◌, ◌≤◌, ◌^◌, None, Some, List, ℕ, length, OnOk};
 ghost use Rattle.std.specs.Prelude.{IfOk, IfErr};
 ghost use Rattle.std.specs.List.{flat_map};
+ghost use Rattle.prolly_entry.specs.Reference.{reference_of};
 ghost use Rattle.prolly_check.specs.Judged.{CompareAs};
 ghost use Rattle.prolly_check.specs.Held.{pairs_held};
 ghost use Rattle.prolly_check.specs.Checked.{AreReferences};
@@ -57,15 +58,15 @@ fn begin(alloc: Global, cut: Sha512Cut, version: Version) -> Result<Rebuild, All
 }
 
 /// Tests that the next chunk of a file, behind those whose references are there, is that of the
-/// event, and adds its reference. Answers the event, which carries it from then on.
+/// event. Adds its reference, and answers it.
 fn expect_chunk(
     chunks: &Chunks,
     references: &mut Vec<Ref>,
-    event: ChunkEvent,
-) -> Result<ChunkEvent, CheckFault>
-    ensures expected { IsExpected chunks.now references.old.items references.new.items event
+    event: &ChunkEvent,
+) -> Result<Ref, CheckFault>
+    ensures expected { IsExpected chunks.now references.old.items references.new.items event.now
         result }
-    ensures same { IfOk result (λ same. same ≡ event) }
+    ensures named { IfOk result (λ reference. reference.0 ≡ reference_of event.now.bytes) }
 {
     let number = references.len();
     if number >= chunks.len() {
@@ -74,11 +75,11 @@ fn expect_chunk(
     if chunks.chunk(number) != event.bytes() {
         return Err(CheckFault::NotCanonical { chunk: number });
     }
-    let event = event.with_reference();
-    let Ok(()) = references.push(event.reference()) else {
+    let reference = event.reference();
+    let Ok(()) = references.push(reference) else {
         return Err(CheckFault::Memory);
     };
-    Ok(event)
+    Ok(reference)
 }
 
 /// Lets an event pass the levels, if there is one, and compares what leaves the last one with the
@@ -100,7 +101,8 @@ fn pass(
     let Some(event) = event else {
         return Ok(());
     };
-    let event = expect_chunk(chunks, references, event)?;
+    let reference = expect_chunk(chunks, references, &event)?;
+    let event = event.with_known_reference(reference);
     match levels.split_first_mut() {
         None => Ok(()),
         Some((level, above)) => {

@@ -1,11 +1,11 @@
-use Rattle.std.proofs.Common.{All, refl, subst}
+use Rattle.std.proofs.Common.{All, subst}
 use Rattle.prolly_entry.specs.Byte.{IsByte}
 use Rattle.prolly_check.specs.FileWays.{nth_chunk}
 use Rattle.prolly_check.specs.Kinds.{kind_of}
 use Rattle.prolly_check.specs.Sought.{sought_of}
 use Rattle.prolly_check.specs.lemmas.Ways.{child_leads}
 use Rattle.prolly_check.proofs.HeldPairs.{some_byte}
-use Rattle.prolly_check.proofs.FileDescents.{is_ordered, is_there_below, next_is}
+use Rattle.prolly_check.proofs.FileDescents.{is_ordered, is_there_below, named_at, next_is}
 use Rattle.prolly_check.proofs.look_up.descent.below.Goals as goal
 
 pub step_of-requires-clause-ordered : goal.step_of-requires-clause-ordered
@@ -19,11 +19,8 @@ step_of-requires-clause-mark c = c.first.ensures.first c.version.result c.chunk-
     (is_ordered c.args.file.now c.requires.file c.args.at.number c.requires.top).whole))
 
 pub returns-in_err-child-clause-named : goal.returns-in_err-child-clause-named
-returns-in_err-child-clause-named c = record {
-  bytes = subst (All IsByte) c.chunk-chunk.ensures c.step_of.ensures.bytes;
-  is = refl;
-  ordered = is_ordered c.args.file.now c.requires.file c.args.at.number c.requires.top;
-}
+returns-in_err-child-clause-named c = named_at c.args.file.now c.requires.file
+    c.args.at.number c.requires.top (subst (All IsByte) c.chunk-chunk.ensures c.step_of.ensures.bytes)
 
 pub child-requires : goal.child-requires
 child-requires c = is_there_below c.args.file.now c.requires.file c.args.at.number c.requires.top
@@ -33,11 +30,8 @@ child-requires c = is_there_below c.args.file.now c.requires.file c.args.at.numb
     c.in_ok-child.child (rw (c.version.ensures, c.chunk-chunk.ensures) at c.in_ok-child.ensures.on))
 
 pub returns-clause-named : goal.returns-clause-named
-returns-clause-named c = record {
-  bytes = subst (All IsByte) c.chunk-chunk.ensures c.step_of.ensures.bytes;
-  is = refl;
-  ordered = is_ordered c.args.file.now c.requires.file c.args.at.number c.requires.top;
-}
+returns-clause-named c = named_at c.args.file.now c.requires.file
+    c.args.at.number c.requires.top (subst (All IsByte) c.chunk-chunk.ensures c.step_of.ensures.bytes)
 
 pub returns-clause-on : goal.returns-clause-on
 returns-clause-on c = next_is c.args.file.now c.requires.file c.args.at

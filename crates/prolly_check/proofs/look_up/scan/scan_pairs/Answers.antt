@@ -1,18 +1,12 @@
-use Rattle.std.proofs.Common.{◌≡◌, IfOk, refl, subst, sym, take}
-use Rattle.prolly_check.specs.FileWays.{nth_chunk}
-use Rattle.prolly_check.specs.Held.{pairs_held}
-use Rattle.prolly_check.specs.Sought.Sought.{Key}
-use Rattle.prolly_check.proofs.FileDescents.{end_tells}
-use Rattle.prolly_check.proofs.LeafRests.{from_number}
+use Rattle.std.proofs.Common.{[], arith}
+use Rattle.std.proofs.lemmas.Grind.{common_steps}
+use Rattle.prolly_check.proofs.PairsFrom.{leaf_scanned}
 use Rattle.prolly_check.proofs.look_up.scan.scan_pairs.Goals as goal
 
-pub returns : goal.returns
-returns c =
-    let file = c.args.file.now in
-    let key = c.args.from.now in
-    let end = c.descend-end.result in
-    let is = c.descend-end.ensures in
-    subst (λ ps. IfOk c.scan_chunks.result (λ pairs. pairs.items ≡ take c.args.limit ps))
-    (sym (from_number file is.file end.number is.end.within
-    (pairs_held (nth_chunk file end.number)) refl key
-    (end_tells file is.file (Key key) tt end is.end).1)) c.scan_chunks.ensures
+pub loop-leaf-preserved : goal.loop-leaf-preserved
+loop-leaf-preserved c = leaf_scanned c.args.from.now c.args.limit [] c.args.leaves
+    c.loop-leaf.found.items c.loop-leaf.leaves c.loop-leaf.invariant c.in-Some.leaf _
+    c.in-Some.ensures.next _ c.in_ok-scan_leaf.ensures.added
+
+pub returns-then-len-limit : goal.returns-then-len-limit
+returns-then-len-limit c = grind (arith, common_steps, leaf_scanned)

@@ -1,5 +1,4 @@
-use Rattle.std.proofs.Common.{sym, ap, ◌∙◌, arith}
-use Rattle.prolly_entry.specs.Reference.{reference_of}
+use Rattle.std.proofs.Common.{sym, ◌∙◌, arith}
 use Rattle.prolly_check.proofs.CheckedFile.{equal, unequal}
 use Rattle.prolly_check.proofs.Rebuilds.{is_past, is_other, is_same}
 use Rattle.prolly_check.proofs.verdict.rebuild.expect_chunk.Goals as goal
@@ -14,8 +13,6 @@ pub returns-clause-expected : goal.returns-clause-expected
 returns-clause-expected c =
     let count = c.len-number.ensures ∙ c.args.references.now.ok.0 in
     rw c.in-Ok.ensures.items (λ sent a. is_same c.args.chunks.now c.args.references.now.items
-    c.args.event sent a c.reference.result
-    (c.reference.ensures ∙ ap (λ e. reference_of e.bytes) c.with_reference-event.ensures)
-    (omega (arith, count))
-    (sym (rw count at c.chunk.ensures) ∙
+    c.args.event.now sent a c.reference-reference.result c.reference-reference.ensures
+    (omega (arith, count)) (sym (rw count at c.chunk.ensures) ∙
     equal c.chunk.result.now c.bytes.result.now c.if-ne.ensures ∙ c.bytes.ensures))

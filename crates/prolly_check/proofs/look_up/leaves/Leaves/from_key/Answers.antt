@@ -38,3 +38,6 @@ returns c =
           (λ none. false≢true (sym w.if-is_empty.false ∙ c.is_empty.ensures ∙
           ap (λ ps. length ps == 0) (c.rest_from-first.ensures ∙ none)))
     ]
+
+pub pairs-requires : goal.pairs-requires
+pairs-requires c = c.descend-end.ensures.end.within
