@@ -1,6 +1,6 @@
 -- The chunks of a level, one behind another, and the trees whose tops they are.
-use Rattle.std.proofs.Common.{◌≡◌, ℕ, zero, suc, ◌+◌, ◌-◌, ◌≤◌, ◌<◌, inl, inr, ◌⊎◌, List, [], ◌∷◌, ◌++◌}
-use Rattle.std.proofs.Common.{length, drop, map, get_or, refl, sym, ap, ◌∙◌, subst, arith}
+use Rattle.std.proofs.Common.{◌≡◌, ℕ, zero, suc, ◌+◌, ◌-◌, ◌≤◌, ◌<◌, inl, inr, ◌⊎◌, List, [], ◌∷◌}
+use Rattle.std.proofs.Common.{◌++◌, length, drop, map, get_or, refl, sym, ap, ◌∙◌, subst, arith}
 use Rattle.std.proofs.Common.{append_assoc}
 use Rattle.std.specs.List.{AllByRecursion, flat_map}
 use Rattle.std.proofs.Math.Seq.{drop-append_seam}
@@ -15,7 +15,7 @@ use Rattle.prolly_check.specs.Way.{level_of}
 use Rattle.prolly_entry.specs.declared.version.Version.{Version}
 use Rattle.prolly_tree.specs.Chunk.{post_order}
 use Rattle.prolly_tree.specs.Tree.{Tree, bytes_of}
-use Rattle.prolly_root.specs.Subtree.{IsPlaceNth, IsPlaceOf, chunks_of_trees}
+use Rattle.prolly_root.specs.Subtree.{IsPlaceNth, IsPlaceOf}
 use Rattle.prolly_root.specs.RootFault.{OnlyRead}
 use Rattle.prolly_root.specs.Walk.{IsBehind, IsFirst, IsNth, NoneBetween}
 use Rattle.prolly_root.specs.Walk.{chunks_below, chunks_of_tree}
@@ -89,20 +89,20 @@ module _ (content : Content) (level : ℕ) where
       NoneBetween content level behind (length (chunks_of content)) → ⊥
   not_none k zero from behind n few here h none =
       let first = nth_before k 0 from n (omega arith) h in
-      none first.n (subst (λ b. b ≤ first.n) (sym here) first.is.from_on) first.is.within first.is.is
+      none first.n (omega (arith, first.is.from_on, here)) first.is.within first.is.is
   not_none k (suc j) from behind n few here h none =
       let next = nth_before k (suc j) from n few h in
       let same = nth_one j from next.is.0 here.0 next.is.1 here.1 in
       none next.n (omega (arith, next.is.2.from_on, same, here.2)) next.is.2.within next.is.2.is
 
   -- so that where it is sought, only a read can have failed
-  pub only_read : (k j from behind n : ℕ) → j ≤ k → IsBehind content level from j behind →
-      IsNth content level from k n → {fault : RootFault} →
-      NoneBetween content level behind (length (chunks_of content)) ⊎ OnlyRead fault →
-      OnlyRead fault
-  only_read k j from behind n few here h (inl none) =
+  pub only_read : (k j from behind : ℕ) → j ≤ k → IsBehind content level from j behind →
+      {fault : RootFault} →
+      NoneBetween content level behind (length (chunks_of content)) ⊎ OnlyRead fault → (n : ℕ) →
+      IsNth content level from k n → OnlyRead fault
+  only_read k j from behind few here (inl none) n h =
       absurd (not_none k j from behind n few here h none)
-  only_read k j from behind n few here h (inr only) = only
+  only_read k j from behind few here (inr only) n h = only
 
   -- those behind the first
   nth_shift : (k from a n : ℕ) → IsFirst content level from a →
@@ -117,12 +117,18 @@ module _ (content : Content) (level : ℕ) where
 
 -- ---- the tops of trees
 
+-- the chunks of trees in the order of the file
+abbrev pub chunks_of_trees : Content → (level : ℕ) → List (Tree level) → List (List ℕ)
+chunks_of_trees content level ts =
+    map (λ c. c.bytes) (flat_map (post_order content.version level) ts)
+
 all_at : (version : Version) (level : ℕ) (cs : List (List ℕ)) (i : ℕ) →
     AllByRecursion (IsLower version level) cs →
     i < length cs → level_of (get_or cs i []) < level
 all_at version level [] i all within = absurd (omega (arith, within))
 all_at version level (c ∷ cs) zero all within = all.0
-all_at version level (c ∷ cs) (suc i) all within = all_at version level cs i all.1 (omega (arith, within))
+all_at version level (c ∷ cs) (suc i) all within =
+    all_at version level cs i all.1 (omega (arith, within))
 
 module _ (content : Content) (level : ℕ) where
   abbrev trees : List (Tree level) → List (List ℕ)

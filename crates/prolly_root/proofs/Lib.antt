@@ -10,6 +10,8 @@ pub mod Rightness
 pub mod Appending
 -- Going down from the root, from each chunk to the one that it refers to.
 pub mod Descending
+-- Faults of calls.
+pub mod Faults
 -- Going over the frames of a file.
 pub mod Walking
 -- Going down in a lawful tree, from a node to the top of a tree below it.

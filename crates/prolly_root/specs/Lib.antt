@@ -16,5 +16,3 @@ pub mod Descent
 pub mod Subtree
 -- A reader that looks up by the root again and again.
 pub mod Reader
--- What the proofs of the crates above may use.
-pub mod lemmas

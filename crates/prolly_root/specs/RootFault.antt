@@ -17,3 +17,9 @@ OnlyRead fault = fault ≡ Read
 -- There is no fault but want of memory, or that a read failed.
 abbrev pub MayFail : RootFault → Type 0
 MayFail fault = (fault ≡ Memory) ⊎ (fault ≡ Read)
+
+-- A call gives such a value, or fails with such a fault.
+abbrev pub IsOrFails : {T : Type 0} → (T → Type 0) → (RootFault → Type 0) → Result T RootFault →
+    Type 0
+IsOrFails is may (Ok value) = is value
+IsOrFails is may (Err fault) = may fault

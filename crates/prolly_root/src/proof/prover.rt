@@ -1,5 +1,6 @@
 //! The proof of what a map has at a key.
-ghost use Rattle.std.specs.Prelude.{◌≡◌, ◌++◌, OnOk, IfOk};
+ghost use Rattle.std.specs.Prelude.{◌≡◌, ◌++◌, map, OnOk, IfOk};
+ghost use Rattle.std.specs.List.{AllByRecursion, flat_map};
 ghost use Rattle.prolly_check.specs.Content.{Content};
 ghost use Rattle.prolly_check.specs.Verdict.{IsFileOf};
 ghost use Rattle.prolly_file.specs.Frame.{framed, IsSmall};
@@ -20,10 +21,20 @@ pub fn prove(alloc: Global, tree: &Tree, key: &[u8]) -> Result<Vec<u8>, AllocErr
 {
     let mut proof = Vec::new(alloc);
     proof.extend_from_slice(&proof_start(tree.version()))?;
-    for chunk in &tree.way_to(alloc, key)? {
-        append_frame(&mut proof, chunk)?;
-    }
+    append_frames(&mut proof, &tree.way_to(alloc, key)?)?;
     Ok(proof)
+}
+
+/// Appends the frames of chunks.
+fn append_frames(out: &mut Vec<u8>, chunks: &[&[u8]]) -> Result<(), AllocError>
+    ensures framed { OnOk result (out.new.items ≡
+        out.old.items ++ flat_map framed (map (λ c. c.now) chunks.now)) }
+    ensures small { OnOk result (AllByRecursion IsSmall (map (λ c. c.now) chunks.now)) }
+{
+    for chunk in chunks {
+        append_frame(out, chunk)?;
+    }
+    Ok(())
 }
 
 /// Appends the frame of a chunk.

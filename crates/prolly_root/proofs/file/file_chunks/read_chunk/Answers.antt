@@ -3,8 +3,8 @@ use Rattle.prolly_check.specs.FileWays.{nth_chunk}
 use Rattle.prolly_root.proofs.Subtrees.{all_read, chunk_there, read_whole}
 use Rattle.prolly_root.proofs.file.file_chunks.read_chunk.Goals as goal
 
-pub returns-then-count-len-clause-only : goal.returns-then-count-len-clause-only
-returns-then-count-len-clause-only g c content holds of =
+pub returns-then-count-len-clause-is : goal.returns-then-count-len-clause-is
+returns-then-count-len-clause-is g c content holds of =
     let chunk = nth_chunk content c.args.frame.now.number in
     let long : length c.read_at.new.buf ≡ length chunk =
     omega (
