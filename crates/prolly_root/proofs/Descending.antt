@@ -1,10 +1,12 @@
 -- Going down from the root, from each chunk to the one that it refers to.
 use Rattle.std.proofs.Common.{◌≡◌, ℕ, List, [], ◌∷◌, ◌++◌, Option, Some, None}
 use Rattle.std.proofs.Common.{IfSome}
-use Rattle.std.proofs.Common.{refl, sym, ap, ◌∙◌, subst}
+use Rattle.std.proofs.Common.{◌<◌, ◌-◌, length, get_or, arith, rules, refl, sym, ap, ◌∙◌, subst}
 use Rattle.std.specs.List.{AllByRecursion}
 use Rattle.std.specs.Option.{option_to_list}
-use Rattle.std.proofs.lemmas.List.{map-append}
+use Rattle.std.proofs.lemmas.List.{get_or_push, length-append, map-append}
+use Rattle.std.specs.Prelude.{All}
+use Rattle.prolly_entry.specs.Byte.{IsByte}
 use Rattle.prolly_check.specs.Content.{Content}
 use Rattle.prolly_check.specs.Kinds.{kind_of}
 use Rattle.prolly_check.specs.Sought.{Sought, EndsAt, LeadsOn, sought_of}
@@ -39,6 +41,14 @@ pub one_more : {T : Type 0} (levels new : List (ChunkOnWay T)) (level : ChunkOnW
 one_more levels new level kept = ap chunks_in kept ∙
     map-append (λ level. level.chunk.items) levels (level ∷ [])
 
+-- the last one
+pub read_last : {A : Type 0} (levels above : List A) (last read : A) (n : ℕ) →
+    levels ≡ above ++ last ∷ [] → n ≡ length levels → read ≡ get_or levels (n - 1) read →
+    read ≡ last
+read_last levels above last read n are long is = is ∙ ap (λ xs. get_or xs (n - 1) read) are ∙
+    get_or_push above last read (n - 1)
+    (omega (arith, long, ap length are, length-append above (last ∷ [])))
+
 -- ---- where a look-up stands
 
 -- these chunks led it to the one that is due
@@ -52,6 +62,14 @@ pub record Descended (version : Version) (root : List ℕ) (sought : Sought)
 abbrev pub room_below : Option ℕ → ℕ
 room_below None = 256
 room_below (Some level) = level
+
+pub less_room : (above next : Option ℕ) (chunk : List ℕ) → All IsByte chunk →
+    FallsTo above chunk → next ≡ Some (level_of chunk) → room_below next < room_below above
+less_room None next [] bytes falls is = subst (λ n. room_below n < 256) (sym is) (omega arith)
+less_room None next (b ∷ bs) bytes falls is =
+    subst (λ n. room_below n < 256) (sym is) (bytes 0 0 (omega arith))
+less_room (Some level) next chunk bytes falls is =
+    subst (λ n. room_below n < level) (sym is) (omega (arith, falls))
 
 pub none_passed : (version : Version) (root : List ℕ) (sought : Sought) (due : Due) →
     root ≡ due.reference.0 → due.above ≡ None → sought ≡ sought_of due.sought →

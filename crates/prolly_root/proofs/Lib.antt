@@ -10,8 +10,10 @@ pub mod Rightness
 pub mod Appending
 -- Going down from the root, from each chunk to the one that it refers to.
 pub mod Descending
--- Faults of calls.
+-- Calls one behind another, and their faults.
 pub mod Faults
+-- What a look-up leaves of its reader.
+pub mod Reading
 -- Going over the frames of a file.
 pub mod Walking
 -- Going down in a lawful tree, from a node to the top of a tree below it.

@@ -26,8 +26,7 @@ use Rattle.prolly_tree.specs.Chunk.{Chunk, chunk_of, chunks, post_order}
 use Rattle.prolly_tree.specs.File.{end_record, header, root_reference}
 use Rattle.prolly_tree.specs.Tree.{Tree, bytes_of, tree_of}
 use Rattle.prolly_file.specs.Device.{DeviceView}
-use Rattle.prolly_root.specs.RootFault.{TellsReads}
-use Rattle.prolly_root.specs.Walk.{GoesOver, HasRead, HoldsFile, IsFrame, IsStartOf, IsWalk}
+use Rattle.prolly_root.specs.Walk.{GoesOver, HoldsFile, IsFrame, IsStartOf, IsWalk}
 use Rattle.prolly_root.specs.Walk.{NoneBetween, StaysSame, chunks_below, chunks_of_tree}
 use Rattle.prolly_root.specs.Walk.{offset_of, size_of}
 use Rattle.prolly_root.specs.declared.root_fault.RootFault.{RootFault}
@@ -47,14 +46,15 @@ holds_still old new content same holds =
     }
 
 -- two calls, of which the first one succeeds, read and do no more
-pub reads_on : {A B : Type 0} (old mid new : DeviceView) (first : A) (result : Result B RootFault) →
-    HasRead old mid (Ok first) → HasRead mid new result → HasRead old new result
-reads_on old mid new first result read more = (
+pub reads_on : (old mid new : DeviceView) (tells : ℕ → Type 0) →
+    StaysSame old mid × (mid.failures ≡ old.failures) →
+    StaysSame mid new × tells mid.failures → StaysSame old new × tells old.failures
+reads_on old mid new tells read more = (
   λ honest.
       let kept = read.0 honest in
       let later = more.0 kept.0 in
       (later.0, later.1 ∙ kept.1),
-  subst (λ n. TellsReads n new.failures result) read.1 more.1,
+  subst tells read.1 more.1,
 )
 
 -- ---- the chunks of a tree

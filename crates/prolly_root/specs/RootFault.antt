@@ -5,10 +5,13 @@ use Rattle.prolly_root.specs.declared.root_fault.RootFault.{RootFault}
 use Rattle.prolly_root.specs.declared.root_fault.RootFault.TheVariants.{Memory, Read}
 
 -- That a read failed is told where one more call failed, and only there.
+abbrev pub TellsFailure : ℕ → ℕ → RootFault → Type 0
+TellsFailure old new Read = new ≡ after_failure old
+TellsFailure old new fault = new ≡ old
+
 abbrev pub TellsReads : {T : Type 0} → ℕ → ℕ → Result T RootFault → Type 0
 TellsReads old new (Ok value) = new ≡ old
-TellsReads old new (Err Read) = new ≡ after_failure old
-TellsReads old new (Err fault) = new ≡ old
+TellsReads old new (Err fault) = TellsFailure old new fault
 
 -- There is no fault but that a read failed.
 abbrev pub OnlyRead : RootFault → Type 0

@@ -17,7 +17,7 @@ use prolly_entry::{Ref, Version};
 use std::alloc::Global;
 
 /// What a look-up comes to at a chunk.
-#[derive(Clone, Copy)]
+#[derive(Drop)]
 pub(crate) enum Onward<'a, T> {
     /// It ends there.
     End,

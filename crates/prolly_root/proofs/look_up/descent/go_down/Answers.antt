@@ -1,26 +1,81 @@
-use Rattle.std.proofs.Common.{[], ◌∷◌, ◌++◌, refl, sym, subst, ◌∙◌, ap, rules}
+use Rattle.std.proofs.Common.{[], ◌∷◌, ◌++◌, ◌≡◌, inl, refl, sym, subst, ◌∙◌, ap}
 use Rattle.std.specs.List.{AllByRecursion}
 use Rattle.std.specs.Vec.Iter.{into_iter_items}
 use Rattle.prolly_check.specs.Sought.{sought_of}
 use Rattle.prolly_check.specs.Way.{IsNamed}
 use Rattle.prolly_entry.specs.lemmas.Lists.{all_append}
 use Rattle.prolly_root.specs.Descent.{IsOnward, IsTested, StandsInPlace, StepsDown, chunks_in}
-use Rattle.prolly_root.specs.RootFault.{MayFail}
-use Rattle.prolly_root.proofs.Descending.{Descended, next_kept, one_more, one_passed, way_ends}
+use Rattle.prolly_root.specs.RootFault.{TellsFailure}
+use Rattle.prolly_root.specs.declared.root_fault.RootFault.TheVariants.{Memory}
+use Rattle.prolly_root.proofs.Descending.{Descended, less_room, next_kept, none_passed}
+use Rattle.prolly_root.proofs.Descending.{one_more, one_passed, way_ends}
+use Rattle.prolly_root.proofs.Faults.{asked_on, handed_on}
 use Rattle.prolly_root.proofs.look_up.descent.go_down.Goals as goal
 
-pub returns-in_err-onward-clause-lawful : goal.returns-in_err-onward-clause-lawful
-returns-in_err-onward-clause-lawful g c content has same top keeps =
+pub chunk_at-requires : goal.chunk_at-requires
+chunk_at-requires g c = (next_kept (IsTested c.args.version) (into_iter_items c.loop-levels.kept)
+    (into_iter_items c.next.new.self) c.next.result c.next.ensures.items
+    c.loop-levels.invariant.kept).0
+
+pub step-requires : goal.step-requires
+step-requires g c = c.in_ok-chunk.ensures.is.is
+
+pub returns-in_err-chunk : goal.returns-in_err-chunk
+returns-in_err-chunk g c =
     let before = c.loop-levels.invariant in
-    let on = before.lawful content has same top keeps in
-    let next = next_kept (StandsInPlace g.S.ChunkSource.is_place content)
-    (into_iter_items c.loop-levels.kept) (into_iter_items c.next.new.self) c.next.result
-    c.next.ensures.items on.left in
-    let kept = c.in_ok-chunk.ensures.lawful content (before.asked.0 content has) same next.0 on.at in
-    let down = c.in_err-onward.ensures.lawful content
-    (c.in_ok-chunk.ensures.asked.0 content (before.asked.0 content has)) same kept in
-    let only : MayFail c.in_err-onward.field-0.0 = down.1 in
-    search rules
+    let fault = c.in_err-chunk.field-0.0 in
+    rw (handed_on fault c.from_residual.result c.from_residual.ensures) (record {
+      found = tt;
+      lawful = λ content has same top keeps.
+          let on = before.lawful content has same top keeps in
+          c.in_err-chunk.ensures.lawful content (before.asked.0 content has) same
+          (next_kept (StandsInPlace g.S.ChunkSource.is_place content)
+          (into_iter_items c.loop-levels.kept) (into_iter_items c.next.new.self) c.next.result
+          c.next.ensures.items on.left).0 on.at;
+      asked = asked_on g.S.ChunkSource.has g.S.ChunkSource.failures c.args.source.now
+          c.loop-levels.source c.chunk_at.new.source
+          (λ n. TellsFailure n (g.S.ChunkSource.failures c.chunk_at.new.source) fault)
+          before.asked c.in_err-chunk.ensures.asked;
+    })
+
+pub returns-in_err-onward : goal.returns-in_err-onward
+returns-in_err-onward g c =
+    let before = c.loop-levels.invariant in
+    let at = c.in_ok-chunk.ensures in
+    let stepped = c.in_err-onward.ensures in
+    let fault = c.in_err-onward.field-0.0 in
+    let has = g.S.ChunkSource.has in
+    let failures = g.S.ChunkSource.failures in
+    rw (handed_on fault c.from_residual-in_err-onward.result
+    c.from_residual-in_err-onward.ensures) (record {
+      found = tt;
+      lawful = λ content h same top keeps.
+          let on = before.lawful content h same top keeps in
+          let kept = at.lawful content (before.asked.0 content h) same
+          (next_kept (StandsInPlace g.S.ChunkSource.is_place content)
+          (into_iter_items c.loop-levels.kept) (into_iter_items c.next.new.self) c.next.result
+          c.next.ensures.items on.left).0 on.at in
+          (stepped.lawful content (at.asked.0 content (before.asked.0 content h)) same kept).1;
+      asked = asked_on has failures c.args.source.now c.chunk_at.new.source c.step.new.source
+          (λ n. TellsFailure n (failures c.step.new.source) fault)
+          (asked_on has failures c.args.source.now c.loop-levels.source c.chunk_at.new.source
+          (λ n. failures c.chunk_at.new.source ≡ n) before.asked at.asked) stepped.asked;
+    })
+
+pub returns-in_err-keep : goal.returns-in_err-keep
+returns-in_err-keep g c =
+    let has = g.S.ChunkSource.has in
+    let failures = g.S.ChunkSource.failures in
+    rw (handed_on Memory c.from_residual-in_err-keep.result
+    c.from_residual-in_err-keep.ensures) (record {
+      found = tt;
+      lawful = λ content h same top keeps. inl refl;
+      asked = asked_on has failures c.args.source.now c.chunk_at.new.source c.step.new.source
+          (λ n. failures c.step.new.source ≡ n)
+          (asked_on has failures c.args.source.now c.loop-levels.source c.chunk_at.new.source
+          (λ n. failures c.chunk_at.new.source ≡ n) c.loop-levels.invariant.asked
+          c.in_ok-chunk.ensures.asked) c.in_ok-onward.ensures.asked;
+    })
 
 pub returns-in-End-clause-found : goal.returns-in-End-clause-found
 returns-in-End-clause-found g c =
@@ -105,3 +160,31 @@ loop-levels-preserved g c =
             left = next.1;
           };
     }
+
+pub loop-levels-init : goal.loop-levels-init
+loop-levels-init g c = rw (c.new-levels.ensures.items, c.into_iter-kept.ensures.rest) (record {
+  way = none_passed c.args.version c.args.root.now.0 (sought_of c.args.sought) _ refl refl refl;
+  tested = tt;
+  kept = c.requires;
+  asked = (λ content has. has, refl);
+  lawful = λ content has same top keeps.
+      record { at = record { at = top; falls = tt }; met = tt; left = keeps };
+})
+
+pub loop-levels-smaller : goal.loop-levels-smaller
+loop-levels-smaller g c =
+    let due = c.loop-levels.due in
+    let chunk = c.in_ok-chunk.chunk.chunk.items in
+    let is = c.in_ok-chunk.ensures.is in
+    less_room due.above c.in-Below.next.above chunk is.is.named.bytes is.falls
+    (subst (IsOnward c.args.version (sought_of due.sought) chunk) c.in-Below.is
+    c.in_ok-onward.ensures.is).1
+
+pub returns-in-End-clause-asked : goal.returns-in-End-clause-asked
+returns-in-End-clause-asked g c =
+    let before = c.loop-levels.invariant.asked in
+    let at = c.in_ok-chunk.ensures.asked in
+    let stepped = c.in_ok-onward.ensures.asked in (
+      λ content has. stepped.0 content (at.0 content (before.0 content has)),
+      stepped.1 ∙ at.1 ∙ before.1,
+    )

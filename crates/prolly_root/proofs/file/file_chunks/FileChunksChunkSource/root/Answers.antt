@@ -1,4 +1,4 @@
-use Rattle.std.proofs.Common.{Ok}
+use Rattle.std.proofs.Common.{◌≡◌}
 use Rattle.prolly_root.proofs.Subtrees.{root_is_place}
 use Rattle.prolly_root.proofs.Walking.{holds_still, reads_on}
 use Rattle.prolly_root.proofs.file.file_chunks.FileChunksChunkSource.root.Goals as goal
@@ -23,5 +23,5 @@ returns-clause-asked g c =
             holds_still mid late content last.read.0 held,
             (last.last content held (below.begins content has.0).1).2,
           ),
-      (reads_on old mid late (tt {0}) (Ok (tt {0})) below.read last.read).1,
+      (reads_on old mid late (λ n. late.failures ≡ n) below.read last.read).1,
     )

@@ -28,11 +28,11 @@ pub loop-count-preserved : goal.loop-count-preserved
 loop-count-preserved g c =
     let old = g.D.Device.seen c.args.device.now in
     let mid = g.D.Device.seen c.loop-count.device in
+    let new = g.D.Device.seen c.next_of_level.new.device in
     let before = c.loop-count.invariant in
     let over = c.in_ok-next_of_level.ensures in record {
       near = omega (arith, c.loop-count-test.true);
-      read = reads_on old mid (g.D.Device.seen c.next_of_level.new.device) (tt {0}) (Ok (tt {0})) before.read
-          over.read;
+      read = reads_on old mid new (λ n. new.failures ≡ n) before.read over.read;
       reached = λ content has keeps first.
           let at = before.reached content has keeps first in
           let goes = over.goes content (holds_still old mid content before.read.0 has.0) at.0 in (
