@@ -48,12 +48,7 @@ falls_front (c ∷ d ∷ before) more down = (down.0, falls_front (d ∷ before)
 last_apart : (start : List ℕ) (before : List (List ℕ)) (last follows : List ℕ) →
     (start ++ flat_map framed (before ++ last ∷ [])) ++ follows ≡
     (start ++ flat_map framed before) ++ (framed last ++ follows)
-last_apart start before last follows =
-    let front = flat_map framed before in
-    ap (λ x. (start ++ x) ++ follows) (flat_map-append framed before (last ∷ []) ∙
-    ap (λ x. front ++ x) (append-nil (framed last))) ∙
-    ap (λ x. x ++ follows) (sym (append_assoc start front (framed last))) ∙
-    append_assoc (start ++ front) (framed last) follows
+last_apart start before last follows = simp (flat_map-append, append_assoc, append-nil)
 
 last_same : (xs ys : List (List ℕ)) (x y : List ℕ) → xs ++ x ∷ [] ≡ ys ++ y ∷ [] → x ≡ y
 last_same [] [] x y e = cc

@@ -2,20 +2,13 @@
 use Rattle.std.proofs.Common.{◌≡◌, ℕ, Result, Ok, Err, ap, subst, rules}
 use Rattle.std.specs.Prelude.{IsErr, IsErrAnd}
 use Rattle.prolly_check.specs.Content.{Content}
-use Rattle.prolly_root.specs.RootFault.{TellsFailure}
 use Rattle.prolly_root.specs.declared.root_fault.RootFault.{RootFault}
-use Rattle.prolly_root.specs.declared.root_fault.RootFault.TheVariants.{Read}
 
 -- what `?` hands on is the same fault
 pub handed_on : {T : Type 0} (fault : RootFault) (result : Result T RootFault) →
     IsErr result × IsErrAnd result (λ told. told ≡ fault) → result ≡ Err fault
 handed_on fault (Ok value) h = search rules
 handed_on fault (Err told) h = ap Err h.1
-
--- where another fault is told, no call failed
-pub none_failed : (old new : ℕ) (fault : RootFault) → (fault ≡ Read → ⊥) → new ≡ old →
-    TellsFailure old new fault
-none_failed old new fault other same = search rules
 
 -- two calls of a source, of which the first one succeeds
 pub asked_on : {S : Type 0} (has : S → Content → Type 0) (failures : S → ℕ) (old mid new : S)

@@ -104,17 +104,6 @@ module _ (content : Content) (level : ℕ) where
       absurd (not_none k j from behind n few here h none)
   only_read k j from behind few here (inr only) n h = only
 
-  -- those behind the first
-  nth_shift : (k from a n : ℕ) → IsFirst content level from a →
-      IsNth content level (suc a) k n → IsNth content level from (suc k) n
-  nth_shift zero from a n first h = (a, first, h)
-  nth_shift (suc k) from a n first h = (h.0, nth_shift k from a h.0 first h.1, h.2)
-
-  behind_shift : (k from a b : ℕ) → IsFirst content level from a →
-      IsBehind content level (suc a) k b → IsBehind content level from (suc k) b
-  behind_shift zero from a b first h = (a, first, h)
-  behind_shift (suc k) from a b first h = (h.0, nth_shift k from a h.0 first h.1, h.2)
-
 -- ---- the tops of trees
 
 -- the chunks of trees in the order of the file
@@ -188,46 +177,29 @@ module _ (content : Content) (level : ℕ) where
   }
 
   -- and so on, tree by tree
-  pub tops : (front : List (Tree level)) (t : Tree level) (after : List (Tree level))
-      (before left : List (List ℕ)) →
-      chunks_of content ≡ before ++ (trees (front ++ t ∷ after) ++ left) →
-      IsNth content level (length before) (length front)
-      (length before + length (trees front) + length (under t)) ×
-      IsBehind content level (length before) (length front)
-      (length before + length (trees front))
-  tops [] t after before left are = (
-    subst (IsFirst content level (length before)) (omega arith)
-        (top_first t before (trees after ++ left) (are ∙ ap (λ cs. before ++ cs)
-        (ap (λ cs. cs ++ left) (trees_cons t after) ∙ append_assoc (tree t) (trees after) left))),
-    omega arith,
-  )
-  tops (u ∷ front) t after before left are =
-      let rest = trees (front ++ t ∷ after) in
-      let split : chunks_of content ≡ before ++ (tree u ++ (rest ++ left)) =
-      are ∙ ap (λ cs. before ++ cs) (ap (λ cs. cs ++ left) (trees_cons u (front ++ t ∷ after)) ∙
-      append_assoc (tree u) rest left) in
-      let first = top_first u before (rest ++ left) split in
-      let more = tops front t after (before ++ tree u) left
-      (split ∙ sym (append_assoc before (tree u) (rest ++ left))) in
-      let long : length (before ++ tree u) ≡ suc (length before + length (under u)) =
-      omega (arith, length-append before (tree u), tree_length u) in
-      let all : length (trees (u ∷ front)) ≡ length (tree u) + length (trees front) =
-      ap length (trees_cons u front) ∙ length-append (tree u) (trees front) in (
-        subst (IsNth content level (length before) (suc (length front)))
-            (omega (arith, length-append before (tree u), all))
-            (nth_shift content level (length front) (length before)
-            (length before + length (under u))
-            (length (before ++ tree u) + length (trees front) + length (under t)) first
-            (subst (λ from. IsNth content level from (length front)
-            (length (before ++ tree u) + length (trees front) + length (under t))) long more.0)),
-        subst (IsBehind content level (length before) (suc (length front)))
-            (omega (arith, length-append before (tree u), all))
-            (behind_shift content level (length front) (length before)
-            (length before + length (under u))
-            (length (before ++ tree u) + length (trees front)) first
-            (subst (λ from. IsBehind content level from (length front)
-            (length (before ++ tree u) + length (trees front))) long more.1)),
-      )
+  behind_tops : (front : List (Tree level)) (before left : List (List ℕ)) (from k to n : ℕ) →
+      chunks_of content ≡ before ++ (trees front ++ left) →
+      IsBehind content level from k (length before) → to ≡ k + length front →
+      n ≡ length before + length (trees front) → IsBehind content level from to n
+  behind_tops [] before left from k to n are h count long =
+      let same : k ≡ to = omega (arith, count) in
+      let there : length before ≡ n = omega (arith, long) in
+      subst (λ k. IsBehind content level from k n) same
+      (subst (IsBehind content level from k) there h)
+  behind_tops (u ∷ front) before left from k to n are h count long =
+      behind_tops front (before ++ tree u) left from (k + 1) to n
+      (are ∙ rw (trees_cons u front) (simp append_assoc))
+      (behind_next content level from k (length before) (length before + length (under u))
+      (length (before ++ tree u)) h (top_first u before (trees front ++ left)
+      (are ∙ rw (trees_cons u front) (simp append_assoc)))
+      (omega (arith, length-append before (tree u), tree_length u))) (omega (arith, count))
+      (omega (
+        arith,
+        long,
+        length-append before (tree u),
+        ap length (trees_cons u front),
+        length-append (tree u) (trees front),
+      ))
 
 -- the tree is the one with so many before it among trees of the file whose frames begin at the
 -- number
@@ -246,39 +218,11 @@ module _ (content : Content) (level : ℕ) (t : Tree level) (from k : ℕ)
   abbrev ahead : ℕ
   ahead = length a.before + length (chunks_of_trees content level a.front)
 
-  -- so its top is that one of the level
-  pub top_nth : IsNth content level from k
-      (ahead + length (chunks_below content.version level t))
-  top_nth = subst (λ from. IsNth content level from k
-      (ahead + length (chunks_below content.version level t))) (sym a.first)
-      (subst (λ k. IsNth content level (length a.before) k
-      (ahead + length (chunks_below content.version level t))) a.number
-      (tops content level a.front t a.after a.before a.left a.are).0)
-
-  pub place_found : (place : Place) → IsPlaceNth content level from k place →
-      IsPlaceOf content level t place
-  place_found place p =
-      let rest = chunks_of_trees content level a.front in
-      let own = chunks_of_tree content.version level t in
-      let more = chunks_of_trees content level a.after in
-      let long = length-append a.before rest in
-      record {
-        before = a.before ++ rest;
-        left = more ++ a.left;
-        are = a.are ∙ ap (λ cs. a.before ++ (cs ++ a.left))
-            (trees_append a.front (t ∷ a.after) ∙
-            ap (λ cs. rest ++ cs) (trees_cons content level t a.after)) ∙
-            regroup a.before rest own more a.left;
-        below = p.below;
-        first = behind_one content level k from place.below.number ahead p.behind
-            (subst (λ from. IsBehind content level from k ahead) (sym a.first)
-            (subst (λ k. IsBehind content level (length a.before) k ahead) a.number
-            (tops content level a.front t a.after a.before a.left a.are).1)) ∙ sym long;
-        frame = p.frame;
-        top = nth_one content level k from place.frame.number
-            (ahead + length (chunks_below content.version level t)) p.nth top_nth ∙
-            ap (λ n. n + length (chunks_below content.version level t)) (sym long);
-      }
+  parted : chunks_of content ≡ (a.before ++ chunks_of_trees content level a.front) ++
+      (chunks_of_tree content.version level t ++
+      (chunks_of_trees content level a.after ++ a.left))
+  parted = a.are ∙ rw (trees_append a.front (t ∷ a.after), trees_cons content level t a.after)
+      (simp append_assoc)
     where
       trees_append : (done rest : List (Tree level)) →
           chunks_of_trees content level (done ++ rest) ≡
@@ -288,7 +232,36 @@ module _ (content : Content) (level : ℕ) (t : Tree level) (from k : ℕ)
           map-append (λ c. c.bytes) (flat_map (post_order content.version level) done)
           (flat_map (post_order content.version level) rest)
 
-      regroup : (before rest own more left : List (List ℕ)) →
-          before ++ ((rest ++ (own ++ more)) ++ left) ≡
-          (before ++ rest) ++ (own ++ (more ++ left))
-      regroup before rest own more left = simp append_assoc
+  behind_there : IsBehind content level from k ahead
+  behind_there = behind_tops content level a.front a.before (chunks_of_tree content.version level t
+      ++ (chunks_of_trees content level a.after ++ a.left)) from 0 k ahead
+      (parted ∙ simp append_assoc) (sym a.first) (omega (arith, a.number)) refl
+
+  -- so its top is that one of the level
+  pub top_nth : IsNth content level from k
+      (ahead + length (chunks_below content.version level t))
+  top_nth = nth_next content level k from ahead
+      (ahead + length (chunks_below content.version level t)) behind_there
+      (subst (λ n. IsFirst content level n (n + length (chunks_below content.version level t)))
+      (length-append a.before (chunks_of_trees content level a.front))
+      (top_first content level t (a.before ++ chunks_of_trees content level a.front)
+      (chunks_of_trees content level a.after ++ a.left) parted))
+
+  pub place_found : (place : Place) → IsPlaceNth content level from k place →
+      IsPlaceOf content level t place
+  place_found place p =
+      let rest = chunks_of_trees content level a.front in
+      let more = chunks_of_trees content level a.after in
+      let long = length-append a.before rest in
+      record {
+        before = a.before ++ rest;
+        left = more ++ a.left;
+        are = parted;
+        below = p.below;
+        first = behind_one content level k from place.below.number ahead p.behind behind_there ∙
+            sym long;
+        frame = p.frame;
+        top = nth_one content level k from place.frame.number
+            (ahead + length (chunks_below content.version level t)) p.nth top_nth ∙
+            ap (λ n. n + length (chunks_below content.version level t)) (sym long);
+      }

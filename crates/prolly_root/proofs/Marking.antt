@@ -1,7 +1,7 @@
 -- Counting the chunks of each level on the way to the root.
 use Rattle.std.proofs.Common.{◌≡◌, ℕ, zero, suc, ◌+◌, ◌<◌, ◌≤◌, inl, inr, ◌⊎◌, List, length}
 use Rattle.std.proofs.Common.{get_or, replicate, set, refl, sym, ◌∙◌, subst, arith}
-use Rattle.std.proofs.lemmas.Bool.{cases_lt}
+use Rattle.std.proofs.lemmas.Bool.{cases_eq, cases_lt}
 use Rattle.std.proofs.lemmas.List.{get_or-replicate, get_or-set_same, get_or-set_other}
 use Rattle.std.proofs.lemmas.List.{length-replicate, length-set}
 use Rattle.prolly_check.specs.Content.{Content}
@@ -110,20 +110,13 @@ none_begun content number runs are = record {
 set_at : (P : Run → Type 0) (runs : List Run) (at level : ℕ) (run : Run) → at < length runs →
     (level ≡ at → P run) → ((level ≡ at → ⊥) → P (run_at runs level)) →
     P (run_at (set runs at run) level)
-set_at P runs at level run within here there = by_order (cases_lt level at) (cases_lt at level)
+set_at P runs at level run within here there = by_case (cases_eq level at)
   where
-    by_order : (level < at) ⊎ (at ≤ level) → (at < level) ⊎ (level ≤ at) →
-        P (run_at (set runs at run) level)
-    by_order (inl less) other = subst P
-        (sym (get_or-set_other runs at level run (fresh 0) (λ e. omega (arith, e, less))))
-        (there (λ e. omega (arith, e, less)))
-    by_order (inr most) (inl less) = subst P
-        (sym (get_or-set_other runs at level run (fresh 0) (λ e. omega (arith, e, less))))
-        (there (λ e. omega (arith, e, less)))
-    by_order (inr most) (inr least) =
-        let e : level ≡ at = omega (arith, most, least) in
-        subst (λ n. P (run_at (set runs at run) n)) (sym e)
+    by_case : (level ≡ at) ⊎ (level ≡ at → ⊥) → P (run_at (set runs at run) level)
+    by_case (inl e) = subst (λ n. P (run_at (set runs at run) n)) (sym e)
         (subst P (sym (get_or-set_same runs at run (fresh 0) within)) (here e))
+    by_case (inr other) = subst P (sym (get_or-set_other runs at level run (fresh 0) other))
+        (there other)
 
 pub one_begun : (content : Content) (number lower : ℕ) (runs : List Run) → lower < 32 →
     Begun content number lower runs →

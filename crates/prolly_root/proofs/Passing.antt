@@ -102,10 +102,7 @@ module _ (version : Version) (root key chunks : List ℕ) (due : Due) (count : �
       })))
 
       spelled : chunks ≡ flat_map framed (s.passed ++ chunk ∷ []) ++ behind
-      spelled = s.is ∙ ap (λ x. flat_map framed s.passed ++ x) is ∙
-          sym (append_assoc (flat_map framed s.passed) (framed chunk) behind) ∙
-          ap (λ x. x ++ behind) (sym (flat_map-append framed s.passed (chunk ∷ []) ∙
-          ap (λ x. flat_map framed s.passed ++ x) (append-nil (framed chunk))))
+      spelled = s.is ∙ rw is (simp (flat_map-append, append_assoc, append-nil))
 
       all_small : AllByRecursion IsSmall (s.passed ++ chunk ∷ [])
       all_small = all_append IsSmall s.passed (chunk ∷ []) s.small (small, tt)
@@ -137,9 +134,8 @@ module _ (version : Version) (root key chunks : List ℕ) (due : Due) (count : �
           pub ends_here : behind ≡ [] →
               IsProof version root key bytes (find (pairs_held chunk) key)
           ends_here none = subst (λ x. IsProof version root key x (find (pairs_held chunk) key))
-              (ap (λ x. proof_start version ++ x) (sym (spelled ∙
-              ap (λ x. flat_map framed (s.passed ++ chunk ∷ []) ++ x) none ∙
-              append-nil (flat_map framed (s.passed ++ chunk ∷ []))))) proves
+              (ap (λ x. proof_start version ++ x) (sym (spelled ∙ rw none (append-nil
+              (flat_map framed (s.passed ++ chunk ∷ [])))))) proves
 
           more_from : (left : List ℕ) → behind ≡ left → (left ≡ [] → ⊥) →
               HasMore version root key bytes

@@ -97,9 +97,7 @@ child_among content level ts number t place stands at =
       first = stands.first;
       are = subst (λ trees. chunks_of content ≡
           stands.before ++ (chunks_of_trees content level trees ++ top ∷ stands.left)) at.are
-          (stands.are ∙ ap (λ cs. stands.before ++ cs)
-          (ap (λ cs. cs ++ stands.left) (top_last content.version (suc level) ts) ∙
-          append_assoc (chunks_of_trees content level ts) (top ∷ []) stands.left));
+          (stands.are ∙ rw (top_last content.version (suc level) ts) (simp append_assoc));
     }
 
 -- the chunk in the place of a tree is its top

@@ -149,14 +149,10 @@ module _ (bytes : List ℕ) (content : Content) (f : IsFileOf bytes content) (n 
   behind = flat_map framed (drop n cs) ++ ending
 
   pub apart : bytes ≡ front ++ behind
-  apart =
-      let begins = header content.version content.bits in
-      f.is ∙ ap (λ x. begins ++ (x ++ ending))
+  apart = f.is ∙ ap (λ x. header content.version content.bits ++ (x ++ ending))
       (frames_bytes (chunks (sha512_cut content.bits) content.version content.pairs) ∙
       ap (flat_map framed) (sym (take-append-drop n cs)) ∙
-      flat_map-append framed (take n cs) (drop n cs)) ∙ ap (λ x. begins ++ x)
-      (append_assoc (flat_map framed (take n cs)) (flat_map framed (drop n cs)) ending) ∙
-      sym (append_assoc begins (flat_map framed (take n cs)) behind)
+      flat_map-append framed (take n cs) (drop n cs)) ∙ simp append_assoc
 
   pub front_length : length front ≡ offset_of content n
   front_length = length-append (header content.version content.bits) (flat_map framed (take n cs))

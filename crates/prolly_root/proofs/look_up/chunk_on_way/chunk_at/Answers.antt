@@ -1,17 +1,15 @@
-use Rattle.std.proofs.Common.{ap, subst, sym}
+use Rattle.std.proofs.Common.{ap, subst, sym, rules}
 use Rattle.std.proofs.lemmas.Bool.{false≢true}
 use Rattle.prolly_check.specs.Way.{FallsTo}
-use Rattle.prolly_root.proofs.Faults.{handed_on}
+use Rattle.prolly_root.specs.RootFault.{MayFail}
 use Rattle.prolly_root.proofs.LawfulSteps.{kept_falls}
 use Rattle.prolly_root.proofs.look_up.chunk_on_way.chunk_at.Goals as goal
 
-pub returns-in_err-chunk : goal.returns-in_err-chunk
-returns-in_err-chunk g c = rw (handed_on c.in_err-chunk.field-0.0 c.from_residual.result
-    c.from_residual.ensures) (record {
-  is = tt;
-  lawful = λ content has same keeps due. c.in_err-chunk.ensures.lawful content has same due.at;
-  asked = c.in_err-chunk.ensures.asked;
-})
+pub returns-in_err-chunk-clause-lawful : goal.returns-in_err-chunk-clause-lawful
+returns-in_err-chunk-clause-lawful g c content has same keeps due =
+    let only : MayFail c.in_err-chunk.field-0.0 =
+    c.in_err-chunk.ensures.lawful content has same due.at in
+    search rules
 
 pub returns-then-not-falls_to-clause-lawful : goal.returns-then-not-falls_to-clause-lawful
 returns-then-not-falls_to-clause-lawful g c content has same keeps due =

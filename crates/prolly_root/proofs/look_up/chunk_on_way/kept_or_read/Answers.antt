@@ -9,12 +9,7 @@ also_where : {T : Type 0} (P : T → Type 0) (K : Type 0) (result : Result T Roo
 also_where P K (Ok value) h = λ k. h
 also_where P K (Err fault) h = h
 
-pub returns-in_default : goal.returns-in_default
-returns-in_default g c = record {
-  is = c.read.ensures.is;
-  lawful = λ content has same at.
-      let P = StandsInPlace g.S.ChunkSource.is_place content in
-      also_where P (IfSome c.args.kept P) c.read.result
-      (c.read.ensures.lawful content has same at);
-  asked = c.read.ensures.asked;
-}
+pub returns-in_default-clause-lawful : goal.returns-in_default-clause-lawful
+returns-in_default-clause-lawful g c content has same at =
+    let P = StandsInPlace g.S.ChunkSource.is_place content in
+    also_where P (IfSome c.args.kept P) c.read.result (c.read.ensures.lawful content has same at)

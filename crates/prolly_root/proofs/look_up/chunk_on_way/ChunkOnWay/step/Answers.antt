@@ -1,32 +1,15 @@
 use Rattle.std.proofs.Common.{◌≡◌, Ok, Err, refl, subst, rules}
 use Rattle.prolly_check.specs.Sought.{IsMark, sought_of}
 use Rattle.prolly_check.specs.Way.{level_of}
-use Rattle.prolly_root.proofs.Faults.{handed_on}
 use Rattle.prolly_root.proofs.LawfulSteps.{steps_down}
 use Rattle.prolly_root.proofs.look_up.chunk_on_way.ChunkOnWay.step.Goals as goal
 
-pub returns-in_err-place : goal.returns-in_err-place
-returns-in_err-place g c =
-    let fault = c.in_err-place.field-0.0 in
-    let l = c.index-level.result.now in
-    rw (handed_on fault c.from_residual.result c.from_residual.ensures) (record {
-      is = tt;
-      stays = (refl, refl);
-      level = record {
-        named = c.requires.named;
-        mark = subst (λ bytes. IsMark c.args.version bytes c.in-Some.child.passed)
-            c.deref.ensures.value c.in-Some.ensures.passed;
-      };
-      lawful = λ content has same kept.
-          let high : l ≡ level_of c.args.self.now.chunk.items = search rules in
-          steps_down g.S.ChunkSource.is_place content c.args.self.now
-          c.tops_are_read.ensures.child c.tops_are_read.ensures.read kept c.args.version same
-          c.deref.result.now c.deref.ensures.value (sought_of c.args.sought) c.in-Some.child
-          c.in-Some.ensures.on l high _ refl refl
-          (λ ts. c.in_err-place.ensures.node content ts has) (Err fault)
-          (λ ts t. c.in_err-place.ensures.place content ts t has);
-      asked = c.in_err-place.ensures.asked;
-    })
+pub returns-in_err-place-clause-level : goal.returns-in_err-place-clause-level
+returns-in_err-place-clause-level g c = record {
+  named = c.requires.named;
+  mark = subst (λ bytes. IsMark c.args.version bytes c.in-Some.child.passed) c.deref.ensures.value
+      c.in-Some.ensures.passed;
+}
 
 pub returns-clause-level : goal.returns-clause-level
 returns-clause-level g c = record {
@@ -34,6 +17,17 @@ returns-clause-level g c = record {
   mark = subst (λ bytes. IsMark c.args.version bytes c.in-Some.child.passed) c.deref.ensures.value
       c.in-Some.ensures.passed;
 }
+
+pub returns-in_err-place-clause-lawful : goal.returns-in_err-place-clause-lawful
+returns-in_err-place-clause-lawful g c content has same kept =
+    let l = c.index-level.result.now in
+    let high : l ≡ level_of c.args.self.now.chunk.items = search rules in
+    let down = steps_down g.S.ChunkSource.is_place content c.args.self.now
+    c.tops_are_read.ensures.child c.tops_are_read.ensures.read kept c.args.version same
+    c.deref.result.now c.deref.ensures.value (sought_of c.args.sought) c.in-Some.child
+    c.in-Some.ensures.on l high _ refl refl (λ ts. c.in_err-place.ensures.node content ts has)
+    (Err c.in_err-place.field-0.0) (λ ts t. c.in_err-place.ensures.place content ts t has) in
+    (down.0, search rules)
 
 pub returns-clause-lawful : goal.returns-clause-lawful
 returns-clause-lawful g c content has same kept =
