@@ -1,12 +1,10 @@
-use Rattle.std.proofs.Common.{◌≡◌, ap, inl, refl, subst, sym, ◌∙◌}
+use Rattle.std.proofs.Common.{◌≡◌, ap, subst, sym, ◌∙◌}
 use Rattle.prolly_check.specs.Held.{pairs_held}
 use Rattle.prolly_check.specs.Sought.{sought_of}
 use Rattle.prolly_check.specs.Sought.Sought.{Number}
 use Rattle.prolly_check.specs.Way.{IsCountWay, IsWayTo, nth_sought}
 use Rattle.prolly_root.specs.Descent.{LastTested, chunks_in}
-use Rattle.prolly_root.specs.declared.root_fault.RootFault.TheVariants.{Memory}
-use Rattle.prolly_root.proofs.Faults.{handed_on}
-use Rattle.prolly_root.proofs.Reading.{keeps_levels, look_up_fails}
+use Rattle.prolly_root.proofs.Reading.{keeps_levels}
 use Rattle.prolly_root.proofs.look_up.reader.Reader.nth.Goals as goal
 
 pub pairs-requires : goal.pairs-requires
@@ -35,20 +33,3 @@ returns-clause-kept g c content has reader =
     keeps_levels g.S.ChunkSource.is_place content c.args.self.now _
     (ap (λ r. r.version) c.self.view_is ∙ left.of.0) (ap (λ r. r.root) c.self.view_is ∙ left.of.1)
     (ap (λ r. r.top) c.self.view_is ∙ left.of.2) (left.lawful content has reader) reader
-
-pub returns-in_err-descent : goal.returns-in_err-descent
-returns-in_err-descent g c =
-    let left = c.in_err-descent.ensures in
-    look_up_fails g.S.ChunkSource.is_place g.S.ChunkSource.has g.S.ChunkSource.failures
-    c.args.self.now c.descend.new.self c.args.source.now c.descend.new.source left.of _
-    c.in_err-descent.field-0.0 c.from_residual.result (handed_on c.in_err-descent.field-0.0
-    c.from_residual.result c.from_residual.ensures) left.lawful left.asked
-
-pub returns-in_err-pair : goal.returns-in_err-pair
-returns-in_err-pair g c =
-    let left = c.in_ok-descent.ensures in
-    look_up_fails g.S.ChunkSource.is_place g.S.ChunkSource.has g.S.ChunkSource.failures
-    c.args.self.now c.descend.new.self c.args.source.now c.descend.new.source left.of _
-    Memory c.from_residual-in_err-pair.result (handed_on Memory
-    c.from_residual-in_err-pair.result c.from_residual-in_err-pair.ensures)
-    (λ content has reader. inl refl) left.asked

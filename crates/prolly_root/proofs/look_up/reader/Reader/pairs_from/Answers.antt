@@ -1,10 +1,8 @@
-use Rattle.std.proofs.Common.{ap, inl, refl, subst, sym, take, ◌∙◌}
+use Rattle.std.proofs.Common.{ap, refl, subst, sym, take, ◌∙◌}
 use Rattle.prolly_check.specs.Held.{pairs_held}
 use Rattle.prolly_check.specs.Leaves.{pairs_from}
 use Rattle.prolly_root.specs.Descent.{LastTested}
-use Rattle.prolly_root.specs.declared.root_fault.RootFault.TheVariants.{Memory}
-use Rattle.prolly_root.proofs.Faults.{handed_on}
-use Rattle.prolly_root.proofs.Reading.{keeps_levels, look_up_fails}
+use Rattle.prolly_root.proofs.Reading.{keeps_levels}
 use Rattle.prolly_root.proofs.look_up.reader.Reader.pairs_from.Goals as goal
 
 pub pairs-requires : goal.pairs-requires
@@ -29,20 +27,3 @@ returns-clause-kept g c content has reader =
     keeps_levels g.S.ChunkSource.is_place content c.args.self.now _
     (ap (λ r. r.version) c.self.view_is ∙ left.of.0) (ap (λ r. r.root) c.self.view_is ∙ left.of.1)
     (ap (λ r. r.top) c.self.view_is ∙ left.of.2) (left.lawful content has reader) reader
-
-pub returns-in_err-descent : goal.returns-in_err-descent
-returns-in_err-descent g c =
-    let left = c.in_err-descent.ensures in
-    look_up_fails g.S.ChunkSource.is_place g.S.ChunkSource.has g.S.ChunkSource.failures
-    c.args.self.now c.descend.new.self c.args.source.now c.descend.new.source left.of _
-    c.in_err-descent.field-0.0 c.from_residual.result (handed_on c.in_err-descent.field-0.0
-    c.from_residual.result c.from_residual.ensures) left.lawful left.asked
-
-pub returns-in_err-pairs : goal.returns-in_err-pairs
-returns-in_err-pairs g c =
-    let left = c.in_ok-descent.ensures in
-    look_up_fails g.S.ChunkSource.is_place g.S.ChunkSource.has g.S.ChunkSource.failures
-    c.args.self.now c.descend.new.self c.args.source.now c.descend.new.source left.of _
-    Memory c.from_residual-in_err-pairs.result (handed_on Memory
-    c.from_residual-in_err-pairs.result c.from_residual-in_err-pairs.ensures)
-    (λ content has reader. inl refl) left.asked
