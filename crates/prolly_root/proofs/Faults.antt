@@ -11,10 +11,10 @@ handed_on fault (Ok value) h = search rules
 handed_on fault (Err told) h = ap Err h.1
 
 -- two calls of a source, of which the first one succeeds
-pub asked_on : {S : Type 0} (has : S → Content → Type 0) (failures : S → ℕ) (old mid new : S)
-    (tells : ℕ → Type 0) →
+pub asked_on : {S : Type 0} (has : S → Content → Type 0) (failures : S → ℕ)
+    {old mid new : S} (tells : ℕ → Type 0) →
     ((content : Content) → has old content → has mid content) × (failures mid ≡ failures old) →
     ((content : Content) → has mid content → has new content) × tells (failures mid) →
     ((content : Content) → has old content → has new content) × tells (failures old)
-asked_on has failures old mid new tells asked more =
+asked_on has failures tells asked more =
     (λ content h. more.0 content (asked.0 content h), subst tells asked.1 more.1)

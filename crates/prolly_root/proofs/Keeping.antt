@@ -4,7 +4,7 @@ use Rattle.std.proofs.Common.{◌++◌, length, drop, map, get_or, refl, sym, ap
 use Rattle.std.proofs.Common.{append_assoc}
 use Rattle.std.specs.List.{AllByRecursion, flat_map}
 use Rattle.std.proofs.Math.Seq.{drop-append_seam}
-use Rattle.std.proofs.lemmas.Bool.{cases_lt}
+use Rattle.std.proofs.lemmas.Bool.{cases_eq, cases_lt}
 use Rattle.std.proofs.lemmas.List.{get_or-drop, get_or_append_left, get_or_push, length-append}
 use Rattle.std.proofs.lemmas.List.{map-append}
 use Rattle.std.proofs.lemmas.List.Concat.{flat_map-append}
@@ -63,46 +63,39 @@ module _ (content : Content) (level : ℕ) where
   behind_next from k behind n next h first e =
       suc_behind from k next (n, nth_next k from behind n h first, e)
 
-  -- where one has so many before it, there is one with fewer
-  pub record HasNth (from k : ℕ) : Type 0 where
-    pub n : ℕ
-    pub is : IsNth content level from k n
-
-  nth_before : (k j from n : ℕ) → j ≤ k → IsNth content level from k n → HasNth from j
-  nth_before zero j from n few h = let e : 0 ≡ j = omega (arith, few) in record {
-    n = n;
-    is = subst (λ j. IsNth content level from j n) e h;
-  }
-  nth_before (suc k) j from n few h =
-      by_order (cases_lt k j) (λ most. nth_before k j from h.0 most h.1)
+  -- the one with fewer before it comes first
+  nth_less : (k j from m n : ℕ) → j < k → IsNth content level from j m →
+      IsNth content level from k n → m < n
+  nth_less zero j from m n less h g = absurd (omega (arith, less))
+  nth_less (suc k) j from m n less h g =
+      by_case (cases_eq j k) (λ before. nth_less k j from m g.0 before h g.1)
     where
-      by_order : (k < j) ⊎ (j ≤ k) → (j ≤ k → HasNth from j) → HasNth from j
-      by_order (inl less) before = let e : suc k ≡ j = omega (arith, few, less) in record {
-        n = n;
-        is = subst (λ j. IsNth content level from j n) e h;
-      }
-      by_order (inr most) before = before most
+      by_case : (j ≡ k) ⊎ (j ≡ k → ⊥) → (j < k → m < g.0) → m < n
+      by_case (inl e) before =
+          let same = nth_one k from m g.0 (subst (λ j. IsNth content level from j m) e h) g.1 in
+          omega (arith, same, g.2.from_on)
+      by_case (inr other) before =
+          omega (arith, before (omega (arith, less, other)), g.2.from_on)
 
-  -- behind fewer of them there is another
-  not_none : (k j from behind n : ℕ) → j ≤ k → IsBehind content level from j behind →
-      IsNth content level from k n →
-      NoneBetween content level behind (length (chunks_of content)) → ⊥
-  not_none k zero from behind n few here h none =
-      let first = nth_before k 0 from n (omega arith) h in
-      none first.n (omega (arith, first.is.from_on, here)) first.is.within first.is.is
-  not_none k (suc j) from behind n few here h none =
-      let next = nth_before k (suc j) from n few h in
-      let same = nth_one j from next.is.0 here.0 next.is.1 here.1 in
-      none next.n (omega (arith, next.is.2.from_on, same, here.2)) next.is.2.within next.is.2.is
+  nth_from : (k from n : ℕ) → IsNth content level from k n → from ≤ n
+  nth_from zero from n h = h.from_on
+  nth_from (suc k) from n h = omega (arith, nth_from k from h.0 h.1, h.2.from_on)
 
-  -- so that where it is sought, only a read can have failed
+  -- so that where it is sought behind fewer, only a read can have failed
   pub only_read : (k j from behind : ℕ) → j ≤ k → IsBehind content level from j behind →
       {fault : RootFault} →
       NoneBetween content level behind (length (chunks_of content)) ⊎ OnlyRead fault → (n : ℕ) →
       IsNth content level from k n → OnlyRead fault
-  only_read k j from behind few here (inl none) n h =
-      absurd (not_none k j from behind n few here h none)
   only_read k j from behind few here (inr only) n h = only
+  only_read k j from behind few here (inl none) n h = absurd (there k h)
+    where
+      after : (j : ℕ) → j ≤ k → IsBehind content level from j behind → behind ≤ n
+      after zero few here = omega (arith, nth_from k from n h, here)
+      after (suc j) few here = omega (arith, nth_less k j from here.0 n few here.1 h, here.2)
+
+      there : (k : ℕ) → IsNth content level from k n → ⊥
+      there zero h = none n (after j few here) h.within h.is
+      there (suc k) h = none n (after j few here) h.2.within h.2.is
 
 -- ---- the tops of trees
 

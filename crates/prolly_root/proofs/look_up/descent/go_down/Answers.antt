@@ -32,8 +32,7 @@ returns-in_err-chunk g c =
           (next_kept (StandsInPlace g.S.ChunkSource.is_place content)
           (into_iter_items c.loop-levels.kept) (into_iter_items c.next.new.self) c.next.result
           c.next.ensures.items on.left).0 on.at;
-      asked = asked_on g.S.ChunkSource.has g.S.ChunkSource.failures c.args.source.now
-          c.loop-levels.source c.chunk_at.new.source
+      asked = asked_on g.S.ChunkSource.has g.S.ChunkSource.failures
           (λ n. TellsFailure n (g.S.ChunkSource.failures c.chunk_at.new.source) fault)
           before.asked c.in_err-chunk.ensures.asked;
     })
@@ -56,10 +55,9 @@ returns-in_err-onward g c =
           (into_iter_items c.loop-levels.kept) (into_iter_items c.next.new.self) c.next.result
           c.next.ensures.items on.left).0 on.at in
           (stepped.lawful content (at.asked.0 content (before.asked.0 content h)) same kept).1;
-      asked = asked_on has failures c.args.source.now c.chunk_at.new.source c.step.new.source
-          (λ n. TellsFailure n (failures c.step.new.source) fault)
-          (asked_on has failures c.args.source.now c.loop-levels.source c.chunk_at.new.source
-          (λ n. failures c.chunk_at.new.source ≡ n) before.asked at.asked) stepped.asked;
+      asked = asked_on has failures (λ n. TellsFailure n (failures c.step.new.source) fault)
+          (asked_on has failures (λ n. failures c.chunk_at.new.source ≡ n) before.asked at.asked)
+          stepped.asked;
     })
 
 pub returns-in_err-keep : goal.returns-in_err-keep
@@ -70,11 +68,9 @@ returns-in_err-keep g c =
     c.from_residual-in_err-keep.ensures) (record {
       found = tt;
       lawful = λ content h same top keeps. inl refl;
-      asked = asked_on has failures c.args.source.now c.chunk_at.new.source c.step.new.source
-          (λ n. failures c.step.new.source ≡ n)
-          (asked_on has failures c.args.source.now c.loop-levels.source c.chunk_at.new.source
-          (λ n. failures c.chunk_at.new.source ≡ n) c.loop-levels.invariant.asked
-          c.in_ok-chunk.ensures.asked) c.in_ok-onward.ensures.asked;
+      asked = asked_on has failures (λ n. failures c.step.new.source ≡ n)
+          (asked_on has failures (λ n. failures c.chunk_at.new.source ≡ n)
+          c.loop-levels.invariant.asked c.in_ok-chunk.ensures.asked) c.in_ok-onward.ensures.asked;
     })
 
 pub returns-in-End-clause-found : goal.returns-in-End-clause-found
