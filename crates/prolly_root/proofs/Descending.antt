@@ -1,25 +1,23 @@
 -- Going down from the root, from each chunk to the one that it refers to.
 use Rattle.std.proofs.Common.{◌≡◌, ℕ, List, [], ◌∷◌, ◌++◌, Option, Some, None}
 use Rattle.std.proofs.Common.{IfSome}
-use Rattle.std.proofs.Common.{refl, sym, ap, ◌∙◌, subst}
+use Rattle.std.proofs.Common.{◌<◌, ◌-◌, length, get_or, arith, rules, refl, sym, ap, ◌∙◌, subst}
 use Rattle.std.specs.List.{AllByRecursion}
 use Rattle.std.specs.Option.{option_to_list}
-use Rattle.std.proofs.lemmas.List.{map-append}
+use Rattle.std.proofs.lemmas.List.{get_or_push, length-append, map-append}
+use Rattle.std.specs.Prelude.{All}
+use Rattle.prolly_entry.specs.Byte.{IsByte}
 use Rattle.prolly_check.specs.Content.{Content}
-use Rattle.prolly_check.specs.Sought.{Sought, sought_of}
-use Rattle.prolly_check.specs.Way.{FallsTo, IsNamed, Lead, LevelsFall, level_of}
+use Rattle.prolly_check.specs.Kinds.{kind_of}
+use Rattle.prolly_check.specs.Sought.{Sought, EndsAt, LeadsOn, sought_of}
+use Rattle.prolly_check.specs.Way.{FallsTo, IsNamed, IsWayTo, Lead, LevelsFall, level_of}
 use Rattle.prolly_check.specs.declared.look_up.step.Due.{Due}
 use Rattle.prolly_check.specs.lemmas.Ways.{lead_more}
 use Rattle.prolly_entry.specs.declared.version.Version.{Version}
-use Rattle.prolly_entry.specs.lemmas.Lists.{all_back}
 use Rattle.prolly_tree.specs.Tree.{Tree}
-use Rattle.prolly_root.specs.Descent.{IsDescent, IsTested, IsOnward, StandsInPlace, StandsAtTree}
-use Rattle.prolly_root.specs.Descent.{chunks_in, levels_of}
+use Rattle.prolly_root.specs.Descent.{StandsBelow, StandsInPlace, chunks_in}
 use Rattle.prolly_root.specs.ProofFault.{last_level}
 use Rattle.prolly_root.specs.declared.look_up.chunk_on_way.ChunkOnWay.{ChunkOnWay}
-use Rattle.prolly_root.specs.declared.look_up.chunk_on_way.Onward.{Onward}
-use Rattle.prolly_root.specs.declared.look_up.chunk_on_way.Onward.TheVariants.{End, Below}
-use Rattle.prolly_root.specs.declared.look_up.descent.Descent.{Descent}
 
 -- ---- the levels
 
@@ -43,11 +41,13 @@ pub one_more : {T : Type 0} (levels new : List (ChunkOnWay T)) (level : ChunkOnW
 one_more levels new level kept = ap chunks_in kept ∙
     map-append (λ level. level.chunk.items) levels (level ∷ [])
 
--- the last one can be read
-pub last_is_tested : {T : Type 0} (version : Version) (descent : Descent T) →
-    AllByRecursion (IsTested version) (levels_of descent) → IsTested version descent.last
-last_is_tested version descent all =
-    (all_back (IsTested version) descent.above.items (descent.last ∷ []) all).0
+-- the last one
+pub read_last : {A : Type 0} (levels above : List A) (last read : A) (n : ℕ) →
+    levels ≡ above ++ last ∷ [] → n ≡ length levels → read ≡ get_or levels (n - 1) read →
+    read ≡ last
+read_last levels above last read n are long is = is ∙ ap (λ xs. get_or xs (n - 1) read) are ∙
+    get_or_push above last read (n - 1)
+    (omega (arith, long, ap length are, length-append above (last ∷ [])))
 
 -- ---- where a look-up stands
 
@@ -63,60 +63,57 @@ abbrev pub room_below : Option ℕ → ℕ
 room_below None = 256
 room_below (Some level) = level
 
-pub begins : (version : Version) (root : List ℕ) (sought : Sought) (due : Due) →
+pub less_room : (above next : Option ℕ) (chunk : List ℕ) → All IsByte chunk →
+    FallsTo above chunk → next ≡ Some (level_of chunk) → room_below next < room_below above
+less_room None next [] bytes falls is = subst (λ n. room_below n < 256) (sym is) (omega arith)
+less_room None next (b ∷ bs) bytes falls is =
+    subst (λ n. room_below n < 256) (sym is) (bytes 0 0 (omega arith))
+less_room (Some level) next chunk bytes falls is =
+    subst (λ n. room_below n < level) (sym is) (omega (arith, falls))
+
+pub none_passed : (version : Version) (root : List ℕ) (sought : Sought) (due : Due) →
     root ≡ due.reference.0 → due.above ≡ None → sought ≡ sought_of due.sought →
     Descended version root sought [] due
-begins version root sought due reference above same =
+none_passed version root sought due reference above same =
     record { lead = (reference, same); down = tt; above = above }
 
-module _ {T : Type 0} (version : Version) (root : List ℕ) (sought : Sought) (passed : List (List ℕ)) (due : Due)
+module _ (version : Version) (root : List ℕ) (sought : Sought) (passed : List (List ℕ)) (due : Due)
     (d : Descended version root sought passed due) (chunk : List ℕ)
-    (named : IsNamed version due.reference.0 chunk) (falls : FallsTo due.above chunk)
-    (step : Onward T) (is : IsOnward version (sought_of due.sought) chunk step) where
-  down : LevelsFall (passed ++ chunk ∷ [])
+    (named : IsNamed version due.reference.0 chunk) (falls : FallsTo due.above chunk) where
+  pub down : LevelsFall (passed ++ chunk ∷ [])
   down = falls_more passed chunk d.down (subst (λ l. FallsTo l chunk) d.above falls)
 
-  pub ends_here : (descent : Descent T) → step ≡ End → chunks_in descent.above.items ≡ passed →
-      descent.last.chunk.items ≡ chunk → descent.sought ≡ due.sought →
-      IsDescent version root sought descent
-  ends_here descent e above last there =
-      let all : chunks_in (levels_of descent) ≡ passed ++ chunk ∷ [] =
-      one_more descent.above.items (levels_of descent) descent.last refl ∙
-      ap (λ cs. cs ++ descent.last.chunk.items ∷ []) above ∙ ap (λ c. passed ++ c ∷ []) last in
-      record {
-        way = record {
-          before = passed;
-          last = chunk;
-          reference = due.reference.0;
-          there = sought_of due.sought;
-          are = all;
-          lead = d.lead;
-          named = named;
-          down = subst LevelsFall (sym all) down;
-          ends = subst (IsOnward version (sought_of due.sought) chunk) e is;
-        };
-        last = sym last;
-        there = ap sought_of (sym there);
-      }
+  abbrev pub way_ends : EndsAt (sought_of due.sought) (kind_of version chunk) →
+      (chunks : List (List ℕ)) → chunks ≡ passed ++ chunk ∷ [] →
+      IsWayTo version root sought chunks
+  way_ends ends chunks are = record {
+    before = passed;
+    last = chunk;
+    reference = due.reference.0;
+    there = sought_of due.sought;
+    are = are;
+    lead = d.lead;
+    named = named;
+    down = subst LevelsFall (sym are) down;
+    ends = ends;
+  }
 
-  pub goes_on : (next : Due) (there : T) → step ≡ Below next there →
+  pub one_passed : (next : Due) → LeadsOn (sought_of due.sought) (kind_of version chunk)
+      next.reference.0 (sought_of next.sought) → next.above ≡ Some (level_of chunk) →
       Descended version root sought (passed ++ chunk ∷ []) next
-  goes_on next there e =
-      let on : IsOnward version (sought_of due.sought) chunk (Below next there) =
-      subst (IsOnward version (sought_of due.sought) chunk) e is in
-      record {
-        lead = lead_more version sought root passed due.reference.0 (sought_of due.sought) chunk
-            next.reference.0 (sought_of next.sought) d.lead named on.0;
-        down = down;
-        above = on.1 ∙ sym (last_more passed chunk);
-      }
+  one_passed next on above = record {
+    lead = lead_more version sought root passed due.reference.0 (sought_of due.sought) chunk
+        next.reference.0 (sought_of next.sought) d.lead named on;
+    down = down;
+    above = above ∙ sym (last_more passed chunk);
+  }
 
 -- ---- in a lawful tree
 
 -- the chunk that is due is the top of one of its trees, and what was kept is so
 pub record GoesOnLawful {T : Type 0} (is_place : Content → (level : ℕ) → Tree level → T → Type 0)
     (content : Content) (due : Due) (place : T) (above kept : List (ChunkOnWay T)) : Type 0 where
-  pub at : StandsAtTree is_place content due.reference.0 due.above place
+  pub at : StandsBelow is_place content due.reference.0 due.above place
   pub met : AllByRecursion (StandsInPlace is_place content) above
   pub left : AllByRecursion (StandsInPlace is_place content) kept
 

@@ -24,12 +24,7 @@ use Rattle.prolly_root.specs.ProofFault.{EndsWithin, HasPassed, IsFault, IsFrame
 use Rattle.prolly_root.specs.ProofFault.{IsWrongChunk, last_level}
 use Rattle.prolly_root.specs.ProofFile.{IsProof, ProofsSayOne, proof_file, proof_start}
 use Rattle.prolly_root.specs.declared.proof.fault.ProofFault.{ProofFault}
-use Rattle.prolly_root.specs.declared.proof.fault.ProofFault.TheVariants.{Header, Truncated, Frame}
-use Rattle.prolly_root.specs.declared.proof.fault.ProofFault.TheVariants.{Version as OtherVersion}
-use Rattle.prolly_root.specs.declared.proof.fault.ProofFault.TheVariants.{Chunk}
-use Rattle.prolly_root.specs.declared.proof.fault.ProofFault.TheVariants.{Level as BadLevel}
-use Rattle.prolly_root.specs.declared.proof.fault.ProofFault.TheVariants.{Reference as BadReference}
-use Rattle.prolly_root.specs.declared.proof.fault.ProofFault.TheVariants.{KeysOutOfOrder, Trailing}
+use Rattle.prolly_root.specs.declared.proof.fault.ProofFault.TheVariants as faults
 
 behind_start : (version : Version) (x y : List ℕ) →
     proof_start version ++ x ≡ proof_start version ++ y → x ≡ y
@@ -53,12 +48,7 @@ falls_front (c ∷ d ∷ before) more down = (down.0, falls_front (d ∷ before)
 last_apart : (start : List ℕ) (before : List (List ℕ)) (last follows : List ℕ) →
     (start ++ flat_map framed (before ++ last ∷ [])) ++ follows ≡
     (start ++ flat_map framed before) ++ (framed last ++ follows)
-last_apart start before last follows =
-    let front = flat_map framed before in
-    ap (λ x. (start ++ x) ++ follows) (flat_map-append framed before (last ∷ []) ∙
-    ap (λ x. front ++ x) (append-nil (framed last))) ∙
-    ap (λ x. x ++ follows) (sym (append_assoc start front (framed last))) ∙
-    append_assoc (start ++ front) (framed last) follows
+last_apart start before last follows = simp (flat_map-append, append_assoc, append-nil)
 
 last_same : (xs ys : List (List ℕ)) (x y : List ℕ) → xs ++ x ∷ [] ≡ ys ++ y ∷ [] → x ≡ y
 last_same [] [] x y e = cc
@@ -176,31 +166,31 @@ module _ (version : Version) (root key bytes : List ℕ) (value : Option (List �
   other_start Two Two x y e = refl
 
   start_fine : (fault : ProofFault) → IsStartFault version bytes fault → ⊥
-  start_fine Header h = h.none version (record { rest = flat_map framed p.chunks; is = p.is })
-  start_fine OtherVersion h = h.differs (other_start h.other version h.begins.rest
+  start_fine faults.Header h = h.none version (record { rest = flat_map framed p.chunks; is = p.is })
+  start_fine faults.Version h = h.differs (other_start h.other version h.begins.rest
       (flat_map framed p.chunks) (sym h.begins.is ∙ p.is))
-  start_fine Truncated h = no_end_within h
-  start_fine (Frame n) h = h
-  start_fine (BadReference n) h = h
-  start_fine (Chunk n) h = h
-  start_fine (KeysOutOfOrder n) h = h
-  start_fine (BadLevel n) h = h
-  start_fine Trailing h = h
+  start_fine faults.Truncated h = no_end_within h
+  start_fine (faults.Frame n) h = h
+  start_fine (faults.Reference n) h = h
+  start_fine (faults.Chunk n) h = h
+  start_fine (faults.KeysOutOfOrder n) h = h
+  start_fine (faults.Level n) h = h
+  start_fine faults.Trailing h = h
 
   frame_there : (passed : List (List ℕ)) (due : List ℕ) (there : Sought) (rest : List ℕ)
       (number : ℕ) (fault : ProofFault) → DueChunk version p.chunks passed due there rest →
       IsFrameFault number rest fault → ⊥
-  frame_there passed due there rest number Truncated d h = false≢true
+  frame_there passed due there rest number faults.Truncated d h = false≢true
       (sym (begins_frame d.chunk (flat_map framed d.more) d.small) ∙
       ap has_no_frame (sym d.is) ∙ h.1)
-  frame_there passed due there rest number (Frame n) d h = h.2 (record { rest = _; is = d.is })
-  frame_there passed due there rest number Header d h = h
-  frame_there passed due there rest number OtherVersion d h = h
-  frame_there passed due there rest number (BadReference n) d h = h
-  frame_there passed due there rest number (Chunk n) d h = h
-  frame_there passed due there rest number (KeysOutOfOrder n) d h = h
-  frame_there passed due there rest number (BadLevel n) d h = h
-  frame_there passed due there rest number Trailing d h = h
+  frame_there passed due there rest number (faults.Frame n) d h = h.2 (record { rest = _; is = d.is })
+  frame_there passed due there rest number faults.Header d h = h
+  frame_there passed due there rest number faults.Version d h = h
+  frame_there passed due there rest number (faults.Reference n) d h = h
+  frame_there passed due there rest number (faults.Chunk n) d h = h
+  frame_there passed due there rest number (faults.KeysOutOfOrder n) d h = h
+  frame_there passed due there rest number (faults.Level n) d h = h
+  frame_there passed due there rest number faults.Trailing d h = h
 
   chunk_there : (fault : ProofFault) → IsWrongChunk version root key bytes fault → ⊥
   chunk_there fault w =

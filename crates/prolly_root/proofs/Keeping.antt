@@ -1,10 +1,10 @@
 -- The chunks of a level, one behind another, and the trees whose tops they are.
-use Rattle.std.proofs.Common.{◌≡◌, ℕ, zero, suc, ◌+◌, ◌-◌, ◌≤◌, ◌<◌, inl, inr, ◌⊎◌, List, [], ◌∷◌, ◌++◌}
-use Rattle.std.proofs.Common.{length, drop, map, get_or, refl, sym, ap, ◌∙◌, subst, arith}
+use Rattle.std.proofs.Common.{◌≡◌, ℕ, zero, suc, ◌+◌, ◌-◌, ◌≤◌, ◌<◌, inl, inr, ◌⊎◌, List, [], ◌∷◌}
+use Rattle.std.proofs.Common.{◌++◌, length, drop, map, get_or, refl, sym, ap, ◌∙◌, subst, arith}
 use Rattle.std.proofs.Common.{append_assoc}
 use Rattle.std.specs.List.{AllByRecursion, flat_map}
 use Rattle.std.proofs.Math.Seq.{drop-append_seam}
-use Rattle.std.proofs.lemmas.Bool.{cases_lt}
+use Rattle.std.proofs.lemmas.Bool.{cases_eq, cases_lt}
 use Rattle.std.proofs.lemmas.List.{get_or-drop, get_or_append_left, get_or_push, length-append}
 use Rattle.std.proofs.lemmas.List.{map-append}
 use Rattle.std.proofs.lemmas.List.Concat.{flat_map-append}
@@ -15,7 +15,7 @@ use Rattle.prolly_check.specs.Way.{level_of}
 use Rattle.prolly_entry.specs.declared.version.Version.{Version}
 use Rattle.prolly_tree.specs.Chunk.{post_order}
 use Rattle.prolly_tree.specs.Tree.{Tree, bytes_of}
-use Rattle.prolly_root.specs.Subtree.{IsPlaceNth, IsPlaceOf, chunks_of_trees}
+use Rattle.prolly_root.specs.Subtree.{IsPlaceNth, IsPlaceOf}
 use Rattle.prolly_root.specs.RootFault.{OnlyRead}
 use Rattle.prolly_root.specs.Walk.{IsBehind, IsFirst, IsNth, NoneBetween}
 use Rattle.prolly_root.specs.Walk.{chunks_below, chunks_of_tree}
@@ -63,66 +63,54 @@ module _ (content : Content) (level : ℕ) where
   behind_next from k behind n next h first e =
       suc_behind from k next (n, nth_next k from behind n h first, e)
 
-  -- where one has so many before it, there is one with fewer
-  pub record HasNth (from k : ℕ) : Type 0 where
-    pub n : ℕ
-    pub is : IsNth content level from k n
-
-  nth_before : (k j from n : ℕ) → j ≤ k → IsNth content level from k n → HasNth from j
-  nth_before zero j from n few h = let e : 0 ≡ j = omega (arith, few) in record {
-    n = n;
-    is = subst (λ j. IsNth content level from j n) e h;
-  }
-  nth_before (suc k) j from n few h =
-      by_order (cases_lt k j) (λ most. nth_before k j from h.0 most h.1)
+  -- the one with fewer before it comes first
+  nth_less : (k j from m n : ℕ) → j < k → IsNth content level from j m →
+      IsNth content level from k n → m < n
+  nth_less zero j from m n less h g = absurd (omega (arith, less))
+  nth_less (suc k) j from m n less h g =
+      by_case (cases_eq j k) (λ before. nth_less k j from m g.0 before h g.1)
     where
-      by_order : (k < j) ⊎ (j ≤ k) → (j ≤ k → HasNth from j) → HasNth from j
-      by_order (inl less) before = let e : suc k ≡ j = omega (arith, few, less) in record {
-        n = n;
-        is = subst (λ j. IsNth content level from j n) e h;
-      }
-      by_order (inr most) before = before most
+      by_case : (j ≡ k) ⊎ (j ≡ k → ⊥) → (j < k → m < g.0) → m < n
+      by_case (inl e) before =
+          let same = nth_one k from m g.0 (subst (λ j. IsNth content level from j m) e h) g.1 in
+          omega (arith, same, g.2.from_on)
+      by_case (inr other) before =
+          omega (arith, before (omega (arith, less, other)), g.2.from_on)
 
-  -- behind fewer of them there is another
-  not_none : (k j from behind n : ℕ) → j ≤ k → IsBehind content level from j behind →
-      IsNth content level from k n →
-      NoneBetween content level behind (length (chunks_of content)) → ⊥
-  not_none k zero from behind n few here h none =
-      let first = nth_before k 0 from n (omega arith) h in
-      none first.n (subst (λ b. b ≤ first.n) (sym here) first.is.from_on) first.is.within first.is.is
-  not_none k (suc j) from behind n few here h none =
-      let next = nth_before k (suc j) from n few h in
-      let same = nth_one j from next.is.0 here.0 next.is.1 here.1 in
-      none next.n (omega (arith, next.is.2.from_on, same, here.2)) next.is.2.within next.is.2.is
+  nth_from : (k from n : ℕ) → IsNth content level from k n → from ≤ n
+  nth_from zero from n h = h.from_on
+  nth_from (suc k) from n h = omega (arith, nth_from k from h.0 h.1, h.2.from_on)
 
-  -- so that where it is sought, only a read can have failed
-  pub only_read : (k j from behind n : ℕ) → j ≤ k → IsBehind content level from j behind →
-      IsNth content level from k n → {fault : RootFault} →
-      NoneBetween content level behind (length (chunks_of content)) ⊎ OnlyRead fault →
-      OnlyRead fault
-  only_read k j from behind n few here h (inl none) =
-      absurd (not_none k j from behind n few here h none)
-  only_read k j from behind n few here h (inr only) = only
+  -- so that where it is sought behind fewer, only a read can have failed
+  pub only_read : (k j from behind : ℕ) → j ≤ k → IsBehind content level from j behind →
+      {fault : RootFault} →
+      NoneBetween content level behind (length (chunks_of content)) ⊎ OnlyRead fault → (n : ℕ) →
+      IsNth content level from k n → OnlyRead fault
+  only_read k j from behind few here (inr only) n h = only
+  only_read k j from behind few here (inl none) n h = absurd (there k h)
+    where
+      after : (j : ℕ) → j ≤ k → IsBehind content level from j behind → behind ≤ n
+      after zero few here = omega (arith, nth_from k from n h, here)
+      after (suc j) few here = omega (arith, nth_less k j from here.0 n few here.1 h, here.2)
 
-  -- those behind the first
-  nth_shift : (k from a n : ℕ) → IsFirst content level from a →
-      IsNth content level (suc a) k n → IsNth content level from (suc k) n
-  nth_shift zero from a n first h = (a, first, h)
-  nth_shift (suc k) from a n first h = (h.0, nth_shift k from a h.0 first h.1, h.2)
-
-  behind_shift : (k from a b : ℕ) → IsFirst content level from a →
-      IsBehind content level (suc a) k b → IsBehind content level from (suc k) b
-  behind_shift zero from a b first h = (a, first, h)
-  behind_shift (suc k) from a b first h = (h.0, nth_shift k from a h.0 first h.1, h.2)
+      there : (k : ℕ) → IsNth content level from k n → ⊥
+      there zero h = none n (after j few here) h.within h.is
+      there (suc k) h = none n (after j few here) h.2.within h.2.is
 
 -- ---- the tops of trees
+
+-- the chunks of trees in the order of the file
+abbrev pub chunks_of_trees : Content → (level : ℕ) → List (Tree level) → List (List ℕ)
+chunks_of_trees content level ts =
+    map (λ c. c.bytes) (flat_map (post_order content.version level) ts)
 
 all_at : (version : Version) (level : ℕ) (cs : List (List ℕ)) (i : ℕ) →
     AllByRecursion (IsLower version level) cs →
     i < length cs → level_of (get_or cs i []) < level
 all_at version level [] i all within = absurd (omega (arith, within))
 all_at version level (c ∷ cs) zero all within = all.0
-all_at version level (c ∷ cs) (suc i) all within = all_at version level cs i all.1 (omega (arith, within))
+all_at version level (c ∷ cs) (suc i) all within =
+    all_at version level cs i all.1 (omega (arith, within))
 
 module _ (content : Content) (level : ℕ) where
   abbrev trees : List (Tree level) → List (List ℕ)
@@ -182,46 +170,29 @@ module _ (content : Content) (level : ℕ) where
   }
 
   -- and so on, tree by tree
-  pub tops : (front : List (Tree level)) (t : Tree level) (after : List (Tree level))
-      (before left : List (List ℕ)) →
-      chunks_of content ≡ before ++ (trees (front ++ t ∷ after) ++ left) →
-      IsNth content level (length before) (length front)
-      (length before + length (trees front) + length (under t)) ×
-      IsBehind content level (length before) (length front)
-      (length before + length (trees front))
-  tops [] t after before left are = (
-    subst (IsFirst content level (length before)) (omega arith)
-        (top_first t before (trees after ++ left) (are ∙ ap (λ cs. before ++ cs)
-        (ap (λ cs. cs ++ left) (trees_cons t after) ∙ append_assoc (tree t) (trees after) left))),
-    omega arith,
-  )
-  tops (u ∷ front) t after before left are =
-      let rest = trees (front ++ t ∷ after) in
-      let split : chunks_of content ≡ before ++ (tree u ++ (rest ++ left)) =
-      are ∙ ap (λ cs. before ++ cs) (ap (λ cs. cs ++ left) (trees_cons u (front ++ t ∷ after)) ∙
-      append_assoc (tree u) rest left) in
-      let first = top_first u before (rest ++ left) split in
-      let more = tops front t after (before ++ tree u) left
-      (split ∙ sym (append_assoc before (tree u) (rest ++ left))) in
-      let long : length (before ++ tree u) ≡ suc (length before + length (under u)) =
-      omega (arith, length-append before (tree u), tree_length u) in
-      let all : length (trees (u ∷ front)) ≡ length (tree u) + length (trees front) =
-      ap length (trees_cons u front) ∙ length-append (tree u) (trees front) in (
-        subst (IsNth content level (length before) (suc (length front)))
-            (omega (arith, length-append before (tree u), all))
-            (nth_shift content level (length front) (length before)
-            (length before + length (under u))
-            (length (before ++ tree u) + length (trees front) + length (under t)) first
-            (subst (λ from. IsNth content level from (length front)
-            (length (before ++ tree u) + length (trees front) + length (under t))) long more.0)),
-        subst (IsBehind content level (length before) (suc (length front)))
-            (omega (arith, length-append before (tree u), all))
-            (behind_shift content level (length front) (length before)
-            (length before + length (under u))
-            (length (before ++ tree u) + length (trees front)) first
-            (subst (λ from. IsBehind content level from (length front)
-            (length (before ++ tree u) + length (trees front))) long more.1)),
-      )
+  behind_tops : (front : List (Tree level)) (before left : List (List ℕ)) (from k to n : ℕ) →
+      chunks_of content ≡ before ++ (trees front ++ left) →
+      IsBehind content level from k (length before) → to ≡ k + length front →
+      n ≡ length before + length (trees front) → IsBehind content level from to n
+  behind_tops [] before left from k to n are h count long =
+      let same : k ≡ to = omega (arith, count) in
+      let there : length before ≡ n = omega (arith, long) in
+      subst (λ k. IsBehind content level from k n) same
+      (subst (IsBehind content level from k) there h)
+  behind_tops (u ∷ front) before left from k to n are h count long =
+      behind_tops front (before ++ tree u) left from (k + 1) to n
+      (are ∙ rw (trees_cons u front) (simp append_assoc))
+      (behind_next content level from k (length before) (length before + length (under u))
+      (length (before ++ tree u)) h (top_first u before (trees front ++ left)
+      (are ∙ rw (trees_cons u front) (simp append_assoc)))
+      (omega (arith, length-append before (tree u), tree_length u))) (omega (arith, count))
+      (omega (
+        arith,
+        long,
+        length-append before (tree u),
+        ap length (trees_cons u front),
+        length-append (tree u) (trees front),
+      ))
 
 -- the tree is the one with so many before it among trees of the file whose frames begin at the
 -- number
@@ -240,39 +211,11 @@ module _ (content : Content) (level : ℕ) (t : Tree level) (from k : ℕ)
   abbrev ahead : ℕ
   ahead = length a.before + length (chunks_of_trees content level a.front)
 
-  -- so its top is that one of the level
-  pub top_nth : IsNth content level from k
-      (ahead + length (chunks_below content.version level t))
-  top_nth = subst (λ from. IsNth content level from k
-      (ahead + length (chunks_below content.version level t))) (sym a.first)
-      (subst (λ k. IsNth content level (length a.before) k
-      (ahead + length (chunks_below content.version level t))) a.number
-      (tops content level a.front t a.after a.before a.left a.are).0)
-
-  pub place_found : (place : Place) → IsPlaceNth content level from k place →
-      IsPlaceOf content level t place
-  place_found place p =
-      let rest = chunks_of_trees content level a.front in
-      let own = chunks_of_tree content.version level t in
-      let more = chunks_of_trees content level a.after in
-      let long = length-append a.before rest in
-      record {
-        before = a.before ++ rest;
-        left = more ++ a.left;
-        are = a.are ∙ ap (λ cs. a.before ++ (cs ++ a.left))
-            (trees_append a.front (t ∷ a.after) ∙
-            ap (λ cs. rest ++ cs) (trees_cons content level t a.after)) ∙
-            regroup a.before rest own more a.left;
-        below = p.below;
-        first = behind_one content level k from place.below.number ahead p.behind
-            (subst (λ from. IsBehind content level from k ahead) (sym a.first)
-            (subst (λ k. IsBehind content level (length a.before) k ahead) a.number
-            (tops content level a.front t a.after a.before a.left a.are).1)) ∙ sym long;
-        frame = p.frame;
-        top = nth_one content level k from place.frame.number
-            (ahead + length (chunks_below content.version level t)) p.nth top_nth ∙
-            ap (λ n. n + length (chunks_below content.version level t)) (sym long);
-      }
+  parted : chunks_of content ≡ (a.before ++ chunks_of_trees content level a.front) ++
+      (chunks_of_tree content.version level t ++
+      (chunks_of_trees content level a.after ++ a.left))
+  parted = a.are ∙ rw (trees_append a.front (t ∷ a.after), trees_cons content level t a.after)
+      (simp append_assoc)
     where
       trees_append : (done rest : List (Tree level)) →
           chunks_of_trees content level (done ++ rest) ≡
@@ -282,7 +225,36 @@ module _ (content : Content) (level : ℕ) (t : Tree level) (from k : ℕ)
           map-append (λ c. c.bytes) (flat_map (post_order content.version level) done)
           (flat_map (post_order content.version level) rest)
 
-      regroup : (before rest own more left : List (List ℕ)) →
-          before ++ ((rest ++ (own ++ more)) ++ left) ≡
-          (before ++ rest) ++ (own ++ (more ++ left))
-      regroup before rest own more left = simp append_assoc
+  behind_there : IsBehind content level from k ahead
+  behind_there = behind_tops content level a.front a.before (chunks_of_tree content.version level t
+      ++ (chunks_of_trees content level a.after ++ a.left)) from 0 k ahead
+      (parted ∙ simp append_assoc) (sym a.first) (omega (arith, a.number)) refl
+
+  -- so its top is that one of the level
+  pub top_nth : IsNth content level from k
+      (ahead + length (chunks_below content.version level t))
+  top_nth = nth_next content level k from ahead
+      (ahead + length (chunks_below content.version level t)) behind_there
+      (subst (λ n. IsFirst content level n (n + length (chunks_below content.version level t)))
+      (length-append a.before (chunks_of_trees content level a.front))
+      (top_first content level t (a.before ++ chunks_of_trees content level a.front)
+      (chunks_of_trees content level a.after ++ a.left) parted))
+
+  pub place_found : (place : Place) → IsPlaceNth content level from k place →
+      IsPlaceOf content level t place
+  place_found place p =
+      let rest = chunks_of_trees content level a.front in
+      let more = chunks_of_trees content level a.after in
+      let long = length-append a.before rest in
+      record {
+        before = a.before ++ rest;
+        left = more ++ a.left;
+        are = parted;
+        below = p.below;
+        first = behind_one content level k from place.below.number ahead p.behind behind_there ∙
+            sym long;
+        frame = p.frame;
+        top = nth_one content level k from place.frame.number
+            (ahead + length (chunks_below content.version level t)) p.nth top_nth ∙
+            ap (λ n. n + length (chunks_below content.version level t)) (sym long);
+      }

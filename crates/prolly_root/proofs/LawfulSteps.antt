@@ -1,6 +1,6 @@
 -- Going down in a lawful tree, from a node to the top of a tree below it.
 use Rattle.std.proofs.Common.{◌≡◌, ℕ, zero, suc, ◌-◌, List, [], ◌∷◌, ◌++◌, length, drop, map, inl}
-use Rattle.std.proofs.Common.{Option, Some, None, refl, sym, ap, ◌∙◌, subst, arith}
+use Rattle.std.proofs.Common.{inr, Option, Some, Result, Ok, Err, refl, sym, ap, ◌∙◌, subst, arith}
 use Rattle.prolly_check.specs.Checked.{chunks_of}
 use Rattle.prolly_check.specs.Content.{Content}
 use Rattle.prolly_check.specs.Descent.{ChildIsTree, HasTree, IsTreeOf, RootIsTree}
@@ -18,7 +18,9 @@ use Rattle.prolly_tree.specs.Chunk.{IsIn, chunk_of}
 use Rattle.prolly_tree.specs.File.{root_reference}
 use Rattle.prolly_tree.specs.Tree.{Tree, bytes_of}
 use Rattle.prolly_tree.specs.lemmas.Trees.{in_back}
-use Rattle.prolly_root.specs.Descent.{StandsInPlace, StandsAtTree}
+use Rattle.prolly_root.specs.Descent.{StandsAt, StandsBelow, StandsInPlace}
+use Rattle.prolly_root.specs.RootFault.{IsOrFails, MayFail, OnlyRead}
+use Rattle.prolly_root.specs.declared.root_fault.RootFault.{RootFault}
 use Rattle.prolly_root.specs.ChunkSource.{IsChildAt, IsLawful, root_level, root_tree}
 use Rattle.prolly_root.specs.declared.look_up.chunk_on_way.ChunkOnWay.{ChunkOnWay}
 use Rattle.prolly_root.proofs.Walking.{level_is}
@@ -81,7 +83,7 @@ module _ {T : Type 0} (is_place : Content → (level : ℕ) → Tree level → T
       IsChildOf sought (kind_of content.version chunk.chunk.items) child →
       StepsTo is_place content chunk child (level_of chunk.chunk.items - 1)
   steps_to child_tree read k sought child on =
-      by_level k.level k.t k.below k.named k.is k.stands
+      by_level k.at.level k.at.t k.at.below k.at.named k.is k.at.stands
     where
       by_level : (level : ℕ) (t : Tree level) →
           IsTreeOf content.version (chunks_of content) level t →
@@ -121,47 +123,51 @@ module _ {T : Type 0} (is_place : Content → (level : ℕ) → Tree level → T
             named = c.reference ∙ ap (λ c. c.reference) found.is;
           })
 
-  -- the same by what a function has in hand
-  pub steps_from : ((version : Version) → ChildIsTree version) →
+  -- in the place of the child the look-up stands again
+  lands : (child : ChildSought) (level l : ℕ) (b : StepsTo is_place content chunk child level)
+      (found : Result T RootFault) → l ≡ level_of chunk.chunk.items →
+      IsOrFails (is_place content level b.t) OnlyRead found →
+      IsOrFails (StandsBelow is_place content child.reference.0 (Some l)) MayFail found
+  lands child level l b (Ok place) high stands = record {
+    at = record { level = level; t = b.t; below = b.below; named = b.named; stands = stands };
+    falls = high ∙ ap level_of b.is ∙ level_is content.version (suc level) b.ts ∙
+        ap suc (sym (level_is content.version level b.t));
+  }
+  lands child level l b (Err fault) high only = inr only
+
+  -- and the node stands where it stood
+  pub steps_down : ((version : Version) → ChildIsTree version) →
       ((version : Version) → TopIsRead version) → StandsInPlace is_place content chunk →
       (version : Version) → version ≡ content.version → (read : List ℕ) →
       read ≡ chunk.chunk.items → (sought : Sought) (child : ChildSought) →
       IsChildOf sought (kind_of version read) child →
       (level : ℕ) → level ≡ level_of chunk.chunk.items →
-      StepsTo is_place content chunk child (level - 1)
-  steps_from child_tree top_read k version same read is sought child on level high =
-      subst (λ n. StepsTo is_place content chunk child (n - 1)) (sym high)
+      (new : ChunkOnWay T) → new.reference ≡ chunk.reference → new.chunk ≡ chunk.chunk →
+      ((ts : List (Tree (level - 1))) → is_place content (suc (level - 1)) ts chunk.place →
+      is_place content (suc (level - 1)) ts new.place) → (found : Result T RootFault) →
+      ((ts : List (Tree (level - 1))) (t : Tree (level - 1)) →
+      is_place content (suc (level - 1)) ts chunk.place → IsChildAt (level - 1) ts child.number t →
+      IsOrFails (is_place content (level - 1) t) OnlyRead found) →
+      StandsInPlace is_place content new ×
+      IsOrFails (StandsBelow is_place content child.reference.0 (Some level)) MayFail found
+  steps_down child_tree top_read k version same read is sought child on level high new reference
+      bytes node found place =
+      let b = subst (λ n. StepsTo is_place content chunk child (n - 1)) (sym high)
       (steps_to child_tree top_read k sought child
       (subst (λ v. IsChildOf sought (kind_of v chunk.chunk.items) child) same
-      (subst (λ bytes. IsChildOf sought (kind_of version bytes) child) is on)))
-
-  -- the node stands there still
-  pub stays_there : (child : ChildSought) (level : ℕ)
-      (b : StepsTo is_place content chunk child level) (new : ChunkOnWay T) →
-      new.reference ≡ chunk.reference → new.chunk ≡ chunk.chunk →
-      is_place content (suc level) b.ts new.place → StandsInPlace is_place content new
-  stays_there child level b new reference bytes stands = record {
-    level = suc level;
-    t = b.ts;
-    below = b.whole;
-    named = ap (λ r. r.0) reference ∙ b.reference;
-    is = ap (λ c. c.items) bytes ∙ b.is;
-    stands = stands;
-  }
-
-  -- and in the place of the child the look-up stands again
-  pub lands : (child : ChildSought) (level l : ℕ) (b : StepsTo is_place content chunk child level)
-      (place : T) → l ≡ level_of chunk.chunk.items → is_place content level b.t place →
-      StandsAtTree is_place content child.reference.0 (Some l) place
-  lands child level l b place high stands = record {
-    level = level;
-    t = b.t;
-    below = b.below;
-    named = b.named;
-    falls = high ∙ ap level_of b.is ∙ level_is content.version (suc level) b.ts ∙
-        ap suc (sym (level_is content.version level b.t));
-    stands = stands;
-  }
+      (subst (λ bytes. IsChildOf sought (kind_of version bytes) child) is on))) in (
+        record {
+          at = record {
+            level = suc (level - 1);
+            t = b.ts;
+            below = b.whole;
+            named = ap (λ r. r.0) reference ∙ b.reference;
+            stands = node b.ts b.stands;
+          };
+          is = ap (λ c. c.items) bytes ∙ b.is;
+        },
+        lands child (level - 1) level b found high (place b.ts b.t b.stands b.at),
+      )
 
 -- ---- the chunk of a reference
 
@@ -186,26 +192,26 @@ same_chunk content lawful level t other u of also = one_chunk (chunks_of content
 -- ---- at the chunk that is due
 
 module _ {T : Type 0} (is_place : Content → (level : ℕ) → Tree level → T → Type 0)
-    (content : Content) (reference : List ℕ) (above : Option ℕ) (place : T)
-    (at : StandsAtTree is_place content reference above place) where
+    (content : Content) (reference : List ℕ) (place : T) where
   -- what has its bytes has its reference, and can be read
-  pub is_due : ((version : Version) → TopIsRead version) → (version : Version) →
+  pub is_due : (at : StandsAt is_place content reference place) →
+      ((version : Version) → TopIsRead version) → (version : Version) →
       version ≡ content.version → (chunk : List ℕ) →
       chunk ≡ bytes_of content.version at.level at.t →
       (reference_of chunk ≡ reference) × IsOrdered version chunk
-  is_due read version same chunk is = (
+  is_due at read version same chunk is = (
     ap reference_of is ∙ sym at.named,
     subst (λ v. IsOrdered v chunk) (sym same) (subst (IsOrdered content.version) (sym is)
         (read content.version (chunks_of content) at.level at.t at.below).0),
   )
 
   -- what was kept with its reference stands on the right level
-  pub kept_falls : IsLawful content →
-      (chunk : ChunkOnWay T) → StandsInPlace is_place content chunk →
+  pub kept_falls : (above : Option ℕ) → StandsBelow is_place content reference above place →
+      IsLawful content → (chunk : ChunkOnWay T) → StandsInPlace is_place content chunk →
       chunk.reference.0 ≡ reference → FallsTo above chunk.chunk.items
-  kept_falls lawful chunk k same = subst (FallsTo above)
-      (sym (k.is ∙ same_chunk content lawful k.level k.t at.level at.t k.below at.below
-      (sym k.named ∙ same ∙ at.named))) at.falls
+  kept_falls above due lawful chunk k same = subst (FallsTo above)
+      (sym (k.is ∙ same_chunk content lawful k.at.level k.at.t due.at.level due.at.t k.at.below
+      due.at.below (sym k.at.named ∙ same ∙ due.at.named))) due.falls
 
 -- ---- at the root
 
@@ -213,12 +219,11 @@ pub root_stands : {T : Type 0} (is_place : Content → (level : ℕ) → Tree le
     (content : Content) (root : List ℕ) (place : T) → RootIsTree → IsLawful content →
     root ≡ root_reference (sha512_cut content.bits) content.version content.pairs →
     is_place content (root_level content) (root_tree content) place →
-    StandsAtTree is_place content root None place
+    StandsAt is_place content root place
 root_stands is_place content root place trees lawful named stands = record {
   level = root_level content;
   t = root_tree content;
   below = trees content.version content.bits content.pairs lawful.lawful lawful.rising;
   named = named;
-  falls = tt;
   stands = stands;
 }

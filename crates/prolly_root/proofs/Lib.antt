@@ -1,15 +1,15 @@
--- What the bytes begin with.
-pub mod Starting
 -- Reading the chunks of a proof one after another.
 pub mod Passing
 -- Bytes with a fault are no proof, and a proof says one thing.
 pub mod Exclusion
--- Proofs of what a map has.
-pub mod Rightness
 -- Appending the frames of chunks one after another.
 pub mod Appending
 -- Going down from the root, from each chunk to the one that it refers to.
 pub mod Descending
+-- Calls one behind another, and their faults.
+pub mod Faults
+-- What a look-up leaves of its reader.
+pub mod Reading
 -- Going over the frames of a file.
 pub mod Walking
 -- Going down in a lawful tree, from a node to the top of a tree below it.

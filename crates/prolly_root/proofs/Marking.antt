@@ -1,7 +1,7 @@
 -- Counting the chunks of each level on the way to the root.
 use Rattle.std.proofs.Common.{◌≡◌, ℕ, zero, suc, ◌+◌, ◌<◌, ◌≤◌, inl, inr, ◌⊎◌, List, length}
 use Rattle.std.proofs.Common.{get_or, replicate, set, refl, sym, ◌∙◌, subst, arith}
-use Rattle.std.proofs.lemmas.Bool.{cases_lt}
+use Rattle.std.proofs.lemmas.Bool.{cases_eq, cases_lt}
 use Rattle.std.proofs.lemmas.List.{get_or-replicate, get_or-set_same, get_or-set_other}
 use Rattle.std.proofs.lemmas.List.{length-replicate, length-set}
 use Rattle.prolly_check.specs.Content.{Content}
@@ -56,21 +56,21 @@ module _ (content : Content) (level : ℕ) where
   }
 
 -- a chunk of the level does
-module _ (content : Content) (frame : Frame) (is : IsFrame content frame) (run new : Run)
-    (before : IsRun content frame.number frame.level run) (from : new.from ≡ run.from)
-    (count : new.count ≡ run.count + 1) where
-  pub one_behind : IsBehind content frame.level new.from new.count (frame.number + 1)
-  one_behind = subst (λ from. IsBehind content frame.level from new.count (frame.number + 1))
-      (sym from) (subst (λ k. IsBehind content frame.level run.from k (frame.number + 1))
-      (sym count) (behind_next content frame.level run.from run.count before.last frame.number
+module _ (content : Content) (frame : Frame) (is : IsFrame content frame) (run : Run)
+    (before : IsRun content frame.number frame.level run) (count : ℕ)
+    (more : count ≡ run.count + 1) where
+  pub one_behind : IsBehind content frame.level run.from count (frame.number + 1)
+  one_behind = subst (λ k. IsBehind content frame.level run.from k (frame.number + 1)) (sym more)
+      (behind_next content frame.level run.from run.count before.last frame.number
       (frame.number + 1) before.behind (record {
         from_on = before.within;
         within = is.within;
         is = sym is.level;
         none = before.none;
-      }) (omega arith)))
+      }) (omega arith))
 
-  pub one_counted : IsRun content (frame.number + 1) frame.level new
+  one_counted : IsRun content (frame.number + 1) frame.level
+      (record { from = run.from; count = count })
   one_counted = record {
     last = frame.number + 1;
     behind = one_behind;
@@ -110,20 +110,13 @@ none_begun content number runs are = record {
 set_at : (P : Run → Type 0) (runs : List Run) (at level : ℕ) (run : Run) → at < length runs →
     (level ≡ at → P run) → ((level ≡ at → ⊥) → P (run_at runs level)) →
     P (run_at (set runs at run) level)
-set_at P runs at level run within here there = by_order (cases_lt level at) (cases_lt at level)
+set_at P runs at level run within here there = by_case (cases_eq level at)
   where
-    by_order : (level < at) ⊎ (at ≤ level) → (at < level) ⊎ (level ≤ at) →
-        P (run_at (set runs at run) level)
-    by_order (inl less) other = subst P
-        (sym (get_or-set_other runs at level run (fresh 0) (λ e. omega (arith, e, less))))
-        (there (λ e. omega (arith, e, less)))
-    by_order (inr most) (inl less) = subst P
-        (sym (get_or-set_other runs at level run (fresh 0) (λ e. omega (arith, e, less))))
-        (there (λ e. omega (arith, e, less)))
-    by_order (inr most) (inr least) =
-        let e : level ≡ at = omega (arith, most, least) in
-        subst (λ n. P (run_at (set runs at run) n)) (sym e)
+    by_case : (level ≡ at) ⊎ (level ≡ at → ⊥) → P (run_at (set runs at run) level)
+    by_case (inl e) = subst (λ n. P (run_at (set runs at run) n)) (sym e)
         (subst P (sym (get_or-set_same runs at run (fresh 0) within)) (here e))
+    by_case (inr other) = subst P (sym (get_or-set_other runs at level run (fresh 0) other))
+        (there other)
 
 pub one_begun : (content : Content) (number lower : ℕ) (runs : List Run) → lower < 32 →
     Begun content number lower runs →
@@ -149,20 +142,20 @@ all_begun content number lower runs all begun = record {
 
 -- or this one counts one more
 pub all_counted : (content : Content) (frame : Frame) → IsFrame content frame →
-    (runs : List Run) (new : Run) → frame.level < 32 →
-    Begun content frame.number frame.level runs →
-    new.from ≡ (run_at runs frame.level).from →
-    new.count ≡ (run_at runs frame.level).count + 1 →
-    AreRuns content (frame.number + 1) (set runs frame.level new)
-all_counted content frame is runs new few begun from count = record {
-  long = length-set runs frame.level new ∙ begun.long;
-  each = λ level within. set_at (IsRun content (frame.number + 1) level) runs frame.level level new
-      (omega (arith, few, begun.long))
-      (λ e. subst (λ level. IsRun content (frame.number + 1) level new) (sym e)
-      (one_counted content frame is (run_at runs frame.level) new
-      (begun.left frame.level few (omega arith)) from count))
-      (λ other. by_order level within other (cases_lt level frame.level));
-}
+    (runs : List Run) (count : ℕ) → frame.level < 32 →
+    Begun content frame.number frame.level runs → count ≡ (run_at runs frame.level).count + 1 →
+    AreRuns content (frame.number + 1) (set runs frame.level
+    (record { from = (run_at runs frame.level).from; count = count }))
+all_counted content frame is runs count few begun more =
+    let new : Run = record { from = (run_at runs frame.level).from; count = count } in record {
+      long = length-set runs frame.level new ∙ begun.long;
+      each = λ level within. set_at (IsRun content (frame.number + 1) level) runs frame.level level
+          new (omega (arith, few, begun.long))
+          (λ e. subst (λ level. IsRun content (frame.number + 1) level new) (sym e)
+          (one_counted content frame is (run_at runs frame.level)
+          (begun.left frame.level few (omega arith)) count more))
+          (λ other. by_order level within other (cases_lt level frame.level));
+    }
   where
     by_order : (level : ℕ) → level < 32 → (level ≡ frame.level → ⊥) →
         (level < frame.level) ⊎ (frame.level ≤ level) →

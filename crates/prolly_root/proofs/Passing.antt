@@ -12,15 +12,14 @@ use Rattle.prolly_check.specs.Kinds.{kind_of}
 use Rattle.prolly_check.specs.Held.{pairs_held}
 use Rattle.prolly_check.specs.Sought.{EndsAt, LeadsOn, sought_of}
 use Rattle.prolly_check.specs.Sought.Sought.{Key}
-use Rattle.prolly_check.specs.Way.{FallsTo, IsNamed, Lead, LevelsFall, level_of}
+use Rattle.prolly_check.specs.Way.{FallsTo, IsNamed, level_of}
 use Rattle.prolly_check.specs.declared.look_up.step.Due.{Due}
-use Rattle.prolly_check.specs.lemmas.Ways.{lead_more}
 use Rattle.prolly_entry.specs.declared.version.Version.{Version}
 use Rattle.prolly_entry.specs.lemmas.Lists.{all_append}
 use Rattle.prolly_file.specs.Frame.{framed, IsSmall}
 use Rattle.prolly_root.specs.ProofFault.{HasPassed, IsChunkFault, IsFault, IsFrameFault}
 use Rattle.prolly_root.specs.ProofFault.{HasMore, last_level}
-use Rattle.prolly_root.proofs.Descending.{falls_more, last_more}
+use Rattle.prolly_root.proofs.Descending.{Descended, none_passed, one_passed, way_ends}
 use Rattle.prolly_root.specs.ProofFile.{IsProof, proof_file, proof_start}
 use Rattle.prolly_root.specs.declared.proof.fault.ProofFault.{ProofFault}
 use Rattle.prolly_root.specs.declared.proof.fault.ProofFault.TheVariants.{Trailing}
@@ -43,9 +42,7 @@ pub record Stands (version : Version) (root key chunks : List ℕ) (due : Due) (
   pub passed : List (List ℕ)
   pub small : AllByRecursion IsSmall passed
   pub is : chunks ≡ flat_map framed passed ++ rest
-  pub lead : Lead version (Key key) root passed due.reference.0 (sought_of due.sought)
-  pub down : LevelsFall passed
-  pub above : due.above ≡ last_level passed
+  pub led : Descended version root (Key key) passed due
   pub number : count ≡ length passed
   pub few : count + length rest ≤ length chunks
 
@@ -56,9 +53,7 @@ begins version root key chunks due count reference above sought number = record 
   passed = [];
   small = tt;
   is = refl;
-  lead = (reference, sym sought);
-  down = tt;
-  above = above;
+  led = none_passed version root (Key key) due reference above (sym sought);
   number = number;
   few = omega (arith, number);
 }
@@ -75,8 +70,8 @@ module _ (version : Version) (root key chunks : List ℕ) (due : Due) (count : �
     small = s.small;
     is = ap (λ x. proof_start version ++ x) (s.is ∙ ap (λ x. flat_map framed s.passed ++ x) e) ∙
         sym (append_assoc (proof_start version) (flat_map framed s.passed) left);
-    lead = s.lead;
-    down = s.down;
+    lead = s.led.lead;
+    down = s.led.down;
   }
 
   pub no_frame : (fault : ProofFault) → IsFrameFault count rest fault →
@@ -103,14 +98,11 @@ module _ (version : Version) (root key chunks : List ℕ) (due : Due) (count : �
         small = small;
         is = subst (λ n. IsChunkFault version due.reference.0 (last_level s.passed) chunk n
             fault) s.number (subst (λ l. IsChunkFault version due.reference.0 l chunk
-            count fault) s.above h);
+            count fault) s.led.above h);
       })))
 
       spelled : chunks ≡ flat_map framed (s.passed ++ chunk ∷ []) ++ behind
-      spelled = s.is ∙ ap (λ x. flat_map framed s.passed ++ x) is ∙
-          sym (append_assoc (flat_map framed s.passed) (framed chunk) behind) ∙
-          ap (λ x. x ++ behind) (sym (flat_map-append framed s.passed (chunk ∷ []) ∙
-          ap (λ x. flat_map framed s.passed ++ x) (append-nil (framed chunk))))
+      spelled = s.is ∙ rw is (simp (flat_map-append, append_assoc, append-nil))
 
       all_small : AllByRecursion IsSmall (s.passed ++ chunk ∷ [])
       all_small = all_append IsSmall s.passed (chunk ∷ []) s.small (small, tt)
@@ -125,9 +117,6 @@ module _ (version : Version) (root key chunks : List ℕ) (due : Due) (count : �
 
       module _ (named : IsNamed version due.reference.0 chunk)
           (falls : FallsTo due.above chunk) where
-        down : LevelsFall (s.passed ++ chunk ∷ [])
-        down = falls_more s.passed chunk s.down (subst (λ l. FallsTo l chunk) s.above falls)
-
         module _ (ends : EndsAt (sought_of due.sought) (kind_of version chunk)) where
           proves : IsProof version root key (proof_file version (s.passed ++ chunk ∷ []))
               (find (pairs_held chunk) key)
@@ -136,17 +125,8 @@ module _ (version : Version) (root key chunks : List ℕ) (due : Due) (count : �
             small = all_small;
             is = refl;
             way = record {
-              way = record {
-                before = s.passed;
-                last = chunk;
-                reference = due.reference.0;
-                there = sought_of due.sought;
-                are = refl;
-                lead = s.lead;
-                named = named;
-                down = down;
-                ends = ends;
-              };
+              way = way_ends version root (Key key) s.passed due s.led chunk named falls ends
+                  (s.passed ++ chunk ∷ []) refl;
               value_is = refl;
             };
           }
@@ -154,9 +134,8 @@ module _ (version : Version) (root key chunks : List ℕ) (due : Due) (count : �
           pub ends_here : behind ≡ [] →
               IsProof version root key bytes (find (pairs_held chunk) key)
           ends_here none = subst (λ x. IsProof version root key x (find (pairs_held chunk) key))
-              (ap (λ x. proof_start version ++ x) (sym (spelled ∙
-              ap (λ x. flat_map framed (s.passed ++ chunk ∷ []) ++ x) none ∙
-              append-nil (flat_map framed (s.passed ++ chunk ∷ []))))) proves
+              (ap (λ x. proof_start version ++ x) (sym (spelled ∙ rw none (append-nil
+              (flat_map framed (s.passed ++ chunk ∷ [])))))) proves
 
           more_from : (left : List ℕ) → behind ≡ left → (left ≡ [] → ⊥) →
               HasMore version root key bytes
@@ -184,10 +163,8 @@ module _ (version : Version) (root key chunks : List ℕ) (due : Due) (count : �
           passed = s.passed ++ chunk ∷ [];
           small = all_small;
           is = spelled;
-          lead = lead_more version (Key key) root s.passed due.reference.0 (sought_of due.sought)
-              chunk next.reference.0 (sought_of next.sought) s.lead named on;
-          down = down;
-          above = above ∙ sym (last_more s.passed chunk);
+          led = one_passed version root (Key key) s.passed due s.led chunk named falls next on
+              above;
           number = number ∙ ap (λ n. n + 1) s.number ∙ sym (length-append s.passed (chunk ∷ []));
           few = omega (arith, number, s.few, shorter);
         }

@@ -1,25 +1,23 @@
 -- Trees in a chunk file: where their tops stand, and the bytes of these.
 use Rattle.std.proofs.Common.{◌≡◌, ℕ, suc, ◌+◌, ◌-◌, ◌<◌, ◌≤◌, List, [], ◌∷◌, ◌++◌, length, take}
 use Rattle.std.proofs.Common.{drop, get_or, refl, sym, ap, ◌∙◌, subst, arith, append_assoc}
-use Rattle.std.proofs.Common.{append-nil, None}
+use Rattle.std.proofs.Common.{append-nil}
 use Rattle.std.specs.List.{flat_map}
 use Rattle.std.proofs.Math.Seq.{drop-append-add, drop-cons, take-append_seam}
 use Rattle.std.proofs.lemmas.List.{get_or_push, length-append, length-take-le, take_all}
-use Rattle.std.proofs.lemmas.List.{take-append-drop}
 use Rattle.prolly_check.specs.Checked.{chunks_of}
 use Rattle.prolly_check.specs.Content.{Content}
 use Rattle.prolly_check.specs.FileWays.{nth_chunk}
 use Rattle.prolly_check.specs.Verdict.{IsFileOf}
 use Rattle.prolly_file.specs.Frame.{framed}
 use Rattle.prolly_tree.specs.Tree.{Tree, bytes_of}
-use Rattle.prolly_root.specs.Subtree.{IsPlaceOf, IsSubtree, KeepsLastChild, chunks_of_trees}
+use Rattle.prolly_root.specs.Subtree.{IsPlaceOf}
 use Rattle.prolly_root.specs.ChunkSource.{IsChildAt, root_level, root_tree}
 use Rattle.prolly_root.specs.Walk.{IsFrame, IsWalk, chunks_below, chunks_of_tree}
 use Rattle.prolly_root.specs.declared.file.subtree.Place.{Place}
-use Rattle.prolly_root.specs.declared.file.subtree.Subtree.{Subtree}
 use Rattle.prolly_root.specs.declared.file.walk.Frame.{Frame}
-use Rattle.prolly_root.proofs.Keeping.{StandsAmong, part_at}
-use Rattle.prolly_root.proofs.Walking.{apart, ending, front_length, start, top_last}
+use Rattle.prolly_root.proofs.Keeping.{StandsAmong, chunks_of_trees, part_at}
+use Rattle.prolly_root.proofs.Walking.{apart, behind, ending, front, front_length, top_last}
 
 -- ---- the bytes of a chunk
 
@@ -31,22 +29,16 @@ pub chunk_there : (bytes : List ℕ) (content : Content) → IsFileOf bytes cont
     take count buf ≡ nth_chunk content frame.number
 chunk_there bytes content f frame is count buf long gives =
     let n = frame.number in
-    let before = take n (chunks_of content) in
     let chunk = nth_chunk content n in
     let left = drop (suc n) (chunks_of content) in
-    let are : chunks_of content ≡ before ++ chunk ∷ left =
-    sym (take-append-drop n (chunks_of content)) ∙
-    ap (λ cs. before ++ cs) (drop-cons (chunks_of content) n [] is.within) in
-    let front = start bytes content f before (chunk ∷ left) are ++ flat_map framed before in
-    let more = flat_map framed left ++ ending bytes content f before (chunk ∷ left) are in
+    let more = flat_map framed left ++ ending bytes content f n in
     let there : drop frame.start bytes ≡ chunk ++ more =
-    ap (λ n. drop n bytes) (is.start ∙ ap (λ n. n + 9)
-    (sym (front_length bytes content f before (chunk ∷ left) are))) ∙
-    ap (drop (length front + 9)) (apart bytes content f before (chunk ∷ left) are) ∙
-    drop-append-add front (flat_map framed (chunk ∷ left) ++
-    ending bytes content f before (chunk ∷ left) are) 9 ∙
-    append_assoc chunk (flat_map framed left)
-    (ending bytes content f before (chunk ∷ left) are) in
+    ap (λ p. drop p bytes) (is.start ∙ ap (λ n. n + 9) (sym (front_length bytes content f n))) ∙
+    ap (drop (length (front bytes content f n) + 9)) (apart bytes content f n) ∙
+    drop-append-add (front bytes content f n) (behind bytes content f n) 9 ∙
+    ap (λ cs. drop 9 (flat_map framed cs ++ ending bytes content f n))
+    (drop-cons (chunks_of content) n [] is.within) ∙
+    append_assoc chunk (flat_map framed left) (ending bytes content f n) in
     gives ∙ ap (take (length buf)) there ∙ ap (λ n. take n (chunk ++ more)) long ∙
     take-append_seam chunk more
 
@@ -91,17 +83,6 @@ root_is_place content place below begins frame last =
       );
     }
 
--- where a tree stands, nothing below its top was gone over yet
-pub stands_at : (content : Content) (level : ℕ) (t : Tree level) (place : Place)
-    (subtree : Subtree) → subtree.frame ≡ place.frame → subtree.below.first ≡ place.below →
-    subtree.below.last ≡ None → IsPlaceOf content level t place → IsSubtree content level t subtree
-stands_at content level t place subtree frame first last stands = (
-  subst (λ f. IsPlaceOf content level t (record { frame = f; below = subtree.below.first }))
-      (sym frame) (subst (λ w. IsPlaceOf content level t (record { frame = place.frame; below = w }))
-      (sym first) stands),
-  subst (KeepsLastChild content (level - 1) subtree.below.first) (sym last) tt,
-)
-
 -- a child of a node stands among those below it
 pub child_among : (content : Content) (level : ℕ) (ts : List (Tree level)) (number : ℕ)
     (t : Tree level) (place : Place) → IsPlaceOf content (suc level) ts place →
@@ -116,9 +97,7 @@ child_among content level ts number t place stands at =
       first = stands.first;
       are = subst (λ trees. chunks_of content ≡
           stands.before ++ (chunks_of_trees content level trees ++ top ∷ stands.left)) at.are
-          (stands.are ∙ ap (λ cs. stands.before ++ cs)
-          (ap (λ cs. cs ++ stands.left) (top_last content.version (suc level) ts) ∙
-          append_assoc (chunks_of_trees content level ts) (top ∷ []) stands.left));
+          (stands.are ∙ rw (top_last content.version (suc level) ts) (simp append_assoc));
     }
 
 -- the chunk in the place of a tree is its top

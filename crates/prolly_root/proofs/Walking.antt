@@ -1,7 +1,7 @@
 -- Going over the frames of a file.
 use Rattle.std.proofs.Common.{◌≡◌, ℕ, zero, suc, ◌+◌, ◌^◌, ◌<◌, ◌≤◌, List, [], ◌∷◌, ◌++◌, length}
-use Rattle.std.proofs.Common.{take, drop, map, get_or, inl, inr, ◌⊎◌, Result, Ok, refl, sym, ap, ◌∙◌}
-use Rattle.std.proofs.Common.{subst, arith, append_assoc, Option, Some, None}
+use Rattle.std.proofs.Common.{take, drop, map, get_or, inl, inr, ◌⊎◌, Result, Ok, refl, sym, ap}
+use Rattle.std.proofs.Common.{◌∙◌, subst, arith, append_assoc, Option, Some, None}
 use Rattle.std.proofs.Common.{take-append-drop}
 use Rattle.std.specs.Int.{w64, to_be_bytes}
 use Rattle.std.specs.List.{AllByRecursion, flat_map}
@@ -25,12 +25,37 @@ use Rattle.prolly_file.specs.declared.format.frame.FrameStart.TheVariants.{Chunk
 use Rattle.prolly_tree.specs.Chunk.{Chunk, chunk_of, chunks, post_order}
 use Rattle.prolly_tree.specs.File.{end_record, header, root_reference}
 use Rattle.prolly_tree.specs.Tree.{Tree, bytes_of, tree_of}
-use Rattle.prolly_root.specs.Walk.{GoesOver, IsFrame, IsStartOf, IsWalk}
-use Rattle.prolly_root.specs.Walk.{NoneBetween, chunks_below, chunks_of_tree}
+use Rattle.prolly_file.specs.Device.{DeviceView}
+use Rattle.prolly_root.specs.Walk.{GoesOver, HoldsFile, IsFrame, IsStartOf, IsWalk}
+use Rattle.prolly_root.specs.Walk.{NoneBetween, StaysSame, chunks_below, chunks_of_tree}
 use Rattle.prolly_root.specs.Walk.{offset_of, size_of}
 use Rattle.prolly_root.specs.declared.root_fault.RootFault.{RootFault}
 use Rattle.prolly_root.specs.declared.file.walk.Frame.{Frame}
 use Rattle.prolly_root.specs.declared.file.walk.Walk.{Walk}
+
+-- ---- a device between two calls
+
+-- the file that it held it holds still
+pub holds_still : (old new : DeviceView) (content : Content) → StaysSame old new →
+    HoldsFile old content → HoldsFile new content
+holds_still old new content same holds =
+    let kept = same holds.honest in record {
+      honest = kept.0;
+      short = subst (λ bytes. length bytes < 2 ^ 64) (sym kept.1) holds.short;
+      is = subst (λ bytes. IsFileOf bytes content) (sym kept.1) holds.is;
+    }
+
+-- two calls, of which the first one succeeds, read and do no more
+pub reads_on : (old mid new : DeviceView) (tells : ℕ → Type 0) →
+    StaysSame old mid × (mid.failures ≡ old.failures) →
+    StaysSame mid new × tells mid.failures → StaysSame old new × tells old.failures
+reads_on old mid new tells read more = (
+  λ honest.
+      let kept = read.0 honest in
+      let later = more.0 kept.0 in
+      (later.0, later.1 ∙ kept.1),
+  subst tells read.1 more.1,
+)
 
 -- ---- the chunks of a tree
 
@@ -108,43 +133,40 @@ module _ (version : Version) where
 
 -- ---- the bytes of a file
 
--- where the frame behind these chunks begins
-abbrev pub place_behind : List (List ℕ) → ℕ
-place_behind before = 6 + length (flat_map framed before)
+module _ (bytes : List ℕ) (content : Content) (f : IsFileOf bytes content) (n : ℕ) where
+  abbrev pub cs : List (List ℕ)
+  cs = chunks_of content
 
-module _ (bytes : List ℕ) (content : Content) (f : IsFileOf bytes content)
-    (before left : List (List ℕ)) (are : chunks_of content ≡ before ++ left) where
-  abbrev pub start : List ℕ
-  start = header content.version content.bits
+  -- those before the frame of the chunk of the number, and those from there on
+  abbrev pub front : List ℕ
+  front = header content.version content.bits ++ flat_map framed (take n cs)
 
   abbrev pub ending : List ℕ
   ending = end_record (root_reference (sha512_cut content.bits) content.version content.pairs)
       (length (chunks (sha512_cut content.bits) content.version content.pairs))
 
-  pub apart : bytes ≡ (start ++ flat_map framed before) ++ (flat_map framed left ++ ending)
-  apart = f.is ∙ ap (λ x. start ++ (x ++ ending))
+  abbrev pub behind : List ℕ
+  behind = flat_map framed (drop n cs) ++ ending
+
+  pub apart : bytes ≡ front ++ behind
+  apart = f.is ∙ ap (λ x. header content.version content.bits ++ (x ++ ending))
       (frames_bytes (chunks (sha512_cut content.bits) content.version content.pairs) ∙
-      ap (flat_map framed) are ∙ flat_map-append framed before left) ∙
-      ap (λ x. start ++ x) (append_assoc (flat_map framed before) (flat_map framed left) ending) ∙
-      sym (append_assoc start (flat_map framed before) (flat_map framed left ++ ending))
+      ap (flat_map framed) (sym (take-append-drop n cs)) ∙
+      flat_map-append framed (take n cs) (drop n cs)) ∙ simp append_assoc
 
-  pub front_length : length (start ++ flat_map framed before) ≡ place_behind before
-  front_length = length-append start (flat_map framed before)
+  pub front_length : length front ≡ offset_of content n
+  front_length = length-append (header content.version content.bits) (flat_map framed (take n cs))
 
-  -- what stands behind the frames before
-  pub behind : (place : ℕ) → place ≡ place_behind before →
-      drop place bytes ≡ flat_map framed left ++ ending
-  behind place at = ap (λ p. drop p bytes) (at ∙ sym front_length) ∙
-      ap (drop (length (start ++ flat_map framed before))) apart ∙
-      drop-append_seam (start ++ flat_map framed before) (flat_map framed left ++ ending)
-
-  -- and how much that is
-  pub how_long : length bytes ≡ place_behind before + (length (flat_map framed left) + 29)
-  how_long = ap length apart ∙ length-append (start ++ flat_map framed before)
-      (flat_map framed left ++ ending) ∙
-      ap (λ n. n + length (flat_map framed left ++ ending)) front_length ∙
-      ap (λ n. place_behind before + n) (length-append (flat_map framed left) ending ∙
-      ap (λ n. length (flat_map framed left) + n) ending_length)
+  -- how much that is
+  pub how_long : length bytes ≡ offset_of content n + (length (flat_map framed (drop n cs)) + 29)
+  how_long = omega (
+    arith,
+    ap length apart,
+    length-append front behind,
+    front_length,
+    length-append (flat_map framed (drop n cs)) ending,
+    ending_length,
+  )
     where
       ending_length : length ending ≡ 29
       ending_length = ap suc (length-append
@@ -154,10 +176,11 @@ module _ (bytes : List ℕ) (content : Content) (f : IsFileOf bytes content)
           (tree_of (sha512_cut content.bits) content.version content.pairs).level
           (tree_of (sha512_cut content.bits) content.version content.pairs).tree)))
 
-  all_some : AllByRecursion (λ c. 0 < length c) left
-  all_some = all_back (λ c. 0 < length c) before left (subst (AllByRecursion (λ c. 0 < length c))
-      are (each_some (tree_of (sha512_cut content.bits) content.version content.pairs).level
-      (chunks_of content) (tree_up_to content.version
+  all_some : AllByRecursion (λ c. 0 < length c) (drop n cs)
+  all_some = all_back (λ c. 0 < length c) (take n cs) (drop n cs)
+      (subst (AllByRecursion (λ c. 0 < length c)) (sym (take-append-drop n cs))
+      (each_some (tree_of (sha512_cut content.bits) content.version content.pairs).level cs
+      (tree_up_to content.version
       (tree_of (sha512_cut content.bits) content.version content.pairs).level
       (tree_of (sha512_cut content.bits) content.version content.pairs).tree)))
     where
@@ -166,14 +189,14 @@ module _ (bytes : List ℕ) (content : Content) (f : IsFileOf bytes content)
       each_some level [] h = tt
       each_some level (c ∷ cs) h = (h.0.some, each_some level cs h.1)
 
-  -- what is told of bytes is told of the first ten that are left
+  -- what is told of bytes is told of the first ten from there on
   module _ (bytes_read : List ℕ) (result : Result FrameStart RootFault)
-      (read : bytes_read ≡ take 10 (flat_map framed left ++ ending))
+      (read : bytes_read ≡ take 10 behind)
       (ends : (more : List ℕ) → bytes_read ≡ 0x45 ∷ more → result ≡ Ok End)
       (begins : (len level : ℕ) → len < 2 ^ 64 →
       bytes_read ≡ 0x43 ∷ (to_be_bytes w64 len ++ level ∷ []) → result ≡ Ok (ChunkStart len level))
       (short : length bytes < 2 ^ 64) where
-    by_what_is_left : (rest : List (List ℕ)) → left ≡ rest →
+    by_what_is_left : (rest : List (List ℕ)) → drop n cs ≡ rest →
         AllByRecursion (λ c. 0 < length c) rest → IsStartOf rest result
     by_what_is_left [] e some = subst (IsStartOf []) (sym (ends (take 9 (drop 1 ending)) (read ∙
         ap (λ cs. take 10 (flat_map framed cs ++ ending)) e))) tt
@@ -192,8 +215,8 @@ module _ (bytes : List ℕ) (content : Content) (f : IsFileOf bytes content)
           length-append (to_be_bytes w64 (suc (length c))) (b ∷ c),
         )
 
-    pub is_start : IsStartOf left result
-    is_start = by_what_is_left left refl all_some
+    is_start : IsStartOf (drop n cs) result
+    is_start = by_what_is_left (drop n cs) refl all_some
 
 -- ---- over a frame
 
@@ -245,11 +268,8 @@ frames_long (c ∷ cs) (suc n) within = omega (
 
 module _ (bytes : List ℕ) (content : Content) (f : IsFileOf bytes content) (walk : Walk)
     (at : IsWalk content walk) where
-  abbrev cs : List (List ℕ)
-  cs = chunks_of content
-
-  parted : cs ≡ take walk.number cs ++ drop walk.number cs
-  parted = sym (take-append-drop walk.number cs)
+  abbrev left : List (List ℕ)
+  left = drop walk.number (chunks_of content)
 
   -- what is told of the bytes there is told of the chunk
   pub begins_there : (bytes_read : List ℕ) (result : Result FrameStart RootFault) →
@@ -257,31 +277,29 @@ module _ (bytes : List ℕ) (content : Content) (f : IsFileOf bytes content) (wa
       ((more : List ℕ) → bytes_read ≡ 0x45 ∷ more → result ≡ Ok End) →
       ((len level : ℕ) → len < 2 ^ 64 →
       bytes_read ≡ 0x43 ∷ (to_be_bytes w64 len ++ level ∷ []) →
-      result ≡ Ok (ChunkStart len level)) → length bytes < 2 ^ 64 →
-      IsStartOf (drop walk.number cs) result
+      result ≡ Ok (ChunkStart len level)) → length bytes < 2 ^ 64 → IsStartOf left result
   begins_there bytes_read result read ends begins short =
-      is_start bytes content f (take walk.number cs) (drop walk.number cs) parted bytes_read result
-      (read ∙ ap (take 10) (behind bytes content f (take walk.number cs) (drop walk.number cs)
-      parted walk.offset at.offset)) ends begins short
+      let n = walk.number in
+      let there : drop walk.offset bytes ≡ behind bytes content f n =
+      ap (λ p. drop p bytes) (at.offset ∙ sym (front_length bytes content f n)) ∙
+      ap (drop (length (front bytes content f n))) (apart bytes content f n) ∙
+      drop-append_seam (front bytes content f n) (behind bytes content f n) in
+      is_start bytes content f n bytes_read result (read ∙ ap (take 10) there) ends begins short
 
   of_size : length bytes ≡ size_of content
   of_size = ap length f.is
 
-  abbrev long : length bytes ≡ place_behind (take walk.number cs) +
-      (length (flat_map framed (drop walk.number cs)) + 29)
-  long = how_long bytes content f (take walk.number cs) (drop walk.number cs) parted
-
   -- the frame of a chunk that begins there fits
-  pub fits : (len level : ℕ) → IsStartOf (drop walk.number cs) (Ok (ChunkStart len level)) →
+  pub fits : (len level : ℕ) → IsStartOf left (Ok (ChunkStart len level)) →
       (0 < len) × (walk.offset + 9 + len ≤ walk.size)
-  fits len level is = by_what_is_left (drop walk.number cs) refl
-      (all_some bytes content f (take walk.number cs) (drop walk.number cs) parted) is
+  fits len level is = by_what_is_left left refl (all_some bytes content f walk.number) is
     where
-      by_what_is_left : (rest : List (List ℕ)) → drop walk.number cs ≡ rest →
+      by_what_is_left : (rest : List (List ℕ)) → left ≡ rest →
           AllByRecursion (λ c. 0 < length c) rest → IsStartOf rest (Ok (ChunkStart len level)) →
           (0 < len) × (walk.offset + 9 + len ≤ walk.size)
       by_what_is_left [] e some is = absurd is
       by_what_is_left (c ∷ rest) e some is =
+          let long = how_long bytes content f walk.number in
           let same = ap (λ cs. length (flat_map framed cs)) e in
           let all = length-append (framed c) (flat_map framed rest) in (
             omega (arith, some.0, is.0),
@@ -289,29 +307,36 @@ module _ (bytes : List ℕ) (content : Content) (f : IsFileOf bytes content) (wa
           )
 
   -- the end record that begins there is the end
-  pub ends_there : IsStartOf (drop walk.number cs) (Ok End) →
-      (walk.number ≡ length cs) × (walk.offset + 29 ≡ walk.size)
-  ends_there is = (ends_list cs walk.number at.within is, by_what_is_left (drop walk.number cs) refl is)
+  pub ends_there : IsStartOf left (Ok End) →
+      (walk.number ≡ length (chunks_of content)) × (walk.offset + 29 ≡ walk.size)
+  ends_there is =
+      (ends_list (chunks_of content) walk.number at.within is, by_what_is_left left refl is)
     where
-      by_what_is_left : (rest : List (List ℕ)) → drop walk.number cs ≡ rest →
-          IsStartOf rest (Ok End) → walk.offset + 29 ≡ walk.size
+      by_what_is_left : (rest : List (List ℕ)) → left ≡ rest → IsStartOf rest (Ok End) →
+          walk.offset + 29 ≡ walk.size
       by_what_is_left [] e is =
+          let long = how_long bytes content f walk.number in
           let same = ap (λ cs. length (flat_map framed cs)) e in
           omega (arith, long, same, at.offset, at.whole, of_size)
       by_what_is_left (c ∷ rest) e is = absurd is
 
   -- its number has one above it
   pub number_fits : length bytes < 2 ^ 64 → walk.number + 1 < 2 ^ 64
-  number_fits short = omega (arith, short, long, frames_long cs walk.number at.within)
+  number_fits short = omega (
+    arith,
+    short,
+    how_long bytes content f walk.number,
+    frames_long (chunks_of content) walk.number at.within,
+  )
 
   -- over it
-  pub goes_over : (len level : ℕ) → IsStartOf (drop walk.number cs) (Ok (ChunkStart len level)) →
+  pub goes_over : (len level : ℕ) → IsStartOf left (Ok (ChunkStart len level)) →
       (new : Walk) (frame : Frame) → new.size ≡ walk.size → new.offset ≡ walk.offset + 9 + len →
       new.number ≡ walk.number + 1 → frame.number ≡ walk.number →
       frame.start ≡ walk.offset + 9 → frame.len ≡ len → frame.level ≡ level →
       GoesOver content walk.number new (Ok (Some frame))
   goes_over len level is new frame size offset number same start len_is level_is =
-      let here = starts_chunk cs walk.number len level is in
+      let here = starts_chunk (chunks_of content) walk.number len level is in
       let next : new.number ≡ suc walk.number = omega (arith, number) in (
         record {
           within = omega (arith, here.0, same);
@@ -327,7 +352,7 @@ module _ (bytes : List ℕ) (content : Content) (f : IsFileOf bytes content) (wa
             offset,
             at.offset,
             here.1,
-            frames_next cs walk.number here.0,
+            frames_next (chunks_of content) walk.number here.0,
             ap (offset_of content) next,
           );
           whole = size ∙ at.whole;

@@ -1,5 +1,6 @@
 -- Going down from the root, from each chunk to the one that it refers to.
-use Rattle.std.specs.Prelude.{◌≡◌, ℕ, List, [], ◌∷◌, ◌++◌, map, Option, Some, Result, Ok, Err}
+use Rattle.std.specs.List.{AllByRecursion}
+use Rattle.std.specs.Prelude.{◌≡◌, ℕ, List, [], ◌∷◌, ◌++◌, map, Option, Some}
 use Rattle.prolly_check.specs.Checked.{chunks_of}
 use Rattle.prolly_check.specs.Content.{Content}
 use Rattle.prolly_check.specs.Descent.{IsTreeOf}
@@ -10,12 +11,10 @@ use Rattle.prolly_check.specs.declared.look_up.step.Due.{Due}
 use Rattle.prolly_entry.specs.Reference.{reference_of}
 use Rattle.prolly_entry.specs.declared.version.Version.{Version}
 use Rattle.prolly_tree.specs.Tree.{Tree, bytes_of}
-use Rattle.prolly_root.specs.RootFault.{MayFail}
 use Rattle.prolly_root.specs.declared.look_up.chunk_on_way.ChunkOnWay.{ChunkOnWay}
 use Rattle.prolly_root.specs.declared.look_up.chunk_on_way.Onward.{Onward}
 use Rattle.prolly_root.specs.declared.look_up.chunk_on_way.Onward.TheVariants.{End, Below}
 use Rattle.prolly_root.specs.declared.look_up.descent.Descent.{Descent}
-use Rattle.prolly_root.specs.declared.root_fault.RootFault.{RootFault}
 
 -- ---- whatever the source gives
 
@@ -35,17 +34,22 @@ pub record IsAtDue {T : Type 0} (version : Version) (due : Due) (chunk : ChunkOn
 abbrev pub chunks_in : {T : Type 0} → List (ChunkOnWay T) → List (List ℕ)
 chunks_in levels = map (λ level. level.chunk.items) levels
 
--- All that the descent went through, from the root down.
-abbrev pub levels_of : {T : Type 0} → Descent T → List (ChunkOnWay T)
-levels_of descent = descent.above.items ++ descent.last ∷ []
+-- The last chunk of the descent, which can be read.
+pub record LastTested {T : Type 0} (version : Version) (descent : Descent T) : Type 0 where
+  pub above : List (ChunkOnWay T)
+  pub last : ChunkOnWay T
+  pub are : descent.levels.items ≡ above ++ last ∷ []
+  pub tested : IsTested version last
 
--- The chunks of the descent are the way of a look-up from the root of this reference to its end, and
--- this is what it seeks in the last one.
+-- The chunks of the descent are the way of a look-up from the root of this reference to its end,
+-- and can be read, and this is what is sought in the last one.
 pub record IsDescent {T : Type 0} (version : Version) (root : List ℕ) (sought : Sought)
     (descent : Descent T) : Type 0 where
-  pub way : IsWayTo version root sought (chunks_in (levels_of descent))
-  pub last : way.last ≡ descent.last.chunk.items
+  pub way : IsWayTo version root sought (chunks_in descent.levels.items)
   pub there : way.there ≡ sought_of descent.sought
+  pub all : AllByRecursion (IsTested version) descent.levels.items
+  pub end : LastTested version descent
+  pub last : way.last ≡ end.last.chunk.items
 
 -- The look-up ends at the chunk, or goes on from it at the one that is due.
 abbrev pub IsOnward : {T : Type 0} → Version → Sought → List ℕ → Onward T → Type 0
@@ -56,34 +60,30 @@ IsOnward version sought chunk (Below due place) =
 
 -- ---- in a lawful tree
 
--- The chunk with this reference, which stands below this level, is the top of a tree of the
--- content, and this is its place.
-pub record StandsAtTree {T : Type 0}
-    (is_place : Content → (level : ℕ) → Tree level → T → Type 0) (content : Content)
-    (reference : List ℕ) (above : Option ℕ) (place : T) : Type 0 where
+-- The chunk with this reference is the top of a tree of the content, and this is its place.
+pub record StandsAt {T : Type 0} (is_place : Content → (level : ℕ) → Tree level → T → Type 0)
+    (content : Content) (reference : List ℕ) (place : T) : Type 0 where
   pub level : ℕ
   pub t : Tree level
   pub below : IsTreeOf content.version (chunks_of content) level t
   pub named : reference ≡ reference_of (bytes_of content.version level t)
-  pub falls : FallsTo above (bytes_of content.version level t)
   pub stands : is_place content level t place
 
+-- And it stands one level below this one.
+pub record StandsBelow {T : Type 0} (is_place : Content → (level : ℕ) → Tree level → T → Type 0)
+    (content : Content) (reference : List ℕ) (above : Option ℕ) (place : T) : Type 0 where
+  pub at : StandsAt is_place content reference place
+  pub falls : FallsTo above (bytes_of content.version at.level at.t)
+
 -- The chunk is the top of a tree of the content, and stands in its place.
-pub record StandsInPlace {T : Type 0}
-    (is_place : Content → (level : ℕ) → Tree level → T → Type 0) (content : Content)
-    (chunk : ChunkOnWay T) : Type 0 where
-  pub level : ℕ
-  pub t : Tree level
-  pub below : IsTreeOf content.version (chunks_of content) level t
-  pub named : chunk.reference.0 ≡ reference_of (bytes_of content.version level t)
-  pub is : chunk.chunk.items ≡ bytes_of content.version level t
-  pub stands : is_place content level t chunk.place
+pub record StandsInPlace {T : Type 0} (is_place : Content → (level : ℕ) → Tree level → T → Type 0)
+    (content : Content) (chunk : ChunkOnWay T) : Type 0 where
+  pub at : StandsAt is_place content chunk.reference.0 chunk.place
+  pub is : chunk.chunk.items ≡ bytes_of content.version at.level at.t
 
 -- A step comes to such a chunk again, or to an end.
 abbrev pub StepsDown : {T : Type 0} →
-    (is_place : Content → (level : ℕ) → Tree level → T → Type 0) → Content →
-    Result (Onward T) RootFault → Type 0
-StepsDown is_place content (Ok End) = Unit {0}
-StepsDown is_place content (Ok (Below due place)) =
-    StandsAtTree is_place content due.reference.0 due.above place
-StepsDown is_place content (Err fault) = MayFail fault
+    (is_place : Content → (level : ℕ) → Tree level → T → Type 0) → Content → Onward T → Type 0
+StepsDown is_place content End = Unit {0}
+StepsDown is_place content (Below due place) =
+    StandsBelow is_place content due.reference.0 due.above place

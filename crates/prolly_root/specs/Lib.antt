@@ -18,5 +18,3 @@ pub mod Subtree
 pub mod Reader
 -- What is said of faults. (This project's texts.)
 pub mod FaultTexts
--- What the proofs of the crates above may use.
-pub mod lemmas

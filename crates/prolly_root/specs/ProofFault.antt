@@ -7,18 +7,12 @@ use Rattle.prolly_check.specs.Sought.{Sought}
 use Rattle.prolly_check.specs.Sought.Sought.{Key}
 use Rattle.prolly_check.specs.Way.{Lead, LevelsFall, level_of}
 use Rattle.prolly_check.specs.declared.look_up.step.ChunkFlaw.{ChunkFlaw}
-use Rattle.prolly_check.specs.declared.look_up.step.ChunkFlaw.TheVariants.{Entries as BadEntries}
-use Rattle.prolly_check.specs.declared.look_up.step.ChunkFlaw.TheVariants.{Level as BadLevel}
-use Rattle.prolly_check.specs.declared.look_up.step.ChunkFlaw.TheVariants.{Order as BadOrder}
-use Rattle.prolly_check.specs.declared.look_up.step.ChunkFlaw.TheVariants.{Reference as BadReference}
+use Rattle.prolly_check.specs.declared.look_up.step.ChunkFlaw.TheVariants as flaws
 use Rattle.prolly_entry.specs.declared.version.Version.{Version}
 use Rattle.prolly_file.specs.Frame.{framed, has_no_frame, IsSmall}
 use Rattle.prolly_root.specs.ProofFile.{IsProof, proof_file, proof_start}
 use Rattle.prolly_root.specs.declared.proof.fault.ProofFault.{ProofFault}
-use Rattle.prolly_root.specs.declared.proof.fault.ProofFault.TheVariants.{Header, Truncated, Frame}
-use Rattle.prolly_root.specs.declared.proof.fault.ProofFault.TheVariants.{Version as OtherVersion}
-use Rattle.prolly_root.specs.declared.proof.fault.ProofFault.TheVariants.{Reference, Chunk, Level}
-use Rattle.prolly_root.specs.declared.proof.fault.ProofFault.TheVariants.{KeysOutOfOrder, Trailing}
+use Rattle.prolly_root.specs.declared.proof.fault.ProofFault.TheVariants as faults
 
 -- ---- the start
 
@@ -46,9 +40,9 @@ pub record BeginsAsNone (version : Version) (bytes : List ℕ) : Type 0 where
 
 -- What is wrong with the start of a proof over chunks of the version.
 abbrev pub IsStartFault : Version → List ℕ → ProofFault → Type 0
-IsStartFault version bytes Header = BeginsAsNone version bytes
-IsStartFault version bytes OtherVersion = BeginsAsOther version bytes
-IsStartFault version bytes Truncated = EndsWithin (proof_start version) bytes
+IsStartFault version bytes faults.Header = BeginsAsNone version bytes
+IsStartFault version bytes faults.Version = BeginsAsOther version bytes
+IsStartFault version bytes faults.Truncated = EndsWithin (proof_start version) bytes
 IsStartFault version bytes fault = ⊥
 
 -- ---- a frame
@@ -56,9 +50,9 @@ IsStartFault version bytes fault = ⊥
 -- What is wrong with bytes that no whole frame begins, in the place of the chunk of this number:
 -- they end within a frame, or begin with a byte that begins none.
 abbrev pub IsFrameFault : ℕ → List ℕ → ProofFault → Type 0
-IsFrameFault number rest Truncated = ((rest ≡ []) ⊎ BeginsWith (0x43 ∷ []) rest) ×
+IsFrameFault number rest faults.Truncated = ((rest ≡ []) ⊎ BeginsWith (0x43 ∷ []) rest) ×
     (has_no_frame rest ≡ true)
-IsFrameFault number rest (Frame n) = (n ≡ number) × (rest ≡ [] → ⊥) ×
+IsFrameFault number rest (faults.Frame n) = (n ≡ number) × (rest ≡ [] → ⊥) ×
     (BeginsWith (0x43 ∷ []) rest → ⊥)
 IsFrameFault number rest fault = ⊥
 
@@ -72,10 +66,10 @@ last_level (chunk ∷ below ∷ chunks) = last_level (below ∷ chunks)
 
 -- The fault that the chunk of this number has where it is flawed so.
 abbrev pub fault_of : ℕ → ChunkFlaw → ProofFault
-fault_of number BadReference = Reference number
-fault_of number BadEntries = Chunk number
-fault_of number BadOrder = KeysOutOfOrder number
-fault_of number BadLevel = Level number
+fault_of number flaws.Reference = faults.Reference number
+fault_of number flaws.Entries = faults.Chunk number
+fault_of number flaws.Order = faults.KeysOutOfOrder number
+fault_of number flaws.Level = faults.Level number
 
 -- What is wrong with the chunk of this number, where one with this reference is due below this
 -- level.
@@ -130,4 +124,4 @@ abbrev pub IsFault : Version → List ℕ → List ℕ → List ℕ → ProofFau
 IsFault version root key bytes fault = IsStartFault version bytes fault
     ⊎ IsCut version root key bytes fault
     ⊎ IsWrongChunk version root key bytes fault
-    ⊎ ((fault ≡ Trailing) × HasMore version root key bytes)
+    ⊎ ((fault ≡ faults.Trailing) × HasMore version root key bytes)

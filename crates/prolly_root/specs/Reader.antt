@@ -1,12 +1,12 @@
 -- A reader that looks up by the root again and again.
-use Rattle.std.specs.Prelude.{◌≡◌, ℕ, List, None, take}
+use Rattle.std.specs.Prelude.{◌≡◌, ℕ, List, take}
 use Rattle.std.specs.List.{AllByRecursion}
 use Rattle.prolly_check.specs.Content.{Content}
 use Rattle.prolly_check.specs.ScanWay.{IsScanWay}
 use Rattle.prolly_entry.specs.Pair.{Pair}
 use Rattle.prolly_entry.specs.declared.version.Version.{Version}
 use Rattle.prolly_tree.specs.Tree.{Tree}
-use Rattle.prolly_root.specs.Descent.{StandsInPlace, StandsAtTree, chunks_in}
+use Rattle.prolly_root.specs.Descent.{StandsAt, StandsInPlace, chunks_in}
 use Rattle.prolly_root.specs.declared.look_up.chunk_on_way.ChunkOnWay.{ChunkOnWay}
 
 -- What a reader keeps: the version and the root that it was opened for, the place of the root, and
@@ -26,7 +26,7 @@ pub record IsReaderOf {T : Type 0}
     (is_place : Content → (level : ℕ) → Tree level → T → Type 0) (content : Content)
     (reader : ReaderView T) : Type 0 where
   pub version : reader.version ≡ content.version
-  pub top : StandsAtTree is_place content reader.root None reader.top
+  pub top : StandsAt is_place content reader.root reader.top
   pub levels : AllByRecursion (StandsInPlace is_place content) reader.levels
 
 -- These are the first pairs, at most so many, of those that a look-up of the key from the root of

@@ -1,19 +1,20 @@
 -- Trees in a chunk file on a device.
-use Rattle.std.specs.Prelude.{◌≡◌, ℕ, suc, ◌-◌, ◌+◌, List, ◌++◌, length, map, Option, None, Some, IfSome}
-use Rattle.std.specs.List.{flat_map}
+use Rattle.std.specs.Prelude.{◌≡◌, ℕ, suc, ◌-◌, ◌+◌, List, ◌++◌, length, Option, None, Some}
+use Rattle.std.specs.Prelude.{IfSome, Result, Ok, Err}
 use Rattle.prolly_check.specs.Checked.{chunks_of}
 use Rattle.prolly_check.specs.Content.{Content}
 use Rattle.prolly_file.specs.Device.{DeviceView}
-use Rattle.prolly_tree.specs.Chunk.{post_order}
 use Rattle.prolly_tree.specs.Tree.{Tree}
 use Rattle.prolly_root.specs.Marks.{AreMarks}
+use Rattle.prolly_root.specs.RootFault.{OnlyRead}
 use Rattle.prolly_root.specs.Walk.{HoldsFile, IsBehind, IsFrame, IsNth, IsWalk, chunks_below}
 use Rattle.prolly_root.specs.Walk.{chunks_of_tree}
-use Rattle.prolly_root.specs.declared.file.below.LastChild.{LastChild}
+use Rattle.prolly_root.specs.declared.file.subtree.LastChild.{LastChild}
 use Rattle.prolly_root.specs.declared.file.marks.Marks.{Marks}
 use Rattle.prolly_root.specs.declared.file.subtree.Place.{Place}
 use Rattle.prolly_root.specs.declared.file.subtree.Subtree.{Subtree}
 use Rattle.prolly_root.specs.declared.file.walk.Walk.{Walk}
+use Rattle.prolly_root.specs.declared.root_fault.RootFault.{RootFault}
 
 -- The place is that of the top of this tree of the file, and of where the frames of the tree begin.
 pub record IsPlaceOf (content : Content) (level : ℕ) (t : Tree level) (place : Place)
@@ -26,11 +27,6 @@ pub record IsPlaceOf (content : Content) (level : ℕ) (t : Tree level) (place :
   pub frame : IsFrame content place.frame
   pub top : place.frame.number ≡ length before + length (chunks_below content.version level t)
 
--- The chunks of trees in the order of the file.
-abbrev pub chunks_of_trees : Content → (level : ℕ) → List (Tree level) → List (List ℕ)
-chunks_of_trees content level ts =
-    map (λ c. c.bytes) (flat_map (post_order content.version level) ts)
-
 -- The place is that of the chunk with k of the level before it from this number on, and of where
 -- the frames begin behind those.
 pub record IsPlaceNth (content : Content) (level from k : ℕ) (place : Place) : Type 0 where
@@ -38,6 +34,11 @@ pub record IsPlaceNth (content : Content) (level from k : ℕ) (place : Place) :
   pub nth : IsNth content level from k place.frame.number
   pub below : IsWalk content place.below
   pub behind : IsBehind content level from k place.below.number
+
+-- The place is that one; or where there is such a chunk, only a read can have failed.
+abbrev pub FindsNth : Content → ℕ → ℕ → ℕ → Result Place RootFault → Type 0
+FindsNth content level from k (Ok place) = IsPlaceNth content level from k place
+FindsNth content level from k (Err fault) = (n : ℕ) → IsNth content level from k n → OnlyRead fault
 
 -- What is kept of the child that was gone to last is so, where the first walk stands in the file.
 abbrev pub KeepsLastChild : Content → ℕ → Walk → Option LastChild → Type 0
@@ -49,9 +50,8 @@ KeepsLastChild content level first (Some passed) = IsWalk content first →
 
 -- The top of this tree of the file stands there, and what was found below it is so.
 abbrev pub IsSubtree : Content → (level : ℕ) → Tree level → Subtree → Type 0
-IsSubtree content level t subtree =
-    IsPlaceOf content level t (record { frame = subtree.frame; below = subtree.below.first }) ×
-    KeepsLastChild content (level - 1) subtree.below.first subtree.below.last
+IsSubtree content level t subtree = IsPlaceOf content level t subtree.top ×
+    KeepsLastChild content (level - 1) subtree.top.below subtree.last
 
 -- An honest device has the file of this content, and the places that are remembered are of it.
 abbrev pub HasChunksOf : DeviceView → Option Marks → Content → Type 0

@@ -1,7 +1,6 @@
 -- Going over the frames of a chunk file on a device.
-use Rattle.std.specs.Prelude.{◌≡◌, ℕ, zero, suc, ◌+◌, ◌^◌, ◌<◌, ◌≤◌, ◌⊎◌, true, List, [], ◌∷◌, length}
-use Rattle.std.specs.Prelude.{map, take, Option}
-use Rattle.std.specs.Prelude.{Some, None, Result, Ok, Err}
+use Rattle.std.specs.Prelude.{◌≡◌, ℕ, zero, suc, ◌+◌, ◌^◌, ◌<◌, ◌≤◌, ◌⊎◌, true, List, [], ◌∷◌}
+use Rattle.std.specs.Prelude.{length, map, take, Option, Some, None, Result, Ok, Err}
 use Rattle.std.specs.List.{flat_map}
 use Rattle.prolly_check.specs.Checked.{chunks_of}
 use Rattle.prolly_check.specs.Content.{Content}
@@ -14,7 +13,7 @@ use Rattle.prolly_file.specs.Device.{DeviceView}
 use Rattle.prolly_file.specs.Frame.{framed}
 use Rattle.prolly_file.specs.declared.format.frame.FrameStart.{FrameStart}
 use Rattle.prolly_file.specs.declared.format.frame.FrameStart.TheVariants.{Chunk, End}
-use Rattle.prolly_root.specs.RootFault.{OnlyRead}
+use Rattle.prolly_root.specs.RootFault.{OnlyRead, TellsReads}
 use Rattle.prolly_root.specs.declared.root_fault.RootFault.{RootFault}
 use Rattle.prolly_root.specs.declared.file.walk.Frame.{Frame}
 use Rattle.prolly_root.specs.declared.file.walk.Walk.{Walk}
@@ -33,6 +32,10 @@ pub record HoldsFile (device : DeviceView) (content : Content) : Type 0 where
 -- A device that was honest still is, and its bytes are the same.
 abbrev pub StaysSame : DeviceView → DeviceView → Type 0
 StaysSame old new = old.is_honest ≡ true → (new.is_honest ≡ true) × (new.bytes ≡ old.bytes)
+
+-- A call read of the device and did no more, and it tells a failed read.
+abbrev pub HasRead : {T : Type 0} → DeviceView → DeviceView → Result T RootFault → Type 0
+HasRead old new result = StaysSame old new × TellsReads old.failures new.failures result
 
 -- ---- what is read of a frame
 

@@ -1,8 +1,8 @@
 //! What gives the chunks of a tree.
-ghost use Rattle.std.specs.Prelude.{◌≡◌, ◌-◌, ℕ, suc, List, IfOk, IfErr};
+ghost use Rattle.std.specs.Prelude.{◌≡◌, ◌-◌, ℕ, suc, List};
 ghost use Rattle.prolly_check.specs.Content.{Content};
-ghost use Rattle.prolly_root.specs.RootFault.{MayFail, OnlyRead, TellsReads};
-ghost use Rattle.prolly_root.specs.ChunkSource.{IsChildAt, IsLawful, root_level, root_tree};
+ghost use Rattle.prolly_root.specs.RootFault.{IsOrFails, MayFail, OnlyRead};
+ghost use Rattle.prolly_root.specs.ChunkSource.{HasAsked, IsChildAt, IsLawful, root_level, root_tree};
 ghost use Rattle.prolly_tree.specs.Tree.{Tree, bytes_of};
 
 use crate::root_fault::RootFault;
@@ -32,11 +32,8 @@ pub trait ChunkSource {
     /// The place of the root, of a tree whose chunks are of this version.
     fn root(&mut self, version: Version) -> Result<Self::Place, RootFault>
         ensures place { (content : Content) → has self.old content → version ≡ content.version →
-            IfOk result (is_place content (root_level content) (root_tree content)) }
-        ensures only { (content : Content) → has self.old content → version ≡ content.version →
-            IfErr result OnlyRead }
-        ensures keeps { (content : Content) → has self.old content → has self.new content }
-        ensures reads { TellsReads (failures self.old) (failures self.new) result };
+            IsOrFails (is_place content (root_level content) (root_tree content)) OnlyRead result }
+        ensures asked { HasAsked has failures self.old self.new result };
 
     /// The place of the child of this number below a node. The children are of this level, and
     /// counted from 0.
@@ -48,24 +45,17 @@ pub trait ChunkSource {
     ) -> Result<Self::Place, RootFault>
         ensures place { (content : Content) (ts : List (Tree level)) (t : Tree level) →
             has self.old content → is_place content (suc level) ts node.old →
-            IsChildAt level ts number t → IfOk result (is_place content level t) }
-        ensures only { (content : Content) (ts : List (Tree level)) (t : Tree level) →
-            has self.old content → is_place content (suc level) ts node.old →
-            IsChildAt level ts number t → IfErr result OnlyRead }
+            IsChildAt level ts number t → IsOrFails (is_place content level t) OnlyRead result }
         ensures node { (content : Content) (ts : List (Tree level)) → has self.old content →
             is_place content (suc level) ts node.old → is_place content (suc level) ts node.new }
-        ensures keeps { (content : Content) → has self.old content → has self.new content }
-        ensures reads { TellsReads (failures self.old) (failures self.new) result };
+        ensures asked { HasAsked has failures self.old self.new result };
 
     /// The chunk that stands there. Takes memory for it.
     fn chunk(&mut self, alloc: Global, place: &Self::Place) -> Result<Vec<u8>, RootFault>
         ensures is { (content : Content) (l : ℕ) (t : Tree l) → has self.old content →
             is_place content l t place.now →
-            IfOk result (λ chunk. chunk.items ≡ bytes_of content.version l t) }
-        ensures only { (content : Content) (l : ℕ) (t : Tree l) → has self.old content →
-            is_place content l t place.now → IfErr result MayFail }
-        ensures keeps { (content : Content) → has self.old content → has self.new content }
-        ensures reads { TellsReads (failures self.old) (failures self.new) result };
+            IsOrFails (λ chunk. chunk.items ≡ bytes_of content.version l t) MayFail result }
+        ensures asked { HasAsked has failures self.old self.new result };
 
     /// The number by which faults name the chunk that stands there.
     fn number(place: &Self::Place) -> u64;

@@ -1,6 +1,5 @@
 //! The chunks of a file: its frames, one after another, and the trees that stand among them.
 
-mod below;
 mod file_chunks;
 mod marks;
 mod subtree;

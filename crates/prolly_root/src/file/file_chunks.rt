@@ -1,9 +1,9 @@
 //! The chunks of a file, of which no more is read than is asked for.
-ghost use Rattle.std.specs.Prelude.{◌≡◌, length, IfOk, IfErr, None};
+ghost use Rattle.std.specs.Prelude.{◌≡◌, None};
 ghost use Rattle.prolly_check.specs.Content.{Content};
 ghost use Rattle.prolly_check.specs.FileWays.{nth_chunk};
-ghost use Rattle.prolly_root.specs.RootFault.{MayFail, TellsReads};
-ghost use Rattle.prolly_root.specs.Walk.{HoldsFile, IsFrame, StaysSame};
+ghost use Rattle.prolly_root.specs.RootFault.{IsOrFails, MayFail};
+ghost use Rattle.prolly_root.specs.Walk.{HasRead, HoldsFile, IsFrame};
 
 use crate::chunk_source::ChunkSource;
 use crate::file::marks::Marks;
@@ -55,7 +55,6 @@ impl<D: Device> FileChunks<D> {
 
 impl<D: Device> ChunkSource for FileChunks<D> {
     ghost use Rattle.prolly_root.specs.Subtree.{HasChunksOf, IsSubtree};
-    ghost use Rattle.prolly_root.specs.lemmas.Devices.{file_is_lawful};
 
     type Place = Subtree;
 
@@ -65,40 +64,42 @@ impl<D: Device> ChunkSource for FileChunks<D> {
 
     ghost is_place = { IsSubtree };
 
-    ghost lawful = { λ file content has. file_is_lawful (D.seen file.device) content has.0 };
+    ghost lawful = { λ file content has. record {
+      lawful = has.0.is.lawful;
+      rising = has.0.is.rising;
+      apart = has.0.is.apart;
+    } };
 
     fn root(&mut self, version: Version) -> Result<Subtree, RootFault> {
         let below = Walk::begin(&mut self.device, version)?;
         let (frame, marks) = below.last(&mut self.device)?;
         self.marks = Some(marks);
-        Ok(Subtree::at(Place { frame, below }))
+        Ok(Subtree {
+            top: Place { frame, below },
+            last: None,
+        })
     }
 
     fn child(&mut self, node: &mut Subtree, level: u8, number: u64) -> Result<Subtree, RootFault> {
-        let place = node
-            .below
-            .child(&mut self.device, &self.marks, level, number)?;
-        Ok(Subtree::at(place))
+        let top = node.child(&mut self.device, &self.marks, level, number)?;
+        Ok(Subtree { top, last: None })
     }
 
     fn chunk(&mut self, alloc: Global, place: &Subtree) -> Result<Vec<u8>, RootFault> {
-        read_chunk(alloc, &mut self.device, &place.frame)
+        read_chunk(alloc, &mut self.device, &place.top.frame)
     }
 
     fn number(place: &Subtree) -> u64 {
-        place.frame.number
+        place.top.frame.number
     }
 }
 
 /// The bytes of a chunk.
 fn read_chunk<D: Device>(alloc: Global, device: &mut D, frame: &Frame) -> Result<Vec<u8>, RootFault>
-    ensures same { StaysSame (D.seen device.old) (D.seen device.new) }
-    ensures reads { TellsReads (D.seen device.old).failures (D.seen device.new).failures result }
+    ensures read { HasRead (D.seen device.old) (D.seen device.new) result }
     ensures is { (content : Content) → HoldsFile (D.seen device.old) content →
         IsFrame content frame.now →
-        IfOk result (λ bytes. bytes.items ≡ nth_chunk content frame.now.number) }
-    ensures only { (content : Content) → HoldsFile (D.seen device.old) content →
-        IsFrame content frame.now → IfErr result MayFail }
+        IsOrFails (λ chunk. chunk.items ≡ nth_chunk content frame.now.number) MayFail result }
 {
     let mut chunk = vec![in alloc; 0; frame.len as usize]?;
     let count = device.read_at(frame.start, &mut chunk)?;

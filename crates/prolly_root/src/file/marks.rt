@@ -27,19 +27,6 @@ struct Run {
     count: u64,
 }
 
-impl Run {
-    /// The run with one chunk more.
-    fn and_one(self) -> Run
-        ensures from { result.from ≡ self.from }
-        ensures count { self.count + 1 < 2 ^ 64 → result.count ≡ self.count + 1 }
-    {
-        Run {
-            from: self.from,
-            count: self.count.saturating_add(1),
-        }
-    }
-}
-
 /// A place behind a chunk.
 #[derive(Clone, Copy)]
 struct Mark {
@@ -160,7 +147,8 @@ impl Marks {
         if level >= LEVELS {
             return None;
         }
-        let run = self.runs[level].and_one();
+        let mut run = self.runs[level];
+        run.count = run.count.saturating_add(1);
         self.runs[level] = run;
         Some(run)
     }

@@ -1,6 +1,6 @@
 //! The frames of a chunk file on a device, one after another.
-ghost use Rattle.std.specs.Prelude.{◌≡◌, ◌+◌, ◌-◌, ◌^◌, ◌<◌, ◌≤◌, ℕ, [], ◌∷◌, ◌++◌, List, length, drop, Ok};
-ghost use Rattle.std.specs.Prelude.{None, OnOk, IfOk, IfErr, IsOk, IfSome};
+ghost use Rattle.std.specs.Prelude.{◌≡◌, ◌+◌, ◌-◌, ◌^◌, ◌<◌, ◌≤◌, ℕ, [], ◌∷◌, ◌++◌, List, length};
+ghost use Rattle.std.specs.Prelude.{drop, Ok, None, OnOk, IfOk, IfErr, IsOk, IfSome};
 ghost use Rattle.prolly_file.specs.Frame.{frame_start};
 
 use crate::file::marks::Marks;
@@ -38,19 +38,16 @@ impl Walk {
     ghost use Rattle.prolly_check.specs.Checked.{chunks_of};
     ghost use Rattle.prolly_check.specs.Content.{Content};
     ghost use Rattle.prolly_root.specs.Marks.{AreMarks};
-    ghost use Rattle.prolly_root.specs.Walk.{GoesOver, GoesToLevel, HoldsFile, IsFrame, IsStartOf};
-    ghost use Rattle.prolly_root.specs.RootFault.{OnlyRead, TellsReads};
-    ghost use Rattle.prolly_root.specs.Walk.{IsWalk, StaysSame};
+    ghost use Rattle.prolly_root.specs.RootFault.{IsOrFails, OnlyRead};
+    ghost use Rattle.prolly_root.specs.Walk.{GoesOver, GoesToLevel, HasRead, HoldsFile, IsFrame};
+    ghost use Rattle.prolly_root.specs.Walk.{IsStartOf, IsWalk};
 
     /// The place before the first frame of a chunk file of this version.
     pub(crate) fn begin<D: Device>(device: &mut D, version: Version) -> Result<Walk, RootFault>
-        ensures same { StaysSame (D.seen device.old) (D.seen device.new) }
-        ensures reads { TellsReads (D.seen device.old).failures (D.seen device.new).failures
-            result }
+        ensures read { HasRead (D.seen device.old) (D.seen device.new) result }
         ensures begins { (content : Content) → HoldsFile (D.seen device.old) content →
-            IfOk result (λ walk. (walk.number ≡ 0) × IsWalk content walk) }
-        ensures only { (content : Content) → HoldsFile (D.seen device.old) content →
-            version ≡ content.version → IfErr result OnlyRead }
+            IsOrFails (λ walk. (walk.number ≡ 0) × IsWalk content walk)
+            (λ fault. version ≡ content.version → OnlyRead fault) result }
     {
         let mut start = [0; HEADER_SIZE];
         let count = device.read_at(0, &mut start)?;
@@ -68,14 +65,10 @@ impl Walk {
 
     /// Goes over the next frame; none where the end record is next. One read, of ten bytes.
     pub(crate) fn next<D: Device>(&mut self, device: &mut D) -> Result<Option<Frame>, RootFault>
-        ensures same { StaysSame (D.seen device.old) (D.seen device.new) }
-        ensures reads { TellsReads (D.seen device.old).failures (D.seen device.new).failures
-            result }
+        ensures read { HasRead (D.seen device.old) (D.seen device.new) result }
         ensures size { self.new.size ≡ self.old.size }
-        ensures within { IfOk result (λ next. IfSome next (λ frame. self.new.offset ≤
-            self.new.size)) }
-        ensures forward { IfOk result (λ next. IfSome next (λ frame. self.old.offset <
-            self.new.offset)) }
+        ensures forward { IfOk result (λ next. IfSome next (λ frame.
+            (self.old.offset < self.new.offset) × (self.new.offset ≤ self.new.size))) }
         ensures goes { (content : Content) → HoldsFile (D.seen device.old) content →
             IsWalk content self.old → GoesOver content self.old.number self.new result }
     {
@@ -91,9 +84,7 @@ impl Walk {
         device: &mut D,
         level: u8,
     ) -> Result<Frame, RootFault>
-        ensures same { StaysSame (D.seen device.old) (D.seen device.new) }
-        ensures reads { TellsReads (D.seen device.old).failures (D.seen device.new).failures
-            result }
+        ensures read { HasRead (D.seen device.old) (D.seen device.new) result }
         ensures goes { (content : Content) → HoldsFile (D.seen device.old) content →
             IsWalk content self.old → GoesToLevel content level self.old.number self.new result }
     {
@@ -109,16 +100,11 @@ impl Walk {
     /// The last frame of the file, where this place is before the first one, and the places that are
     /// remembered on the way to it.
     pub(crate) fn last<D: Device>(mut self, device: &mut D) -> Result<(Frame, Marks), RootFault>
-        ensures same { StaysSame (D.seen device.old) (D.seen device.new) }
-        ensures reads { TellsReads (D.seen device.old).failures (D.seen device.new).failures
-            result }
+        ensures read { HasRead (D.seen device.old) (D.seen device.new) result }
         ensures last { (content : Content) → HoldsFile (D.seen device.old) content →
-            IsWalk content self → IfOk result (λ last. IsFrame content last.0 ×
-            (last.0.number ≡ length (chunks_of content) - 1)) }
-        ensures marks { (content : Content) → HoldsFile (D.seen device.old) content →
-            IsWalk content self → IfOk result (λ last. AreMarks content last.1) }
-        ensures only { (content : Content) → HoldsFile (D.seen device.old) content →
-            IsWalk content self → self.number ≡ 0 → IfErr result OnlyRead }
+            IsWalk content self → IsOrFails (λ last. IsFrame content last.0 ×
+            (last.0.number ≡ length (chunks_of content) - 1) × AreMarks content last.1)
+            (λ fault. self.number ≡ 0 → OnlyRead fault) result }
     {
         let mut marks = Marks::begin(self);
         let mut last = None;
@@ -144,9 +130,7 @@ impl Walk {
 
     /// What begins here.
     fn start<D: Device>(&self, device: &mut D) -> Result<FrameStart, RootFault>
-        ensures same { StaysSame (D.seen device.old) (D.seen device.new) }
-        ensures reads { TellsReads (D.seen device.old).failures (D.seen device.new).failures
-            result }
+        ensures read { HasRead (D.seen device.old) (D.seen device.new) result }
         ensures is { (content : Content) → HoldsFile (D.seen device.old) content →
             IsWalk content self.now → IsStartOf (drop self.now.number (chunks_of content)) result }
     {
@@ -175,7 +159,6 @@ impl Walk {
     fn go_over(&mut self, len: u64, level: u8) -> Result<Frame, RootFault>
         ensures size { self.new.size ≡ self.old.size }
         ensures within { OnOk result (self.new.offset ≤ self.new.size) }
-        ensures forward { OnOk result (self.old.offset < self.new.offset) }
         ensures offset { OnOk result (self.new.offset ≡ self.old.offset + 9 + len) }
         ensures number { self.old.number + 1 < 2 ^ 64 →
             OnOk result (self.new.number ≡ self.old.number + 1) }

@@ -1,18 +1,18 @@
 //! A chunk on the way of a look-up by the root.
-ghost use Rattle.std.specs.Prelude.{◌≡◌, ℕ, Option, IfOk, IfErr, IfSome, IsOk, OnOk};
+ghost use Rattle.std.specs.Prelude.{◌≡◌, IfOk, IfErr, IfSome, IsOk, OnOk};
 ghost use Rattle.prolly_check.specs.Content.{Content};
-ghost use Rattle.prolly_check.specs.Held.{pairs_held};
 ghost use Rattle.prolly_check.specs.Sought.{sought_of};
 ghost use Rattle.prolly_check.specs.Way.{IsNamed, IsOrdered};
 ghost use Rattle.prolly_entry.specs.Reference.{reference_of};
-ghost use Rattle.prolly_root.specs.Descent.{IsAtDue, IsTested, IsOnward, StandsInPlace, StandsAtTree};
-ghost use Rattle.prolly_root.specs.Descent.{StepsDown};
-ghost use Rattle.prolly_root.specs.RootFault.{MayFail, TellsReads};
+ghost use Rattle.prolly_root.specs.ChunkSource.{HasAsked};
+ghost use Rattle.prolly_root.specs.Descent.{IsAtDue, IsTested, IsOnward, StandsAt, StandsBelow};
+ghost use Rattle.prolly_root.specs.Descent.{StandsInPlace, StepsDown};
+ghost use Rattle.prolly_root.specs.RootFault.{IsOrFails, MayFail};
 
 use crate::chunk_source::ChunkSource;
 use crate::root_fault::RootFault;
 use prolly_check::laws::tops_are_read;
-use prolly_check::{Due, Mark, Pairs, Sought, falls_to, pairs_of, step_of, test_chunk};
+use prolly_check::{Due, Mark, Sought, falls_to, step_of, test_chunk};
 use prolly_entry::{Ref, Version};
 use std::alloc::Global;
 
@@ -48,15 +48,10 @@ impl<T: Copy> ChunkOnWay<T> {
         place: T,
     ) -> Result<ChunkOnWay<T>, RootFault>
         ensures is { IfOk result (λ chunk. IsTested version chunk × (chunk.reference ≡ reference)) }
-        ensures kept { (content : Content) (above : Option ℕ) → S.has source.old content →
-            version ≡ content.version →
-            StandsAtTree S.is_place content reference.0 above place →
-            IfOk result (StandsInPlace S.is_place content) }
-        ensures only { (content : Content) (above : Option ℕ) → S.has source.old content →
-            version ≡ content.version →
-            StandsAtTree S.is_place content reference.0 above place → IfErr result MayFail }
-        ensures keeps { (content : Content) → S.has source.old content → S.has source.new content }
-        ensures reads { TellsReads (S.failures source.old) (S.failures source.new) result }
+        ensures lawful { (content : Content) → S.has source.old content →
+            version ≡ content.version → StandsAt S.is_place content reference.0 place →
+            IsOrFails (StandsInPlace S.is_place content) MayFail result }
+        ensures asked { HasAsked S.has S.failures source.old source.new result }
     {
         // By this law the chunk of a lawful tree can be read.
         tops_are_read();
@@ -68,14 +63,6 @@ impl<T: Copy> ChunkOnWay<T> {
             chunk,
             mark: Mark::first(),
         })
-    }
-
-    /// Its pairs. A node has none.
-    pub(crate) fn pairs(&self, version: Version) -> Pairs<'_>
-        requires { IsTested version self.now }
-        ensures { result ≡ pairs_held self.now.chunk.items }
-    {
-        pairs_of(version, &self.chunk)
     }
 
     /// What a look-up comes to here. See [`ChunkSource::child`] for what is read.
@@ -90,12 +77,11 @@ impl<T: Copy> ChunkOnWay<T> {
         ensures stays { (self.new.reference ≡ self.old.reference) ×
             (self.new.chunk ≡ self.old.chunk) }
         ensures level { IsTested version self.new }
-        ensures down { (content : Content) → S.has source.old content → version ≡ content.version →
-            StandsInPlace S.is_place content self.old → StepsDown S.is_place content result }
-        ensures kept { (content : Content) → S.has source.old content → version ≡ content.version →
-            StandsInPlace S.is_place content self.old → StandsInPlace S.is_place content self.new }
-        ensures keeps { (content : Content) → S.has source.old content → S.has source.new content }
-        ensures reads { TellsReads (S.failures source.old) (S.failures source.new) result }
+        ensures lawful { (content : Content) → S.has source.old content →
+            version ≡ content.version → StandsInPlace S.is_place content self.old →
+            StandsInPlace S.is_place content self.new ×
+            IsOrFails (StepsDown S.is_place content) MayFail result }
+        ensures asked { HasAsked S.has S.failures source.old source.new result }
     {
         // By this law the children of a chunk of a lawful tree are the trees below it.
         tops_are_read();
@@ -125,16 +111,11 @@ pub(crate) fn chunk_at<T: Copy + Drop, S: ChunkSource<Place = T>>(
 ) -> Result<ChunkOnWay<T>, RootFault>
     requires { IfSome kept (IsTested version) }
     ensures is { IfOk result (IsAtDue version due.now) }
-    ensures kept { (content : Content) → S.has source.old content → version ≡ content.version →
+    ensures lawful { (content : Content) → S.has source.old content → version ≡ content.version →
         IfSome kept (StandsInPlace S.is_place content) →
-        StandsAtTree S.is_place content due.now.reference.0 due.now.above place →
-        IfOk result (StandsInPlace S.is_place content) }
-    ensures only { (content : Content) → S.has source.old content → version ≡ content.version →
-        IfSome kept (StandsInPlace S.is_place content) →
-        StandsAtTree S.is_place content due.now.reference.0 due.now.above place →
-        IfErr result MayFail }
-    ensures keeps { (content : Content) → S.has source.old content → S.has source.new content }
-    ensures reads { TellsReads (S.failures source.old) (S.failures source.new) result }
+        StandsBelow S.is_place content due.now.reference.0 due.now.above place →
+        IsOrFails (StandsInPlace S.is_place content) MayFail result }
+    ensures asked { HasAsked S.has S.failures source.old source.new result }
 {
     let chunk = kept_or_read(alloc, source, version, kept, due.reference, place)?;
     if !falls_to(due.above, &chunk.chunk) {
@@ -156,15 +137,11 @@ fn kept_or_read<T: Copy + Drop, S: ChunkSource<Place = T>>(
 ) -> Result<ChunkOnWay<T>, RootFault>
     requires { IfSome kept (IsTested version) }
     ensures is { IfOk result (λ chunk. IsTested version chunk × (chunk.reference ≡ reference)) }
-    ensures kept { (content : Content) (above : Option ℕ) → S.has source.old content →
-        version ≡ content.version → IfSome kept (StandsInPlace S.is_place content) →
-        StandsAtTree S.is_place content reference.0 above place →
-        IfOk result (StandsInPlace S.is_place content) }
-    ensures only { (content : Content) (above : Option ℕ) → S.has source.old content →
-        version ≡ content.version → StandsAtTree S.is_place content reference.0 above place →
-        IfErr result MayFail }
-    ensures keeps { (content : Content) → S.has source.old content → S.has source.new content }
-    ensures reads { TellsReads (S.failures source.old) (S.failures source.new) result }
+    ensures lawful { (content : Content) → S.has source.old content → version ≡ content.version →
+        StandsAt S.is_place content reference.0 place → IsOrFails (λ chunk.
+        IfSome kept (StandsInPlace S.is_place content) → StandsInPlace S.is_place content chunk)
+        MayFail result }
+    ensures asked { HasAsked S.has S.failures source.old source.new result }
 {
     match kept {
         Some(chunk) if chunk.reference == reference => Ok(chunk),

@@ -1,28 +1,40 @@
 //! Going down by the root, from each chunk to the one that it refers to.
-ghost use Rattle.std.specs.Prelude.{◌≡◌, [], ◌∷◌, ◌++◌, IfOk, IfErr, OnOk, None};
+ghost use Rattle.std.specs.Prelude.{◌≡◌, [], ◌∷◌, ◌++◌, List, ℕ, IfOk, OnOk};
 ghost use Rattle.std.specs.List.{AllByRecursion};
 ghost use Rattle.prolly_check.specs.Content.{Content};
+ghost use Rattle.prolly_check.specs.Held.{pairs_held};
 ghost use Rattle.prolly_check.specs.Sought.{sought_of};
-ghost use Rattle.prolly_root.specs.Descent.{IsDescent, IsTested, StandsInPlace, StandsAtTree};
-ghost use Rattle.prolly_root.specs.Descent.{levels_of};
-ghost use Rattle.prolly_root.specs.RootFault.{MayFail, TellsReads};
+ghost use Rattle.prolly_root.specs.ChunkSource.{HasAsked};
+ghost use Rattle.prolly_root.specs.Descent.{IsDescent, IsTested, LastTested, StandsAt, StandsInPlace};
+ghost use Rattle.prolly_root.specs.RootFault.{IsOrFails, MayFail};
+ghost use Rattle.prolly_root.specs.declared.look_up.chunk_on_way.ChunkOnWay.{ChunkOnWay as Chunk};
 
 use crate::chunk_source::ChunkSource;
 use crate::look_up::chunk_on_way::{ChunkOnWay, Onward, chunk_at};
 use crate::root_fault::RootFault;
-use prolly_check::{Due, Sought};
+use prolly_check::{Due, Pairs, Sought, pairs_of};
 use prolly_entry::{Ref, Version};
 use std::alloc::{AllocError, Global};
 
-/// The chunks from the root down to the one at which a look-up ends.
+/// The way down from the root to the chunk at which a look-up ends.
 #[derive(Drop)]
 pub(crate) struct Descent<'a, T> {
-    /// Those above the last one.
-    pub(crate) above: Vec<ChunkOnWay<T>>,
-    /// The last one.
-    pub(crate) last: ChunkOnWay<T>,
-    /// What is sought there.
+    /// The chunks, of which the root is the first.
+    pub(crate) levels: Vec<ChunkOnWay<T>>,
+    /// What is sought in the last one.
     pub(crate) sought: Sought<'a>,
+}
+
+impl<'a, T> Descent<'a, T> {
+    /// The pairs of the last chunk. A node has none.
+    pub(crate) fn pairs(&self, version: Version) -> Pairs<'_>
+        requires { LastTested version self.now }
+        ensures { (above : List (Chunk T)) (last : Chunk T) →
+            self.now.levels.items ≡ above ++ last ∷ [] → result ≡ pairs_held last.chunk.items }
+    {
+        let last = &self.levels[self.levels.len() - 1];
+        pairs_of(version, &last.chunk)
+    }
 }
 
 /// Goes down from the root, which stands in the place `top`, to the chunk at which the look-up
@@ -41,19 +53,14 @@ pub(crate) fn go_down<'a, T: Copy + Drop, S: ChunkSource<Place = T>>(
 ) -> Result<Descent<'a, T>, RootFault>
     requires { AllByRecursion (IsTested version) kept.items }
     ensures found { IfOk result (IsDescent version root.now.0 (sought_of sought.entry)) }
-    ensures levels { IfOk result (λ descent. AllByRecursion (IsTested version) (levels_of descent)) }
-    ensures kept { (content : Content) → S.has source.old content → version ≡ content.version →
-        StandsAtTree S.is_place content root.now.0 None top →
-        AllByRecursion (StandsInPlace S.is_place content) kept.items →
-        IfOk result (λ descent. AllByRecursion (StandsInPlace S.is_place content) (levels_of descent)) }
-    ensures only { (content : Content) → S.has source.old content → version ≡ content.version →
-        StandsAtTree S.is_place content root.now.0 None top →
-        AllByRecursion (StandsInPlace S.is_place content) kept.items → IfErr result MayFail }
-    ensures keeps { (content : Content) → S.has source.old content → S.has source.new content }
-    ensures reads { TellsReads (S.failures source.old) (S.failures source.new) result }
+    ensures lawful { (content : Content) → S.has source.old content → version ≡ content.version →
+        StandsAt S.is_place content root.now.0 top →
+        AllByRecursion (StandsInPlace S.is_place content) kept.items → IsOrFails (λ descent.
+        AllByRecursion (StandsInPlace S.is_place content) descent.levels.items) MayFail result }
+    ensures asked { HasAsked S.has S.failures source.old source.new result }
 {
     let mut kept = kept.into_iter();
-    let mut above = Vec::new(alloc);
+    let mut levels = Vec::new(alloc);
     let mut due = Due {
         reference: *root,
         above: None,
@@ -62,16 +69,16 @@ pub(crate) fn go_down<'a, T: Copy + Drop, S: ChunkSource<Place = T>>(
     let mut place = top;
     loop {
         let mut chunk = chunk_at(alloc, source, version, kept.next(), &due, place)?;
-        match chunk.step(source, version, due.sought)? {
+        let onward = chunk.step(source, version, due.sought)?;
+        keep(&mut levels, chunk)?;
+        match onward {
             Onward::End => {
                 return Ok(Descent {
-                    above,
-                    last: chunk,
+                    levels,
                     sought: due.sought,
                 });
             }
             Onward::Below(next, there) => {
-                keep(&mut above, chunk)?;
                 due = next;
                 place = there;
             }
@@ -79,18 +86,10 @@ pub(crate) fn go_down<'a, T: Copy + Drop, S: ChunkSource<Place = T>>(
     }
 }
 
-/// The list, with one more behind it.
-pub(crate) fn with<T: Drop>(mut list: Vec<T>, item: T) -> Result<Vec<T>, AllocError>
-    ensures { IfOk result (λ all. all.items ≡ list.items ++ item ∷ []) }
+/// Adds a chunk below the others.
+fn keep<T: Drop>(levels: &mut Vec<ChunkOnWay<T>>, chunk: ChunkOnWay<T>) -> Result<(), AllocError>
+    ensures { OnOk result (levels.new.items ≡ levels.old.items ++ chunk ∷ []) }
 {
-    keep(&mut list, item)?;
-    Ok(list)
-}
-
-/// Adds one more to a list.
-pub(crate) fn keep<T: Drop>(list: &mut Vec<T>, item: T) -> Result<(), AllocError>
-    ensures { OnOk result (list.new.items ≡ list.old.items ++ item ∷ []) }
-{
-    list.push(item)?;
+    levels.push(chunk)?;
     Ok(())
 }

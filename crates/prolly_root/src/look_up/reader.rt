@@ -1,6 +1,5 @@
 //! Looking up by the root again and again, in a tree of which no more is read than that wants.
 ghost use Rattle.std.specs.Prelude.{◌≡◌, ◌≤◌, [], length, option_map, IfOk, IfErr, IfSome, OnErr};
-ghost use Rattle.std.specs.Prelude.{None};
 ghost use Rattle.std.specs.List.{AllByRecursion};
 ghost use Rattle.std.specs.Option.{option_copied};
 ghost use Rattle.prolly_check.specs.Content.{Content};
@@ -9,14 +8,15 @@ ghost use Rattle.prolly_check.specs.Sought.{sought_of};
 ghost use Rattle.prolly_check.specs.Way.{IsCountWay, IsWay};
 ghost use Rattle.prolly_entry.specs.Cut.{sha512_cut};
 ghost use Rattle.prolly_entry.specs.declared.version.Version.TheVariants.{Two};
-ghost use Rattle.prolly_root.specs.Descent.{IsDescent, IsTested, StandsInPlace, levels_of};
-ghost use Rattle.prolly_root.specs.RootFault.{MayFail, OnlyRead, TellsReads};
+ghost use Rattle.prolly_root.specs.ChunkSource.{HasAsked};
+ghost use Rattle.prolly_root.specs.Descent.{IsDescent, StandsInPlace};
+ghost use Rattle.prolly_root.specs.RootFault.{IsOrFails, MayFail, OnlyRead, TellsReads};
 ghost use Rattle.prolly_root.specs.Reader.{AreFirstFound, IsReaderOf, way_of};
 ghost use Rattle.prolly_tree.specs.File.{root_reference};
 
 use crate::chunk_source::ChunkSource;
 use crate::look_up::chunk_on_way::ChunkOnWay;
-use crate::look_up::descent::{Descent, go_down, with};
+use crate::look_up::descent::{Descent, go_down};
 use crate::root_fault::RootFault;
 use prolly_check::laws::tops_are_read;
 use prolly_check::{Sought, first_pairs_from, pair_sought, value_in};
@@ -37,7 +37,10 @@ use std::mem;
 /// were gone over. So look-ups of rising keys go over the frames of a file once, and read each
 /// chunk once. What is kept was compared with the reference above it and with the root: nothing
 /// that is answered depends on whether the source is that of the same tree. Where it is not, or has
-/// changed, a look-up may refuse it.
+/// changed, a look-up may refuse it. The tree that the reader was opened for is never refused.
+///
+/// A look-up takes memory for the chunks that show what it finds, and for that. After an `Err`
+/// nothing is kept, and the next look-up reads its chunks anew.
 #[derive(Drop)]
 pub struct Reader<T> {
     version: Version,
@@ -103,9 +106,6 @@ impl<T: Copy + Drop> Reader<T> {
     }
 
     /// What the tree with the reader's root has at the key: its value, or none.
-    ///
-    /// The chunks that show it are kept until the next look-up. Takes memory for them and for the
-    /// value. After an `Err` nothing is kept, and the next look-up reads its chunks anew.
     pub fn get<S: ChunkSource<Place = T>>(
         &mut self,
         alloc: Global,
@@ -118,24 +118,19 @@ impl<T: Copy + Drop> Reader<T> {
         ensures none { OnErr result (self.new.levels ≡ []) }
         ensures kept { (content : Content) → S.has source.old content →
             IsReaderOf S.is_place content self.old → IsReaderOf S.is_place content self.new }
-
-        // The tree that the reader was opened for is never refused.
         ensures lawful { (content : Content) → S.has source.old content →
             IsReaderOf S.is_place content self.old → IfErr result MayFail }
         ensures keeps { (content : Content) → S.has source.old content → S.has source.new content }
         ensures reads { TellsReads (S.failures source.old) (S.failures source.new) result }
     {
         let descent = self.descend(alloc, source, Sought::Key(key))?;
-        let value = copied(alloc, value_in(descent.last.pairs(self.version), key))?;
-        self.levels = with(descent.above, descent.last)?;
+        let value = copied(alloc, value_in(descent.pairs(self.version), key))?;
+        self.levels = descent.levels;
         Ok(value)
     }
 
     /// The pair of this number, counted from 0 in the order of keys, that the tree with the reader's
     /// root has, or none. Only chunks of version Two have the counts that this goes by.
-    ///
-    /// The chunks that show it are kept until the next look-up. Takes memory for them and for the
-    /// pair. After an `Err` nothing is kept, and the next look-up reads its chunks anew.
     pub fn nth<S: ChunkSource<Place = T>>(
         &mut self,
         alloc: Global,
@@ -148,28 +143,21 @@ impl<T: Copy + Drop> Reader<T> {
         ensures none { OnErr result (self.new.levels ≡ []) }
         ensures kept { (content : Content) → S.has source.old content →
             IsReaderOf S.is_place content self.old → IsReaderOf S.is_place content self.new }
-
-        // The tree that the reader was opened for is never refused.
         ensures lawful { (content : Content) → S.has source.old content →
             IsReaderOf S.is_place content self.old → IfErr result MayFail }
         ensures keeps { (content : Content) → S.has source.old content → S.has source.new content }
         ensures reads { TellsReads (S.failures source.old) (S.failures source.new) result }
     {
         let descent = self.descend(alloc, source, Sought::Number(n))?;
-        let pair = copy_of(
-            alloc,
-            pair_sought(descent.last.pairs(self.version), descent.sought),
-        )?;
-        self.levels = with(descent.above, descent.last)?;
+        let found = pair_sought(descent.pairs(self.version), descent.sought);
+        let pair = copy_of(alloc, found)?;
+        self.levels = descent.levels;
         Ok(pair)
     }
 
     /// The first pairs that the tree with the reader's root has from the key on: those of one leaf,
     /// at most `most` of them. The others are those from behind the last of these on, at which the
     /// next look-up begins; where there are none, and `most` is not 0, the tree has none.
-    ///
-    /// The chunks that show it are kept until the next look-up. Takes memory for them and for the
-    /// pairs. After an `Err` nothing is kept, and the next look-up reads its chunks anew.
     pub fn pairs_from<S: ChunkSource<Place = T>>(
         &mut self,
         alloc: Global,
@@ -183,16 +171,14 @@ impl<T: Copy + Drop> Reader<T> {
         ensures none { OnErr result (self.new.levels ≡ []) }
         ensures kept { (content : Content) → S.has source.old content →
             IsReaderOf S.is_place content self.old → IsReaderOf S.is_place content self.new }
-
-        // The tree that the reader was opened for is never refused.
         ensures lawful { (content : Content) → S.has source.old content →
             IsReaderOf S.is_place content self.old → IfErr result MayFail }
         ensures keeps { (content : Content) → S.has source.old content → S.has source.new content }
         ensures reads { TellsReads (S.failures source.old) (S.failures source.new) result }
     {
         let descent = self.descend(alloc, source, Sought::Key(from))?;
-        let pairs = first_pairs_from(alloc, descent.last.pairs(self.version), from, most)?;
-        self.levels = with(descent.above, descent.last)?;
+        let pairs = first_pairs_from(alloc, descent.pairs(self.version), from, most)?;
+        self.levels = descent.levels;
         Ok(pairs)
     }
 
@@ -214,15 +200,10 @@ impl<T: Copy + Drop> Reader<T> {
             (self.new.top ≡ self.old.top) × (self.new.levels ≡ []) }
         ensures found { IfOk result
             (IsDescent self.old.version self.old.root (sought_of sought.entry)) }
-        ensures levels { IfOk result (λ descent.
-            AllByRecursion (IsTested self.old.version) (levels_of descent)) }
-        ensures kept { (content : Content) → S.has source.old content →
-            IsReaderOf S.is_place content self.old → IfOk result (λ descent.
-            AllByRecursion (StandsInPlace S.is_place content) (levels_of descent)) }
-        ensures only { (content : Content) → S.has source.old content →
-            IsReaderOf S.is_place content self.old → IfErr result MayFail }
-        ensures keeps { (content : Content) → S.has source.old content → S.has source.new content }
-        ensures reads { TellsReads (S.failures source.old) (S.failures source.new) result }
+        ensures lawful { (content : Content) → S.has source.old content →
+            IsReaderOf S.is_place content self.old → IsOrFails (λ descent.
+            AllByRecursion (StandsInPlace S.is_place content) descent.levels.items) MayFail result }
+        ensures asked { HasAsked S.has S.failures source.old source.new result }
     {
         let kept = mem::replace(&mut self.levels, Vec::new(alloc));
         go_down(

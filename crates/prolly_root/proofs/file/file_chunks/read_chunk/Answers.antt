@@ -3,49 +3,25 @@ use Rattle.prolly_check.specs.FileWays.{nth_chunk}
 use Rattle.prolly_root.proofs.Subtrees.{all_read, chunk_there, read_whole}
 use Rattle.prolly_root.proofs.file.file_chunks.read_chunk.Goals as goal
 
-pub returns-then-count-len-clause-only : goal.returns-then-count-len-clause-only
-returns-then-count-len-clause-only g c content holds of =
+pub returns-then-count-len-clause-is : goal.returns-then-count-len-clause-is
+returns-then-count-len-clause-is g c content holds of =
+    let buf = c.read_at.new.buf in
     let chunk = nth_chunk content c.args.frame.now.number in
-    let long : length c.read_at.new.buf ≡ length chunk =
-    omega (
-      arith,
-      c.read_at.auto.buf,
-      ap length c.deref_mut.ensures.value,
-      c.in_ok-chunk.ensures.len,
-      of.len,
-    ) in
-    absurd (all_read c.in_ok-count.count c.read_at.new.buf chunk
+    let value = ap length c.deref_mut.ensures.value in
+    let len = c.in_ok-chunk.ensures.len in
+    let long : length buf ≡ length chunk = omega (arith, of.len) in
+    absurd (all_read c.in_ok-count.count buf chunk
     (chunk_there (g.D.Device.seen c.args.device.now).bytes content holds.is c.args.frame.now of
-    c.in_ok-count.count c.read_at.new.buf long (c.in_ok-count.ensures.bytes holds.honest)) long
-    (omega (
-      arith,
-      c.if-count-len.true,
-      c.len.ensures,
-      c.read_at.auto.buf,
-      ap length c.deref_mut.ensures.value,
-      c.in_ok-chunk.ensures.len,
-    )))
+    c.in_ok-count.count buf long (c.in_ok-count.ensures.bytes holds.honest)) long (omega arith))
 
 pub returns-clause-is : goal.returns-clause-is
 returns-clause-is g c content holds of =
+    let buf = c.read_at.new.buf in
     let chunk = nth_chunk content c.args.frame.now.number in
-    let long : length c.read_at.new.buf ≡ length chunk =
-    omega (
-      arith,
-      c.read_at.auto.buf,
-      ap length c.deref_mut.ensures.value,
-      c.in_ok-chunk.ensures.len,
-      of.len,
-    ) in
-    read_whole c.in_ok-count.count c.in_ok-chunk.chunk.len c.read_at.new.buf chunk _
+    let value = ap length c.deref_mut.ensures.value in
+    let len = c.in_ok-chunk.ensures.len in
+    let long : length buf ≡ length chunk = omega (arith, of.len) in
+    read_whole c.in_ok-count.count c.in_ok-chunk.chunk.len buf chunk _
     (chunk_there (g.D.Device.seen c.args.device.now).bytes content holds.is c.args.frame.now of
-    c.in_ok-count.count c.read_at.new.buf long (c.in_ok-count.ensures.bytes holds.honest)) long
-    (omega (arith, c.read_at.auto.buf, ap length c.deref_mut.ensures.value))
-    (omega (
-      arith,
-      c.if-count-len.false,
-      c.len.ensures,
-      c.read_at.auto.buf,
-      ap length c.deref_mut.ensures.value,
-      c.in_ok-chunk.ensures.len,
-    ))
+    c.in_ok-count.count buf long (c.in_ok-count.ensures.bytes holds.honest)) long (omega arith)
+    (omega arith)

@@ -1,89 +1,186 @@
-use Rattle.std.proofs.Common.{[], ◌∷◌, ◌++◌, Ok, refl, sym, subst, ◌∙◌, ap, rules}
+use Rattle.std.proofs.Common.{[], ◌∷◌, ◌++◌, ◌≡◌, inl, refl, sym, subst, ◌∙◌, ap}
 use Rattle.std.specs.List.{AllByRecursion}
 use Rattle.std.specs.Vec.Iter.{into_iter_items}
 use Rattle.prolly_check.specs.Sought.{sought_of}
 use Rattle.prolly_check.specs.Way.{IsNamed}
 use Rattle.prolly_entry.specs.lemmas.Lists.{all_append}
-use Rattle.prolly_root.specs.Descent.{IsTested, StandsInPlace, StepsDown, chunks_in}
-use Rattle.prolly_root.specs.RootFault.{MayFail}
-use Rattle.prolly_root.proofs.Descending.{Descended, ends_here, goes_on, next_kept, one_more}
+use Rattle.prolly_root.specs.Descent.{IsOnward, IsTested, StandsInPlace, StepsDown, chunks_in}
+use Rattle.prolly_root.specs.RootFault.{TellsFailure}
+use Rattle.prolly_root.specs.declared.root_fault.RootFault.TheVariants.{Memory}
+use Rattle.prolly_root.proofs.Descending.{Descended, less_room, next_kept, none_passed}
+use Rattle.prolly_root.proofs.Descending.{one_more, one_passed, way_ends}
+use Rattle.prolly_root.proofs.Faults.{asked_on, handed_on}
 use Rattle.prolly_root.proofs.look_up.descent.go_down.Goals as goal
 
-pub returns-in_err-step-clause-only : goal.returns-in_err-step-clause-only
-returns-in_err-step-clause-only g c content has same top keeps =
-    let before = c.loop-above.invariant in
-    let on = before.lawful content has same top keeps in
-    let next = next_kept (StandsInPlace g.S.ChunkSource.is_place content)
-    (into_iter_items c.loop-above.kept) (into_iter_items c.next.new.self) c.next.result
-    c.next.ensures.items on.left in
-    let kept = c.in_ok-chunk.ensures.kept content (before.keeps content has) same next.0 on.at in
-    let only : MayFail c.in_err-step.field-0.0 = c.in_err-step.ensures.down content
-    (c.in_ok-chunk.ensures.keeps content (before.keeps content has)) same kept in
-    search rules
+pub chunk_at-requires : goal.chunk_at-requires
+chunk_at-requires g c = (next_kept (IsTested c.args.version) (into_iter_items c.loop-levels.kept)
+    (into_iter_items c.next.new.self) c.next.result c.next.ensures.items
+    c.loop-levels.invariant.kept).0
+
+pub step-requires : goal.step-requires
+step-requires g c = c.in_ok-chunk.ensures.is.is
+
+pub returns-in_err-chunk : goal.returns-in_err-chunk
+returns-in_err-chunk g c =
+    let before = c.loop-levels.invariant in
+    let fault = c.in_err-chunk.field-0.0 in
+    rw (handed_on fault c.from_residual.result c.from_residual.ensures) (record {
+      found = tt;
+      lawful = λ content has same top keeps.
+          let on = before.lawful content has same top keeps in
+          c.in_err-chunk.ensures.lawful content (before.asked.0 content has) same
+          (next_kept (StandsInPlace g.S.ChunkSource.is_place content)
+          (into_iter_items c.loop-levels.kept) (into_iter_items c.next.new.self) c.next.result
+          c.next.ensures.items on.left).0 on.at;
+      asked = asked_on g.S.ChunkSource.has g.S.ChunkSource.failures
+          (λ n. TellsFailure n (g.S.ChunkSource.failures c.chunk_at.new.source) fault)
+          before.asked c.in_err-chunk.ensures.asked;
+    })
+
+pub returns-in_err-onward : goal.returns-in_err-onward
+returns-in_err-onward g c =
+    let before = c.loop-levels.invariant in
+    let at = c.in_ok-chunk.ensures in
+    let stepped = c.in_err-onward.ensures in
+    let fault = c.in_err-onward.field-0.0 in
+    let has = g.S.ChunkSource.has in
+    let failures = g.S.ChunkSource.failures in
+    rw (handed_on fault c.from_residual-in_err-onward.result
+    c.from_residual-in_err-onward.ensures) (record {
+      found = tt;
+      lawful = λ content h same top keeps.
+          let on = before.lawful content h same top keeps in
+          let kept = at.lawful content (before.asked.0 content h) same
+          (next_kept (StandsInPlace g.S.ChunkSource.is_place content)
+          (into_iter_items c.loop-levels.kept) (into_iter_items c.next.new.self) c.next.result
+          c.next.ensures.items on.left).0 on.at in
+          (stepped.lawful content (at.asked.0 content (before.asked.0 content h)) same kept).1;
+      asked = asked_on has failures (λ n. TellsFailure n (failures c.step.new.source) fault)
+          (asked_on has failures (λ n. failures c.chunk_at.new.source ≡ n) before.asked at.asked)
+          stepped.asked;
+    })
+
+pub returns-in_err-keep : goal.returns-in_err-keep
+returns-in_err-keep g c =
+    let has = g.S.ChunkSource.has in
+    let failures = g.S.ChunkSource.failures in
+    rw (handed_on Memory c.from_residual-in_err-keep.result
+    c.from_residual-in_err-keep.ensures) (record {
+      found = tt;
+      lawful = λ content h same top keeps. inl refl;
+      asked = asked_on has failures (λ n. failures c.step.new.source ≡ n)
+          (asked_on has failures (λ n. failures c.chunk_at.new.source ≡ n)
+          c.loop-levels.invariant.asked c.in_ok-chunk.ensures.asked) c.in_ok-onward.ensures.asked;
+    })
 
 pub returns-in-End-clause-found : goal.returns-in-End-clause-found
 returns-in-End-clause-found g c =
     let version = c.args.version in
-    let due = c.loop-above.due in
+    let before = c.loop-levels.invariant in
+    let above = c.loop-levels.levels.items in
+    let due = c.loop-levels.due in
     let chunk = c.in_ok-chunk.chunk in
     let is = c.in_ok-chunk.ensures.is in
-    ends_here version c.args.root.now.0 (sought_of c.args.sought)
-    (chunks_in c.loop-above.above.items) due c.loop-above.invariant.way chunk.chunk.items
-    (subst (λ r. IsNamed version r.0 chunk.chunk.items) is.reference is.is.named) is.falls
-    c.in_ok-step.field-0 c.in_ok-step.ensures.is
-    (record { above = c.loop-above.above; last = c.step.new.self; sought = due.sought })
-    c.in-End.is refl (ap (λ chunk. chunk.items) c.in_ok-step.ensures.stays.1) refl
+    let stepped = c.in_ok-onward.ensures in
+    let more = c.in_ok-keep.ensures in record {
+      way = way_ends version c.args.root.now.0 (sought_of c.args.sought) (chunks_in above) due
+          before.way chunk.chunk.items
+          (subst (λ r. IsNamed version r.0 chunk.chunk.items) is.reference is.is.named) is.falls
+          (subst (IsOnward version (sought_of due.sought) chunk.chunk.items) c.in-End.is stepped.is)
+          (chunks_in c.keep.new.levels.items)
+          (one_more above c.keep.new.levels.items c.step.new.self more ∙
+          ap (λ chunk. chunks_in above ++ chunk.items ∷ []) stepped.stays.1);
+      there = refl;
+      all = subst (AllByRecursion (IsTested version)) (sym more)
+          (all_append (IsTested version) above (c.step.new.self ∷ []) before.tested
+          (stepped.level, tt));
+      end = record { above = above; last = c.step.new.self; are = more; tested = stepped.level };
+      last = ap (λ chunk. chunk.items) (sym stepped.stays.1);
+    }
 
-pub returns-in-End-clause-kept : goal.returns-in-End-clause-kept
-returns-in-End-clause-kept g c content has same top keeps =
+pub returns-in-End-clause-lawful : goal.returns-in-End-clause-lawful
+returns-in-End-clause-lawful g c content has same top keeps =
     let P = StandsInPlace g.S.ChunkSource.is_place content in
-    let before = c.loop-above.invariant in
+    let before = c.loop-levels.invariant in
     let on = before.lawful content has same top keeps in
-    let next = next_kept P (into_iter_items c.loop-above.kept) (into_iter_items c.next.new.self)
+    let next = next_kept P (into_iter_items c.loop-levels.kept) (into_iter_items c.next.new.self)
     c.next.result c.next.ensures.items on.left in
-    let kept = c.in_ok-chunk.ensures.kept content (before.keeps content has) same next.0 on.at in
-    let later = c.in_ok-step.ensures.kept content
-    (c.in_ok-chunk.ensures.keeps content (before.keeps content has)) same kept in
-    all_append P c.loop-above.above.items (c.step.new.self ∷ []) on.met (later, tt)
+    let kept = c.in_ok-chunk.ensures.lawful content (before.asked.0 content has) same next.0 on.at in
+    let later = c.in_ok-onward.ensures.lawful content
+    (c.in_ok-chunk.ensures.asked.0 content (before.asked.0 content has)) same kept in
+    subst (AllByRecursion P) (sym c.in_ok-keep.ensures)
+    (all_append P c.loop-levels.levels.items (c.step.new.self ∷ []) on.met (later.0, tt))
 
-pub loop-above-preserved : goal.loop-above-preserved
-loop-above-preserved g c =
+pub loop-levels-preserved : goal.loop-levels-preserved
+loop-levels-preserved g c =
     let version = c.args.version in
     let root = c.args.root.now.0 in
-    let before = c.loop-above.invariant in
-    let above = c.loop-above.above.items in
-    let due = c.loop-above.due in
+    let before = c.loop-levels.invariant in
+    let above = c.loop-levels.levels.items in
+    let due = c.loop-levels.due in
     let chunk = c.in_ok-chunk.chunk in
     let is = c.in_ok-chunk.ensures.is in
-    let stepped = c.in_ok-step.ensures in
-    let more = c.in_ok-keep-in-Below.ensures in record {
+    let stepped = c.in_ok-onward.ensures in
+    let more = c.in_ok-keep.ensures in
+    let on = subst (IsOnward version (sought_of due.sought) chunk.chunk.items) c.in-Below.is
+    stepped.is in record {
       way = subst (λ chunks. Descended version root (sought_of c.args.sought) chunks c.in-Below.next)
           (ap (λ chunk. chunks_in above ++ chunk.items ∷ []) (sym stepped.stays.1) ∙
-          sym (one_more above c.keep.new.list.items c.step.new.self more))
-          (goes_on version root (sought_of c.args.sought) (chunks_in above) due before.way
+          sym (one_more above c.keep.new.levels.items c.step.new.self more))
+          (one_passed version root (sought_of c.args.sought) (chunks_in above) due before.way
           chunk.chunk.items
           (subst (λ r. IsNamed version r.0 chunk.chunk.items) is.reference is.is.named) is.falls
-          c.in_ok-step.field-0 stepped.is c.in-Below.next c.in-Below.there c.in-Below.is);
-      levels = subst (AllByRecursion (IsTested version)) (sym more)
-          (all_append (IsTested version) above (c.step.new.self ∷ []) before.levels
+          c.in-Below.next on.0 on.1);
+      tested = subst (AllByRecursion (IsTested version)) (sym more)
+          (all_append (IsTested version) above (c.step.new.self ∷ []) before.tested
           (stepped.level, tt));
-      kept = (next_kept (IsTested version) (into_iter_items c.loop-above.kept)
+      kept = (next_kept (IsTested version) (into_iter_items c.loop-levels.kept)
           (into_iter_items c.next.new.self) c.next.result c.next.ensures.items before.kept).1;
-      keeps = λ content has. stepped.keeps content
-          (c.in_ok-chunk.ensures.keeps content (before.keeps content has));
-      reads = stepped.reads ∙ c.in_ok-chunk.ensures.reads ∙ before.reads;
+      asked = (
+        λ content has. stepped.asked.0 content
+            (c.in_ok-chunk.ensures.asked.0 content (before.asked.0 content has)),
+        stepped.asked.1 ∙ c.in_ok-chunk.ensures.asked.1 ∙ before.asked.1,
+      );
       lawful = λ content has same top keeps.
           let P = StandsInPlace g.S.ChunkSource.is_place content in
           let on = before.lawful content has same top keeps in
-          let next = next_kept P (into_iter_items c.loop-above.kept)
+          let next = next_kept P (into_iter_items c.loop-levels.kept)
           (into_iter_items c.next.new.self) c.next.result c.next.ensures.items on.left in
-          let kept = c.in_ok-chunk.ensures.kept content (before.keeps content has) same next.0
+          let kept = c.in_ok-chunk.ensures.lawful content (before.asked.0 content has) same next.0
           on.at in
-          let late = c.in_ok-chunk.ensures.keeps content (before.keeps content has) in record {
-            at = subst (λ step. StepsDown g.S.ChunkSource.is_place content (Ok step)) c.in-Below.is
-                (stepped.down content late same kept);
-            met = subst (AllByRecursion P) (sym more) (all_append P above (c.step.new.self ∷ [])
-                on.met (stepped.kept content late same kept, tt));
+          let late = c.in_ok-chunk.ensures.asked.0 content (before.asked.0 content has) in
+          let down = stepped.lawful content late same kept in record {
+            at = subst (StepsDown g.S.ChunkSource.is_place content) c.in-Below.is down.1;
+            met = subst (AllByRecursion P) (sym more)
+                (all_append P above (c.step.new.self ∷ []) on.met (down.0, tt));
             left = next.1;
           };
     }
+
+pub loop-levels-init : goal.loop-levels-init
+loop-levels-init g c = rw (c.new-levels.ensures.items, c.into_iter-kept.ensures.rest) (record {
+  way = none_passed c.args.version c.args.root.now.0 (sought_of c.args.sought) _ refl refl refl;
+  tested = tt;
+  kept = c.requires;
+  asked = (λ content has. has, refl);
+  lawful = λ content has same top keeps.
+      record { at = record { at = top; falls = tt }; met = tt; left = keeps };
+})
+
+pub loop-levels-smaller : goal.loop-levels-smaller
+loop-levels-smaller g c =
+    let due = c.loop-levels.due in
+    let chunk = c.in_ok-chunk.chunk.chunk.items in
+    let is = c.in_ok-chunk.ensures.is in
+    less_room due.above c.in-Below.next.above chunk is.is.named.bytes is.falls
+    (subst (IsOnward c.args.version (sought_of due.sought) chunk) c.in-Below.is
+    c.in_ok-onward.ensures.is).1
+
+pub returns-in-End-clause-asked : goal.returns-in-End-clause-asked
+returns-in-End-clause-asked g c =
+    let before = c.loop-levels.invariant.asked in
+    let at = c.in_ok-chunk.ensures.asked in
+    let stepped = c.in_ok-onward.ensures.asked in (
+      λ content has. stepped.0 content (at.0 content (before.0 content has)),
+      stepped.1 ∙ at.1 ∙ before.1,
+    )

@@ -1,26 +1,27 @@
-use Rattle.prolly_root.specs.ChunkSource.{root_level, root_tree}
-use Rattle.prolly_root.specs.lemmas.Devices.{holds_still, stays}
-use Rattle.prolly_root.proofs.Subtrees.{root_is_place, stands_at}
+use Rattle.std.proofs.Common.{◌≡◌}
+use Rattle.prolly_root.proofs.Subtrees.{root_is_place}
+use Rattle.prolly_root.proofs.Walking.{holds_still, reads_on}
 use Rattle.prolly_root.proofs.file.file_chunks.FileChunksChunkSource.root.Goals as goal
 
 pub returns-clause-place : goal.returns-clause-place
 returns-clause-place g c content has same =
     let first = c.in_ok-below.ensures.begins content has.0 in
     let last = c.in_ok-frame.ensures.last content
-    (holds_still (g.D.Device.seen c.args.self.now.device) _ content c.in_ok-below.ensures.same has.0)
-    first.1 in
-    stands_at content (root_level content) (root_tree content)
-    (record { frame = c.in_ok-frame.frame; below = c.in_ok-below.below }) c.at.result
-    c.at.ensures.frame c.at.ensures.first c.at.ensures.last
-    (root_is_place content _ first.1 first.0 last.0 last.1)
+    (holds_still (g.D.Device.seen c.args.self.now.device) _ content c.in_ok-below.ensures.read.0
+    has.0) first.1 in
+    (root_is_place content _ first.1 first.0 last.0 last.1, tt)
 
-pub returns-clause-keeps : goal.returns-clause-keeps
-returns-clause-keeps g c content has =
+pub returns-clause-asked : goal.returns-clause-asked
+returns-clause-asked g c =
     let old = g.D.Device.seen c.args.self.now.device in
     let mid = g.D.Device.seen c.begin.new.device in
-    let late = g.D.Device.seen c.last.new.device in (
-      holds_still old late content (stays old mid late c.in_ok-below.ensures.same
-          c.in_ok-frame.ensures.same) has.0,
-      c.in_ok-frame.ensures.marks content (holds_still old mid content c.in_ok-below.ensures.same
-          has.0) (c.in_ok-below.ensures.begins content has.0).1,
+    let late = g.D.Device.seen c.last.new.device in
+    let below = c.in_ok-below.ensures in
+    let last = c.in_ok-frame.ensures in (
+      λ content has.
+          let held = holds_still old mid content below.read.0 has.0 in (
+            holds_still mid late content last.read.0 held,
+            (last.last content held (below.begins content has.0).1).2,
+          ),
+      (reads_on old mid late (λ n. late.failures ≡ n) below.read last.read).1,
     )

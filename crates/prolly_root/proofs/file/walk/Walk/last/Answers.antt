@@ -1,14 +1,12 @@
 use Rattle.std.proofs.Common.{◌≡◌, length, Ok, refl, arith, subst}
 use Rattle.prolly_check.specs.Checked.{chunks_of}
 use Rattle.prolly_root.specs.Walk.{GoesOver}
-use Rattle.prolly_root.specs.lemmas.Devices.{holds_still}
-use Rattle.prolly_root.proofs.Walking.{CameTo, some_chunk}
+use Rattle.prolly_root.proofs.Walking.{CameTo, holds_still, some_chunk}
 use Rattle.prolly_root.proofs.file.walk.Walk.last.Goals as goal
 
 pub loop-frame-init : goal.loop-frame-init
 loop-frame-init g c = record {
-  same = λ honest. (honest, refl);
-  reads = refl;
+  read = (λ honest. (honest, refl), refl);
   came = λ content holds at. (
     at,
     refl,
@@ -17,8 +15,8 @@ loop-frame-init g c = record {
   );
 }
 
-pub returns-in-None-clause-only : goal.returns-in-None-clause-only
-returns-in-None-clause-only g c content holds at first =
+pub returns-in-None-clause-last : goal.returns-in-None-clause-last
+returns-in-None-clause-last g c content holds at first =
     let from = c.args.self.number in
     let number = c.loop-frame.self.number in
     let came = c.loop-frame.invariant.came content holds at in
@@ -26,5 +24,5 @@ returns-in-None-clause-only g c content holds at first =
     let all : number ≡ length (chunks_of content) =
     subst (λ next. GoesOver content number c.next.new.self (Ok next)) c.in_default.is
     (c.in_ok-frame.ensures.goes content (holds_still (g.D.Device.seen c.args.device.now) _ content
-    c.loop-frame.invariant.same holds) came.0) in
+    c.loop-frame.invariant.read.0 holds) came.0) in
     absurd (omega (arith, some_chunk content, none, all, first))

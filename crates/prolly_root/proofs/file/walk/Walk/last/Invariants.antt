@@ -1,14 +1,13 @@
-use Rattle.std.proofs.Common.{◌≡◌, ◌-◌}
+use Rattle.std.proofs.Common.{◌-◌, Ok}
 use Rattle.prolly_check.specs.Content.{Content}
 use Rattle.prolly_root.specs.Marks.{AreMarks, AreRuns}
-use Rattle.prolly_root.specs.Walk.{HoldsFile, IsWalk, StaysSame}
+use Rattle.prolly_root.specs.Walk.{HasRead, HoldsFile, IsWalk}
 use Rattle.prolly_root.proofs.Walking.{CameTo}
 use Rattle.prolly_root.proofs.file.walk.Walk.last.Given as goal
 
 abbrev pub invariant-loop-frame : goal.invariant-loop-frame
 invariant-loop-frame g l = record {
-  same : StaysSame (g.D.Device.seen l.initial.device) (g.D.Device.seen l.device);
-  reads : (g.D.Device.seen l.device).failures ≡ (g.D.Device.seen l.initial.device).failures;
+  read : HasRead (g.D.Device.seen l.initial.device) (g.D.Device.seen l.device) (Ok (tt {0}));
   came : (content : Content) → HoldsFile (g.D.Device.seen l.initial.device) content →
       IsWalk content l.initial.self →
       IsWalk content l.self ×

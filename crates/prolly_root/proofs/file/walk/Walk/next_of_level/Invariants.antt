@@ -1,12 +1,11 @@
-use Rattle.std.proofs.Common.{◌≡◌, ◌≤◌, ◌-◌}
+use Rattle.std.proofs.Common.{◌≤◌, ◌-◌, Ok}
 use Rattle.prolly_check.specs.Content.{Content}
-use Rattle.prolly_root.specs.Walk.{HoldsFile, IsWalk, NoneBetween, StaysSame}
+use Rattle.prolly_root.specs.Walk.{HasRead, HoldsFile, IsWalk, NoneBetween}
 use Rattle.prolly_root.proofs.file.walk.Walk.next_of_level.Given as goal
 
 abbrev pub invariant-loop-frame : goal.invariant-loop-frame
 invariant-loop-frame g l = record {
-  same : StaysSame (g.D.Device.seen l.initial.device) (g.D.Device.seen l.device);
-  reads : (g.D.Device.seen l.device).failures ≡ (g.D.Device.seen l.initial.device).failures;
+  read : HasRead (g.D.Device.seen l.initial.device) (g.D.Device.seen l.device) (Ok (tt {0}));
   came : (content : Content) → HoldsFile (g.D.Device.seen l.initial.device) content →
       IsWalk content l.initial.self →
       IsWalk content l.self ×

@@ -1,8 +1,7 @@
-use Rattle.std.proofs.Common.{◌≡◌, ◌-◌, refl, subst, rules}
+use Rattle.std.proofs.Common.{◌≡◌, Ok, Err, refl, subst, rules}
 use Rattle.prolly_check.specs.Sought.{IsMark, sought_of}
 use Rattle.prolly_check.specs.Way.{level_of}
-use Rattle.prolly_root.specs.RootFault.{OnlyRead}
-use Rattle.prolly_root.proofs.LawfulSteps.{lands, stays_there, steps_from}
+use Rattle.prolly_root.proofs.LawfulSteps.{steps_down}
 use Rattle.prolly_root.proofs.look_up.chunk_on_way.ChunkOnWay.step.Goals as goal
 
 pub returns-in_err-place-clause-level : goal.returns-in_err-place-clause-level
@@ -19,51 +18,23 @@ returns-clause-level g c = record {
       c.in-Some.ensures.passed;
 }
 
-pub returns-in_err-place-clause-down : goal.returns-in_err-place-clause-down
-returns-in_err-place-clause-down g c content has same kept =
-    let chunk = c.args.self.now in
-    let child = c.in-Some.child in
+pub returns-in_err-place-clause-lawful : goal.returns-in_err-place-clause-lawful
+returns-in_err-place-clause-lawful g c content has same kept =
     let l = c.index-level.result.now in
-    let high : l ≡ level_of chunk.chunk.items = search rules in
-    let b = steps_from g.S.ChunkSource.is_place content chunk c.tops_are_read.ensures.child
-    c.tops_are_read.ensures.read kept c.args.version same c.deref.result.now c.deref.ensures.value
-    (sought_of c.args.sought) child c.in-Some.ensures.on l high in
-    let only : OnlyRead c.in_err-place.field-0.0 =
-    c.in_err-place.ensures.only content b.ts b.t has b.stands b.at in
-    search rules
+    let high : l ≡ level_of c.args.self.now.chunk.items = search rules in
+    let down = steps_down g.S.ChunkSource.is_place content c.args.self.now
+    c.tops_are_read.ensures.child c.tops_are_read.ensures.read kept c.args.version same
+    c.deref.result.now c.deref.ensures.value (sought_of c.args.sought) c.in-Some.child
+    c.in-Some.ensures.on l high _ refl refl (λ ts. c.in_err-place.ensures.node content ts has)
+    (Err c.in_err-place.field-0.0) (λ ts t. c.in_err-place.ensures.place content ts t has) in
+    (down.0, search rules)
 
-pub returns-in_err-place-clause-kept : goal.returns-in_err-place-clause-kept
-returns-in_err-place-clause-kept g c content has same kept =
-    let chunk = c.args.self.now in
-    let child = c.in-Some.child in
+pub returns-clause-lawful : goal.returns-clause-lawful
+returns-clause-lawful g c content has same kept =
     let l = c.index-level.result.now in
-    let high : l ≡ level_of chunk.chunk.items = search rules in
-    let b = steps_from g.S.ChunkSource.is_place content chunk c.tops_are_read.ensures.child
-    c.tops_are_read.ensures.read kept c.args.version same c.deref.result.now c.deref.ensures.value
-    (sought_of c.args.sought) child c.in-Some.ensures.on l high in
-    stays_there g.S.ChunkSource.is_place content chunk child (l - 1) b _ refl refl
-    (c.in_err-place.ensures.node content b.ts has b.stands)
-
-pub returns-clause-down : goal.returns-clause-down
-returns-clause-down g c content has same kept =
-    let chunk = c.args.self.now in
-    let child = c.in-Some.child in
-    let l = c.index-level.result.now in
-    let high : l ≡ level_of chunk.chunk.items = search rules in
-    let b = steps_from g.S.ChunkSource.is_place content chunk c.tops_are_read.ensures.child
-    c.tops_are_read.ensures.read kept c.args.version same c.deref.result.now c.deref.ensures.value
-    (sought_of c.args.sought) child c.in-Some.ensures.on l high in
-    lands g.S.ChunkSource.is_place content chunk child (l - 1) l b c.in_ok-place.place high
-    (c.in_ok-place.ensures.place content b.ts b.t has b.stands b.at)
-
-pub returns-clause-kept : goal.returns-clause-kept
-returns-clause-kept g c content has same kept =
-    let chunk = c.args.self.now in
-    let child = c.in-Some.child in
-    let l = c.index-level.result.now in
-    let high : l ≡ level_of chunk.chunk.items = search rules in
-    let b = steps_from g.S.ChunkSource.is_place content chunk c.tops_are_read.ensures.child
-    c.tops_are_read.ensures.read kept c.args.version same c.deref.result.now c.deref.ensures.value
-    (sought_of c.args.sought) child c.in-Some.ensures.on l high in
-    stays_there g.S.ChunkSource.is_place content chunk child (l - 1) b _ refl refl
-    (c.in_ok-place.ensures.node content b.ts has b.stands)
+    let high : l ≡ level_of c.args.self.now.chunk.items = search rules in
+    steps_down g.S.ChunkSource.is_place content c.args.self.now
+    c.tops_are_read.ensures.child c.tops_are_read.ensures.read kept c.args.version same
+    c.deref.result.now c.deref.ensures.value (sought_of c.args.sought) c.in-Some.child
+    c.in-Some.ensures.on l high _ refl refl (λ ts. c.in_ok-place.ensures.node content ts has)
+    (Ok c.in_ok-place.place) (λ ts t. c.in_ok-place.ensures.place content ts t has)
