@@ -8,7 +8,6 @@ ghost use Rattle.prolly_tool.specs.LookUps.{ShowsPair, ShowsValue};
 use crate::fault::Fault;
 use crate::line_parts::append_pair;
 use crate::name_fault::NameFault;
-use prolly_fault::RunFault;
 use prolly_line::ParseFault;
 use prolly_text::{Notation, append_name};
 use std::alloc::{AllocError, Global};
@@ -140,7 +139,7 @@ impl Answer {
         ensures { IfOk result (λ answer. ShowsRefusal answer refusal) }
     {
         match refusal {
-            ParseFault::Memory => Answer::of_fault(alloc, Fault::Run(RunFault::Memory)),
+            ParseFault::Memory => Answer::of_fault(alloc, Fault::Memory),
             ParseFault::BadKey => Answer::of_fault(alloc, Fault::BadKey),
             ParseFault::BadTextKey => Answer::of_fault(alloc, Fault::BadTextKey),
             ParseFault::BadRoot => Answer::of_fault(alloc, Fault::BadRoot),

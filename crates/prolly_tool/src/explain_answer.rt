@@ -8,7 +8,6 @@ use crate::fault::Fault;
 use crate::input::RECORD_LIMIT;
 use crate::line_parts::append_number;
 use crate::survey_parts::{key_in, numbers_of};
-use prolly_fault::RunFault;
 use prolly_file::{Source, SourceFault};
 use prolly_load::{FlawedRecord, Survey, survey};
 use prolly_stat::append_flaw;
@@ -31,7 +30,7 @@ pub fn answer_explain<S: Source>(
 {
     match survey(alloc, source, RECORD_LIMIT)? {
         Ok(survey) => reason(alloc, notation, &survey),
-        Err(SourceFault) => Answer::of_fault(alloc, Fault::Run(RunFault::Read { file: 0 })),
+        Err(SourceFault) => Answer::of_fault(alloc, Fault::Read),
     }
 }
 

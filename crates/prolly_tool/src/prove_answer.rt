@@ -8,7 +8,6 @@ use crate::answer::Answer;
 use crate::fault::Fault;
 use crate::input::INPUT_LIMIT;
 use prolly_check::check;
-use prolly_fault::RunFault;
 use prolly_file::{Sink, Source, WriteFault, write_whole};
 use prolly_root::prove;
 use std::alloc::{AllocError, Global};
@@ -46,6 +45,6 @@ pub fn answer_prove<S: Source, W: Sink>(
     let proof = prove(alloc, &tree, key)?;
     match write_whole(sink, &proof) {
         Ok(()) => Ok(Answer::of_done(alloc)),
-        Err(WriteFault) => Answer::of_fault(alloc, Fault::Run(RunFault::Write)),
+        Err(WriteFault) => Answer::of_fault(alloc, Fault::Write),
     }
 }

@@ -8,7 +8,6 @@ use crate::record_stat::survey_answer;
 use crate::stat_form::StatForm;
 use crate::tree_stat::tree_answer;
 use prolly_check::check;
-use prolly_fault::RunFault;
 use prolly_file::{Rejoined, Source, SourceFault, take_front};
 use prolly_load::survey;
 use std::alloc::{AllocError, Global};
@@ -38,7 +37,7 @@ pub fn answer_stat<S: Source>(alloc: Global, mut source: S, form: StatForm) -> S
 {
     let mut front = [0; 4];
     let Ok(count) = take_front(&mut source, &mut front) else {
-        let answer = Answer::of_fault(alloc, Fault::Run(RunFault::Read { file: 0 }));
+        let answer = Answer::of_fault(alloc, Fault::Read);
         return Stated { source, answer };
     };
     let front = &front[..count];
@@ -68,6 +67,6 @@ fn whole_answer<S: Source>(
     }
     match survey(alloc, source, RECORD_LIMIT)? {
         Ok(survey) => survey_answer(alloc, &survey, form),
-        Err(SourceFault) => Answer::of_fault(alloc, Fault::Run(RunFault::Read { file: 0 })),
+        Err(SourceFault) => Answer::of_fault(alloc, Fault::Read),
     }
 }
