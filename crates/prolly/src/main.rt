@@ -18,7 +18,6 @@ use crate::commands::answer_of;
 use crate::patient::Patient;
 use crate::streams::ClosedStreams;
 use crate::words::read_words;
-use prolly_link::RunFault;
 use prolly_tool::{Answer, Fault, parse};
 use std::alloc::AllocError;
 use std::io::Write;
@@ -31,7 +30,7 @@ fn main(rt: HostRuntime) -> ExitCode {
     let _closed = ClosedStreams::hold(&rt);
     match answer(&rt, &rt) {
         Ok(answer) => ExitCode::from(print(&rt, &answer)),
-        Err(AllocError) => ExitCode::from(report(&rt, RunFault::Memory)),
+        Err(AllocError) => ExitCode::from(report(&rt, Fault::Memory)),
     }
 }
 
@@ -56,13 +55,12 @@ fn print(rt: &HostRuntime, answer: &Answer) -> u8 {
     let _ = Patient::new(rt, rt.stderr()).write_all(&answer.err);
     match Patient::new(rt, rt.stdout()).write_all(&answer.out) {
         Ok(()) => answer.status,
-        Err(_) => report(rt, RunFault::Write),
+        Err(_) => report(rt, Fault::Write),
     }
 }
 
 /// Prints the line of a fault, which takes no memory, and gives its status.
-fn report(rt: &HostRuntime, fault: RunFault) -> u8 {
-    let fault = Fault::Run(fault);
+fn report(rt: &HostRuntime, fault: Fault) -> u8 {
     let _ = eprintln!(rt; "prolly: {fault}");
     fault.status()
 }

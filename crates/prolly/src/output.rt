@@ -1,6 +1,5 @@
 //! The file that a command writes.
 use crate::refusal::Refusal;
-use prolly_link::RunFault;
 use prolly_tool::{Answer, Fault, NameFault};
 use std::alloc::AllocError;
 use std::fs::{File, Permissions};
@@ -175,7 +174,7 @@ impl Lost {
         match self {
             Lost::Memory => Refusal::Memory,
             Lost::Place => Refusal::of_name(rt, NameFault::CannotReplace, name),
-            Lost::Disk => Refusal::of_fault(rt, Fault::Run(RunFault::Write)),
+            Lost::Disk => Refusal::of_fault(rt, Fault::Write),
         }
     }
 }

@@ -1,6 +1,6 @@
 //! Why a command does not come to its files.
 use prolly_tool::{Answer, Fault, NameFault};
-use std::alloc::AllocError;
+use std::alloc::{AllocError, AllocFailed};
 
 /// A file that is not to be had, or want of memory.
 #[derive(Drop)]
@@ -13,6 +13,12 @@ pub enum Refusal {
 
 impl From<AllocError> for Refusal {
     fn from(_: AllocError) -> Refusal {
+        Refusal::Memory
+    }
+}
+
+impl<T: Drop> From<AllocFailed<T>> for Refusal {
+    fn from(_: AllocFailed<T>) -> Refusal {
         Refusal::Memory
     }
 }

@@ -1,5 +1,4 @@
 //! The words of the command line.
-use prolly_link::RunFault;
 use prolly_tool::Fault;
 use std::env;
 use std::io::ErrorKind;
@@ -9,12 +8,9 @@ pub fn read_words(rt: &HostRuntime) -> Result<Vec<String>, Fault> {
     let words = match env::args(rt) {
         Ok(words) => words,
         Err(error) if error.kind() == ErrorKind::OutOfMemory => {
-            return Err(Fault::Run(RunFault::Memory));
+            return Err(Fault::Memory);
         }
         Err(_) => return Err(Fault::NotUnicode),
     };
-    match words.skip(1).collect(rt.alloc()) {
-        Ok(words) => Ok(words),
-        Err(_) => Err(Fault::Run(RunFault::Memory)),
-    }
+    Ok(words.skip(1).collect(rt.alloc())?)
 }

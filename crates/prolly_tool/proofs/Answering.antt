@@ -7,19 +7,19 @@ use Rattle.prolly_check.specs.Content.{Content}
 use Rattle.prolly_check.specs.Verdict.{IsRefusal, IsFileOf}
 use Rattle.prolly_check.specs.declared.verdict.fault.CheckFault.{CheckFault}
 use Rattle.prolly_check.specs.declared.verdict.fault.CheckFault.TheVariants.{Read}
-use Rattle.prolly_link.specs.declared.fault.RunFault.{RunFault}
-use Rattle.prolly_link.specs.declared.fault.RunFault.TheVariants.{Write}
 use Rattle.prolly_tool.specs.Answers.{ShowsFault}
 use Rattle.prolly_tool.specs.LookUps.{IsLookedUp, IsNoFileAs, file_limit}
+use Rattle.prolly_tool.specs.OutputFault.{told}
 use Rattle.prolly_tool.specs.Outputs.{IsAnswer, IsCutOff, IsCutShort, IsStopped}
 use Rattle.prolly_tool.specs.declared.answer.Answer.{Answer}
 use Rattle.prolly_tool.specs.declared.fault.Fault.{Fault}
-use Rattle.prolly_tool.specs.declared.fault.Fault.TheVariants.{Run}
+use Rattle.prolly_tool.specs.declared.fault.Fault.TheVariants.{Write}
+use Rattle.prolly_tool.specs.declared.output_fault.OutputFault.{OutputFault}
 
 pub short_answer : {E : Type 0} (makes : List ℕ → List ℕ → Type 0) (at_fault : Fault → Type 0)
     (took_all took_part : List ℕ → Type 0) (untouched : Type 0)
     (result : Result Answer E) → IsCutShort makes took_part →
-    IfOk result (λ answer. ShowsFault answer (Run Write)) →
+    IfOk result (λ answer. ShowsFault answer Write) →
     IfOk result (IsAnswer makes at_fault took_all took_part untouched)
 short_answer makes at_fault took_all took_part untouched (Ok answer) short shows =
     inr (inl (short, shows))
@@ -73,17 +73,20 @@ failed_read told failed (Err e) fault read f shows = tt
 -- ---- records that are written
 
 pub cut_off : {E : Type 0} (are : (List Record → Type 0) → Type 0)
-    (took_until : RunFault → List Record → Type 0) (is_done refused : Answer → Type 0)
-    (result : Result Answer E) (fault : RunFault) → are (took_until fault) →
-    IfOk result (λ answer. ShowsFault answer (Run fault)) →
+    (took_until : OutputFault → List Record → Type 0) (is_done refused : Answer → Type 0)
+    (result : Result Answer E) (output : OutputFault) (fault : Fault) → are (took_until output) →
+    fault ≡ told output → IfOk result (λ answer. ShowsFault answer fault) →
     IfOk result (λ answer. is_done answer ⊎ IsCutOff are took_until answer ⊎ refused answer)
-cut_off are took_until is_done refused (Ok answer) fault is shows =
-    inr (inl (record { fault = fault; is = is; shows = shows }))
-cut_off are took_until is_done refused (Err e) fault is shows = tt
+cut_off are took_until is_done refused (Ok answer) output fault is same shows = inr (inl (record {
+  fault = output;
+  is = is;
+  shows = subst (ShowsFault answer) same shows;
+}))
+cut_off are took_until is_done refused (Err e) output fault is same shows = tt
 
 pub stopped : {E : Type 0} (are : (List Record → Type 0) → Type 0)
-    (took_until : RunFault → List Record → Type 0) (untouched : Type 0) (result : Result Answer E)
-    (fault : RunFault) → are (took_until fault) →
+    (took_until : OutputFault → List Record → Type 0) (untouched : Type 0) (result : Result Answer E)
+    (fault : OutputFault) → are (took_until fault) →
     OnErr result (untouched ⊎ IsStopped are took_until)
 stopped are took_until untouched (Ok answer) fault is = tt
 stopped are took_until untouched (Err e) fault is = inr (record { fault = fault; is = is })

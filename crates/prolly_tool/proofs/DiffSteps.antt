@@ -25,7 +25,7 @@ use Rattle.prolly_check.specs.Checked.{IsFile}
 use Rattle.prolly_check.specs.Content.{Content}
 use Rattle.prolly_check.specs.Verdict.{IsFileOf}
 use Rattle.prolly_check.proofs.CheckedFile.{few_pairs}
-use Rattle.prolly_link.specs.declared.fault.RunFault.TheVariants.{Memory, Write}
+use Rattle.prolly_tool.specs.declared.output_fault.OutputFault.TheVariants.{Memory, Write}
 use Rattle.prolly_tool.specs.declared.answer.Answer.{Answer}
 use Rattle.prolly_tool.specs.declared.change_counts.ChangeCounts.{ChangeCounts}
 use Rattle.prolly_tool.specs.declared.record_form.RecordForm.{RecordForm}

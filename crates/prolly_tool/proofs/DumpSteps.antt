@@ -7,10 +7,10 @@ use Rattle.prolly_entry.specs.Record.{Record}
 use Rattle.prolly_file.specs.Failures.{after_failure}
 use Rattle.prolly_file.specs.Sink.{IsSettled, SinkView}
 use Rattle.prolly_file.specs.Writes.{Writes}
-use Rattle.prolly_link.specs.declared.fault.RunFault.TheVariants.{Write}
 use Rattle.prolly_text.specs.declared.notation.Notation.{Notation}
 use Rattle.prolly_tree.specs.Difference.{puts}
 use Rattle.prolly_tree.specs.RecordFile.{record_file}
+use Rattle.prolly_tool.specs.declared.output_fault.OutputFault.TheVariants.{Write}
 use Rattle.prolly_tool.specs.declared.record_form.RecordForm.{RecordForm}
 use Rattle.prolly_tool.specs.declared.record_form.RecordForm.TheVariants.{Lines, Records}
 use Rattle.prolly_tool.specs.Dump.{IsStoppedDump, MayStop, RecordFilesAreDumped}

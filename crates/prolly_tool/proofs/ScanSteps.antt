@@ -13,9 +13,6 @@ use Rattle.prolly_check.specs.ScanWay.{next_key}
 use Rattle.prolly_check.specs.Content.{Content}
 use Rattle.prolly_entry.specs.Pair.{Pair}
 use Rattle.prolly_entry.specs.declared.version.Version.{Version}
-use Rattle.prolly_link.specs.declared.fault.RunFault.{RunFault}
-use Rattle.prolly_link.specs.declared.fault.RunFault.TheVariants as runs
-use Rattle.prolly_link.specs.declared.fault.RunFault.TheVariants.{Memory, Write}
 use Rattle.prolly_file.specs.Failures.{CountsFailure, after_failure}
 use Rattle.prolly_file.specs.Sink.{IsSettled, SinkView}
 use Rattle.prolly_root.specs.Reader.{AreFirstFound}
@@ -26,13 +23,16 @@ use Rattle.prolly_root.specs.declared.root_fault.RootFault.TheVariants as roots
 use Rattle.prolly_tree.specs.Tree.{last_key}
 use Rattle.prolly_text.specs.declared.notation.Notation.{Notation}
 use Rattle.prolly_tool.specs.LookUps.{pair_lines, pair_text}
+use Rattle.prolly_tool.specs.OutputFault.{told as told_by}
 use Rattle.prolly_tool.specs.Outputs.{TookAll, TookBytes, TookPart, TookPrefix}
 use Rattle.prolly_tool.specs.Outputs.{TookUntil}
 use Rattle.prolly_tool.specs.RootScans.{AreTooFew, IsDoneScan, IsFlushed, IsStoppedScan}
 use Rattle.prolly_tool.specs.RootScans.{Scanned, StoppedScan, TellsScanReads, limited_lines}
 use Rattle.prolly_tool.specs.declared.fault.Fault.{Fault}
 use Rattle.prolly_tool.specs.declared.fault.Fault.TheVariants as faults
-use Rattle.prolly_tool.specs.declared.fault.Fault.TheVariants.{Root, Run}
+use Rattle.prolly_tool.specs.declared.fault.Fault.TheVariants.{Root, Write}
+use Rattle.prolly_tool.specs.declared.output_fault.OutputFault.{OutputFault}
+use Rattle.prolly_tool.specs.declared.output_fault.OutputFault.TheVariants as outputs
 use Rattle.prolly_tool.proofs.Writing.{TookSoFar, flushed, other_failures, took_front, took_none}
 use Rattle.prolly_tool.proofs.Writing.{unflushed}
 
@@ -149,22 +149,12 @@ take_none notation (suc n) = refl
 -- ---- the sink
 
 module _ {W : Type 0} (seen : W → SinkView) where
-  until_cases : (fault : RunFault) (bytes : List ℕ) (old new : W) →
+  until_cases : (fault : OutputFault) (bytes : List ℕ) (old new : W) →
       TookUntil seen fault bytes old new →
-      ((fault ≡ Memory) × TookPrefix seen bytes old new)
-      ⊎ ((fault ≡ Write) × TookPart seen bytes old new)
-  until_cases runs.Memory bytes old new t = inl (refl, t)
-  until_cases (runs.Read file) bytes old new t = absurd t
-  until_cases (runs.Truncated file place) bytes old new t = absurd t
-  until_cases (runs.KeyTooLong file place) bytes old new t = absurd t
-  until_cases (runs.ValueTooLong file place) bytes old new t = absurd t
-  until_cases (runs.OutOfOrder file place) bytes old new t = absurd t
-  until_cases (runs.TooManyRecords file) bytes old new t = absurd t
-  until_cases runs.Write bytes old new t = inr (refl, t)
-  until_cases runs.TooTall bytes old new t = absurd t
-  until_cases runs.NoThread bytes old new t = absurd t
-  until_cases runs.Lost bytes old new t = absurd t
-  until_cases runs.TooManyFiles bytes old new t = absurd t
+      ((fault ≡ outputs.Memory) × TookPrefix seen bytes old new)
+      ⊎ ((fault ≡ outputs.Write) × TookPart seen bytes old new)
+  until_cases outputs.Memory bytes old new t = inl (refl, t)
+  until_cases outputs.Write bytes old new t = inr (refl, t)
 
   -- More bytes are written behind those that the sink took.
   module _ (done own : List ℕ) (old mid new : W) (so_far : TookSoFar seen done old mid) where
@@ -209,13 +199,13 @@ module _ {W : Type 0} (seen : W → SinkView) where
       };
     }
 
-    until_also : (fault : RunFault) → TookUntil seen fault own mid new →
+    until_also : (fault : OutputFault) → TookUntil seen fault own mid new →
         TookUntil seen fault (done ++ own) old new
     until_also fault t = until_also_in fault (until_cases fault own mid new t)
       where
-        until_also_in : (fault : RunFault) →
-            ((fault ≡ Memory) × TookPrefix seen own mid new)
-            ⊎ ((fault ≡ Write) × TookPart seen own mid new) →
+        until_also_in : (fault : OutputFault) →
+            ((fault ≡ outputs.Memory) × TookPrefix seen own mid new)
+            ⊎ ((fault ≡ outputs.Write) × TookPart seen own mid new) →
             TookUntil seen fault (done ++ own) old new
         until_also_in fault (inl m) =
             subst (λ f. TookUntil seen f (done ++ own) old new) (sym m.0) (prefix_also m.1)
@@ -223,6 +213,15 @@ module _ {W : Type 0} (seen : W → SinkView) where
             subst (λ f. TookUntil seen f (done ++ own) old new) (sym w.0) (part_also w.1)
 
 -- ---- a scan on its way
+
+-- A fault of writing stops a scan.
+stopped_by : (may : RootFault → Type 0) (version : Version) (root : List ℕ) (limit : ℕ)
+    (notation : Notation) (took_all : List ℕ → Type 0) (took_until : OutputFault → List ℕ → Type 0)
+    (fault : OutputFault) (lists : List (List Pair)) →
+    took_until fault (limited_lines notation limit lists) →
+    StoppedScan may version root limit notation took_all took_until (told_by fault) lists
+stopped_by may version root limit notation took_all took_until outputs.Memory lists t = t
+stopped_by may version root limit notation took_all took_until outputs.Write lists t = t
 
 module _ {W : Type 0} (seen : W → SinkView) (version : Version) (root from : List ℕ) (limit : ℕ)
     (notation : Notation)
@@ -262,7 +261,7 @@ module _ {W : Type 0} (seen : W → SinkView) (version : Version) (root from : L
       -- Memory is wanted before more is sought.
       pub scan_wants : (may : RootFault → Type 0) → IsStoppedScan may version root from limit notation
           (λ bytes. TookBytes seen bytes old mid)
-          (λ fault bytes. TookUntil seen fault bytes old mid) (Run Memory)
+          (λ fault bytes. TookUntil seen fault bytes old mid) faults.Memory
       scan_wants may = (
         so_far,
         took_front seen (limited_lines notation limit s.lists) old mid s.took
@@ -368,17 +367,19 @@ module _ {W : Type 0} (seen : W → SinkView) (version : Version) (root from : L
             )
 
             -- A part of them is.
-            pub scan_unwritten : (may : RootFault → Type 0) (fault : RunFault) →
+            pub scan_unwritten : (may : RootFault → Type 0) (fault : OutputFault) →
                 TookUntil seen fault (pair_lines notation (take left found)) mid new →
                 IsStoppedScan may version root from limit notation
                 (λ bytes. TookBytes seen bytes old new)
-                (λ fault bytes. TookUntil seen fault bytes old new) (Run fault)
+                (λ fault bytes. TookUntil seen fault bytes old new) (told_by fault)
             scan_unwritten may fault t = (
               with_more,
-              subst (λ bytes. TookUntil seen fault bytes old new) (sym text)
+              stopped_by may version root limit notation (λ bytes. TookBytes seen bytes old new)
+                  (λ fault bytes. TookUntil seen fault bytes old new) fault with_more.lists
+                  (subst (λ bytes. TookUntil seen fault bytes old new) (sym text)
                   (until_also seen (limited_lines notation limit s.lists)
                   (pair_lines notation (take left found)) old
-                  mid new s.took fault t),
+                  mid new s.took fault t)),
             )
 
 -- ---- the end of a scan
@@ -386,14 +387,17 @@ module _ {W : Type 0} (seen : W → SinkView) (version : Version) (root from : L
 -- A scan stops at a fault of a look-up, or at one of writing.
 stop_cases : (may : RootFault → Type 0) (version : Version) (root : List ℕ) (limit : ℕ)
     (notation : Notation)
-    (took_all : List ℕ → Type 0) (took_until : RunFault → List ℕ → Type 0) (fault : Fault)
+    (took_all : List ℕ → Type 0) (took_until : OutputFault → List ℕ → Type 0) (fault : Fault)
     (lists : List (List Pair)) (goal : Fault → Type 0) →
     ((of_root : RootFault) → AreTooFew limit lists × took_all (pair_lines notation (joined lists)) ×
     may of_root → goal (Root of_root)) →
-    ((of_run : RunFault) → took_until of_run (limited_lines notation limit lists) → goal
-    (Run of_run)) →
+    ((output : OutputFault) → took_until output (limited_lines notation limit lists) →
+    goal (told_by output)) →
     StoppedScan may version root limit notation took_all took_until fault lists → goal fault
-stop_cases d v r l n took until (faults.Run f) lists goal a b t = b f t
+stop_cases d v r l n took until faults.Memory lists goal a b t = b outputs.Memory t
+stop_cases d v r l n took until faults.Read lists goal a b t = absurd t
+stop_cases d v r l n took until faults.Write lists goal a b t = b outputs.Write t
+stop_cases d v r l n took until (faults.Run f) lists goal a b t = absurd t
 stop_cases d v r l n took until (faults.Pack f) lists goal a b t = absurd t
 stop_cases d v r l n took until (faults.Check f) lists goal a b t =
     absurd t
@@ -440,9 +444,9 @@ module _ {W : Type 0} (seen : W → SinkView) (old mid new : W)
       };
     }
 
-    until_flushed : (fault : RunFault) (bytes : List ℕ) → fault ≢ Write →
-        ((fault ≡ Memory) × TookPrefix seen bytes old mid)
-        ⊎ ((fault ≡ Write) × TookPart seen bytes old mid) → TookUntil seen fault bytes old new
+    until_flushed : (fault : OutputFault) (bytes : List ℕ) → fault ≢ outputs.Write →
+        ((fault ≡ outputs.Memory) × TookPrefix seen bytes old mid)
+        ⊎ ((fault ≡ outputs.Write) × TookPart seen bytes old mid) → TookUntil seen fault bytes old new
     until_flushed fault bytes other (inl m) =
         subst (λ f. TookUntil seen f bytes old new) (sym m.0) (prefix_flushed bytes m.1)
     until_flushed fault bytes other (inr w) = absurd (other w.0)
@@ -454,7 +458,7 @@ module _ {W : Type 0} (seen : W → SinkView) (old mid new : W)
           IsDoneScan version root from limit notation (λ bytes. TookAll seen bytes old new)
       done_flushed d = (d.0, d.1, all_flushed (limited_lines notation limit d.0.lists) d.2)
 
-      pub stopped_flushed : (fault : Fault) → fault ≢ Run Write →
+      pub stopped_flushed : (fault : Fault) → fault ≢ Write →
           IsStoppedScan may version root from limit notation
           (λ bytes. TookBytes seen bytes old mid)
           (λ fault bytes. TookUntil seen fault bytes old mid) fault →
@@ -465,7 +469,7 @@ module _ {W : Type 0} (seen : W → SinkView) (old mid new : W)
         d.0,
         stop_cases may version root limit notation (λ bytes. TookBytes seen bytes old mid)
             (λ fault bytes. TookUntil seen fault bytes old mid) fault d.0.lists
-            (λ f. f ≢ Run Write → StoppedScan may version root limit notation
+            (λ f. f ≢ Write → StoppedScan may version root limit notation
             (λ bytes. TookAll seen bytes old new)
             (λ fault bytes. TookUntil seen fault bytes old new) f d.0.lists)
             (λ of_root t other. (
@@ -473,9 +477,12 @@ module _ {W : Type 0} (seen : W → SinkView) (old mid new : W)
               all_flushed (pair_lines notation (joined d.0.lists)) t.1,
               t.2,
             ))
-            (λ of_run t other. until_flushed of_run (limited_lines notation limit d.0.lists)
-            (λ e. other (ap Run e))
-            (until_cases seen of_run (limited_lines notation limit d.0.lists) old mid t))
+            (λ output t other. stopped_by may version root limit notation
+            (λ bytes. TookAll seen bytes old new)
+            (λ fault bytes. TookUntil seen fault bytes old new) output d.0.lists
+            (until_flushed output (limited_lines notation limit d.0.lists)
+            (λ e. other (ap told_by e))
+            (until_cases seen output (limited_lines notation limit d.0.lists) old mid t)))
             d.1 other,
       )
 
@@ -495,9 +502,9 @@ module _ {W : Type 0} (seen : W → SinkView) (old mid new : W)
       };
     }
 
-    until_unflushed : (fault : RunFault) (bytes : List ℕ) → fault ≢ Write →
-        ((fault ≡ Memory) × TookPrefix seen bytes old mid)
-        ⊎ ((fault ≡ Write) × TookPart seen bytes old mid) → TookPart seen bytes old new
+    until_unflushed : (fault : OutputFault) (bytes : List ℕ) → fault ≢ outputs.Write →
+        ((fault ≡ outputs.Memory) × TookPrefix seen bytes old mid)
+        ⊎ ((fault ≡ outputs.Write) × TookPart seen bytes old mid) → TookPart seen bytes old new
     until_unflushed fault bytes other (inl m) = prefix_unflushed bytes m.1
     until_unflushed fault bytes other (inr w) = absurd (other w.0)
 
@@ -507,27 +514,27 @@ module _ {W : Type 0} (seen : W → SinkView) (old mid new : W)
           IsDoneScan version root from limit notation (λ bytes. TookBytes seen bytes old mid) →
           IsStoppedScan may version root from limit notation
           (λ bytes. TookAll seen bytes old new)
-          (λ fault bytes. TookUntil seen fault bytes old new) (Run Write)
+          (λ fault bytes. TookUntil seen fault bytes old new) Write
       done_unflushed d = (d.0, all_unflushed (limited_lines notation limit d.0.lists) d.2)
 
-      pub stopped_unflushed : (fault : Fault) → fault ≢ Run Write →
+      pub stopped_unflushed : (fault : Fault) → fault ≢ Write →
           IsStoppedScan may version root from limit notation
           (λ bytes. TookBytes seen bytes old mid)
           (λ fault bytes. TookUntil seen fault bytes old mid) fault →
           IsStoppedScan may version root from limit notation
           (λ bytes. TookAll seen bytes old new)
-          (λ fault bytes. TookUntil seen fault bytes old new) (Run Write)
+          (λ fault bytes. TookUntil seen fault bytes old new) Write
       stopped_unflushed fault other d = (
         d.0,
         stop_cases may version root limit notation (λ bytes. TookBytes seen bytes old mid)
             (λ fault bytes. TookUntil seen fault bytes old mid) fault d.0.lists
-            (λ f. f ≢ Run Write → TookPart seen (limited_lines notation limit d.0.lists) old new)
+            (λ f. f ≢ Write → TookPart seen (limited_lines notation limit d.0.lists) old new)
             (λ of_root t other. subst (λ bytes. TookPart seen bytes old new)
             (few_lines notation limit d.0.lists t.0)
             (all_unflushed (pair_lines notation (joined d.0.lists)) t.1))
-            (λ of_run t other. until_unflushed of_run (limited_lines notation limit d.0.lists)
-            (λ e. other (ap Run e))
-            (until_cases seen of_run (limited_lines notation limit d.0.lists) old mid t))
+            (λ output t other. until_unflushed output (limited_lines notation limit d.0.lists)
+            (λ e. other (ap told_by e))
+            (until_cases seen output (limited_lines notation limit d.0.lists) old mid t))
             d.1 other,
       )
 
@@ -548,7 +555,7 @@ module _ {W : Type 0} (seen : W → SinkView) (old mid new : W)
 
   pub done_failed : (result : Result (Unit {0}) Fault) →
       CountsFailure (seen mid).failures (seen new).failures result →
-      IfErr result (λ fault. fault ≡ Run Write) → IfErr result
+      IfErr result (λ fault. fault ≡ Write) → IfErr result
       (IsStoppedScan may version root from limit notation (λ bytes. TookAll seen bytes old new)
       (λ fault bytes. TookUntil seen fault bytes old new))
   done_failed (Ok x) counted is = tt
@@ -573,14 +580,16 @@ found_from old now key next most way pairs version root is found =
 -- Of a fault that there may be is said what follows from that.
 pub stopped_may : (may other : RootFault → Type 0) → ((fault : RootFault) → may fault → other fault) →
     (version : Version) (root from : List ℕ) (limit : ℕ) (notation : Notation)
-    (took_all : List ℕ → Type 0) (took_until : RunFault → List ℕ → Type 0) (fault : Fault) →
+    (took_all : List ℕ → Type 0) (took_until : OutputFault → List ℕ → Type 0) (fault : Fault) →
     IsStoppedScan may version root from limit notation took_all took_until fault →
     IsStoppedScan other version root from limit notation took_all took_until fault
 stopped_may may other so version root from limit notation took_all took_until fault d = (
   d.0,
   stop_cases may version root limit notation took_all took_until fault d.0.lists
       (λ f. StoppedScan other version root limit notation took_all took_until f d.0.lists)
-      (λ of_root t. (t.0, t.1, so of_root t.2)) (λ of_run t. t) d.1,
+      (λ of_root t. (t.0, t.1, so of_root t.2))
+      (λ output t. stopped_by other version root limit notation took_all took_until output
+      d.0.lists t) d.1,
 )
 
 -- ---- what is told of the source
@@ -603,7 +612,7 @@ look_up_tells old new (roots.Level chunk) t = inr (λ e. cc, t)
 
 -- The flush at the end is done, or fails.
 pub done_tells : (old new : ℕ) (result : Result (Unit {0}) Fault) → new ≡ old →
-    IfErr result (λ fault. fault ≡ Run Write) → TellsScanReads old new result
+    IfErr result (λ fault. fault ≡ Write) → TellsScanReads old new result
 done_tells old new (Ok done) same is = same
 done_tells old new (Err fault) same is =
     subst (λ f. TellsScanReads old new (Err f)) (sym is) (inr (λ e. cc, same))
@@ -611,20 +620,20 @@ done_tells old new (Err fault) same is =
 -- The fault is told, once the sink is flushed, or that this failed.
 module _ {W : Type 0} (seen : W → SinkView) (mid late : W) (old new : ℕ) (fault told : Fault)
     (tells : TellsScanReads old new (Err fault)) where
-  flush_tells : TellsScanReads old new (Err fault) → TellsScanReads old new (Err (Run Write))
+  flush_tells : TellsScanReads old new (Err fault) → TellsScanReads old new (Err Write)
   flush_tells (inl failed) = inl (inr refl, failed.1)
   flush_tells (inr none) = inr (λ e. cc, none.1)
 
   told_tells : ((told ≡ fault) × ((seen late).failures ≡ (seen mid).failures) ×
       IsSettled (seen late))
-      ⊎ ((told ≡ Run Write) × ((seen late).failures ≡ after_failure (seen mid).failures)) →
+      ⊎ ((told ≡ Write) × ((seen late).failures ≡ after_failure (seen mid).failures)) →
       TellsScanReads old new (Err told)
   told_tells (inl is) = subst (λ f. TellsScanReads old new (Err f)) (sym is.0) tells
   told_tells (inr is) =
       subst (λ f. TellsScanReads old new (Err f)) (sym is.0) (flush_tells tells)
 
-  pub flushed_tells : ((fault ≡ Run Write) × (told ≡ fault) × (late ≡ mid))
-      ⊎ ((fault ≢ Run Write) × IsFlushed seen mid late fault told) →
+  pub flushed_tells : ((fault ≡ Write) × (told ≡ fault) × (late ≡ mid))
+      ⊎ ((fault ≢ Write) × IsFlushed seen mid late fault told) →
       TellsScanReads old new (Err told)
   flushed_tells (inl is) = subst (λ f. TellsScanReads old new (Err f)) (sym is.1) tells
   flushed_tells (inr is) = told_tells is.1.tells

@@ -5,12 +5,12 @@ use Rattle.prolly_line.specs.declared.command.ParseFault.TheVariants.{Memory, Us
 use Rattle.prolly_line.specs.declared.command.ParseFault.TheVariants.{BadKey as BadKeyWord}
 use Rattle.prolly_line.specs.declared.command.ParseFault.TheVariants.{BadTextKey as BadTextKeyWord}
 use Rattle.prolly_line.specs.declared.command.ParseFault.TheVariants.{BadRoot as BadRootWord}
-use Rattle.prolly_link.specs.declared.fault.RunFault.TheVariants.{Memory as OutOfMemory}
 use Rattle.prolly_text.specs.Names.{shown_name}
 use Rattle.prolly_tool.specs.declared.answer.Answer.{Answer}
 use Rattle.prolly_tool.specs.declared.fault.Fault.{Fault}
 use Rattle.prolly_tool.specs.declared.name_fault.NameFault.{NameFault}
-use Rattle.prolly_tool.specs.declared.fault.Fault.TheVariants.{Run, BadKey, BadTextKey, BadRoot}
+use Rattle.prolly_tool.specs.declared.fault.Fault.TheVariants.{BadKey, BadTextKey, BadRoot}
+use Rattle.prolly_tool.specs.declared.fault.Fault.TheVariants.{Memory as OutOfMemory}
 use Rattle.prolly_tool.specs.Faults.{fault_text, fault_status, fault_line}
 use Rattle.prolly_tool.specs.Names.{name_fault_text}
 
@@ -45,7 +45,7 @@ ShowsName answer fault name = Shows answer 5 []
 -- The words give no command. What clap says of them is shown as it words it: help that was asked
 -- for on standard output, and what is wrong with the words on standard error.
 abbrev pub ShowsRefusal : Answer → ParseFault → Type 0
-ShowsRefusal answer Memory = ShowsFault answer (Run OutOfMemory)
+ShowsRefusal answer Memory = ShowsFault answer OutOfMemory
 ShowsRefusal answer BadKeyWord = ShowsFault answer BadKey
 ShowsRefusal answer BadTextKeyWord = ShowsFault answer BadTextKey
 ShowsRefusal answer BadRootWord = ShowsFault answer BadRoot

@@ -3,7 +3,6 @@ use Rattle.std.specs.Prelude.{◌⊎◌, ℕ, List, [], Option, Some, None, Bool
 use Rattle.prolly_check.specs.Content.{Content}
 use Rattle.prolly_entry.specs.Pair.{Pair}
 use Rattle.prolly_entry.specs.Record.{Record}
-use Rattle.prolly_link.specs.declared.fault.RunFault.{RunFault}
 use Rattle.prolly_tree.specs.Difference.{IsDifference}
 use Rattle.prolly_tool.specs.Answers.{Shows}
 use Rattle.prolly_tool.specs.Counts.{are_some, stat_line}
@@ -11,6 +10,7 @@ use Rattle.prolly_tool.specs.LookUps.{IsLookedUp, IsNoFileAs}
 use Rattle.prolly_tool.specs.Outputs.{IsCutOff}
 use Rattle.prolly_tool.specs.RecordForms.{written_records}
 use Rattle.prolly_tool.specs.declared.answer.Answer.{Answer}
+use Rattle.prolly_tool.specs.declared.output_fault.OutputFault.{OutputFault}
 use Rattle.prolly_tool.specs.declared.record_form.RecordForm.{RecordForm}
 use Rattle.prolly_tool.specs.declared.fault.Fault.TheVariants.{CheckOld, CheckNew}
 
@@ -43,7 +43,7 @@ AreWritten (Some form) took untouched records = took (written_records form recor
 
 -- The records were written until the fault; where no form is given, nothing is written that may be
 -- stopped.
-abbrev pub AreStopped : Option RecordForm → (RunFault → List ℕ → Type 0) → RunFault →
+abbrev pub AreStopped : Option RecordForm → (OutputFault → List ℕ → Type 0) → OutputFault →
     List Record → Type 0
 AreStopped None took_until fault records = ⊥
 AreStopped (Some form) took_until fault records = took_until fault (written_records form records)
@@ -76,7 +76,7 @@ IsOneRefused old old_failed new new_failed answer = IsNoFileAs CheckOld old old_
 -- `took_all` says that it took all of these bytes, `took_until` that it took a part of them until a
 -- fault, `untouched` that it is as it was.
 abbrev pub IsDiff : Option RecordForm → Bool → List ℕ → Type 0 → List ℕ → Type 0 →
-    (List ℕ → Type 0) → (RunFault → List ℕ → Type 0) → Type 0 → Answer → Type 0
+    (List ℕ → Type 0) → (OutputFault → List ℕ → Type 0) → Type 0 → Answer → Type 0
 IsDiff form stat old old_failed new new_failed took_all took_until untouched answer =
     AreCompared old old_failed new new_failed
     (λ before after records. AreWritten form took_all untouched records ×

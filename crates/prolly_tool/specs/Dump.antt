@@ -2,8 +2,6 @@
 use Rattle.std.specs.Prelude.{◌≡◌, ◌⊎◌, ℕ, List}
 use Rattle.prolly_entry.specs.Pair.{Pair}
 use Rattle.prolly_entry.specs.Record.{Record}
-use Rattle.prolly_link.specs.declared.fault.RunFault.{RunFault}
-use Rattle.prolly_link.specs.declared.fault.RunFault.TheVariants.{Write}
 use Rattle.prolly_tree.specs.Difference.{puts}
 use Rattle.prolly_tree.specs.RecordFile.{record_file}
 use Rattle.prolly_tool.specs.Answers.{ShowsDone}
@@ -11,6 +9,8 @@ use Rattle.prolly_tool.specs.LookUps.{IsLookedUp, IsNoFile}
 use Rattle.prolly_tool.specs.Outputs.{IsCutOff}
 use Rattle.prolly_tool.specs.RecordForms.{written_records}
 use Rattle.prolly_tool.specs.declared.answer.Answer.{Answer}
+use Rattle.prolly_tool.specs.declared.output_fault.OutputFault.{OutputFault}
+use Rattle.prolly_tool.specs.declared.output_fault.OutputFault.TheVariants.{Write}
 use Rattle.prolly_tool.specs.declared.record_form.RecordForm.{RecordForm}
 use Rattle.prolly_tool.specs.declared.record_form.RecordForm.TheVariants.{Lines, Records}
 
@@ -21,12 +21,12 @@ IsDumped bytes failed holds = IsLookedUp bytes failed (λ content. holds (puts c
 
 -- The fault may stop a dump in this form: a record file is written from where it lies, and takes no
 -- memory that may be refused.
-abbrev pub MayStop : RecordForm → RunFault → Type 0
+abbrev pub MayStop : RecordForm → OutputFault → Type 0
 MayStop (Lines notation) fault = Unit {0}
 MayStop Records fault = fault ≡ Write
 
 -- The records were written in this form until the fault, which may stop that.
-abbrev pub IsStoppedDump : RecordForm → (RunFault → List ℕ → Type 0) → RunFault → List Record →
+abbrev pub IsStoppedDump : RecordForm → (OutputFault → List ℕ → Type 0) → OutputFault → List Record →
     Type 0
 IsStoppedDump form took_until fault records = MayStop form fault ×
     took_until fault (written_records form records)
@@ -35,7 +35,7 @@ IsStoppedDump form took_until fault records = MayStop form fault ×
 -- or the bytes are refused. Of the sink, `took_all` says that it took all of these bytes,
 -- `took_until` that it took a part of them until a fault, `untouched` that it is as it was.
 abbrev pub IsDump : RecordForm → List ℕ → Type 0 → (List ℕ → Type 0) →
-    (RunFault → List ℕ → Type 0) → Type 0 → Answer → Type 0
+    (OutputFault → List ℕ → Type 0) → Type 0 → Answer → Type 0
 IsDump form bytes failed took_all took_until untouched answer =
     (IsDumped bytes failed (λ records. took_all (written_records form records)) ×
     ShowsDone answer)

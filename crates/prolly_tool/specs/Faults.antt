@@ -3,15 +3,16 @@ use Rattle.std.specs.Prelude.{ℕ, List, [], ◌∷◌, ◌++◌, codes}
 use Rattle.std.specs.Fmt.{decimal}
 use Rattle.prolly_link.specs.declared.fault.RunFault.{RunFault}
 use Rattle.prolly_link.specs.declared.fault.RunFault.TheVariants as runs
+use Rattle.prolly_check.specs.FaultTexts.{check_fault_text}
 use Rattle.prolly_check.specs.declared.verdict.fault.CheckFault.{CheckFault}
 use Rattle.prolly_check.specs.declared.verdict.fault.CheckFault.TheVariants as checks
-use Rattle.prolly_root.specs.declared.proof.fault.ProofFault.{ProofFault}
-use Rattle.prolly_root.specs.declared.proof.fault.ProofFault.TheVariants as proofs
+use Rattle.prolly_root.specs.FaultTexts.{proof_fault_text, root_fault_text}
 use Rattle.prolly_root.specs.declared.root_fault.RootFault.{RootFault}
 use Rattle.prolly_root.specs.declared.root_fault.RootFault.TheVariants as roots
 use Rattle.prolly_tool.specs.declared.pack.PackFault.{PackFault}
 use Rattle.prolly_tool.specs.declared.pack.PackFault.TheVariants as packs
 use Rattle.prolly_tool.specs.declared.fault.Fault.{Fault}
+use Rattle.prolly_tool.specs.declared.fault.Fault.TheVariants.{Memory, Read, Write}
 use Rattle.prolly_tool.specs.declared.fault.Fault.TheVariants.{Run, Pack, Check, NoCounts}
 use Rattle.prolly_tool.specs.declared.fault.Fault.TheVariants.{InputTooLong, BadKey, BadTextKey}
 use Rattle.prolly_tool.specs.declared.fault.Fault.TheVariants.{NotUnicode}
@@ -45,61 +46,16 @@ pack_text (packs.BadText line) = codes "line " ++ decimal line ++ codes ": not a
 pack_text (packs.KeyTooLong line) = codes "line " ++ decimal line ++ codes ": key too long"
 pack_text (packs.ValueTooLong line) = codes "line " ++ decimal line ++ codes ": value too long"
 
-abbrev pub check_fault_text : CheckFault → List ℕ
-check_fault_text checks.Memory = codes "out of memory"
-check_fault_text checks.Read = codes "chunk file: read failed"
-check_fault_text checks.TooLong = codes "chunk file: too long"
-check_fault_text checks.BadHeader = codes "chunk file: bad header"
-check_fault_text (checks.BadFrame chunk) = codes "chunk file: bad frame " ++ decimal chunk
-check_fault_text checks.Truncated = codes "chunk file: truncated"
-check_fault_text checks.Trailing = codes "chunk file: bytes after the end"
-check_fault_text (checks.BadChunk chunk) = codes "chunk file: bad chunk " ++ decimal chunk
-check_fault_text (checks.KeysOutOfOrder chunk) = codes "chunk file: keys out of order in chunk " ++
-    decimal chunk
-check_fault_text (checks.NotCanonical chunk) = codes "chunk file: chunk " ++ decimal chunk ++
-    codes " is not canonical"
-check_fault_text checks.BadEnd = codes "chunk file: bad end record"
-check_fault_text (checks.Collision chunk) = codes "chunk file: reference of chunk " ++
-    decimal chunk ++ codes " is used twice"
-
--- The same of one of two files, which is told first; want of memory is no file's fault.
+-- What is said of one of two files, which is told first; want of memory is no file's fault.
 abbrev pub side_fault_text : List ℕ → CheckFault → List ℕ
 side_fault_text side checks.Memory = check_fault_text checks.Memory
 side_fault_text side fault = side ++ check_fault_text fault
 
--- Of bytes that are no proof.
-abbrev pub proof_fault_text : ProofFault → List ℕ
-proof_fault_text proofs.Header = codes "proof: bad header"
-proof_fault_text proofs.Version = codes "proof: wrong version"
-proof_fault_text proofs.Truncated = codes "proof: truncated"
-proof_fault_text (proofs.Frame chunk) = codes "proof: bad frame " ++ decimal chunk
-proof_fault_text (proofs.Reference chunk) = codes "proof: chunk " ++ decimal chunk ++
-    codes " is not the one referred to"
-proof_fault_text (proofs.Chunk chunk) = codes "proof: bad chunk " ++ decimal chunk
-proof_fault_text (proofs.KeysOutOfOrder chunk) = codes "proof: keys out of order in chunk " ++
-    decimal chunk
-proof_fault_text (proofs.Level chunk) = codes "proof: wrong level in chunk " ++ decimal chunk
-proof_fault_text proofs.Trailing = codes "proof: bytes after the end"
-
--- Of a file that has no answer to a look-up by a root.
-abbrev pub root_fault_text : RootFault → List ℕ
-root_fault_text roots.Memory = codes "out of memory"
-root_fault_text roots.Read = codes "chunk file: read failed"
-root_fault_text roots.Header = codes "chunk file: bad header"
-root_fault_text roots.Version = codes "chunk file: wrong version"
-root_fault_text roots.Truncated = codes "chunk file: truncated"
-root_fault_text (roots.Frame chunk) = codes "chunk file: bad frame " ++ decimal chunk
-root_fault_text roots.Trailing = codes "chunk file: bytes after the end"
-root_fault_text roots.Missing = codes "chunk file: chunks are missing"
-root_fault_text (roots.Reference chunk) = codes "chunk file: chunk " ++ decimal chunk ++
-    codes " is not the one referred to"
-root_fault_text (roots.Chunk chunk) = codes "chunk file: bad chunk " ++ decimal chunk
-root_fault_text (roots.KeysOutOfOrder chunk) = codes "chunk file: keys out of order in chunk " ++
-    decimal chunk
-root_fault_text (roots.Level chunk) = codes "chunk file: wrong level in chunk " ++ decimal chunk
-
 -- What is said of a fault.
 abbrev pub fault_text : Fault → List ℕ
+fault_text Memory = codes "out of memory"
+fault_text Read = codes "file 0: read failed"
+fault_text Write = codes "write failed"
 fault_text (Run fault) = run_text fault
 fault_text (Pack fault) = pack_text fault
 fault_text (Check fault) = check_fault_text fault
@@ -160,6 +116,9 @@ root_status (roots.KeysOutOfOrder chunk) = 4
 root_status (roots.Level chunk) = 4
 
 abbrev pub fault_status : Fault → ℕ
+fault_status Memory = 6
+fault_status Read = 5
+fault_status Write = 5
 fault_status (Run fault) = run_status fault
 fault_status (Pack packs.Memory) = 6
 fault_status (Pack (packs.BadLine line)) = 3

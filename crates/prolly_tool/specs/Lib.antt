@@ -2,6 +2,8 @@
 pub mod Lines
 -- How a command reads its input, and what it says of one that it can't read whole.
 pub mod Input
+-- Why an output is not written whole.
+pub mod OutputFault
 -- What a command that makes a file does to the sink that it is lent, and what it answers.
 pub mod Outputs
 -- What the command `scratch` answers.
@@ -10,7 +12,7 @@ pub mod Scratch
 pub mod Pack
 -- The line and the status of each fault. (This project's texts.)
 pub mod Faults
--- What is said of a fault, as the program puts it together.
+-- What is said of a fault of a run, as the program puts it together.
 pub mod Messages
 -- What a line says of a file that it names. (This project's texts.)
 pub mod Names

@@ -1,13 +1,10 @@
--- What is said of a fault, as the program puts it together.
-use Rattle.std.specs.Prelude.{ℕ, List, ◌++◌}
+-- What is said of a fault of a run, as the program puts it together.
+use Rattle.std.specs.Prelude.{ℕ, List, ◌++◌, codes}
 use Rattle.std.specs.Fmt.{decimal}
+use Rattle.prolly_entry.specs.FaultTexts.{shown_text}
 use Rattle.prolly_tool.specs.declared.fault_texts.Message.{Message}
-use Rattle.prolly_tool.specs.declared.fault_texts.Message.TheVariants.{Plain, Ending, Holding}
-use Rattle.prolly_tool.specs.declared.fault_texts.Message.TheVariants.{OfRecord}
-use Rattle.prolly_tool.specs.Faults.{record_text}
+use Rattle.prolly_tool.specs.declared.fault_texts.Message.TheVariants.{Plain, OfFile}
 
 abbrev pub message_text : Message → List ℕ
 message_text (Plain text) = text.now
-message_text (Ending text number) = text.now ++ decimal number
-message_text (Holding before number behind) = before.now ++ decimal number ++ behind.now
-message_text (OfRecord file place text) = record_text file place text.now
+message_text (OfFile file text) = codes "file " ++ decimal file ++ codes ": " ++ shown_text text

@@ -2,12 +2,13 @@
 use Rattle.std.specs.Prelude.{◌≡◌, ◌≢◌, ℕ, ◌⊎◌, true, List, ◌++◌, Option, Some, None}
 use Rattle.prolly_entry.specs.Record.{Record}
 use Rattle.prolly_file.specs.Sink.{IsSettled, SinkView, TakesPrefix}
-use Rattle.prolly_link.specs.declared.fault.RunFault.{RunFault}
-use Rattle.prolly_link.specs.declared.fault.RunFault.TheVariants.{Memory, Write}
 use Rattle.prolly_tool.specs.declared.answer.Answer.{Answer}
 use Rattle.prolly_tool.specs.declared.fault.Fault.{Fault}
-use Rattle.prolly_tool.specs.declared.fault.Fault.TheVariants.{Run}
+use Rattle.prolly_tool.specs.declared.fault.Fault.TheVariants as faults
+use Rattle.prolly_tool.specs.declared.output_fault.OutputFault.{OutputFault}
+use Rattle.prolly_tool.specs.declared.output_fault.OutputFault.TheVariants.{Memory, Write}
 use Rattle.prolly_tool.specs.Answers.{ShowsLine, ShowsFault}
+use Rattle.prolly_tool.specs.OutputFault.{told}
 
 -- ---- sinks
 
@@ -36,10 +37,9 @@ pub record TookPrefix {W : Type 0} (seen : W → SinkView) (bytes : List ℕ) (o
   pub took : (seen old).is_keeping ≡ true → TakesPrefix (seen old).taken (seen new).taken bytes
 
 -- The sink took a part of these bytes, until a call of it failed, or memory was refused.
-abbrev pub TookUntil : {W : Type 0} → (W → SinkView) → RunFault → List ℕ → W → W → Type 0
+abbrev pub TookUntil : {W : Type 0} → (W → SinkView) → OutputFault → List ℕ → W → W → Type 0
 TookUntil seen Write bytes old new = TookPart seen bytes old new
 TookUntil seen Memory bytes old new = TookPrefix seen bytes old new
-TookUntil seen _ bytes old new = ⊥
 
 -- This happened to the sink, if there is one.
 abbrev pub IfSink : {W : Type 0} → (W → W → Type 0) → Option W → Option W → Type 0
@@ -58,16 +58,16 @@ OfSink happened (Some old) (Some new) = happened old new
 
 -- The records are there, and they were not all written, for some fault.
 pub record IsStopped (are : (List Record → Type 0) → Type 0)
-    (took_until : RunFault → List Record → Type 0) : Type 0 where
-  pub fault : RunFault
+    (took_until : OutputFault → List Record → Type 0) : Type 0 where
+  pub fault : OutputFault
   pub is : are (took_until fault)
 
 -- This is the fault that is shown.
 pub record IsCutOff (are : (List Record → Type 0) → Type 0)
-    (took_until : RunFault → List Record → Type 0) (answer : Answer) : Type 0 where
-  pub fault : RunFault
+    (took_until : OutputFault → List Record → Type 0) (answer : Answer) : Type 0 where
+  pub fault : OutputFault
   pub is : are (took_until fault)
-  pub shows : ShowsFault answer (Run fault)
+  pub shows : ShowsFault answer (told fault)
 
 -- ---- answers
 
@@ -100,5 +100,5 @@ abbrev pub IsAnswer : (List ℕ → List ℕ → Type 0) → (Fault → Type 0) 
     (List ℕ → Type 0) → Type 0 → Answer → Type 0
 IsAnswer makes at_fault took_all took_part untouched answer =
     IsDone makes took_all answer
-    ⊎ (IsCutShort makes took_part × ShowsFault answer (Run Write))
+    ⊎ (IsCutShort makes took_part × ShowsFault answer faults.Write)
     ⊎ (IsRefused at_fault answer × untouched)

@@ -20,8 +20,7 @@ use Rattle.prolly_tool.specs.declared.line_form.LineForm.{LineForm}
 use Rattle.prolly_tool.specs.declared.line.LineFlaw.{LineFlaw}
 use Rattle.prolly_tool.specs.declared.line.LineFlaw.TheVariants as flaws
 use Rattle.prolly_tool.specs.declared.fault.Fault.{Fault}
-use Rattle.prolly_tool.specs.declared.fault.Fault.TheVariants.{Pack, Run}
-use Rattle.prolly_link.specs.declared.fault.RunFault.TheVariants.{Read}
+use Rattle.prolly_tool.specs.declared.fault.Fault.TheVariants.{Pack, Read}
 use Rattle.prolly_file.specs.Sink.{SinkView}
 use Rattle.prolly_file.specs.Source.{SourceView}
 use Rattle.prolly_tool.specs.Answers.{ShowsFault}
@@ -192,4 +191,4 @@ LeavesPack seen sunk form old new before after result = (seen old).is_honest ≡
 abbrev pub TellsPackRead : {S W : Type 0} → (S → SourceView) → S → S → W → W →
     Result Answer AllocError → Type 0
 TellsPackRead seen old new before after result = (seen new).failures ≢ (seen old).failures →
-    (after ≡ before) × IfOk result (λ answer. ShowsFault answer (Run (Read 0)))
+    (after ≡ before) × IfOk result (λ answer. ShowsFault answer Read)

@@ -2,7 +2,6 @@
 use Rattle.std.specs.Prelude.{◌⊎◌, ℕ, List, Option}
 use Rattle.prolly_check.specs.Content.{Content}
 use Rattle.prolly_entry.specs.declared.version.Version.{Version}
-use Rattle.prolly_link.specs.declared.fault.RunFault.TheVariants.{Write}
 use Rattle.prolly_root.specs.ProofFault.{IsFault}
 use Rattle.prolly_root.specs.ProofFile.{IsProof, IsProofOf}
 use Rattle.prolly_text.specs.declared.notation.Notation.{Notation}
@@ -12,7 +11,7 @@ use Rattle.prolly_tool.specs.LookUps.{IsLookedUp, IsNoFile, ShowsValue}
 use Rattle.prolly_tool.specs.Outputs.{IsRefused}
 use Rattle.prolly_tool.specs.declared.answer.Answer.{Answer}
 use Rattle.prolly_tool.specs.declared.fault.Fault.{Fault}
-use Rattle.prolly_tool.specs.declared.fault.Fault.TheVariants.{Proof, Run}
+use Rattle.prolly_tool.specs.declared.fault.Fault.TheVariants.{Proof, Write}
 
 -- ---- proofs that are made
 
@@ -34,7 +33,7 @@ abbrev pub IsProve : List ℕ → List ℕ → Type 0 → (List ℕ → Type 0) 
     Answer → Type 0
 IsProve key bytes failed took_all took_part untouched answer =
     (IsProvedOf key bytes failed took_all × ShowsDone answer)
-    ⊎ (IsProvedOf key bytes failed took_part × ShowsFault answer (Run Write))
+    ⊎ (IsProvedOf key bytes failed took_part × ShowsFault answer Write)
     ⊎ (IsNoFile bytes failed answer × untouched)
 
 -- ---- proofs that are verified

@@ -6,8 +6,6 @@ use Rattle.prolly_check.specs.Content.{Content}
 use Rattle.prolly_entry.specs.Cut.{sha512_cut}
 use Rattle.prolly_entry.specs.Pair.{Pair}
 use Rattle.prolly_entry.specs.declared.version.Version.{Version}
-use Rattle.prolly_link.specs.declared.fault.RunFault.{RunFault}
-use Rattle.prolly_link.specs.declared.fault.RunFault.TheVariants.{Write}
 use Rattle.prolly_file.specs.Failures.{after_failure}
 use Rattle.prolly_file.specs.Sink.{IsSettled, SinkView}
 use Rattle.prolly_root.specs.Reader.{IsReaderOf, ReaderView}
@@ -21,7 +19,9 @@ use Rattle.prolly_tool.specs.Answers.{ShowsDone, ShowsFault}
 use Rattle.prolly_tool.specs.LookUps.{pair_lines}
 use Rattle.prolly_tool.specs.declared.answer.Answer.{Answer}
 use Rattle.prolly_tool.specs.declared.fault.Fault.{Fault}
-use Rattle.prolly_tool.specs.declared.fault.Fault.TheVariants.{Root, Run}
+use Rattle.prolly_tool.specs.declared.fault.Fault.TheVariants.{Root, Memory, Write}
+use Rattle.prolly_tool.specs.declared.output_fault.OutputFault.{OutputFault}
+use Rattle.prolly_tool.specs.declared.output_fault.OutputFault.TheVariants as outputs
 
 -- ---- what was found
 
@@ -70,17 +70,19 @@ IsDoneScan version root from limit notation took_all = (s : Scanned version root
 -- lines of what was found before were written, and one that there may be; or it is that of writing
 -- the lines, of which the sink took a part until then.
 abbrev pub StoppedScan : (RootFault → Type 0) → Version → List ℕ → ℕ → Notation → (List ℕ → Type 0) →
-    (RunFault → List ℕ → Type 0) → Fault → List (List Pair) → Type 0
+    (OutputFault → List ℕ → Type 0) → Fault → List (List Pair) → Type 0
 StoppedScan may version root limit notation took_all took_until (Root fault) lists =
     AreTooFew limit lists × took_all (pair_lines notation (joined lists)) ×
     may fault
-StoppedScan may version root limit notation took_all took_until (Run fault) lists =
-    took_until fault (limited_lines notation limit lists)
+StoppedScan may version root limit notation took_all took_until Memory lists =
+    took_until outputs.Memory (limited_lines notation limit lists)
+StoppedScan may version root limit notation took_all took_until Write lists =
+    took_until outputs.Write (limited_lines notation limit lists)
 StoppedScan may version root limit notation took_all took_until _ lists = ⊥
 
 -- The same of lists that look-ups found.
 abbrev pub IsStoppedScan : (RootFault → Type 0) → Version → List ℕ → List ℕ → ℕ → Notation →
-    (List ℕ → Type 0) → (RunFault → List ℕ → Type 0) → Fault → Type 0
+    (List ℕ → Type 0) → (OutputFault → List ℕ → Type 0) → Fault → Type 0
 IsStoppedScan may version root from limit notation took_all took_until fault =
     (s : Scanned version root from) ×
     StoppedScan may version root limit notation took_all took_until fault s.lists
@@ -91,13 +93,13 @@ IsStoppedScan may version root from limit notation took_all took_until fault =
 abbrev pub TellsScanReads : ℕ → ℕ → Result (Unit {0}) Fault → Type 0
 TellsScanReads old new (Ok done) = new ≡ old
 TellsScanReads old new (Err fault) =
-    (((fault ≡ Root Read) ⊎ (fault ≡ Run Write)) × (new ≡ after_failure old))
+    (((fault ≡ Root Read) ⊎ (fault ≡ Write)) × (new ≡ after_failure old))
     ⊎ ((fault ≢ Root Read) × (new ≡ old))
 
 -- The answer: the scan is done, or the fault that stopped it is shown; and of this it is said what
 -- is told of the source.
 abbrev pub IsRootScan : (RootFault → Type 0) → Version → List ℕ → List ℕ → ℕ → Notation →
-    (List ℕ → Type 0) → (RunFault → List ℕ → Type 0) → (Result (Unit {0}) Fault → Type 0) →
+    (List ℕ → Type 0) → (OutputFault → List ℕ → Type 0) → (Result (Unit {0}) Fault → Type 0) →
     Answer → Type 0
 IsRootScan may version root from limit notation took_all took_until tells answer =
     (IsDoneScan version root from limit notation took_all × tells (Ok tt) × ShowsDone answer)
@@ -111,4 +113,4 @@ pub record IsFlushed {W : Type 0} (seen : W → SinkView) (old new : W) (fault t
   pub same : (seen old).is_keeping ≡ true → (seen new).taken ≡ (seen old).taken
   pub tells : ((told ≡ fault) × ((seen new).failures ≡ (seen old).failures) ×
       IsSettled (seen new))
-      ⊎ ((told ≡ Run Write) × ((seen new).failures ≡ after_failure (seen old).failures))
+      ⊎ ((told ≡ Write) × ((seen new).failures ≡ after_failure (seen old).failures))

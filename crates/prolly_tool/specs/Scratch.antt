@@ -51,6 +51,7 @@ pub record IsNoRecordFile (bytes : List ℕ) (has_failed : Type 0) (file : ℕ) 
 
 -- The input gives no pairs: it can't be read, or it is no record file.
 abbrev pub IsRecordsFault : List ℕ → Type 0 → Fault → Type 0
+IsRecordsFault bytes has_failed (Run runs.Memory) = ¬ has_failed
 IsRecordsFault bytes has_failed (Run (runs.Truncated file place)) =
     IsNoRecordFile bytes has_failed file (records.Truncated place)
 IsRecordsFault bytes has_failed (Run (runs.KeyTooLong file place)) =

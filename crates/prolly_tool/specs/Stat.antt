@@ -22,10 +22,9 @@ use Rattle.prolly_tool.specs.Answers.{Shows, ShowsFault}
 use Rattle.prolly_tool.specs.LookUps.{IsLookUp, ShowsFailedRead}
 use Rattle.prolly_tool.specs.Surveys.{AreOfSurvey, IsSurveyAnswer, IsUnread}
 use Rattle.prolly_tool.specs.declared.answer.Answer.{Answer}
-use Rattle.prolly_tool.specs.declared.fault.Fault.TheVariants.{Run}
+use Rattle.prolly_tool.specs.declared.fault.Fault.TheVariants.{Read, Run}
 use Rattle.prolly_tool.specs.declared.stat_form.StatForm.{StatForm}
 use Rattle.prolly_tool.specs.declared.stat_form.StatForm.TheVariants.{Lines, Json}
-use Rattle.prolly_link.specs.declared.fault.RunFault.TheVariants as runs
 
 -- ---- a chunk file
 
@@ -113,4 +112,4 @@ AnswersStat seen old new form result = (seen old).is_honest ≡ true →
 abbrev pub AnswersBadRead : {S : Type 0} → (S → SourceView) → S → S → Result Answer AllocError →
     Type 0
 AnswersBadRead seen old new result = (seen new).failures ≢ (seen old).failures →
-    IfOk result (λ answer. ShowsFailedRead answer ⊎ ShowsFault answer (Run (runs.Read 0)))
+    IfOk result (λ answer. ShowsFailedRead answer ⊎ ShowsFault answer Read)

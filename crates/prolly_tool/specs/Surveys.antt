@@ -4,7 +4,6 @@ use Rattle.std.specs.Prelude.{Result, IfOk}
 use Rattle.std.specs.Fmt.{decimal}
 use Rattle.std.specs.Option.{option_copied}
 use Rattle.std.specs.declared.alloc.AllocError.{AllocError}
-use Rattle.prolly_link.specs.declared.fault.RunFault.TheVariants as runs
 use Rattle.prolly_file.specs.Source.{SourceView}
 use Rattle.prolly_load.specs.Survey.{IsSurvey, bytes_of}
 use Rattle.prolly_load.specs.declared.surveyed.FlawedRecord.{FlawedRecord}
@@ -14,7 +13,7 @@ use Rattle.prolly_stat.specs.declared.records.RecordNumbers.{RecordNumbers}
 use Rattle.prolly_text.specs.declared.notation.Notation.{Notation}
 use Rattle.prolly_tool.specs.Answers.{Shows, ShowsLine, ShowsFault}
 use Rattle.prolly_tool.specs.declared.answer.Answer.{Answer}
-use Rattle.prolly_tool.specs.declared.fault.Fault.TheVariants.{Run}
+use Rattle.prolly_tool.specs.declared.fault.Fault.TheVariants.{Read}
 
 -- No read of the bytes failed, and of the survey of them as a record file this is shown.
 pub record IsSurveyed (bytes : List ℕ) (failed : Type 0) (shows : Survey → Type 0) : Type 0 where
@@ -26,7 +25,7 @@ pub record IsSurveyed (bytes : List ℕ) (failed : Type 0) (shows : Survey → T
 -- A read failed, and this is told.
 pub record IsUnread (failed : Type 0) (answer : Answer) : Type 0 where
   pub failed_is : failed
-  pub shows : ShowsFault answer (Run (runs.Read 0))
+  pub shows : ShowsFault answer Read
 
 -- The answer of a command of which `shows` says what it shows of a survey.
 abbrev pub IsSurveyAnswer : List ℕ → Type 0 → (Answer → Survey → Type 0) → Answer → Type 0
@@ -43,7 +42,7 @@ AnswersSurvey seen old new shows result = (seen old).is_honest ≡ true →
 abbrev pub AnswersUnread : {S : Type 0} → (S → SourceView) → S → S → Result Answer AllocError →
     Type 0
 AnswersUnread seen old new result = (seen new).failures ≢ (seen old).failures →
-    IfOk result (λ answer. ShowsFault answer (Run (runs.Read 0)))
+    IfOk result (λ answer. ShowsFault answer Read)
 
 -- The numbers are those of a survey.
 pub record AreOfSurvey (survey : Survey) (numbers : RecordNumbers) : Type 0 where

@@ -140,7 +140,7 @@ impl Answer {
         ensures { IfOk result (λ answer. ShowsRefusal answer refusal) }
     {
         match refusal {
-            ParseFault::Memory => Answer::of_fault(alloc, Fault::Run(RunFault::Memory)),
+            ParseFault::Memory => Answer::of_fault(alloc, Fault::Memory),
             ParseFault::BadKey => Answer::of_fault(alloc, Fault::BadKey),
             ParseFault::BadTextKey => Answer::of_fault(alloc, Fault::BadTextKey),
             ParseFault::BadRoot => Answer::of_fault(alloc, Fault::BadRoot),

@@ -20,6 +20,7 @@ use crate::change_counts::ChangeCounts;
 use crate::fault::Fault;
 use crate::input::INPUT_LIMIT;
 use crate::line_parts::append_number;
+use crate::output_fault::OutputFault;
 use crate::record_form::{RecordForm, append_change};
 use prolly_check::{Missing, Tree, check};
 use prolly_diff::Differences;
@@ -80,7 +81,7 @@ pub fn answer_diff<S: Source, T: Source, W: Sink>(
     let changes = Differences::new(&old_tree, &new_tree);
     match write_changes(alloc, changes, form, sink) {
         Ok(counts) => answer_of(alloc, &old_tree, &new_tree, &counts, stat),
-        Err(fault) => Answer::of_fault(alloc, Fault::Run(fault)),
+        Err(fault) => Answer::of_fault(alloc, Fault::from(fault)),
     }
 }
 
@@ -161,7 +162,7 @@ fn write_changes<W: Sink>(
     mut changes: Differences,
     form: Option<RecordForm>,
     sink: &mut W,
-) -> Result<ChangeCounts, RunFault>
+) -> Result<ChangeCounts, OutputFault>
     requires maps { AreMaps changes }
     requires before { AllByRecursion IsPair changes.before }
     requires after { AllByRecursion IsPair changes.after }
@@ -178,18 +179,12 @@ fn write_changes<W: Sink>(
         counts.count(change.before, change.after);
         // Without a form the spelling stays empty, and the sink is not called.
         spelling.clear();
-        let Ok(()) = append_change(alloc, &mut spelling, form, change.key, change.after) else {
-            return Err(RunFault::Memory);
-        };
-        let Ok(()) = write_all(sink, &spelling) else {
-            return Err(RunFault::Write);
-        };
+        append_change(alloc, &mut spelling, form, change.key, change.after)?;
+        write_all(sink, &spelling)?;
     }
     let Some(_) = form else {
         return Ok(counts);
     };
-    match sink.flush() {
-        Ok(()) => Ok(counts),
-        Err(_) => Err(RunFault::Write),
-    }
+    sink.flush()?;
+    Ok(counts)
 }

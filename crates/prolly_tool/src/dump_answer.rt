@@ -12,6 +12,7 @@ use crate::answer::Answer;
 use crate::dump_lines::write_lines;
 use crate::fault::Fault;
 use crate::input::INPUT_LIMIT;
+use crate::output_fault::OutputFault;
 use crate::record_form::RecordForm;
 use prolly_check::{Tree, check};
 use prolly_file::{Sink, Source, WriteFault};
@@ -52,7 +53,7 @@ pub fn answer_dump<S: Source, W: Sink>(
     };
     match write_pairs(alloc, &tree, form, sink) {
         Ok(()) => Ok(Answer::of_done(alloc)),
-        Err(fault) => Answer::of_fault(alloc, Fault::Run(fault)),
+        Err(fault) => Answer::of_fault(alloc, Fault::from(fault)),
     }
 }
 
@@ -62,7 +63,7 @@ fn write_pairs<W: Sink>(
     tree: &Tree,
     form: RecordForm,
     sink: &mut W,
-) -> Result<(), RunFault>
+) -> Result<(), OutputFault>
     ensures ok { (content : Content) → IsFileOf tree.now content → OnOk result
         (TookAll W.seen (written_records form (puts content.pairs)) sink.old sink.new) }
     ensures err { (content : Content) → IsFileOf tree.now content → IfErr result (λ fault.
@@ -73,7 +74,7 @@ fn write_pairs<W: Sink>(
         RecordForm::Lines(notation) => write_lines(alloc, notation, tree.leaves(), sink),
         RecordForm::Records => match tree.write_records(sink) {
             Ok(()) => Ok(()),
-            Err(WriteFault) => Err(RunFault::Write),
+            Err(WriteFault) => Err(OutputFault::Write),
         },
     }
 }

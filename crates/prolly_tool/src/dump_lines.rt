@@ -5,6 +5,7 @@ ghost use Rattle.prolly_tool.specs.Outputs.{TookAll, TookUntil};
 ghost use Rattle.prolly_tool.specs.RecordForms.{written_records};
 ghost use Rattle.prolly_tool.specs.declared.record_form.RecordForm.TheVariants.{Lines};
 
+use crate::output_fault::OutputFault;
 use crate::record_form::append_line;
 use prolly_check::{Leaves, Pairs};
 use prolly_file::{Sink, write_all};
@@ -20,7 +21,7 @@ pub(crate) fn write_lines<W: Sink>(
     notation: Notation,
     mut leaves: Leaves,
     sink: &mut W,
-) -> Result<(), RunFault>
+) -> Result<(), OutputFault>
     ensures ok { OnOk result (TookAll W.seen (written_records (Lines notation) (puts leaves.entry))
         sink.old sink.new) }
     ensures err { IfErr result (λ fault. TookUntil W.seen fault
@@ -29,17 +30,11 @@ pub(crate) fn write_lines<W: Sink>(
     let mut lines = Vec::new(alloc);
     while let Some(leaf) = leaves.next() {
         lines.clear();
-        let Ok(()) = append_lines(alloc, &mut lines, notation, leaf) else {
-            return Err(RunFault::Memory);
-        };
-        let Ok(()) = write_all(sink, &lines) else {
-            return Err(RunFault::Write);
-        };
+        append_lines(alloc, &mut lines, notation, leaf)?;
+        write_all(sink, &lines)?;
     }
-    match sink.flush() {
-        Ok(()) => Ok(()),
-        Err(_) => Err(RunFault::Write),
-    }
+    sink.flush()?;
+    Ok(())
 }
 
 /// Appends a line for each of the pairs.

@@ -31,7 +31,7 @@ pub fn answer_explain<S: Source>(
 {
     match survey(alloc, source, RECORD_LIMIT)? {
         Ok(survey) => reason(alloc, notation, &survey),
-        Err(SourceFault) => Answer::of_fault(alloc, Fault::Run(RunFault::Read { file: 0 })),
+        Err(SourceFault) => Answer::of_fault(alloc, Fault::Read),
     }
 }
 

@@ -3,11 +3,13 @@ ghost use Rattle.std.specs.Prelude.{◌≡◌, Some};
 ghost use Rattle.prolly_tool.specs.Faults.{fault_text, check_status, root_status, run_status};
 ghost use Rattle.prolly_tool.specs.Faults.{fault_status};
 
-use crate::fault_texts::{CheckText, ProofText, RootText, RunText, SideText};
+use crate::fault_texts::{RunText, SideText};
 use crate::pack::PackFault;
 use prolly_check::CheckFault;
+use prolly_file::SinkFault;
 use prolly_link::RunFault;
 use prolly_root::{ProofFault, RootFault};
+use std::alloc::AllocError;
 use std::fmt;
 use std::fmt::{Display, Formatter};
 use thiserror::Error;
@@ -15,6 +17,12 @@ use thiserror::Error;
 /// Why a command is not done. Its text is one line, without the program's name and the newline.
 #[derive(Clone, Copy, Debug, PartialEq, Eq, Error)]
 pub enum Fault {
+    /// Memory was refused.
+    Memory,
+    /// An input that is no chunk file can't be read. It is told of as file 0.
+    Read,
+    /// An output took only a part of what was written.
+    Write,
     /// A run over record files has no answer. One record file from standard input is file 0.
     Run(RunFault),
     /// A text is not packed.
@@ -51,17 +59,47 @@ impl Fault {
         ensures { result ≡ fault_status self }
     {
         match self {
+            Fault::Memory | Fault::Pack(PackFault::Memory) => 6,
             Fault::Run(fault) => run_status(fault),
-            Fault::Pack(PackFault::Memory) => 6,
             Fault::Pack(_) => 3,
             Fault::Check(fault) | Fault::CheckOld(fault) | Fault::CheckNew(fault) => {
                 check_status(fault)
             }
             Fault::Root(fault) => root_status(fault),
             Fault::Proof(_) | Fault::NoCounts => 4,
-            Fault::InputTooLong | Fault::OutIsStdout => 5,
+            Fault::Read | Fault::Write | Fault::InputTooLong | Fault::OutIsStdout => 5,
             Fault::BadKey | Fault::BadTextKey | Fault::BadRoot | Fault::NotUnicode => 2,
         }
+    }
+}
+
+impl From<AllocError> for Fault {
+    ghost use Rattle.prolly_tool.specs.declared.fault.Fault.TheVariants.{Memory};
+
+    ghost from_gives = { λ _ fault. fault ≡ Memory };
+
+    fn from(_: AllocError) -> Self {
+        Fault::Memory
+    }
+}
+
+impl From<SinkFault> for Fault {
+    ghost use Rattle.prolly_tool.specs.declared.fault.Fault.TheVariants.{Write};
+
+    ghost from_gives = { λ _ fault. fault ≡ Write };
+
+    fn from(_: SinkFault) -> Self {
+        Fault::Write
+    }
+}
+
+impl From<PackFault> for Fault {
+    ghost use Rattle.prolly_tool.specs.declared.fault.Fault.TheVariants.{Pack};
+
+    ghost from_gives = { λ pack fault. fault ≡ Pack pack };
+
+    fn from(pack: PackFault) -> Self {
+        Fault::Pack(pack)
     }
 }
 
@@ -106,13 +144,16 @@ impl Display for Fault {
 
     fn fmt<W: fmt::Write>(&self, f: &mut Formatter<W>) -> fmt::Result {
         match self {
+            Fault::Memory => f.write_str("out of memory"),
+            Fault::Read => f.write_str("file 0: read failed"),
+            Fault::Write => f.write_str("write failed"),
             Fault::Run(fault) => RunText(*fault).fmt(f),
             Fault::Pack(fault) => fault.fmt(f),
-            Fault::Check(fault) => CheckText(*fault).fmt(f),
+            Fault::Check(fault) => fault.fmt(f),
             Fault::CheckOld(fault) => SideText("old ", *fault).fmt(f),
             Fault::CheckNew(fault) => SideText("new ", *fault).fmt(f),
-            Fault::Proof(fault) => ProofText(*fault).fmt(f),
-            Fault::Root(fault) => RootText(*fault).fmt(f),
+            Fault::Proof(fault) => fault.fmt(f),
+            Fault::Root(fault) => fault.fmt(f),
             Fault::NoCounts => f.write_str("chunk file: no counts"),
             Fault::InputTooLong => f.write_str("input too long"),
             Fault::BadKey => f.write_str("not a key in hexadecimal"),

@@ -25,12 +25,12 @@ pub(crate) fn input_of<S: Source>(alloc: Global, source: &mut S) -> Result<Vec<u
         IfErr result (λ fault. IsInputFault (S.seen source.old).left
         ((S.seen source.new).failures ≢ (S.seen source.old).failures) fault) }
     ensures read { (S.seen source.new).failures ≢ (S.seen source.old).failures →
-        IsErrOf result (Fault.Run (RunFault.Read 0)) }
+        IsErrOf result Fault.Read }
 {
     match read_whole(alloc, source, INPUT_LIMIT) {
         Ok(bytes) => Ok(bytes),
-        Err(WholeFault::Memory) => Err(Fault::Run(RunFault::Memory)),
-        Err(WholeFault::Read) => Err(Fault::Run(RunFault::Read { file: 0 })),
+        Err(WholeFault::Memory) => Err(Fault::Memory),
+        Err(WholeFault::Read) => Err(Fault::Read),
         Err(WholeFault::TooLong) => Err(Fault::InputTooLong),
     }
 }

@@ -47,7 +47,7 @@ pub fn answer_pack_as<S: Source, W: Sink>(
     let done = Answer::of_line(alloc, line.as_bytes())?;
     match write_whole(sink, &packed.file) {
         Ok(()) => Ok(done),
-        Err(WriteFault) => Answer::of_fault(alloc, Fault::Run(RunFault::Write)),
+        Err(WriteFault) => Answer::of_fault(alloc, Fault::Write),
     }
 }
 
@@ -78,12 +78,10 @@ fn packed_of<S: Source>(alloc: Global, source: &mut S, form: LineForm) -> Result
         IfErr result (λ fault. IsPackingFault form (S.seen source.old).left
         ((S.seen source.new).failures ≢ (S.seen source.old).failures) fault) }
     ensures read { (S.seen source.new).failures ≢ (S.seen source.old).failures →
-        IsErrOf result (Fault.Run (RunFault.Read 0)) }
+        IsErrOf result Fault.Read }
 {
     let text = input_of(alloc, source)?;
     let mut file = Vec::new(alloc);
-    match pack_lines_as(alloc, form, &text, &mut file) {
-        Ok(count) => Ok(Packed { file, count }),
-        Err(fault) => Err(Fault::Pack(fault)),
-    }
+    let count = pack_lines_as(alloc, form, &text, &mut file)?;
+    Ok(Packed { file, count })
 }

@@ -46,6 +46,6 @@ pub fn answer_prove<S: Source, W: Sink>(
     let proof = prove(alloc, &tree, key)?;
     match write_whole(sink, &proof) {
         Ok(()) => Ok(Answer::of_done(alloc)),
-        Err(WriteFault) => Answer::of_fault(alloc, Fault::Run(RunFault::Write)),
+        Err(WriteFault) => Answer::of_fault(alloc, Fault::Write),
     }
 }

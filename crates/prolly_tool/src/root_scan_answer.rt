@@ -9,10 +9,11 @@ ghost use Rattle.prolly_tool.specs.Outputs.{TookAll, TookBytes, TookUntil};
 ghost use Rattle.prolly_tool.specs.RootScans.{IsDoneScan, IsFlushed, IsRootScan};
 ghost use Rattle.prolly_tool.specs.RootScans.{IsStoppedScan, RefusesNone, RefusesNoneOf, TellsScanReads};
 ghost use Rattle.prolly_tool.specs.declared.fault.Fault.{Fault as FaultValue};
-ghost use Rattle.prolly_tool.specs.declared.fault.Fault.TheVariants.{Run};
+ghost use Rattle.prolly_tool.specs.declared.fault.Fault.TheVariants.{Write};
 
 use crate::answer::Answer;
 use crate::fault::Fault;
+use crate::output_fault::OutputFault;
 use crate::scan_answer::lines_of;
 use prolly_entry::{Pair, Ref, Version};
 use prolly_file::{Sink, write_all};
@@ -123,7 +124,7 @@ fn write_leaves<S: ChunkSource, W: Sink>(
         result }
 {
     let Ok(mut next) = Vec::from_slice(alloc, scan.from) else {
-        return Err(Fault::Run(RunFault::Memory));
+        return Err(Fault::Memory);
     };
     let mut left = scan.limit as usize;
     while left > 0 {
@@ -135,7 +136,7 @@ fn write_leaves<S: ChunkSource, W: Sink>(
             return Ok(());
         };
         if let Err(fault) = write_lines(alloc, scan.notation, &pairs, sink) {
-            return Err(Fault::Run(fault));
+            return Err(Fault::from(fault));
         }
         let count = pairs.len();
         if count >= left {
@@ -144,7 +145,7 @@ fn write_leaves<S: ChunkSource, W: Sink>(
         left -= count;
         next = match key_behind(alloc, last.key()) {
             Ok(next) => next,
-            Err(_) => return Err(Fault::Run(RunFault::Memory)),
+            Err(_) => return Err(Fault::Memory),
         };
     }
     Ok(())
@@ -156,19 +157,15 @@ fn write_lines<W: Sink>(
     notation: Notation,
     pairs: &[Pair],
     sink: &mut W,
-) -> Result<(), RunFault>
+) -> Result<(), OutputFault>
     ensures ok { OnOk result (TookBytes W.seen (pair_lines notation pairs.now) sink.old sink.new) }
     ensures err { IfErr result (λ fault.
         TookUntil W.seen fault (pair_lines notation pairs.now) sink.old sink.new) }
     ensures keeping { (W.seen sink.old).is_keeping ≡ true → (W.seen sink.new).is_keeping ≡ true }
 {
-    let Ok(lines) = lines_of(alloc, notation, pairs) else {
-        return Err(RunFault::Memory);
-    };
-    match write_all(sink, &lines) {
-        Ok(()) => Ok(()),
-        Err(_) => Err(RunFault::Write),
-    }
+    let lines = lines_of(alloc, notation, pairs)?;
+    write_all(sink, &lines)?;
+    Ok(())
 }
 
 /// The least key that is greater than this one.
@@ -186,19 +183,17 @@ fn flush<W: Sink>(sink: &mut W) -> Result<(), Fault>
         (W.seen sink.new).taken ≡ (W.seen sink.old).taken }
     ensures settled { OnOk result (IsSettled (W.seen sink.new)) }
     ensures failures { CountsFailure (W.seen sink.old).failures (W.seen sink.new).failures result }
-    ensures fault { IfErr result (λ fault. fault ≡ Run RunFault.Write) }
+    ensures fault { IfErr result (λ fault. fault ≡ Write) }
 {
-    match sink.flush() {
-        Ok(()) => Ok(()),
-        Err(_) => Err(Fault::Run(RunFault::Write)),
-    }
+    sink.flush()?;
+    Ok(())
 }
 
 /// Flushes the sink before the fault is told, and answers it, or else that this failed. A sink of
 /// which a write failed is left as it is.
 fn fault_flushed<W: Sink>(sink: &mut W, fault: Fault) -> Fault
-    ensures { ((fault ≡ Run RunFault.Write) × (result ≡ fault) × (sink.new ≡ sink.old))
-        ⊎ ((fault ≢ Run RunFault.Write) × IsFlushed W.seen sink.old sink.new fault result) }
+    ensures { ((fault ≡ Write) × (result ≡ fault) × (sink.new ≡ sink.old))
+        ⊎ ((fault ≢ Write) × IsFlushed W.seen sink.old sink.new fault result) }
 {
     if is_failed_write(fault) {
         return fault;
@@ -211,10 +206,7 @@ fn fault_flushed<W: Sink>(sink: &mut W, fault: Fault) -> Fault
 
 /// Whether this is the fault of a write that failed.
 fn is_failed_write(fault: Fault) -> bool
-    ensures { IsTrue result ↔ (fault ≡ Run RunFault.Write) }
+    ensures { IsTrue result ↔ (fault ≡ Write) }
 {
-    match fault {
-        Fault::Run(fault) => matches!(fault, RunFault::Write),
-        _ => false,
-    }
+    matches!(fault, Fault::Write)
 }

@@ -58,7 +58,7 @@ pub fn answer_scratch<S: Source, W: Sink>(
         (λ file. OfSink (TookPart W.seen file) sink.old sink.new)) }
     ensures read { (S.seen source.new).failures ≢ (S.seen source.old).failures →
         (sink.new ≡ sink.old) × IfOk result (λ answer. ShowsFault answer
-        (Fault.Run (RunFault.Read 0))) }
+        Fault.Read) }
 {
     let tree = match tree_of(alloc, source, bits, version) {
         Ok(tree) => tree,
@@ -67,7 +67,7 @@ pub fn answer_scratch<S: Source, W: Sink>(
     let done = Answer::of_line(alloc, &tree.root.to_text())?;
     match write_to(sink, &tree.file) {
         Ok(()) => Ok(done),
-        Err(WriteFault) => Answer::of_fault(alloc, Fault::Run(RunFault::Write)),
+        Err(WriteFault) => Answer::of_fault(alloc, Fault::Write),
     }
 }
 
@@ -86,14 +86,14 @@ fn tree_of<S: Source>(
         IfErr result (λ fault. IsScratchFault bits version (S.seen source.old).left
         ((S.seen source.new).failures ≢ (S.seen source.old).failures) fault) }
     ensures read { (S.seen source.new).failures ≢ (S.seen source.old).failures →
-        IsErrOf result (Fault.Run (RunFault.Read 0)) }
+        IsErrOf result Fault.Read }
 {
     let pairs = pairs_of(alloc, source)?;
     let cut = Sha512Cut::new(bits).unwrap();
     let mut file = Vec::new(alloc);
     match scratch_as(alloc, cut, version, &pairs, LEVEL_LIMIT, &mut file) {
         Ok(root) => Ok(Tree { file, root }),
-        Err(ScratchFault::Memory) => Err(Fault::Run(RunFault::Memory)),
+        Err(ScratchFault::Memory) => Err(Fault::Memory),
         Err(ScratchFault::TooTall) => Err(Fault::Run(RunFault::TooTall)),
         Err(ScratchFault::OutOfOrder { .. }) => unreachable!(),
     }
@@ -103,7 +103,7 @@ fn tree_of<S: Source>(
 fn pairs_of<S: Source>(alloc: Global, source: &mut S) -> Result<Vec<Pair>, Fault>
     ensures rising { IfOk result (λ pairs. Rising (keys_in pairs.items)) }
     ensures read { (S.seen source.new).failures ≢ (S.seen source.old).failures →
-        IsErrOf result (Fault.Run (RunFault.Read 0)) }
+        IsErrOf result Fault.Read }
     ensures ok { (S.seen source.old).is_honest ≡ true →
         IfOk result (λ pairs. HoldsPairs (S.seen source.old).left
         ((S.seen source.new).failures ≢ (S.seen source.old).failures) pairs.items) }

@@ -38,7 +38,7 @@ pub fn answer_stat<S: Source>(alloc: Global, mut source: S, form: StatForm) -> S
 {
     let mut front = [0; 4];
     let Ok(count) = take_front(&mut source, &mut front) else {
-        let answer = Answer::of_fault(alloc, Fault::Run(RunFault::Read { file: 0 }));
+        let answer = Answer::of_fault(alloc, Fault::Read);
         return Stated { source, answer };
     };
     let front = &front[..count];
@@ -68,6 +68,6 @@ fn whole_answer<S: Source>(
     }
     match survey(alloc, source, RECORD_LIMIT)? {
         Ok(survey) => survey_answer(alloc, &survey, form),
-        Err(SourceFault) => Answer::of_fault(alloc, Fault::Run(RunFault::Read { file: 0 })),
+        Err(SourceFault) => Answer::of_fault(alloc, Fault::Read),
     }
 }

@@ -1,6 +1,5 @@
 //! The command `verify`: what a proof says of a key, for who knows the root alone.
 ghost use Rattle.std.specs.Prelude.{◌≡◌, ◌≢◌, true, IfOk};
-ghost use Rattle.prolly_link.specs.declared.fault.RunFault.TheVariants.{Read};
 ghost use Rattle.prolly_tool.specs.Answers.{ShowsFault};
 ghost use Rattle.prolly_tool.specs.Proofs.{IsVerify};
 
@@ -32,7 +31,7 @@ pub fn answer_verify<S: Source>(
         IfOk result (IsVerify notation version root.now.0 key.now (S.seen source.old).left
         ((S.seen source.new).failures ≢ (S.seen source.old).failures)) }
     ensures read { (S.seen source.new).failures ≢ (S.seen source.old).failures →
-        IfOk result (λ answer. ShowsFault answer (Fault.Run (Read 0))) }
+        IfOk result (λ answer. ShowsFault answer Fault.Read) }
 {
     let proof = match input_of(alloc, source) {
         Ok(proof) => proof,

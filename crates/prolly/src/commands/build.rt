@@ -61,9 +61,7 @@ fn sources_of<'a>(
         let input = Input::open_beside(rt, name, output)?;
         total = sum_of(total, input.size());
         let source = CountedSource::new(input.into_source(), counts);
-        if sources.push(source).is_err() {
-            return Err(Refusal::Memory);
-        }
+        sources.push(source)?;
     }
     Ok((sources, total))
 }

@@ -43,13 +43,13 @@ returns-clause-ok g c = λ honest honest'.
     cut_off _
     (AreStopped c.args.form
     (λ fault bytes. TookUntil g.W.Sink.seen fault bytes c.args.sink.now c.write_changes.new.sink))
-    _ _ c.of_fault-in-Err-write_changes.result c.in-Err-write_changes.fault
+    _ _ c.of_fault-in-Err-write_changes.result c.in-Err-write_changes.fault c.from.result
     (changes_so _ _ _ _ _ _ c.new-changes.result (c.in-Ok.ensures.same honest)
     (c.in-Ok-check.ensures.same honest') c.in-Ok.ensures.accepted c.in-Ok-check.ensures.accepted
     c.in-Ok.ensures.within c.in-Ok-check.ensures.within
     (λ failed. failed c.in-Ok.ensures.unfailed) (λ failed. failed c.in-Ok-check.ensures.unfailed)
     c.new-changes.ensures.before c.new-changes.ensures.after
-    _ c.in-Err-write_changes.ensures.err)
+    _ c.in-Err-write_changes.ensures.err) c.from.ensures
     c.of_fault-in-Err-write_changes.ensures
 
 pub returns-clause-err : goal.returns-clause-err

@@ -30,10 +30,10 @@ pub returns-clause-ok : goal.returns-clause-ok
 returns-clause-ok g c = λ honest. cut_off (IsDumped _ _)
     (IsStoppedDump c.args.form
     (λ fault bytes. TookUntil g.W.Sink.seen fault bytes c.args.sink.now c.write_pairs.new.sink))
-    _ _ c.of_fault-in-Err-write_pairs.result c.in-Err-write_pairs.fault
+    _ _ c.of_fault-in-Err-write_pairs.result c.in-Err-write_pairs.fault c.from.result
     (looked_up _ _ _ _ (c.in-Ok.ensures.same honest) c.in-Ok.ensures.accepted
     c.in-Ok.ensures.within (λ failed. failed c.in-Ok.ensures.unfailed)
-    (λ content is. c.in-Err-write_pairs.ensures.err content is))
+    (λ content is. c.in-Err-write_pairs.ensures.err content is)) c.from.ensures
     c.of_fault-in-Err-write_pairs.ensures
 
 pub returns-clause-err : goal.returns-clause-err

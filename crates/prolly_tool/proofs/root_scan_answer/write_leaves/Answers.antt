@@ -75,7 +75,7 @@ returns-in-Err-write_lines-clause-err g c =
     let is = found_from c.args.reader c.loop-left.reader c.deref.result.now c.loop-left.next.items
     left (way_of c.pairs_from.new.self) pairs c.loop-left.invariant.version
     c.loop-left.invariant.root c.deref.ensures.value c.in-Ok-pairs_from.ensures.found in
-    scan_unwritten g.W.Sink.seen c.args.reader.version c.args.reader.root c.args.scan.now.from.now
+    rw c.from.ensures (scan_unwritten g.W.Sink.seen c.args.reader.version c.args.reader.root c.args.scan.now.from.now
     c.args.scan.now.limit c.args.scan.now.notation left c.loop-left.next.items c.args.sink.now
     c.loop-left.sink c.loop-left.invariant.scan (omega arith) is.found
     (way_of c.pairs_from.new.self) is.way c.write_lines.new.sink
@@ -83,7 +83,7 @@ returns-in-Err-write_lines-clause-err g c =
     c.in-Err-write_lines.fault
     (subst (λ ps. TookUntil g.W.Sink.seen c.in-Err-write_lines.fault
     (pair_lines c.args.scan.now.notation ps) c.loop-left.sink c.write_lines.new.sink)
-    (c.deref-in-loop-left-2.ensures.value ∙ is.are) c.in-Err-write_lines.ensures.err)
+    (c.deref-in-loop-left-2.ensures.value ∙ is.are) c.in-Err-write_lines.ensures.err))
 
 pub returns-then-count-left-clause-ok : goal.returns-then-count-left-clause-ok
 returns-then-count-left-clause-ok g c =

@@ -1,7 +1,6 @@
 use Rattle.std.proofs.Common.{Err, ◌≡◌, ◌≢◌, ◌⊎◌, inl, inr, ℕ, List, true, refl, sym, ◌∙◌, subst}
 use Rattle.std.proofs.Common.{arith}
 use Rattle.prolly_entry.specs.declared.version.Version.{Version}
-use Rattle.prolly_link.specs.declared.fault.RunFault.TheVariants.{Write}
 use Rattle.prolly_file.specs.Failures.{after_failure}
 use Rattle.prolly_file.specs.Sink.{IsSettled, SinkView}
 use Rattle.prolly_root.specs.Reader.{ReaderView}
@@ -11,7 +10,7 @@ use Rattle.prolly_tool.specs.Outputs.{TookAll, TookBytes, TookPart, TookUntil}
 use Rattle.prolly_tool.specs.RootScans.{IsDoneScan, IsFlushed, IsStoppedScan, TellsScanReads}
 use Rattle.prolly_tool.specs.RootScans.{RefusesNone, limited_lines}
 use Rattle.prolly_tool.specs.declared.fault.Fault.{Fault}
-use Rattle.prolly_tool.specs.declared.fault.Fault.TheVariants.{Run}
+use Rattle.prolly_tool.specs.declared.fault.Fault.TheVariants.{Write}
 use Rattle.prolly_tool.proofs.ScanSteps.{done_ended, done_failed, stopped_flushed}
 use Rattle.prolly_tool.proofs.ScanSteps.{done_tells, flushed_tells, look_up_tells}
 use Rattle.prolly_tool.proofs.ScanSteps.{scan_begins}
@@ -28,7 +27,7 @@ module _ {W : Type 0} (seen : W → SinkView) (old mid new : W)
     (λ bytes. TookBytes seen bytes old mid) (λ fault bytes. TookUntil seen fault bytes old mid)
     fault) where
   -- Where writing failed, nothing is said of a look-up.
-  told_failed : fault ≡ Run Write → told ≡ fault → new ≡ mid →
+  told_failed : fault ≡ Write → told ≡ fault → new ≡ mid →
       IsStoppedScan may version root from limit notation (λ bytes. TookAll seen bytes old new)
       (λ fault bytes. TookUntil seen fault bytes old new) told
   told_failed failed is left =
@@ -43,10 +42,10 @@ module _ {W : Type 0} (seen : W → SinkView) (old mid new : W)
             (sym left) stopped.1,
       )
 
-  told_flushed : fault ≢ Run Write →
+  told_flushed : fault ≢ Write →
       ((seen mid).is_keeping ≡ true → (seen new).taken ≡ (seen mid).taken) →
       ((told ≡ fault) × ((seen new).failures ≡ (seen mid).failures) × IsSettled (seen new))
-      ⊎ ((told ≡ Run Write) × ((seen new).failures ≡ after_failure (seen mid).failures)) →
+      ⊎ ((told ≡ Write) × ((seen new).failures ≡ after_failure (seen mid).failures)) →
       IsStoppedScan may version root from limit notation (λ bytes. TookAll seen bytes old new)
       (λ fault bytes. TookUntil seen fault bytes old new) told
   told_flushed other same (inl is) = subst
@@ -61,8 +60,8 @@ module _ {W : Type 0} (seen : W → SinkView) (old mid new : W)
       fault
       other d)
 
-  stopped_ended : ((fault ≡ Run Write) × (told ≡ fault) × (new ≡ mid))
-      ⊎ ((fault ≢ Run Write) × IsFlushed seen mid new fault told) →
+  stopped_ended : ((fault ≡ Write) × (told ≡ fault) × (new ≡ mid))
+      ⊎ ((fault ≢ Write) × IsFlushed seen mid new fault told) →
       IsStoppedScan may version root from limit notation (λ bytes. TookAll seen bytes old new)
       (λ fault bytes. TookUntil seen fault bytes old new) told
   stopped_ended (inl is) = told_failed is.0 is.1 is.2

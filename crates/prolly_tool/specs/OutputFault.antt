@@ -1,0 +1,10 @@
+-- Why an output is not written whole.
+use Rattle.prolly_tool.specs.declared.fault.Fault.{Fault}
+use Rattle.prolly_tool.specs.declared.fault.Fault.TheVariants as faults
+use Rattle.prolly_tool.specs.declared.output_fault.OutputFault.{OutputFault}
+use Rattle.prolly_tool.specs.declared.output_fault.OutputFault.TheVariants.{Memory, Write}
+
+-- The fault of the command that it is.
+abbrev pub told : OutputFault → Fault
+told Memory = faults.Memory
+told Write = faults.Write
