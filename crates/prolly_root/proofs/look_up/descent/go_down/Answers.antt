@@ -7,9 +7,8 @@ use Rattle.prolly_entry.specs.lemmas.Lists.{all_append}
 use Rattle.prolly_root.specs.Descent.{IsOnward, IsTested, StandsInPlace, StepsDown, chunks_in}
 use Rattle.prolly_root.specs.RootFault.{TellsFailure}
 use Rattle.prolly_root.specs.declared.root_fault.RootFault.TheVariants.{Memory}
-use Rattle.prolly_root.proofs.Descending.{Descended, less_room, next_kept, none_passed}
-use Rattle.prolly_root.proofs.Descending.{one_more, one_passed, way_ends}
-use Rattle.prolly_root.proofs.Faults.{asked_on, handed_on}
+use Rattle.prolly_root.proofs.Descending.{Descended, asked_on, handed_on, less_room, next_kept}
+use Rattle.prolly_root.proofs.Descending.{none_passed, one_more, one_passed, way_ends}
 use Rattle.prolly_root.proofs.look_up.descent.go_down.Goals as goal
 
 pub chunk_at-requires : goal.chunk_at-requires

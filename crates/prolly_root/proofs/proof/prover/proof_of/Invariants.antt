@@ -1,5 +1,5 @@
 use Rattle.std.proofs.Common.{map}
-use Rattle.prolly_root.proofs.Appending.{HasFrames}
+use Rattle.prolly_root.proofs.Passing.{HasFrames}
 use Rattle.prolly_root.proofs.proof.prover.proof_of.Given as goal
 
 abbrev pub invariant-loop-chunk : goal.invariant-loop-chunk

@@ -1,8 +1,8 @@
-use Rattle.std.proofs.Common.{◌≡◌, Ok, refl, subst, sym, arith}
+use Rattle.std.proofs.Common.{◌≡◌, refl, subst, sym, arith}
 use Rattle.prolly_root.specs.Subtree.{FindsNth}
 use Rattle.prolly_root.specs.Walk.{IsBehind}
-use Rattle.prolly_root.proofs.Faults.{handed_on}
-use Rattle.prolly_root.proofs.Keeping.{behind_next, nth_next, only_read}
+use Rattle.prolly_root.proofs.Descending.{handed_on}
+use Rattle.prolly_root.proofs.Subtrees.{behind_next, nth_next, only_read}
 use Rattle.prolly_root.proofs.Walking.{holds_still, reads_on}
 use Rattle.prolly_root.proofs.file.subtree.Subtree.child.Goals as goal
 

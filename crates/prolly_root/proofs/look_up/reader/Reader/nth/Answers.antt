@@ -4,7 +4,7 @@ use Rattle.prolly_check.specs.Sought.{sought_of}
 use Rattle.prolly_check.specs.Sought.Sought.{Number}
 use Rattle.prolly_check.specs.Way.{IsCountWay, IsWayTo, nth_sought}
 use Rattle.prolly_root.specs.Descent.{LastTested, chunks_in}
-use Rattle.prolly_root.proofs.Reading.{keeps_levels}
+use Rattle.prolly_root.proofs.Descending.{keeps_levels}
 use Rattle.prolly_root.proofs.look_up.reader.Reader.nth.Goals as goal
 
 pub pairs-requires : goal.pairs-requires
