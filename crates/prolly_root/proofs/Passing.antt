@@ -342,7 +342,8 @@ module _ (version : Version) (root key bytes : List ℕ) (value : Option (List �
   other_start Two Two x y e = refl
 
   start_fine : (fault : ProofFault) → IsStartFault version bytes fault → ⊥
-  start_fine faults.Header h = h.none version (record { rest = flat_map framed p.chunks; is = p.is })
+  start_fine faults.Header h =
+      h.none version (record { rest = flat_map framed p.chunks; is = p.is })
   start_fine faults.Version h = h.differs (other_start h.other version h.begins.rest
       (flat_map framed p.chunks) (sym h.begins.is ∙ p.is))
   start_fine faults.Truncated h = no_end_within h
@@ -359,7 +360,8 @@ module _ (version : Version) (root key bytes : List ℕ) (value : Option (List �
   frame_there passed due there rest number faults.Truncated d h = false≢true
       (sym (begins_frame d.chunk (flat_map framed d.more) d.small) ∙
       ap has_no_frame (sym d.is) ∙ h.1)
-  frame_there passed due there rest number (faults.Frame n) d h = h.2 (record { rest = _; is = d.is })
+  frame_there passed due there rest number (faults.Frame n) d h =
+      h.2 (record { rest = _; is = d.is })
   frame_there passed due there rest number faults.Header d h = h
   frame_there passed due there rest number faults.Version d h = h
   frame_there passed due there rest number (faults.Reference n) d h = h

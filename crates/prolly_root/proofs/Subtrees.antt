@@ -6,7 +6,7 @@ use Rattle.std.specs.List.{AllByRecursion, flat_map}
 use Rattle.std.proofs.Math.Seq.{drop-append_seam, drop-append-add, drop-cons, take-append_seam}
 use Rattle.std.proofs.lemmas.Bool.{cases_eq, cases_lt}
 use Rattle.std.proofs.lemmas.List.{get_or-drop, get_or_append_left, get_or_push, length-append}
-use Rattle.std.proofs.lemmas.List.{map-append, length-take-le, take_all}
+use Rattle.std.proofs.lemmas.List.{map-append, take_all}
 use Rattle.std.proofs.lemmas.List.Concat.{flat_map-append}
 use Rattle.prolly_check.specs.Checked.{chunks_of}
 use Rattle.prolly_check.specs.Content.{Content}
@@ -286,14 +286,6 @@ chunk_there bytes content f frame is count buf long gives =
     append_assoc chunk (flat_map framed left) (ending bytes content f n) in
     gives ∙ ap (take (length buf)) there ∙ ap (λ n. take n (chunk ++ more)) long ∙
     take-append_seam chunk more
-
--- so that as many were read as there is room for
-pub all_read : (count : ℕ) (buf chunk : List ℕ) → take count buf ≡ chunk →
-    length buf ≡ length chunk → count < length buf → ⊥
-all_read count buf chunk e long few =
-    let taken = length-take-le count buf (omega arith) in
-    let all = ap length e in
-    omega arith
 
 -- and nothing stands behind them
 pub read_whole : (count len : ℕ) (buf chunk more : List ℕ) → take count buf ≡ chunk →

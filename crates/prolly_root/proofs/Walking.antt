@@ -111,7 +111,8 @@ module _ (version : Version) where
       subst (AllByRecursion (StandsUpTo (suc level)))
       (sym (map-append (λ c. c.bytes) below (chunk_of version (suc level) ts ∷ [])))
       (all_append (StandsUpTo (suc level)) (bytes_in below) (bytes_of version (suc level) ts ∷ [])
-      (all_weaker (StandsUpTo level) (StandsUpTo (suc level)) (λ c h. record { some = h.some; up_to = omega (arith, h.up_to) }) (bytes_in below)
+      (all_weaker (StandsUpTo level) (StandsUpTo (suc level))
+      (λ c h. record { some = h.some; up_to = omega (arith, h.up_to) }) (bytes_in below)
       (all_trees level (tree_up_to level) ts))
       (top_up_to version (suc level) ts, tt))
 
@@ -288,9 +289,10 @@ module _ (bytes : List ℕ) (content : Content) (f : IsFileOf bytes content) (wa
       by_what_is_left (c ∷ rest) e some is =
           let long = how_long bytes content f walk.number in
           let same = ap (λ cs. length (flat_map framed cs)) e in
-          let all = length-append (framed c) (flat_map framed rest) in (
+          let all = length-append (framed c) (flat_map framed rest) in
+          let size = ap length f.is in (
             omega (arith, some.0, is.0),
-            omega (arith, long, same, all, framed_length c, is.0, at.offset, at.whole, ap length f.is),
+            omega (arith, long, same, all, framed_length c, is.0, at.offset, at.whole, size),
           )
 
   -- the end record that begins there is the end

@@ -18,7 +18,8 @@ returns-in_err-next_of_level-clause-place g c content has keeps first =
     let before = c.loop-count.invariant in
     let at = before.reached content has keeps first in
     subst (FindsNth content c.args.level c.args.self.now.top.below.number c.args.number)
-    (sym (handed_on c.in_err-next_of_level.field-0.0 c.from_residual.result c.from_residual.ensures))
+    (sym (handed_on c.in_err-next_of_level.field-0.0 c.from_residual.result
+    c.from_residual.ensures))
     (only_read content c.args.level c.args.number c.loop-count.count
     c.args.self.now.top.below.number c.loop-count.walk.number before.near at.1
     (c.in_err-next_of_level.ensures.goes content
@@ -48,7 +49,8 @@ returns-in_err-frame-clause-place g c content has keeps first =
     let before = c.loop-count.invariant in
     let at = before.reached content has keeps first in
     subst (FindsNth content c.args.level c.args.self.now.top.below.number c.args.number)
-    (sym (handed_on c.in_err-frame.field-0.0 c.from_residual-in_err-frame.result c.from_residual-in_err-frame.ensures))
+    (sym (handed_on c.in_err-frame.field-0.0 c.from_residual-in_err-frame.result
+    c.from_residual-in_err-frame.ensures))
     (only_read content c.args.level c.args.number c.loop-count.count
     c.args.self.now.top.below.number c.loop-count.walk.number before.near at.1
     (c.in_err-frame.ensures.goes content

@@ -1,6 +1,3 @@
-use Rattle.std.proofs.Common.{subst, sym}
-use Rattle.std.specs.List.{AllByRecursion}
-use Rattle.prolly_root.specs.Descent.{StandsInPlace}
 use Rattle.prolly_root.proofs.LawfulSteps.{root_stands}
 use Rattle.prolly_root.proofs.look_up.reader.Reader.open.Goals as goal
 
@@ -10,6 +7,5 @@ returns-clause-kept g c content has same named = record {
   top = root_stands g.S.ChunkSource.is_place content c.args.root.now.0 c.in_ok-top.top
       c.tops_are_read.ensures.root (g.met.S.ChunkSource.lawful c.args.source.now content has) named
       (c.in_ok-top.ensures.place content has same);
-  levels = subst (AllByRecursion (StandsInPlace g.S.ChunkSource.is_place content))
-      (sym c.new.ensures.items) tt;
+  levels = rw c.new.ensures.items tt;
 }
