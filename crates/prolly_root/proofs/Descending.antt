@@ -1,11 +1,11 @@
 -- Going down from the root, from each chunk to the one that it refers to.
-use Rattle.std.proofs.Common.{◌≡◌, ℕ, List, [], ◌∷◌, ◌++◌, Option, Some, None}
-use Rattle.std.proofs.Common.{IfSome}
-use Rattle.std.proofs.Common.{◌<◌, ◌-◌, length, get_or, arith, rules, refl, sym, ap, ◌∙◌, subst}
+use Rattle.std.proofs.Common.{◌≡◌, ℕ, List, [], ◌∷◌, ◌++◌, Option, Some, None, IfSome, ◌<◌, ◌-◌}
+use Rattle.std.proofs.Common.{length, get_or, arith, rules, refl, sym, ap, ◌∙◌, subst, Result, Ok}
+use Rattle.std.proofs.Common.{Err}
 use Rattle.std.specs.List.{AllByRecursion}
 use Rattle.std.specs.Option.{option_to_list}
 use Rattle.std.proofs.lemmas.List.{get_or_push, length-append, map-append}
-use Rattle.std.specs.Prelude.{All}
+use Rattle.std.specs.Prelude.{All, IsErr, IsErrAnd}
 use Rattle.prolly_entry.specs.Byte.{IsByte}
 use Rattle.prolly_check.specs.Content.{Content}
 use Rattle.prolly_check.specs.Kinds.{kind_of}
@@ -18,6 +18,8 @@ use Rattle.prolly_tree.specs.Tree.{Tree}
 use Rattle.prolly_root.specs.Descent.{StandsBelow, StandsInPlace, chunks_in}
 use Rattle.prolly_root.specs.ProofFault.{last_level}
 use Rattle.prolly_root.specs.declared.look_up.chunk_on_way.ChunkOnWay.{ChunkOnWay}
+use Rattle.prolly_root.specs.declared.root_fault.RootFault.{RootFault}
+use Rattle.prolly_root.specs.Reader.{IsReaderOf, ReaderView}
 
 -- ---- the levels
 
@@ -123,3 +125,34 @@ pub next_kept : {T : Type 0} (P : ChunkOnWay T → Type 0) (left rest : List (Ch
 next_kept P left rest None e all = (tt, subst (AllByRecursion P) e all)
 next_kept {T = T} P left rest (Some chunk) e all =
     let both : P chunk × AllByRecursion P rest = subst (AllByRecursion P) e all in both
+
+-- ---- calls one behind another, and their faults
+
+-- what `?` hands on is the same fault
+pub handed_on : {T : Type 0} (fault : RootFault) (result : Result T RootFault) →
+    IsErr result × IsErrAnd result (λ told. told ≡ fault) → result ≡ Err fault
+handed_on fault (Ok value) h = search rules
+handed_on fault (Err told) h = ap Err h.1
+
+-- two calls of a source, of which the first one succeeds
+pub asked_on : {S : Type 0} (has : S → Content → Type 0) (failures : S → ℕ)
+    {old mid new : S} (tells : ℕ → Type 0) →
+    ((content : Content) → has old content → has mid content) × (failures mid ≡ failures old) →
+    ((content : Content) → has mid content → has new content) × tells (failures mid) →
+    ((content : Content) → has old content → has new content) × tells (failures old)
+asked_on has failures tells asked more =
+    (λ content h. more.0 content (asked.0 content h), subst tells asked.1 more.1)
+
+-- ---- what a look-up leaves of its reader
+
+-- the reader is of the same tree
+pub keeps_levels : {T : Type 0} (is_place : Content → (level : ℕ) → Tree level → T → Type 0)
+    (content : Content) (old new : ReaderView T) → new.version ≡ old.version →
+    new.root ≡ old.root → new.top ≡ old.top →
+    AllByRecursion (StandsInPlace is_place content) new.levels →
+    IsReaderOf is_place content old → IsReaderOf is_place content new
+keeps_levels is_place content old new version root top levels is = record {
+  version = version ∙ is.version;
+  top = rw (root, top) is.top;
+  levels = levels;
+}

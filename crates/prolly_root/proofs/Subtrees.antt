@@ -1,23 +1,268 @@
--- Trees in a chunk file: where their tops stand, and the bytes of these.
-use Rattle.std.proofs.Common.{◌≡◌, ℕ, suc, ◌+◌, ◌-◌, ◌<◌, ◌≤◌, List, [], ◌∷◌, ◌++◌, length, take}
-use Rattle.std.proofs.Common.{drop, get_or, refl, sym, ap, ◌∙◌, subst, arith, append_assoc}
-use Rattle.std.proofs.Common.{append-nil}
-use Rattle.std.specs.List.{flat_map}
-use Rattle.std.proofs.Math.Seq.{drop-append-add, drop-cons, take-append_seam}
-use Rattle.std.proofs.lemmas.List.{get_or_push, length-append, length-take-le, take_all}
+-- The chunks of a level one behind another, and the trees whose tops they are.
+use Rattle.std.proofs.Common.{◌≡◌, ℕ, zero, suc, ◌+◌, ◌-◌, ◌≤◌, ◌<◌, inl, inr, ◌⊎◌, List, [], ◌∷◌}
+use Rattle.std.proofs.Common.{◌++◌, length, drop, map, get_or, refl, sym, ap, ◌∙◌, subst, arith}
+use Rattle.std.proofs.Common.{append_assoc, take, append-nil}
+use Rattle.std.specs.List.{AllByRecursion, flat_map}
+use Rattle.std.proofs.Math.Seq.{drop-append_seam, drop-append-add, drop-cons, take-append_seam}
+use Rattle.std.proofs.lemmas.Bool.{cases_eq, cases_lt}
+use Rattle.std.proofs.lemmas.List.{get_or-drop, get_or_append_left, get_or_push, length-append}
+use Rattle.std.proofs.lemmas.List.{map-append, take_all}
+use Rattle.std.proofs.lemmas.List.Concat.{flat_map-append}
 use Rattle.prolly_check.specs.Checked.{chunks_of}
 use Rattle.prolly_check.specs.Content.{Content}
 use Rattle.prolly_check.specs.FileWays.{nth_chunk}
+use Rattle.prolly_check.specs.Way.{level_of}
+use Rattle.prolly_entry.specs.declared.version.Version.{Version}
+use Rattle.prolly_tree.specs.Chunk.{post_order}
+use Rattle.prolly_tree.specs.Tree.{Tree, bytes_of}
+use Rattle.prolly_root.specs.Subtree.{IsPlaceNth, IsPlaceOf}
+use Rattle.prolly_root.specs.RootFault.{OnlyRead}
+use Rattle.prolly_root.specs.Walk.{IsBehind, IsFirst, IsNth, NoneBetween, chunks_below}
+use Rattle.prolly_root.specs.Walk.{chunks_of_tree, IsFrame, IsWalk}
+use Rattle.prolly_root.specs.declared.file.subtree.Place.{Place}
+use Rattle.prolly_root.specs.declared.root_fault.RootFault.{RootFault}
+use Rattle.prolly_root.proofs.Walking.{IsLower, all_lower, level_is, top_last, apart, behind}
+use Rattle.prolly_root.proofs.Walking.{ending, front, front_length}
 use Rattle.prolly_check.specs.Verdict.{IsFileOf}
 use Rattle.prolly_file.specs.Frame.{framed}
-use Rattle.prolly_tree.specs.Tree.{Tree, bytes_of}
-use Rattle.prolly_root.specs.Subtree.{IsPlaceOf}
 use Rattle.prolly_root.specs.ChunkSource.{IsChildAt, root_level, root_tree}
-use Rattle.prolly_root.specs.Walk.{IsFrame, IsWalk, chunks_below, chunks_of_tree}
-use Rattle.prolly_root.specs.declared.file.subtree.Place.{Place}
 use Rattle.prolly_root.specs.declared.file.walk.Frame.{Frame}
-use Rattle.prolly_root.proofs.Keeping.{StandsAmong, chunks_of_trees, part_at}
-use Rattle.prolly_root.proofs.Walking.{apart, behind, ending, front, front_length, top_last}
+
+-- ---- one behind another
+
+module _ (content : Content) (level : ℕ) where
+  -- there is one
+  first_one : (from n m : ℕ) → IsFirst content level from n → IsFirst content level from m → n ≡ m
+  first_one from n m h k = by_order (cases_lt n m) (cases_lt m n)
+    where
+      by_order : (n < m) ⊎ (m ≤ n) → (m < n) ⊎ (n ≤ m) → n ≡ m
+      by_order (inl less) other = absurd (k.none n h.from_on less h.is)
+      by_order (inr most) (inl less) = absurd (h.none m k.from_on less k.is)
+      by_order (inr most) (inr least) = omega (arith, most, least)
+
+  pub nth_one : (k from n m : ℕ) → IsNth content level from k n → IsNth content level from k m →
+      n ≡ m
+  nth_one zero from n m h g = first_one from n m h g
+  nth_one (suc k) from n m h g = first_one (suc h.0) n m h.2
+      (subst (λ j. IsFirst content level (suc j) m) (sym (nth_one k from h.0 g.0 h.1 g.1)) g.2)
+
+  pub behind_one : (k from n m : ℕ) → IsBehind content level from k n →
+      IsBehind content level from k m → n ≡ m
+  behind_one zero from n m h g = h ∙ sym g
+  behind_one (suc k) from n m h g = h.2 ∙ ap suc (nth_one k from h.0 g.0 h.1 g.1) ∙ sym g.2
+
+  pub suc_behind : (from k n : ℕ) → IsBehind content level from (suc k) n →
+      IsBehind content level from (k + 1) n
+  suc_behind from k n h = let e : suc k ≡ k + 1 = omega arith in
+      subst (λ k. IsBehind content level from k n) e h
+
+  -- one more
+  pub nth_next : (k from behind n : ℕ) → IsBehind content level from k behind →
+      IsFirst content level behind n → IsNth content level from k n
+  nth_next zero from behind n h first = subst (λ b. IsFirst content level b n) h first
+  nth_next (suc k) from behind n h first =
+      (h.0, h.1, subst (λ b. IsFirst content level b n) h.2 first)
+
+  pub behind_next : (from k behind n next : ℕ) → IsBehind content level from k behind →
+      IsFirst content level behind n → next ≡ suc n → IsBehind content level from (k + 1) next
+  behind_next from k behind n next h first e =
+      suc_behind from k next (n, nth_next k from behind n h first, e)
+
+  -- the one with fewer before it comes first
+  nth_less : (k j from m n : ℕ) → j < k → IsNth content level from j m →
+      IsNth content level from k n → m < n
+  nth_less zero j from m n less h g = absurd (omega (arith, less))
+  nth_less (suc k) j from m n less h g =
+      by_case (cases_eq j k) (λ before. nth_less k j from m g.0 before h g.1)
+    where
+      by_case : (j ≡ k) ⊎ (j ≡ k → ⊥) → (j < k → m < g.0) → m < n
+      by_case (inl e) before =
+          let same = nth_one k from m g.0 (subst (λ j. IsNth content level from j m) e h) g.1 in
+          omega (arith, same, g.2.from_on)
+      by_case (inr other) before =
+          omega (arith, before (omega (arith, less, other)), g.2.from_on)
+
+  nth_from : (k from n : ℕ) → IsNth content level from k n → from ≤ n
+  nth_from zero from n h = h.from_on
+  nth_from (suc k) from n h = omega (arith, nth_from k from h.0 h.1, h.2.from_on)
+
+  -- so that where it is sought behind fewer, only a read can have failed
+  pub only_read : (k j from behind : ℕ) → j ≤ k → IsBehind content level from j behind →
+      {fault : RootFault} →
+      NoneBetween content level behind (length (chunks_of content)) ⊎ OnlyRead fault → (n : ℕ) →
+      IsNth content level from k n → OnlyRead fault
+  only_read k j from behind few here (inr only) n h = only
+  only_read k j from behind few here (inl none) n h = absurd (there k h)
+    where
+      after : (j : ℕ) → j ≤ k → IsBehind content level from j behind → behind ≤ n
+      after zero few here = omega (arith, nth_from k from n h, here)
+      after (suc j) few here = omega (arith, nth_less k j from here.0 n few here.1 h, here.2)
+
+      there : (k : ℕ) → IsNth content level from k n → ⊥
+      there zero h = none n (after j few here) h.within h.is
+      there (suc k) h = none n (after j few here) h.2.within h.2.is
+
+-- ---- the tops of trees
+
+-- the chunks of trees in the order of the file
+abbrev pub chunks_of_trees : Content → (level : ℕ) → List (Tree level) → List (List ℕ)
+chunks_of_trees content level ts =
+    map (λ c. c.bytes) (flat_map (post_order content.version level) ts)
+
+all_at : (version : Version) (level : ℕ) (cs : List (List ℕ)) (i : ℕ) →
+    AllByRecursion (IsLower version level) cs →
+    i < length cs → level_of (get_or cs i []) < level
+all_at version level [] i all within = absurd (omega (arith, within))
+all_at version level (c ∷ cs) zero all within = all.0
+all_at version level (c ∷ cs) (suc i) all within =
+    all_at version level cs i all.1 (omega (arith, within))
+
+module _ (content : Content) (level : ℕ) where
+  abbrev trees : List (Tree level) → List (List ℕ)
+  trees ts = chunks_of_trees content level ts
+
+  abbrev tree : Tree level → List (List ℕ)
+  tree t = chunks_of_tree content.version level t
+
+  abbrev under : Tree level → List (List ℕ)
+  under t = chunks_below content.version level t
+
+  trees_cons : (t : Tree level) (ts : List (Tree level)) → trees (t ∷ ts) ≡ tree t ++ trees ts
+  trees_cons t ts = map-append (λ c. c.bytes) (post_order content.version level t)
+      (flat_map (post_order content.version level) ts)
+
+  tree_length : (t : Tree level) → length (tree t) ≡ length (under t) + 1
+  tree_length t = ap length (top_last content.version level t) ∙
+      length-append (under t) (bytes_of content.version level t ∷ [])
+
+  -- a chunk of a part of the file
+  pub part_at : (before part left : List (List ℕ)) → chunks_of content ≡ before ++ (part ++ left) →
+      (i : ℕ) → i < length part → nth_chunk content (length before + i) ≡ get_or part i []
+  part_at before part left are i within =
+      sym (get_or-drop (length before) (chunks_of content) i []) ∙
+      ap (λ cs. get_or cs i []) (ap (drop (length before)) are ∙
+      drop-append_seam before (part ++ left)) ∙ get_or_append_left part left [] i within
+
+  -- the first of the level is the top
+  top_first : (t : Tree level) (before left : List (List ℕ)) →
+      chunks_of content ≡ before ++ (tree t ++ left) →
+      IsFirst content level (length before) (length before + length (under t))
+  top_first t before left are = record {
+    from_on = omega arith;
+    within = omega (
+      arith,
+      ap length are,
+      length-append before (tree t ++ left),
+      length-append (tree t) left,
+      tree_length t,
+    );
+    is = ap level_of (part_at before (tree t) left are (length (under t))
+        (omega (arith, tree_length t)) ∙
+        ap (λ cs. get_or cs (length (under t)) []) (top_last content.version level t) ∙
+        get_or_push (under t) (bytes_of content.version level t) [] (length (under t)) refl) ∙
+        level_is content.version level t;
+    none = λ n from_on below same.
+        let i = n - length before in
+        let e : n ≡ length before + i = omega (arith, from_on) in
+        let within : i < length (under t) = omega (arith, e, below) in
+        let low : level_of (nth_chunk content n) < level =
+        subst (λ c. level_of c < level) (sym (ap (nth_chunk content) e ∙
+        part_at before (tree t) left are i (omega (arith, within, tree_length t)) ∙
+        ap (λ cs. get_or cs i []) (top_last content.version level t) ∙
+        get_or_append_left (under t) (bytes_of content.version level t ∷ []) [] i within))
+        (all_at content.version level (under t) i (all_lower content.version level t) within) in
+        omega (arith, low, same);
+  }
+
+  -- and so on, tree by tree
+  behind_tops : (front : List (Tree level)) (before left : List (List ℕ)) (from k to n : ℕ) →
+      chunks_of content ≡ before ++ (trees front ++ left) →
+      IsBehind content level from k (length before) → to ≡ k + length front →
+      n ≡ length before + length (trees front) → IsBehind content level from to n
+  behind_tops [] before left from k to n are h count long =
+      let same : k ≡ to = omega (arith, count) in
+      let there : length before ≡ n = omega (arith, long) in
+      subst (λ k. IsBehind content level from k n) same
+      (subst (IsBehind content level from k) there h)
+  behind_tops (u ∷ front) before left from k to n are h count long =
+      behind_tops front (before ++ tree u) left from (k + 1) to n
+      (are ∙ rw (trees_cons u front) (simp append_assoc))
+      (behind_next content level from k (length before) (length before + length (under u))
+      (length (before ++ tree u)) h (top_first u before (trees front ++ left)
+      (are ∙ rw (trees_cons u front) (simp append_assoc)))
+      (omega (arith, length-append before (tree u), tree_length u))) (omega (arith, count))
+      (omega (
+        arith,
+        long,
+        length-append before (tree u),
+        ap length (trees_cons u front),
+        length-append (tree u) (trees front),
+      ))
+
+-- the tree is the one with so many before it among trees of the file whose frames begin at the
+-- number
+pub record StandsAmong (content : Content) (level : ℕ) (t : Tree level) (from k : ℕ) : Type 0 where
+  pub front : List (Tree level)
+  pub after : List (Tree level)
+  pub before : List (List ℕ)
+  pub left : List (List ℕ)
+  pub number : length front ≡ k
+  pub first : from ≡ length before
+  pub are : chunks_of content ≡
+      before ++ (chunks_of_trees content level (front ++ t ∷ after) ++ left)
+
+module _ (content : Content) (level : ℕ) (t : Tree level) (from k : ℕ)
+    (a : StandsAmong content level t from k) where
+  abbrev ahead : ℕ
+  ahead = length a.before + length (chunks_of_trees content level a.front)
+
+  parted : chunks_of content ≡ (a.before ++ chunks_of_trees content level a.front) ++
+      (chunks_of_tree content.version level t ++
+      (chunks_of_trees content level a.after ++ a.left))
+  parted = a.are ∙ rw (trees_append a.front (t ∷ a.after), trees_cons content level t a.after)
+      (simp append_assoc)
+    where
+      trees_append : (done rest : List (Tree level)) →
+          chunks_of_trees content level (done ++ rest) ≡
+          chunks_of_trees content level done ++ chunks_of_trees content level rest
+      trees_append done rest = ap (map (λ c. c.bytes))
+          (flat_map-append (post_order content.version level) done rest) ∙
+          map-append (λ c. c.bytes) (flat_map (post_order content.version level) done)
+          (flat_map (post_order content.version level) rest)
+
+  behind_there : IsBehind content level from k ahead
+  behind_there = behind_tops content level a.front a.before (chunks_of_tree content.version level t
+      ++ (chunks_of_trees content level a.after ++ a.left)) from 0 k ahead
+      (parted ∙ simp append_assoc) (sym a.first) (omega (arith, a.number)) refl
+
+  -- so its top is that one of the level
+  pub top_nth : IsNth content level from k
+      (ahead + length (chunks_below content.version level t))
+  top_nth = nth_next content level k from ahead
+      (ahead + length (chunks_below content.version level t)) behind_there
+      (subst (λ n. IsFirst content level n (n + length (chunks_below content.version level t)))
+      (length-append a.before (chunks_of_trees content level a.front))
+      (top_first content level t (a.before ++ chunks_of_trees content level a.front)
+      (chunks_of_trees content level a.after ++ a.left) parted))
+
+  pub place_found : (place : Place) → IsPlaceNth content level from k place →
+      IsPlaceOf content level t place
+  place_found place p =
+      let rest = chunks_of_trees content level a.front in
+      let more = chunks_of_trees content level a.after in
+      let long = length-append a.before rest in
+      record {
+        before = a.before ++ rest;
+        left = more ++ a.left;
+        are = parted;
+        below = p.below;
+        first = behind_one content level k from place.below.number ahead p.behind behind_there ∙
+            sym long;
+        frame = p.frame;
+        top = nth_one content level k from place.frame.number
+            (ahead + length (chunks_below content.version level t)) p.nth top_nth ∙
+            ap (λ n. n + length (chunks_below content.version level t)) (sym long);
+      }
 
 -- ---- the bytes of a chunk
 
@@ -41,14 +286,6 @@ chunk_there bytes content f frame is count buf long gives =
     append_assoc chunk (flat_map framed left) (ending bytes content f n) in
     gives ∙ ap (take (length buf)) there ∙ ap (λ n. take n (chunk ++ more)) long ∙
     take-append_seam chunk more
-
--- so that as many were read as there is room for
-pub all_read : (count : ℕ) (buf chunk : List ℕ) → take count buf ≡ chunk →
-    length buf ≡ length chunk → count < length buf → ⊥
-all_read count buf chunk e long few =
-    let taken = length-take-le count buf (omega arith) in
-    let all = ap length e in
-    omega arith
 
 -- and nothing stands behind them
 pub read_whole : (count len : ℕ) (buf chunk more : List ℕ) → take count buf ≡ chunk →

@@ -28,7 +28,7 @@ use Rattle.prolly_tree.specs.Tree.{Tree, bytes_of, tree_of}
 use Rattle.prolly_file.specs.Device.{DeviceView}
 use Rattle.prolly_root.specs.Walk.{GoesOver, HoldsFile, IsFrame, IsStartOf, IsWalk}
 use Rattle.prolly_root.specs.Walk.{NoneBetween, StaysSame, chunks_below, chunks_of_tree}
-use Rattle.prolly_root.specs.Walk.{offset_of, size_of}
+use Rattle.prolly_root.specs.Walk.{offset_of}
 use Rattle.prolly_root.specs.declared.root_fault.RootFault.{RootFault}
 use Rattle.prolly_root.specs.declared.file.walk.Frame.{Frame}
 use Rattle.prolly_root.specs.declared.file.walk.Walk.{Walk}
@@ -84,16 +84,14 @@ top_up_to : (version : Version) (level : ℕ) (t : Tree level) →
 top_up_to version zero t = record { some = omega arith; up_to = omega arith }
 top_up_to version (suc level) t = record { some = omega arith; up_to = omega arith }
 
+all_weaker : (P Q : List ℕ → Type 0) → ((c : List ℕ) → P c → Q c) → (cs : List (List ℕ)) →
+    AllByRecursion P cs → AllByRecursion Q cs
+all_weaker P Q f [] h = tt
+all_weaker P Q f (c ∷ cs) h = (f c h.0, all_weaker P Q f cs h.1)
+
 module _ (version : Version) where
   abbrev AllUpTo : ℕ → List Chunk → Type 0
   AllUpTo level cs = AllByRecursion (StandsUpTo level) (bytes_in cs)
-
-  higher : (level : ℕ) (cs : List (List ℕ)) → AllByRecursion (StandsUpTo level) cs →
-      AllByRecursion (StandsUpTo (suc level)) cs
-  higher level [] h = tt
-  higher level (c ∷ cs) h =
-      let up = h.0.up_to in
-      (record { some = h.0.some; up_to = omega arith }, higher level cs h.1)
 
   all_trees : (level : ℕ) →
       ((t : Tree level) → AllUpTo level (post_order version level t)) →
@@ -113,22 +111,20 @@ module _ (version : Version) where
       subst (AllByRecursion (StandsUpTo (suc level)))
       (sym (map-append (λ c. c.bytes) below (chunk_of version (suc level) ts ∷ [])))
       (all_append (StandsUpTo (suc level)) (bytes_in below) (bytes_of version (suc level) ts ∷ [])
-      (higher level (bytes_in below) (all_trees level (tree_up_to level) ts))
+      (all_weaker (StandsUpTo level) (StandsUpTo (suc level))
+      (λ c h. record { some = h.some; up_to = omega (arith, h.up_to) }) (bytes_in below)
+      (all_trees level (tree_up_to level) ts))
       (top_up_to version (suc level) ts, tt))
 
   -- the chunks below the top stand lower
   abbrev pub IsLower : ℕ → List ℕ → Type 0
   IsLower level chunk = level_of chunk < level
 
-  lower : (level : ℕ) (cs : List (List ℕ)) → AllByRecursion (StandsUpTo level) cs →
-      AllByRecursion (IsLower (suc level)) cs
-  lower level [] h = tt
-  lower level (c ∷ cs) h = let up = h.0.up_to in (omega arith, lower level cs h.1)
-
   pub all_lower : (level : ℕ) (t : Tree level) →
       AllByRecursion (IsLower level) (chunks_below version level t)
   all_lower zero t = tt
-  all_lower (suc level) ts = lower level (bytes_in (flat_map (post_order version level) ts))
+  all_lower (suc level) ts = all_weaker (StandsUpTo level) (IsLower (suc level))
+      (λ c h. omega (arith, h.up_to)) (bytes_in (flat_map (post_order version level) ts))
       (all_trees level (tree_up_to level) ts)
 
 -- ---- the bytes of a file
@@ -179,15 +175,10 @@ module _ (bytes : List ℕ) (content : Content) (f : IsFileOf bytes content) (n 
   all_some : AllByRecursion (λ c. 0 < length c) (drop n cs)
   all_some = all_back (λ c. 0 < length c) (take n cs) (drop n cs)
       (subst (AllByRecursion (λ c. 0 < length c)) (sym (take-append-drop n cs))
-      (each_some (tree_of (sha512_cut content.bits) content.version content.pairs).level cs
-      (tree_up_to content.version
+      (all_weaker (StandsUpTo (tree_of (sha512_cut content.bits) content.version
+      content.pairs).level) (λ c. 0 < length c) (λ c h. h.some) cs (tree_up_to content.version
       (tree_of (sha512_cut content.bits) content.version content.pairs).level
       (tree_of (sha512_cut content.bits) content.version content.pairs).tree)))
-    where
-      each_some : (level : ℕ) (cs : List (List ℕ)) → AllByRecursion (StandsUpTo level) cs →
-          AllByRecursion (λ c. 0 < length c) cs
-      each_some level [] h = tt
-      each_some level (c ∷ cs) h = (h.0.some, each_some level cs h.1)
 
   -- what is told of bytes is told of the first ten from there on
   module _ (bytes_read : List ℕ) (result : Result FrameStart RootFault)
@@ -286,9 +277,6 @@ module _ (bytes : List ℕ) (content : Content) (f : IsFileOf bytes content) (wa
       drop-append_seam (front bytes content f n) (behind bytes content f n) in
       is_start bytes content f n bytes_read result (read ∙ ap (take 10) there) ends begins short
 
-  of_size : length bytes ≡ size_of content
-  of_size = ap length f.is
-
   -- the frame of a chunk that begins there fits
   pub fits : (len level : ℕ) → IsStartOf left (Ok (ChunkStart len level)) →
       (0 < len) × (walk.offset + 9 + len ≤ walk.size)
@@ -301,9 +289,10 @@ module _ (bytes : List ℕ) (content : Content) (f : IsFileOf bytes content) (wa
       by_what_is_left (c ∷ rest) e some is =
           let long = how_long bytes content f walk.number in
           let same = ap (λ cs. length (flat_map framed cs)) e in
-          let all = length-append (framed c) (flat_map framed rest) in (
+          let all = length-append (framed c) (flat_map framed rest) in
+          let size = ap length f.is in (
             omega (arith, some.0, is.0),
-            omega (arith, long, same, all, framed_length c, is.0, at.offset, at.whole, of_size),
+            omega (arith, long, same, all, framed_length c, is.0, at.offset, at.whole, size),
           )
 
   -- the end record that begins there is the end
@@ -317,7 +306,7 @@ module _ (bytes : List ℕ) (content : Content) (f : IsFileOf bytes content) (wa
       by_what_is_left [] e is =
           let long = how_long bytes content f walk.number in
           let same = ap (λ cs. length (flat_map framed cs)) e in
-          omega (arith, long, same, at.offset, at.whole, of_size)
+          omega (arith, long, same, at.offset, at.whole, ap length f.is)
       by_what_is_left (c ∷ rest) e is = absurd is
 
   -- its number has one above it

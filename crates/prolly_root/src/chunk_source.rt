@@ -2,7 +2,8 @@
 ghost use Rattle.std.specs.Prelude.{◌≡◌, ◌-◌, ℕ, suc, List};
 ghost use Rattle.prolly_check.specs.Content.{Content};
 ghost use Rattle.prolly_root.specs.RootFault.{IsOrFails, MayFail, OnlyRead};
-ghost use Rattle.prolly_root.specs.ChunkSource.{HasAsked, IsChildAt, IsLawful, root_level, root_tree};
+ghost use Rattle.prolly_root.specs.ChunkSource.{HasAsked, IsChildAt, IsLawful, root_level};
+ghost use Rattle.prolly_root.specs.ChunkSource.{root_tree};
 ghost use Rattle.prolly_tree.specs.Tree.{Tree, bytes_of};
 
 use crate::root_fault::RootFault;
@@ -13,9 +14,9 @@ use std::alloc::Global;
 /// [`FileChunks`](crate::FileChunks).
 ///
 /// Nothing that a source gives is believed. Who asks compares each chunk with the reference in the
-/// one above it, and the first with the root. So whatever a source gives, what is answered is right.
-/// What the contracts say here is for one thing alone: that the tree of a source that has it is
-/// never refused.
+/// one above it, and the first with the root. So whatever a source gives, what is answered is
+/// right. What the contracts say here is for one thing alone: that the tree of a source that has it
+/// is never refused.
 pub trait ChunkSource {
     /// Where a chunk stands, and what was found below it so far.
     type Place: Copy + Drop;

@@ -1,5 +1,5 @@
 //! Places that are remembered while the root is sought, and from which look-ups set out.
-ghost use Rattle.std.specs.Prelude.{◌≡◌, ◌≤◌, ◌+◌, ◌<◌, ◌^◌, ℕ, IfSome, true};
+ghost use Rattle.std.specs.Prelude.{◌≡◌, ◌≤◌, ◌+◌, ◌<◌, IfSome, true};
 ghost use Rattle.prolly_check.specs.Content.{Content};
 ghost use Rattle.prolly_root.specs.Marks.{AreMarks, AreRuns, IsMark};
 ghost use Rattle.prolly_root.specs.Walk.{IsBehind, IsFrame, IsWalk};

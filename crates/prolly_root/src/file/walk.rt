@@ -97,8 +97,8 @@ impl Walk {
         }
     }
 
-    /// The last frame of the file, where this place is before the first one, and the places that are
-    /// remembered on the way to it.
+    /// The last frame of the file, where this place is before the first one, and the places that
+    /// are remembered on the way to it.
     pub(crate) fn last<D: Device>(mut self, device: &mut D) -> Result<(Frame, Marks), RootFault>
         ensures read { HasRead (D.seen device.old) (D.seen device.new) result }
         ensures last { (content : Content) → HoldsFile (D.seen device.old) content →

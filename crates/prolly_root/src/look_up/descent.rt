@@ -1,11 +1,12 @@
 //! Going down by the root, from each chunk to the one that it refers to.
-ghost use Rattle.std.specs.Prelude.{◌≡◌, [], ◌∷◌, ◌++◌, List, ℕ, IfOk, OnOk};
+ghost use Rattle.std.specs.Prelude.{◌≡◌, [], ◌∷◌, ◌++◌, List, IfOk, OnOk};
 ghost use Rattle.std.specs.List.{AllByRecursion};
 ghost use Rattle.prolly_check.specs.Content.{Content};
 ghost use Rattle.prolly_check.specs.Held.{pairs_held};
 ghost use Rattle.prolly_check.specs.Sought.{sought_of};
 ghost use Rattle.prolly_root.specs.ChunkSource.{HasAsked};
-ghost use Rattle.prolly_root.specs.Descent.{IsDescent, IsTested, LastTested, StandsAt, StandsInPlace};
+ghost use Rattle.prolly_root.specs.Descent.{IsDescent, IsTested, LastTested, StandsAt};
+ghost use Rattle.prolly_root.specs.Descent.{StandsInPlace};
 ghost use Rattle.prolly_root.specs.RootFault.{IsOrFails, MayFail};
 ghost use Rattle.prolly_root.specs.declared.look_up.chunk_on_way.ChunkOnWay.{ChunkOnWay as Chunk};
 

@@ -80,7 +80,8 @@ impl<T: Copy + Drop> Reader<T> {
         version: Version,
         root: &Ref,
     ) -> Result<Reader<T>, RootFault>
-        ensures of { IfOk result (λ reader. (reader.version ≡ version) × (reader.root ≡ root.now.0)) }
+        ensures of { IfOk result (λ reader.
+            (reader.version ≡ version) × (reader.root ≡ root.now.0)) }
         ensures kept { (content : Content) → S.has source.old content →
             version ≡ content.version →
             root.now.0 ≡ root_reference (sha512_cut content.bits) content.version content.pairs →
@@ -129,8 +130,8 @@ impl<T: Copy + Drop> Reader<T> {
         Ok(value)
     }
 
-    /// The pair of this number, counted from 0 in the order of keys, that the tree with the reader's
-    /// root has, or none. Only chunks of version Two have the counts that this goes by.
+    /// The pair of this number, counted from 0 in the order of keys, that the tree with the
+    /// reader's root has, or none. Only chunks of version Two have the counts that this goes by.
     pub fn nth<S: ChunkSource<Place = T>>(
         &mut self,
         alloc: Global,

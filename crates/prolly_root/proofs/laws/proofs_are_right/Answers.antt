@@ -3,7 +3,7 @@ use Rattle.prolly_check.specs.Judged.{chunk_bytes}
 use Rattle.prolly_check.specs.Way.{Clash}
 use Rattle.prolly_tree.specs.LookUp.{find}
 use Rattle.prolly_root.specs.ProofFile.{ShowsClash}
-use Rattle.prolly_root.proofs.Exclusion.{proofs_say_one}
+use Rattle.prolly_root.proofs.Passing.{proofs_say_one}
 use Rattle.prolly_root.proofs.laws.proofs_are_right.Goals as goal
 
 pub returns-clause-right : goal.returns-clause-right

@@ -1,6 +1,7 @@
 use Rattle.std.proofs.Common.{◌≡◌, length, ap, arith}
+use Rattle.std.proofs.lemmas.List.{length-take-le}
 use Rattle.prolly_check.specs.FileWays.{nth_chunk}
-use Rattle.prolly_root.proofs.Subtrees.{all_read, chunk_there, read_whole}
+use Rattle.prolly_root.proofs.Subtrees.{chunk_there, read_whole}
 use Rattle.prolly_root.proofs.file.file_chunks.read_chunk.Goals as goal
 
 pub returns-then-count-len-clause-is : goal.returns-then-count-len-clause-is
@@ -10,9 +11,10 @@ returns-then-count-len-clause-is g c content holds of =
     let value = ap length c.deref_mut.ensures.value in
     let len = c.in_ok-chunk.ensures.len in
     let long : length buf ≡ length chunk = omega (arith, of.len) in
-    absurd (all_read c.in_ok-count.count buf chunk
-    (chunk_there (g.D.Device.seen c.args.device.now).bytes content holds.is c.args.frame.now of
-    c.in_ok-count.count buf long (c.in_ok-count.ensures.bytes holds.honest)) long (omega arith))
+    let read = chunk_there (g.D.Device.seen c.args.device.now).bytes content holds.is
+    c.args.frame.now of c.in_ok-count.count buf long (c.in_ok-count.ensures.bytes holds.honest) in
+    let taken = length-take-le c.in_ok-count.count buf (omega arith) in
+    absurd (omega (arith, ap length read))
 
 pub returns-clause-is : goal.returns-clause-is
 returns-clause-is g c content holds of =

@@ -7,18 +7,14 @@ use Rattle.prolly_entry.specs.lemmas.Lists.{all_append}
 use Rattle.prolly_root.specs.Descent.{IsOnward, IsTested, StandsInPlace, StepsDown, chunks_in}
 use Rattle.prolly_root.specs.RootFault.{TellsFailure}
 use Rattle.prolly_root.specs.declared.root_fault.RootFault.TheVariants.{Memory}
-use Rattle.prolly_root.proofs.Descending.{Descended, less_room, next_kept, none_passed}
-use Rattle.prolly_root.proofs.Descending.{one_more, one_passed, way_ends}
-use Rattle.prolly_root.proofs.Faults.{asked_on, handed_on}
+use Rattle.prolly_root.proofs.Descending.{Descended, asked_on, handed_on, less_room, next_kept}
+use Rattle.prolly_root.proofs.Descending.{none_passed, one_more, one_passed, way_ends}
 use Rattle.prolly_root.proofs.look_up.descent.go_down.Goals as goal
 
 pub chunk_at-requires : goal.chunk_at-requires
 chunk_at-requires g c = (next_kept (IsTested c.args.version) (into_iter_items c.loop-levels.kept)
     (into_iter_items c.next.new.self) c.next.result c.next.ensures.items
     c.loop-levels.invariant.kept).0
-
-pub step-requires : goal.step-requires
-step-requires g c = c.in_ok-chunk.ensures.is.is
 
 pub returns-in_err-chunk : goal.returns-in_err-chunk
 returns-in_err-chunk g c =
@@ -105,9 +101,10 @@ returns-in-End-clause-lawful g c content has same top keeps =
     let on = before.lawful content has same top keeps in
     let next = next_kept P (into_iter_items c.loop-levels.kept) (into_iter_items c.next.new.self)
     c.next.result c.next.ensures.items on.left in
-    let kept = c.in_ok-chunk.ensures.lawful content (before.asked.0 content has) same next.0 on.at in
+    let had = before.asked.0 content has in
+    let kept = c.in_ok-chunk.ensures.lawful content had same next.0 on.at in
     let later = c.in_ok-onward.ensures.lawful content
-    (c.in_ok-chunk.ensures.asked.0 content (before.asked.0 content has)) same kept in
+    (c.in_ok-chunk.ensures.asked.0 content had) same kept in
     subst (AllByRecursion P) (sym c.in_ok-keep.ensures)
     (all_append P c.loop-levels.levels.items (c.step.new.self ∷ []) on.met (later.0, tt))
 
@@ -124,8 +121,9 @@ loop-levels-preserved g c =
     let more = c.in_ok-keep.ensures in
     let on = subst (IsOnward version (sought_of due.sought) chunk.chunk.items) c.in-Below.is
     stepped.is in record {
-      way = subst (λ chunks. Descended version root (sought_of c.args.sought) chunks c.in-Below.next)
-          (ap (λ chunk. chunks_in above ++ chunk.items ∷ []) (sym stepped.stays.1) ∙
+      way = subst
+          (λ chunks. Descended version root (sought_of c.args.sought) chunks c.in-Below.next) (ap
+          (λ chunk. chunks_in above ++ chunk.items ∷ []) (sym stepped.stays.1) ∙
           sym (one_more above c.keep.new.levels.items c.step.new.self more))
           (one_passed version root (sought_of c.args.sought) (chunks_in above) due before.way
           chunk.chunk.items

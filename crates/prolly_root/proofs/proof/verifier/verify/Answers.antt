@@ -1,7 +1,7 @@
 use Rattle.std.proofs.Common.{rules, subst, sym}
 use Rattle.std.specs.Prelude.{IfErr}
 use Rattle.prolly_root.specs.ProofFault.{IsFault}
-use Rattle.prolly_root.proofs.Exclusion.{refused}
+use Rattle.prolly_root.proofs.Passing.{refused}
 use Rattle.prolly_root.proofs.proof.verifier.verify.Goals as goal
 
 pub returns-in_err-chunks-clause-refused : goal.returns-in_err-chunks-clause-refused

@@ -1,9 +1,8 @@
 use Rattle.std.proofs.Common.{subst, rules}
 use Rattle.prolly_root.specs.Subtree.{KeepsLastChild}
 use Rattle.prolly_root.specs.RootFault.{OnlyRead}
-use Rattle.prolly_root.proofs.Keeping.{place_found, top_nth}
+use Rattle.prolly_root.proofs.Subtrees.{child_among, place_found, top_nth}
 use Rattle.prolly_root.proofs.LawfulSteps.{one_less}
-use Rattle.prolly_root.proofs.Subtrees.{child_among}
 use Rattle.prolly_root.proofs.file.file_chunks.FileChunksChunkSource.child.Goals as goal
 
 pub returns-in_err-top-clause-place : goal.returns-in_err-top-clause-place

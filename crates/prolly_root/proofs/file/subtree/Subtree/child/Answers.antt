@@ -1,8 +1,8 @@
-use Rattle.std.proofs.Common.{◌≡◌, Ok, refl, subst, sym, arith}
+use Rattle.std.proofs.Common.{◌≡◌, refl, subst, sym, arith}
 use Rattle.prolly_root.specs.Subtree.{FindsNth}
 use Rattle.prolly_root.specs.Walk.{IsBehind}
-use Rattle.prolly_root.proofs.Faults.{handed_on}
-use Rattle.prolly_root.proofs.Keeping.{behind_next, nth_next, only_read}
+use Rattle.prolly_root.proofs.Descending.{handed_on}
+use Rattle.prolly_root.proofs.Subtrees.{behind_next, nth_next, only_read}
 use Rattle.prolly_root.proofs.Walking.{holds_still, reads_on}
 use Rattle.prolly_root.proofs.file.subtree.Subtree.child.Goals as goal
 
@@ -18,7 +18,8 @@ returns-in_err-next_of_level-clause-place g c content has keeps first =
     let before = c.loop-count.invariant in
     let at = before.reached content has keeps first in
     subst (FindsNth content c.args.level c.args.self.now.top.below.number c.args.number)
-    (sym (handed_on c.in_err-next_of_level.field-0.0 c.from_residual.result c.from_residual.ensures))
+    (sym (handed_on c.in_err-next_of_level.field-0.0 c.from_residual.result
+    c.from_residual.ensures))
     (only_read content c.args.level c.args.number c.loop-count.count
     c.args.self.now.top.below.number c.loop-count.walk.number before.near at.1
     (c.in_err-next_of_level.ensures.goes content
@@ -48,7 +49,8 @@ returns-in_err-frame-clause-place g c content has keeps first =
     let before = c.loop-count.invariant in
     let at = before.reached content has keeps first in
     subst (FindsNth content c.args.level c.args.self.now.top.below.number c.args.number)
-    (sym (handed_on c.in_err-frame.field-0.0 c.from_residual-in_err-frame.result c.from_residual-in_err-frame.ensures))
+    (sym (handed_on c.in_err-frame.field-0.0 c.from_residual-in_err-frame.result
+    c.from_residual-in_err-frame.ensures))
     (only_read content c.args.level c.args.number c.loop-count.count
     c.args.self.now.top.below.number c.loop-count.walk.number before.near at.1
     (c.in_err-frame.ensures.goes content

@@ -1,13 +1,14 @@
 use Rattle.std.proofs.Common.{subst}
 use Rattle.prolly_root.specs.Subtree.{KeepsLastChild}
-use Rattle.prolly_root.proofs.Keeping.{suc_behind}
+use Rattle.prolly_root.proofs.Subtrees.{suc_behind}
 use Rattle.prolly_root.proofs.file.subtree.Subtree.nearest.Goals as goal
 
 pub returns-in-Some-default-clause-reached : goal.returns-in-Some-default-clause-reached
 returns-in-Some-default-clause-reached c content marks keeps first =
     let kept = subst (KeepsLastChild content c.args.level c.args.self.now.top.below)
-    c.in-Some-default.is-0 keeps first in (
+    c.in-Some-default.is-0 keeps first in
+    let passed = c.in-Some-default.passed in (
       kept.1,
-      suc_behind content c.args.level c.args.self.now.top.below.number c.in-Some-default.passed.number
-          c.in-Some-default.passed.rest.number kept.2,
+      suc_behind content c.args.level c.args.self.now.top.below.number passed.number
+          passed.rest.number kept.2,
     )

@@ -2,7 +2,7 @@ use Rattle.std.proofs.Common.{ap, subst, sym, ◌∙◌}
 use Rattle.std.specs.List.{AllByRecursion}
 use Rattle.std.specs.Prelude.{IfOk}
 use Rattle.prolly_check.specs.Sought.{sought_of}
-use Rattle.prolly_root.specs.Descent.{IsDescent, IsTested, StandsAt, StandsInPlace}
+use Rattle.prolly_root.specs.Descent.{IsDescent, StandsAt, StandsInPlace}
 use Rattle.prolly_root.proofs.look_up.reader.Reader.descend.Goals as goal
 
 pub go_down-requires : goal.go_down-requires

@@ -4,7 +4,7 @@ use Rattle.prolly_check.specs.Sought.{sought_of}
 use Rattle.prolly_check.specs.Sought.Sought.{Number}
 use Rattle.prolly_check.specs.Way.{IsCountWay, IsWayTo, nth_sought}
 use Rattle.prolly_root.specs.Descent.{LastTested, chunks_in}
-use Rattle.prolly_root.proofs.Reading.{keeps_levels}
+use Rattle.prolly_root.proofs.Descending.{keeps_levels}
 use Rattle.prolly_root.proofs.look_up.reader.Reader.nth.Goals as goal
 
 pub pairs-requires : goal.pairs-requires
@@ -22,7 +22,8 @@ returns-clause-found g c =
     subst (λ v. (way : IsWayTo v root (Number c.args.n) chunks) →
     pair ≡ nth_sought way.there (pairs_held way.last) → IsCountWay root c.args.n chunks pair)
     (sym c.requires) (λ way is. record { way = way; pair_is = is }) found.way
-    (c.in_ok-pair.ensures ∙ c.pair_sought-found.ensures.is ∙ ap (nth_sought (sought_of descent.sought))
+    (c.in_ok-pair.ensures ∙ c.pair_sought-found.ensures.is ∙
+    ap (nth_sought (sought_of descent.sought))
     (c.pairs.ensures found.end.above found.end.last found.end.are ∙
     ap pairs_held (sym found.last)) ∙
     ap (λ s. nth_sought s (pairs_held found.way.last)) (sym found.there))

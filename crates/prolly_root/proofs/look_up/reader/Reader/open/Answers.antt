@@ -1,14 +1,5 @@
-use Rattle.std.proofs.Common.{rules, subst, sym}
-use Rattle.std.specs.List.{AllByRecursion}
-use Rattle.prolly_root.specs.Descent.{StandsInPlace}
-use Rattle.prolly_root.specs.RootFault.{OnlyRead}
 use Rattle.prolly_root.proofs.LawfulSteps.{root_stands}
 use Rattle.prolly_root.proofs.look_up.reader.Reader.open.Goals as goal
-
-pub returns-in_err-top-clause-lawful : goal.returns-in_err-top-clause-lawful
-returns-in_err-top-clause-lawful g c content has same named =
-    let only : OnlyRead c.in_err-top.field-0.0 = c.in_err-top.ensures.place content has same in
-    search rules
 
 pub returns-clause-kept : goal.returns-clause-kept
 returns-clause-kept g c content has same named = record {
@@ -16,6 +7,5 @@ returns-clause-kept g c content has same named = record {
   top = root_stands g.S.ChunkSource.is_place content c.args.root.now.0 c.in_ok-top.top
       c.tops_are_read.ensures.root (g.met.S.ChunkSource.lawful c.args.source.now content has) named
       (c.in_ok-top.ensures.place content has same);
-  levels = subst (AllByRecursion (StandsInPlace g.S.ChunkSource.is_place content))
-      (sym c.new.ensures.items) tt;
+  levels = rw c.new.ensures.items tt;
 }

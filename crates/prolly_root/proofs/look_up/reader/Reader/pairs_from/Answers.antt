@@ -2,7 +2,7 @@ use Rattle.std.proofs.Common.{ap, refl, subst, sym, take, ◌∙◌}
 use Rattle.prolly_check.specs.Held.{pairs_held}
 use Rattle.prolly_check.specs.Leaves.{pairs_from}
 use Rattle.prolly_root.specs.Descent.{LastTested}
-use Rattle.prolly_root.proofs.Reading.{keeps_levels}
+use Rattle.prolly_root.proofs.Descending.{keeps_levels}
 use Rattle.prolly_root.proofs.look_up.reader.Reader.pairs_from.Goals as goal
 
 pub pairs-requires : goal.pairs-requires
