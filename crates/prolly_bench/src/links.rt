@@ -2,7 +2,7 @@
 ghost use Rattle.std.specs.Prelude.{◌≤◌};
 
 use anyhow::{Result, bail};
-use prolly_link::{End, In, Next, Out, RunFault, batch_link, link};
+use prolly_link::{End, In, Next, Out, batch_link, link};
 use std::alloc::Global;
 use std::io::Print;
 use std::sync::Wait;

@@ -7,7 +7,7 @@ ghost use Rattle.prolly_merge.specs.PeekedInputs.{peeked_of, AllHeld, Finishes};
 
 use crate::head::Head;
 use prolly_entry::Record;
-use prolly_link::{In, RunFault, receive_rest};
+use prolly_link::{In, receive_rest};
 use std::sync::Wait;
 
 /// Receives an input to its end, unless its head is one.

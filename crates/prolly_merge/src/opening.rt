@@ -5,7 +5,7 @@ ghost use Rattle.prolly_merge.specs.PeekedInputs.{peeked_of, Opens};
 
 use crate::head::{Head, receive};
 use prolly_entry::Record;
-use prolly_link::{In, RunFault};
+use prolly_link::In;
 use std::alloc::Global;
 use std::sync::Wait;
 

@@ -6,7 +6,7 @@ ghost use Rattle.prolly_merge.specs.PeekedInputs.{Advances, Opens, Finishes};
 use crate::ending::finish;
 use crate::head::{Head, receive};
 use prolly_entry::Record;
-use prolly_link::{In, RunFault};
+use prolly_link::In;
 use std::mem;
 use std::sync::Wait;
 

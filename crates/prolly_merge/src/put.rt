@@ -3,7 +3,7 @@ ghost use Rattle.std.specs.Prelude.{◌≡◌, ◌+◌, ◌++◌, OnOk, OnErr, I
 ghost use Rattle.prolly_entry.specs.Overlay.{pairs_of_change};
 
 use prolly_entry::{Pair, Record};
-use prolly_link::{Out, RunFault};
+use prolly_link::Out;
 use std::alloc::AllocError;
 use std::sync::Wait;
 

@@ -11,7 +11,7 @@ use crate::choice::{Choice, Least, choose};
 use crate::head::{Head, receive};
 use crate::step::Step;
 use prolly_entry::{Record, key_order};
-use prolly_link::{In, RunFault};
+use prolly_link::In;
 use std::mem;
 use std::sync::Wait;
 

@@ -3,7 +3,7 @@ ghost use Rattle.std.specs.Prelude.{◌≡◌, ◌∷◌, [], ◌++◌, OnOk, On
 ghost use Rattle.std.specs.Option.{option_to_list};
 
 use prolly_chunk::ChunkEvent;
-use prolly_link::{Out, RunFault};
+use prolly_link::Out;
 use std::alloc::AllocError;
 use std::sync::Wait;
 

@@ -9,7 +9,6 @@ use crate::fault::Fault;
 use crate::line_parts::append_pair;
 use crate::name_fault::NameFault;
 use prolly_line::ParseFault;
-use prolly_link::RunFault;
 use prolly_text::{Notation, append_name};
 use std::alloc::{AllocError, Global};
 

@@ -25,7 +25,6 @@ use crate::record_form::{RecordForm, append_change};
 use prolly_check::{Missing, Tree, check};
 use prolly_diff::Differences;
 use prolly_file::{Sink, Source, write_all};
-use prolly_link::RunFault;
 use std::alloc::{AllocError, Global};
 
 /// What `diff` answers: it reads two chunk files, and writes what turns the map of the old one into

@@ -16,7 +16,6 @@ use crate::output_fault::OutputFault;
 use crate::record_form::RecordForm;
 use prolly_check::{Tree, check};
 use prolly_file::{Sink, Source, WriteFault};
-use prolly_link::RunFault;
 use std::alloc::{AllocError, Global};
 
 /// What `dump` answers: it reads a chunk file from the source, writes its pairs to the sink, as

@@ -9,7 +9,6 @@ use crate::output_fault::OutputFault;
 use crate::record_form::append_line;
 use prolly_check::{Leaves, Pairs};
 use prolly_file::{Sink, write_all};
-use prolly_link::RunFault;
 use prolly_text::Notation;
 use std::alloc::{AllocError, Global};
 

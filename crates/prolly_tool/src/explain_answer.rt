@@ -9,7 +9,6 @@ use crate::input::RECORD_LIMIT;
 use crate::line_parts::append_number;
 use crate::survey_parts::{key_in, numbers_of};
 use prolly_file::{Source, SourceFault};
-use prolly_link::RunFault;
 use prolly_load::{FlawedRecord, Survey, survey};
 use prolly_stat::append_flaw;
 use prolly_text::Notation;

@@ -4,7 +4,6 @@ ghost use Rattle.prolly_tool.specs.Input.{IsReadWhole, IsInputFault};
 
 use crate::fault::Fault;
 use prolly_file::{Source, WholeFault, read_whole};
-use prolly_link::RunFault;
 use std::alloc::Global;
 
 /// How many bytes a command reads at most.

@@ -11,7 +11,6 @@ use crate::input::input_of;
 use crate::line_form::LineForm;
 use crate::pack::pack_lines_as;
 use prolly_file::{Sink, Source, WriteFault, write_whole};
-use prolly_link::RunFault;
 use std::alloc::{AllocError, Global};
 
 /// A record file, and the number of its records.

@@ -9,7 +9,6 @@ use crate::fault::Fault;
 use crate::input::INPUT_LIMIT;
 use prolly_check::check;
 use prolly_file::{Sink, Source, WriteFault, write_whole};
-use prolly_link::RunFault;
 use prolly_root::prove;
 use std::alloc::{AllocError, Global};
 

@@ -17,7 +17,6 @@ use crate::output_fault::OutputFault;
 use crate::scan_answer::lines_of;
 use prolly_entry::{Pair, Ref, Version};
 use prolly_file::{Sink, write_all};
-use prolly_link::RunFault;
 use prolly_root::{ChunkSource, Reader};
 use prolly_text::Notation;
 use std::alloc::{AllocError, Global};

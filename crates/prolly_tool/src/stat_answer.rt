@@ -9,7 +9,6 @@ use crate::stat_form::StatForm;
 use crate::tree_stat::tree_answer;
 use prolly_check::check;
 use prolly_file::{Rejoined, Source, SourceFault, take_front};
-use prolly_link::RunFault;
 use prolly_load::survey;
 use std::alloc::{AllocError, Global};
 

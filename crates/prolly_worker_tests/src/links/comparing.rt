@@ -1,6 +1,6 @@
 //! What came out, compared with what is expected. A comparison that can show both its sides makes a
 //! large proof, so that it stands here once.
-use prolly_link::{End, Out, RunFault};
+use prolly_link::{End, Out};
 use std::fmt::Debug;
 use std::process::Abort;
 use std::sync::Wait;

@@ -2,7 +2,7 @@
 ghost use Rattle.std.specs.Prelude.{◌≤◌};
 
 use super::{CLEAN, batches_give, expect_taken, link_gives, send_all};
-use prolly_link::{BatchDrained, BatchSender, End, Next, RunFault, batch_link, link};
+use prolly_link::{BatchDrained, BatchSender, End, Next, batch_link, link};
 use std::alloc::Global;
 use std::process::Abort;
 use std::sync::Wait;
