@@ -1,7 +1,7 @@
 -- The child of a node that a look-up goes on in.
 use Rattle.std.proofs.Common.{rules, ◌≡◌, ℕ, suc, ◌+◌, ◌-◌, ◌^◌, ◌<◌, ◌≤◌, nat_lt, inl, inr, Bool}
-use Rattle.std.proofs.Common.{true, false, cond, List, [], ◌∷◌, ◌++◌, length, map, Option, Some, None}
-use Rattle.std.proofs.Common.{refl, sym, ap, ◌∙◌, subst, arith, drop, append_assoc}
+use Rattle.std.proofs.Common.{true, false, cond, List, [], ◌∷◌, ◌++◌, length, map, Option, Some}
+use Rattle.std.proofs.Common.{None, refl, sym, ap, ◌∙◌, subst, arith, drop, append_assoc}
 use Rattle.std.specs.List.{AllByRecursion, flat_map}
 use Rattle.std.specs.Ordering.{is_lt}
 use Rattle.std.specs.Prelude.{option_map}
@@ -140,7 +140,8 @@ module _ (version : Version) (level : ℕ) where
     for_key : (key : List ℕ) (b : Bool) → is_lt (key_order (greatest_key level t) key) ≡ b →
         child_sought (Key key) (read (t ∷ trees)) ≡
         cond b (child_sought (Key key) (read trees)) (Some (child, Key key))
-    for_key key b e = ap (λ b. cond b (child_sought (Key key) (read trees)) (Some (child, Key key))) e
+    for_key key b e =
+        ap (λ b. cond b (child_sought (Key key) (read trees)) (Some (child, Key key))) e
 
     for_number : (n : ℕ) (b : Bool) → nat_lt n child.count ≡ b →
         child_sought (Number n) (read (t ∷ trees)) ≡
@@ -181,8 +182,8 @@ module _ (version : Version) (level : ℕ) where
         | inr past ↦
             let over = ltb-false n count past in
             in_others t trees (Number n) (Number (n - count)) next reference (omega arith)
-            (chosen trees (Number (n - count)) next reference (rises_back own (below trees) r) full.1
-            (can.0, omega arith)
+            (chosen trees (Number (n - count)) next reference (rises_back own (below trees) r)
+            full.1 (can.0, omega arith)
             (sym (ap (option_map reference_and_sought) (for_number t trees n false past)) ∙ e))
       ]
 

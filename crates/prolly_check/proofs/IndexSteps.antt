@@ -58,7 +58,8 @@ apart (c ∷ cs) h = (
 -- one more is numbered
 pub one_numbered : (references : List Ref) (entries new : List (Ref × ℕ)) (n : ℕ) (d : Ref) →
     n < length references → length entries ≡ n →
-    ((k : ℕ) (other : Ref × ℕ) → k < n → get_or entries k other ≡ (get_or references k other.0, k)) →
+    ((k : ℕ) (other : Ref × ℕ) → k < n →
+    get_or entries k other ≡ (get_or references k other.0, k)) →
     new ≡ entries ++ (get_or references n d, n) ∷ [] →
     (length new ≡ n + 1) × ((k : ℕ) (other : Ref × ℕ) → k < n + 1 →
     get_or new k other ≡ (get_or references k other.0, k))

@@ -65,12 +65,14 @@ rising_is (p ∷ ps) h = from_rises p ps h.0 h.1
 
 -- ---- places
 
-pub nth_front : {A : Type 0} (xs ys : List A) (n : ℕ) → n < length xs → slice_get (xs ++ ys) n ≡ slice_get xs n
+pub nth_front : {A : Type 0} (xs ys : List A) (n : ℕ) → n < length xs →
+    slice_get (xs ++ ys) n ≡ slice_get xs n
 nth_front [] ys n h = absurd (omega arith)
 nth_front (x ∷ xs) ys zero h = refl
 nth_front (x ∷ xs) ys (suc n) h = search (rules, nth_front xs ys n (omega arith))
 
-pub nth_back : {A : Type 0} (xs ys : List A) (n : ℕ) → slice_get (xs ++ ys) (length xs + n) ≡ slice_get ys n
+pub nth_back : {A : Type 0} (xs ys : List A) (n : ℕ) →
+    slice_get (xs ++ ys) (length xs + n) ≡ slice_get ys n
 nth_back [] ys n = let e : 0 + n ≡ n = omega arith in rw e refl
 nth_back (x ∷ xs) ys n = search (rules, nth_back xs ys n)
 

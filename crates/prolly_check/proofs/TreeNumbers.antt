@@ -166,7 +166,8 @@ module _ (level : ℕ) (chunks : List (List ℕ)) (n : ℕ) (h : n < length chun
 
   pub size_left_out : (level_of (get_or chunks n []) ≡ level → ⊥) →
       map length (at_level level (take (n + 1) chunks)) ≡ sizes
-  size_left_out other = more_sizes false (false_from_ne_true (level_of (get_or chunks n []) == level)
+  size_left_out other = more_sizes false
+      (false_from_ne_true (level_of (get_or chunks n []) == level)
       (λ t. other ((Decides-eqb (level_of (get_or chunks n [])) level).0 t))) ∙ append-nil sizes
 
 -- ---- the places of sizes that were sorted

@@ -216,8 +216,8 @@ module _ (version : Version) (cs : List (List ℕ)) where
           | inl e ↦
               let to = goes_to there lead.2 lead.1 level t at
               (subst (λ c. LeadsOn there (kind_of version c) lead.1 lead.2) e lead.3) in
-              elim (right rising before last reference lead.1 lead.2 end to.level to.t to.named to.at
-              lead.4 named ends) [
+              elim (right rising before last reference lead.1 lead.2 end to.level to.t to.named
+              to.at lead.4 named ends) [
                 | inl tells ↦ inl tells
                 | inr clash ↦ inr (lifted chunk (before ++ last ∷ []) clash)
               ]

@@ -55,7 +55,8 @@ DifferAs chunks sent fault = (more : List (List ℕ)) →
 abbrev pub AreCompared : {A : Type 0} → List (List ℕ) → List Chunk → List Ref →
     Result A CheckFault → Type 0
 AreCompared chunks sent references result =
-    MatchResult result (λ done. AreFirst chunks references sent) (UnlessMemory (DifferAs chunks sent))
+    MatchResult result (λ done. AreFirst chunks references sent)
+    (UnlessMemory (DifferAs chunks sent))
 
 -- Whatever was sent before, of which these are the references, it is compared with this event
 -- behind it.
@@ -121,8 +122,8 @@ abbrev pub Takes : List (List ℕ) → Rebuild → Rebuild → List Pair → Res
 Takes chunks old new taken result = (bits : ℕ) (version : Version) (pairs : List Pair) →
     HasTaken bits version chunks pairs old → Took bits version chunks (pairs ++ taken) new result
 
--- All that the last level sends of the pairs that it took begins the chunks of a file, and these are
--- their references; or it differs, unless memory was refused.
+-- All that the last level sends of the pairs that it took begins the chunks of a file, and these
+-- are their references; or it differs, unless memory was refused.
 abbrev pub Ends : List (List ℕ) → Rebuild → Result (Vec Ref) CheckFault → Type 0
 Ends chunks rebuild result = (bits : ℕ) (version : Version) (pairs : List Pair) →
     HasTaken bits version chunks pairs rebuild →

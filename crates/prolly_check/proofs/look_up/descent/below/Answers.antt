@@ -20,7 +20,8 @@ step_of-requires-clause-mark c = c.first.ensures.first c.version.result c.chunk-
 
 pub returns-in_err-child-clause-named : goal.returns-in_err-child-clause-named
 returns-in_err-child-clause-named c = named_at c.args.file.now c.requires.file
-    c.args.at.number c.requires.top (subst (All IsByte) c.chunk-chunk.ensures c.step_of.ensures.bytes)
+    c.args.at.number c.requires.top
+    (subst (All IsByte) c.chunk-chunk.ensures c.step_of.ensures.bytes)
 
 pub child-requires : goal.child-requires
 child-requires c = is_there_below c.args.file.now c.requires.file c.args.at.number c.requires.top
@@ -31,7 +32,8 @@ child-requires c = is_there_below c.args.file.now c.requires.file c.args.at.numb
 
 pub returns-clause-named : goal.returns-clause-named
 returns-clause-named c = named_at c.args.file.now c.requires.file
-    c.args.at.number c.requires.top (subst (All IsByte) c.chunk-chunk.ensures c.step_of.ensures.bytes)
+    c.args.at.number c.requires.top
+    (subst (All IsByte) c.chunk-chunk.ensures c.step_of.ensures.bytes)
 
 pub returns-clause-on : goal.returns-clause-on
 returns-clause-on c = next_is c.args.file.now c.requires.file c.args.at

@@ -9,8 +9,8 @@ pub returns-in_err-reference-clause-passed : goal.returns-in_err-reference-claus
 returns-in_err-reference-clause-passed t c =
     let p = err_from_is_err_and c.from_residual.result c.from_residual.ensures.1 in
     rw (p.1, p.2, c.in-Some.is)
-    (is_refused c.args.chunks.now c.args.references.now.items _ c.in-Some.event Ref c.args.levels.now
-    c.in_err-reference.field-0.0 c.in_err-reference.ensures.expected)
+    (is_refused c.args.chunks.now c.args.references.now.items _ c.in-Some.event Ref
+    c.args.levels.now c.in_err-reference.field-0.0 c.in_err-reference.ensures.expected)
 
 pub returns-clause-passed : goal.returns-clause-passed
 returns-clause-passed t c =
