@@ -156,3 +156,11 @@ keeps_levels is_place content old new version root top levels is = record {
   top = rw (root, top) is.top;
   levels = levels;
 }
+
+-- also where it keeps nothing
+pub keeps_none : {T : Type 0} {is_place : Content → (level : ℕ) → Tree level → T → Type 0}
+    {content : Content} {old new : ReaderView T} → (new.version ≡ old.version) ×
+    (new.root ≡ old.root) × (new.top ≡ old.top) × (new.levels ≡ []) →
+    IsReaderOf is_place content old → IsReaderOf is_place content new
+keeps_none {is_place = is_place} {content = content} {old = old} {new = new} left is =
+    keeps_levels is_place content old new left.0 left.1 left.2 (rw left.3 tt) is

@@ -1,6 +1,5 @@
 -- What is wrong with bytes that are no proof: the first fault.
-use Rattle.std.specs.Prelude.{◌≡◌, ℕ, ◌⊎◌, true, List, [], ◌∷◌, ◌++◌, length, Option, Some}
-use Rattle.std.specs.Prelude.{None}
+use Rattle.std.specs.Prelude.{◌≡◌, ℕ, ◌⊎◌, true, List, [], ◌∷◌, ◌++◌, length, Option, Some, None}
 use Rattle.std.specs.List.{AllByRecursion}
 use Rattle.prolly_check.specs.Steps.{IsFlawed}
 use Rattle.prolly_check.specs.Sought.{Sought}

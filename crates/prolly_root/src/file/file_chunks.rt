@@ -27,8 +27,6 @@ pub struct FileChunks<D> {
 }
 
 impl<D: Device> FileChunks<D> {
-    ghost use Rattle.prolly_root.specs.Subtree.{HasChunksOf};
-
     /// The chunks of the file that this device holds. Nothing of it is read yet.
     pub fn new(device: D) -> FileChunks<D>
         ensures failures { ⟦<FileChunks<D> as ChunkSource>⟧.failures result ≡

@@ -1,8 +1,27 @@
-use Rattle.std.proofs.Common.{◌≡◌, length, sym, ap, ◌∙◌, subst, arith}
+use Rattle.std.proofs.Common.{◌≡◌, [], ◌∷◌, length, sym, ap, ◌∙◌, subst, arith}
+use Rattle.std.proofs.lemmas.List.{length-append}
 use Rattle.prolly_check.specs.Entries.{IsWhole}
 use Rattle.prolly_check.specs.Held.{pairs_held}
 use Rattle.prolly_root.proofs.Descending.{read_last}
 use Rattle.prolly_root.proofs.look_up.descent.Descent.pairs.Goals as goal
+
+pub overflow_sub-len : goal.overflow_sub-len
+overflow_sub-len g c = omega (
+  arith,
+  c.len.ensures,
+  c.args.self.now.levels.ok.0,
+  ap length c.requires.are,
+  length-append c.requires.above (c.requires.last ∷ []),
+)
+
+pub index-last-requires : goal.index-last-requires
+index-last-requires g c = omega (
+  arith,
+  c.len.ensures,
+  c.args.self.now.levels.ok.0,
+  ap length c.requires.are,
+  length-append c.requires.above (c.requires.last ∷ []),
+)
 
 pub pairs_of-requires : goal.pairs_of-requires
 pairs_of-requires g c =

@@ -2,7 +2,7 @@ use Rattle.std.proofs.Common.{ap, subst, sym, ◌∙◌}
 use Rattle.prolly_tree.specs.LookUp.{find}
 use Rattle.prolly_check.specs.Held.{pairs_held}
 use Rattle.prolly_root.specs.Descent.{LastTested}
-use Rattle.prolly_root.proofs.Descending.{keeps_levels}
+use Rattle.prolly_root.proofs.Descending.{keeps_levels, keeps_none}
 use Rattle.prolly_root.proofs.look_up.reader.Reader.get.Goals as goal
 
 pub pairs-requires : goal.pairs-requires
@@ -25,3 +25,9 @@ returns-clause-kept g c content has reader =
     keeps_levels g.S.ChunkSource.is_place content c.args.self.now _
     (ap (λ r. r.version) c.self.view_is ∙ left.of.0) (ap (λ r. r.root) c.self.view_is ∙ left.of.1)
     (ap (λ r. r.top) c.self.view_is ∙ left.of.2) (left.lawful content has reader) reader
+
+pub returns-in_err-descent-clause-kept : goal.returns-in_err-descent-clause-kept
+returns-in_err-descent-clause-kept g c content has = keeps_none c.in_err-descent.ensures.of
+
+pub returns-in_err-value-clause-kept : goal.returns-in_err-value-clause-kept
+returns-in_err-value-clause-kept g c content has = keeps_none c.in_ok-descent.ensures.of

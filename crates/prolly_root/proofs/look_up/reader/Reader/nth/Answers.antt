@@ -4,7 +4,7 @@ use Rattle.prolly_check.specs.Sought.{sought_of}
 use Rattle.prolly_check.specs.Sought.Sought.{Number}
 use Rattle.prolly_check.specs.Way.{IsCountWay, IsWayTo, nth_sought}
 use Rattle.prolly_root.specs.Descent.{LastTested, chunks_in}
-use Rattle.prolly_root.proofs.Descending.{keeps_levels}
+use Rattle.prolly_root.proofs.Descending.{keeps_levels, keeps_none}
 use Rattle.prolly_root.proofs.look_up.reader.Reader.nth.Goals as goal
 
 pub pairs-requires : goal.pairs-requires
@@ -34,3 +34,9 @@ returns-clause-kept g c content has reader =
     keeps_levels g.S.ChunkSource.is_place content c.args.self.now _
     (ap (λ r. r.version) c.self.view_is ∙ left.of.0) (ap (λ r. r.root) c.self.view_is ∙ left.of.1)
     (ap (λ r. r.top) c.self.view_is ∙ left.of.2) (left.lawful content has reader) reader
+
+pub returns-in_err-descent-clause-kept : goal.returns-in_err-descent-clause-kept
+returns-in_err-descent-clause-kept g c content has = keeps_none c.in_err-descent.ensures.of
+
+pub returns-in_err-pair-clause-kept : goal.returns-in_err-pair-clause-kept
+returns-in_err-pair-clause-kept g c content has = keeps_none c.in_ok-descent.ensures.of

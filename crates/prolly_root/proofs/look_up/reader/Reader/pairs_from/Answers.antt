@@ -2,7 +2,7 @@ use Rattle.std.proofs.Common.{ap, refl, subst, sym, take, ◌∙◌}
 use Rattle.prolly_check.specs.Held.{pairs_held}
 use Rattle.prolly_check.specs.Leaves.{pairs_from}
 use Rattle.prolly_root.specs.Descent.{LastTested}
-use Rattle.prolly_root.proofs.Descending.{keeps_levels}
+use Rattle.prolly_root.proofs.Descending.{keeps_levels, keeps_none}
 use Rattle.prolly_root.proofs.look_up.reader.Reader.pairs_from.Goals as goal
 
 pub pairs-requires : goal.pairs-requires
@@ -27,3 +27,9 @@ returns-clause-kept g c content has reader =
     keeps_levels g.S.ChunkSource.is_place content c.args.self.now _
     (ap (λ r. r.version) c.self.view_is ∙ left.of.0) (ap (λ r. r.root) c.self.view_is ∙ left.of.1)
     (ap (λ r. r.top) c.self.view_is ∙ left.of.2) (left.lawful content has reader) reader
+
+pub returns-in_err-descent-clause-kept : goal.returns-in_err-descent-clause-kept
+returns-in_err-descent-clause-kept g c content has = keeps_none c.in_err-descent.ensures.of
+
+pub returns-in_err-pairs-clause-kept : goal.returns-in_err-pairs-clause-kept
+returns-in_err-pairs-clause-kept g c content has = keeps_none c.in_ok-descent.ensures.of
