@@ -43,7 +43,12 @@ fn links(alloc: Global) -> Result<(Sender<u8>, Receiver<u8>), LinkFault> {
     link(alloc, 4)
 }
 
-fn through<T, O: Out<T>, I: In<T>, R: Wait>(rt: &R, mut out: O, input: &mut I, item: T) -> O::Closed {
+fn through<T, O: Out<T>, I: In<T>, R: Wait>(
+    rt: &R,
+    mut out: O,
+    input: &mut I,
+    item: T,
+) -> O::Closed {
     let end = match out.send(rt, item) {
         Ok(()) => End::Clean,
         Err(_) => End::Fault(RunFault::Memory),

@@ -66,16 +66,19 @@ fn packed(text: &[u8], out: &mut Vec<u8>) -> Result<u64, PackFault> {
 fn text_of(fault: ParseFault) -> Option<String> {
     match fault {
         ParseFault::Usage(text) | ParseFault::Help(text) => Some(text),
-        ParseFault::Memory
-        | ParseFault::BadKey
-        | ParseFault::BadRoot
-        | ParseFault::BadTextKey => None,
+        ParseFault::Memory | ParseFault::BadKey | ParseFault::BadRoot | ParseFault::BadTextKey =>
+            None,
     }
 }
 
 fn file_of(command: Command) -> Option<String> {
     match command {
-        Command::Scratch { bits: _, version: _, out, .. } => out,
+        Command::Scratch {
+            bits: _,
+            version: _,
+            out,
+            ..
+        } => out,
         Command::Build {
             bits: _,
             stages: _,
