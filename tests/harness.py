@@ -44,8 +44,8 @@ class Case:
     memory: int = None
     """How many bytes of memory the program may have."""
     unfinished: dict = None
-    """The files of which it may leave a first part, and no more, where it says that memory, or a thread, was not there.
-    Without them that is no answer."""
+    """The files of which it may leave a first part, and no more, where it says that memory was not there. Where it says
+    that of a thread, nothing is written. Without them neither is an answer."""
 
 
 def run(program, case):
@@ -55,7 +55,7 @@ def run(program, case):
         lay_out(folder, case.before)
         status, out, err = start(program, case, folder)
         if case.unfinished is not None and (status, out) == (6, b"") and err in SCARCE:
-            return part_differences(folder, case)
+            return file_differences(folder, case.before) if err == NO_THREAD else part_differences(folder, case)
         differences = []
         if status != case.status:
             differences.append(f"status {status}, wanted {case.status}")
@@ -151,10 +151,13 @@ def file_differences(folder, wanted):
 
 
 def part_differences(folder, case):
-    """How the files differ from those that were there, and from first parts of those that were begun."""
+    """How the files differ from those that were there, and from first parts of those that were begun. A new file that
+    nothing was written to is taken away again."""
     parts = {name: (folder / name).read_bytes() for name in case.unfinished if (folder / name).is_file()}
     begun = {name: part for name, part in parts.items() if case.unfinished[name].startswith(part)}
-    return file_differences(folder, {**case.before, **case.unfinished, **begun})
+    wanted = {**case.before, **case.unfinished, **begun}
+    unmade = case.unfinished.keys() - parts.keys() - case.before.keys()
+    return file_differences(folder, {name: content for name, content in wanted.items() if name not in unmade})
 
 
 def shown(content):
