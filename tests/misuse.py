@@ -17,11 +17,11 @@ SEND_AFTER_CLOSE = """        let closed = BatchSender::close(self, rt, end);
         closed
 """
 
-SENDS = """impl<T: Drop, F: Copy> BatchSender<T, F> {
+SENDS = """impl<T: Drop> BatchSender<T> {
 """
 
-SEND_BEHIND_CLOSE = """impl<T: Drop, F: Copy> BatchSender<T, F> {
-    pub fn close_and_send<R: Wait>(mut self, rt: &R, end: End<F>, item: T) {
+SEND_BEHIND_CLOSE = """impl<T: Drop> BatchSender<T> {
+    pub fn close_and_send<R: Wait>(mut self, rt: &R, end: End, item: T) {
         let _ = self.close(rt, end);
         let _ = self.send(rt, item);
     }

@@ -78,11 +78,11 @@ fn is_cut<C: Cut>(cut: &C, entry: &[u8]) -> (u8, bool) {
 #[test]
 fn entries_are_named_as_ever(rt: HostRuntime) -> Result<(), Fail> {
     let alloc = rt.alloc();
-    let Ok(put) = made(b"a".to_vec(alloc)?, b"1".to_vec(alloc)?) else {
-        unreachable!()
-    };
-    let Ok(gone) = removed(b"b".to_vec(alloc)?) else {
-        unreachable!()
+    let put = made(b"a".to_vec(alloc)?, b"1".to_vec(alloc)?);
+    let gone = removed(b"b".to_vec(alloc)?);
+    let (Ok(put), Ok(gone)) = (put, gone) else {
+        assert!(rt; false);
+        return Ok(());
     };
     assert!(rt; key_order(put.key(), gone.key()) == Ordering::Less);
     assert!(rt; put.value().is_some() && gone.value().is_none());

@@ -67,7 +67,7 @@ fn chunk_of(fault: CheckFault) -> Option<u64> {
         | CheckFault::BadChunk { chunk }
         | CheckFault::KeysOutOfOrder { chunk }
         | CheckFault::NotCanonical { chunk }
-        | CheckFault::Collision { chunk } => Some(chunk.into()),
+        | CheckFault::Collision { chunk } => Some(chunk as u64),
     }
 }
 

@@ -43,7 +43,7 @@ fn links(alloc: Global) -> Result<(Sender<u8>, Receiver<u8>), LinkFault> {
     link(alloc, 4)
 }
 
-fn through<T, O: Out<T>, I: In<T>, R: Wait>(
+fn through<T: Drop, O: Out<T>, I: In<T>, R: Wait>(
     rt: &R,
     mut out: O,
     input: &mut I,

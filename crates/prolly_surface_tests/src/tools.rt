@@ -59,8 +59,8 @@ fn line_of(fault: PackFault) -> u64 {
     }
 }
 
-fn packed(text: &[u8], out: &mut Vec<u8>) -> Result<u64, PackFault> {
-    pack_lines(text, out)
+fn packed(alloc: Global, text: &[u8], out: &mut Vec<u8>) -> Result<u64, PackFault> {
+    pack_lines(alloc, text, out)
 }
 
 fn text_of(fault: ParseFault) -> Option<String> {
@@ -71,14 +71,14 @@ fn text_of(fault: ParseFault) -> Option<String> {
     }
 }
 
-fn file_of(command: Command) -> Option<String> {
+fn number_of(command: &Command) -> u8 {
     match command {
         Command::Scratch {
             bits: _,
             version: _,
-            out,
+            out: _,
             ..
-        } => out,
+        } => 1,
         Command::Build {
             bits: _,
             stages: _,
@@ -86,21 +86,25 @@ fn file_of(command: Command) -> Option<String> {
             max_records: _,
             batch: _,
             version: _,
-            out,
+            out: _,
             files: _,
             ..
-        } => Some(out),
-        Command::Check { file }
-        | Command::Get { file, key: _, .. }
-        | Command::Scan {
-            file,
+        } => 2,
+        Command::Check { file: _ } => 3,
+        Command::Get {
+            file: _,
+            key: _,
+            ..
+        } => 4,
+        Command::Scan {
+            file: _,
             from: _,
             limit: _,
             ..
-        }
-        | Command::Nth { file, n: _, .. } => Some(file),
-        Command::Pack { out, .. } => Some(out),
-        _ => None,
+        } => 5,
+        Command::Nth { file: _, n: _, .. } => 6,
+        Command::Pack { out: _, .. } => 7,
+        _ => 0,
     }
 }
 

@@ -92,7 +92,7 @@ fn same_event(event: &ChunkEvent, key: Vec<u8>, bytes: Vec<u8>) -> ChunkEvent
     ChunkEvent::new(event.level(), key, reference, bytes, event.count())
 }
 
-fn gated<G: Gate, O, R: Wait>(rt: &R, out: O, gate: &G) -> Gated<'_, G, O> {
+fn gated<'a, G: Gate, O, R: Wait>(rt: &R, out: O, gate: &'a G) -> Gated<'a, G, O> {
     gate.before_send(rt, Worker::Loader(0), 0);
     Gated::new(out, Worker::Stage(1), gate)
 }
