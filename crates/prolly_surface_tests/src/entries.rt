@@ -1,12 +1,10 @@
 //! `prolly_entry`.
-ghost use Rattle.std.specs.Prelude.{◌≡◌, ◌≤◌, length};
-
 use prolly_entry::{
     ChildAt, Cut, EntryFault, Front, FrontRecord, KeyCut, Pair, Record, RecordFault, Ref,
     Sha512Cut, Version, append_child, append_child_as, append_pair, append_record, front_child,
     front_child_as, front_pair, front_record, key_order, records,
 };
-use std::alloc::AllocError;
+use std::alloc::{AllocError, Global};
 use std::cmp::Ordering;
 use std::test::Fail;
 
@@ -71,6 +69,23 @@ fn place_of(fault: RecordFault) -> u32 {
     }
 }
 
+fn pairs_of(alloc: Global, bytes: &[u8]) -> Result<Vec<Pair>, u32> {
+    match records(alloc, bytes, 10) {
+        Ok(pairs) => Ok(pairs),
+        Err(fault) => Err(place_of(fault)),
+    }
+}
+
+fn texts(text: &[u8]) -> Option<[u8; 32]> {
+    Some(Ref::from_text(text)?.to_text())
+}
+
+fn cuts(bits: u8, entry: &[u8]) -> Option<(u8, bool)> {
+    let (bits, _) = is_cut(&Sha512Cut::new(bits)?, entry);
+    let (_, is_boundary) = is_cut(&KeyCut, entry);
+    Some((bits, is_boundary))
+}
+
 fn is_cut<C: Cut>(cut: &C, entry: &[u8]) -> (u8, bool) {
     (cut.bits(), cut.is_boundary(entry))
 }
@@ -86,5 +101,6 @@ fn entries_are_named_as_ever(rt: HostRuntime) -> Result<(), Fail> {
     };
     assert!(rt; key_order(put.key(), gone.key()) == Ordering::Less);
     assert!(rt; put.value().is_some() && gone.value().is_none());
+    assert!(rt; Version::of(2).is_some() && Version::of(3).is_none());
     Ok(())
 }

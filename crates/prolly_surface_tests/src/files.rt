@@ -1,5 +1,5 @@
 //! `prolly_file` and `prolly_check`.
-ghost use Rattle.std.specs.Prelude.{◌≤◌};
+ghost use Rattle.std.specs.Prelude.{◌<◌};
 
 use prolly_check::{CheckFault, NoCounts, Tree, check};
 use prolly_entry::{Cut, Pair, Ref, Version};
@@ -38,6 +38,16 @@ fn begun<W: Sink>(sink: &mut W, bits: u8) -> Result<(u64, u64), WriteFault> {
     let old = FileWriter::begin(sink, bits)?;
     let new = FileWriter::begin_as(sink, Version::Two, bits)?;
     Ok((old.chunks(), new.chunks()))
+}
+
+fn framed<W: Sink>(sink: &mut W, file: &mut FileWriter) -> Result<(), WriteFault> {
+    file.chunk(sink, b"\0")
+}
+
+fn ended<W: Sink>(sink: &mut W, file: FileWriter, root: &Ref) -> Result<u64, WriteFault>
+    requires { file.chunks < 18446744073709551615 }
+{
+    file.end(sink, root)
 }
 
 fn scratched<C: Cut>(

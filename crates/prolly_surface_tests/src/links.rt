@@ -59,6 +59,26 @@ fn through<T: Drop, O: Out<T>, I: In<T>, R: Wait>(
     }
 }
 
+fn closed<R: Wait>(rt: &R, mut sender: Sender<u8>) -> ClosedSender<u8> {
+    let _ = sender.send(rt, 1);
+    sender.close(rt, End::Clean)
+}
+
+fn closed_batch<R: Wait>(rt: &R, mut sender: BatchSender<u8>) -> ClosedBatch<u8> {
+    let _ = sender.send(rt, 1);
+    sender.close(rt, End::Clean)
+}
+
+fn drained<R: Wait>(rt: &R, mut receiver: Receiver<u8>) -> Drained<u8> {
+    let _ = receiver.recv(rt);
+    receiver.drain(rt)
+}
+
+fn drained_batch<R: Wait>(rt: &R, mut receiver: BatchReceiver<u8>) -> BatchDrained<u8> {
+    let _ = receiver.recv(rt);
+    receiver.drain(rt)
+}
+
 fn ended(drained: Drained<u8>) -> Option<EndedReceiver<u8>> {
     match drained {
         Drained::Ended(receiver) => Some(receiver),

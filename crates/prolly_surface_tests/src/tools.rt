@@ -1,6 +1,4 @@
 //! `prolly_tool`.
-ghost use Rattle.std.specs.Prelude.{◌≤◌};
-
 use prolly_entry::{Ref, Version};
 use prolly_file::{Sink, Source};
 use prolly_link::RunFault;

@@ -1,6 +1,5 @@
 //! `prolly_load`, `prolly_merge` and `prolly_stage`.
-ghost use Rattle.std.specs.Prelude.{◌≡◌, ◌≤◌, vec_len};
-ghost use Rattle.prolly_entry.specs.Reference.{reference_of};
+ghost use Rattle.std.specs.Prelude.{◌≤◌, vec_len};
 
 use prolly_entry::{Cut, Pair, Record, Ref, Version};
 use prolly_file::Source;
