@@ -10,7 +10,7 @@ use crate::tools::look_up_answers::file_of_three;
 use prolly_entry::{Ref, Version};
 use prolly_file::{FromRead, ScriptSink};
 use prolly_tool::{
-    Answer, LineForm, Notation, PackFault, RecordForm, answer_check, answer_dump, answer_get,
+    Answer, LineForm, LinesFault, Notation, PackFault, RecordForm, answer_check, answer_dump, answer_get,
     answer_nth, answer_pack, answer_prove, answer_scan, answer_scratch, answer_verify,
     pack_lines_as,
 };
@@ -185,7 +185,7 @@ fn expect_packed(
             expect_bytes(rt, &out, b"kept\0\x01a\0\0\0\x011");
         }
         Err(fault) => {
-            expect_eq(rt, &fault, &PackFault::Memory);
+            expect_eq(rt, &fault, &LinesFault::Pack(PackFault::Memory));
             expect_bytes(rt, &out, b"kept");
         }
     }

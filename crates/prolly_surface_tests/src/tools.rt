@@ -52,8 +52,7 @@ fn line_of(fault: PackFault) -> u64 {
         PackFault::Memory => 0,
         PackFault::BadLine { line }
         | PackFault::KeyTooLong { line }
-        | PackFault::ValueTooLong { line }
-        | PackFault::BadText { line } => line,
+        | PackFault::ValueTooLong { line } => line,
     }
 }
 

@@ -11,9 +11,9 @@ use Rattle.prolly_text.specs.declared.notation.Notation.TheVariants.{Hex, Text}
 use Rattle.prolly_tool.specs.declared.line_form.LineForm.{LineForm}
 use Rattle.prolly_tool.specs.declared.line.LineFlaw.{LineFlaw}
 use Rattle.prolly_tool.specs.declared.line.LineFlaw.TheVariants as flaws
-use Rattle.prolly_tool.specs.declared.pack.PackFault.{PackFault}
+use Rattle.prolly_tool.specs.declared.pack_fault.LinesFault.{LinesFault}
 use Rattle.prolly_tool.specs.Lines.{lines_of}
-use Rattle.prolly_tool.specs.Pack.{StandsFor, IsWrongLine, IsFirstWrong, IsPackFault, IsLineFault}
+use Rattle.prolly_tool.specs.Pack.{StandsFor, IsWrongLine, IsFirstWrong, IsLineFault, IsLinesFault}
 use Rattle.prolly_tool.specs.Pack.{Packs, PacksLine, bad_line, fault_at}
 
 -- Some lines are packed, and the rest follows.
@@ -87,11 +87,11 @@ all_packed form text old out rest count h e =
     }
 
 pub line_refused : (form : LineForm) (text old out rest line next : List ℕ) (count : ℕ)
-    (fault : PackFault) → IsUnderWay form text old out rest count →
+    (fault : LinesFault) → IsUnderWay form text old out rest count →
     lines_of rest ≡ line ∷ lines_of next → IsLineFault form line count fault →
-    IsPackFault form text fault
+    IsLinesFault form text fault
 line_refused form text old out rest line next count fault h e k =
-    subst (IsPackFault form text) (sym k.is) (go k.flaw k.wrong)
+    subst (IsLinesFault form text) (sym k.is) (go k.flaw k.wrong)
   where
     first : (flaw : LineFlaw) → IsWrongLine form line flaw → IsFirstWrong form text count flaw
     first flaw wrong = record {
@@ -106,12 +106,12 @@ line_refused form text old out rest line next count fault h e k =
     }
 
     bad : (notation : Notation) → form.notation ≡ notation → IsWrongLine form line flaws.Bad →
-        IsPackFault form text (bad_line notation count)
+        IsLinesFault form text (bad_line notation count)
     bad Hex is wrong = (is, first flaws.Bad wrong)
     bad Text is wrong = (is, first flaws.Bad wrong)
 
     go : (flaw : LineFlaw) → IsWrongLine form line flaw →
-        IsPackFault form text (fault_at form.notation flaw count)
+        IsLinesFault form text (fault_at form.notation flaw count)
     go flaws.Memory wrong = tt
     go flaws.Bad wrong = bad form.notation refl wrong
     go flaws.KeyTooLong wrong = first flaws.KeyTooLong wrong

@@ -9,8 +9,10 @@ use Rattle.prolly_check.specs.declared.verdict.fault.CheckFault.TheVariants as c
 use Rattle.prolly_root.specs.FaultTexts.{proof_fault_text, root_fault_text}
 use Rattle.prolly_root.specs.declared.root_fault.RootFault.{RootFault}
 use Rattle.prolly_root.specs.declared.root_fault.RootFault.TheVariants as roots
-use Rattle.prolly_tool.specs.declared.pack.PackFault.{PackFault}
-use Rattle.prolly_tool.specs.declared.pack.PackFault.TheVariants as packs
+use Rattle.prolly_tool.specs.declared.pack_fault.LinesFault.{LinesFault}
+use Rattle.prolly_tool.specs.declared.pack_fault.LinesFault.TheVariants as lines
+use Rattle.prolly_tool.specs.declared.pack_fault.PackFault.{PackFault}
+use Rattle.prolly_tool.specs.declared.pack_fault.PackFault.TheVariants as packs
 use Rattle.prolly_tool.specs.declared.fault.Fault.{Fault}
 use Rattle.prolly_tool.specs.declared.fault.Fault.TheVariants.{Memory, Read, Write}
 use Rattle.prolly_tool.specs.declared.fault.Fault.TheVariants.{Run, Pack, Check, NoCounts}
@@ -42,9 +44,12 @@ abbrev pub pack_text : PackFault → List ℕ
 pack_text packs.Memory = codes "out of memory"
 pack_text (packs.BadLine line) = codes "line " ++ decimal line ++
     codes ": not a pair in hexadecimal"
-pack_text (packs.BadText line) = codes "line " ++ decimal line ++ codes ": not a pair of text"
 pack_text (packs.KeyTooLong line) = codes "line " ++ decimal line ++ codes ": key too long"
 pack_text (packs.ValueTooLong line) = codes "line " ++ decimal line ++ codes ": value too long"
+
+abbrev pub lines_text : LinesFault → List ℕ
+lines_text (lines.Pack fault) = pack_text fault
+lines_text (lines.BadText line) = codes "line " ++ decimal line ++ codes ": not a pair of text"
 
 -- What is said of one of two files, which is told first; want of memory is no file's fault.
 abbrev pub side_fault_text : List ℕ → CheckFault → List ℕ
@@ -57,7 +62,7 @@ fault_text Memory = codes "out of memory"
 fault_text Read = codes "file 0: read failed"
 fault_text Write = codes "write failed"
 fault_text (Run fault) = run_text fault
-fault_text (Pack fault) = pack_text fault
+fault_text (Pack fault) = lines_text fault
 fault_text (Check fault) = check_fault_text fault
 fault_text (CheckOld fault) = side_fault_text (codes "old ") fault
 fault_text (CheckNew fault) = side_fault_text (codes "new ") fault
@@ -120,11 +125,11 @@ fault_status Memory = 6
 fault_status Read = 5
 fault_status Write = 5
 fault_status (Run fault) = run_status fault
-fault_status (Pack packs.Memory) = 6
-fault_status (Pack (packs.BadLine line)) = 3
-fault_status (Pack (packs.BadText line)) = 3
-fault_status (Pack (packs.KeyTooLong line)) = 3
-fault_status (Pack (packs.ValueTooLong line)) = 3
+fault_status (Pack (lines.Pack packs.Memory)) = 6
+fault_status (Pack (lines.Pack (packs.BadLine line))) = 3
+fault_status (Pack (lines.BadText line)) = 3
+fault_status (Pack (lines.Pack (packs.KeyTooLong line))) = 3
+fault_status (Pack (lines.Pack (packs.ValueTooLong line))) = 3
 fault_status (Check fault) = check_status fault
 fault_status (CheckOld fault) = check_status fault
 fault_status (CheckNew fault) = check_status fault

@@ -10,9 +10,11 @@ use Rattle.prolly_entry.specs.declared.pair.EntryFault.{EntryFault}
 use Rattle.prolly_entry.specs.declared.pair.EntryFault.TheVariants as entries
 use Rattle.prolly_entry.specs.Record.{Record, IsRecord}
 use Rattle.prolly_entry.specs.Spelling.{record_spelling}
-use Rattle.prolly_tool.specs.declared.pack.PackFault.{PackFault}
-use Rattle.prolly_tool.specs.declared.pack.PackFault.TheVariants.{Memory, BadLine, BadText}
-use Rattle.prolly_tool.specs.declared.pack.PackFault.TheVariants.{KeyTooLong, ValueTooLong}
+use Rattle.prolly_tool.specs.declared.pack_fault.LinesFault.{LinesFault}
+use Rattle.prolly_tool.specs.declared.pack_fault.LinesFault.TheVariants as lines
+use Rattle.prolly_tool.specs.declared.pack_fault.PackFault.{PackFault}
+use Rattle.prolly_tool.specs.declared.pack_fault.PackFault.TheVariants.{Memory, BadLine}
+use Rattle.prolly_tool.specs.declared.pack_fault.PackFault.TheVariants.{KeyTooLong, ValueTooLong}
 use Rattle.prolly_text.specs.Notations.{IsWritten}
 use Rattle.prolly_text.specs.declared.notation.Notation.{Notation}
 use Rattle.prolly_text.specs.declared.notation.Notation.TheVariants.{Hex, Text}
@@ -98,22 +100,26 @@ abbrev pub IsPackFault : LineForm → List ℕ → PackFault → Type 0
 IsPackFault form text Memory = Unit {0}
 IsPackFault form text (BadLine line) =
     (form.notation ≡ Hex) × IsFirstWrong form text line flaws.Bad
-IsPackFault form text (BadText line) =
-    (form.notation ≡ Text) × IsFirstWrong form text line flaws.Bad
 IsPackFault form text (KeyTooLong line) = IsFirstWrong form text line flaws.KeyTooLong
 IsPackFault form text (ValueTooLong line) = IsFirstWrong form text line flaws.ValueTooLong
 
+-- The same of lines in any form.
+abbrev pub IsLinesFault : LineForm → List ℕ → LinesFault → Type 0
+IsLinesFault form text (lines.Pack fault) = IsPackFault form text fault
+IsLinesFault form text (lines.BadText line) =
+    (form.notation ≡ Text) × IsFirstWrong form text line flaws.Bad
+
 -- A bad line, in this notation.
-abbrev pub bad_line : Notation → ℕ → PackFault
-bad_line Hex line = BadLine line
-bad_line Text line = BadText line
+abbrev pub bad_line : Notation → ℕ → LinesFault
+bad_line Hex line = lines.Pack (BadLine line)
+bad_line Text line = lines.BadText line
 
 -- A flaw at a line.
-abbrev pub fault_at : Notation → LineFlaw → ℕ → PackFault
-fault_at notation flaws.Memory line = Memory
+abbrev pub fault_at : Notation → LineFlaw → ℕ → LinesFault
+fault_at notation flaws.Memory line = lines.Pack Memory
 fault_at notation flaws.Bad line = bad_line notation line
-fault_at notation flaws.KeyTooLong line = KeyTooLong line
-fault_at notation flaws.ValueTooLong line = ValueTooLong line
+fault_at notation flaws.KeyTooLong line = lines.Pack (KeyTooLong line)
+fault_at notation flaws.ValueTooLong line = lines.Pack (ValueTooLong line)
 
 -- The line stands for a record, and its spelling is appended.
 pub record PacksLine (form : LineForm) (line old new : List ℕ) : Type 0 where
@@ -122,7 +128,7 @@ pub record PacksLine (form : LineForm) (line old new : List ℕ) : Type 0 where
   pub appended : new ≡ old ++ record_spelling one
 
 -- What is wrong with the line, with its number.
-pub record IsLineFault (form : LineForm) (line : List ℕ) (number : ℕ) (fault : PackFault)
+pub record IsLineFault (form : LineForm) (line : List ℕ) (number : ℕ) (fault : LinesFault)
     : Type 0 where
   pub flaw : LineFlaw
   pub wrong : IsWrongLine form line flaw
@@ -166,7 +172,7 @@ pub record PacksTo (form : LineForm) (text : List ℕ) (has_failed : Type 0) (fi
 -- The text is not packed: it can't be read, or it was read whole and one of its lines is at fault.
 abbrev pub IsPackingFault : LineForm → List ℕ → Type 0 → Fault → Type 0
 IsPackingFault form text has_failed (Pack fault) =
-    IsReadWhole text has_failed × IsPackFault form text fault
+    IsReadWhole text has_failed × IsLinesFault form text fault
 IsPackingFault form text has_failed fault = IsInputFault text has_failed fault
 
 -- What `pack` answers to an honest source, of what that has left, and what it does to its sink.

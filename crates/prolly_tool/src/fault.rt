@@ -4,7 +4,7 @@ ghost use Rattle.prolly_tool.specs.Faults.{fault_text, check_status, root_status
 ghost use Rattle.prolly_tool.specs.Faults.{fault_status};
 
 use crate::fault_texts::{RunText, SideText};
-use crate::pack::PackFault;
+use crate::pack_fault::{LinesFault, PackFault};
 use prolly_check::CheckFault;
 use prolly_file::SinkFault;
 use prolly_link::RunFault;
@@ -26,7 +26,7 @@ pub enum Fault {
     /// A run over record files has no answer. One record file from standard input is file 0.
     Run(RunFault),
     /// A text is not packed.
-    Pack(PackFault),
+    Pack(LinesFault),
     /// A file is no lawful chunk file.
     Check(CheckFault),
     /// The old file of two is no lawful chunk file.
@@ -59,7 +59,7 @@ impl Fault {
         ensures { result ≡ fault_status self }
     {
         match self {
-            Fault::Memory | Fault::Pack(PackFault::Memory) => 6,
+            Fault::Memory | Fault::Pack(LinesFault::Pack(PackFault::Memory)) => 6,
             Fault::Run(fault) => run_status(fault),
             Fault::Pack(_) => 3,
             Fault::Check(fault) | Fault::CheckOld(fault) | Fault::CheckNew(fault) => {
@@ -93,12 +93,12 @@ impl From<SinkFault> for Fault {
     }
 }
 
-impl From<PackFault> for Fault {
+impl From<LinesFault> for Fault {
     ghost use Rattle.prolly_tool.specs.declared.fault.Fault.TheVariants.{Pack};
 
     ghost from_gives = { λ pack fault. fault ≡ Pack pack };
 
-    fn from(pack: PackFault) -> Self {
+    fn from(pack: LinesFault) -> Self {
         Fault::Pack(pack)
     }
 }

@@ -1,7 +1,7 @@
 //! Lines of text, as they are packed.
 use crate::expect::{expect_bytes, expect_eq};
 use prolly_test_parts::joined;
-use prolly_tool::{LineForm, Notation, PackFault, pack_lines, pack_lines_as};
+use prolly_tool::{LineForm, LinesFault, Notation, PackFault, pack_lines, pack_lines_as};
 use std::alloc::Global;
 use std::process::Abort;
 use std::test::Fail;
@@ -110,7 +110,7 @@ fn expect_text_packed(
     rt: &impl Abort,
     alloc: Global,
     (text, removals): (&[u8], bool),
-    packed: Result<u64, PackFault>,
+    packed: Result<u64, LinesFault>,
     records: &[u8],
 ) -> Result<(), Fail> {
     let form = LineForm {
@@ -134,7 +134,7 @@ fn lines_of_text_are_packed(rt: HostRuntime) -> Result<(), Fail> {
 #[test]
 fn names_the_first_faulty_line_of_text(rt: HostRuntime) -> Result<(), Fail> {
     for &(text, removals, line) in FAULTY_TEXT_LINES {
-        let fault = PackFault::BadText { line };
+        let fault = LinesFault::BadText { line };
         expect_text_packed(&rt, rt.alloc(), (text, removals), Err(fault), b"")?;
     }
     Ok(())
