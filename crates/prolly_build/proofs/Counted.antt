@@ -22,6 +22,7 @@ use Rattle.prolly_build.specs.Merging.{sent_input}
 use Rattle.prolly_build.specs.Ran.{AreLoaded}
 use Rattle.prolly_build.specs.Stopped.{IsReadingOf, IsFailureOf, CountFor, AreHonest, ending_told}
 use Rattle.prolly_build.specs.Workers.{IsLoadedFrom}
+use Rattle.prolly_build.proofs.LoaderSteps.{of_all}
 
 -- what an honest source has left are bytes, by the law of sources
 abbrev pub LeftAreBytes : {S : Type 0} → (S → SourceView) → Type 0
@@ -116,11 +117,8 @@ module _ {S : Type 0} (seen : S → SourceView) (limit : ℕ) where
   one_end file s t records handed (Fault fault) bytes kept ends all failed =
       one_fault file s t records handed fault bytes kept ends all failed
 
-  abbrev One : ℕ → S → Batching Record → S → Whole Record → Type 0
-  One file s o t c = IsLoadedFrom seen file limit s o.link t c
-
   one_counts : (file : ℕ) (s : S) (o : Batching Record) (t : S) (c : Whole Record) →
-      One file s o t c → (seen s).is_honest ≡ true → All IsByte (seen s).left →
+      IsLoadedFrom seen file limit s o.link t c → (seen s).is_honest ≡ true → All IsByte (seen s).left →
       Counts file s t (sent_input c)
   one_counts file s o t c h honest bytes =
       subst (λ (rs : List Record). Counts file s t (input_of rs c.end)) (sym h.loaded.sent)
@@ -138,18 +136,14 @@ module _ {S : Type 0} (seen : S → SourceView) (limit : ℕ) where
       (ts : List S) (cs : List (Whole Record)) →
       AreLoaded seen limit file ss os ts cs → AreHonest seen ss →
       AllCounts file ss ts (map sent_input cs)
-  all_count bytes file [] [] [] [] h honest = record { inputs = []; count_for = tt; sent_of = tt }
-  all_count bytes file [] [] [] (c ∷ cs) h honest = absurd h
-  all_count bytes file [] [] (t ∷ ts) cs h honest = absurd h
-  all_count bytes file [] (o ∷ os) ts cs h honest = absurd h
-  all_count bytes file (s ∷ ss) [] ts cs h honest = absurd h
-  all_count bytes file (s ∷ ss) (o ∷ os) [] cs h honest = absurd h
-  all_count bytes file (s ∷ ss) (o ∷ os) (t ∷ ts) [] h honest = absurd h
-  all_count bytes file (s ∷ ss) (o ∷ os) (t ∷ ts) (c ∷ cs) h honest =
-      let one = one_counts file s o t c h.0 honest.0 (bytes s honest.0) in
-      let rest = all_count bytes (file + 1) ss os ts cs h.1 honest.1 in
+  all_count bytes = of_all seen limit
+      (λ file ss _ ts cs. AreHonest seen ss → AllCounts file ss ts (map sent_input cs))
+      (λ _ _. record { inputs = []; count_for = tt; sent_of = tt })
+      (λ file s o t c _ _ _ _ h more honest.
+      let one = one_counts file s o t c h honest.0 (bytes s honest.0) in
+      let rest = more honest.1 in
       record {
         inputs = one.input ∷ rest.inputs;
         count_for = (one.counts, rest.count_for);
         sent_of = (one.sent_of, rest.sent_of);
-      }
+      })

@@ -16,6 +16,7 @@ use Rattle.prolly_build.specs.Forks.{IsForked}
 use Rattle.prolly_build.specs.Merging.{MergesTwo, received_input, sent_input}
 use Rattle.prolly_build.specs.Ran.{AreLoaded}
 use Rattle.prolly_build.proofs.FirstOnes.{all_first, all_rest}
+use Rattle.prolly_build.proofs.LoaderSteps.{of_all}
 use Rattle.prolly_build.proofs.ForkSteps.{forked_map, forked_maps}
 
 -- what was received over a link that was met is what was sent
@@ -29,16 +30,8 @@ module _ {S : Type 0} (seen : S → SourceView) (limit : ℕ) where
   loaded_links : (file : ℕ) (ss : List S) (os : List (Batching Record)) (ts : List S)
       (cs : List (Whole Record)) →
       AreLoaded seen limit file ss os ts cs → map (λ c. c.link) cs ≡ map (λ o. o.link) os
-  loaded_links file [] [] [] [] h = refl
-  loaded_links file [] [] [] (c ∷ cs) h = absurd h
-  loaded_links file [] [] (t ∷ ts) cs h = absurd h
-  loaded_links file [] (o ∷ os) ts cs h = absurd h
-  loaded_links file (s ∷ ss) [] ts cs h = absurd h
-  loaded_links file (s ∷ ss) (o ∷ os) [] cs h = absurd h
-  loaded_links file (s ∷ ss) (o ∷ os) (t ∷ ts) [] h = absurd h
-  loaded_links file (s ∷ ss) (o ∷ os) (t ∷ ts) (c ∷ cs) h =
-      let first = h.0.writes in let rest = loaded_links (file + 1) ss os ts cs h.1 in
-      cc (first, rest)
+  loaded_links = of_all seen limit (λ _ _ os _ cs. map (λ c. c.link) cs ≡ map (λ o. o.link) os)
+      (λ _. refl) (λ file s o t c ss os ts cs h rest. let first = h.writes in cc (first, rest))
 
   -- loaders alone
   pub fed_by_loaders : (ss : List S) (os : List (Batching Record)) (ts : List S)

@@ -18,6 +18,8 @@ pub mod FeedingSteps
 pub mod StagingSteps
 -- What mergers make of the files, where all ends are clean, and which faults their ends name.
 pub mod Mergings
+-- What holds of no loader, and of one more, holds of all.
+pub mod LoaderSteps
 -- What is known of what loaders sent.
 pub mod Loads
 -- What the writer behind the stages has made of a map.

@@ -43,6 +43,7 @@ use Rattle.prolly_build.specs.Stopped.{AreHonest}
 use Rattle.prolly_build.specs.Workers.{IsLoadedFrom}
 use Rattle.prolly_build.specs.Writing.{frames_of}
 use Rattle.prolly_build.proofs.Counted.{LeftAreBytes}
+use Rattle.prolly_build.proofs.LoaderSteps.{of_all}
 use Rattle.prolly_build.proofs.Loads.{begun, clean_end, one_read}
 use Rattle.prolly_build.proofs.Mergings.{Inputs, fault_of_end_of}
 use Rattle.prolly_build.proofs.Tops.{frames_front}
@@ -210,23 +211,18 @@ module _ {S : Type 0} (seen : S → SourceView) (limit : ℕ) where
   all_fronts : LeftAreBytes seen → (file : ℕ) (ss : List S) (os : List (Batching Record))
       (ts : List S) (cs : List (Whole Record)) →
       AreLoaded seen limit file ss os ts cs → AreHonest seen ss → Good ss (map sent_input cs)
-  all_fronts bytes file [] [] [] [] h honest =
-      record { goods = []; are_good = tt; fronts = tt; rising = tt }
-  all_fronts bytes file [] [] [] (c ∷ cs) h honest = absurd h
-  all_fronts bytes file [] [] (t ∷ ts) cs h honest = absurd h
-  all_fronts bytes file [] (o ∷ os) ts cs h honest = absurd h
-  all_fronts bytes file (s ∷ ss) [] ts cs h honest = absurd h
-  all_fronts bytes file (s ∷ ss) (o ∷ os) [] cs h honest = absurd h
-  all_fronts bytes file (s ∷ ss) (o ∷ os) (t ∷ ts) [] h honest = absurd h
-  all_fronts bytes file (s ∷ ss) (o ∷ os) (t ∷ ts) (c ∷ cs) h honest =
+  all_fronts bytes = of_all seen limit
+      (λ _ ss _ _ cs. AreHonest seen ss → Good ss (map sent_input cs))
+      (λ _ _. record { goods = []; are_good = tt; fronts = tt; rising = tt })
+      (λ file s o t c _ _ _ _ h more honest.
       let has = reading_is (seen s).left limit (bytes s honest.0) in
-      let rest = all_fronts bytes (file + 1) ss os ts cs h.1 honest.1 in
+      let rest = more honest.1 in
       record {
         goods = has.good ∷ rest.goods;
         are_good = (record { ending = has.ending; reading = has.reading }, rest.are_good);
-        fronts = (one_front file s o t c h.0 honest.0 has.good has.ending has.reading, rest.fronts);
+        fronts = (one_front file s o t c h honest.0 has.good has.ending has.reading, rest.fronts);
         rising = (has.reading.begins.rising, rest.rising);
-      }
+      })
 
   -- n files have at most n times as many good records as one may have
   good_few : (ss : List S) (goods : List (List Record)) → AreGood seen limit ss goods →
@@ -288,7 +284,7 @@ module _ {S : Type 0} (seen : S → SourceView) (settings : Settings) (before af
     pub first : IsPrefix pairs (overlay goods)
     pub taken : IsPrefix (before_second level events) (chunks cut settings.version pairs)
 
-  source_refused : LeftAreBytes seen → AreLawful settings → length before ≤ 16 →
+  pub source_refused : LeftAreBytes seen → AreLawful settings → length before ≤ 16 →
       AreHonest seen before → (events : List Chunk) (end : End) →
       HasStaged seen settings level before after events end count → end ≡ Fault Memory →
       IsRefusedRun events
@@ -340,17 +336,3 @@ module _ {S : Type 0} (seen : S → SourceView) (settings : Settings) (before af
         (frames_front (header settings.version settings.bits) _
         (chunks cut settings.version h.pairs) h.taken);
   }
-
--- the same over sources that were lent
-pub lent_refused : {S : Type 0} (seen : S → SourceView) → LeftAreBytes seen →
-    (settings : Settings) (level : ℕ) (before lent after : List S) (count : ℕ) →
-    AreLawful settings → length before ≤ 16 → level + 1 ≡ settings.stages → lent ≡ before →
-    AreHonest seen before → (events : List Chunk) (end : End) →
-    HasStaged seen settings level lent after events end count → end ≡ Fault Memory →
-    IsRefusedRun seen settings before after count events
-lent_refused {S} seen bytes settings level before lent after count lawful sixteen levels same honest
-    events end h =
-    let below : level ≡ settings.stages - 1 = omega (arith, levels) in
-    source_refused seen settings before after count bytes lawful sixteen honest events end
-    (subst (λ (l : ℕ). HasStaged seen settings l before after events end count) below
-    (subst (λ (ss : List S). HasStaged seen settings level ss after events end count) same h))

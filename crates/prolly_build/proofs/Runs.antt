@@ -141,18 +141,17 @@ module _ {S : Type 0} (seen : S → SourceView) (settings : Settings) (before af
           apart : Fault Memory ≡ Clean → ⊥
           apart x = cc
 
--- the same over sources that were lent, where the level is one less than the number of stages
-pub lent_run : {S : Type 0} (seen : S → SourceView) (settings : Settings) (level : ℕ)
-    (before lent after : List S) (count : ℕ) →
-    AreLawful settings → length before ≤ 16 → level + 1 ≡ settings.stages → lent ≡ before →
-    (events : List Chunk) (end : End) →
+-- what was sent of the sources that were lent, where the level is one less than the number of stages
+pub lent_staged : {S : Type 0} {seen : S → SourceView} {settings : Settings} {level : ℕ}
+    {before lent after : List S} {events : List Chunk} {end : End} {count : ℕ} →
+    level + 1 ≡ settings.stages → lent ≡ before →
     HasStaged seen settings level lent after events end count →
-    IsSourceRun seen settings before after count events end
-lent_run {S} seen settings level before lent after count lawful sixteen levels same events end h =
+    HasStaged seen settings (settings.stages - 1) before after events end count
+lent_staged {S} {seen} {settings} {level} {before} {lent} {after} {events} {end} {count} levels same
+    h =
     let below : level ≡ settings.stages - 1 = omega (arith, levels) in
-    source_run seen settings before after count lawful sixteen events end
-    (subst (λ (l : ℕ). HasStaged seen settings l before after events end count) below
-    (subst (λ (ss : List S). HasStaged seen settings level ss after events end count) same h))
+    subst (λ (l : ℕ). HasStaged seen settings l before after events end count) below
+    (subst (λ (ss : List S). HasStaged seen settings level ss after events end count) same h)
 
 -- the file of what the sources hold
 pub built : {S : Type 0} {seen : S → SourceView} {settings : Settings} {before after : List S}

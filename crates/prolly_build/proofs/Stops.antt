@@ -196,19 +196,3 @@ module _ {S : Type 0} (seen : S → SourceView) (settings : Settings) (before af
           let pairs_end : h.pairs_end ≡ Fault fault = sym s.1 ∙ end_is in
           gathered_stops bytes lawful sixteen honest h.pairs h.pairs_end fault h.gathered pairs_end
           other events (s.0 ∙ ap (λ (x : End). stage (closing_of x) h.pairs) pairs_end)
-
--- the same over sources that were lent
-pub lent_stops : {S : Type 0} (seen : S → SourceView) → LeftAreBytes seen →
-    (settings : Settings) (level : ℕ) (before lent after : List S) (count : ℕ) →
-    AreLawful settings → length before ≤ 16 → level + 1 ≡ settings.stages → lent ≡ before →
-    AreHonest seen before →
-    (events : List Chunk) (end : End) (fault : RunFault) →
-    HasStaged seen settings level lent after events end count → end ≡ Fault fault →
-    fault ≢ Memory →
-    IsStoppedRun seen settings before after count events fault
-lent_stops {S} seen bytes settings level before lent after count lawful sixteen levels same honest
-    events end fault h =
-    let below : level ≡ settings.stages - 1 = omega (arith, levels) in
-    source_stops seen settings before after count bytes lawful sixteen honest events end fault
-    (subst (λ (l : ℕ). HasStaged seen settings l before after events end count) below
-    (subst (λ (ss : List S). HasStaged seen settings level ss after events end count) same h))

@@ -5,29 +5,27 @@ use Rattle.prolly_link.specs.declared.end.End.TheVariants.{Clean}
 use Rattle.prolly_build.specs.Built.{IsBegun}
 use Rattle.prolly_build.specs.Outcome.{IsOutcome}
 use Rattle.prolly_build.proofs.Makings.{at_ok, at_err, if_ok, if_ok_any}
-use Rattle.prolly_build.proofs.Runs.{lent_run, built, not_built, halted_counted, halted_refusal}
+use Rattle.prolly_build.proofs.Runs.{lent_staged, source_run, built, not_built, halted_counted}
 use Rattle.prolly_build.proofs.Runs.{not_counted, halted_unmade, halted_unrefused, halted_unstopped}
-use Rattle.prolly_build.proofs.Runs.{stopped}
-use Rattle.prolly_build.proofs.Refusals.{lent_refused, refused}
-use Rattle.prolly_build.proofs.Stops.{lent_stops}
+use Rattle.prolly_build.proofs.Runs.{halted_refusal, stopped}
+use Rattle.prolly_build.proofs.Refusals.{source_refused, refused}
+use Rattle.prolly_build.proofs.Stops.{source_stops}
 use Rattle.prolly_build.proofs.driver.run_workers.Goals as goal
 
 pub finish-requires-clause-run : goal.finish-requires-clause-run
 finish-requires-clause-run g c =
-    let r = lent_run g.S.Source.seen _ _ c.args.sources.now.items c.replace-lent.result.items
-    c.scoped-ran.result.1.items _ c.requires.lawful
-    (omega (arith, c.requires.files, c.args.sources.now.ok.0)) c.requires.levels
-    (ap (λ v. v.items) c.replace-lent.ensures.value) _ _
+    let staged = lent_staged c.requires.levels (ap (λ v. v.items) c.replace-lent.ensures.value)
     (at_ok _ _ _ c.in-Ok.is c.scoped-ran.ensures.1.1.1.0) in
+    let r = source_run g.S.Source.seen _ c.args.sources.now.items c.scoped-ran.result.1.items _
+    c.requires.lawful (omega (arith, c.requires.files, c.args.sources.now.ok.0)) _ _ staged in
     (_, r.run)
 
 pub finish-requires-clause-faults : goal.finish-requires-clause-faults
 finish-requires-clause-faults g c =
-    let r = lent_run g.S.Source.seen _ _ c.args.sources.now.items c.replace-lent.result.items
-    c.scoped-ran.result.1.items _ c.requires.lawful
-    (omega (arith, c.requires.files, c.args.sources.now.ok.0)) c.requires.levels
-    (ap (λ v. v.items) c.replace-lent.ensures.value) _ _
+    let staged = lent_staged c.requires.levels (ap (λ v. v.items) c.replace-lent.ensures.value)
     (at_ok _ _ _ c.in-Ok.is c.scoped-ran.ensures.1.1.1.0) in
+    let r = source_run g.S.Source.seen _ c.args.sources.now.items c.scoped-ran.result.1.items _
+    c.requires.lawful (omega (arith, c.requires.files, c.args.sources.now.ok.0)) _ _ staged in
     r.input
 
 pub finish-requires-clause-written : goal.finish-requires-clause-written
@@ -45,11 +43,10 @@ returns-in-Ok-clause-outcome g c =
       (λ x. x),
       λ x. x,
     ) in
-    let staged = at_ok _ _ _ c.in-Ok.is c.scoped-ran.ensures.1.1.1.0 in
-    let r = lent_run g.S.Source.seen _ _ c.args.sources.now.items c.replace-lent.result.items
-    c.scoped-ran.result.1.items _ c.requires.lawful
-    (omega (arith, c.requires.files, c.args.sources.now.ok.0)) c.requires.levels
-    (ap (λ v. v.items) c.replace-lent.ensures.value) _ _ staged in
+    let few = omega (arith, c.requires.files, c.args.sources.now.ok.0) in
+    let staged = lent_staged c.requires.levels (ap (λ v. v.items) c.replace-lent.ensures.value)
+    (at_ok _ _ _ c.in-Ok.is c.scoped-ran.ensures.1.1.1.0) in
+    let r = source_run g.S.Source.seen _ before after _ c.requires.lawful few _ _ staged in
     let written = at_ok _ _ _ c.in-Ok.is c.scoped-ran.ensures.1.1.0.written in
     let finished = c.finish.ensures (overlay r.goods) _ r.run written.written in
     let back = c.sink-1.given.1 (sym c.scoped-ran.ensures.1.1.1.1) in
@@ -62,19 +59,13 @@ returns-in-Ok-clause-outcome g c =
       unmade = IfErr-weaker c.finish.result _ _
           (λ fault h w. not_built r.goods (r.read (h w).0) (h w).1) finished.unmade;
       stopped = IfErr-weaker c.finish.result _ _ (λ fault h file honest. stopped fault file
-          (lent_stops g.S.Source.seen source.left_are_bytes _ _ c.args.sources.now.items
-          c.replace-lent.result.items c.scoped-ran.result.1.items _ c.requires.lawful
-          (omega (arith, c.requires.files, c.args.sources.now.ok.0)) c.requires.levels
-          (ap (λ v. v.items) c.replace-lent.ensures.value) honest _ _ fault staged (h file).0)
-          (h file).1)
+          (source_stops g.S.Source.seen _ before after _ source.left_are_bytes c.requires.lawful few
+          honest _ _ fault staged (h file).0) (h file).1)
           finished.stopped;
       refused = IfErr-weaker c.finish.result _ _
           (λ fault h memory honest. refused g.S.Source.seen _ before after _
-          (lent_refused g.S.Source.seen source.left_are_bytes _ _ c.args.sources.now.items
-          c.replace-lent.result.items c.scoped-ran.result.1.items _ c.requires.lawful
-          (omega (arith, c.requires.files, c.args.sources.now.ok.0)) c.requires.levels
-          (ap (λ v. v.items) c.replace-lent.ensures.value) honest _ _ staged (h memory).0)
-          (h memory).1)
+          (source_refused g.S.Source.seen _ before after _ source.left_are_bytes c.requires.lawful
+          few honest _ _ staged (h memory).0) (h memory).1)
           finished.refused;
       begun = finished.begun;
       unstarted = IfErr-weaker c.finish.result _ _ (λ fault h start. absurd (h start))
@@ -84,11 +75,10 @@ returns-in-Ok-clause-outcome g c =
 
 pub returns-in-Ok-clause-started : goal.returns-in-Ok-clause-started
 returns-in-Ok-clause-started g c =
-    let r = lent_run g.S.Source.seen _ _ c.args.sources.now.items c.replace-lent.result.items
-    c.scoped-ran.result.1.items _ c.requires.lawful
-    (omega (arith, c.requires.files, c.args.sources.now.ok.0)) c.requires.levels
-    (ap (λ v. v.items) c.replace-lent.ensures.value) _ _
+    let staged = lent_staged c.requires.levels (ap (λ v. v.items) c.replace-lent.ensures.value)
     (at_ok _ _ _ c.in-Ok.is c.scoped-ran.ensures.1.1.1.0) in
+    let r = source_run g.S.Source.seen _ c.args.sources.now.items c.scoped-ran.result.1.items _
+    c.requires.lawful (omega (arith, c.requires.files, c.args.sources.now.ok.0)) _ _ staged in
     let written = at_ok _ _ _ c.in-Ok.is c.scoped-ran.ensures.1.1.0.written in
     IfErr-weaker c.finish.result _ _ not_counted
     (c.finish.ensures (overlay r.goods) _ r.run written.written).started
