@@ -34,7 +34,6 @@ use Rattle.prolly_build.specs.Settings.{Settings, AreLawful}
 use Rattle.prolly_build.specs.Staging.{HasStaged}
 use Rattle.prolly_build.proofs.Loads.{all_rise, all_only, all_kept, all_read, all_few}
 use Rattle.prolly_build.proofs.Stops.{IsStoppedRun}
-use Rattle.prolly_build.proofs.Takings.{lost_is_no_memory}
 use Rattle.prolly_build.proofs.Mergings.{IfFault, clean_pairs, joined_rises, joined_only, rises_all}
 use Rattle.prolly_build.proofs.Mergings.{sends_only}
 
@@ -173,12 +172,6 @@ not_built goods read unmade = record { goods = goods; read = read; unmade = unma
 pub not_counted : (fault : RunFault) → (IsStartFault fault → ⊥) → fault ≢ TooManyFiles
 not_counted fault h e = h (subst IsStartFault (sym e) tt)
 
-no_thread_is_no_count : NoThread ≡ TooManyFiles → ⊥
-no_thread_is_no_count e = cc
-
-lost_is_no_count : Lost ≡ TooManyFiles → ⊥
-lost_is_no_count e = cc
-
 -- why the fault of a file is named
 pub stopped : {S : Type 0} {seen : S → SourceView} {settings : Settings} {before after : List S}
     {old new : SinkView} {count : ℕ}
@@ -196,48 +189,33 @@ stopped fault file run took =
       took = took (merged_part h.inputs) h.few h.sent;
     }
 
--- a halt is no fault of a file
-pub halted_unstopped : (halt : Halt) (fault : RunFault) → IsHaltFault halt fault →
-    IsFileFault fault → ⊥
-halted_unstopped NoThread_halt fault is f = subst IsFileFault is f
-halted_unstopped Lost_halt fault is f = subst IsFileFault is f
-
--- a halt is no want of memory
-pub halted_unrefused : (halt : Halt) (fault : RunFault) → IsHaltFault halt fault → fault ≡ Memory →
-    ⊥
-halted_unrefused NoThread_halt fault is m = no_thread (sym is ∙ m)
-  where
-    no_thread : NoThread ≡ Memory → ⊥
-    no_thread e = cc
-halted_unrefused Lost_halt fault is m = lost_is_no_memory (sym is ∙ m)
-
--- a halt is no fault of the writer
-pub halted_unmade : (halt : Halt) (fault : RunFault) → IsHaltFault halt fault →
-    IsWriterFault fault → ⊥
-halted_unmade NoThread_halt fault is w = subst IsWriterFault is w
-halted_unmade Lost_halt fault is w = subst IsWriterFault is w
-
--- a halt is not that of too many files
-pub halted_counted : (halt : Halt) (fault : RunFault) → IsHaltFault halt fault →
-    fault ≢ TooManyFiles
-halted_counted NoThread_halt fault is e = no_thread_is_no_count (sym is ∙ e)
-halted_counted Lost_halt fault is e = lost_is_no_count (sym is ∙ e)
-
 -- what is known after a halt: of want of a thread that the sink is as it was; of no halt that the
--- sources are there
-pub record IsRefusal (untouched kept : Type 0) (fault : RunFault) : Type 0 where
+-- sources are there; and that it is no other fault
+pub record IsHalted (untouched kept : Type 0) (fault : RunFault) : Type 0 where
   pub unstarted : IsStartFault fault → untouched
   pub left_behind : fault ≢ NoThread → fault ≢ Lost → kept
+  pub no_file : IsFileFault fault → ⊥
+  pub no_writer : IsWriterFault fault → ⊥
+  pub no_memory : fault ≢ Memory
+  pub not_counted : fault ≢ TooManyFiles
 
-pub halted_refusal : {untouched kept : Type 0} (halt : Halt) (fault : RunFault) →
-    IsHaltFault halt fault → (halt ≡ NoThread_halt → untouched) → IsRefusal untouched kept fault
-halted_refusal {untouched} {kept} NoThread_halt fault is h =
-    subst (λ f. IsRefusal untouched kept f) (sym is) (record {
+pub halted : (untouched kept : Type 0) (halt : Halt) (fault : RunFault) → IsHaltFault halt fault →
+    (halt ≡ NoThread_halt → untouched) → IsHalted untouched kept fault
+halted untouched kept NoThread_halt fault is h =
+    subst (λ f. IsHalted untouched kept f) (sym is) (record {
       unstarted = λ s. h refl;
       left_behind = λ a b. absurd (a refl);
+      no_file = λ f. f;
+      no_writer = λ w. w;
+      no_memory = λ e. cc;
+      not_counted = λ e. cc;
     })
-halted_refusal {untouched} {kept} Lost_halt fault is h =
-    subst (λ f. IsRefusal untouched kept f) (sym is) (record {
+halted untouched kept Lost_halt fault is h =
+    subst (λ f. IsHalted untouched kept f) (sym is) (record {
       unstarted = λ s. absurd s;
       left_behind = λ a b. absurd (b refl);
+      no_file = λ f. f;
+      no_writer = λ w. w;
+      no_memory = λ e. cc;
+      not_counted = λ e. cc;
     })

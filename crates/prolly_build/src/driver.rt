@@ -11,7 +11,7 @@ use crate::end::{Halt, finish};
 use crate::links::{NewLink, Rings};
 use crate::report::Report;
 use crate::run::{Ran, run_from_top};
-use crate::start::{AllStart, Permit, Site};
+use crate::start::{AllStart, Lent, Permit};
 use prolly_chunk::ChunkEvent;
 use prolly_file::{Sink, Source};
 use prolly_link::RunFault;
@@ -35,83 +35,59 @@ fn run_in<
     P: Permit,
 >(
     scope: &'s Scope<'s, E>,
-    rt: &'s R,
-    alloc: Global,
-    config: Config,
+    lent: Lent<'s, '_, R, G, P>,
     rings: Rings,
     sources: &mut Vec<S>,
     sink: &mut W,
-    gate: &'s G,
-    permit: &P,
 ) -> Result<Ran<ChunkEvent>, Halt>
-    requires levels { vec_len rings.events < 12 }
-    requires files { (rings.feed.files ≡ vec_len sources.old) × (vec_len sources.old ≤ 16) }
+    requires levels { vec_len rings.lower.events < 12 }
+    requires files { (rings.lower.feed.files ≡ vec_len sources.old) × (vec_len sources.old ≤ 16) }
     ensures link { IfOk result (λ ran. ran.out.link ≡ ran.wrote.last.link) }
-    ensures hands_on { HandsOn config rings.last.receiver
+    ensures hands_on { HandsOn lent.config rings.last.receiver
         (W.seen sink.old) (W.seen sink.new) (sink.new ≡ sink.old) result (λ ran. ran.wrote) }
-    ensures staged { IfOk result (λ ran. HasStaged S.seen config (vec_len rings.events)
+    ensures staged { IfOk result (λ ran. HasStaged S.seen lent.config (vec_len rings.lower.events)
         sources.old.items sources.new.items ran.out.items ran.out.end ran.pairs) }
 {
-    let Rings {
-        last,
-        events,
-        pairs,
-        feed,
-    } = rings;
-    let NewLink {
-        sender: out,
-        receiver: last,
-    } = last;
-    let site = Site {
-        scope,
-        rt,
-        alloc,
-        gate,
-        permit,
-        config,
-    };
-    run_from_top(&site, events, pairs, feed, out, sources, last, sink)
+    let Rings { last, lower } = rings;
+    let NewLink { sender, receiver } = last;
+    let site = lent.in_scope(scope);
+    run_from_top(&site, lower, sender, sources, receiver, sink)
 }
 
 /// Runs all workers over these links, and the writer on this thread, until all of them have ended;
 /// then ends the file.
 fn run_workers<R: Wait + Threads + Sync, S: Source + Send + Drop, W: Sink, G: Gate, P: Permit>(
-    rt: &R,
-    alloc: Global,
-    config: Config,
+    lent: Lent<'_, '_, R, G, P>,
     rings: Rings,
     sources: &mut Vec<S>,
     sink: &mut W,
-    gate: &G,
-    permit: &P,
 ) -> Result<Report, RunFault>
-    requires lawful { AreLawful config }
-    requires levels { vec_len rings.events + 1 ≡ config.stages }
-    requires files { (rings.feed.files ≡ vec_len sources.old) × (vec_len sources.old ≤ 16) }
-    ensures outcome { IsOutcome S.seen config sources.old.items sources.new.items (W.seen sink.old)
-        (W.seen sink.new)
-        (sink.new ≡ sink.old) result }
+    requires lawful { AreLawful lent.config }
+    requires levels { vec_len rings.lower.events + 1 ≡ lent.config.stages }
+    requires files { (rings.lower.feed.files ≡ vec_len sources.old) × (vec_len sources.old ≤ 16) }
+    ensures outcome { IsOutcome S.seen lent.config sources.old.items sources.new.items
+        (W.seen sink.old) (W.seen sink.new) (sink.new ≡ sink.old) result }
     ensures started { IfErr result (λ fault. fault ≢ TooManyFiles) }
 {
-    let mut lent = mem::replace(sources, Vec::new(alloc));
+    let (rt, config) = (lent.rt, lent.config);
+    let mut taken = mem::replace(sources, Vec::new(lent.alloc));
     let (ran, back, sink) = thread::scope(
         thread::scope_env(),
         rt,
         move |scope| -> (Result<Ran<ChunkEvent>, Halt>, Vec<S>, &mut W)
-            requires { (vec_len rings.events < 12) × (rings.feed.files ≡ vec_len lent) ×
-                (vec_len lent ≤ 16) }
+            requires { (vec_len rings.lower.events < 12) ×
+                (rings.lower.feed.files ≡ vec_len taken) × (vec_len taken ≤ 16) }
             ensures link { IfOk result.0 (λ ran. ran.out.link ≡ ran.wrote.last.link) }
-            ensures hands_on { HandsOn config rings.last.receiver (W.seen sink.entry.now)
+            ensures hands_on { HandsOn lent.config rings.last.receiver (W.seen sink.entry.now)
                 (W.seen result.2.now)
                 (result.2.now ≡ sink.entry.now) result.0 (λ ran. ran.wrote) }
-            ensures staged { IfOk result.0 (λ ran. HasStaged S.seen config (vec_len rings.events)
-                lent.items result.1.items ran.out.items ran.out.end ran.pairs) }
+            ensures staged { IfOk result.0 (λ ran. HasStaged S.seen lent.config
+                (vec_len rings.lower.events)
+                taken.items result.1.items ran.out.items ran.out.end ran.pairs) }
             ensures same { result.2.ghost_name ≡ sink.entry.ghost_name }
         {
-            let ran = run_in(
-                scope, rt, alloc, config, rings, &mut lent, &mut *sink, gate, permit,
-            );
-            (ran, lent, sink)
+            let ran = run_in(scope, lent, rings, &mut taken, &mut *sink);
+            (ran, taken, sink)
         },
     );
     *sources = back;
@@ -170,7 +146,14 @@ pub fn build_with<R: Wait + Threads + Sync, S: Source + Send + Drop, W: Sink, G:
     let Ok(rings) = Rings::new(alloc, config, sources.len()) else {
         return Err(RunFault::Memory);
     };
-    run_workers(rt, alloc, *config, rings, sources, sink, gate, permit)
+    let lent = Lent {
+        rt,
+        alloc,
+        gate,
+        permit,
+        config: *config,
+    };
+    run_workers(lent, rings, sources, sink)
 }
 
 /// The same, where all workers may start.

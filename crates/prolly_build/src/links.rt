@@ -7,4 +7,4 @@ mod rings;
 pub(crate) use feed::Feed;
 pub(crate) use fork::Fork;
 pub(crate) use link::{NewLink, meet};
-pub(crate) use rings::Rings;
+pub(crate) use rings::{LowerRings, Rings};

@@ -3,16 +3,19 @@ use Rattle.std.specs.Prelude.{ℕ, List, ◌++◌, codes}
 use Rattle.std.specs.Fmt.{decimal}
 use Rattle.prolly_entry.specs.declared.fault_text.FaultText.{FaultText}
 use Rattle.prolly_entry.specs.declared.fault_text.FaultText.TheVariants.{Plain, Ending, Holding}
+use Rattle.prolly_entry.specs.declared.fault_text.FaultText.TheVariants.{HoldingTwo}
 use Rattle.prolly_entry.specs.declared.pair.EntryFault.{EntryFault}
 use Rattle.prolly_entry.specs.declared.pair.EntryFault.TheVariants as entries
 use Rattle.prolly_entry.specs.declared.record_file.RecordFault.{RecordFault}
 use Rattle.prolly_entry.specs.declared.record_file.RecordFault.TheVariants as records
 
--- A text, in which a number may stand in decimal.
+-- A text, in which a number may stand in decimal, or two.
 abbrev pub shown_text : FaultText → List ℕ
 shown_text (Plain text) = text.now
 shown_text (Ending text number) = text.now ++ decimal number
 shown_text (Holding before number behind) = before.now ++ decimal number ++ behind.now
+shown_text (HoldingTwo before first between second behind) = before.now ++ decimal first ++
+    between.now ++ decimal second ++ behind.now
 
 abbrev pub entry_fault_text : EntryFault → List ℕ
 entry_fault_text entries.KeyTooLong = codes "key too long"

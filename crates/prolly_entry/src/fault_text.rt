@@ -2,7 +2,7 @@
 use std::fmt;
 use std::fmt::{Display, Formatter};
 
-/// What is said of a fault: a text, in which one number may stand.
+/// What is said of a fault: a text, in which one number may stand, or two.
 ///
 /// A fault with many cases chooses one of these, and shows it. So the choice is proved apart from
 /// the writing, which is proved once for all faults.
@@ -14,6 +14,8 @@ pub enum FaultText {
     Ending(&'static str, u64),
     /// The number between two texts.
     Holding(&'static str, u64, &'static str),
+    /// Two numbers between three texts.
+    HoldingTwo(&'static str, u64, &'static str, u64, &'static str),
 }
 
 impl Display for FaultText {
@@ -27,6 +29,9 @@ impl Display for FaultText {
             FaultText::Plain(text) => f.write_str(text),
             FaultText::Ending(text, number) => write!(f, "{text}{number}"),
             FaultText::Holding(before, number, behind) => write!(f, "{before}{number}{behind}"),
+            FaultText::HoldingTwo(before, first, between, second, behind) => {
+                write!(f, "{before}{first}{between}{second}{behind}")
+            }
         }
     }
 }

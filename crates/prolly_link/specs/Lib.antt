@@ -8,6 +8,8 @@ pub mod Messages
 pub mod Rings
 -- How far a receiver has come, by the messages that it popped.
 pub mod Agreement
+-- What is said of a fault of a run. (This project's texts.)
+pub mod FaultTexts
 -- What a receiver gives, and how far it has come by that.
 pub mod Receipts
 -- What stands in a list before its end.

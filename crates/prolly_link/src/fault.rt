@@ -1,4 +1,13 @@
 //! What stops a run.
+ghost use Rattle.std.specs.Prelude.{◌≡◌, ◌++◌, Some, codes};
+ghost use Rattle.std.specs.Fmt.{decimal};
+ghost use Rattle.prolly_entry.specs.FaultTexts.{shown_text};
+ghost use Rattle.prolly_link.specs.FaultTexts.{record_text, run_text};
+
+use prolly_entry::FaultText;
+use std::error::Error;
+use std::fmt;
+use std::fmt::{Display, Formatter};
 
 /// Why a run has no answer. `file` is the number of a record file, and `place` that of a record in
 /// it.
@@ -18,3 +27,47 @@ pub enum RunFault {
     Lost,
     TooManyFiles,
 }
+
+impl RunFault {
+    /// What is said of it.
+    fn text(self) -> FaultText
+        ensures { shown_text result ≡ run_text self }
+    {
+        match self {
+            RunFault::Memory => FaultText::Plain("out of memory"),
+            RunFault::Read { file } => of_file(file, ": read failed"),
+            RunFault::Truncated { file, place } => of_record(file, place, " is cut"),
+            RunFault::KeyTooLong { file, place } => of_record(file, place, ": key too long"),
+            RunFault::ValueTooLong { file, place } => of_record(file, place, ": value too long"),
+            RunFault::OutOfOrder { file, place } => of_record(file, place, ": key out of order"),
+            RunFault::TooManyRecords { file } => of_file(file, ": too many records"),
+            RunFault::Write => FaultText::Plain("write failed"),
+            RunFault::TooTall => FaultText::Plain("tree too tall"),
+            RunFault::NoThread => FaultText::Plain("a thread could not be started"),
+            RunFault::Lost => FaultText::Plain("a worker was lost"),
+            RunFault::TooManyFiles => FaultText::Plain("too many files"),
+        }
+    }
+}
+
+fn of_file(file: u32, text: &'static str) -> FaultText
+    ensures { shown_text result ≡ codes "file " ++ decimal file ++ text.now }
+{
+    FaultText::Holding("file ", u64::from(file), text)
+}
+
+fn of_record(file: u32, place: u32, text: &'static str) -> FaultText
+    ensures { shown_text result ≡ record_text file place text.now }
+{
+    FaultText::HoldingTwo("file ", u64::from(file), ": record ", u64::from(place), text)
+}
+
+impl Display for RunFault {
+    ghost output = { λ fault. Some (run_text fault) };
+
+    fn fmt<W: fmt::Write>(&self, f: &mut Formatter<W>) -> fmt::Result {
+        self.text().fmt(f)
+    }
+}
+
+impl Error for RunFault {}

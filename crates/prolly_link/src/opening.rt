@@ -1,5 +1,5 @@
 //! The making of a link.
-ghost use Rattle.std.specs.Prelude.{◌≡◌, ◌≤◌, [], IfOk};
+ghost use Rattle.std.specs.Prelude.{◌≡◌, ◌≤◌, [], IfOk, Some, codes};
 
 use crate::patience::Patience;
 use crate::progress::Progress;
@@ -7,12 +7,27 @@ use crate::receiver::Receiver;
 use crate::sender::Sender;
 use rtrb::RingBuffer;
 use std::alloc::Global;
+use std::error::Error;
+use std::fmt;
+use std::fmt::{Display, Formatter};
 
 /// Why there is no link.
 #[derive(Clone, Copy, PartialEq, Eq, Debug)]
 pub enum LinkFault {
     Memory,
 }
+
+impl Display for LinkFault {
+    ghost output = { λ _. Some (codes "out of memory") };
+
+    fn fmt<W: fmt::Write>(&self, f: &mut Formatter<W>) -> fmt::Result {
+        match self {
+            LinkFault::Memory => f.write_str("out of memory"),
+        }
+    }
+}
+
+impl Error for LinkFault {}
 
 /// The two ends of a new link, with room for `capacity` messages. The end is a message, as an item
 /// is.

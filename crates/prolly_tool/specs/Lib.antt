@@ -12,8 +12,6 @@ pub mod Scratch
 pub mod Pack
 -- The line and the status of each fault. (This project's texts.)
 pub mod Faults
--- What is said of a fault of a run, as the program puts it together.
-pub mod Messages
 -- What a line says of a file that it names. (This project's texts.)
 pub mod Names
 -- What the program prints.

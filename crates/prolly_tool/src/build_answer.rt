@@ -3,7 +3,6 @@ ghost use Rattle.std.specs.Prelude.{◌≡◌, IfOk};
 ghost use Rattle.prolly_tool.specs.Build.{report_text, ShowsBuild};
 
 use crate::answer::Answer;
-use crate::fault::Fault;
 use crate::line_parts::append_number;
 use prolly_build::Report;
 use prolly_link::RunFault;
@@ -19,7 +18,7 @@ pub fn answer_build(alloc: Global, built: &Result<Report, RunFault>) -> Result<A
             let line = line_of(alloc, report)?;
             Answer::of_line(alloc, &line)
         }
-        Err(fault) => Answer::of_fault(alloc, Fault::Run(*fault)),
+        Err(fault) => Answer::of_fault(alloc, (*fault).into()),
     }
 }
 

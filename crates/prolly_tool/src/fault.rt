@@ -3,8 +3,8 @@ ghost use Rattle.std.specs.Prelude.{◌≡◌, Some};
 ghost use Rattle.prolly_tool.specs.Faults.{fault_text, check_status, root_status, run_status};
 ghost use Rattle.prolly_tool.specs.Faults.{fault_status};
 
-use crate::fault_texts::{RunText, SideText};
 use crate::pack_fault::{LinesFault, PackFault};
+use crate::side_text::SideText;
 use prolly_check::CheckFault;
 use prolly_file::SinkFault;
 use prolly_link::RunFault;
@@ -93,6 +93,16 @@ impl From<SinkFault> for Fault {
     }
 }
 
+impl From<RunFault> for Fault {
+    ghost use Rattle.prolly_tool.specs.declared.fault.Fault.TheVariants.{Run};
+
+    ghost from_gives = { λ run fault. fault ≡ Run run };
+
+    fn from(run: RunFault) -> Self {
+        Fault::Run(run)
+    }
+}
+
 impl From<LinesFault> for Fault {
     ghost use Rattle.prolly_tool.specs.declared.fault.Fault.TheVariants.{Pack};
 
@@ -147,7 +157,7 @@ impl Display for Fault {
             Fault::Memory => f.write_str("out of memory"),
             Fault::Read => f.write_str("file 0: read failed"),
             Fault::Write => f.write_str("write failed"),
-            Fault::Run(fault) => RunText(*fault).fmt(f),
+            Fault::Run(fault) => fault.fmt(f),
             Fault::Pack(fault) => fault.fmt(f),
             Fault::Check(fault) => fault.fmt(f),
             Fault::CheckOld(fault) => SideText("old ", *fault).fmt(f),

@@ -94,7 +94,7 @@ fn tree_of<S: Source>(
     match scratch_as(alloc, cut, version, &pairs, LEVEL_LIMIT, &mut file) {
         Ok(root) => Ok(Tree { file, root }),
         Err(ScratchFault::Memory) => Err(Fault::Memory),
-        Err(ScratchFault::TooTall) => Err(Fault::Run(RunFault::TooTall)),
+        Err(ScratchFault::TooTall) => Err(RunFault::TooTall.into()),
         Err(ScratchFault::OutOfOrder { .. }) => unreachable!(),
     }
 }
@@ -114,7 +114,7 @@ fn pairs_of<S: Source>(alloc: Global, source: &mut S) -> Result<Vec<Pair>, Fault
     let input = input_of(alloc, source)?;
     match records(alloc, &input, RECORD_LIMIT) {
         Ok(pairs) => Ok(pairs),
-        Err(fault) => Err(Fault::Run(run_fault(fault))),
+        Err(fault) => Err(run_fault(fault).into()),
     }
 }
 

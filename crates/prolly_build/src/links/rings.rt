@@ -14,6 +14,12 @@ use std::alloc::{AllocError, Global};
 pub(crate) struct Rings {
     /// From the last stage to the writer.
     pub last: NewLink<ChunkEvent>,
+    pub lower: LowerRings,
+}
+
+/// The links of a build below the last one.
+#[derive(Drop)]
+pub(crate) struct LowerRings {
     /// Between the stages, the one into the highest stage last.
     pub events: Vec<NewLink<ChunkEvent>>,
     /// From the last merger to the stage of the leaves.
@@ -25,9 +31,9 @@ pub(crate) struct Rings {
 impl Rings {
     /// New links for so many files. Each has the memory of its ring and of one message.
     pub(crate) fn new(alloc: Global, config: &Config, files: usize) -> Result<Rings, AllocError>
-        ensures files { IfOk result (λ rings. rings.feed.files ≡ files) }
+        ensures files { IfOk result (λ rings. rings.lower.feed.files ≡ files) }
         ensures lawful { IfOk result (λ _. AreLawful config.now) }
-        ensures levels { IfOk result (λ rings. vec_len rings.events + 1 ≡ config.now.stages) }
+        ensures levels { IfOk result (λ rings. vec_len rings.lower.events + 1 ≡ config.now.stages) }
     {
         let ends = both(new_link(alloc, config), new_link(alloc, config));
         let events = new_links(alloc, config, usize::from(config.last_level()));
@@ -35,12 +41,12 @@ impl Rings {
             ends,
             both(events, new_feed(alloc, config, files)),
         )?;
-        Ok(Rings {
-            last,
+        let lower = LowerRings {
             events,
             pairs,
             feed,
-        })
+        };
+        Ok(Rings { last, lower })
     }
 }
 

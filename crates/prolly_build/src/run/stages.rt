@@ -4,7 +4,7 @@ ghost use Rattle.prolly_build.specs.Ran.{HandsOn};
 ghost use Rattle.prolly_build.specs.Staging.{HasStaged};
 
 use crate::end::{Halt, refuse};
-use crate::links::{Feed, NewLink};
+use crate::links::{Feed, LowerRings, NewLink};
 use crate::run::last_merger::gather;
 use crate::run::ran::Ran;
 use crate::start::{CutLeaves, CutNodes, Input, Permit, Runtime, Site};
@@ -52,24 +52,27 @@ fn run_from_leaves<'s, E, R: Runtime, G: Gate, P: Permit, S: Input + 's, W: Sink
 /// stage, whose level is the number of the links.
 pub(crate) fn run_from_top<'s, E, R: Runtime, G: Gate, P: Permit, S: Input + 's, W: Sink>(
     site: &Site<'s, '_, E, R, G, P>,
-    mut events: Vec<NewLink<ChunkEvent>>,
-    pairs: NewLink<Pair>,
-    feed: Feed,
+    lower: LowerRings,
     out: BatchSender<ChunkEvent>,
     sources: &mut Vec<S>,
     last: BatchReceiver<ChunkEvent>,
     sink: &mut W,
 ) -> Result<Ran<ChunkEvent>, Halt>
-    requires levels { vec_len events < 12 }
-    requires files { (feed.files ≡ vec_len sources.old) × (vec_len sources.old ≤ 16) }
+    requires levels { vec_len lower.events < 12 }
+    requires files { (lower.feed.files ≡ vec_len sources.old) × (vec_len sources.old ≤ 16) }
     requires unsent { out.items ≡ [] }
     requires unread { last.items ≡ [] }
     ensures link { IfOk result (λ ran. ran.out.link ≡ out.link) }
     ensures hands_on { HandsOn site.now.config last
         (W.seen sink.old) (W.seen sink.new) (sink.new ≡ sink.old) result (λ ran. ran.wrote) }
-    ensures staged { IfOk result (λ ran. HasStaged S.seen site.now.config (vec_len events)
+    ensures staged { IfOk result (λ ran. HasStaged S.seen site.now.config (vec_len lower.events)
         sources.old.items sources.new.items ran.out.items ran.out.end ran.pairs) }
 {
+    let LowerRings {
+        mut events,
+        pairs,
+        feed,
+    } = lower;
     let Some(link) = events.pop() else {
         return run_from_leaves(site, pairs, feed, out, sources, last, sink);
     };
@@ -84,7 +87,12 @@ pub(crate) fn run_from_top<'s, E, R: Runtime, G: Gate, P: Permit, S: Input + 's,
     let Some(handle) = site.start(job, out) else {
         return Err(refuse(site.rt, (events, pairs, feed, sender), last));
     };
-    let ran = run_from_top(site, events, pairs, feed, sender, sources, last, sink);
+    let lower = LowerRings {
+        events,
+        pairs,
+        feed,
+    };
+    let ran = run_from_top(site, lower, sender, sources, last, sink);
     let (input, out) = handle.join(site.rt);
     ran?.up_to_stage(site.rt, input, out)
 }

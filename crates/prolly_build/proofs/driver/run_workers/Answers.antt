@@ -5,16 +5,15 @@ use Rattle.prolly_link.specs.declared.end.End.TheVariants.{Clean}
 use Rattle.prolly_build.specs.Built.{IsBegun}
 use Rattle.prolly_build.specs.Outcome.{IsOutcome}
 use Rattle.prolly_build.proofs.Makings.{at_ok, at_err, if_ok, if_ok_any}
-use Rattle.prolly_build.proofs.Runs.{lent_staged, source_run, built, not_built, halted_counted}
-use Rattle.prolly_build.proofs.Runs.{not_counted, halted_unmade, halted_unrefused, halted_unstopped}
-use Rattle.prolly_build.proofs.Runs.{halted_refusal, stopped}
+use Rattle.prolly_build.proofs.Runs.{lent_staged, source_run, built, not_built, not_counted}
+use Rattle.prolly_build.proofs.Runs.{halted, stopped}
 use Rattle.prolly_build.proofs.Refusals.{source_refused, refused}
 use Rattle.prolly_build.proofs.Stops.{source_stops}
 use Rattle.prolly_build.proofs.driver.run_workers.Goals as goal
 
 pub finish-requires-clause-run : goal.finish-requires-clause-run
 finish-requires-clause-run g c =
-    let staged = lent_staged c.requires.levels (ap (λ v. v.items) c.replace-lent.ensures.value)
+    let staged = lent_staged c.requires.levels (ap (λ v. v.items) c.replace-taken.ensures.value)
     (at_ok _ _ _ c.in-Ok.is c.scoped-ran.ensures.1.1.1.0) in
     let r = source_run g.S.Source.seen _ c.args.sources.now.items c.scoped-ran.result.1.items _
     c.requires.lawful (omega (arith, c.requires.files, c.args.sources.now.ok.0)) _ _ staged in
@@ -22,7 +21,7 @@ finish-requires-clause-run g c =
 
 pub finish-requires-clause-faults : goal.finish-requires-clause-faults
 finish-requires-clause-faults g c =
-    let staged = lent_staged c.requires.levels (ap (λ v. v.items) c.replace-lent.ensures.value)
+    let staged = lent_staged c.requires.levels (ap (λ v. v.items) c.replace-taken.ensures.value)
     (at_ok _ _ _ c.in-Ok.is c.scoped-ran.ensures.1.1.1.0) in
     let r = source_run g.S.Source.seen _ c.args.sources.now.items c.scoped-ran.result.1.items _
     c.requires.lawful (omega (arith, c.requires.files, c.args.sources.now.ok.0)) _ _ staged in
@@ -44,13 +43,13 @@ returns-in-Ok-clause-outcome g c =
       λ x. x,
     ) in
     let few = omega (arith, c.requires.files, c.args.sources.now.ok.0) in
-    let staged = lent_staged c.requires.levels (ap (λ v. v.items) c.replace-lent.ensures.value)
+    let staged = lent_staged c.requires.levels (ap (λ v. v.items) c.replace-taken.ensures.value)
     (at_ok _ _ _ c.in-Ok.is c.scoped-ran.ensures.1.1.1.0) in
     let r = source_run g.S.Source.seen _ before after _ c.requires.lawful few _ _ staged in
     let written = at_ok _ _ _ c.in-Ok.is c.scoped-ran.ensures.1.1.0.written in
     let finished = c.finish.ensures (overlay r.goods) _ r.run written.written in
     let back = c.sink-1.given.1 (sym c.scoped-ran.ensures.1.1.1.1) in
-    subst (λ (w : g.row.W.Denot). IsOutcome g.S.Source.seen c.args.config before after
+    subst (λ (w : g.row.W.Denot). IsOutcome g.S.Source.seen c.args.lent.config before after
     (g.W.Sink.seen c.args.sink.now) (g.W.Sink.seen w)
     (w ≡ c.args.sink.now) c.finish.result) (sym back) (record {
       built = if_ok c.finish.result _ _ _ (λ clean report file. built r.goods (r.read clean) file)
@@ -75,7 +74,7 @@ returns-in-Ok-clause-outcome g c =
 
 pub returns-in-Ok-clause-started : goal.returns-in-Ok-clause-started
 returns-in-Ok-clause-started g c =
-    let staged = lent_staged c.requires.levels (ap (λ v. v.items) c.replace-lent.ensures.value)
+    let staged = lent_staged c.requires.levels (ap (λ v. v.items) c.replace-taken.ensures.value)
     (at_ok _ _ _ c.in-Ok.is c.scoped-ran.ensures.1.1.1.0) in
     let r = source_run g.S.Source.seen _ c.args.sources.now.items c.scoped-ran.result.1.items _
     c.requires.lawful (omega (arith, c.requires.files, c.args.sources.now.ok.0)) _ _ staged in
@@ -87,20 +86,20 @@ pub returns-in-Err-clause-outcome : goal.returns-in-Err-clause-outcome
 returns-in-Err-clause-outcome g c =
     let e = at_err _ _ _ c.in-Err.is c.scoped-ran.ensures.1.1.0.refused in
     let back = c.in-Err.sink-in-Err-1-own.given.1 (sym c.scoped-ran.ensures.1.1.1.1) in
-    let halted = halted_refusal c.in-Err.halt c.fault.result c.fault.ensures (λ n. back ∙ e n) in
+    let h = halted _ _ c.in-Err.halt c.fault.result c.fault.ensures (λ n. back ∙ e n) in
     record {
       built = tt;
       kept = tt;
-      unmade = λ w. absurd (halted_unmade c.in-Err.halt c.fault.result c.fault.ensures w);
-      stopped = λ file. absurd (halted_unstopped c.in-Err.halt c.fault.result c.fault.ensures file);
-      refused = λ memory. absurd (halted_unrefused c.in-Err.halt c.fault.result c.fault.ensures
-          memory);
-      begun = λ other. subst (λ (w : g.row.W.Denot). IsBegun c.args.config
+      unmade = λ w. absurd (h.no_writer w);
+      stopped = λ file. absurd (h.no_file file);
+      refused = λ memory. absurd (h.no_memory memory);
+      begun = λ other. subst (λ (w : g.row.W.Denot). IsBegun c.args.lent.config
           (g.W.Sink.seen c.args.sink.now) (g.W.Sink.seen w)) (sym back)
           (at_err _ _ _ c.in-Err.is c.scoped-ran.ensures.1.1.0.begun);
-      unstarted = halted.unstarted;
-      left_behind = halted.left_behind;
+      unstarted = h.unstarted;
+      left_behind = h.left_behind;
     }
 
 pub returns-in-Err-clause-started : goal.returns-in-Err-clause-started
-returns-in-Err-clause-started g c = halted_counted c.in-Err.halt c.fault.result c.fault.ensures
+returns-in-Err-clause-started g c =
+    (halted (Unit {0}) (Unit {0}) c.in-Err.halt c.fault.result c.fault.ensures (λ n. tt)).not_counted

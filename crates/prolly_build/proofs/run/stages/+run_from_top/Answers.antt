@@ -19,7 +19,7 @@ pub returns-clause-staged : goal.returns-clause-staged
 returns-clause-staged g t c =
     of_made _ _ _ c.up_to_stage.result c.up_to_stage.ensures.ran c.up_to_stage.ensures.met
     (λ met. nodes_staged g.S.Source.seen c.args.site.now.config _ _ _
-    (vec_len c.pop.new.self) c.in-Some-start.handle.promise.job.value.level (vec_len c.args.events) _ _
+    (vec_len c.pop.new.self) c.in-Some-start.handle.promise.job.value.level (vec_len c.args.lower.events) _ _
     (ap (λ j. j.level) c.in-Some-start.ensures.job ∙ (omega (arith, c.len.ensures)))
     (omega (arith, c.in-Some.ensures.cases))
     (ap (λ j. j.cut) c.in-Some-start.ensures.job ∙ c.cut.ensures)
