@@ -122,10 +122,11 @@ module _ (settings : Settings) (some : 1 ≤ settings.stages) (most : settings.s
       whole_few begun whole = let h = whole.few in let k = at_most_one begun.has_top in
           omega (arith, h, k)
 
-      -- so few chunks that their number is told
-      pub few_written : (written : Written) (begun : Begun) → written ≡ Whole begun →
-          HasWritten head level events old new written → begun.file.chunks < greatest_count
-      few_written written begun is h =
+      -- so few chunks that their number is told, and one of them at least
+      pub lawful_written : (written : Written) (begun : Begun) → written ≡ Whole begun →
+          HasWritten head level events old new written →
+          (begun.file.chunks < greatest_count) × ((top : Top) × (begun.top ≡ Some top))
+      lawful_written written begun is h =
           let whole : IsWhole head level events old new begun =
           subst (λ (w : Written). HasWritten head level events old new w) is h in
           let tree = is_tree (whole_few begun whole) in
@@ -133,18 +134,13 @@ module _ (settings : Settings) (some : 1 ≤ settings.stages) (most : settings.s
           ap (λ (es : List Chunk). length es) tree.events_are in
           let c = few_chunks cut settings.version m in
           let k = run.few in
-          let w = whole.count_is in
-          omega (arith, n, c, k, w)
-
-      -- and one of them at least
-      pub some_written : (written : Written) (begun : Begun) → written ≡ Whole begun →
-          HasWritten head level events old new written → (top : Top) × (begun.top ≡ Some top)
-      some_written written begun is h =
-          let whole : IsWhole head level events old new begun =
-          subst (λ (w : Written). HasWritten head level events old new w) is h in
-          let tree = is_tree (whole_few begun whole) in
-          go begun.top tree.before (chunk_of settings.version (tree_of cut settings.version m).level
-          (tree_of cut settings.version m).tree) whole.top_is (tree.events_are ∙ tree.root_last)
+          let w = whole.count_is in (
+            omega (arith, n, c, k, w),
+            go begun.top tree.before (chunk_of settings.version
+                (tree_of cut settings.version m).level
+                (tree_of cut settings.version m).tree) whole.top_is (tree.events_are ∙
+                tree.root_last),
+          )
         where
           go : (top : Option Top) (before : List Chunk) (root : Chunk) → IsTopOf events top →
               events ≡ before ++ root ∷ [] → (t : Top) × (top ≡ Some t)
@@ -260,6 +256,21 @@ module _ (settings : Settings) (some : 1 ≤ settings.stages) (most : settings.s
     unmade old before after fault (inr h) = subst (λ (f : RunFault). IsUnmadeOf settings m old after
         f) (sym h.0) (too_tall old after h.1)
 
+-- a fault of an input is neither the writer's nor one that comes before all
+input_alone : (f : RunFault) → IsInputFault f → (IsWriterFault f → ⊥) × (IsStartFault f → ⊥)
+input_alone Memory i = (λ w. w, λ s. s)
+input_alone (Read n) i = (λ w. w, λ s. s)
+input_alone (Truncated n place) i = (λ w. w, λ s. s)
+input_alone (KeyTooLong n place) i = (λ w. w, λ s. s)
+input_alone (ValueTooLong n place) i = (λ w. w, λ s. s)
+input_alone (OutOfOrder n place) i = (λ w. w, λ s. s)
+input_alone (TooManyRecords n) i = (λ w. w, λ s. s)
+input_alone Lost i = (λ w. w, λ s. s)
+input_alone Write i = absurd i
+input_alone TooTall i = absurd i
+input_alone NoThread i = absurd i
+input_alone TooManyFiles i = absurd i
+
 -- the same at any end, which a fault of the writer rules out but for a clean one
 pub unmade_at : (settings : Settings) (some : 1 ≤ settings.stages) (most : settings.stages ≤ 12)
     (m : List Pair) (events : List Chunk) (count : ℕ) (end : End) →
@@ -269,21 +280,7 @@ pub unmade_at : (settings : Settings) (some : 1 ≤ settings.stages) (most : set
     end fault → IsWriterFault fault →
     (end ≡ Clean) × IsUnmadeOf settings m old after fault
 unmade_at settings some most m events count (Fault f) run input old before after fault h writer =
-    absurd (apart f (subst IsWriterFault h.0 writer) input)
-  where
-    apart : (f : RunFault) → IsWriterFault f → IsInputFault f → ⊥
-    apart Write w i = i
-    apart TooTall w i = i
-    apart NoThread w i = w
-    apart TooManyFiles w i = w
-    apart Memory w i = w
-    apart (Read n) w i = w
-    apart (Truncated n place) w i = w
-    apart (KeyTooLong n place) w i = w
-    apart (ValueTooLong n place) w i = w
-    apart (OutOfOrder n place) w i = w
-    apart (TooManyRecords n) w i = w
-    apart Lost w i = w
+    absurd ((input_alone f input).0 (subst IsWriterFault h.0 writer))
 unmade_at settings some most m events count Clean run input old before after fault h writer =
     (refl, unmade settings some most m events count (run refl) old before after fault h)
 
@@ -292,21 +289,7 @@ pub no_start_fault : (head : List ℕ) (last_level : ℕ) (events : List Chunk)
     (old before after : SinkView) (end : End) (fault : RunFault) → IsInputEnd end →
     IsEndFault head last_level events old before after end fault → IsStartFault fault → ⊥
 no_start_fault head last_level events old before after (Fault f) fault input h start =
-    apart f (subst IsStartFault h.0 start) input
-  where
-    apart : (f : RunFault) → IsStartFault f → IsInputFault f → ⊥
-    apart NoThread s i = i
-    apart TooManyFiles s i = i
-    apart Memory s i = s
-    apart (Read n) s i = s
-    apart (Truncated n place) s i = s
-    apart (KeyTooLong n place) s i = s
-    apart (ValueTooLong n place) s i = s
-    apart (OutOfOrder n place) s i = s
-    apart (TooManyRecords n) s i = s
-    apart Write s i = s
-    apart TooTall s i = s
-    apart Lost s i = s
+    (input_alone f input).1 (subst IsStartFault h.0 start)
 no_start_fault head last_level events old before after Clean fault input (inl h) start =
     subst IsStartFault h.0 start
 no_start_fault head last_level events old before after Clean fault input (inr h) start =

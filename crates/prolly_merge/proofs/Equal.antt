@@ -1,5 +1,5 @@
--- What equal values of a variant have.
-use Rattle.std.proofs.Common.{◌≡◌, Some, None}
+-- What equal values of a variant, and equal numbers, have.
+use Rattle.std.proofs.Common.{◌≡◌, ℕ, suc, Some, None, arith}
 use Rattle.prolly_entry.specs.Record.{Record}
 use Rattle.prolly_link.specs.declared.end.End.{End}
 use Rattle.prolly_merge.specs.declared.head.Head.TheVariants.{Ready, Ended}
@@ -18,3 +18,12 @@ ready_ended r e h = cc
 
 pub ended_same : (e d : End) → Ended e ≡ Ended d → e ≡ d
 ended_same e d h = cc
+
+pub zero_suc : (n : ℕ) → 0 ≡ suc n → ⊥
+zero_suc n e = omega arith
+
+pub suc_zero : (n : ℕ) → suc n ≡ 0 → ⊥
+suc_zero n e = omega arith
+
+pub suc_same : (n k : ℕ) → suc n ≡ suc k → n ≡ k
+suc_same n k e = omega arith

@@ -58,14 +58,12 @@ module _ {I : Type 0} (link : I → LinkId) (progress : I → Progress) (Follows
   abbrev pub rest_of : List (Peeked I) → List I → List (Input RunFault)
   rest_of ms ns = inputs_of progress received (map (λ p. p.input) ms) ns
 
-  pub rest_fits : (os ms : List (Peeked I)) (ns : List I) → Advance os ms → Finish ms ns →
-      AllFit (places_after received os ms) (rest_of ms ns)
-  rest_fits [] [] [] a f = tt
-  rest_fits [] [] (n ∷ ns) a f = absurd f
-  rest_fits [] (m ∷ ms) ns a f = absurd a
-  rest_fits (o ∷ os) [] ns a f = absurd a
-  rest_fits (o ∷ os) (m ∷ ms) [] a f = absurd f
-  rest_fits (o ∷ os) (m ∷ ms) (n ∷ ns) a f = (f.0.fits, rest_fits os ms ns a.1 f.1)
+  -- What is known of inputs once all of them were received to their ends.
+  pub record AreFinished (es : List I) (os ms : List (Peeked I)) (ns : List I) : Type 0 where
+    pub whole : wholes (places_after received os ms) (rest_of ms ns) ≡
+        inputs_of progress received es ns
+    pub fits : AllFit (places_after received os ms) (rest_of ms ns)
+    pub ends : Each (Ends link progress Follows) es ns
 
   module _ (goes_on : (a b c : I) → Follows a b → Follows b c → Follows a c)
       (received_both : (a b c : I) → Follows a b → Follows b c →
@@ -80,22 +78,6 @@ module _ {I : Type 0} (link : I → LinkId) (progress : I → Progress) (Follows
         ∙ sym (received_both e m.input n (goes_on e o.input m.input b.follows a.follows)
         f.ends.follows)
 
-    pub wholes_are : (es : List I) (os ms : List (Peeked I)) (ns : List I) → Open es os →
-        Advance os ms → Finish ms ns →
-        wholes (places_after received os ms) (rest_of ms ns) ≡ inputs_of progress received es ns
-    wholes_are [] [] [] [] b a f = refl
-    wholes_are [] [] [] (n ∷ ns) b a f = absurd f
-    wholes_are [] [] (m ∷ ms) ns b a f = absurd a
-    wholes_are [] (o ∷ os) ms ns b a f = absurd b
-    wholes_are (e ∷ es) [] ms ns b a f = absurd b
-    wholes_are (e ∷ es) (o ∷ os) [] ns b a f = absurd a
-    wholes_are (e ∷ es) (o ∷ os) (m ∷ ms) [] b a f = absurd f
-    wholes_are (e ∷ es) (o ∷ os) (m ∷ ms) (n ∷ ns) b a f =
-        ap (λ x. input_of x (end_given (progress n)) ∷ wholes (places_after received os ms)
-        (rest_of ms ns)) (one_whole e o m n b.0 a.0 f.0)
-        ∙ ap (λ is. input_of (received e n) (end_given (progress n)) ∷ is)
-        (wholes_are es os ms ns b.1 a.1 f.1)
-
     one_ends : (e : I) (o m : Peeked I) (n : I) → Opens link progress Follows received e o →
         Advances link progress Follows o m → Finishes link progress Follows received m n →
         Ends link progress Follows e n
@@ -105,14 +87,21 @@ module _ {I : Type 0} (link : I → LinkId) (progress : I → Progress) (Follows
       ended = f.ends.ended;
     }
 
-    pub all_end : (es : List I) (os ms : List (Peeked I)) (ns : List I) → Open es os →
-        Advance os ms → Finish ms ns → Each (Ends link progress Follows) es ns
-    all_end [] [] [] [] b a f = tt
-    all_end [] [] [] (n ∷ ns) b a f = absurd f
-    all_end [] [] (m ∷ ms) ns b a f = absurd a
-    all_end [] (o ∷ os) ms ns b a f = absurd b
-    all_end (e ∷ es) [] ms ns b a f = absurd b
-    all_end (e ∷ es) (o ∷ os) [] ns b a f = absurd a
-    all_end (e ∷ es) (o ∷ os) (m ∷ ms) [] b a f = absurd f
-    all_end (e ∷ es) (o ∷ os) (m ∷ ms) (n ∷ ns) b a f =
-        (one_ends e o m n b.0 a.0 f.0, all_end es os ms ns b.1 a.1 f.1)
+    pub are_finished : (es : List I) (os ms : List (Peeked I)) (ns : List I) → Open es os →
+        Advance os ms → Finish ms ns → AreFinished es os ms ns
+    are_finished [] [] [] [] b a f = record { whole = refl; fits = tt; ends = tt }
+    are_finished [] [] [] (n ∷ ns) b a f = absurd f
+    are_finished [] [] (m ∷ ms) ns b a f = absurd a
+    are_finished [] (o ∷ os) ms ns b a f = absurd b
+    are_finished (e ∷ es) [] ms ns b a f = absurd b
+    are_finished (e ∷ es) (o ∷ os) [] ns b a f = absurd a
+    are_finished (e ∷ es) (o ∷ os) (m ∷ ms) [] b a f = absurd f
+    are_finished (e ∷ es) (o ∷ os) (m ∷ ms) (n ∷ ns) b a f =
+        let rest = are_finished es os ms ns b.1 a.1 f.1 in
+        record {
+          whole = ap (λ x. input_of x (end_given (progress n)) ∷
+              wholes (places_after received os ms) (rest_of ms ns)) (one_whole e o m n b.0 a.0 f.0)
+              ∙ ap (λ is. input_of (received e n) (end_given (progress n)) ∷ is) rest.whole;
+          fits = (f.0.fits, rest.fits);
+          ends = (one_ends e o m n b.0 a.0 f.0, rest.ends);
+        }

@@ -1,6 +1,6 @@
 -- The first heads of inputs, while they are received.
 use Rattle.std.proofs.Common.{◌≡◌, ℕ, suc, List, [], ◌∷◌, ◌++◌, length, Some, slice_get, slice_set}
-use Rattle.std.proofs.Common.{sym, ap, ◌∙◌, subst, arith}
+use Rattle.std.proofs.Common.{sym, ap, ◌∙◌, subst}
 use Rattle.prolly_entry.specs.Record.{Record}
 use Rattle.prolly_link.specs.Identity.{LinkId}
 use Rattle.prolly_link.specs.declared.progress.Progress.{Progress}
@@ -9,7 +9,7 @@ use Rattle.prolly_merge.specs.declared.peeked.Peeked.{Peeked}
 use Rattle.prolly_merge.specs.Each.{Each}
 use Rattle.prolly_merge.specs.PeekedInputs.{peeked_of, Opens}
 use Rattle.prolly_merge.proofs.Peeks.{peeked}
-use Rattle.prolly_merge.proofs.Equal.{none_some, some_same}
+use Rattle.prolly_merge.proofs.Equal.{none_some, some_same, suc_same, zero_suc}
 
 cons_same : {A : Type 0} (x y : A) (xs ys : List A) → y ∷ ys ≡ x ∷ xs → (y ≡ x) × (ys ≡ xs)
 cons_same x y xs ys e = (cc, cc)
@@ -57,15 +57,9 @@ module _ {I : Type 0} (link : I → LinkId) (progress : I → Progress) (Follows
       nil_cons : [] ≡ o ∷ os → ⊥
       nil_cons e = cc
   open_all os (n ∷ ns) [] f e = absurd (zero_suc (length ns) e)
-    where
-      zero_suc : (k : ℕ) → 0 ≡ suc k → ⊥
-      zero_suc k e = omega arith
   open_all [] ns (h ∷ hs) f e = absurd f
   open_all (o ∷ os) [] (h ∷ hs) f e = absurd f
   open_all (o ∷ os) (n ∷ ns) (h ∷ hs) f e = (
     f.0,
-    open_all os ns hs f.1 (pred (length hs) (length ns) e),
+    open_all os ns hs f.1 (suc_same (length hs) (length ns) e),
   )
-    where
-      pred : (k l : ℕ) → suc k ≡ suc l → k ≡ l
-      pred k l e = omega arith

@@ -7,7 +7,7 @@ use Rattle.prolly_merge.specs.declared.head.Head.{Head}
 use Rattle.prolly_merge.specs.declared.peeked.Peeked.{Peeked}
 use Rattle.prolly_merge.specs.Each.{Each}
 use Rattle.prolly_merge.specs.PeekedInputs.{peeked_of, heads_in}
-use Rattle.prolly_merge.proofs.Equal.{none_some, some_same}
+use Rattle.prolly_merge.proofs.Equal.{none_some, some_same, suc_same, suc_zero, zero_suc}
 
 pred_less : (i n : ℕ) → suc i < suc n → i < n
 pred_less i n lt = omega arith
@@ -56,18 +56,9 @@ module _ {I : Type 0} where
       heads_in (peeked_of ns hs) ≡ hs
   heads_are [] [] e = refl
   heads_are [] (h ∷ hs) e = absurd (suc_zero (length hs) e)
-    where
-      suc_zero : (n : ℕ) → suc n ≡ 0 → ⊥
-      suc_zero n e = omega arith
   heads_are (m ∷ ns) [] e = absurd (zero_suc (length ns) e)
-    where
-      zero_suc : (n : ℕ) → 0 ≡ suc n → ⊥
-      zero_suc n e = omega arith
   heads_are (m ∷ ns) (h ∷ hs) e = ap (λ xs. h ∷ xs)
-      (heads_are ns hs (same (length hs) (length ns) e))
-    where
-      same : (n k : ℕ) → suc n ≡ suc k → n ≡ k
-      same n k e = omega arith
+      (heads_are ns hs (suc_same (length hs) (length ns) e))
 
   pub get_same : (xs : List (Peeked I)) (at : ℕ) (p q : Peeked I) → slice_get xs at ≡ Some p →
       slice_get xs at ≡ Some q → p ≡ q
@@ -84,13 +75,7 @@ module _ {I : Type 0} where
       Each (λ old new. new ≡ old.input) (peeked_of ns hs) ns
   inputs_are [] hs e = tt
   inputs_are (m ∷ ns) [] e = absurd (zero_suc (length ns) e)
-    where
-      zero_suc : (n : ℕ) → 0 ≡ suc n → ⊥
-      zero_suc n e = omega arith
-  inputs_are (m ∷ ns) (h ∷ hs) e = (refl, inputs_are ns hs (same (length hs) (length ns) e))
-    where
-      same : (n k : ℕ) → suc n ≡ suc k → n ≡ k
-      same n k e = omega arith
+  inputs_are (m ∷ ns) (h ∷ hs) e = (refl, inputs_are ns hs (suc_same (length hs) (length ns) e))
 
 -- A vector whose slice was written has what was written.
 pub written : {A : Type 0} (new old : List A) (len : ℕ) → length new ≡ len →

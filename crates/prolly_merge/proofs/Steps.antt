@@ -86,33 +86,24 @@ module _ {I : Type 0} (link : I → LinkId) (progress : I → Progress) (Follows
       held = b.held a.held;
     }
 
-    pub all_advance : (key : List ℕ) (os ms ns : List (Peeked I)) → Advance os ms →
-        Each (Move key) ms ns → Advance os ns
-    all_advance key [] [] [] a b = tt
-    all_advance key [] [] (n ∷ ns) a b = absurd b
-    all_advance key [] (m ∷ ms) ns a b = absurd a
-    all_advance key (o ∷ os) [] ns a b = absurd a
-    all_advance key (o ∷ os) (m ∷ ms) [] a b = absurd b
-    all_advance key (o ∷ os) (m ∷ ms) (n ∷ ns) a b =
-        (one_advances key o m n a.0 b.0, all_advance key os ms ns a.1 b.1)
-
-    all_move : (key : List ℕ) (os ms ns : List (Peeked I)) → Advance os ms → Each (Move key) ms ns →
-        AllMove key (places os ms) (places os ns)
-    all_move key [] [] [] a b = tt
-    all_move key [] [] (n ∷ ns) a b = absurd b
-    all_move key [] (m ∷ ms) ns a b = absurd a
-    all_move key (o ∷ os) [] ns a b = absurd a
-    all_move key (o ∷ os) (m ∷ ms) [] a b = absurd b
-    all_move key (o ∷ os) (m ∷ ms) (n ∷ ns) a b = (
-      (
-        received m.input n.input,
-        one_more (in_hand o.head) (received o.input m.input) (received m.input n.input)
-            (received o.input n.input) (received_both o.input m.input n.input a.0.follows
-            b.0.follows),
-        b.0.moves,
-      ),
-      all_move key os ms ns a.1 b.1,
-    )
+    -- Inputs went on, and their places move.
+    all_go_on : (key : List ℕ) (os ms ns : List (Peeked I)) → Advance os ms →
+        Each (Move key) ms ns → Advance os ns × AllMove key (places os ms) (places os ns)
+    all_go_on key [] [] [] a b = (tt, tt)
+    all_go_on key [] [] (n ∷ ns) a b = absurd b
+    all_go_on key [] (m ∷ ms) ns a b = absurd a
+    all_go_on key (o ∷ os) [] ns a b = absurd a
+    all_go_on key (o ∷ os) (m ∷ ms) [] a b = absurd b
+    all_go_on key (o ∷ os) (m ∷ ms) (n ∷ ns) a b =
+        let rest = all_go_on key os ms ns a.1 b.1 in
+        let moved = (
+          received m.input n.input,
+          one_more (in_hand o.head) (received o.input m.input) (received m.input n.input)
+              (received o.input n.input) (received_both o.input m.input n.input a.0.follows
+              b.0.follows),
+          b.0.moves,
+        ) in
+        ((one_advances key o m n a.0 b.0, rest.0), (moved, rest.1))
 
     pub heads_are : (os ms : List (Peeked I)) → Advance os ms →
         heads_of (places os ms) ≡ heads_in ms
@@ -130,11 +121,11 @@ module _ {I : Type 0} (link : I → LinkId) (progress : I → Progress) (Follows
         come_first_goes_on (places os ms) (places os ns) xs r.key r.value first
         (subst (AllByRecursion (Allows r.key)) (sym heads) step.0)
         (subst (λ hs. last_change_of (hands_of hs) r.key ≡ Some r.value) (sym heads) step.1)
-        (all_move r.key os ms ns a step.2)
+        (all_go_on r.key os ms ns a step.2).1
 
     pub step_advances : (os ms ns : List (Peeked I)) (r : Record) → Advance os ms →
         IsStep link progress Follows received ms (Send r) ns → Advance os ns
-    step_advances os ms ns r a step = all_advance r.key os ms ns a step.2
+    step_advances os ms ns r a step = (all_go_on r.key os ms ns a step.2).0
 
     -- After a step that stops, the heads say why.
     pub step_stops : (os ms ns : List (Peeked I)) (xs : List Record) (end : End) → Advance os ms →

@@ -23,10 +23,8 @@ pub(crate) fn end_build<W: Sink>(
     end: End,
     pairs: u64,
 ) -> Result<Report, RunFault>
-    requires few { (begun : BegunValue) → written ≡ Whole begun → end ≡ Clean →
-        begun.file.chunks < greatest_count }
-    requires some { (begun : BegunValue) → written ≡ Whole begun → end ≡ Clean → (top : TopValue) ×
-        (begun.top ≡ Some top) }
+    requires { (begun : BegunValue) → written ≡ Whole begun → end ≡ Clean →
+        (begun.file.chunks < greatest_count) × ((top : TopValue) × (begun.top ≡ Some top)) }
     ensures ok { (head : List ℕ) (level : ℕ) (events : List Chunk) (old : SinkView) →
         HasWritten head level events old (W.seen sink.old) written →
         IfOk result (HasEnded head level events old (W.seen sink.new) pairs) }

@@ -35,11 +35,7 @@ loop-record-init g c = record {
 pub loop-record-preserved-in-Ok-Record : goal.loop-record-preserved-in-Ok-Record
 loop-record-preserved-in-Ok-Record g c =
     let l = c.loop-record in record {
-      under_way = one_sent (g.S.Source.seen c.args.source.now).is_honest c.args.limit l.count
-          l.buffer c.take_record.new.buffer
-          (g.S.Source.seen c.args.source.now).left (g.S.Source.seen l.source).left
-          (g.O.Out.sent c.args.out.now) (g.O.Out.sent l.out)
-          (g.O.Out.sent c.send_sized.new.self) c.in-Ok-Record.record l.invariant.under_way
+      under_way = one_sent _ _ _ _ _ _ _ _ _ _ c.in-Ok-Record.record l.invariant.under_way
           (record_taken c.args.limit l.count l.buffer c.take_record.new.buffer
           c.in-Ok-Record.field-0 c.in-Ok-Record.record c.in-Ok-Record.ensures
           c.in-Ok-Record.field-0-is)
@@ -53,26 +49,18 @@ loop-record-preserved-in-Ok-Record g c =
 
 pub returns-in-Err-send_sized-clause-loaded : goal.returns-in-Err-send_sized-clause-loaded
 returns-in-Err-send_sized-clause-loaded g c =
-    let l = c.loop-record in
-    refused_ends c.args.file c.args.limit (g.S.Source.seen c.args.source.now).is_honest l.count
-    l.buffer (g.S.Source.seen c.args.source.now).left (g.S.Source.seen l.source).left
-    (g.O.Out.sent c.args.out.now) (g.O.Out.sent l.out) (g.O.Out.sent c.send_sized.new.self)
-    l.invariant.under_way c.in-Err-send_sized.ensures.err.1
+    refused_ends c.args.file _ _ _ _ _ _ _ _ _ c.loop-record.invariant.under_way
+    c.in-Err-send_sized.ensures.err.1
 
 pub returns-in-Err-clause-loaded : goal.returns-in-Err-clause-loaded
 returns-in-Err-clause-loaded g c =
-    let l = c.loop-record in
-    memory_ends c.args.file c.args.limit (g.S.Source.seen c.args.source.now).is_honest l.count
-    l.buffer (g.S.Source.seen c.args.source.now).left (g.S.Source.seen l.source).left
-    (g.O.Out.sent c.args.out.now) (g.O.Out.sent l.out) l.invariant.under_way
+    memory_ends c.args.file _ _ _ _ _ _ _ _ c.loop-record.invariant.under_way
 
 pub returns-in-Ok-Flawed-clause-loaded : goal.returns-in-Ok-Flawed-clause-loaded
 returns-in-Ok-Flawed-clause-loaded g c =
     let l = c.loop-record in
-    flaw_ends c.args.file c.args.limit (g.S.Source.seen c.args.source.now).is_honest l.count
-    l.buffer (g.S.Source.seen c.args.source.now).left (g.S.Source.seen l.source).left
-    (g.O.Out.sent c.args.out.now) (g.O.Out.sent l.out) c.in-Ok-Flawed.flaw
-    c.fault_of-in-Ok-Flawed.result l.invariant.under_way
+    flaw_ends c.args.file _ _ _ _ _ _ _ _ c.in-Ok-Flawed.flaw c.fault_of-in-Ok-Flawed.result
+    l.invariant.under_way
     (flaw_taken c.args.limit l.count l.buffer c.take_record.new.buffer c.in-Ok-Flawed.field-0
     c.in-Ok-Flawed.flaw c.in-Ok-Flawed.ensures c.in-Ok-Flawed.field-0-is)
     c.fault_of-in-Ok-Flawed.ensures
@@ -84,11 +72,7 @@ loop-record-preserved g c =
     let l = c.loop-record in
     let taken = nothing_taken c.args.limit l.count l.buffer c.take_record.new.buffer
     c.in-Ok-Nothing.field-0 c.in-Ok-Nothing.ensures c.in-Ok-Nothing.field-0-is in record {
-      under_way = more_read (g.S.Source.seen c.args.source.now).is_honest
-          (g.S.Source.seen l.source).is_honest c.args.limit l.count c.in-Ok-fill.field-0
-          l.buffer c.take_record.new.buffer c.fill.new.self (g.S.Source.seen c.args.source.now).left
-          (g.S.Source.seen l.source).left (g.S.Source.seen c.fill.new.source).left
-          (g.O.Out.sent c.args.out.now) (g.O.Out.sent l.out) l.invariant.under_way taken.same
+      under_way = more_read _ _ _ _ _ _ _ _ _ _ _ _ _ l.invariant.under_way taken.same
           c.in-Ok-fill.ensures.fills c.fill.ensures.last_key l.invariant.honest;
       link = l.invariant.link;
       honest = λ o. c.fill.ensures.honest (l.invariant.honest o);
@@ -102,15 +86,8 @@ returns-then-is_empty-clause-loaded g c =
     let taken = nothing_taken c.args.limit l.count l.buffer c.take_record.new.buffer
     c.in-Ok-Nothing.field-0 c.in-Ok-Nothing.ensures c.in-Ok-Nothing.field-0-is in
     let none : c.in-Ok-eq0.field-0 ≡ 0 = search rules in
-    clean_ends c.args.file c.args.limit (g.S.Source.seen c.args.source.now).is_honest l.count
-    c.fill.new.self (g.S.Source.seen c.args.source.now).left
-    (g.S.Source.seen c.fill.new.source).left
-    (g.O.Out.sent c.args.out.now) (g.O.Out.sent l.out)
-    (more_read (g.S.Source.seen c.args.source.now).is_honest (g.S.Source.seen l.source).is_honest
-    c.args.limit l.count c.in-Ok-eq0.field-0
-    l.buffer c.take_record.new.buffer c.fill.new.self (g.S.Source.seen c.args.source.now).left
-    (g.S.Source.seen l.source).left (g.S.Source.seen c.fill.new.source).left
-    (g.O.Out.sent c.args.out.now) (g.O.Out.sent l.out) l.invariant.under_way taken.same
+    clean_ends c.args.file _ _ _ _ _ _ _ _
+    (more_read _ _ _ _ _ _ _ _ _ _ _ _ _ l.invariant.under_way taken.same
     c.in-Ok-eq0.ensures.fills c.fill.ensures.last_key l.invariant.honest)
     (nil_from_length c.fill.new.self.unparsed (search rules))
     (λ o. c.in-Ok-eq0.ensures.fills.over (l.invariant.honest o) none)
@@ -124,15 +101,8 @@ returns-in-Ok-eq0-clause-loaded g c =
     let same = gains_none c.in-Ok-eq0.field-0 (g.S.Source.seen l.source).is_honest
     (g.S.Source.seen l.source).left (g.S.Source.seen c.fill.new.source).left
     c.take_record.new.buffer.unparsed c.fill.new.self.unparsed c.in-Ok-eq0.ensures.fills none in
-    cut_ends c.args.file c.args.limit (g.S.Source.seen c.args.source.now).is_honest l.count
-    c.fill.new.self (g.S.Source.seen c.args.source.now).left
-    (g.S.Source.seen c.fill.new.source).left
-    (g.O.Out.sent c.args.out.now) (g.O.Out.sent l.out) c.fault_of.result
-    (more_read (g.S.Source.seen c.args.source.now).is_honest (g.S.Source.seen l.source).is_honest
-    c.args.limit l.count c.in-Ok-eq0.field-0
-    l.buffer c.take_record.new.buffer c.fill.new.self (g.S.Source.seen c.args.source.now).left
-    (g.S.Source.seen l.source).left (g.S.Source.seen c.fill.new.source).left
-    (g.O.Out.sent c.args.out.now) (g.O.Out.sent l.out) l.invariant.under_way taken.same
+    cut_ends c.args.file _ _ _ _ _ _ _ _ c.fault_of.result
+    (more_read _ _ _ _ _ _ _ _ _ _ _ _ _ l.invariant.under_way taken.same
     c.in-Ok-eq0.ensures.fills c.fill.ensures.last_key l.invariant.honest)
     (still_undecided c.args.limit l.count l.buffer c.take_record.new.buffer c.fill.new.self taken
     c.fill.ensures.last_key same)
@@ -145,15 +115,8 @@ returns-in-Err-fill-clause-loaded g c =
     let taken = nothing_taken c.args.limit l.count l.buffer c.take_record.new.buffer
     c.in-Ok-Nothing.field-0 c.in-Ok-Nothing.ensures c.in-Ok-Nothing.field-0-is in
     let fills = c.in-Err-fill.ensures.fills in
-    read_ends c.args.file c.args.limit (g.S.Source.seen c.args.source.now).is_honest l.count
-    c.fill.new.self (g.S.Source.seen c.args.source.now).left
-    (g.S.Source.seen c.fill.new.source).left
-    (g.O.Out.sent c.args.out.now) (g.O.Out.sent l.out)
-    (nothing_read (g.S.Source.seen c.args.source.now).is_honest (g.S.Source.seen l.source).is_honest
-    c.args.limit l.count
-    l.buffer c.take_record.new.buffer c.fill.new.self (g.S.Source.seen c.args.source.now).left
-    (g.S.Source.seen l.source).left (g.S.Source.seen c.fill.new.source).left
-    (g.O.Out.sent c.args.out.now) (g.O.Out.sent l.out) l.invariant.under_way taken.same fills
+    read_ends c.args.file _ _ _ _ _ _ _ _
+    (nothing_read _ _ _ _ _ _ _ _ _ _ _ _ l.invariant.under_way taken.same fills
     c.fill.ensures.last_key l.invariant.honest)
     (still_undecided c.args.limit l.count l.buffer c.take_record.new.buffer c.fill.new.self taken
     c.fill.ensures.last_key fills.same)

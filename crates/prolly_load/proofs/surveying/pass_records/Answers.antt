@@ -26,30 +26,20 @@ loop-removes-init g c = record {
 
 pub count-requires-clause-removals : goal.count-requires-clause-removals
 count-requires-clause-removals g c =
-    let l = c.loop-removes in
-    let room = has_room (g.S.Source.seen c.args.source.now).is_honest c.args.limit l.tally l.buffer
-    (g.S.Source.seen c.args.source.now).left (g.S.Source.seen l.source).left
-    c.pass_record.new.buffer c.in-Record.removes c.in-Record.len l.invariant.surveying
-    c.in-Record.ensures in
+    let room = has_room _ _ _ _ _ _ _ _ _ c.loop-removes.invariant.surveying c.in-Record.ensures in
     omega arith
 
 pub count-requires-clause-bytes : goal.count-requires-clause-bytes
 count-requires-clause-bytes g c =
-    let l = c.loop-removes in
-    let room = has_room (g.S.Source.seen c.args.source.now).is_honest c.args.limit l.tally l.buffer
-    (g.S.Source.seen c.args.source.now).left (g.S.Source.seen l.source).left
-    c.pass_record.new.buffer c.in-Record.removes c.in-Record.len l.invariant.surveying
-    c.in-Record.ensures in
+    let room = has_room _ _ _ _ _ _ _ _ _ c.loop-removes.invariant.surveying c.in-Record.ensures in
     omega arith
 
 pub loop-removes-preserved-in-Continue-1 : goal.loop-removes-preserved-in-Continue-1
 loop-removes-preserved-in-Continue-1 g c =
     let l = c.loop-removes in
     let counted = c.in_ok-count-in-Record.ensures in record {
-      surveying = one_passed (g.S.Source.seen c.args.source.now).is_honest c.args.limit
-          c.in-Record.len c.in-Record.removes l.tally c.count.new.self l.buffer
-          c.pass_record.new.buffer (g.S.Source.seen c.args.source.now).left
-          (g.S.Source.seen l.source).left l.invariant.surveying c.in-Record.ensures
+      surveying = one_passed _ _ c.in-Record.len c.in-Record.removes l.tally c.count.new.self
+          l.buffer c.pass_record.new.buffer _ _ l.invariant.surveying c.in-Record.ensures
           (record {
             records = counted.records;
             removals = counted.removals;
@@ -67,12 +57,8 @@ loop-removes-preserved-in-Continue-1 g c =
 pub loop-removes-preserved : goal.loop-removes-preserved
 loop-removes-preserved g c =
     let l = c.loop-removes in record {
-      surveying = more_came (g.S.Source.seen c.args.source.now).is_honest
-          (g.S.Source.seen l.source).is_honest c.args.limit c.in-Ok.field-0 l.tally l.buffer
-          c.pass_record.new.buffer c.fill.new.self (g.S.Source.seen c.args.source.now).left
-          (g.S.Source.seen l.source).left (g.S.Source.seen c.fill.new.source).left
-          l.invariant.surveying c.in-Nothing.ensures.1 c.in-Ok.ensures.fills
-          c.fill.ensures.last_key l.invariant.honest;
+      surveying = more_came _ _ _ _ _ _ _ _ _ _ _ l.invariant.surveying c.in-Nothing.ensures.1
+          c.in-Ok.ensures.fills c.fill.ensures.last_key l.invariant.honest;
       honest = λ o. c.fill.ensures.honest (l.invariant.honest o);
       steady = λ o. c.fill.ensures.steady (l.invariant.steady o);
       failures = c.in-Ok.ensures.failures ∙ l.invariant.failures;
@@ -85,15 +71,9 @@ returns-in-Ok-eq0-clause-ok g c =
     let same = gains_none c.in-Ok-eq0.field-0 (g.S.Source.seen l.source).is_honest
     (g.S.Source.seen l.source).left (g.S.Source.seen c.fill.new.source).left
     c.pass_record.new.buffer.unparsed c.fill.new.self.unparsed c.in-Ok-eq0.ensures.fills none in
-    λ o survey tells. end_told (g.S.Source.seen c.args.source.now).is_honest c.args.limit l.tally
-    c.fill.new.self (g.S.Source.seen c.args.source.now).left
-    (g.S.Source.seen c.fill.new.source).left survey
-    (more_came (g.S.Source.seen c.args.source.now).is_honest
-    (g.S.Source.seen l.source).is_honest c.args.limit c.in-Ok-eq0.field-0 l.tally l.buffer
-    c.pass_record.new.buffer c.fill.new.self (g.S.Source.seen c.args.source.now).left
-    (g.S.Source.seen l.source).left (g.S.Source.seen c.fill.new.source).left
-    l.invariant.surveying c.in-Nothing.ensures.1 c.in-Ok-eq0.ensures.fills
-    c.fill.ensures.last_key l.invariant.honest)
+    λ o survey tells. end_told _ _ _ _ _ _ survey
+    (more_came _ _ _ _ _ _ _ _ _ _ _ l.invariant.surveying c.in-Nothing.ensures.1
+    c.in-Ok-eq0.ensures.fills c.fill.ensures.last_key l.invariant.honest)
     (still_undecided c.args.limit l.tally.records l.buffer c.pass_record.new.buffer c.fill.new.self
     (record { undecided = c.in-Nothing.ensures.0; same = c.in-Nothing.ensures.1 })
     c.fill.ensures.last_key same)
@@ -112,8 +92,7 @@ returns-in-Flawed-clause-keys g c =
 pub returns-in-Flawed-clause-ok : goal.returns-in-Flawed-clause-ok
 returns-in-Flawed-clause-ok g c =
     let l = c.loop-removes in
-    λ o survey tells. flaw_told (g.S.Source.seen c.args.source.now).is_honest c.args.limit l.tally
-    l.buffer (g.S.Source.seen c.args.source.now).left (g.S.Source.seen l.source).left
-    c.in-Flawed.flaw survey l.invariant.surveying c.in-Flawed.ensures.0
+    λ o survey tells. flaw_told _ _ _ _ _ _ c.in-Flawed.flaw survey l.invariant.surveying
+    c.in-Flawed.ensures.0
     (subst (λ (b : Buffered). Tells l.tally b (Some c.in-Flawed.flaw) survey)
     c.in-Flawed.ensures.1 tells) o

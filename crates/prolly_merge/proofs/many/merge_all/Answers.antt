@@ -8,8 +8,7 @@ use Rattle.prolly_merge.specs.PeekedInputs.{peeked_of, AllHeld, places_after, Op
 use Rattle.prolly_merge.specs.Sent.{Sends}
 use Rattle.prolly_merge.proofs.Peeks.{written}
 use Rattle.prolly_merge.proofs.Places.{sends_pairs}
-use Rattle.prolly_merge.proofs.Finishes.{open_held, advance_held, rest_of, rest_fits, wholes_are}
-use Rattle.prolly_merge.proofs.Finishes.{all_end}
+use Rattle.prolly_merge.proofs.Finishes.{open_held, advance_held, rest_of, are_finished}
 use Rattle.prolly_merge.proofs.many.merge_all.Goals as goal
 
 pub returns-in_default-clause-merged : goal.returns-in_default-clause-merged
@@ -46,30 +45,8 @@ finish_all-requires-clause-held g c =
     (advance_held g.I.In.link g.I.In.progress g.I.In.Follows g.I.In.received os (peeked_of ns hs)
     c.send_many-pairs.ensures.advance)
 
-pub returns-clause-inputs : goal.returns-clause-inputs
-returns-clause-inputs g c =
-    let es = c.args.inputs.now in
-    let first = c.receive_heads.new.inputs in
-    let os = peeked_of first c.deref_mut.result.now in
-    let mids = c.send_many-pairs.new.inputs in
-    let hs = c.send_many-pairs.new.heads in
-    let ms = peeked_of mids hs in
-    let same : c.deref.result.now ≡ hs =
-    c.deref.ensures.value ∙ written hs c.in-Some.heads.items c.in-Some.heads.len
-    (omega (arith, c.send_many-pairs.auto.heads, c.deref_mut.ensures.len)) in
-    let opened : Each (Opens g.I.In.link g.I.In.progress g.I.In.Follows g.I.In.received) es os =
-    subst (λ xs. Each (Opens g.I.In.link g.I.In.progress g.I.In.Follows g.I.In.received) es
-    (peeked_of first xs)) (sym c.deref_mut.ensures.value) c.in-Some.ensures.opened in
-    let finished : Each (Finishes g.I.In.link g.I.In.progress g.I.In.Follows g.I.In.received) ms
-    c.finish_all.new.inputs =
-    subst (λ xs. Each (Finishes g.I.In.link g.I.In.progress g.I.In.Follows g.I.In.received)
-    (peeked_of mids xs) c.finish_all.new.inputs) same c.finish_all.ensures in
-    all_end g.I.In.link g.I.In.progress g.I.In.Follows g.I.In.received g.met.I.In.goes_on
-    g.met.I.In.received_both es os ms c.finish_all.new.inputs opened
-    c.send_many-pairs.ensures.advance finished
-
-pub returns-clause-merged : goal.returns-clause-merged
-returns-clause-merged g c =
+pub returns : goal.returns
+returns g c =
     let es = c.args.inputs.now in
     let first = c.receive_heads.new.inputs in
     let os = peeked_of first c.deref_mut.result.now in
@@ -78,6 +55,7 @@ returns-clause-merged g c =
     let ms = peeked_of mids hs in
     let ns = c.finish_all.new.inputs in
     let e = c.send_many-pairs.ensures in
+    let closed = c.close-out-2.ensures in
     let sent = g.O.Out.all_sent c.close-out-2.result in
     let end_sent = g.O.Out.end_sent c.close-out-2.result in
     let same : c.deref.result.now ≡ hs =
@@ -90,13 +68,16 @@ returns-clause-merged g c =
     =
     subst (λ xs. Each (Finishes g.I.In.link g.I.In.progress g.I.In.Follows g.I.In.received)
     (peeked_of mids xs) ns) same c.finish_all.ensures in
-    let all = wholes_are g.I.In.link g.I.In.progress g.I.In.Follows g.I.In.received
+    let all = are_finished g.I.In.link g.I.In.progress g.I.In.Follows g.I.In.received
     g.met.I.In.goes_on g.met.I.In.received_both es os ms ns opened e.advance finished in
-    subst (λ is. AllRising (lists_of is) → Sends (g.O.Out.sent c.args.out) (merged_part is)
-    (stop_end is) sent end_sent) all
-    (sends_pairs (places_after g.I.In.received os ms) (g.O.Out.sent c.args.out) sent e.halts.0
-    c.send_many-pairs.result.1 end_sent
-    e.halts.2 (c.close-out-2.ensures.sent ∙ e.halts.1) c.close-out-2.ensures.end
-    (rest_of g.I.In.link g.I.In.progress g.I.In.Follows g.I.In.received ms ns)
-    (rest_fits g.I.In.link g.I.In.progress g.I.In.Follows g.I.In.received os ms ns e.advance
-    finished))
+    record {
+      inputs = all.ends;
+      out_link = closed.link ∙ e.out_link;
+      pairs = (e.pairs.0, closed.sent ∙ e.pairs.1, e.pairs.2);
+      merged = subst (λ is. AllRising (lists_of is) → Sends (g.O.Out.sent c.args.out)
+          (merged_part is) (stop_end is) sent end_sent) all.whole
+          (sends_pairs (places_after g.I.In.received os ms) (g.O.Out.sent c.args.out) sent
+          e.halts.0 c.send_many-pairs.result.1 end_sent e.halts.2 (closed.sent ∙ e.halts.1)
+          closed.end (rest_of g.I.In.link g.I.In.progress g.I.In.Follows g.I.In.received ms ns)
+          all.fits);
+    }

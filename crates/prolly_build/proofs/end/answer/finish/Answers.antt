@@ -11,31 +11,18 @@ use Rattle.prolly_build.specs.Built.{IsInputEnd}
 use Rattle.prolly_build.specs.Writing.{HasWritten, IsEndFault}
 use Rattle.prolly_build.proofs.RanSteps.{written_begun, ended_begun}
 use Rattle.prolly_build.proofs.Takings.{lost_is_no_memory, refused_at, stopped_at}
-use Rattle.prolly_build.proofs.Makings.{few_written, some_written, file_made, no_start_fault}
+use Rattle.prolly_build.proofs.Makings.{lawful_written, file_made, no_start_fault}
 use Rattle.prolly_build.proofs.Makings.{unmade_at, if_ok}
 use Rattle.prolly_build.proofs.end.answer.finish.Goals as goal
 
-pub end_build-requires-clause-few : goal.end_build-requires-clause-few
-end_build-requires-clause-few g c = λ begun is clean.
+pub end_build-requires : goal.end_build-requires
+end_build-requires g c = λ begun is clean.
     let met = c.in-Ok.ensures.met c.requires.ended in
     let out_clean : c.args.ran.out.end ≡ Clean = sym (c.requires.end ∙ ap end_given met.1) ∙
     clean in
     let now : SinkView = g.W.Sink.seen c.args.sink.now in
     let head = header c.args.config.version c.args.config.bits in
-    few_written c.args.config c.requires.lawful.stages.0 c.requires.lawful.stages.1 c.requires.run.0
-    c.args.ran.out.items c.args.ran.pairs (c.requires.run.1 out_clean)
-    head c.requires.written.0 now c.args.ran.wrote.written begun is
-    (subst (λ (es : List Chunk). HasWritten head (c.args.config.stages - 1) es c.requires.written.0
-    now c.args.ran.wrote.written) met.0 c.requires.written.1)
-
-pub end_build-requires-clause-some : goal.end_build-requires-clause-some
-end_build-requires-clause-some g c = λ begun is clean.
-    let met = c.in-Ok.ensures.met c.requires.ended in
-    let out_clean : c.args.ran.out.end ≡ Clean = sym (c.requires.end ∙ ap end_given met.1) ∙
-    clean in
-    let now : SinkView = g.W.Sink.seen c.args.sink.now in
-    let head = header c.args.config.version c.args.config.bits in
-    some_written c.args.config c.requires.lawful.stages.0 c.requires.lawful.stages.1
+    lawful_written c.args.config c.requires.lawful.stages.0 c.requires.lawful.stages.1
     c.requires.run.0 c.args.ran.out.items c.args.ran.pairs (c.requires.run.1 out_clean)
     head c.requires.written.0 now c.args.ran.wrote.written begun is
     (subst (λ (es : List Chunk). HasWritten head (c.args.config.stages - 1) es c.requires.written.0
