@@ -59,7 +59,13 @@ fn of_file(file: u32, text: &'static str) -> FaultText
 fn of_record(file: u32, place: u32, text: &'static str) -> FaultText
     ensures { shown_text result ≡ record_text file place text.now }
 {
-    FaultText::HoldingTwo("file ", u64::from(file), ": record ", u64::from(place), text)
+    FaultText::HoldingTwo(
+        "file ",
+        u64::from(file),
+        ": record ",
+        u64::from(place),
+        text,
+    )
 }
 
 impl Display for RunFault {
