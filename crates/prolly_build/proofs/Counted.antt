@@ -1,5 +1,5 @@
 -- What the files of a build count for, by what the loaders sent of them.
-use Rattle.std.proofs.Common.{◌≡◌, ◌≢◌, ◌+◌, ◌⊎◌, ℕ, true, List, [], ◌∷◌, ◌++◌, All, map, length}
+use Rattle.std.proofs.Common.{◌≡◌, ◌≢◌, ◌⊎◌, ℕ, true, List, [], ◌∷◌, ◌++◌, All, map, length}
 use Rattle.std.proofs.Common.{Option, Some, None, inl, inr, refl, ap, sym, subst, ◌∙◌}
 use Rattle.prolly_entry.specs.Byte.{IsByte}
 use Rattle.prolly_tree.specs.CutShort.{IsSentOf, AreSentOf}
@@ -10,8 +10,7 @@ use Rattle.prolly_entry.specs.declared.flaw.Flaw.{Flaw}
 use Rattle.prolly_entry.specs.declared.flaw.Flaw.TheVariants as flaws
 use Rattle.prolly_laws.specs.Readings.{reading_is}
 use Rattle.prolly_file.specs.Source.{SourceView}
-use Rattle.prolly_link.specs.Views.{Batching}
-use Rattle.prolly_link.specs.Views.{Whole}
+use Rattle.prolly_link.specs.Views.{Batching, Whole}
 use Rattle.prolly_link.specs.declared.end.End.{End}
 use Rattle.prolly_link.specs.declared.end.End.TheVariants.{Clean, Fault}
 use Rattle.prolly_link.specs.declared.fault.RunFault.{RunFault}

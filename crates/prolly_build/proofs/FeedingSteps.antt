@@ -1,13 +1,10 @@
 -- How the records of the files reach the last merger.
-use Rattle.std.proofs.Common.{◌≡◌, ℕ, zero, suc, ◌+◌, List, [], ◌∷◌, All, map, refl, ap, sym, subst}
-use Rattle.std.proofs.Common.{◌∙◌}
+use Rattle.std.proofs.Common.{◌≡◌, ℕ, zero, suc, List, ◌∷◌, All, map, refl, ap, sym, subst, ◌∙◌}
 use Rattle.prolly_tree.specs.Merge.{Input}
 use Rattle.prolly_entry.specs.Record.{Record}
 use Rattle.prolly_file.specs.Source.{SourceView}
-use Rattle.prolly_link.specs.Views.{Batching}
-use Rattle.prolly_link.specs.Views.{Receiving, Whole}
-use Rattle.prolly_link.specs.Receipts.{end_given}
-use Rattle.prolly_link.specs.Receipts.{HasEnded}
+use Rattle.prolly_link.specs.Views.{Batching, Receiving, Whole}
+use Rattle.prolly_link.specs.Receipts.{end_given, HasEnded}
 use Rattle.prolly_link.specs.declared.fault.RunFault.{RunFault}
 use Rattle.prolly_link.specs.declared.progress.Progress.TheVariants.{Ended}
 use Rattle.prolly_merge.specs.Inputs.{input_of}

@@ -1,5 +1,5 @@
 -- What is known of what loaders sent.
-use Rattle.std.proofs.Common.{◌≡◌, ◌≤◌, ◌+◌, ◌*◌, ℕ, List, [], ◌∷◌, map, length, Option, None, refl}
+use Rattle.std.proofs.Common.{◌≡◌, ◌≤◌, ◌*◌, ℕ, List, [], ◌∷◌, map, length, Option, None, refl}
 use Rattle.std.proofs.Common.{sym, subst, arith}
 use Rattle.std.specs.List.{flat_map, AllByRecursion}
 use Rattle.std.proofs.lemmas.List.{length-append}
@@ -7,8 +7,7 @@ use Rattle.prolly_tree.specs.Merge.{Input}
 use Rattle.prolly_entry.specs.Reading.{Begins, IsReading}
 use Rattle.prolly_entry.specs.Record.{Record}
 use Rattle.prolly_file.specs.Source.{SourceView}
-use Rattle.prolly_link.specs.Views.{Batching}
-use Rattle.prolly_link.specs.Views.{Whole}
+use Rattle.prolly_link.specs.Views.{Batching, Whole}
 use Rattle.prolly_link.specs.declared.end.End.{End}
 use Rattle.prolly_link.specs.declared.end.End.TheVariants.{Clean, Fault}
 use Rattle.prolly_link.specs.declared.fault.RunFault.{RunFault}
@@ -37,10 +36,10 @@ fault_told : (file limit : ℕ) (bytes : List ℕ) (records : List Record) (faul
 fault_told file limit bytes records faults.Memory h =
     (record { rest = h.rest; begins = h.begins }, tt)
 fault_told file limit bytes records (faults.Read f) h = (of_reading h.1.reading, tt)
-fault_told file limit bytes records (faults.Truncated f place) h = (of_reading h.1.1, tt)
-fault_told file limit bytes records (faults.KeyTooLong f place) h = (of_reading h.1.1, tt)
-fault_told file limit bytes records (faults.ValueTooLong f place) h = (of_reading h.1.1, tt)
-fault_told file limit bytes records (faults.OutOfOrder f place) h = (of_reading h.1.1, tt)
+fault_told file limit bytes records (faults.Truncated f place) h = (of_reading h.2, tt)
+fault_told file limit bytes records (faults.KeyTooLong f place) h = (of_reading h.2, tt)
+fault_told file limit bytes records (faults.ValueTooLong f place) h = (of_reading h.2, tt)
+fault_told file limit bytes records (faults.OutOfOrder f place) h = (of_reading h.2, tt)
 fault_told file limit bytes records (faults.TooManyRecords f) h = (of_reading h.1, tt)
 fault_told file limit bytes records faults.Write h = absurd h
 fault_told file limit bytes records faults.TooTall h = absurd h

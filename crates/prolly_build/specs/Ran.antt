@@ -5,10 +5,8 @@ use Rattle.prolly_entry.specs.Record.{Record}
 use Rattle.prolly_tree.specs.File.{header}
 use Rattle.prolly_file.specs.Source.{SourceView}
 use Rattle.prolly_file.specs.Sink.{SinkView}
-use Rattle.prolly_link.specs.Views.{Batching}
-use Rattle.prolly_link.specs.Views.{Receiving, Whole}
-use Rattle.prolly_link.specs.Receipts.{end_given}
-use Rattle.prolly_link.specs.Receipts.{HasEnded}
+use Rattle.prolly_link.specs.Views.{Batching, Receiving, Whole}
+use Rattle.prolly_link.specs.Receipts.{end_given, HasEnded}
 use Rattle.prolly_link.specs.declared.progress.Progress.TheVariants.{Open}
 use Rattle.prolly_link.specs.declared.fault.RunFault.{RunFault}
 use Rattle.prolly_link.specs.declared.fault.RunFault.TheVariants.{NoThread as NoThread_fault}

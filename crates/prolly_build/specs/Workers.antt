@@ -5,8 +5,7 @@ use Rattle.prolly_tree.specs.Events.{Closing}
 use Rattle.prolly_file.specs.Source.{SourceView}
 use Rattle.prolly_link.specs.Identity.{LinkId}
 use Rattle.prolly_link.specs.Views.{Receiving, Whole}
-use Rattle.prolly_link.specs.Receipts.{end_given}
-use Rattle.prolly_link.specs.Receipts.{HasEnded}
+use Rattle.prolly_link.specs.Receipts.{end_given, HasEnded}
 use Rattle.prolly_link.specs.declared.end.End.TheVariants.{Fault}
 use Rattle.prolly_link.specs.declared.fault.RunFault.TheVariants.{Read}
 use Rattle.prolly_entry.specs.Record.{Record}

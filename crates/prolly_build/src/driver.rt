@@ -11,7 +11,7 @@ use crate::end::{Halt, finish};
 use crate::links::{NewLink, Rings};
 use crate::report::Report;
 use crate::run::{Ran, run_from_top};
-use crate::start::{AllStart, Lent, Permit};
+use crate::start::{AllStart, Lent, Permit, Site};
 use prolly_chunk::ChunkEvent;
 use prolly_file::{Sink, Source};
 use prolly_link::RunFault;
@@ -35,7 +35,7 @@ fn run_in<
     P: Permit,
 >(
     scope: &'s Scope<'s, E>,
-    lent: Lent<'s, '_, R, G, P>,
+    lent: &Lent<'s, '_, R, G, P>,
     rings: Rings,
     sources: &mut Vec<S>,
     sink: &mut W,
@@ -43,29 +43,36 @@ fn run_in<
     requires levels { vec_len rings.lower.events < 12 }
     requires files { (rings.lower.feed.files ≡ vec_len sources.old) × (vec_len sources.old ≤ 16) }
     ensures link { IfOk result (λ ran. ran.out.link ≡ ran.wrote.last.link) }
-    ensures hands_on { HandsOn lent.config rings.last.receiver
+    ensures hands_on { HandsOn lent.now.config rings.last.receiver
         (W.seen sink.old) (W.seen sink.new) (sink.new ≡ sink.old) result (λ ran. ran.wrote) }
-    ensures staged { IfOk result (λ ran. HasStaged S.seen lent.config (vec_len rings.lower.events)
+    ensures staged { IfOk result (λ ran. HasStaged S.seen lent.now.config (vec_len rings.lower.events)
         sources.old.items sources.new.items ran.out.items ran.out.end ran.pairs) }
 {
     let Rings { last, lower } = rings;
     let NewLink { sender, receiver } = last;
-    let site = lent.in_scope(scope);
+    let site = Site {
+        scope,
+        rt: lent.rt,
+        alloc: lent.alloc,
+        gate: lent.gate,
+        permit: lent.permit,
+        config: lent.config,
+    };
     run_from_top(&site, lower, sender, sources, receiver, sink)
 }
 
 /// Runs all workers over these links, and the writer on this thread, until all of them have ended;
 /// then ends the file.
 fn run_workers<R: Wait + Threads + Sync, S: Source + Send + Drop, W: Sink, G: Gate, P: Permit>(
-    lent: Lent<'_, '_, R, G, P>,
+    lent: &Lent<'_, '_, R, G, P>,
     rings: Rings,
     sources: &mut Vec<S>,
     sink: &mut W,
 ) -> Result<Report, RunFault>
-    requires lawful { AreLawful lent.config }
-    requires levels { vec_len rings.lower.events + 1 ≡ lent.config.stages }
+    requires lawful { AreLawful lent.now.config }
+    requires levels { vec_len rings.lower.events + 1 ≡ lent.now.config.stages }
     requires files { (rings.lower.feed.files ≡ vec_len sources.old) × (vec_len sources.old ≤ 16) }
-    ensures outcome { IsOutcome S.seen lent.config sources.old.items sources.new.items
+    ensures outcome { IsOutcome S.seen lent.now.config sources.old.items sources.new.items
         (W.seen sink.old) (W.seen sink.new) (sink.new ≡ sink.old) result }
     ensures started { IfErr result (λ fault. fault ≢ TooManyFiles) }
 {
@@ -78,10 +85,10 @@ fn run_workers<R: Wait + Threads + Sync, S: Source + Send + Drop, W: Sink, G: Ga
             requires { (vec_len rings.lower.events < 12) ×
                 (rings.lower.feed.files ≡ vec_len taken) × (vec_len taken ≤ 16) }
             ensures link { IfOk result.0 (λ ran. ran.out.link ≡ ran.wrote.last.link) }
-            ensures hands_on { HandsOn lent.config rings.last.receiver (W.seen sink.entry.now)
+            ensures hands_on { HandsOn lent.entry.now.config rings.last.receiver (W.seen sink.entry.now)
                 (W.seen result.2.now)
                 (result.2.now ≡ sink.entry.now) result.0 (λ ran. ran.wrote) }
-            ensures staged { IfOk result.0 (λ ran. HasStaged S.seen lent.config
+            ensures staged { IfOk result.0 (λ ran. HasStaged S.seen lent.entry.now.config
                 (vec_len rings.lower.events)
                 taken.items result.1.items ran.out.items ran.out.end ran.pairs) }
             ensures same { result.2.ghost_name ≡ sink.entry.ghost_name }
@@ -153,7 +160,7 @@ pub fn build_with<R: Wait + Threads + Sync, S: Source + Send + Drop, W: Sink, G:
         permit,
         config: *config,
     };
-    run_workers(lent, rings, sources, sink)
+    run_workers(&lent, rings, sources, sink)
 }
 
 /// The same, where all workers may start.

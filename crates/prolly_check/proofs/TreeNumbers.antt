@@ -11,8 +11,7 @@ use Rattle.std.proofs.lemmas.Bool.{false_from_ne_true, le-leb, le-ltb, cases_lt}
 use Rattle.std.proofs.lemmas.Bool.Decides.{Decides-eqb}
 use Rattle.std.proofs.lemmas.Grind.{common_steps, flat_map-append, get_or_default_zero}
 use Rattle.std.proofs.lemmas.List.{get_or_default, length-append, take-append-drop, get_or-drop}
-use Rattle.std.proofs.lemmas.List.{length-map, length-take-le}
-use Rattle.std.proofs.lemmas.List.{map-append, take_more}
+use Rattle.std.proofs.lemmas.List.{length-map, length-take-le, map-append, take_more}
 use Rattle.std.proofs.lemmas.List.Concat.{length-flat_map}
 use Rattle.std.proofs.lemmas.List.Elements.{filter-append, filter_more}
 use Rattle.std.proofs.lemmas.List.Folds.{Any-from_list_any, list_any_at}

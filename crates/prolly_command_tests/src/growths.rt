@@ -10,8 +10,8 @@ use crate::tools::look_up_answers::file_of_three;
 use prolly_entry::{Ref, Version};
 use prolly_file::{FromRead, ScriptSink};
 use prolly_tool::{
-    Answer, LineForm, LinesFault, Notation, PackFault, RecordForm, answer_check, answer_dump, answer_get,
-    answer_nth, answer_pack, answer_prove, answer_scan, answer_scratch, answer_verify,
+    Answer, LineForm, LinesFault, Notation, PackFault, RecordForm, answer_check, answer_dump,
+    answer_get, answer_nth, answer_pack, answer_prove, answer_scan, answer_scratch, answer_verify,
     pack_lines_as,
 };
 use std::alloc::{AllocError, Global};

@@ -12,15 +12,13 @@ use Rattle.clap.specs.Faults.{entered_fault, level_fault}
 use Rattle.clap.specs.Simple.{Shape, built, entered, label_of, names_of}
 use Rattle.clap.specs.Values.{read_as, reading_of}
 use Rattle.clap.specs.ValueTests.{accepts}
-use Rattle.clap.specs.Walk.{Row, Rule, Text, answers_to, arg_by_id, has_row, is_empty}
-use Rattle.clap.specs.Walk.{nothing_held}
+use Rattle.clap.specs.Walk.{Row, Rule, Text, answers_to, arg_by_id, has_row, is_empty, nothing_held}
 use Rattle.clap.specs.Walk.{one_of, first_of, rows_after, stop_after}
 use Rattle.clap.proofs.OnLiterals.{clap_on_literals}
 use Rattle.clap.proofs.ValueTestLemmas.{accepts-Accepts}
 use Rattle.clap.specs.declared.builder.value_parser.ValueParser.{ValueParser}
 use Rattle.clap.specs.declared.builder.value_parser.ValueParser.TheVariants.{Signed, String}
-use Rattle.prolly_line.proofs.Passes.{Each, HasPassed, IsSound, level_passed, none_in}
-use Rattle.prolly_line.proofs.Passes.{wants_value}
+use Rattle.prolly_line.proofs.Passes.{Each, HasPassed, IsSound, level_passed, none_in, wants_value}
 use Rattle.prolly_line.proofs.Presence.{default_present, has_default, has_required}
 use Rattle.prolly_line.proofs.Presence.{required_present, value_present}
 use Rattle.prolly_line.specs.Accepted.{HasNumber, HasWord, IsAccepted}

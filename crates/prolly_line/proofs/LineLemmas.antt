@@ -21,8 +21,7 @@ use Rattle.prolly_line.specs.declared.command.Command.TheVariants.{Check, Stat, 
 use Rattle.prolly_line.specs.declared.command.Command.TheVariants.{Dump, Diff, Prove, Verify}
 use Rattle.prolly_line.specs.declared.command.ParseFault.{ParseFault}
 use Rattle.prolly_line.specs.declared.command.ParseFault.TheVariants.{Memory, Usage, Help}
-use Rattle.prolly_line.specs.declared.command.ParseFault.TheVariants.{BadRoot, BadKey}
-use Rattle.prolly_line.specs.declared.command.ParseFault.TheVariants.{BadTextKey}
+use Rattle.prolly_line.specs.declared.command.ParseFault.TheVariants.{BadRoot, BadKey, BadTextKey}
 
 -- ---- clap's model holds of the line
 

@@ -1,6 +1,5 @@
 -- What stands in the rows of a subcommand whose words clap takes, and what is made of them.
-use Rattle.std.specs.Prelude.{◌≡◌, ◌≤◌, ⊤, ℕ, pos, Result, MatchResult, Option, Some, List}
-use Rattle.std.specs.Prelude.{[]}
+use Rattle.std.specs.Prelude.{◌≡◌, ◌≤◌, ⊤, ℕ, pos, Result, MatchResult, Option, Some, List, []}
 use Rattle.clap.specs.Values.{IsSignedIn}
 use Rattle.clap.specs.Words.{Row, Text, first_of, found_of, one_of, rows_of, without_minus}
 use Rattle.clap.specs.declared.parser.matches.ArgMatches.{ArgMatches}

@@ -7,8 +7,7 @@ ghost use Rattle.prolly_line.specs.Given.{GivesBadRoot, GivesRoot, GivesTrust, G
 ghost use Rattle.prolly_line.specs.Given.{GivesLines, GivesNotation, IsKeyText, bad_key};
 ghost use Rattle.prolly_line.specs.Accepted.{HasNumber, HasWord, IsRefusedKey, ReadsNumber};
 ghost use Rattle.prolly_line.specs.Accepted.{rows_in};
-ghost use Rattle.prolly_line.specs.declared.command.ParseFault.TheVariants.{BadRoot};
-ghost use Rattle.prolly_line.specs.declared.command.ParseFault.TheVariants.{Memory};
+ghost use Rattle.prolly_line.specs.declared.command.ParseFault.TheVariants.{BadRoot, Memory};
 
 use crate::command::{ParseFault, WriteMode};
 use clap::ArgMatches;

@@ -95,15 +95,19 @@ module _ {I : Type 0} (link : I → LinkId) (progress : I → Progress) (Follows
     all_go_on key (o ∷ os) [] ns a b = absurd a
     all_go_on key (o ∷ os) (m ∷ ms) [] a b = absurd b
     all_go_on key (o ∷ os) (m ∷ ms) (n ∷ ns) a b =
-        let rest = all_go_on key os ms ns a.1 b.1 in
-        let moved = (
-          received m.input n.input,
-          one_more (in_hand o.head) (received o.input m.input) (received m.input n.input)
-              (received o.input n.input) (received_both o.input m.input n.input a.0.follows
-              b.0.follows),
-          b.0.moves,
-        ) in
-        ((one_advances key o m n a.0 b.0, rest.0), (moved, rest.1))
+        let rest = all_go_on key os ms ns a.1 b.1 in (
+          (one_advances key o m n a.0 b.0, rest.0),
+          (
+            (
+              received m.input n.input,
+              one_more (in_hand o.head) (received o.input m.input) (received m.input n.input)
+                  (received o.input n.input) (received_both o.input m.input n.input a.0.follows
+                  b.0.follows),
+              b.0.moves,
+            ),
+            rest.1,
+          ),
+        )
 
     pub heads_are : (os ms : List (Peeked I)) → Advance os ms →
         heads_of (places os ms) ≡ heads_in ms

@@ -5,8 +5,7 @@ use Rattle.std.specs.Ordering.{is_lt, is_eq}
 use Rattle.prolly_entry.specs.Record.{Record}
 use Rattle.prolly_entry.specs.Keys.{key_order}
 use Rattle.prolly_tree.specs.Merge.{Input}
-use Rattle.prolly_link.specs.Receipts.{HasEnded}
-use Rattle.prolly_link.specs.Receipts.{end_given}
+use Rattle.prolly_link.specs.Receipts.{HasEnded, end_given}
 use Rattle.prolly_link.specs.declared.end.End.{End}
 use Rattle.prolly_link.specs.declared.progress.Progress.{Progress}
 use Rattle.prolly_link.specs.declared.end.End.TheVariants.{Clean, Fault}

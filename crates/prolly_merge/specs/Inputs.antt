@@ -3,8 +3,7 @@ use Rattle.std.specs.Prelude.{◌≡◌, List, [], ◌∷◌, map, Option, Some,
 use Rattle.prolly_entry.specs.Record.{Record}
 use Rattle.prolly_tree.specs.Merge.{Input, stop, stop_fault}
 use Rattle.prolly_link.specs.Identity.{LinkId}
-use Rattle.prolly_link.specs.Receipts.{HasEnded}
-use Rattle.prolly_link.specs.Receipts.{end_given}
+use Rattle.prolly_link.specs.Receipts.{HasEnded, end_given}
 use Rattle.prolly_link.specs.declared.end.End.{End}
 use Rattle.prolly_link.specs.declared.progress.Progress.{Progress}
 use Rattle.prolly_link.specs.declared.end.End.TheVariants.{Clean, Fault}

@@ -1,8 +1,7 @@
 -- Going over the frames of a file.
 use Rattle.std.proofs.Common.{◌≡◌, ℕ, zero, suc, ◌+◌, ◌^◌, ◌<◌, ◌≤◌, List, [], ◌∷◌, ◌++◌, length}
 use Rattle.std.proofs.Common.{take, drop, map, get_or, inl, inr, ◌⊎◌, Result, Ok, refl, sym, ap}
-use Rattle.std.proofs.Common.{◌∙◌, subst, arith, append_assoc, Option, Some, None}
-use Rattle.std.proofs.Common.{take-append-drop}
+use Rattle.std.proofs.Common.{◌∙◌, subst, arith, append_assoc, Option, Some, None, take-append-drop}
 use Rattle.std.specs.Int.{w64, to_be_bytes}
 use Rattle.std.specs.List.{AllByRecursion, flat_map}
 use Rattle.std.proofs.Math.Seq.{drop-append_seam}
@@ -27,8 +26,7 @@ use Rattle.prolly_tree.specs.File.{end_record, header, root_reference}
 use Rattle.prolly_tree.specs.Tree.{Tree, bytes_of, tree_of}
 use Rattle.prolly_file.specs.Device.{DeviceView}
 use Rattle.prolly_root.specs.Walk.{GoesOver, HoldsFile, IsFrame, IsStartOf, IsWalk}
-use Rattle.prolly_root.specs.Walk.{NoneBetween, StaysSame, chunks_below, chunks_of_tree}
-use Rattle.prolly_root.specs.Walk.{offset_of}
+use Rattle.prolly_root.specs.Walk.{NoneBetween, StaysSame, chunks_below, chunks_of_tree, offset_of}
 use Rattle.prolly_root.specs.declared.root_fault.RootFault.{RootFault}
 use Rattle.prolly_root.specs.declared.file.walk.Frame.{Frame}
 use Rattle.prolly_root.specs.declared.file.walk.Walk.{Walk}

@@ -2,8 +2,7 @@
 ghost use Rattle.std.specs.Prelude.{◌≡◌, ◌++◌, IfOk, OnOk, OnErr};
 ghost use Rattle.prolly_entry.specs.declared.version.Version.{Version as VersionValue};
 ghost use Rattle.prolly_tree.specs.Events.{leaf_events};
-ghost use Rattle.prolly_link.specs.Receipts.{HasEnded};
-ghost use Rattle.prolly_link.specs.Receipts.{end_given};
+ghost use Rattle.prolly_link.specs.Receipts.{HasEnded, end_given};
 ghost use Rattle.prolly_stage.specs.Sends.{closing_of, Sends, GivesUp};
 ghost use Rattle.prolly_stage.specs.Taking.{SendsLeaf};
 

@@ -1,13 +1,11 @@
 -- What is written, chunk by chunk and byte by byte.
-use Rattle.std.proofs.Common.{◌≡◌, ℕ, zero, suc, ◌<◌, ◌≤◌}
-use Rattle.std.proofs.Common.{List, [], ◌∷◌, ◌++◌, length, take, drop}
+use Rattle.std.proofs.Common.{◌≡◌, ℕ, zero, suc, ◌<◌, ◌≤◌, List, [], ◌∷◌, ◌++◌, length, take, drop}
 use Rattle.std.proofs.Common.{sym, ap, ◌∙◌, arith}
 use Rattle.std.proofs.lemmas.List.{take_at, drop_at, drop-drop, nil_from_length}
 use Rattle.std.specs.List.{flat_map}
 use Rattle.std.specs.Str.{chars}
 use Rattle.std.specs.Str.Lossy.{utf8_valid_len, utf8_invalid_len, after_first_chunk}
-use Rattle.prolly_text.specs.Escapes.{hex_escape, shown_character}
-use Rattle.prolly_text.specs.Escapes.{text_of, text_within}
+use Rattle.prolly_text.specs.Escapes.{hex_escape, shown_character, text_of, text_within}
 use Rattle.prolly_text.specs.lemmas.Chunks.{less_behind, text_nil}
 
 -- Any number of chunks that is enough gives the same text.

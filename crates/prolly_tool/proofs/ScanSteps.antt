@@ -15,8 +15,7 @@ use Rattle.prolly_entry.specs.Pair.{Pair}
 use Rattle.prolly_entry.specs.declared.version.Version.{Version}
 use Rattle.prolly_file.specs.Failures.{CountsFailure, after_failure}
 use Rattle.prolly_file.specs.Sink.{IsSettled, SinkView}
-use Rattle.prolly_root.specs.Reader.{AreFirstFound}
-use Rattle.prolly_root.specs.Reader.{ReaderView}
+use Rattle.prolly_root.specs.Reader.{AreFirstFound, ReaderView}
 use Rattle.prolly_root.specs.RootFault.{TellsReads}
 use Rattle.prolly_root.specs.declared.root_fault.RootFault.{RootFault}
 use Rattle.prolly_root.specs.declared.root_fault.RootFault.TheVariants as roots
@@ -24,8 +23,7 @@ use Rattle.prolly_tree.specs.Tree.{last_key}
 use Rattle.prolly_text.specs.declared.notation.Notation.{Notation}
 use Rattle.prolly_tool.specs.LookUps.{pair_lines, pair_text}
 use Rattle.prolly_tool.specs.OutputFault.{told as told_by}
-use Rattle.prolly_tool.specs.Outputs.{TookAll, TookBytes, TookPart, TookPrefix}
-use Rattle.prolly_tool.specs.Outputs.{TookUntil}
+use Rattle.prolly_tool.specs.Outputs.{TookAll, TookBytes, TookPart, TookPrefix, TookUntil}
 use Rattle.prolly_tool.specs.RootScans.{AreTooFew, IsDoneScan, IsFlushed, IsStoppedScan}
 use Rattle.prolly_tool.specs.RootScans.{Scanned, StoppedScan, TellsScanReads, limited_lines}
 use Rattle.prolly_tool.specs.declared.fault.Fault.{Fault}

@@ -14,8 +14,7 @@ use Rattle.prolly_text.specs.declared.notation.Notation.TheVariants.{Hex, Text}
 use Rattle.prolly_text.specs.lemmas.Notations.{one_reading, written_is_read}
 use Rattle.prolly_tool.specs.declared.line_form.LineForm.{LineForm}
 use Rattle.prolly_tool.specs.declared.record_form.RecordForm.TheVariants.{Lines}
-use Rattle.prolly_tool.specs.Lines.{lines_of, CutsAt, IsLineOf, IsPairLine}
-use Rattle.prolly_tool.specs.Lines.{IsRemovalLine}
+use Rattle.prolly_tool.specs.Lines.{lines_of, CutsAt, IsLineOf, IsPairLine, IsRemovalLine}
 use Rattle.prolly_tool.specs.Pack.{HasLine, IsOfBytes, LinesArePacked, ReadsRemovals, StandsFor}
 use Rattle.prolly_tool.specs.RecordForms.{change_text, record_line, removal_mark, written_records}
 use Rattle.prolly_tool.proofs.LineLemmas.{Lacks, dash_texts, has_byte, lacks_newline}

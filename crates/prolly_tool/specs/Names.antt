@@ -4,8 +4,7 @@ use Rattle.prolly_tool.specs.declared.name_fault.NameFault.{NameFault}
 use Rattle.prolly_tool.specs.declared.name_fault.NameFault.TheVariants.{CannotOpen, CannotReplace}
 use Rattle.prolly_tool.specs.declared.name_fault.NameFault.TheVariants.{IsInput, NotChunkFile}
 use Rattle.prolly_tool.specs.declared.name_fault.NameFault.TheVariants.{NotProof, NotRecordFile}
-use Rattle.prolly_tool.specs.declared.name_fault.NameFault.TheVariants.{NotLines, NotEmpty}
-use Rattle.prolly_tool.specs.declared.name_fault.NameFault.TheVariants.{IsBusy}
+use Rattle.prolly_tool.specs.declared.name_fault.NameFault.TheVariants.{NotLines, NotEmpty, IsBusy}
 
 -- What a line says of a file, before its name.
 abbrev pub name_fault_text : NameFault → List ℕ

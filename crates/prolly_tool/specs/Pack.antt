@@ -1,7 +1,6 @@
 -- What packing a text comes to.
 use Rattle.std.specs.Prelude.{◌≡◌, ◌↔◌, ◌⊎◌, ℕ, ◌<◌, ◌≤◌, Bool, true, List, []}
-use Rattle.std.specs.Prelude.{◌∷◌, ◌++◌, length, Option, IfSome, IfNone}
-use Rattle.std.specs.Prelude.{◌≢◌, Result, IfOk, OnErr}
+use Rattle.std.specs.Prelude.{◌∷◌, ◌++◌, length, Option, IfSome, IfNone, ◌≢◌, Result, IfOk, OnErr}
 use Rattle.std.specs.declared.alloc.AllocError.{AllocError}
 use Rattle.std.specs.Fmt.{decimal}
 use Rattle.std.specs.List.{flat_map, AllByRecursion, AllZip}

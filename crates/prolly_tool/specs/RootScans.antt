@@ -1,6 +1,5 @@
 -- What `scan` answers to who names the root.
-use Rattle.std.specs.Prelude.{◌≡◌, ◌≢◌, ℕ, ◌≤◌, ◌<◌, ◌⊎◌, true, List, length, take, Result}
-use Rattle.std.specs.Prelude.{Ok, Err}
+use Rattle.std.specs.Prelude.{◌≡◌, ◌≢◌, ℕ, ◌≤◌, ◌<◌, ◌⊎◌, true, List, length, take, Result, Ok, Err}
 use Rattle.prolly_check.specs.ScanWay.{AreScanned, EndsEmpty, joined}
 use Rattle.prolly_check.specs.Content.{Content}
 use Rattle.prolly_entry.specs.Cut.{sha512_cut}

@@ -1,7 +1,6 @@
 -- A chunk of bytes that are not all UTF-8 has an invalid part, and no bytes have no text.
 use Rattle.std.proofs.Common.{◌≡◌, ℕ, suc, ◌+◌, ◌<◌, ◌≤◌, Bool, true, false, cond, ◌==◌, Option}
-use Rattle.std.proofs.Common.{Some}
-use Rattle.std.proofs.Common.{None, List, [], length, drop, unwrap_or, inl, inr, arith, refl}
+use Rattle.std.proofs.Common.{Some, None, List, [], length, drop, unwrap_or, inl, inr, arith, refl}
 use Rattle.std.proofs.Common.{length-drop, zero}
 use Rattle.std.proofs.Math.Seq.{take-nil, drop-nil}
 use Rattle.std.specs.Prelude.{nat_lt, slice_index}

@@ -1,7 +1,6 @@
 //! A worker that sends what it receives.
 ghost use Rattle.std.specs.Prelude.{◌≡◌, ◌≢◌, ◌++◌};
-ghost use Rattle.prolly_link.specs.Receipts.{HasEnded};
-ghost use Rattle.prolly_link.specs.Receipts.{end_given};
+ghost use Rattle.prolly_link.specs.Receipts.{HasEnded, end_given};
 ghost use Rattle.prolly_link.specs.declared.end.End.TheVariants.{Fault};
 
 use prolly_link::{ClosedList, End, In, ListIn, ListOut, Next, Out, RunFault, receive_rest};

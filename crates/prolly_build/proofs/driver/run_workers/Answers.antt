@@ -1,7 +1,6 @@
-use Rattle.std.proofs.Common.{◌≡◌, ap, sym, subst, ◌∙◌, arith, OnOk}
+use Rattle.std.proofs.Common.{◌≡◌, ◌≤◌, length, ap, sym, subst, ◌∙◌, arith}
 use Rattle.std.proofs.lemmas.Result.{IfErr-weaker}
 use Rattle.prolly_entry.specs.Overlay.{overlay}
-use Rattle.prolly_link.specs.declared.end.End.TheVariants.{Clean}
 use Rattle.prolly_build.specs.Built.{IsBegun}
 use Rattle.prolly_build.specs.Outcome.{IsOutcome}
 use Rattle.prolly_build.proofs.Makings.{at_ok, at_err, if_ok, if_ok_any}
@@ -42,14 +41,14 @@ returns-in-Ok-clause-outcome g c =
       (λ x. x),
       λ x. x,
     ) in
-    let few = omega (arith, c.requires.files, c.args.sources.now.ok.0) in
+    let few : length before ≤ 16 = omega (arith, c.requires.files, c.args.sources.now.ok.0) in
     let staged = lent_staged c.requires.levels (ap (λ v. v.items) c.replace-taken.ensures.value)
     (at_ok _ _ _ c.in-Ok.is c.scoped-ran.ensures.1.1.1.0) in
     let r = source_run g.S.Source.seen _ before after _ c.requires.lawful few _ _ staged in
     let written = at_ok _ _ _ c.in-Ok.is c.scoped-ran.ensures.1.1.0.written in
     let finished = c.finish.ensures (overlay r.goods) _ r.run written.written in
     let back = c.sink-1.given.1 (sym c.scoped-ran.ensures.1.1.1.1) in
-    subst (λ (w : g.row.W.Denot). IsOutcome g.S.Source.seen c.args.lent.config before after
+    subst (λ (w : g.row.W.Denot). IsOutcome g.S.Source.seen c.args.lent.now.config before after
     (g.W.Sink.seen c.args.sink.now) (g.W.Sink.seen w)
     (w ≡ c.args.sink.now) c.finish.result) (sym back) (record {
       built = if_ok c.finish.result _ _ _ (λ clean report file. built r.goods (r.read clean) file)
@@ -93,7 +92,7 @@ returns-in-Err-clause-outcome g c =
       unmade = λ w. absurd (h.no_writer w);
       stopped = λ file. absurd (h.no_file file);
       refused = λ memory. absurd (h.no_memory memory);
-      begun = λ other. subst (λ (w : g.row.W.Denot). IsBegun c.args.lent.config
+      begun = λ other. subst (λ (w : g.row.W.Denot). IsBegun c.args.lent.now.config
           (g.W.Sink.seen c.args.sink.now) (g.W.Sink.seen w)) (sym back)
           (at_err _ _ _ c.in-Err.is c.scoped-ran.ensures.1.1.0.begun);
       unstarted = h.unstarted;

@@ -87,7 +87,7 @@ returns-then-is_empty-clause-loaded g c =
     c.in-Ok-Nothing.field-0 c.in-Ok-Nothing.ensures c.in-Ok-Nothing.field-0-is in
     let none : c.in-Ok-eq0.field-0 ≡ 0 = search rules in
     clean_ends c.args.file _ _ _ _ _ _ _ _
-    (more_read _ _ _ _ _ _ _ _ _ _ _ _ _ l.invariant.under_way taken.same
+    (more_read _ _ _ _ _ _ _ c.fill.new.self _ _ _ _ _ l.invariant.under_way taken.same
     c.in-Ok-eq0.ensures.fills c.fill.ensures.last_key l.invariant.honest)
     (nil_from_length c.fill.new.self.unparsed (search rules))
     (λ o. c.in-Ok-eq0.ensures.fills.over (l.invariant.honest o) none)
@@ -102,7 +102,7 @@ returns-in-Ok-eq0-clause-loaded g c =
     (g.S.Source.seen l.source).left (g.S.Source.seen c.fill.new.source).left
     c.take_record.new.buffer.unparsed c.fill.new.self.unparsed c.in-Ok-eq0.ensures.fills none in
     cut_ends c.args.file _ _ _ _ _ _ _ _ c.fault_of.result
-    (more_read _ _ _ _ _ _ _ _ _ _ _ _ _ l.invariant.under_way taken.same
+    (more_read _ _ _ _ _ _ _ c.fill.new.self _ _ _ _ _ l.invariant.under_way taken.same
     c.in-Ok-eq0.ensures.fills c.fill.ensures.last_key l.invariant.honest)
     (still_undecided c.args.limit l.count l.buffer c.take_record.new.buffer c.fill.new.self taken
     c.fill.ensures.last_key same)
@@ -116,7 +116,7 @@ returns-in-Err-fill-clause-loaded g c =
     c.in-Ok-Nothing.field-0 c.in-Ok-Nothing.ensures c.in-Ok-Nothing.field-0-is in
     let fills = c.in-Err-fill.ensures.fills in
     read_ends c.args.file _ _ _ _ _ _ _ _
-    (nothing_read _ _ _ _ _ _ _ _ _ _ _ _ l.invariant.under_way taken.same fills
+    (nothing_read _ _ _ _ _ _ c.fill.new.self _ _ _ _ _ l.invariant.under_way taken.same fills
     c.fill.ensures.last_key l.invariant.honest)
     (still_undecided c.args.limit l.count l.buffer c.take_record.new.buffer c.fill.new.self taken
     c.fill.ensures.last_key fills.same)

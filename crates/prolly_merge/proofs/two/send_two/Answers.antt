@@ -1,8 +1,7 @@
 use Rattle.std.proofs.Common.{[], ◌∷◌, ◌++◌, inl, inr, refl, sym, ap, ◌∙◌, append_assoc}
 use Rattle.std.proofs.lemmas.List.{append-nil}
 use Rattle.prolly_merge.proofs.Counts.{count_none, count_more}
-use Rattle.prolly_merge.proofs.Steps.{start, step_sends, step_advances, step_stops}
-use Rattle.prolly_merge.proofs.Steps.{stop_advances}
+use Rattle.prolly_merge.proofs.Steps.{start, step_sends, step_advances, step_stops, stop_advances}
 use Rattle.prolly_merge.proofs.two.send_two.Goals as goal
 
 pub loop-init : goal.loop-init

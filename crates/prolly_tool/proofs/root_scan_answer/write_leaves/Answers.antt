@@ -1,13 +1,11 @@
-use Rattle.std.proofs.Common.{◌≡◌, ◌-◌, ◌∙◌, refl, sym, ap, arith, subst, length}
-use Rattle.std.proofs.Common.{Err, Some, None}
+use Rattle.std.proofs.Common.{◌≡◌, ◌-◌, ◌∙◌, refl, sym, ap, arith, subst, length, Err, Some, None}
 use Rattle.std.specs.List.{slice_get}
 use Rattle.prolly_check.specs.ScanWay.{next_key}
 use Rattle.prolly_root.specs.Reader.{way_of}
 use Rattle.prolly_tool.specs.LookUps.{pair_lines}
 use Rattle.prolly_tool.specs.Outputs.{TookBytes, TookUntil}
 use Rattle.prolly_tool.proofs.ScanSteps.{all_found, found_from, look_up_tells, many_found}
-use Rattle.prolly_tool.proofs.ScanSteps.{none_found, none_last}
-use Rattle.prolly_tool.proofs.ScanSteps.{scan_begins, scan_ends, scan_fills}
+use Rattle.prolly_tool.proofs.ScanSteps.{none_found, none_last, scan_begins, scan_ends, scan_fills}
 use Rattle.prolly_tool.proofs.ScanSteps.{scan_fails, scan_full, scan_goes_on, scan_unwritten}
 use Rattle.prolly_tool.proofs.ScanSteps.{scan_wants}
 use Rattle.prolly_tool.specs.RootScans.{RefusesNoneOf, TellsScanReads}

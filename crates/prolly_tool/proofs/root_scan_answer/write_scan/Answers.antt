@@ -12,8 +12,7 @@ use Rattle.prolly_tool.specs.RootScans.{RefusesNone, limited_lines}
 use Rattle.prolly_tool.specs.declared.fault.Fault.{Fault}
 use Rattle.prolly_tool.specs.declared.fault.Fault.TheVariants.{Write}
 use Rattle.prolly_tool.proofs.ScanSteps.{done_ended, done_failed, stopped_flushed}
-use Rattle.prolly_tool.proofs.ScanSteps.{done_tells, flushed_tells, look_up_tells}
-use Rattle.prolly_tool.proofs.ScanSteps.{scan_begins}
+use Rattle.prolly_tool.proofs.ScanSteps.{done_tells, flushed_tells, look_up_tells, scan_begins}
 use Rattle.prolly_tool.proofs.ScanSteps.{scan_fails, scan_full, stopped_may, stopped_unflushed}
 use Rattle.prolly_tool.proofs.root_scan_answer.write_scan.Goals as goal
 

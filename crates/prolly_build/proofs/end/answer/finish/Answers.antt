@@ -11,8 +11,7 @@ use Rattle.prolly_build.specs.Built.{IsInputEnd}
 use Rattle.prolly_build.specs.Writing.{HasWritten, IsEndFault}
 use Rattle.prolly_build.proofs.RanSteps.{written_begun, ended_begun}
 use Rattle.prolly_build.proofs.Takings.{lost_is_no_memory, refused_at, stopped_at}
-use Rattle.prolly_build.proofs.Makings.{lawful_written, file_made, no_start_fault}
-use Rattle.prolly_build.proofs.Makings.{unmade_at, if_ok}
+use Rattle.prolly_build.proofs.Makings.{lawful_written, file_made, no_start_fault, unmade_at, if_ok}
 use Rattle.prolly_build.proofs.end.answer.finish.Goals as goal
 
 pub end_build-requires : goal.end_build-requires

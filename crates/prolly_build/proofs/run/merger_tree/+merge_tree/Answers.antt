@@ -1,8 +1,7 @@
 use Rattle.std.proofs.Common.{ap, ◌∙◌, sym, arith, refl}
 use Rattle.std.proofs.lemmas.Result.{err_from_is_err_and, on_ok_weaker}
 use Rattle.prolly_entry.specs.Record.{Record}
-use Rattle.prolly_link.specs.Views.{Batching}
-use Rattle.prolly_link.specs.Views.{Whole}
+use Rattle.prolly_link.specs.Views.{Batching, Whole}
 use Rattle.prolly_build.specs.Ran.{IsUnsent}
 use Rattle.prolly_build.proofs.ForkSteps.{forked_one, forked_all, forked_maps, same_length}
 use Rattle.prolly_build.proofs.RanSteps.{nothing_begun, unmet_hands_on}

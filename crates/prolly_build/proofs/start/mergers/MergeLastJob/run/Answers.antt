@@ -1,4 +1,4 @@
-use Rattle.std.proofs.Common.{◌≡◌, subst, List}
+use Rattle.std.proofs.Common.{subst, List}
 use Rattle.prolly_entry.specs.Pair.{Pair}
 use Rattle.prolly_merge.specs.Sent.{Counts}
 use Rattle.prolly_build.proofs.MergingSteps.{same_links, all_ended, all_received, merges_all}
