@@ -13,9 +13,10 @@ test:
 	tests/growths_of_calls.py $(TESTS)
 	tests/run.py $(PROGRAM)
 
-# One part of what the gate does with the program, which has to be there: of the file tests/diffs.py `make test-part PART=diffs`.
+# One part of what the gate does with the program, which has to be there: of the file tests/cases/diffs.py
+# `make test-part PART=diffs`.
 test-part:
-	tests/run.py $(PROGRAM) --part $(PART)
+	tests/run.py $(PROGRAM) $(PART)
 
 # Refuses memory to calls of the libraries, each growth in turn.
 growths:

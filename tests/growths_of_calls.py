@@ -15,8 +15,8 @@ from concurrent.futures import ThreadPoolExecutor
 from functools import partial
 from pathlib import Path
 
-from harness import shown
-from place import compiled
+from support.harness import shown
+from support.place import compiled
 
 MOST_GROWTHS = 20_000
 """More than any of the tests asks for."""

@@ -1,11 +1,11 @@
 #!/usr/bin/env python3
-"""Tests the program as a user runs it: `tests/run.py PROGRAM`, or one part of it, such as those of diffs.py,
-`tests/run.py PROGRAM --part diffs`, or over more random files than the gate has `tests/run.py PROGRAM --random SEED COUNT`,
+"""Tests the program as a user runs it: `tests/run.py PROGRAM`, or some parts of it, such as those of cases/diffs.py,
+`tests/run.py PROGRAM diffs dumps`, or over more random files than the gate has `tests/run.py PROGRAM --random SEED COUNT`,
 or to look for builds that hang `tests/run.py PROGRAM --links COUNT`.
 
-Each case is a run with its words, input, output, error, status and files. What is wanted comes from
-docs/format.md, from a second builder and a second writer of text written after it (trees.py, escapes.py), or, for texts
-of help, from texts/. Beside the cases there are runs in which files may be lost, in which calls of the system fail, or
+The tests stand in cases/, what they use in support/. Each case is a run with its words, input, output, error, status and
+files. What is wanted comes from docs/format.md, from the second implementations in oracle/ that were written after it, or,
+for texts of help, from texts/. Beside the cases there are runs in which files may be lost, in which calls of the system fail, or
 in which standard streams are not as usual, runs whose workers wait for one another, runs in which each growth of memory
 is refused in turn, the reader in Python beside the program, the examples of the README, what is installed, a sort on a
 cluster, the demonstration, code that must not compile, and random command lines over random files. As many parts run
@@ -19,34 +19,36 @@ from concurrent.futures import ProcessPoolExecutor
 from functools import partial
 from pathlib import Path
 
-import as_text
-import build
-import command_line
-import damaged
-import demo
-import diffs
-import dumps
-import examples
-import files
-import growths
-import installed
-import kept
-import links
-import look_ups
-import misuse
-import pack
-import progress
-import proofs
-import random_runs
-import readers
-import rooted
-import rooted_pairs
-import scale
-import scratch
-import streams
-import surveys
-from harness import run
-from trees import chunk_file
+from cases import (
+    as_text,
+    build,
+    command_line,
+    damaged,
+    demo,
+    diffs,
+    dumps,
+    examples,
+    files,
+    growths,
+    installed,
+    kept,
+    links,
+    look_ups,
+    misuse,
+    pack,
+    progress,
+    proofs,
+    random_runs,
+    readers,
+    rooted,
+    rooted_pairs,
+    scale,
+    scratch,
+    streams,
+    surveys,
+)
+from oracle.trees import chunk_file
+from support.harness import run
 
 KNOWN_SIZES = [(0, 1, 45), (1, 1, 53), (2, 1, 127), (3, 1, 234), (1, 2, 53), (2, 2, 143), (3, 2, 274)]
 """Numbers of pairs, versions and sizes of chunk files, as docs/format.md gives them."""
@@ -89,7 +91,10 @@ def outcomes(program, words):
     if words[:1] == ["--links"]:
         yield outcome(links.by_hand(program, int(words[1])))
         return
-    wanted = [part for part in PARTS if words[:1] != ["--part"] or part[0] == words[1]]
+    unknown = [word for word in words if word not in {name for name, _ in PARTS}]
+    if unknown:
+        raise SystemExit(f"no part of the tests: {' '.join(unknown)}")
+    wanted = [part for part in PARTS if not words or part[0] in words]
     with ProcessPoolExecutor(os.cpu_count()) as workers:
         yield from workers.map(partial(outcome_of, program), [part for part in wanted if part[0] not in ALONE])
     yield from (outcome_of(program, part) for part in wanted if part[0] in ALONE)

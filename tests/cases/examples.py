@@ -1,0 +1,47 @@
+"""The examples of the README, and of the page of commands that goes on from there, run in their order in one folder."""
+
+import os
+import subprocess
+import tempfile
+from pathlib import Path
+
+from support.harness import shown
+
+PAGES = ["README.md", "docs/commands.md"]
+
+
+def all_runs(program, _):
+    """Runs the examples, and gives for each command its name and its differences."""
+    with tempfile.TemporaryDirectory() as folder:
+        path = f"{Path(program).parent}{os.pathsep}{os.environ['PATH']}"
+        top = Path(__file__).parent.parent.parent
+        pages = "".join((top / page).read_text() for page in PAGES)
+        for command, wanted in commands_of(pages):
+            done = subprocess.run(
+                ["bash", "-o", "pipefail", "-c", command],
+                cwd=folder,
+                env={**os.environ, "PATH": path},
+                capture_output=True,
+                text=True,
+                check=False,
+            )
+            differences = []
+            if done.returncode != 0 or done.stderr:
+                differences.append(f"status {done.returncode}, standard error {shown(done.stderr)}")
+            if done.stdout != wanted:
+                differences.append(f"standard output {shown(done.stdout)}, wanted {shown(wanted)}")
+            yield f"example: {command[:60]}", differences
+
+
+def commands_of(text):
+    """The commands in the text's blocks of a console, each with what it is to print."""
+    found, within = [], False
+    for line in text.splitlines():
+        if line.startswith("```"):
+            within = line == "```console"
+        elif within and line.startswith("$ "):
+            found.append((line[2:], ""))
+        elif within:
+            command, wanted = found.pop()
+            found.append((command, f"{wanted}{line}\n"))
+    return found

@@ -1,0 +1,297 @@
+"""Runs in which the system refuses the program one growth of memory: each growth in turn, from the first to the one
+after the last."""
+
+import os
+import subprocess
+import tempfile
+from dataclasses import dataclass, field
+from pathlib import Path
+
+from cases.diffs import difference, stat_line
+from cases.dumps import lines
+from cases.look_ups import hexed
+from cases.proofs import verdict
+from cases.rooted import WRONG_VERSION, refusal, words_for
+from cases.rooted_pairs import ALL, NO_COUNTS, number_words, scan_words
+from cases.scratch import ABC
+from cases.surveys import as_json, explained, record_lines, record_numbers, table, tree_json
+from oracle.escapes import escaped, text_lines
+from oracle.proof import proof_of
+from oracle.trees import END_SIZE, begun_file, chunk_file, overlay, record, records, reference_text, report, root_text, tree
+from support.harness import BAD_TEXT_KEY, NO_THREAD, SCARCE, file_differences, lay_out, shown
+
+FIVE_IN_THREE = [[(b"a", b"1"), (b"d", b"1")], [(b"b", b"1")], [(b"c", b"1"), (b"e", b"1")]]
+
+OUT_OF_ORDER = [(b"5", b"1"), (b"3", b"1")]
+
+OLD = [(b"a", b"0"), (b"b", b"1"), (b"d", b"1")]
+"""Pairs of which one has another value, and one is taken away."""
+
+CHANGES = difference(OLD, ABC)
+
+COUNTED = stat_line(OLD, ABC, (0, 1), (0, 1))
+
+COUNTED_TREE = tree(ABC, 0, 2)
+
+ROOT = reference_text(COUNTED_TREE.reference)
+
+PROOF = proof_of(COUNTED_TREE, b"b", 2)
+
+REFERENCE = tree(ABC, 0, 1).reference
+
+MIXED = [(b"\t", b"\xff\\"), ("é".encode(), b"")]
+"""Pairs whose text has escapes, and a character that has none."""
+
+MOST_GROWTHS = 2_000
+"""More than any of the commands asks for."""
+
+
+@dataclass
+class Command:
+    """A command, what it answers where nothing is refused, and what it may leave behind where something is."""
+
+    name: str
+    words: list
+    input: bytes = b""
+    status: int = 0
+    out: bytes = b""
+    err: bytes = b""
+    before: dict = field(default_factory=dict)
+    made: str = None
+    """The file that it makes."""
+    whole: bytes = b""
+    """What this file holds where nothing is refused."""
+    parts: list = field(default_factory=list)
+    """Where a growth is refused, it holds a first part of one of these, or nothing."""
+    is_printed_early: bool = False
+    """It prints as it goes, so where a growth is refused the first lines may be there."""
+    is_made_first: bool = False
+    """The file is made before the line that tells of it, for which there may be no memory."""
+
+
+def commands():
+    """The commands, each over little data, so that each growth can be refused."""
+    chunks, counted = chunk_file(ABC, 0), chunk_file(ABC, 0, 2)
+    reads = {"abc.prl": chunks, "counted.prl": counted}
+    both = {"old.prl": chunk_file(OLD, 0), "abc.prl": chunks}
+    return [
+        Command("pack", ["pack", "out.rec"], b"61 31\n62 -\n", out=b"2\n", made="out.rec", whole=record(b"a", b"1") + record(b"b", None)),
+        Command(
+            "scratch",
+            ["scratch", "--bits", "0", "--out", "out.prl"],
+            records(ABC),
+            out=root_text(ABC, 0),
+            made="out.prl",
+            whole=chunks,
+        ),
+        built("build of three pairs", [ABC]),
+        built("build of three pairs in format 2", [ABC], version=2),
+        built("build of three files", FIVE_IN_THREE),
+        kept("atomic build of three files", FIVE_IN_THREE),
+        stopped(),
+        Command("check", ["check", "abc.prl"], out=b"ok " + root_text(ABC, 0).strip() + b" 0 6\n", before=reads),
+        *surveyed(),
+        Command("stat", ["stat", "counted.prl"], out=table(ABC, 0, 2), before=reads),
+        Command("stat --json", ["stat", "--json", "abc.prl"], out=tree_json(ABC, 0, 1), before=reads),
+        Command("get", ["get", "abc.prl", "62"], out=b"31\n", before=reads),
+        Command("get of no pair", ["get", "abc.prl", "7a"], status=1, before=reads),
+        Command("get --root", words_for(REFERENCE, b"b", 1, "abc.prl"), out=b"31\n", before=reads),
+        Command("get --root in format 2", words_for(COUNTED_TREE.reference, b"c", 2, "counted.prl"), out=b"31\n", before=reads),
+        Command("get --root of no pair", words_for(REFERENCE, b"bb", 1, "abc.prl"), status=1, before=reads),
+        Command("get --root of a key above all", words_for(REFERENCE, b"z", 1, "abc.prl"), status=1, before=reads),
+        Command("get --root of the other format", words_for(REFERENCE, b"b", 1, "counted.prl"), status=4, err=refusal(WRONG_VERSION)[2], before=reads),
+        Command("scan", ["scan", "abc.prl", "62", "5"], out=b"62 31\n63 31\n", before=reads),
+        scanned("scan --root", REFERENCE, 1, "abc.prl", b"b", reads),
+        scanned("scan --root in format 2", COUNTED_TREE.reference, 2, "counted.prl", b"", reads),
+        Command("scan --root of no pair", scan_words(REFERENCE, b"z", ALL, 1, "abc.prl"), before=reads),
+        Command("scan --root of the other format", scan_words(REFERENCE, b"b", 1, 1, "counted.prl"), status=4, err=refusal(WRONG_VERSION)[2], before=reads),
+        Command("nth", ["nth", "counted.prl", "2"], out=b"63 31\n", before=reads),
+        Command("nth --root", number_words(COUNTED_TREE.reference, 2, name="counted.prl"), out=b"63 31\n", before=reads),
+        Command("nth --root of no pair", number_words(COUNTED_TREE.reference, 3, name="counted.prl"), status=1, before=reads),
+        Command("nth --root without counts", number_words(REFERENCE, 2, 1, "abc.prl"), status=4, err=NO_COUNTS[2], before=reads),
+        Command("nth --root of the other format", number_words(COUNTED_TREE.reference, 2, name="abc.prl"), status=4, err=refusal(WRONG_VERSION)[2], before=reads),
+        Command("dump", ["dump", "abc.prl"], out=records(ABC), before=reads),
+        Command("dump --hex", ["dump", "--hex", "abc.prl"], out=lines(ABC), before=reads),
+        Command("dump --hex to a file", ["dump", "--hex", "abc.prl", "out.txt"], before=reads, made="out.txt", whole=lines(ABC)),
+        Command("prove", ["prove", "counted.prl", "62", "p"], before=reads, made="p", whole=PROOF),
+        Command("atomic prove", ["prove", "--atomic", "--sync", "counted.prl", "62", "p"], before=reads, made="p", whole=PROOF),
+        Command("verify", ["verify", "--format", "2", ROOT, "62", "p"], out=b"31\n", before={"p": PROOF}),
+        Command("verify of standard input", ["verify", "--format", "2", ROOT, "62"], PROOF, out=b"31\n"),
+        Command("verify of no value", ["verify", "--format", "2", ROOT, "6262", "p"], status=1, before={"p": proof_of(COUNTED_TREE, b"bb", 2)}),
+        Command("verify of another key", ["verify", "--format", "2", ROOT, "6262", "p"], status=4, err=verdict(PROOF, COUNTED_TREE.reference, b"bb", 2)[2], before={"p": PROOF}),
+        Command("dump to a file", ["dump", "abc.prl", "out.rec"], before=reads, made="out.rec", whole=records(ABC)),
+        Command("diff", ["diff", "old.prl", "abc.prl"], status=1, out=lines(CHANGES), before=both),
+        Command("diff --stat", ["diff", "--stat", "old.prl", "abc.prl"], status=1, out=COUNTED, before=both),
+        Command(
+            "diff --stat to a file",
+            ["diff", "--stat", "old.prl", "abc.prl", "--out", "out.rec"],
+            status=1,
+            out=COUNTED,
+            before=both,
+            made="out.rec",
+            whole=records(CHANGES),
+            is_made_first=True,
+        ),
+        Command("diff of equal maps", ["diff", "counted.prl", "abc.prl"], before=reads),
+        Command("diff to a file", ["diff", "old.prl", "abc.prl", "--out", "out.rec"], status=1, before=both, made="out.rec", whole=records(CHANGES)),
+        Command("atomic diff", ["diff", "--atomic", "--sync", "old.prl", "abc.prl", "--out", "out.rec"], status=1, before=both, made="out.rec", whole=records(CHANGES)),
+        Command("atomic dump", ["dump", "--atomic", "--sync", "abc.prl", "out.rec"], before=reads, made="out.rec", whole=records(ABC)),
+        *text_commands(),
+    ]
+
+
+def surveyed():
+    """The commands over a record file, which is good or not."""
+    good, flawed = {"in.rec": records(ABC)}, {"in.rec": records(OUT_OF_ORDER)}
+    return [
+        Command("explain", ["explain", "in.rec"], out=b"ok 3\n", before=good),
+        Command("explain of a file out of order", ["explain", "--text", "in.rec"], status=1, out=explained(records(OUT_OF_ORDER), escaped), before=flawed),
+        Command("stat of a record file", ["stat", "--text", "in.rec"], out=record_lines(ABC, escaped), before=good),
+        Command("stat --json of a record file", ["stat", "--json", "in.rec"], out=as_json(record_numbers(ABC, hexed)), before=good),
+        Command("stat of a file out of order", ["stat", "in.rec"], status=3, err=b"prolly: file 0: record 1: key out of order\n", before=flawed),
+    ]
+
+
+def text_commands():
+    """The commands with `--text`."""
+    top = tree(MIXED, 0, 2)
+    before, root, told = {"in.prl": chunk_file(MIXED, 0, 2)}, reference_text(top.reference), text_lines(MIXED)
+    by_root = ["--root", root, "--format", "2", "in.prl"]
+    proof = proof_of(top, b"\t", 2)
+    both = before | {"old.prl": chunk_file(ABC, 0)}
+    changes = difference(ABC, MIXED)
+    given = text_lines(changes)
+    return [
+        Command("pack --text", ["pack", "--text", "--removals", "out.rec"], given, out=b"%d\n" % len(changes), made="out.rec", whole=records(changes)),
+        Command("pack --text of a bad line", ["pack", "--text", "out.rec"], b"a\tb\na\\q\tb\n", status=3, err=b"prolly: line 1: not a pair of text\n"),
+        Command("get --text", ["get", "--text", "in.prl", "\\t"], out=b"\\xff\\\\\n", before=before),
+        Command("get --text of a bad key", ["get", "--text", "in.prl", "\\q"], status=2, err=BAD_TEXT_KEY, before=before),
+        Command("get --text --root", ["get", "--text", *by_root, "é"], out=b"\n", before=before),
+        Command("scan --text", ["scan", "--text", "in.prl", "", "5"], out=told, before=before),
+        Command("scan --text --root", ["scan", "--text", *by_root, "", "5"], out=told, before=before, is_printed_early=True),
+        Command("nth --text", ["nth", "--text", "in.prl", "0"], out=text_lines(MIXED[:1]), before=before),
+        Command("nth --text --root", ["nth", "--text", *by_root, "1"], out=text_lines(MIXED[1:]), before=before),
+        Command("dump --text", ["dump", "--text", "in.prl"], out=told, before=before),
+        Command("dump --text to a file", ["dump", "--text", "in.prl", "out.txt"], before=before, made="out.txt", whole=told),
+        Command("diff --text", ["diff", "--text", "old.prl", "in.prl"], status=1, out=given, before=both),
+        Command("prove --text", ["prove", "--text", "in.prl", "\\t", "p"], before=before, made="p", whole=proof),
+        Command("verify --text", ["verify", "--text", "--format", "2", root, "\\t", "p"], out=b"\\xff\\\\\n", before={"p": proof}),
+    ]
+
+
+def scanned(name, root, version, file, key, before):
+    """A scan by the root to the end, which prints leaf by leaf."""
+    out = lines([pair for pair in ABC if pair[0] >= key])
+    return Command(name, scan_words(root, key, ALL, version, file), out=out, before=before, is_printed_early=True)
+
+
+def built(name, files, version=1):
+    """A build that is whole where nothing is refused, and else holds a first part of the file of some first pairs, without
+    its end record."""
+    pairs = overlay(files)
+    before = {f"{number}.rec": records(file) for number, file in enumerate(files)}
+    return Command(
+        name,
+        ["build", "--bits", "0", "--format", str(version), "out.prl", *before],
+        out=report(pairs, 0, version),
+        before=before,
+        made="out.prl",
+        whole=chunk_file(pairs, 0, version),
+        parts=first_parts(pairs, version),
+        is_made_first=True,
+    )
+
+
+def kept(name, files):
+    """The same with `--atomic` and `--sync`: what is not whole is not there."""
+    command = built(name, files)
+    command.words[1:1] = ["--atomic", "--sync"]
+    command.parts, command.is_made_first = [], False
+    return command
+
+
+def stopped():
+    """A build of two files, of which one has a key out of order behind its first."""
+    good = [(b"1", b"1"), (b"2", b"1"), (b"7", b"1")]
+    before = {"0.rec": records(OUT_OF_ORDER), "1.rec": records(good)}
+    return Command(
+        "build of a file out of order",
+        ["build", "--bits", "0", "out.prl", *before],
+        status=3,
+        err=b"prolly: file 0: record 1: key out of order\n",
+        before=before,
+        made="out.prl",
+        whole=begun_file(overlay([OUT_OF_ORDER[:1], good])[:3], 0),
+        parts=first_parts(overlay([OUT_OF_ORDER[:1], good]), 1),
+    )
+
+
+def first_parts(pairs, version):
+    """The files of the first pairs, each without its end record."""
+    return [chunk_file(pairs[:count], 0, version)[:-END_SIZE] for count in range(len(pairs) + 1)]
+
+
+def all_runs(program, folder):
+    """Refuses each command each of its growths, and gives for each run its name and its differences."""
+    allocator = folder / "refuse.so"
+    source = Path(__file__).parent.parent / "support" / "refuse.c"
+    subprocess.run(["cc", "-O2", "-shared", "-fPIC", "-o", allocator, source], check=True)
+    for command in commands():
+        for number in range(1, MOST_GROWTHS):
+            was_refused, differences = refuse(program, allocator, command, number)
+            yield f"{command.name}, growth {number} refused", differences
+            if not was_refused:
+                break
+        else:
+            yield f"{command.name}, its growths", [f"more than {MOST_GROWTHS}"]
+
+
+def refuse(program, allocator, command, number):
+    """Runs a command and refuses it the growth of this number. Gives whether there was one, and the differences."""
+    with tempfile.TemporaryDirectory() as name:
+        folder = Path(name)
+        lay_out(folder, command.before)
+        reader, writer = os.pipe()
+        done = subprocess.run(
+            [program, *command.words],
+            cwd=folder,
+            input=command.input,
+            capture_output=True,
+            env={"LD_PRELOAD": str(allocator), "REFUSE": str(number), "TELL": str(writer)},
+            pass_fds=[writer],
+            check=False,
+        )
+        os.close(writer)
+        with os.fdopen(reader, "rb") as told:
+            was_refused = told.read() != b""
+        answer = (done.returncode, done.stdout, done.stderr)
+        if answer == (command.status, command.out, command.err):
+            return was_refused, file_differences(folder, command.before | whole_of(command))
+        if was_refused and done.returncode == 6 and is_printed_in_part(command, done.stdout) and done.stderr in SCARCE:
+            return True, part_differences(folder, command, done.stderr == NO_THREAD)
+        return was_refused, [f"status {done.returncode}, output {shown(done.stdout)}, error {shown(done.stderr)}"]
+
+
+def is_printed_in_part(command, out):
+    """Whether this is nothing, or the first lines where a command prints as it goes."""
+    return out == b"" or command.is_printed_early and out.endswith(b"\n") and command.out.startswith(out)
+
+
+def whole_of(command):
+    """The file that a command makes, if it makes one."""
+    return {command.made: command.whole} if command.made else {}
+
+
+def part_differences(folder, command, is_unstarted):
+    """How the files differ from those that were there, and from a first part of what was to be made: none of it, where a
+    thread could not be started, and all of it, where there was no memory for the line that tells of it."""
+    made = folder / command.made if command.made else None
+    if made is None or not made.is_file():
+        return file_differences(folder, command.before)
+    left = made.read_bytes()
+    differences = file_differences(folder, command.before | {command.made: left})
+    is_first_part = any(part.startswith(left) for part in command.parts)
+    is_untold = command.is_made_first and left == command.whole
+    if left and (is_unstarted or not (is_first_part or is_untold)):
+        differences.append(f"{command.made} holds {shown(left)}")
+    return differences

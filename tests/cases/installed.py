@@ -1,0 +1,159 @@
+"""What `make install` puts on a machine, and takes away again: the program, its manual, and the shells' completions. And
+what the archive for other machines has."""
+
+import re
+import shutil
+import subprocess
+import tempfile
+from functools import partial
+from pathlib import Path
+
+from support.completed import differences, installed_shells
+
+TOP = Path(__file__).parent.parent.parent
+
+INSTALLED = [
+    "bin/prolly",
+    "share/bash-completion/completions/prolly",
+    "share/fish/vendor_completions.d/prolly.fish",
+    "share/man/man1/prolly.1",
+    "share/zsh/site-functions/_prolly",
+]
+
+SECTIONS = ["NAME", "SYNOPSIS", "DESCRIPTION", "OPTIONS", "COMMANDS", "EXIT STATUS", "FILES", "EXAMPLES", "SEE ALSO"]
+"""The sections of the manual."""
+
+CHARACTERS = {"\\-": "-", "\\(aq": "'", "\\(ga": "`", "\\(ha": "^", "\\(ti": "~", "\\|": "", "\\&": "", "\\e": "\\"}
+"""How the manual's source spells characters."""
+
+LINTS = [
+    ["mandoc", "-Tlint", "-Wall"],
+    ["groff", "-man", "-ww", "-Tutf8", "-z"],
+    ["man", "--warnings", "-E", "UTF-8", "-Tutf8", "-Z", "-l"],
+]
+"""What looks for faults in a page's source."""
+
+
+def all_runs(program, _):
+    """Installs, looks, and takes away: for each step its name and its differences."""
+    with tempfile.TemporaryDirectory() as folder:
+        place = Path(folder) / "usr"
+        made = Path(folder) / "made"
+        yield "make install", make("install", program, place, made)
+        yield "what is installed", differs(files_below(place), INSTALLED)
+        page, told = (place / INSTALLED[3]).read_text(), helps(program)
+        yield "the manual has all words of the helps", list(missing(told, page))
+        yield "the manual's lists are lists", list(run_together(told, page))
+        yield "the manual's sections", differs(re.findall(r'(?m)^\.SH "?([^"\n]*)', page), SECTIONS)
+        yield "the manual's statuses", differs(statuses(page), told_statuses())
+        yield "the manual has no usage's brackets", re.findall(r"<[A-Z]+>", page)
+        for lint in LINTS:
+            if shutil.which(lint[0]):
+                yield f"the manual, as {lint[0]} reads it", linted([*lint, str(place / INSTALLED[3])])
+        scripts = {"bash": place / INSTALLED[1], "fish": place / INSTALLED[2], "zsh": place / INSTALLED[4]}
+        for shell, script in installed_shells(scripts):
+            yield f"what {shell} reads", silent([shell, "-n", str(script)])
+            yield f"completions of {shell}", list(differences(shell, script, told[1], Path(folder) / shell))
+        yield "make uninstall", make("uninstall", program, place, made)
+        yield "what is left", differs(files_below(place), [])
+        yield "the archive", list(unpacked(program, Path(folder) / "archive"))
+
+
+def make(target, program, place, made):
+    """Makes a target, with the program that is there."""
+    words = [f"PROGRAM={program}", f"PREFIX={place}", f"MADE={made}"]
+    return silent(["make", "-s", "-C", str(TOP), target, *words])
+
+
+def unpacked(program, folder):
+    """How an archive differs from one that has all that is installed, the documents, and the program as it is."""
+    folder.mkdir()
+    archive = packed(program, folder)
+    first = archive.read_bytes()
+    yield from differs(packed(program, folder).read_bytes() == first, True)
+    subprocess.run(["tar", "-xzf", archive, "-C", folder], check=True)
+    root = Path(str(archive).removesuffix(".tar.gz"))
+    wanted = [*INSTALLED, "README.md", "LICENSE", "docs/commands.md", "docs/format.md", "examples/python/prolly_read.py"]
+    yield from (f"{name} is missing" for name in wanted if not (root / name).is_file())
+    yield from differs((root / "bin" / "prolly").read_bytes() == Path(program).read_bytes(), True)
+    told = subprocess.run([root / "bin" / "prolly", "--version"], capture_output=True, text=True, check=False).stdout
+    yield from differs(told.split(",")[0], root.name.removesuffix("-x86_64-linux").replace("-", " "))
+
+
+def packed(program, folder):
+    """Makes the archive in a folder."""
+    words = [str(TOP / "share" / "dist.py"), program, str(folder)]
+    return Path(subprocess.run(words, capture_output=True, text=True, check=True).stdout.strip())
+
+
+def silent(words):
+    """How a command differs from one that is done and says nothing."""
+    done = subprocess.run(words, capture_output=True, text=True, check=False)
+    said = done.stdout + done.stderr
+    return [] if (done.returncode, said) == (0, "") else [f"status {done.returncode}: {said[-300:]!r}"]
+
+
+def linted(words):
+    """What a reader of manuals warns of."""
+    done = subprocess.run(words, capture_output=True, text=True, check=False)
+    said = (done.stdout if "-Tlint" in words else "") + done.stderr
+    return [said[-300:]] if said or done.returncode else []
+
+
+def differs(found, wanted):
+    """A line, where the two are not the same."""
+    return [] if found == wanted else [f"{found}, wanted {wanted}"]
+
+
+def files_below(place):
+    """The files below a folder."""
+    return sorted(str(path.relative_to(place)) for path in place.rglob("*") if path.is_file())
+
+
+def helps(program):
+    """The help of the program, and those of its commands by their names."""
+    show = partial(subprocess.run, capture_output=True, text=True, check=True)
+    top = show([program, "--help"]).stdout
+    commands = re.findall(r"(?m)^  ([a-z]+)  ", top.split("Commands:")[1].split("Options:")[0])
+    return top, {name: show([program, name, "--help"]).stdout for name in commands if name != "help"}
+
+
+def plain(page):
+    """A manual's source without its fonts, with its characters as they are read."""
+    page = re.sub(r"\\f[A-Z]", "", page)
+    for spelling, character in CHARACTERS.items():
+        page = page.replace(spelling, character)
+    return page
+
+
+def missing(told, page):
+    """Words of the helps that the manual has not."""
+    found = set(plain(page).replace("`", "").replace('"', "").split())
+    top, commands = told
+    for text in [top, *commands.values()]:
+        words = text.replace("Usage:", "").replace("Arguments:", "").replace("Options:", "").replace("Commands:", "")
+        words = re.sub(r"<([A-Z]+)>", r"\1", words).replace("`", "")
+        yield from (f"{word!r} is missing" for word in sorted(set(words.split()) - found))
+
+
+def run_together(told, page):
+    """Lines of the helps that stand by themselves, as those of a list do, and that the manual runs into others."""
+    found = set(plain(page).splitlines())
+    top, commands = told
+    for text in [top, *commands.values()]:
+        for line in re.findall(r"(?m)^  (\S.*)", text.split("\nUsage:")[0]):
+            begin = re.split("  +", line)[0]
+            if begin not in found:
+                yield f"{begin!r} has no line of its own"
+
+
+def statuses(page):
+    """The exit statuses that the manual tells."""
+    part = plain(page).split(".SH EXIT STATUS")[1].split(".SH ")[0]
+    return sorted(set(re.findall(r"(?m)^\.TP\n(\d)$", part)))
+
+
+def told_statuses():
+    """Those that the commands' documents tell: 0, 1, and those of faults."""
+    faults = (TOP / "docs" / "faults.md").read_text()
+    return sorted({"0", "1", *re.findall(r"(?m)^\| [`.].*? \| (\d) \|", faults)})

@@ -1,0 +1,419 @@
+"""No slip of the hand and no call of the system that fails costs a file: what OUT held is there until there is something to
+write, and is written over only where it is a file of the same kind."""
+
+import errno
+import fcntl
+import os
+import resource
+import stat
+import subprocess
+import tempfile
+import termios
+import time
+from array import array
+from functools import partial
+from pathlib import Path
+
+from cases.dumps import lines
+from cases.files import FAULTS, WRITERS, in_place_of_out, laid, refusal
+from cases.scratch import ABC
+from oracle.proof import proof_of
+from oracle.trees import chunk_file, records, report, root_text, tree
+from support.place import Place, compiled
+
+TABLE = b"apple\t3\npear\t5\n"
+"""A table of text, which is no chunk file, no proof and no record file."""
+
+PICTURE = b"\x89PNG\r\n\x1a\n\0\0\0\rIHDR"
+"""The first bytes of a picture, which are no lines."""
+
+OLD_FILES = {
+    "chunk file": chunk_file(ABC[:1], 0),
+    "proof": proof_of(tree(ABC, 0, 1), b"a", 1),
+    "record file": records(ABC[:1]),
+    "file of lines": lines(ABC[:1]),
+}
+"""A file of each kind."""
+
+KINDS = {
+    "build": "chunk file",
+    "scratch": "chunk file",
+    "pack": "record file",
+    "dump": "record file",
+    "dump --hex": "file of lines",
+    "diff": "record file",
+    "diff --stat": "record file",
+    "prove": "proof",
+}
+"""What each command writes."""
+
+IN_PLACE = ("build", "scratch")
+"""The commands that write OUT itself where they are not told to write a file beside it."""
+
+CALLS = ("statx", "open", "realpath", "readlink", "pread", "ftruncate", "flock", "fchmod", "fsync", "rename", "unlink")
+"""The calls of the system that look at, open, make, lock, empty, rename or remove a file."""
+
+ERRORS = (errno.EPERM, errno.EIO, errno.EINTR, errno.ENOMEM)
+
+
+# ---- OUT is a file of another kind
+
+
+def is_refused(place, command, before, flags):
+    """OUT holds something else than what the command writes: it stays, and says so. With --force it is written over."""
+    words, given, made, answer = WRITERS[command]
+    files = laid(place)
+    place.lay(out=before)
+    line = f"OUT is not a {KINDS[command]}: out".encode()
+    place.answers(place.run(*words, *flags, stdin=given or b""), refusal(line))
+    place.holds(out=before, **files)
+    place.answers(place.run(*words, *flags, "--force", stdin=given or b""), answer)
+    place.holds(out=made, **files)
+
+
+def is_written_over(place, command, before):
+    """OUT is empty, or of the kind that the command writes."""
+    words, given, made, answer = WRITERS[command]
+    files = laid(place)
+    place.lay(out=before)
+    place.answers(place.run(*words, stdin=given or b""), answer)
+    place.holds(out=made, **files)
+
+
+def is_not_readable(place):
+    """OUT can't be read, so that no one can tell what it holds."""
+    files = laid(place)
+    place.lay(out=chunk_file(ABC[:1], 0))
+    place.path("out").chmod(0o222)
+    words, _, made, answer = WRITERS["build"]
+    place.answers(place.run(*words, is_nobody=True), refusal(b"cannot open out"))
+    place.answers(place.run(*words, "--force", is_nobody=True), answer)
+    place.path("out").chmod(0o666)
+    place.holds(out=made, **files)
+
+
+def has_no_files(place):
+    """A build of no files makes the empty tree in a new file or an empty one, and writes over nothing."""
+    place.lay(a_rec=records(ABC), old_prl=OLD_FILES["chunk file"], none=b"")
+    place.answers(place.run("build", "a.rec"), refusal(b"OUT is not a chunk file: a.rec"))
+    place.answers(place.run("build", "old.prl"), refusal(b"OUT is not empty, and no FILES are given: old.prl"))
+    place.answers(place.run("build", "--atomic", "old.prl"), refusal(b"OUT is not empty, and no FILES are given: old.prl"))
+    place.holds(a_rec=records(ABC), old_prl=OLD_FILES["chunk file"], none=b"")
+    for name in ("none", "new"):
+        place.answers(place.run("build", name), (0, report([], 12), b""))
+    place.answers(place.run("build", "--force", "old.prl"), (0, report([], 12), b""))
+    empty = chunk_file([], 12)
+    place.holds(a_rec=records(ABC), old_prl=empty, none=empty, new=empty)
+
+
+def names_all_files(place):
+    """`build *.rec`, where OUT was left out."""
+    place.lay(a_rec=records(ABC[:1]), b_rec=records(ABC[1:]))
+    place.answers(place.run("build", "a.rec", "b.rec"), refusal(b"OUT is not a chunk file: a.rec"))
+    place.holds(a_rec=records(ABC[:1]), b_rec=records(ABC[1:]))
+
+
+# ---- what OUT held stays until there is something to write
+
+
+def stays_until_written(place, command, before):
+    """After a fault of an input OUT is what it was, and is not there where it was not. A build has begun by then."""
+    words, given, status, line = FAULTS[command]
+    files = laid(place)
+    if before is not None:
+        files["out"] = before
+        place.lay(out=before)
+    place.answers(place.run(*words, stdin=given or b""), (status, b"", line))
+    if command == "build":
+        left = place.path("out").read_bytes()
+        if not chunk_file([ABC[0], ABC[1]], 0).startswith(left) or len(left) < 6:
+            place.note(f"OUT holds {len(left)} bytes")
+        files["out"] = None
+    place.holds(**files)
+
+
+def stays_before_the_header(place):
+    """A build that can't begin leaves OUT as it was, and takes away a file that it made."""
+    place.lay(a_rec=records(ABC), old=OLD_FILES["chunk file"])
+    place.path("old").chmod(0o666)
+    for name in ("old", "new"):
+        answer = place.run("build", name, "a.rec", limits={resource.RLIMIT_NPROC: 1}, is_nobody=True)
+        place.answers(answer, (6, b"", b"prolly: a thread could not be started\n"))
+    place.holds(a_rec=records(ABC), old=OLD_FILES["chunk file"])
+
+
+def is_made_early(place):
+    """An OUT that can't be made is told before anything is read."""
+    for words in (["scratch", "--out", "none/out"], ["pack", "none/out"]):
+        reader, writer = os.pipe()
+        process = place.start(words, stdin=reader)
+        os.close(reader)
+        out, err = process.communicate(timeout=60)
+        os.close(writer)
+        place.answers((process.returncode, out, err), refusal(b"cannot open none/out"))
+    place.holds()
+
+
+def is_not_read(place, words, line):
+    """A file that is longer than commands read is refused before any of it is read."""
+    place.lay(good_prl=chunk_file(ABC, 0))
+    with open(place.path("long"), "wb") as long:
+        long.write(b"PRLY\1\0")
+        long.truncate(3_000_000_000)
+    answer, calls = place.meddled(*words, stdin=subprocess.DEVNULL)
+    place.answers(answer, line)
+    if any(call.startswith("read ") for call in calls):
+        place.note(f"calls {calls}")
+    place.holds(good_prl=chunk_file(ABC, 0), long=None)
+
+
+# ---- links, modes, other runs
+
+
+def makes_what_a_link_names(place, command, flags):
+    """A symbolic link to no file stays, and the file that it names is made; a link to itself is no file."""
+    words, given, made, answer = WRITERS[command]
+    files = laid(place)
+    place.path("folder").mkdir()
+    place.path("out").symlink_to("folder/next")
+    place.path("folder/next").symlink_to("real")
+    place.answers(place.run(*words, *flags, stdin=given or b""), answer)
+    if not place.path("out").is_symlink() or not place.path("folder/next").is_symlink():
+        place.note("a link is gone")
+    if place.path("folder/real").read_bytes() != made:
+        place.note("the file behind the links is another one")
+    place.path("loop").symlink_to("loop")
+    place.answers(place.run(*in_place_of_out(words, "loop"), *flags, stdin=given or b""), refusal(b"cannot open loop"))
+    if not place.path("loop").is_symlink() or sorted(os.listdir(place.path("folder"))) != ["next", "real"]:
+        place.note("a file was left behind")
+    for name in ("out", "loop", "folder/next", "folder/real"):
+        place.path(name).unlink()
+    place.path("folder").rmdir()
+    place.holds(**files)
+
+
+def is_for_its_owner(place, command):
+    """The file beside OUT is its owner's alone until it takes OUT's place, with OUT's mode."""
+    words, given, made, wanted = WRITERS[command]
+    files = laid(place)
+    place.lay(out=OLD_FILES[KINDS[command]], given=given or b"")
+    place.path("out").chmod(0o640)
+    with open(place.path("given"), "rb") as stdin:
+        answer, calls = place.meddled(*words, "--atomic", stdin=stdin)
+    place.answers(answer, wanted)
+    if [line for line in calls if line.startswith("open ")] != [f"open {0o600}"]:
+        place.note(f"calls {calls}")
+    if stat.S_IMODE(place.path("out").stat().st_mode) != 0o640:
+        place.note("OUT has another mode")
+    place.holds(out=made, given=None, **files)
+
+
+def is_busy(place):
+    """A build into a file that another build writes is refused, and the other one goes on."""
+    place.lay(a_rec=records(ABC), out=OLD_FILES["chunk file"])
+    os.mkfifo(place.path("wait"))
+    for name in ("out", "new"):
+        process = place.start(["build", "--bits", "0", name, "a.rec", "wait"])
+        with open(place.path("wait"), "wb", buffering=0) as pipe:
+            pipe.write(records(ABC[:1]))
+            wait_until_read(pipe)
+            place.answers(place.run("build", name, "a.rec"), refusal(b"another run writes OUT: " + name.encode()))
+        out, err = process.communicate(timeout=60)
+        place.answers((process.returncode, out, err), (0, report(ABC, 0), b""))
+    place.holds(a_rec=records(ABC), wait=None, out=chunk_file(ABC, 0), new=chunk_file(ABC, 0))
+
+
+def wait_until_read(pipe):
+    """Waits, a minute at most, until the other end of a pipe has read all. A build has OUT before it reads."""
+    left = array("i", [1])
+    for _ in range(60_000):
+        fcntl.ioctl(pipe, termios.FIONREAD, left)
+        if left[0] == 0:
+            return
+        time.sleep(0.001)
+
+
+# ---- --atomic, where OUT is whole and the command is not done
+
+
+def is_whole_without_its_line(place, command):
+    """The answer's line can't be printed: OUT was replaced by then."""
+    words, given, made, answer = WRITERS[command]
+    files = laid(place)
+    place.lay(out=OLD_FILES[KINDS[command]])
+    with open("/dev/full", "wb") as full:
+        found = place.run(*words, "--atomic", stdin=given or b"", stdout=full)
+    place.answers(found, (5, b"", b"prolly: write failed\n") if answer[1] else answer)
+    place.holds(out=made, **files)
+
+
+def is_whole_without_its_folder(place, command):
+    """The folder can't be brought to the disk after the rename: OUT was replaced by then."""
+    words, given, made, _ = WRITERS[command]
+    files = laid(place)
+    place.lay(out=OLD_FILES[KINDS[command]], given=given or b"")
+    with open(place.path("given"), "rb") as stdin:
+        answer, _ = place.meddled(*words, "--atomic", "--sync", stdin=stdin, meddle={"fail": f"fsync 2 {errno.EIO}"})
+    place.answers(answer, (5, b"", b"prolly: write failed\n"))
+    place.holds(out=made, given=None, **files)
+
+
+# ---- calls of the system that fail
+
+
+def each_call_fails(place, command, flags, before, call, error):
+    """A call fails, each time that it is made in turn. The inputs stay; OUT is what it was, or is made, and only then the
+    command is done; nothing else is left but what could not be removed. A build in place may leave a first part."""
+    words, given, _, _ = WRITERS[command]
+    for number in range(1, 100):
+        files = laid(place)
+        files["given"] = given or b""
+        place.lay(given=given or b"")
+        if before is not None:
+            place.lay(out=before)
+        meddle = {"fail": f"{call} {number} {error}"}
+        with open(place.path("given"), "rb") as stdin:
+            answer, calls = place.meddled(*words, *flags, stdin=stdin, meddle=meddle)
+        is_met = sum(line.split()[0] == call for line in calls) >= number
+        judge(place, f"{call} {number}", command, flags, before, answer, is_met)
+        place.path("out").unlink(missing_ok=True)
+        if call == "unlink":
+            place.path("out.0.tmp").unlink(missing_ok=True)
+        place.holds(**files)
+        if not is_met or place.differences:
+            return
+    place.note("too many calls")
+
+
+def judge(place, at, command, flags, before, answer, is_met):
+    """Notes where an answer is not one that may come where a call fails, or OUT is not what the answer says."""
+    _, _, made, wanted = WRITERS[command]
+    left = place.path("out").read_bytes() if place.path("out").exists() else None
+    is_done = answer == wanted
+    if not is_met and not is_done:
+        place.note(f"{at}: {answer}, wanted {wanted}")
+    if is_done and left != made:
+        place.note(f"{at}: done, and OUT is not made")
+    if is_done:
+        return
+    status, out, err = answer
+    if status not in (5, 6) or out or not err.startswith(b"prolly: ") or err.count(b"\n") != 1:
+        place.note(f"{at}: {answer}")
+    may_begin = command in IN_PLACE and "--atomic" not in flags
+    if left not in (before, made) and not (may_begin and left is not None and made.startswith(left)):
+        place.note(f"{at}: OUT holds {left}")
+
+
+def guarded_call_fails(place, words, stdin, call, error):
+    """A call fails where OUT is an input, each in turn: OUT is never touched."""
+    for number in range(1, 100):
+        place.lay(a_rec=records(ABC[:2]), b_rec=records(ABC[2:]), in_prl=chunk_file(ABC, 0), in_txt=lines(ABC))
+        files = {name.replace(".", "_"): place.path(name).read_bytes() for name in ("a.rec", "b.rec", "in.prl", "in.txt")}
+        with open(place.path(stdin) if stdin else os.devnull, "rb") as given:
+            (status, out, err), calls = place.meddled(*words, stdin=given, meddle={"fail": f"{call} {number} {error}"})
+        if status not in (5, 6) or out or not err.startswith(b"prolly: "):
+            place.note(f"{call} {number}: {status} {out} {err}")
+        place.holds(**files)
+        if sum(line.split()[0] == call for line in calls) < number or place.differences:
+            return
+    place.note("too many calls")
+
+
+GUARDED = [
+    (["build", "--force", "a.rec", "a.rec", "b.rec"], None),
+    (["build", "--force", "--atomic", "a.rec", "b.rec", "a.rec"], None),
+    (["scratch", "--force", "--out", "a.rec"], "a.rec"),
+    (["scratch", "--force", "--atomic", "--out", "a.rec"], "a.rec"),
+    (["pack", "--force", "in.txt"], "in.txt"),
+    (["dump", "--force", "in.prl", "in.prl"], None),
+    (["prove", "--force", "in.prl", "61", "in.prl"], None),
+    (["diff", "--force", "in.prl", "in.prl", "--out", "in.prl"], None),
+]
+"""Commands whose OUT is an input, and the file that they read from standard input."""
+
+
+# ---- all
+
+
+def tests():
+    """All tests: for each a name and what it does."""
+    yield from kinds()
+    yield from stays()
+    for command in WRITERS:
+        for flags in ([], ["--atomic"], ["--sync"]):
+            yield f"{command} {' '.join(flags)}: a link to no file", partial(makes_what_a_link_names, command=command, flags=flags)
+        yield f"{command}: a file for its owner", partial(is_for_its_owner, command=command)
+        yield f"{command}: whole without its line", partial(is_whole_without_its_line, command=command)
+        yield f"{command}: whole without its folder", partial(is_whole_without_its_folder, command=command)
+    for test in (is_not_readable, has_no_files, names_all_files, stays_before_the_header, is_made_early, is_busy):
+        yield test.__name__.replace("_", " "), test
+    yield from failing()
+
+
+def kinds():
+    """Files of all kinds before each command."""
+    others = {**OLD_FILES, "table": TABLE, "picture": PICTURE}
+    for command, kind in KINDS.items():
+        for name, before in others.items():
+            if name == kind or (kind, name) == ("file of lines", "table"):
+                yield f"{command} over a {name}", partial(is_written_over, command=command, before=before)
+                continue
+            for flags in ([], ["--atomic"]):
+                yield f"{command} {' '.join(flags)} refuses a {name}", partial(is_refused, command=command, before=before, flags=flags)
+        yield f"{command} over an empty file", partial(is_written_over, command=command, before=b"")
+
+
+LONG = [
+    (["check", "long"], b"chunk file"),
+    (["get", "long", "61"], b"chunk file"),
+    (["scan", "long", "61", "1"], b"chunk file"),
+    (["nth", "long", "0"], b"chunk file"),
+    (["stat", "long"], b"chunk file"),
+    (["dump", "long"], b"chunk file"),
+    (["dump", "long", "out"], b"chunk file"),
+    (["prove", "long", "61", "out"], b"chunk file"),
+    (["diff", "long", "good.prl"], b"old chunk file"),
+    (["diff", "good.prl", "long", "--out", "out"], b"new chunk file"),
+]
+"""Commands that read a chunk file whole, and how they name it."""
+
+
+def stays():
+    """What OUT held before a fault, and files that are not read."""
+    for words, name in LONG:
+        line = 4, b"", b"prolly: " + name + b": too long\n"
+        yield f"not read: {' '.join(words)}", partial(is_not_read, words=words, line=line)
+    verified = ["verify", root_text(ABC, 0).decode().strip(), "61", "long"]
+    yield f"not read: {' '.join(verified)}", partial(is_not_read, words=verified, line=refusal(b"input too long"))
+    for command, kind in KINDS.items():
+        for before in (None, b"", OLD_FILES[kind]):
+            yield f"{command}: a fault before the first byte", partial(stays_until_written, command=command, before=before)
+
+
+def failing():
+    """Calls of the system that fail."""
+    for call in CALLS:
+        for error in ERRORS:
+            for command, kind in KINDS.items():
+                for flags in ([], ["--atomic"], ["--sync"], ["--atomic", "--sync"]):
+                    if command not in IN_PLACE and "--atomic" in flags:
+                        continue
+                    for before in (None, OLD_FILES[kind]):
+                        name = f"{command} {' '.join(flags)}: {call} fails by {errno.errorcode[error]}"
+                        yield name, partial(each_call_fails, command=command, flags=flags, before=before, call=call, error=error)
+            for words, stdin in GUARDED:
+                name = f"{' '.join(words)}: {call} fails by {errno.errorcode[error]}"
+                yield name, partial(guarded_call_fails, words=words, stdin=stdin, call=call, error=error)
+
+
+def all_runs(program, folder):
+    """Runs all tests, each in a folder of its own, and gives for each its name and its differences."""
+    meddler = compiled("meddle", folder)
+    for name, test in tests():
+        with tempfile.TemporaryDirectory() as above:
+            os.chmod(above, 0o755)
+            inside = Path(above) / "place"
+            inside.mkdir()
+            place = Place(program, meddler, inside)
+            test(place)
+            yield f"kept: {name}", place.differences

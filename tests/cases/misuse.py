@@ -1,0 +1,70 @@
+"""Code that uses a library wrongly and must not compile: a copy of the library with that code in it is refused before any
+proof."""
+
+import shutil
+import subprocess
+from pathlib import Path
+
+from support.harness import shown
+
+PROJECT = Path(__file__).parent.parent.parent
+
+CLOSE = """        BatchSender::close(self, rt, end)
+"""
+
+SEND_AFTER_CLOSE = """        let closed = BatchSender::close(self, rt, end);
+        self.is_ahead();
+        closed
+"""
+
+SENDS = """impl<T: Drop> BatchSender<T> {
+"""
+
+SEND_BEHIND_CLOSE = """impl<T: Drop> BatchSender<T> {
+    pub fn close_and_send<R: Wait>(mut self, rt: &R, end: End, item: T) {
+        let _ = self.close(rt, end);
+        let _ = self.send(rt, item);
+    }
+
+"""
+
+MISUSES = [
+    (
+        "a sender is used after its close",
+        "prolly_link",
+        "src/batch/sender.rt",
+        (CLOSE, SEND_AFTER_CLOSE),
+        "error[borrow-e0382]: borrow of moved value: `self`",
+    ),
+    (
+        "an item is sent behind the close",
+        "prolly_link",
+        "src/batch/sender.rt",
+        (SENDS, SEND_BEHIND_CLOSE),
+        "error[borrow-e0382]: borrow of moved value: `self`",
+    ),
+]
+"""What is misused, the library, its file, the lines that are replaced and by which, and what the compiler says."""
+
+
+def all_runs(_, folder):
+    """Puts each misuse into a copy of its library, and gives its name and its differences."""
+    for name, library, file, (right, wrong), message in MISUSES:
+        root = folder / "misuse"
+        copy = root / "crates" / library
+        shutil.copytree(PROJECT / "crates" / library, copy, ignore=shutil.ignore_patterns("out", "must-fail"))
+        shutil.copy(PROJECT / "HANDLES", root)
+        (root / "crates.txt").write_text(crates_line(library))
+        text = (copy / file).read_text()
+        assert text.count(right) == 1, f"{file} has changed"
+        (copy / file).write_text(text.replace(right, wrong))
+        done = subprocess.run(["rt", "check"], cwd=copy, capture_output=True, text=True, check=False)
+        said = done.stdout + done.stderr
+        yield f"misuse: {name}", [] if done.returncode == 1 and message in said else [f"status {done.returncode}, {shown(said)}"]
+        shutil.rmtree(root)
+
+
+def crates_line(library):
+    """What the project's list of crates says of a library."""
+    lines = (PROJECT / "crates.txt").read_text().splitlines()
+    return next(line for line in lines if line.startswith(f"{library}:")) + "\n"
