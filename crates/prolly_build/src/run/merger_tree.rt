@@ -1,10 +1,14 @@
 //! The tree of mergers of two, and the loaders below it.
 ghost use Rattle.std.specs.Prelude.{◌≡◌, ◌+◌, ◌<◌, ◌≤◌, [], All, vec_len, vec_capacity, OnOk};
+ghost use Rattle.std.specs.Prelude.{IfErr};
+ghost use Rattle.prolly_link.specs.Receipts.{HasEnded};
+ghost use Rattle.prolly_link.specs.declared.progress.Progress.TheVariants.{Ended};
+ghost use Rattle.prolly_build.specs.declared.end.halt.Halt.TheVariants.{Lost};
 ghost use Rattle.prolly_build.specs.Ran.{HandsOn, IsUnsent};
 ghost use Rattle.prolly_build.specs.Feeding.{IsFed};
 
 use crate::end::{Halt, close_all, refuse};
-use crate::links::{Fork, NewLink, meet};
+use crate::links::{Fork, meet};
 use crate::run::lists::{fork_at, join_at};
 use crate::run::loaders::load_all;
 use crate::run::merger_place::place_of_merger;
@@ -15,6 +19,7 @@ use prolly_entry::Record;
 use prolly_file::Sink;
 use prolly_link::{BatchReceiver, BatchSender, ClosedBatch};
 use prolly_stage::Gate;
+use std::sync::Wait;
 
 /// Starts a merger of two for each fork, the last one first, then loads and writes, joins the
 /// mergers, and meets the links into them. The outputs are those that feed the last merger.
@@ -44,30 +49,52 @@ pub(crate) fn merge_tree<'s, E, R: Runtime, G: Gate, P: Permit, S: Input + 's, W
     };
     let number = forks.len();
     let place = place_of_merger(sources.len(), number);
-    let Fork { left, right } = fork;
-    let NewLink {
-        sender: left_out,
-        receiver: left,
-    } = left;
-    let NewLink {
-        sender: right_out,
-        receiver: right,
-    } = right;
+    let (job, left_out, right_out) = merger_of(number as u32, fork);
     let out = fork_at(&mut outs, place, left_out, right_out);
-    let job = MergeTwo {
-        number: number as u32,
-        left,
-        right,
-    };
     let Some(handle) = site.start(job, out) else {
         close_all(site.rt, outs);
         return Err(refuse(site.rt, forks, last));
     };
     let wrote = merge_tree(site, forks, outs, sources, closed, last, sink);
-    let ((left, right), out) = handle.join(site.rt);
+    let (inputs, out) = handle.join(site.rt);
     let wrote = wrote?;
-    let (left_sent, right_sent) = join_at(closed, place, out);
-    meet(site.rt, left_sent, left)?;
-    meet(site.rt, right_sent, right)?;
+    meet_two(site.rt, join_at(closed, place, out), inputs)?;
     Ok(wrote)
+}
+
+/// What the merger of a fork does, and the senders of its inputs.
+fn merger_of(number: u32, fork: Fork) -> (MergeTwo, BatchSender<Record>, BatchSender<Record>)
+    ensures job { result.0 ≡ record {
+      number = number;
+      left = fork.left.receiver;
+      right = fork.right.receiver;
+    } }
+    ensures left { result.1 ≡ fork.left.sender }
+    ensures right { result.2 ≡ fork.right.sender }
+{
+    let Fork { left, right } = fork;
+    let job = MergeTwo {
+        number,
+        left: left.receiver,
+        right: right.receiver,
+    };
+    (job, left.sender, right.sender)
+}
+
+/// Meets the links into a merger of two.
+fn meet_two<R: Wait>(
+    rt: &R,
+    sent: (ClosedBatch<Record>, ClosedBatch<Record>),
+    inputs: (BatchReceiver<Record>, BatchReceiver<Record>),
+) -> Result<(), Halt>
+    requires left { sent.0.link ≡ inputs.0.link }
+    requires right { sent.1.link ≡ inputs.1.link }
+    ensures left { OnOk result (HasEnded inputs.0.progress → (inputs.0.items ≡ sent.0.items) ×
+        (inputs.0.progress ≡ Ended sent.0.end)) }
+    ensures right { OnOk result (HasEnded inputs.1.progress → (inputs.1.items ≡ sent.1.items) ×
+        (inputs.1.progress ≡ Ended sent.1.end)) }
+    ensures lost { IfErr result (λ halt. halt ≡ Lost) }
+{
+    meet(rt, sent.0, inputs.0)?;
+    meet(rt, sent.1, inputs.1)
 }

@@ -25,7 +25,7 @@ returns-in_default-clause-fed g t c =
 
 pub start-requires-clause-ready : goal.start-requires-clause-ready
 start-requires-clause-ready g t c κs within =
-    (c.in-Some.fork.left.unreceived, c.in-Some.fork.right.unreceived)
+    rw c.merger_of-job.ensures.job (c.in-Some.fork.left.unreceived, c.in-Some.fork.right.unreceived)
 
 pub start-requires-clause-unsent : goal.start-requires-clause-unsent
 start-requires-clause-unsent g t c κs within =
@@ -33,11 +33,12 @@ start-requires-clause-unsent g t c κs within =
 
 pub merge_tree-wrote-requires-clause-unsent : goal.merge_tree-wrote-requires-clause-unsent
 merge_tree-wrote-requires-clause-unsent g t c κs within =
-    forked_all IsUnsent c.fork_at-out.ensures.items c.requires.unsent c.in-Some.fork.left.unsent
-    c.in-Some.fork.right.unsent
+    forked_all IsUnsent c.fork_at-out.ensures.items c.requires.unsent
+    (ap (λ o. o.items) c.merger_of-job.ensures.left ∙ c.in-Some.fork.left.unsent)
+    (ap (λ o. o.items) c.merger_of-job.ensures.right ∙ c.in-Some.fork.right.unsent)
 
-pub join_at-left_sent-requires : goal.join_at-left_sent-requires
-join_at-left_sent-requires g t c =
+pub join_at-requires : goal.join_at-requires
+join_at-requires g t c =
     let same = same_length (λ (s : Whole Record). s.link) (λ (o : Batching Record). o.link)
     c.merge_tree-wrote.new.closed.items c.fork_at-out.new.list.items
     c.in_ok-wrote.ensures.fed.links in
@@ -55,41 +56,38 @@ join_at-left_sent-requires g t c =
       c.in-Some.ensures.cases,
     )
 
-pub meet-requires : goal.meet-requires
-meet-requires g t c =
+pub meet_two-requires-clause-left : goal.meet_two-requires-clause-left
+meet_two-requires-clause-left g t c =
     let m = forked_maps (λ (s : Whole Record). s.link) (λ (o : Batching Record). o.link)
-    c.join_at-left_sent.ensures.items c.fork_at-out.ensures.items
-    c.in_ok-wrote.ensures.fed.links in
-    m.0 ∙ (c.in-Some.fork.left.paired ∙ sym (c.join-left.ensures.reads_left ∙
-    ap (λ j. j.left.link) c.in-Some-start.ensures.job))
+    c.join_at.ensures.items c.fork_at-out.ensures.items c.in_ok-wrote.ensures.fed.links in
+    let merger = c.merger_of-job.ensures in
+    m.0 ∙ (ap (λ o. o.link) merger.left ∙ (c.in-Some.fork.left.paired ∙
+    sym (c.join-inputs.ensures.reads_left ∙
+    ap (λ j. j.left.link) (c.in-Some-start.ensures.job ∙ merger.job))))
 
-pub meet-requires-2 : goal.meet-requires-2
-meet-requires-2 g t c =
+pub meet_two-requires-clause-right : goal.meet_two-requires-clause-right
+meet_two-requires-clause-right g t c =
     let m = forked_maps (λ (s : Whole Record). s.link) (λ (o : Batching Record). o.link)
-    c.join_at-left_sent.ensures.items c.fork_at-out.ensures.items
-    c.in_ok-wrote.ensures.fed.links in
-    m.1 ∙ (c.in-Some.fork.right.paired ∙ sym (c.join-left.ensures.reads_right ∙
-    ap (λ j. j.right.link) c.in-Some-start.ensures.job))
+    c.join_at.ensures.items c.fork_at-out.ensures.items c.in_ok-wrote.ensures.fed.links in
+    let merger = c.merger_of-job.ensures in
+    m.1 ∙ (ap (λ o. o.link) merger.right ∙ (c.in-Some.fork.right.paired ∙
+    sym (c.join-inputs.ensures.reads_right ∙
+    ap (λ j. j.right.link) (c.in-Some-start.ensures.job ∙ merger.job))))
 
 pub returns-clause-fed : goal.returns-clause-fed
 returns-clause-fed g t c =
     fed_by_merger g.S.Source.seen _ _ _ _ _ _ _ _ _ _ _ _ _ _
-    c.in_ok-wrote.ensures.fed c.fork_at-out.ensures.items c.join_at-left_sent.ensures.items
-    (c.join-left.ensures.writes ∙ ap (λ o. o.link) c.in-Some-start.ensures.out)
-    (merges_met c.join-left.result.0.0 c.join-left.result.0.1 c.join_at-left_sent.result.0
-    c.join_at-left_sent.result.1 c.join-left.result.1 c.join-left.ensures.merges
-    (c.in_ok-meet.ensures.met c.join-left.ensures.left_ended)
-    (c.in_ok-meet-2.ensures.met c.join-left.ensures.right_ended))
+    c.in_ok-wrote.ensures.fed c.fork_at-out.ensures.items c.join_at.ensures.items
+    (c.join-inputs.ensures.writes ∙ ap (λ o. o.link) c.in-Some-start.ensures.out)
+    (merges_met c.join-inputs.result.0.0 c.join-inputs.result.0.1 c.join_at.result.0
+    c.join_at.result.1 c.join-inputs.result.1 c.join-inputs.ensures.merges
+    (c.in_ok-meet_two.ensures.left c.join-inputs.ensures.left_ended)
+    (c.in_ok-meet_two.ensures.right c.join-inputs.ensures.right_ended))
 
-pub returns-in_err-meet-clause-hands_on : goal.returns-in_err-meet-clause-hands_on
-returns-in_err-meet-clause-hands_on g t c =
+pub returns-in_err-meet_two-clause-hands_on : goal.returns-in_err-meet_two-clause-hands_on
+returns-in_err-meet_two-clause-hands_on g t c =
     unmet_hands_on _ _ _ _ _ _ _ _ _ c.in_ok-wrote.ensures.hands_on.written
-    c.from_residual-in_err-meet.ensures.1 c.in_err-meet.ensures.lost
-
-pub returns-in_err-meet-2-clause-hands_on : goal.returns-in_err-meet-2-clause-hands_on
-returns-in_err-meet-2-clause-hands_on g t c =
-    unmet_hands_on _ _ _ _ _ _ _ _ _ c.in_ok-wrote.ensures.hands_on.written
-    c.from_residual-in_err-meet-2.ensures.1 c.in_err-meet-2.ensures.lost
+    c.from_residual-in_err-meet_two.ensures.1 c.in_err-meet_two.ensures.lost
 
 pub load_all-requires-clause-numbers : goal.load_all-requires-clause-numbers
 load_all-requires-clause-numbers g t c κs within = omega (arith, c.requires.each, c.requires.few)
@@ -119,8 +117,8 @@ fork_at-out-requires-clause-room g t c =
     let popped = c.in-Some.ensures in
     omega (arith, c.requires.each, c.requires.room.2, popped.len, popped.cases)
 
-pub overflow_cast-job : goal.overflow_cast-job
-overflow_cast-job g t c =
+pub overflow_cast-number : goal.overflow_cast-number
+overflow_cast-number g t c =
     let popped = c.in-Some.ensures in
     omega (arith, c.len-number.ensures, c.requires.each, c.requires.few, popped.len, popped.cases)
 
@@ -144,14 +142,9 @@ merge_tree-wrote-requires-clause-room g t c κs within = (
   omega (arith, c.requires.room.2, c.fork_at-out.ensures.capacity),
 )
 
-pub returns-in_err-meet-clause-fed : goal.returns-in_err-meet-clause-fed
-returns-in_err-meet-clause-fed g t c =
-    let residual = c.from_residual-in_err-meet in
-    rw (err_from_is_err_and residual.result residual.ensures.1).1 tt
-
-pub returns-in_err-meet-2-clause-fed : goal.returns-in_err-meet-2-clause-fed
-returns-in_err-meet-2-clause-fed g t c =
-    let residual = c.from_residual-in_err-meet-2 in
+pub returns-in_err-meet_two-clause-fed : goal.returns-in_err-meet_two-clause-fed
+returns-in_err-meet_two-clause-fed g t c =
+    let residual = c.from_residual-in_err-meet_two in
     rw (err_from_is_err_and residual.result residual.ensures.1).1 tt
 
 pub returns-clause-hands_on : goal.returns-clause-hands_on
