@@ -22,6 +22,8 @@ from pathlib import Path
 from cases import (
     as_text,
     build,
+    by_root,
+    by_root_words,
     command_line,
     damaged,
     demo,
@@ -40,8 +42,6 @@ from cases import (
     proofs,
     random_runs,
     readers,
-    rooted,
-    rooted_pairs,
     scale,
     scratch,
     streams,
@@ -50,17 +50,22 @@ from cases import (
 from oracle.trees import chunk_file
 from support.harness import run
 
+def name_of(part):
+    """The name of a part, which is that of its file."""
+    return part.__name__.removeprefix("cases.")
+
+
 KNOWN_SIZES = [(0, 1, 45), (1, 1, 53), (2, 1, 127), (3, 1, 234), (1, 2, 53), (2, 2, 143), (3, 2, 274)]
 """Numbers of pairs, versions and sizes of chunk files, as docs/format.md gives them."""
 
 
-WITH_RUNS = (rooted_pairs, rooted, growths, kept, files, links, as_text, dumps, diffs, proofs, readers, progress, examples, installed, streams, scale, demo, misuse)
+WITH_RUNS = (by_root, growths, kept, files, links, as_text, dumps, diffs, proofs, readers, progress, examples, installed, streams, scale, demo, misuse)
 """The parts that have runs of their own, those first that take long."""
 
-WITH_CASES = (damaged, build, random_runs, as_text, diffs, scratch, pack, command_line, look_ups, dumps, proofs, rooted, rooted_pairs, surveys)
+WITH_CASES = (damaged, build, random_runs, as_text, diffs, scratch, pack, command_line, look_ups, dumps, proofs, by_root_words, surveys)
 """The parts that have cases."""
 
-PARTS = [(part.__name__, "all_runs") for part in WITH_RUNS] + [(part.__name__, "cases") for part in WITH_CASES]
+PARTS = [(name_of(part), "all_runs") for part in WITH_RUNS] + [(name_of(part), "cases") for part in WITH_CASES]
 
 ALONE = ("links", "progress")
 """The parts that look at times, so that they run by themselves once all others are done."""

@@ -11,12 +11,11 @@ from cases.diffs import DIFFERENT, difference, stat_line
 from cases.dumps import BEFORE, chained, lines
 from cases.look_ups import LONG
 from cases.proofs import BAD_ROOT
-from cases.rooted import Kind, refusal, turned
-from cases.rooted_pairs import ALL, NO_COUNTS
 from cases.scratch import ABC
 from oracle.escapes import as_word, escaped, respelled, text_line, text_lines
 from oracle.proof import another, proof_of
 from oracle.trees import REMOVED, chunk_file, record, records, reference_text, root_text, tree
+from support.by_root import ALL, NO_COUNTS, Kind, refusal, turned
 from support.harness import BAD_KEY, BAD_TEXT_KEY, FOLDER, Case
 
 COPY = {rb"\b": 8, rb"\f": 12, rb"\n": 10, rb"\r": 13, rb"\t": 9, rb"\v": 11}

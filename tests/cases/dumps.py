@@ -3,11 +3,11 @@
 import tempfile
 from pathlib import Path
 
-from cases.look_ups import LONG, NUMBERS, hexed
+from cases.look_ups import LONG, NUMBERS
 from cases.scratch import ABC
 from oracle.escapes import text_lines
 from oracle.trees import REMOVED, chunk_file, overlay, record, records, report, root_text
-from support.harness import FOLDER, Case
+from support.harness import FOLDER, Case, hexed
 from support.place import Place
 
 BEFORE = record(b"before", b"1")

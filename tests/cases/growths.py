@@ -9,16 +9,14 @@ from pathlib import Path
 
 from cases.diffs import difference, stat_line
 from cases.dumps import lines
-from cases.look_ups import hexed
 from cases.proofs import verdict
-from cases.rooted import WRONG_VERSION, refusal, words_for
-from cases.rooted_pairs import ALL, NO_COUNTS, number_words, scan_words
 from cases.scratch import ABC
 from cases.surveys import as_json, explained, record_lines, record_numbers, table, tree_json
 from oracle.escapes import escaped, text_lines
-from oracle.proof import proof_of
+from oracle.proof import WRONG_VERSION, proof_of
 from oracle.trees import END_SIZE, begun_file, chunk_file, overlay, record, records, reference_text, report, root_text, tree
-from support.harness import BAD_TEXT_KEY, NO_THREAD, SCARCE, file_differences, lay_out, shown
+from support.by_root import ALL, NO_COUNTS, Get, Nth, Scan, refusal
+from support.harness import BAD_TEXT_KEY, NO_THREAD, SCARCE, file_differences, hexed, lay_out, shown
 
 FIVE_IN_THREE = [[(b"a", b"1"), (b"d", b"1")], [(b"b", b"1")], [(b"c", b"1"), (b"e", b"1")]]
 
@@ -95,21 +93,21 @@ def commands():
         Command("stat --json", ["stat", "--json", "abc.prl"], out=tree_json(ABC, 0, 1), before=reads),
         Command("get", ["get", "abc.prl", "62"], out=b"31\n", before=reads),
         Command("get of no pair", ["get", "abc.prl", "7a"], status=1, before=reads),
-        Command("get --root", words_for(REFERENCE, b"b", 1, "abc.prl"), out=b"31\n", before=reads),
-        Command("get --root in format 2", words_for(COUNTED_TREE.reference, b"c", 2, "counted.prl"), out=b"31\n", before=reads),
-        Command("get --root of no pair", words_for(REFERENCE, b"bb", 1, "abc.prl"), status=1, before=reads),
-        Command("get --root of a key above all", words_for(REFERENCE, b"z", 1, "abc.prl"), status=1, before=reads),
-        Command("get --root of the other format", words_for(REFERENCE, b"b", 1, "counted.prl"), status=4, err=refusal(WRONG_VERSION)[2], before=reads),
+        Command("get --root", Get(b"b").words(REFERENCE, 1, "abc.prl"), out=b"31\n", before=reads),
+        Command("get --root in format 2", Get(b"c").words(COUNTED_TREE.reference, 2, "counted.prl"), out=b"31\n", before=reads),
+        Command("get --root of no pair", Get(b"bb").words(REFERENCE, 1, "abc.prl"), status=1, before=reads),
+        Command("get --root of a key above all", Get(b"z").words(REFERENCE, 1, "abc.prl"), status=1, before=reads),
+        Command("get --root of the other format", Get(b"b").words(REFERENCE, 1, "counted.prl"), status=4, err=refusal(WRONG_VERSION)[2], before=reads),
         Command("scan", ["scan", "abc.prl", "62", "5"], out=b"62 31\n63 31\n", before=reads),
         scanned("scan --root", REFERENCE, 1, "abc.prl", b"b", reads),
         scanned("scan --root in format 2", COUNTED_TREE.reference, 2, "counted.prl", b"", reads),
-        Command("scan --root of no pair", scan_words(REFERENCE, b"z", ALL, 1, "abc.prl"), before=reads),
-        Command("scan --root of the other format", scan_words(REFERENCE, b"b", 1, 1, "counted.prl"), status=4, err=refusal(WRONG_VERSION)[2], before=reads),
+        Command("scan --root of no pair", Scan(b"z", ALL).words(REFERENCE, 1, "abc.prl"), before=reads),
+        Command("scan --root of the other format", Scan(b"b", 1).words(REFERENCE, 1, "counted.prl"), status=4, err=refusal(WRONG_VERSION)[2], before=reads),
         Command("nth", ["nth", "counted.prl", "2"], out=b"63 31\n", before=reads),
-        Command("nth --root", number_words(COUNTED_TREE.reference, 2, name="counted.prl"), out=b"63 31\n", before=reads),
-        Command("nth --root of no pair", number_words(COUNTED_TREE.reference, 3, name="counted.prl"), status=1, before=reads),
-        Command("nth --root without counts", number_words(REFERENCE, 2, 1, "abc.prl"), status=4, err=NO_COUNTS[2], before=reads),
-        Command("nth --root of the other format", number_words(COUNTED_TREE.reference, 2, name="abc.prl"), status=4, err=refusal(WRONG_VERSION)[2], before=reads),
+        Command("nth --root", Nth(2).words(COUNTED_TREE.reference, 2, "counted.prl"), out=b"63 31\n", before=reads),
+        Command("nth --root of no pair", Nth(3).words(COUNTED_TREE.reference, 2, "counted.prl"), status=1, before=reads),
+        Command("nth --root without counts", Nth(2).words(REFERENCE, 1, "abc.prl"), status=4, err=NO_COUNTS[2], before=reads),
+        Command("nth --root of the other format", Nth(2).words(COUNTED_TREE.reference, 2, "abc.prl"), status=4, err=refusal(WRONG_VERSION)[2], before=reads),
         Command("dump", ["dump", "abc.prl"], out=records(ABC), before=reads),
         Command("dump --hex", ["dump", "--hex", "abc.prl"], out=lines(ABC), before=reads),
         Command("dump --hex to a file", ["dump", "--hex", "abc.prl", "out.txt"], before=reads, made="out.txt", whole=lines(ABC)),
@@ -182,7 +180,7 @@ def text_commands():
 def scanned(name, root, version, file, key, before):
     """A scan by the root to the end, which prints leaf by leaf."""
     out = lines([pair for pair in ABC if pair[0] >= key])
-    return Command(name, scan_words(root, key, ALL, version, file), out=out, before=before, is_printed_early=True)
+    return Command(name, Scan(key).words(root, version, file), out=out, before=before, is_printed_early=True)
 
 
 def built(name, files, version=1):

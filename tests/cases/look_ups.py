@@ -2,21 +2,11 @@
 
 from cases.scratch import ABC, EMPTY_FILE, numbered
 from oracle.trees import chunk_file, frame, header, record, reference, reference_text, tree
-from support.harness import FOLDER, Case
+from support.harness import FOLDER, Case, hexed, line
 
 NUMBERS = numbered(3_000)
 
 LONG = [(b"k" * 1024, b"v" * 65536)]
-
-
-def hexed(data):
-    """Bytes as the program prints them."""
-    return data.hex().encode()
-
-
-def line(pair):
-    """The line of a pair."""
-    return hexed(pair[0]) + b" " + hexed(pair[1]) + b"\n"
 
 
 def accepted(name, pairs, bits=0, version=1):

@@ -48,23 +48,31 @@ MISUSES = [
 
 
 def all_runs(_, folder):
-    """Puts each misuse into a copy of its library, and gives its name and its differences."""
+    """Puts each misuse into a copy of its library, and gives its name and its differences. The copies of the libraries that
+    it stands on stay, so that they are proved once."""
+    (folder / "crates").mkdir()
+    shutil.copy(PROJECT / "HANDLES", folder)
     for name, library, file, (right, wrong), message in MISUSES:
-        root = folder / "misuse"
-        copy = root / "crates" / library
-        shutil.copytree(PROJECT / "crates" / library, copy, ignore=shutil.ignore_patterns("out", "must-fail"))
-        shutil.copy(PROJECT / "HANDLES", root)
-        (root / "crates.txt").write_text(crates_line(library))
+        lines = lines_of(library)
+        (folder / "crates.txt").write_text("".join(f"{line}\n" for line in lines.values()))
+        for crate in lines:
+            if not (folder / "crates" / crate).exists():
+                shutil.copytree(PROJECT / "crates" / crate, folder / "crates" / crate, ignore=shutil.ignore_patterns("out", "must-fail"))
+        copy = folder / "crates" / library
         text = (copy / file).read_text()
         assert text.count(right) == 1, f"{file} has changed"
         (copy / file).write_text(text.replace(right, wrong))
         done = subprocess.run(["rt", "check"], cwd=copy, capture_output=True, text=True, check=False)
         said = done.stdout + done.stderr
         yield f"misuse: {name}", [] if done.returncode == 1 and message in said else [f"status {done.returncode}, {shown(said)}"]
-        shutil.rmtree(root)
+        (copy / file).write_text(text)
 
 
-def crates_line(library):
-    """What the project's list of crates says of a library."""
-    lines = (PROJECT / "crates.txt").read_text().splitlines()
-    return next(line for line in lines if line.startswith(f"{library}:")) + "\n"
+def lines_of(library):
+    """What the project's list of crates says of a library and of those that it stands on, from the lowest one up."""
+    listed = dict(line.split(":", 1) for line in (PROJECT / "crates.txt").read_text().splitlines() if not line.startswith("#"))
+    found = {}
+    for below in listed[library].split():
+        if below in listed:
+            found.update(lines_of(below))
+    return {**found, library: f"{library}:{listed[library]}"}

@@ -7,12 +7,12 @@ import tempfile
 from functools import partial
 from pathlib import Path
 
-from cases.look_ups import LONG, NUMBERS, hexed, leaf
+from cases.look_ups import LONG, NUMBERS, leaf
 from cases.scratch import ABC
 from oracle.checker import Fault
 from oracle.proof import ABSENT, BAD_HEADER, FRAME_SIZE, HEADER, HEADER_SIZE, MORE, TRUNCATED, WRONG_VERSION, another, bad_chunk, bad_frame, out_of_order, proof_of, proof_of_chunks, read_proof, way, wrong_level
 from oracle.trees import chunk_file, record, reference, reference_text, tree
-from support.harness import BAD_KEY, FOLDER, Case, lay_out, shown
+from support.harness import BAD_KEY, FOLDER, Case, hexed, lay_out, shown
 
 BAD_ROOT = b"prolly: not the text of a root\n"
 

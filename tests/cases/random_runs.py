@@ -5,10 +5,8 @@ import sys
 from dataclasses import dataclass
 from functools import partial
 
-from cases import rooted, rooted_pairs
 from cases.diffs import difference, stat_line
 from cases.dumps import lines
-from cases.look_ups import hexed
 from cases.proofs import verdict
 from cases.surveys import as_json, explained, record_lines, record_numbers, table, tree_json
 from oracle.checker import lawful_or_fault
@@ -16,7 +14,8 @@ from oracle.escapes import as_text, escaped, respelled, text_lines
 from oracle.proof import proof_of
 from oracle.readings import merged, packed, read, stop_of
 from oracle.trees import REMOVED, begun_file, chunk_file, overlay, record, records, reference_text, report, root_text, tall_file, tree
-from support.harness import Case
+from support.by_root import ALL, Get, Nth, Scan
+from support.harness import Case, hexed
 
 SEED, COUNT = 20_240_601, 800
 """What the gate runs."""
@@ -446,16 +445,16 @@ def sought_by_root(chance, content, root, wanted, believed, count):
     words = [command, *written_in.flags, "--root", reference_text(root), *(["--format", "2"] if believed == 2 else []), "in.prl"]
     if command == "get":
         words.append(written_in.word(wanted))
-        status, out, err = rooted.verdict(content, root, wanted, believed)
+        status, out, err = Get(wanted).verdict(content, root, believed)
     elif command == "nth":
         number = chance.randrange(count + 2)
         words.append(str(number))
-        status, out, err = rooted_pairs.number_verdict(content, root, number, believed)
+        status, out, err = Nth(number).verdict(content, root, believed)
     else:
         # A scan of no pair need not look at the file.
-        limit = chance.choice([1, 2, 5, rooted_pairs.ALL])
+        limit = chance.choice([1, 2, 5, ALL])
         words += [written_in.word(wanted), str(limit)]
-        status, out, err = rooted_pairs.scan_verdict(content, root, wanted, limit, believed)
+        status, out, err = Scan(wanted, limit).verdict(content, root, believed)
     return words, (status, written_in.told(out), err)
 
 

@@ -4,12 +4,12 @@ import json
 import random
 
 from cases.dumps import kinds
-from cases.look_ups import LONG, hexed
+from cases.look_ups import LONG
 from cases.scratch import ABC, EMPTY_FILE, numbered
 from oracle.escapes import escaped
 from oracle.readings import read
 from oracle.trees import REMOVED, chunk_file, record, records, reference_text, tree
-from support.harness import FOLDER, Case
+from support.harness import FOLDER, Case, hexed
 
 WIDTHS = (5, 12, 12, 14, 12, 12, 12)
 """How wide the columns of a table are."""

@@ -22,6 +22,16 @@ BAD_TEXT_KEY = b"prolly: not a key of text\n"
 """The same of a word that is to be text."""
 
 
+def hexed(data):
+    """Bytes as the program prints them."""
+    return data.hex().encode()
+
+
+def line(pair):
+    """The line of a pair."""
+    return hexed(pair[0]) + b" " + hexed(pair[1]) + b"\n"
+
+
 @dataclass
 class Case:
     """One run: its words, what it reads, and all that is wanted of it."""
