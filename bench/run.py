@@ -18,7 +18,7 @@ from statistics import median
 
 # The tests measure runs, too.
 sys.path.append(str(Path(__file__).resolve().parents[1] / "tests"))
-from measured import run, run_over_pipe  # noqa: E402
+from support.measured import run, run_over_pipe  # noqa: E402
 
 RECORDS = 1_000_000
 SHORT_VALUE = 16

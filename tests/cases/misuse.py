@@ -28,6 +28,31 @@ SEND_BEHIND_CLOSE = """impl<T: Drop> BatchSender<T> {
 
 """
 
+RECEIVES = """impl<T: Drop> BatchReceiver<T> {
+"""
+
+RECEIVE_BEHIND_DRAIN = """impl<T: Drop> BatchReceiver<T> {
+    pub fn drain_and_recv<R: Wait>(mut self, rt: &R) -> Next<T> {
+        let _ = self.drain(rt);
+        self.recv(rt)
+    }
+
+"""
+
+MEETS = """        met: meet(sender, receiver),
+    }
+}
+"""
+
+MEET_OPEN = """        met: meet(sender, receiver),
+    }
+}
+
+pub fn meet_open<T>(sender: crate::batch::sender::BatchSender<T>, receiver: EndedBatch<T>) {
+    let _ = meet_batches(sender, receiver);
+}
+"""
+
 MISUSES = [
     (
         "a sender is used after its close",
@@ -42,6 +67,20 @@ MISUSES = [
         "src/batch/sender.rt",
         (SENDS, SEND_BEHIND_CLOSE),
         "error[borrow-e0382]: borrow of moved value: `self`",
+    ),
+    (
+        "an item is received behind the drain",
+        "prolly_link",
+        "src/batch/receiver.rt",
+        (RECEIVES, RECEIVE_BEHIND_DRAIN),
+        "error[borrow-e0382]: borrow of moved value: `self`",
+    ),
+    (
+        "an open sender is met",
+        "prolly_link",
+        "src/batch/meeting.rt",
+        (MEETS, MEET_OPEN),
+        "error[mismatched-types]: expected `ClosedBatch<_>`, found `BatchSender<T>`",
     ),
 ]
 """What is misused, the library, its file, the lines that are replaced and by which, and what the compiler says."""
