@@ -16,7 +16,7 @@ use Rattle.prolly_check.specs.declared.numbers.Missing.{Missing}
 use Rattle.prolly_tool.specs.Counts.{AreCounts, is_added, is_changed, is_removed, stat_line}
 use Rattle.prolly_tool.specs.Counts.{stat_text}
 use Rattle.prolly_tool.specs.Diff.{stat_shown}
-use Rattle.prolly_tool.specs.declared.change_counts.ChangeCounts.{ChangeCounts}
+use Rattle.prolly_tool.specs.declared.answers.diff.ChangeCounts.{ChangeCounts}
 
 -- ---- kinds of records
 

@@ -25,10 +25,10 @@ use Rattle.prolly_check.specs.Checked.{IsFile}
 use Rattle.prolly_check.specs.Content.{Content}
 use Rattle.prolly_check.specs.Verdict.{IsFileOf}
 use Rattle.prolly_check.proofs.CheckedFile.{few_pairs}
-use Rattle.prolly_tool.specs.declared.output_fault.OutputFault.TheVariants.{Memory, Write}
-use Rattle.prolly_tool.specs.declared.answer.Answer.{Answer}
-use Rattle.prolly_tool.specs.declared.change_counts.ChangeCounts.{ChangeCounts}
-use Rattle.prolly_tool.specs.declared.record_form.RecordForm.{RecordForm}
+use Rattle.prolly_tool.specs.declared.faults.output_fault.OutputFault.TheVariants.{Memory, Write}
+use Rattle.prolly_tool.specs.declared.answers.answer.Answer.{Answer}
+use Rattle.prolly_tool.specs.declared.answers.diff.ChangeCounts.{ChangeCounts}
+use Rattle.prolly_tool.specs.declared.lines.record_form.RecordForm.{RecordForm}
 use Rattle.prolly_tool.specs.Counts.{AreCounts}
 use Rattle.prolly_tool.specs.Diff.{AreCompared, AreStopped, AreWritten, HasDifference}
 use Rattle.prolly_tool.specs.Diff.{HaveChanges, ShowsDiff}

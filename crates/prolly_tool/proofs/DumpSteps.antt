@@ -10,9 +10,9 @@ use Rattle.prolly_file.specs.Writes.{Writes}
 use Rattle.prolly_text.specs.declared.notation.Notation.{Notation}
 use Rattle.prolly_tree.specs.Difference.{puts}
 use Rattle.prolly_tree.specs.RecordFile.{record_file}
-use Rattle.prolly_tool.specs.declared.output_fault.OutputFault.TheVariants.{Write}
-use Rattle.prolly_tool.specs.declared.record_form.RecordForm.{RecordForm}
-use Rattle.prolly_tool.specs.declared.record_form.RecordForm.TheVariants.{Lines, Records}
+use Rattle.prolly_tool.specs.declared.faults.output_fault.OutputFault.TheVariants.{Write}
+use Rattle.prolly_tool.specs.declared.lines.record_form.RecordForm.{RecordForm}
+use Rattle.prolly_tool.specs.declared.lines.record_form.RecordForm.TheVariants.{Lines, Records}
 use Rattle.prolly_tool.specs.Dump.{IsStoppedDump, MayStop, RecordFilesAreDumped}
 use Rattle.prolly_tool.specs.Outputs.{TookAll, TookPart, TookPrefix, TookUntil}
 use Rattle.prolly_tool.specs.RecordForms.{record_line, spelled, written_records}

@@ -19,9 +19,9 @@ use Rattle.prolly_text.specs.lemmas.Digits.{all_so}
 use Rattle.prolly_tree.specs.Split.{in_front}
 use Rattle.prolly_tool.specs.Lines.{lines_of, reads_bare_keys, CutsAt, IsBadLine, IsDashLine}
 use Rattle.prolly_tool.specs.Lines.{IsLineOf, IsPairLine, IsRemovalLine}
-use Rattle.prolly_tool.specs.declared.line.LineFlaw.{LineFlaw}
-use Rattle.prolly_tool.specs.declared.line.LineFlaw.TheVariants as flaws
-use Rattle.prolly_tool.specs.declared.line_form.LineForm.{LineForm}
+use Rattle.prolly_tool.specs.declared.lines.line.LineFlaw.{LineFlaw}
+use Rattle.prolly_tool.specs.declared.lines.line.LineFlaw.TheVariants as flaws
+use Rattle.prolly_tool.specs.declared.lines.line_form.LineForm.{LineForm}
 use Rattle.prolly_tool.specs.Pack.{IsChangeOf, IsLongKey, IsLongPair, IsNotWritten, IsWrongLine}
 use Rattle.prolly_tool.specs.Pack.{MarksRemoval, StandsFor}
 

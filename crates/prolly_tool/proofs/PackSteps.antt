@@ -8,10 +8,10 @@ use Rattle.prolly_entry.specs.Record.{Record}
 use Rattle.prolly_entry.specs.Spelling.{record_spelling}
 use Rattle.prolly_text.specs.declared.notation.Notation.{Notation}
 use Rattle.prolly_text.specs.declared.notation.Notation.TheVariants.{Hex, Text}
-use Rattle.prolly_tool.specs.declared.line_form.LineForm.{LineForm}
-use Rattle.prolly_tool.specs.declared.line.LineFlaw.{LineFlaw}
-use Rattle.prolly_tool.specs.declared.line.LineFlaw.TheVariants as flaws
-use Rattle.prolly_tool.specs.declared.pack_fault.LinesFault.{LinesFault}
+use Rattle.prolly_tool.specs.declared.lines.line_form.LineForm.{LineForm}
+use Rattle.prolly_tool.specs.declared.lines.line.LineFlaw.{LineFlaw}
+use Rattle.prolly_tool.specs.declared.lines.line.LineFlaw.TheVariants as flaws
+use Rattle.prolly_tool.specs.declared.faults.pack_fault.LinesFault.{LinesFault}
 use Rattle.prolly_tool.specs.Lines.{lines_of}
 use Rattle.prolly_tool.specs.Pack.{StandsFor, IsWrongLine, IsFirstWrong, IsLineFault, IsLinesFault}
 use Rattle.prolly_tool.specs.Pack.{Packs, PacksLine, bad_line, fault_at}

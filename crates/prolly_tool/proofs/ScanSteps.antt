@@ -10,7 +10,6 @@ use Rattle.std.proofs.lemmas.List.Concat.{flat_map-append}
 use Rattle.std.proofs.lemmas.Option.{slice_get-get_or}
 use Rattle.prolly_check.specs.ScanWay.{AreScanned, EndsEmpty, IsScanWay, from_behind, joined}
 use Rattle.prolly_check.specs.ScanWay.{next_key}
-use Rattle.prolly_check.specs.Content.{Content}
 use Rattle.prolly_entry.specs.Pair.{Pair}
 use Rattle.prolly_entry.specs.declared.version.Version.{Version}
 use Rattle.prolly_file.specs.Failures.{CountsFailure, after_failure}
@@ -26,11 +25,11 @@ use Rattle.prolly_tool.specs.OutputFault.{told as told_by}
 use Rattle.prolly_tool.specs.Outputs.{TookAll, TookBytes, TookPart, TookPrefix, TookUntil}
 use Rattle.prolly_tool.specs.RootScans.{AreTooFew, IsDoneScan, IsFlushed, IsStoppedScan}
 use Rattle.prolly_tool.specs.RootScans.{Scanned, StoppedScan, TellsScanReads, limited_lines}
-use Rattle.prolly_tool.specs.declared.fault.Fault.{Fault}
-use Rattle.prolly_tool.specs.declared.fault.Fault.TheVariants as faults
-use Rattle.prolly_tool.specs.declared.fault.Fault.TheVariants.{Root, Write}
-use Rattle.prolly_tool.specs.declared.output_fault.OutputFault.{OutputFault}
-use Rattle.prolly_tool.specs.declared.output_fault.OutputFault.TheVariants as outputs
+use Rattle.prolly_tool.specs.declared.faults.fault.Fault.{Fault}
+use Rattle.prolly_tool.specs.declared.faults.fault.Fault.TheVariants as faults
+use Rattle.prolly_tool.specs.declared.faults.fault.Fault.TheVariants.{Root, Write}
+use Rattle.prolly_tool.specs.declared.faults.output_fault.OutputFault.{OutputFault}
+use Rattle.prolly_tool.specs.declared.faults.output_fault.OutputFault.TheVariants as outputs
 use Rattle.prolly_tool.proofs.Writing.{TookSoFar, flushed, other_failures, took_front, took_none}
 use Rattle.prolly_tool.proofs.Writing.{unflushed}
 

@@ -2,8 +2,8 @@
 use Rattle.std.proofs.Common.{◌≡◌, ℕ, List, Bool, inl, subst, Result, Ok, Err}
 use Rattle.std.specs.Prelude.{IfOk, ◌≢◌}
 use Rattle.prolly_tool.specs.Stat.{IsStat, IsStatOf, is_chunk_file}
-use Rattle.prolly_tool.specs.declared.answer.Answer.{Answer}
-use Rattle.prolly_tool.specs.declared.stat_form.StatForm.{StatForm}
+use Rattle.prolly_tool.specs.declared.answers.answer.Answer.{Answer}
+use Rattle.prolly_tool.specs.declared.answers.stat.StatForm.{StatForm}
 
 -- what is answered of bytes of a kind, and of failures from one number to another, is answered of
 -- what they are

@@ -9,8 +9,8 @@ use Rattle.prolly_text.specs.declared.notation.Notation.{Notation}
 use Rattle.prolly_tool.specs.Answers.{ShowsFault}
 use Rattle.prolly_tool.specs.Input.{IsReadWhole}
 use Rattle.prolly_tool.specs.Proofs.{IsVerify}
-use Rattle.prolly_tool.specs.declared.answer.Answer.{Answer}
-use Rattle.prolly_tool.specs.declared.fault.Fault.TheVariants.{Proof}
+use Rattle.prolly_tool.specs.declared.answers.answer.Answer.{Answer}
+use Rattle.prolly_tool.specs.declared.faults.fault.Fault.TheVariants.{Proof}
 
 pub proof_refused : {E : Type 0} (notation : Notation) (version : Version)
     (root key bytes : List ℕ) (failed : Type 0) (fault : ProofFault) (result : Result Answer E) →

@@ -12,8 +12,8 @@ use Rattle.prolly_text.specs.Notations.{IsWritten, separator, written}
 use Rattle.prolly_text.specs.declared.notation.Notation.{Notation}
 use Rattle.prolly_text.specs.declared.notation.Notation.TheVariants.{Hex, Text}
 use Rattle.prolly_text.specs.lemmas.Notations.{one_reading, written_is_read}
-use Rattle.prolly_tool.specs.declared.line_form.LineForm.{LineForm}
-use Rattle.prolly_tool.specs.declared.record_form.RecordForm.TheVariants.{Lines}
+use Rattle.prolly_tool.specs.declared.lines.line_form.LineForm.{LineForm}
+use Rattle.prolly_tool.specs.declared.lines.record_form.RecordForm.TheVariants.{Lines}
 use Rattle.prolly_tool.specs.Lines.{lines_of, CutsAt, IsLineOf, IsPairLine, IsRemovalLine}
 use Rattle.prolly_tool.specs.Pack.{HasLine, IsOfBytes, LinesArePacked, ReadsRemovals, StandsFor}
 use Rattle.prolly_tool.specs.RecordForms.{change_text, record_line, removal_mark, written_records}

@@ -6,11 +6,11 @@ use Rattle.prolly_line.specs.declared.command.ParseFault.TheVariants.{BadKey as 
 use Rattle.prolly_line.specs.declared.command.ParseFault.TheVariants.{BadTextKey as BadTextKeyWord}
 use Rattle.prolly_line.specs.declared.command.ParseFault.TheVariants.{BadRoot as BadRootWord}
 use Rattle.prolly_text.specs.Names.{shown_name}
-use Rattle.prolly_tool.specs.declared.answer.Answer.{Answer}
-use Rattle.prolly_tool.specs.declared.fault.Fault.{Fault}
-use Rattle.prolly_tool.specs.declared.name_fault.NameFault.{NameFault}
-use Rattle.prolly_tool.specs.declared.fault.Fault.TheVariants.{BadKey, BadTextKey, BadRoot}
-use Rattle.prolly_tool.specs.declared.fault.Fault.TheVariants.{Memory as OutOfMemory}
+use Rattle.prolly_tool.specs.declared.answers.answer.Answer.{Answer}
+use Rattle.prolly_tool.specs.declared.faults.fault.Fault.{Fault}
+use Rattle.prolly_tool.specs.declared.faults.name_fault.NameFault.{NameFault}
+use Rattle.prolly_tool.specs.declared.faults.fault.Fault.TheVariants.{BadKey, BadTextKey, BadRoot}
+use Rattle.prolly_tool.specs.declared.faults.fault.Fault.TheVariants.{Memory as OutOfMemory}
 use Rattle.prolly_tool.specs.Faults.{fault_text, fault_status, fault_line}
 use Rattle.prolly_tool.specs.Names.{name_fault_text}
 

@@ -9,7 +9,7 @@ use Rattle.prolly_tree.specs.LookUp.{find}
 use Rattle.prolly_check.specs.Checked.{chunks_of}
 use Rattle.prolly_check.specs.Content.{Content}
 use Rattle.prolly_check.specs.Numbers.{lacking, size_of}
-use Rattle.prolly_tool.specs.declared.change_counts.ChangeCounts.{ChangeCounts}
+use Rattle.prolly_tool.specs.declared.answers.diff.ChangeCounts.{ChangeCounts}
 
 -- ---- kinds of changes
 

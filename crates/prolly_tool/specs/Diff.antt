@@ -9,10 +9,10 @@ use Rattle.prolly_tool.specs.Counts.{are_some, stat_line}
 use Rattle.prolly_tool.specs.LookUps.{IsLookedUp, IsNoFileAs}
 use Rattle.prolly_tool.specs.Outputs.{IsCutOff}
 use Rattle.prolly_tool.specs.RecordForms.{written_records}
-use Rattle.prolly_tool.specs.declared.answer.Answer.{Answer}
-use Rattle.prolly_tool.specs.declared.output_fault.OutputFault.{OutputFault}
-use Rattle.prolly_tool.specs.declared.record_form.RecordForm.{RecordForm}
-use Rattle.prolly_tool.specs.declared.fault.Fault.TheVariants.{CheckOld, CheckNew}
+use Rattle.prolly_tool.specs.declared.answers.answer.Answer.{Answer}
+use Rattle.prolly_tool.specs.declared.faults.output_fault.OutputFault.{OutputFault}
+use Rattle.prolly_tool.specs.declared.lines.record_form.RecordForm.{RecordForm}
+use Rattle.prolly_tool.specs.declared.faults.fault.Fault.TheVariants.{CheckOld, CheckNew}
 
 -- ---- of which difference
 

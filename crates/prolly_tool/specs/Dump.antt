@@ -8,11 +8,11 @@ use Rattle.prolly_tool.specs.Answers.{ShowsDone}
 use Rattle.prolly_tool.specs.LookUps.{IsLookedUp, IsNoFile}
 use Rattle.prolly_tool.specs.Outputs.{IsCutOff}
 use Rattle.prolly_tool.specs.RecordForms.{written_records}
-use Rattle.prolly_tool.specs.declared.answer.Answer.{Answer}
-use Rattle.prolly_tool.specs.declared.output_fault.OutputFault.{OutputFault}
-use Rattle.prolly_tool.specs.declared.output_fault.OutputFault.TheVariants.{Write}
-use Rattle.prolly_tool.specs.declared.record_form.RecordForm.{RecordForm}
-use Rattle.prolly_tool.specs.declared.record_form.RecordForm.TheVariants.{Lines, Records}
+use Rattle.prolly_tool.specs.declared.answers.answer.Answer.{Answer}
+use Rattle.prolly_tool.specs.declared.faults.output_fault.OutputFault.{OutputFault}
+use Rattle.prolly_tool.specs.declared.faults.output_fault.OutputFault.TheVariants.{Write}
+use Rattle.prolly_tool.specs.declared.lines.record_form.RecordForm.{RecordForm}
+use Rattle.prolly_tool.specs.declared.lines.record_form.RecordForm.TheVariants.{Lines, Records}
 
 -- The bytes were read whole and are the file of a map, and this holds of the records that put its
 -- pairs.

@@ -10,17 +10,17 @@ use Rattle.prolly_check.specs.declared.verdict.fault.CheckFault.TheVariants as c
 use Rattle.prolly_root.specs.FaultTexts.{proof_fault_text, root_fault_text}
 use Rattle.prolly_root.specs.declared.root_fault.RootFault.{RootFault}
 use Rattle.prolly_root.specs.declared.root_fault.RootFault.TheVariants as roots
-use Rattle.prolly_tool.specs.declared.pack_fault.LinesFault.{LinesFault}
-use Rattle.prolly_tool.specs.declared.pack_fault.LinesFault.TheVariants as lines
-use Rattle.prolly_tool.specs.declared.pack_fault.PackFault.{PackFault}
-use Rattle.prolly_tool.specs.declared.pack_fault.PackFault.TheVariants as packs
-use Rattle.prolly_tool.specs.declared.fault.Fault.{Fault}
-use Rattle.prolly_tool.specs.declared.fault.Fault.TheVariants.{Memory, Read, Write}
-use Rattle.prolly_tool.specs.declared.fault.Fault.TheVariants.{Run, Pack, Check, NoCounts}
-use Rattle.prolly_tool.specs.declared.fault.Fault.TheVariants.{InputTooLong, BadKey, BadTextKey}
-use Rattle.prolly_tool.specs.declared.fault.Fault.TheVariants.{NotUnicode}
-use Rattle.prolly_tool.specs.declared.fault.Fault.TheVariants.{OutIsStdout, CheckOld, CheckNew}
-use Rattle.prolly_tool.specs.declared.fault.Fault.TheVariants.{Proof, Root, BadRoot}
+use Rattle.prolly_tool.specs.declared.faults.pack_fault.LinesFault.{LinesFault}
+use Rattle.prolly_tool.specs.declared.faults.pack_fault.LinesFault.TheVariants as lines
+use Rattle.prolly_tool.specs.declared.faults.pack_fault.PackFault.{PackFault}
+use Rattle.prolly_tool.specs.declared.faults.pack_fault.PackFault.TheVariants as packs
+use Rattle.prolly_tool.specs.declared.faults.fault.Fault.{Fault}
+use Rattle.prolly_tool.specs.declared.faults.fault.Fault.TheVariants.{Memory, Read, Write}
+use Rattle.prolly_tool.specs.declared.faults.fault.Fault.TheVariants.{Run, Pack, Check, NoCounts}
+use Rattle.prolly_tool.specs.declared.faults.fault.Fault.TheVariants.{InputTooLong, BadKey, BadTextKey}
+use Rattle.prolly_tool.specs.declared.faults.fault.Fault.TheVariants.{NotUnicode}
+use Rattle.prolly_tool.specs.declared.faults.fault.Fault.TheVariants.{OutIsStdout, CheckOld, CheckNew}
+use Rattle.prolly_tool.specs.declared.faults.fault.Fault.TheVariants.{Proof, Root, BadRoot}
 
 abbrev pub pack_text : PackFault → List ℕ
 pack_text packs.Memory = codes "out of memory"

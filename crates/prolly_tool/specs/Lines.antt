@@ -6,7 +6,7 @@ use Rattle.prolly_text.specs.Notations.{IsWritten, separator}
 use Rattle.prolly_text.specs.declared.notation.Notation.{Notation}
 use Rattle.prolly_text.specs.declared.notation.Notation.TheVariants.{Hex, Text}
 use Rattle.prolly_tree.specs.Split.{in_front}
-use Rattle.prolly_tool.specs.declared.line_form.LineForm.{LineForm}
+use Rattle.prolly_tool.specs.declared.lines.line_form.LineForm.{LineForm}
 
 -- The lines of a text: it is cut at newlines. A last line without a newline counts, and the empty
 -- rest behind a last newline does not.

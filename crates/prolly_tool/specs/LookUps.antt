@@ -23,9 +23,9 @@ use Rattle.prolly_text.specs.Notations.{separator, written}
 use Rattle.prolly_text.specs.declared.notation.Notation.{Notation}
 use Rattle.prolly_tool.specs.Answers.{Shows, ShowsLine, ShowsNothing, ShowsFault}
 use Rattle.prolly_tool.specs.Input.{IsReadWhole}
-use Rattle.prolly_tool.specs.declared.answer.Answer.{Answer}
-use Rattle.prolly_tool.specs.declared.fault.Fault.{Fault}
-use Rattle.prolly_tool.specs.declared.fault.Fault.TheVariants.{Check, Root, NoCounts}
+use Rattle.prolly_tool.specs.declared.answers.answer.Answer.{Answer}
+use Rattle.prolly_tool.specs.declared.faults.fault.Fault.{Fault}
+use Rattle.prolly_tool.specs.declared.faults.fault.Fault.TheVariants.{Check, Root, NoCounts}
 
 -- How many bytes a chunk file has at most that a command reads.
 abbrev pub file_limit : ℕ

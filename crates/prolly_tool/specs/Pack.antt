@@ -9,26 +9,26 @@ use Rattle.prolly_entry.specs.declared.pair.EntryFault.{EntryFault}
 use Rattle.prolly_entry.specs.declared.pair.EntryFault.TheVariants as entries
 use Rattle.prolly_entry.specs.Record.{Record, IsRecord}
 use Rattle.prolly_entry.specs.Spelling.{record_spelling}
-use Rattle.prolly_tool.specs.declared.pack_fault.LinesFault.{LinesFault}
-use Rattle.prolly_tool.specs.declared.pack_fault.LinesFault.TheVariants as lines
-use Rattle.prolly_tool.specs.declared.pack_fault.PackFault.{PackFault}
-use Rattle.prolly_tool.specs.declared.pack_fault.PackFault.TheVariants.{Memory, BadLine}
-use Rattle.prolly_tool.specs.declared.pack_fault.PackFault.TheVariants.{KeyTooLong, ValueTooLong}
+use Rattle.prolly_tool.specs.declared.faults.pack_fault.LinesFault.{LinesFault}
+use Rattle.prolly_tool.specs.declared.faults.pack_fault.LinesFault.TheVariants as lines
+use Rattle.prolly_tool.specs.declared.faults.pack_fault.PackFault.{PackFault}
+use Rattle.prolly_tool.specs.declared.faults.pack_fault.PackFault.TheVariants.{Memory, BadLine}
+use Rattle.prolly_tool.specs.declared.faults.pack_fault.PackFault.TheVariants.{KeyTooLong, ValueTooLong}
 use Rattle.prolly_text.specs.Notations.{IsWritten}
 use Rattle.prolly_text.specs.declared.notation.Notation.{Notation}
 use Rattle.prolly_text.specs.declared.notation.Notation.TheVariants.{Hex, Text}
-use Rattle.prolly_tool.specs.declared.line_form.LineForm.{LineForm}
-use Rattle.prolly_tool.specs.declared.line.LineFlaw.{LineFlaw}
-use Rattle.prolly_tool.specs.declared.line.LineFlaw.TheVariants as flaws
-use Rattle.prolly_tool.specs.declared.fault.Fault.{Fault}
-use Rattle.prolly_tool.specs.declared.fault.Fault.TheVariants.{Pack, Read}
+use Rattle.prolly_tool.specs.declared.lines.line_form.LineForm.{LineForm}
+use Rattle.prolly_tool.specs.declared.lines.line.LineFlaw.{LineFlaw}
+use Rattle.prolly_tool.specs.declared.lines.line.LineFlaw.TheVariants as flaws
+use Rattle.prolly_tool.specs.declared.faults.fault.Fault.{Fault}
+use Rattle.prolly_tool.specs.declared.faults.fault.Fault.TheVariants.{Pack, Read}
 use Rattle.prolly_file.specs.Sink.{SinkView}
 use Rattle.prolly_file.specs.Source.{SourceView}
 use Rattle.prolly_tool.specs.Answers.{ShowsFault}
 use Rattle.prolly_tool.specs.Outputs.{IsAnswer, IsCutShort, TookAll, TookPart}
-use Rattle.prolly_tool.specs.declared.answer.Answer.{Answer}
+use Rattle.prolly_tool.specs.declared.answers.answer.Answer.{Answer}
 use Rattle.prolly_tool.specs.Input.{IsReadWhole, IsInputFault}
-use Rattle.prolly_tool.specs.declared.record_form.RecordForm.TheVariants.{Lines, Records}
+use Rattle.prolly_tool.specs.declared.lines.record_form.RecordForm.TheVariants.{Lines, Records}
 use Rattle.prolly_tool.specs.Lines.{lines_of, IsLineOf, IsBadLine, HasLongKey, HasLongValue}
 use Rattle.prolly_tool.specs.RecordForms.{written_records}
 

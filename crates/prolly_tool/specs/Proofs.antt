@@ -9,9 +9,9 @@ use Rattle.prolly_tool.specs.Answers.{ShowsDone, ShowsFault}
 use Rattle.prolly_tool.specs.Input.{IsInputFault, IsReadWhole}
 use Rattle.prolly_tool.specs.LookUps.{IsLookedUp, IsNoFile, ShowsValue}
 use Rattle.prolly_tool.specs.Outputs.{IsRefused}
-use Rattle.prolly_tool.specs.declared.answer.Answer.{Answer}
-use Rattle.prolly_tool.specs.declared.fault.Fault.{Fault}
-use Rattle.prolly_tool.specs.declared.fault.Fault.TheVariants.{Proof, Write}
+use Rattle.prolly_tool.specs.declared.answers.answer.Answer.{Answer}
+use Rattle.prolly_tool.specs.declared.faults.fault.Fault.{Fault}
+use Rattle.prolly_tool.specs.declared.faults.fault.Fault.TheVariants.{Proof, Write}
 
 -- ---- proofs that are made
 

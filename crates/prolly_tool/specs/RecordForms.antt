@@ -6,8 +6,8 @@ use Rattle.prolly_entry.specs.Spelling.{record_spelling}
 use Rattle.prolly_text.specs.Notations.{separator, written}
 use Rattle.prolly_text.specs.declared.notation.Notation.{Notation}
 use Rattle.prolly_text.specs.declared.notation.Notation.TheVariants.{Hex, Text}
-use Rattle.prolly_tool.specs.declared.record_form.RecordForm.{RecordForm}
-use Rattle.prolly_tool.specs.declared.record_form.RecordForm.TheVariants.{Lines, Records}
+use Rattle.prolly_tool.specs.declared.lines.record_form.RecordForm.{RecordForm}
+use Rattle.prolly_tool.specs.declared.lines.record_form.RecordForm.TheVariants.{Lines, Records}
 
 -- What a line has behind its key for a removal: in hexadecimal a space and a dash, and in text
 -- nothing.

@@ -21,10 +21,10 @@ use Rattle.prolly_stat.specs.declared.tree.TreeNumbers.{TreeNumbers}
 use Rattle.prolly_tool.specs.Answers.{Shows, ShowsFault}
 use Rattle.prolly_tool.specs.LookUps.{IsLookUp, ShowsFailedRead}
 use Rattle.prolly_tool.specs.Surveys.{AreOfSurvey, IsSurveyAnswer, IsUnread}
-use Rattle.prolly_tool.specs.declared.answer.Answer.{Answer}
-use Rattle.prolly_tool.specs.declared.fault.Fault.TheVariants.{Read, Run}
-use Rattle.prolly_tool.specs.declared.stat_form.StatForm.{StatForm}
-use Rattle.prolly_tool.specs.declared.stat_form.StatForm.TheVariants.{Lines, Json}
+use Rattle.prolly_tool.specs.declared.answers.answer.Answer.{Answer}
+use Rattle.prolly_tool.specs.declared.faults.fault.Fault.TheVariants.{Read, Run}
+use Rattle.prolly_tool.specs.declared.answers.stat.StatForm.{StatForm}
+use Rattle.prolly_tool.specs.declared.answers.stat.StatForm.TheVariants.{Lines, Json}
 
 -- ---- a chunk file
 

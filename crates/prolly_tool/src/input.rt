@@ -2,7 +2,7 @@
 ghost use Rattle.std.specs.Prelude.{◌≡◌, ◌≢◌, ◌≤◌, true, length, IfOk, OnOk, IfErr, IsErrOf};
 ghost use Rattle.prolly_tool.specs.Input.{IsReadWhole, IsInputFault};
 
-use crate::fault::Fault;
+use crate::faults::Fault;
 use prolly_file::{Source, WholeFault, read_whole};
 use std::alloc::Global;
 

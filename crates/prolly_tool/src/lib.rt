@@ -1,68 +1,21 @@
 //! What the commands of the program do.
 #![tactic(auto)]
 
-mod answer;
-mod build_answer;
-mod change_counts;
-mod check_answer;
-mod diff_answer;
-mod dump_answer;
-mod dump_lines;
-mod explain_answer;
-mod fault;
-mod found_answer;
-mod found_pair_answer;
-mod get_answer;
+mod answers;
+mod faults;
 mod input;
 pub mod laws;
-mod line;
-mod line_form;
-mod line_parts;
-mod name_fault;
-mod nth_answer;
-mod output_fault;
-mod pack;
-mod pack_answer;
-mod pack_fault;
-mod prove_answer;
-mod record_form;
-mod record_stat;
-mod root_scan_answer;
-mod scan_answer;
-mod scratch;
-mod side_text;
-mod stat_answer;
-mod stat_form;
-mod survey_parts;
-mod tree_stat;
-mod verify_answer;
+mod lines;
 
-pub use answer::Answer;
-pub use build_answer::answer_build;
-pub use check_answer::answer_check;
-pub use diff_answer::answer_diff;
-pub use dump_answer::answer_dump;
-pub use explain_answer::answer_explain;
-pub use fault::Fault;
-pub use found_answer::answer_found;
-pub use found_pair_answer::answer_found_pair;
-pub use get_answer::{answer_get, answer_get_as};
+pub use answers::{
+    Answer, RootScan, StatForm, Stated, answer_build, answer_check, answer_diff, answer_dump,
+    answer_explain, answer_found, answer_found_pair, answer_get, answer_get_as, answer_nth,
+    answer_nth_as, answer_pack, answer_pack_as, answer_prove, answer_scan, answer_scan_as,
+    answer_scan_by_root, answer_scratch, answer_stat, answer_verify,
+};
+pub use faults::{Fault, LinesFault, NameFault, OutputFault, PackFault};
 pub use input::INPUT_LIMIT;
-pub use line_form::LineForm;
-pub use name_fault::NameFault;
-pub use nth_answer::{answer_nth, answer_nth_as};
-pub use output_fault::OutputFault;
-pub use pack::{pack_lines, pack_lines_as};
-pub use pack_answer::{answer_pack, answer_pack_as};
-pub use pack_fault::{LinesFault, PackFault};
+pub use lines::{LineForm, RecordForm, pack_lines, pack_lines_as};
 pub use prolly_build::{AllStart, Config, ConfigFault, Permit, Report, build, build_with};
 pub use prolly_line::{Command, ParseFault, WriteMode, parse};
 pub use prolly_text::Notation;
-pub use prove_answer::answer_prove;
-pub use record_form::RecordForm;
-pub use root_scan_answer::{RootScan, answer_scan_by_root};
-pub use scan_answer::{answer_scan, answer_scan_as};
-pub use scratch::answer_scratch;
-pub use stat_answer::{Stated, answer_stat};
-pub use stat_form::StatForm;
-pub use verify_answer::answer_verify;

@@ -5,9 +5,8 @@ ghost use Rattle.prolly_tool.specs.Answers.{Shows, ShowsNothing, ShowsLine, Show
 ghost use Rattle.prolly_tool.specs.Answers.{ShowsName, ShowsRefusal};
 ghost use Rattle.prolly_tool.specs.LookUps.{ShowsPair, ShowsValue};
 
-use crate::fault::Fault;
-use crate::line_parts::append_pair;
-use crate::name_fault::NameFault;
+use crate::faults::{Fault, NameFault};
+use crate::lines::append_pair;
 use prolly_line::ParseFault;
 use prolly_text::{Notation, append_name};
 use std::alloc::{AllocError, Global};

@@ -2,8 +2,8 @@
 ghost use Rattle.std.specs.Prelude.{◌≡◌, IfOk};
 ghost use Rattle.prolly_tool.specs.Build.{report_text, ShowsBuild};
 
-use crate::answer::Answer;
-use crate::line_parts::append_number;
+use crate::answers::answer::Answer;
+use crate::lines::append_number;
 use prolly_build::Report;
 use prolly_link::RunFault;
 use std::alloc::{AllocError, Global};

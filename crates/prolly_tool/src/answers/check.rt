@@ -5,10 +5,10 @@ ghost use Rattle.prolly_check.specs.Verdict.{IsFileOf};
 ghost use Rattle.prolly_tool.specs.LookUps.{AnswersFailedRead, AnswersLookUp, ShowsCheck};
 ghost use Rattle.prolly_tool.specs.LookUps.{check_text};
 
-use crate::answer::Answer;
-use crate::fault::Fault;
+use crate::answers::answer::Answer;
+use crate::faults::Fault;
 use crate::input::INPUT_LIMIT;
-use crate::line_parts::append_number;
+use crate::lines::append_number;
 use prolly_check::{Tree, check};
 use prolly_file::Source;
 use std::alloc::{AllocError, Global};

@@ -1,27 +1,26 @@
-//! The command `diff`: what turns the map of one chunk file into that of another.
+//! What `diff` answers.
 ghost use Rattle.std.specs.Prelude.{◌≡◌, ◌≢◌, ◌⊎◌, ◌+◌, ◌<◌, ◌^◌, true, List, length, IfOk, IfErr};
-ghost use Rattle.std.specs.Prelude.{◌∷◌, ◌++◌, OnOk, OnErr};
+ghost use Rattle.std.specs.Prelude.{◌∷◌, ◌++◌, OnOk, OnErr, []};
 ghost use Rattle.std.specs.Fmt.{decimal};
 ghost use Rattle.std.specs.List.{AllByRecursion};
 ghost use Rattle.prolly_check.specs.Content.{Content};
 ghost use Rattle.prolly_check.specs.Verdict.{IsFileOf};
 ghost use Rattle.prolly_check.specs.declared.verdict.fault.CheckFault.TheVariants.{Read};
 ghost use Rattle.prolly_diff.specs.Walk.{AreMaps};
-ghost use Rattle.prolly_entry.specs.Pair.{IsPair};
-ghost use Rattle.prolly_entry.specs.Record.{Record as RecordValue};
+ghost use Rattle.prolly_entry.specs.Pair.{IsPair, Pair};
+ghost use Rattle.prolly_entry.specs.Record.{Record as RecordValue, Record};
 ghost use Rattle.prolly_tool.specs.Answers.{ShowsFault};
-ghost use Rattle.prolly_tool.specs.Counts.{AreCounts, stat_text};
+ghost use Rattle.prolly_tool.specs.Counts.{AreCounts, stat_text, are_some};
 ghost use Rattle.prolly_tool.specs.Diff.{AreStopped, AreWritten, HasDifference, HaveChanges};
 ghost use Rattle.prolly_tool.specs.Diff.{IsDiff, ShowsDiff, stat_shown, status_of};
 ghost use Rattle.prolly_tool.specs.Outputs.{IsStopped, TookAll, TookUntil};
+ghost use Rattle.std.specs.Option.{option_copied};
+ghost use Rattle.prolly_tree.specs.LookUp.{find};
 
-use crate::answer::Answer;
-use crate::change_counts::ChangeCounts;
-use crate::fault::Fault;
+use crate::answers::answer::Answer;
+use crate::faults::{Fault, OutputFault};
 use crate::input::INPUT_LIMIT;
-use crate::line_parts::append_number;
-use crate::output_fault::OutputFault;
-use crate::record_form::{RecordForm, append_change};
+use crate::lines::{RecordForm, append_change, append_number};
 use prolly_check::{Missing, Tree, check};
 use prolly_diff::Differences;
 use prolly_file::{Sink, Source, write_all};
@@ -186,4 +185,51 @@ fn write_changes<W: Sink>(
     };
     sink.flush()?;
     Ok(counts)
+}
+
+/// The numbers of changes of each kind.
+#[derive(Clone, Copy)]
+pub(crate) struct ChangeCounts {
+    /// Keys that only the new map has.
+    pub(crate) added: u64,
+    /// Keys that both maps have, with different values.
+    pub(crate) changed: u64,
+    /// Keys that only the old map has.
+    pub(crate) removed: u64,
+}
+
+impl ChangeCounts {
+    /// Of no changes.
+    pub(crate) fn none() -> ChangeCounts
+        ensures { (old : List Pair) → AreCounts old [] result }
+    {
+        ChangeCounts {
+            added: 0,
+            changed: 0,
+            removed: 0,
+        }
+    }
+
+    /// Counts one change more, of a key that has `before` in the old map and `after` in the new
+    /// one.
+    pub(crate) fn count(&mut self, before: Option<&[u8]>, after: Option<&[u8]>)
+        requires { self.old.added + self.old.changed + self.old.removed + 1 < 2 ^ 64 }
+        ensures { (old : List Pair) (records : List Record) (r : Record) →
+            AreCounts old records self.old → find old r.key ≡ option_copied before.entry →
+            r.value ≡ option_copied after.entry → AreCounts old (records ++ r ∷ []) self.new }
+    {
+        match (before, after) {
+            (None, Some(_)) => self.added += 1,
+            (Some(_), Some(_)) => self.changed += 1,
+            (_, None) => self.removed += 1,
+        }
+    }
+
+    /// Whether there are changes.
+    pub(crate) fn are_some(&self) -> bool
+        ensures { (old : List Pair) (records : List Record) → AreCounts old records self.now →
+            result ≡ are_some records }
+    {
+        self.added > 0 || self.changed > 0 || self.removed > 0
+    }
 }

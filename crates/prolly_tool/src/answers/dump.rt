@@ -8,12 +8,10 @@ ghost use Rattle.prolly_tool.specs.LookUps.{ShowsFailedRead};
 ghost use Rattle.prolly_tool.specs.Outputs.{IsStopped, TookAll, TookUntil};
 ghost use Rattle.prolly_tool.specs.RecordForms.{written_records};
 
-use crate::answer::Answer;
-use crate::dump_lines::write_lines;
-use crate::fault::Fault;
+use crate::answers::answer::Answer;
+use crate::faults::{Fault, OutputFault};
 use crate::input::INPUT_LIMIT;
-use crate::output_fault::OutputFault;
-use crate::record_form::RecordForm;
+use crate::lines::{RecordForm, write_lines};
 use prolly_check::{Tree, check};
 use prolly_file::{Sink, Source, WriteFault};
 use std::alloc::{AllocError, Global};

@@ -3,11 +3,11 @@ ghost use Rattle.std.specs.Prelude.{◌≡◌, IfOk};
 ghost use Rattle.prolly_tool.specs.Surveys.{AnswersSurvey, AnswersUnread, ShowsExplanation};
 ghost use Rattle.prolly_tool.specs.Surveys.{ShowsFlaw, good_text};
 
-use crate::answer::Answer;
-use crate::fault::Fault;
+use crate::answers::answer::Answer;
+use crate::answers::stat::{key_in, numbers_of};
+use crate::faults::Fault;
 use crate::input::RECORD_LIMIT;
-use crate::line_parts::append_number;
-use crate::survey_parts::{key_in, numbers_of};
+use crate::lines::append_number;
 use prolly_file::{Source, SourceFault};
 use prolly_load::{FlawedRecord, Survey, survey};
 use prolly_stat::append_flaw;

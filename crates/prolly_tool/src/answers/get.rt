@@ -1,12 +1,14 @@
-//! The command `get`: the value of a key.
+//! What `get` answers, of a checked file and by the root.
 ghost use Rattle.prolly_text.specs.declared.notation.Notation.TheVariants.{Hex};
-ghost use Rattle.prolly_tool.specs.LookUps.{AnswersFailedRead, AnswersLookUp, ShowsGet};
+ghost use Rattle.prolly_tool.specs.LookUps.{AnswersFailedRead, AnswersLookUp, ShowsGet, ShowsFound};
+ghost use Rattle.std.specs.Prelude.{IfOk};
 
-use crate::answer::Answer;
-use crate::fault::Fault;
+use crate::answers::answer::Answer;
+use crate::faults::Fault;
 use crate::input::INPUT_LIMIT;
 use prolly_check::check;
 use prolly_file::Source;
+use prolly_root::RootFault;
 use prolly_text::Notation;
 use std::alloc::{AllocError, Global};
 
@@ -41,4 +43,23 @@ pub fn answer_get<S: Source>(
     ensures read { AnswersFailedRead S.seen source.old source.new result }
 {
     answer_get_as(alloc, source, key, Notation::Hex)
+}
+
+/// What `get` answers to who names the root: the value that was found, in this notation; nothing,
+/// with status 1, where it was found that there is none; or the line of the fault for which nothing
+/// was found out. An `Err` is want of memory for that text.
+///
+/// What a value or none says of the map with the root is said where the look-up is made: see
+/// [`Reader::get`](prolly_root::Reader::get).
+pub fn answer_found(
+    alloc: Global,
+    notation: Notation,
+    found: &Result<Option<Vec<u8>>, RootFault>,
+) -> Result<Answer, AllocError>
+    ensures { IfOk result (λ answer. ShowsFound notation answer found.now) }
+{
+    match found {
+        Ok(value) => Answer::of_value(alloc, notation, value.as_deref()),
+        Err(fault) => Answer::of_fault(alloc, Fault::Root(*fault)),
+    }
 }

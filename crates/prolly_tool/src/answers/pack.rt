@@ -5,11 +5,10 @@ ghost use Rattle.prolly_tool.specs.Lines.{hex_lines};
 ghost use Rattle.prolly_tool.specs.Pack.{AnswersPack, IsPackingFault, LeavesPack, Packs};
 ghost use Rattle.prolly_tool.specs.Pack.{TellsPackRead};
 
-use crate::answer::Answer;
-use crate::fault::Fault;
+use crate::answers::answer::Answer;
+use crate::faults::Fault;
 use crate::input::input_of;
-use crate::line_form::LineForm;
-use crate::pack::pack_lines_as;
+use crate::lines::{LineForm, pack_lines_as};
 use prolly_file::{Sink, Source, WriteFault, write_whole};
 use std::alloc::{AllocError, Global};
 

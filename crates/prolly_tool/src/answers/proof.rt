@@ -1,15 +1,18 @@
-//! The command `prove`: a proof of what a chunk file has at a key.
+//! What `prove` and `verify` answer.
 ghost use Rattle.std.specs.Prelude.{◌≡◌, ◌≢◌, ◌⊎◌, true, IfOk, OnErr};
 ghost use Rattle.prolly_tool.specs.LookUps.{ShowsFailedRead};
 ghost use Rattle.prolly_tool.specs.Outputs.{TookAll, TookPart};
-ghost use Rattle.prolly_tool.specs.Proofs.{IsProve, IsProvedOf};
+ghost use Rattle.prolly_tool.specs.Proofs.{IsProve, IsProvedOf, IsVerify};
+ghost use Rattle.prolly_tool.specs.Answers.{ShowsFault};
 
-use crate::answer::Answer;
-use crate::fault::Fault;
-use crate::input::INPUT_LIMIT;
+use crate::answers::answer::Answer;
+use crate::faults::Fault;
+use crate::input::{INPUT_LIMIT, input_of};
 use prolly_check::check;
+use prolly_entry::{Ref, Version};
 use prolly_file::{Sink, Source, WriteFault, write_whole};
-use prolly_root::prove;
+use prolly_root::{prove, verify};
+use prolly_text::Notation;
 use std::alloc::{AllocError, Global};
 
 /// What `prove` answers: it reads a chunk file from the source, writes a proof of what it has at
@@ -46,5 +49,36 @@ pub fn answer_prove<S: Source, W: Sink>(
     match write_whole(sink, &proof) {
         Ok(()) => Ok(Answer::of_done(alloc)),
         Err(WriteFault) => Answer::of_fault(alloc, Fault::Write),
+    }
+}
+
+/// What `verify` answers: the value that the proof shows for the key, in this notation; nothing,
+/// with status 1, where the proof shows that the key has none; or the line of the first fault of
+/// bytes that are no such proof. At most 1,073,741,824 bytes are read, and no proof that `prove`
+/// makes is longer. An `Err` is want of memory for the answer's own text.
+///
+/// The version is that of the tree's chunks; like the root, it comes from who is trusted. Takes
+/// memory for the bytes, and time linear in them.
+pub fn answer_verify<S: Source>(
+    alloc: Global,
+    source: &mut S,
+    notation: Notation,
+    version: Version,
+    root: &Ref,
+    key: &[u8],
+) -> Result<Answer, AllocError>
+    ensures shown { (S.seen source.old).is_honest ≡ true →
+        IfOk result (IsVerify notation version root.now.0 key.now (S.seen source.old).left
+        ((S.seen source.new).failures ≢ (S.seen source.old).failures)) }
+    ensures read { (S.seen source.new).failures ≢ (S.seen source.old).failures →
+        IfOk result (λ answer. ShowsFault answer Fault.Read) }
+{
+    let proof = match input_of(alloc, source) {
+        Ok(proof) => proof,
+        Err(fault) => return Answer::of_fault(alloc, fault),
+    };
+    match verify(version, root, key, &proof) {
+        Ok(value) => Answer::of_value(alloc, notation, value),
+        Err(fault) => Answer::of_fault(alloc, Fault::Proof(fault)),
     }
 }

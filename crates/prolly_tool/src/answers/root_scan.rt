@@ -1,20 +1,19 @@
 //! The command `scan` of a file of which only the root is believed.
-ghost use Rattle.std.specs.Prelude.{◌≡◌, ◌≢◌, ◌⊎◌, ◌↔◌, IfOk, IfErr, OnOk, OnErr, true};
-ghost use Rattle.std.specs.Prelude.{Err, IsTrue};
+ghost use Rattle.std.specs.Prelude.{◌≡◌, ◌≢◌, ◌⊎◌, ◌↔◌, IfOk, IfErr, OnOk, OnErr, true, Err};
+ghost use Rattle.std.specs.Prelude.{IsTrue};
 ghost use Rattle.prolly_check.specs.ScanWay.{next_key};
 ghost use Rattle.prolly_file.specs.Failures.{CountsFailure};
 ghost use Rattle.prolly_file.specs.Sink.{IsSettled};
 ghost use Rattle.prolly_tool.specs.LookUps.{pair_lines};
 ghost use Rattle.prolly_tool.specs.Outputs.{TookAll, TookBytes, TookUntil};
-ghost use Rattle.prolly_tool.specs.RootScans.{IsDoneScan, IsFlushed, IsRootScan};
-ghost use Rattle.prolly_tool.specs.RootScans.{IsStoppedScan, RefusesNone, RefusesNoneOf, TellsScanReads};
-ghost use Rattle.prolly_tool.specs.declared.fault.Fault.{Fault as FaultValue};
-ghost use Rattle.prolly_tool.specs.declared.fault.Fault.TheVariants.{Write};
+ghost use Rattle.prolly_tool.specs.RootScans.{IsDoneScan, IsFlushed, IsRootScan, IsStoppedScan};
+ghost use Rattle.prolly_tool.specs.RootScans.{RefusesNone, RefusesNoneOf, TellsScanReads};
+ghost use Rattle.prolly_tool.specs.declared.faults.fault.Fault.{Fault as FaultValue};
+ghost use Rattle.prolly_tool.specs.declared.faults.fault.Fault.TheVariants.{Write};
 
-use crate::answer::Answer;
-use crate::fault::Fault;
-use crate::output_fault::OutputFault;
-use crate::scan_answer::lines_of;
+use crate::answers::answer::Answer;
+use crate::answers::scan::lines_of;
+use crate::faults::{Fault, OutputFault};
 use prolly_entry::{Pair, Ref, Version};
 use prolly_file::{Sink, write_all};
 use prolly_root::{ChunkSource, Reader};

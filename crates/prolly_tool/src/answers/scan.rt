@@ -4,10 +4,10 @@ ghost use Rattle.prolly_text.specs.declared.notation.Notation.TheVariants.{Hex};
 ghost use Rattle.prolly_tool.specs.LookUps.{AnswersFailedRead, AnswersLookUp, ShowsScan};
 ghost use Rattle.prolly_tool.specs.LookUps.{pair_lines};
 
-use crate::answer::Answer;
-use crate::fault::Fault;
+use crate::answers::answer::Answer;
+use crate::faults::Fault;
 use crate::input::INPUT_LIMIT;
-use crate::line_parts::append_pair;
+use crate::lines::append_pair;
 use prolly_check::{Leaves, Pairs, check};
 use prolly_entry::Pair;
 use prolly_file::Source;

@@ -8,8 +8,8 @@ ghost use Rattle.prolly_tool.specs.Outputs.{IsCutShort};
 ghost use Rattle.prolly_tool.specs.Scratch.{HoldsPairs, MakesFile, Scratches, IsRecordsFault};
 ghost use Rattle.prolly_tool.specs.Scratch.{IsScratchFault, run_fault};
 
-use crate::answer::Answer;
-use crate::fault::Fault;
+use crate::answers::answer::Answer;
+use crate::faults::Fault;
 use crate::input::{RECORD_LIMIT, input_of};
 use prolly_entry::{Pair, RecordFault, Ref, Sha512Cut, Version, records};
 use prolly_file::{ScratchFault, Sink, Source, WriteFault, scratch_as, write_whole};

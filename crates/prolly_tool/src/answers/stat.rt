@@ -1,15 +1,23 @@
-//! The command `stat`: a chunk file, or a record file, in numbers.
-ghost use Rattle.prolly_tool.specs.Stat.{AnswersBadRead, AnswersOf, AnswersStat};
+//! What `stat` answers.
+ghost use Rattle.prolly_tool.specs.Stat.{AnswersBadRead, AnswersOf, AnswersStat, ShowsTree};
+ghost use Rattle.prolly_tool.specs.Stat.{tree_text, ShowsRecords, ShowsSurvey, records_text};
+ghost use Rattle.std.specs.Prelude.{◌≡◌, ◌++◌, IfOk, OnOk};
+ghost use Rattle.prolly_check.specs.Content.{Content};
+ghost use Rattle.prolly_check.specs.Verdict.{IsFileOf};
+ghost use Rattle.std.specs.Option.{option_copied};
+ghost use Rattle.prolly_load.specs.Survey.{bytes_of};
+ghost use Rattle.prolly_tool.specs.Surveys.{AreOfSurvey};
 
-use crate::answer::Answer;
-use crate::fault::Fault;
+use crate::answers::answer::Answer;
+use crate::faults::Fault;
 use crate::input::{INPUT_LIMIT, RECORD_LIMIT};
-use crate::record_stat::survey_answer;
-use crate::stat_form::StatForm;
-use crate::tree_stat::tree_answer;
-use prolly_check::check;
+use prolly_check::{Tree, check};
 use prolly_file::{Rejoined, Source, SourceFault, take_front};
-use prolly_load::survey;
+use prolly_load::{Survey, fault_of, survey};
+use prolly_stat::{
+    RecordNumbers, TreeNumbers, append_json, append_records, append_records_json, append_table,
+};
+use prolly_text::Notation;
 use std::alloc::{AllocError, Global};
 
 /// The letters with which each chunk file begins. A record file that began so would have a key of
@@ -69,4 +77,110 @@ fn whole_answer<S: Source>(
         Ok(survey) => survey_answer(alloc, &survey, form),
         Err(SourceFault) => Answer::of_fault(alloc, Fault::Read),
     }
+}
+
+/// The numbers of a chunk file.
+pub(crate) fn tree_answer(alloc: Global, tree: &Tree, form: StatForm) -> Result<Answer, AllocError>
+    ensures { IfOk result (λ answer. (content : Content) → IsFileOf tree.now content →
+        ShowsTree form answer content) }
+{
+    let root = tree.root().to_text();
+    let levels = tree.levels(alloc)?;
+    let numbers = TreeNumbers {
+        root: &root,
+        version: tree.version(),
+        bits: tree.bits(),
+        pairs: tree.pairs(),
+        chunks: tree.chunks(),
+        bytes: tree.size(),
+        levels: &levels,
+    };
+    let mut out = Vec::new(alloc);
+    append_tree(alloc, &mut out, form, &numbers)?;
+    Ok(Answer::of_lines(alloc, out))
+}
+
+fn append_tree(
+    alloc: Global,
+    out: &mut Vec<u8>,
+    form: StatForm,
+    numbers: &TreeNumbers<'_>,
+) -> Result<(), AllocError>
+    ensures { OnOk result (out.new.items ≡ out.old.items ++ tree_text form numbers.now) }
+{
+    match form {
+        StatForm::Lines(_) => append_table(alloc, out, numbers),
+        StatForm::Json => append_json(alloc, out, numbers),
+    }
+}
+
+/// The numbers of a record file, or else its flaw.
+pub(crate) fn survey_answer(
+    alloc: Global,
+    survey: &Survey,
+    form: StatForm,
+) -> Result<Answer, AllocError>
+    ensures { IfOk result (λ answer. ShowsRecords form answer survey.now) }
+{
+    match &survey.flawed {
+        None => of_records(alloc, survey, form),
+        Some(flawed) => {
+            Answer::of_fault(alloc, Fault::Run(fault_of(0, survey.records, flawed.flaw)))
+        }
+    }
+}
+
+fn of_records(alloc: Global, survey: &Survey, form: StatForm) -> Result<Answer, AllocError>
+    ensures { IfOk result (λ answer. ShowsSurvey form answer survey.now) }
+{
+    let lines = lines_of(alloc, form, &numbers_of(survey))?;
+    Ok(Answer::of_lines(alloc, lines))
+}
+
+fn lines_of(alloc: Global, form: StatForm, numbers: &RecordNumbers) -> Result<Vec<u8>, AllocError>
+    ensures { IfOk result (λ lines. lines.items ≡ records_text form numbers.now) }
+{
+    let mut lines = Vec::new(alloc);
+    match form {
+        StatForm::Lines(notation) => {
+            append_records(alloc, &mut lines, notation, numbers)?;
+            Ok(lines)
+        }
+        StatForm::Json => {
+            append_records_json(alloc, &mut lines, numbers)?;
+            Ok(lines)
+        }
+    }
+}
+
+/// What is good of a record file, in numbers.
+pub(crate) fn numbers_of(survey: &Survey) -> RecordNumbers<'_>
+    ensures { AreOfSurvey survey.now result }
+{
+    RecordNumbers {
+        records: survey.records,
+        removals: survey.removals,
+        bytes: survey.bytes,
+        first_key: key_in(&survey.first_key),
+        last_key: key_in(&survey.last_key),
+    }
+}
+
+/// The key, where there is one.
+pub(crate) fn key_in(key: &Option<Vec<u8>>) -> Option<&[u8]>
+    ensures { option_copied result ≡ bytes_of key.now }
+{
+    match key {
+        None => None,
+        Some(key) => Some(key.as_slice()),
+    }
+}
+
+/// How `stat` shows the numbers of a file.
+#[derive(Clone, Copy)]
+pub enum StatForm {
+    /// As lines and, of a chunk file, a table; the keys of a record file in this notation.
+    Lines(Notation),
+    /// As one line of JSON, with keys in hexadecimal.
+    Json,
 }

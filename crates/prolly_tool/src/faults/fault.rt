@@ -1,10 +1,9 @@
 //! The faults of commands, each with its line and its status.
 ghost use Rattle.std.specs.Prelude.{◌≡◌, Some};
 ghost use Rattle.prolly_tool.specs.Faults.{fault_text, check_status, root_status, run_status};
-ghost use Rattle.prolly_tool.specs.Faults.{fault_status};
+ghost use Rattle.prolly_tool.specs.Faults.{fault_status, side_fault_text};
 
-use crate::pack_fault::{LinesFault, PackFault};
-use crate::side_text::SideText;
+use crate::faults::pack_fault::{LinesFault, PackFault};
 use prolly_check::CheckFault;
 use prolly_file::SinkFault;
 use prolly_link::RunFault;
@@ -74,7 +73,7 @@ impl Fault {
 }
 
 impl From<AllocError> for Fault {
-    ghost use Rattle.prolly_tool.specs.declared.fault.Fault.TheVariants.{Memory};
+    ghost use Rattle.prolly_tool.specs.declared.faults.fault.Fault.TheVariants.{Memory};
 
     ghost from_gives = { λ _ fault. fault ≡ Memory };
 
@@ -84,7 +83,7 @@ impl From<AllocError> for Fault {
 }
 
 impl From<SinkFault> for Fault {
-    ghost use Rattle.prolly_tool.specs.declared.fault.Fault.TheVariants.{Write};
+    ghost use Rattle.prolly_tool.specs.declared.faults.fault.Fault.TheVariants.{Write};
 
     ghost from_gives = { λ _ fault. fault ≡ Write };
 
@@ -94,7 +93,7 @@ impl From<SinkFault> for Fault {
 }
 
 impl From<RunFault> for Fault {
-    ghost use Rattle.prolly_tool.specs.declared.fault.Fault.TheVariants.{Run};
+    ghost use Rattle.prolly_tool.specs.declared.faults.fault.Fault.TheVariants.{Run};
 
     ghost from_gives = { λ run fault. fault ≡ Run run };
 
@@ -104,7 +103,7 @@ impl From<RunFault> for Fault {
 }
 
 impl From<LinesFault> for Fault {
-    ghost use Rattle.prolly_tool.specs.declared.fault.Fault.TheVariants.{Pack};
+    ghost use Rattle.prolly_tool.specs.declared.faults.fault.Fault.TheVariants.{Pack};
 
     ghost from_gives = { λ pack fault. fault ≡ Pack pack };
 
@@ -172,5 +171,21 @@ impl Display for Fault {
             Fault::NotUnicode => f.write_str("a word is not UTF-8"),
             Fault::OutIsStdout => f.write_str("OUT is also standard output"),
         }
+    }
+}
+
+/// Why one of two files is no lawful chunk file, to be shown: which of them, and then the fault.
+#[derive(Clone, Copy)]
+pub struct SideText<'a>(pub &'a str, pub CheckFault);
+
+impl Display for SideText<'_> {
+    ghost output = { λ shown. Some (side_fault_text shown.0.now shown.1) };
+
+    fn fmt<W: fmt::Write>(&self, f: &mut Formatter<W>) -> fmt::Result {
+        let SideText(side, fault) = *self;
+        if fault != CheckFault::Memory {
+            f.write_str(side)?;
+        }
+        fault.fmt(f)
     }
 }

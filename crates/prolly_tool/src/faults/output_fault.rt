@@ -1,7 +1,7 @@
 //! Why an output is not written whole.
 ghost use Rattle.std.specs.Prelude.{◌≡◌};
 
-use crate::fault::Fault;
+use crate::faults::fault::Fault;
 use prolly_file::{SinkFault, WriteFault};
 use std::alloc::AllocError;
 
@@ -15,7 +15,7 @@ pub enum OutputFault {
 }
 
 impl From<AllocError> for OutputFault {
-    ghost use Rattle.prolly_tool.specs.declared.output_fault.OutputFault.TheVariants.{Memory};
+    ghost use Rattle.prolly_tool.specs.declared.faults.output_fault.OutputFault.TheVariants.{Memory};
 
     ghost from_gives = { λ _ fault. fault ≡ Memory };
 
@@ -25,7 +25,7 @@ impl From<AllocError> for OutputFault {
 }
 
 impl From<SinkFault> for OutputFault {
-    ghost use Rattle.prolly_tool.specs.declared.output_fault.OutputFault.TheVariants.{Write};
+    ghost use Rattle.prolly_tool.specs.declared.faults.output_fault.OutputFault.TheVariants.{Write};
 
     ghost from_gives = { λ _ fault. fault ≡ Write };
 
@@ -35,7 +35,7 @@ impl From<SinkFault> for OutputFault {
 }
 
 impl From<WriteFault> for OutputFault {
-    ghost use Rattle.prolly_tool.specs.declared.output_fault.OutputFault.TheVariants.{Write};
+    ghost use Rattle.prolly_tool.specs.declared.faults.output_fault.OutputFault.TheVariants.{Write};
 
     ghost from_gives = { λ _ fault. fault ≡ Write };
 

@@ -45,7 +45,7 @@ pub enum LinesFault {
 }
 
 impl From<PackFault> for LinesFault {
-    ghost use Rattle.prolly_tool.specs.declared.pack_fault.LinesFault.TheVariants.{Pack};
+    ghost use Rattle.prolly_tool.specs.declared.faults.pack_fault.LinesFault.TheVariants.{Pack};
 
     ghost from_gives = { λ pack fault. fault ≡ Pack pack };
 

@@ -8,7 +8,7 @@ ghost use Rattle.prolly_tool.specs.Lines.{CutsAt, lines_of};
 ghost use Rattle.prolly_tool.specs.Pack.{IsChangeOf, IsLongKey, IsLongPair, IsNotWritten};
 ghost use Rattle.prolly_tool.specs.Pack.{IsWrongLine, MarksRemoval, StandsFor, flaw_of};
 
-use crate::line_form::LineForm;
+use crate::lines::line_form::LineForm;
 use prolly_entry::{EntryFault, Pair, Record};
 use prolly_text::{Notation, TextFault};
 use std::alloc::Global;

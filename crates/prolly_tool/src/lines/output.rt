@@ -1,16 +1,47 @@
-//! Writing the pairs of a chunk file as lines.
-ghost use Rattle.std.specs.Prelude.{◌≡◌, ◌++◌, OnOk, IfErr};
+//! Lines that are written.
+ghost use Rattle.std.specs.Prelude.{◌≡◌, ◌++◌, ◌∷◌, OnOk, IfErr};
+ghost use Rattle.std.specs.Fmt.{decimal};
+ghost use Rattle.prolly_text.specs.Notations.{separator, written};
 ghost use Rattle.prolly_tree.specs.Difference.{puts};
 ghost use Rattle.prolly_tool.specs.Outputs.{TookAll, TookUntil};
 ghost use Rattle.prolly_tool.specs.RecordForms.{written_records};
-ghost use Rattle.prolly_tool.specs.declared.record_form.RecordForm.TheVariants.{Lines};
+ghost use Rattle.prolly_tool.specs.declared.lines.record_form.RecordForm.TheVariants.{Lines};
 
-use crate::output_fault::OutputFault;
-use crate::record_form::append_line;
+use crate::faults::OutputFault;
+use crate::lines::record_form::append_line;
 use prolly_check::{Leaves, Pairs};
 use prolly_file::{Sink, write_all};
 use prolly_text::Notation;
 use std::alloc::{AllocError, Global};
+
+/// Appends a space, and the number in decimal.
+pub(crate) fn append_number(
+    alloc: Global,
+    line: &mut Vec<u8>,
+    number: u64,
+) -> Result<(), AllocError>
+    ensures { OnOk result (line.new.items ≡ line.old.items ++ 0x20 ∷ decimal number) }
+{
+    let text = format!(in alloc; " {number}")?;
+    line.extend_from_slice(text.as_bytes())?;
+    Ok(())
+}
+
+/// Appends a key and its value, with a separator between them.
+pub(crate) fn append_pair(
+    alloc: Global,
+    line: &mut Vec<u8>,
+    notation: Notation,
+    key: &[u8],
+    value: &[u8],
+) -> Result<(), AllocError>
+    ensures { OnOk result (line.new.items ≡ line.old.items ++ written notation
+        key.now ++ separator notation ∷ written notation value.now) }
+{
+    notation.append(alloc, line, key)?;
+    line.push(notation.separator())?;
+    notation.append(alloc, line, value)
+}
 
 /// Writes a line for each pair of the leaves to a sink, and flushes it.
 ///

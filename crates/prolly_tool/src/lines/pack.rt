@@ -4,9 +4,9 @@ ghost use Rattle.prolly_tool.specs.Lines.{hex_lines};
 ghost use Rattle.prolly_tool.specs.Pack.{IsLineFault, IsLinesFault, IsPackFault, Packs, PacksLine};
 ghost use Rattle.prolly_tool.specs.Pack.{fault_at};
 
-use crate::line::{LineFlaw, record_of, split_line};
-use crate::line_form::LineForm;
-use crate::pack_fault::{LinesFault, PackFault};
+use crate::faults::{LinesFault, PackFault};
+use crate::lines::line::{LineFlaw, record_of, split_line};
+use crate::lines::line_form::LineForm;
 use prolly_entry::append_record;
 use prolly_text::Notation;
 use std::alloc::Global;

@@ -2,7 +2,7 @@ use Rattle.std.proofs.Common.{ℕ, List, Option, ◌∙◌, subst}
 use Rattle.prolly_root.specs.ProofFault.{IsFault}
 use Rattle.prolly_root.specs.ProofFile.{IsProof}
 use Rattle.prolly_tool.proofs.Verifying.{proof_refused}
-use Rattle.prolly_tool.proofs.verify_answer.answer_verify.Goals as goal
+use Rattle.prolly_tool.proofs.answers.proof.answer_verify.Goals as goal
 
 pub returns-clause-shown : goal.returns-clause-shown
 returns-clause-shown g c = λ honest.

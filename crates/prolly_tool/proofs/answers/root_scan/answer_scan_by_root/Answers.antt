@@ -2,9 +2,9 @@ use Rattle.std.proofs.Common.{inr, Result, Ok, Err, IfOk}
 use Rattle.std.specs.Prelude.{OnErr}
 use Rattle.std.specs.declared.alloc.AllocError.{AllocError}
 use Rattle.prolly_tool.specs.Answers.{ShowsFault}
-use Rattle.prolly_tool.specs.declared.answer.Answer.{Answer}
-use Rattle.prolly_tool.specs.declared.fault.Fault.{Fault}
-use Rattle.prolly_tool.proofs.root_scan_answer.answer_scan_by_root.Goals as goal
+use Rattle.prolly_tool.specs.declared.answers.answer.Answer.{Answer}
+use Rattle.prolly_tool.specs.declared.faults.fault.Fault.{Fault}
+use Rattle.prolly_tool.proofs.answers.root_scan.answer_scan_by_root.Goals as goal
 
 -- What is so of each answer that shows the fault is so of this one.
 shown : (P : Answer → Type 0) (fault : Fault) (result : Result Answer AllocError) →

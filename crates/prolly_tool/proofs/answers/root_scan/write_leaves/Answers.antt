@@ -9,8 +9,8 @@ use Rattle.prolly_tool.proofs.ScanSteps.{none_found, none_last, scan_begins, sca
 use Rattle.prolly_tool.proofs.ScanSteps.{scan_fails, scan_full, scan_goes_on, scan_unwritten}
 use Rattle.prolly_tool.proofs.ScanSteps.{scan_wants}
 use Rattle.prolly_tool.specs.RootScans.{RefusesNoneOf, TellsScanReads}
-use Rattle.prolly_tool.specs.declared.fault.Fault.TheVariants.{Root}
-use Rattle.prolly_tool.proofs.root_scan_answer.write_leaves.Goals as goal
+use Rattle.prolly_tool.specs.declared.faults.fault.Fault.TheVariants.{Root}
+use Rattle.prolly_tool.proofs.answers.root_scan.write_leaves.Goals as goal
 
 pub returns-in_default-clause-err : goal.returns-in_default-clause-err
 returns-in_default-clause-err g c = scan_wants g.W.Sink.seen c.args.reader.version

@@ -1,0 +1,30 @@
+//! What each command answers.
+mod answer;
+mod build;
+mod check;
+mod diff;
+mod dump;
+mod explain;
+mod get;
+mod nth;
+mod pack;
+mod proof;
+mod root_scan;
+mod scan;
+mod scratch;
+mod stat;
+
+pub use answer::Answer;
+pub use build::answer_build;
+pub use check::answer_check;
+pub use diff::answer_diff;
+pub use dump::answer_dump;
+pub use explain::answer_explain;
+pub use get::{answer_found, answer_get, answer_get_as};
+pub use nth::{answer_found_pair, answer_nth, answer_nth_as};
+pub use pack::{answer_pack, answer_pack_as};
+pub use proof::{answer_prove, answer_verify};
+pub use root_scan::{RootScan, answer_scan_by_root};
+pub use scan::{answer_scan, answer_scan_as};
+pub use scratch::answer_scratch;
+pub use stat::{StatForm, Stated, answer_stat};

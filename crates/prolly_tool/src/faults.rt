@@ -1,0 +1,10 @@
+//! The faults of commands, and what is said of them.
+mod fault;
+mod name_fault;
+mod output_fault;
+mod pack_fault;
+
+pub use fault::Fault;
+pub use name_fault::NameFault;
+pub use output_fault::OutputFault;
+pub use pack_fault::{LinesFault, PackFault};
