@@ -48,7 +48,7 @@ MEET_OPEN = """        met: meet(sender, receiver),
     }
 }
 
-pub fn meet_open<T>(sender: crate::batch::sender::BatchSender<T>, receiver: EndedBatch<T>) {
+pub fn meet_open<T>(sender: crate::BatchSender<T>, receiver: EndedBatch<T>) {
     let _ = meet_batches(sender, receiver);
 }
 """
@@ -78,7 +78,7 @@ MISUSES = [
     (
         "an open sender is met",
         "prolly_link",
-        "src/batch/meeting.rt",
+        "src/batch/closed.rt",
         (MEETS, MEET_OPEN),
         "error[mismatched-types]: expected `ClosedBatch<_>`, found `BatchSender<T>`",
     ),

@@ -10,7 +10,7 @@ mod proof;
 mod report;
 mod scratch;
 
-ghost use Rattle.prolly_line.specs.Given.{IsWithinLimits};
+ghost use Rattle.prolly_line.specs.GivenCommand.{IsWithinLimits};
 
 use crate::refusal::Refusal;
 use prolly_entry::Version;

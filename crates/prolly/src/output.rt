@@ -60,9 +60,9 @@ impl Output {
         }
     }
 
-    /// Keeps the file where the command's answer is that it is done. Else what was there before the
-    /// first byte is there again: nothing stands beside the name, nor in its place where this run
-    /// made it. The answer, or the fault that kept the file from its place or from the disk.
+    /// Keeps the file where the command's answer is that it is done. Else nothing stays beside the
+    /// name, and a new file in its place is taken away if it has no byte. Gives the answer, or the
+    /// fault that kept the file from its place or from the disk.
     pub fn finish(
         self,
         rt: &HostRuntime,

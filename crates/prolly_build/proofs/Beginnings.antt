@@ -9,9 +9,9 @@ use Rattle.prolly_tree.specs.File.{header, frame}
 use Rattle.prolly_entry.specs.lemmas.Spellings.{eight_bytes}
 use Rattle.prolly_entry.specs.lemmas.Lists.{apart, cell, cells}
 use Rattle.prolly_file.specs.Sink.{SinkView}
-use Rattle.prolly_build.specs.Settings.{Settings}
-use Rattle.prolly_build.specs.Built.{NoEndIsBegun}
-use Rattle.prolly_build.specs.Writing.{AreSmall}
+use Rattle.prolly_build.specs.Config.{Settings}
+use Rattle.prolly_build.specs.BuiltFile.{NoEndIsBegun}
+use Rattle.prolly_build.specs.WriterState.{AreSmall}
 
 -- a frame and what follows it
 one_frame : (c : Chunk) (more : List ℕ) → frame c ++ more ≡

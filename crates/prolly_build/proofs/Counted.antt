@@ -6,20 +6,21 @@ use Rattle.prolly_tree.specs.CutShort.{IsSentOf, AreSentOf}
 use Rattle.prolly_tree.specs.Merge.{Input}
 use Rattle.prolly_entry.specs.Reading.{IsReading}
 use Rattle.prolly_entry.specs.Record.{Record}
-use Rattle.prolly_entry.specs.declared.flaw.Flaw.{Flaw}
-use Rattle.prolly_entry.specs.declared.flaw.Flaw.TheVariants as flaws
+use Rattle.prolly_entry.specs.declared.next.Flaw.{Flaw}
+use Rattle.prolly_entry.specs.declared.next.Flaw.TheVariants as flaws
 use Rattle.prolly_laws.specs.Readings.{reading_is}
 use Rattle.prolly_file.specs.Source.{SourceView}
 use Rattle.prolly_link.specs.Views.{Batching, Whole}
-use Rattle.prolly_link.specs.declared.end.End.{End}
-use Rattle.prolly_link.specs.declared.end.End.TheVariants.{Clean, Fault}
+use Rattle.prolly_link.specs.declared.message.End.{End}
+use Rattle.prolly_link.specs.declared.message.End.TheVariants.{Clean, Fault}
 use Rattle.prolly_link.specs.declared.fault.RunFault.{RunFault}
 use Rattle.prolly_link.specs.declared.fault.RunFault.TheVariants as faults
-use Rattle.prolly_load.specs.Loading.{FailsAs, EndsAs}
-use Rattle.prolly_merge.specs.Inputs.{input_of, fault_of}
-use Rattle.prolly_build.specs.Merging.{sent_input}
-use Rattle.prolly_build.specs.Ran.{AreLoaded}
-use Rattle.prolly_build.specs.Stopped.{IsReadingOf, IsFailureOf, CountFor, AreHonest, ending_told}
+use Rattle.prolly_load.specs.Loaded.{FailsAs, EndsAs}
+use Rattle.prolly_merge.specs.Inputs.{input_of, fault_in}
+use Rattle.prolly_build.specs.Mergers.{sent_input}
+use Rattle.prolly_build.specs.RunResult.{AreLoaded}
+use Rattle.prolly_build.specs.InputFaults.{IsReadingOf, IsFailureOf, CountFor, AreHonest}
+use Rattle.prolly_build.specs.InputFaults.{ending_told}
 use Rattle.prolly_build.specs.Workers.{IsLoadedFrom}
 use Rattle.prolly_build.proofs.LoaderSteps.{of_all}
 
@@ -37,7 +38,7 @@ module _ {S : Type 0} (seen : S → SourceView) (limit : ℕ) where
   -- a reading that was sent whole
   whole : (file : ℕ) (s t : S) (records : List Record) (ending : Option Flaw) (end : End) →
       IsReading (seen s).left limit records ending →
-      fault_of end ≡ ending_told file (length records) ending →
+      fault_in end ≡ ending_told file (length records) ending →
       Counts file s t (input_of records end)
   whole file s t records ending end h told = record {
     input = input_of records end;

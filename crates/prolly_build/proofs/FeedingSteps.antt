@@ -4,14 +4,14 @@ use Rattle.prolly_tree.specs.Merge.{Input}
 use Rattle.prolly_entry.specs.Record.{Record}
 use Rattle.prolly_file.specs.Source.{SourceView}
 use Rattle.prolly_link.specs.Views.{Batching, Receiving, Whole}
-use Rattle.prolly_link.specs.Receipts.{end_given, HasEnded}
+use Rattle.prolly_link.specs.Progress.{end_given, HasEnded}
 use Rattle.prolly_link.specs.declared.fault.RunFault.{RunFault}
-use Rattle.prolly_link.specs.declared.progress.Progress.TheVariants.{Ended}
+use Rattle.prolly_link.specs.declared.message.Progress.TheVariants.{Ended}
 use Rattle.prolly_merge.specs.Inputs.{input_of}
-use Rattle.prolly_build.specs.Feeding.{IsFed}
-use Rattle.prolly_build.specs.Forks.{IsForked}
-use Rattle.prolly_build.specs.Merging.{MergesTwo, received_input, sent_input}
-use Rattle.prolly_build.specs.Ran.{AreLoaded}
+use Rattle.prolly_build.specs.RecordLinks.{IsFed}
+use Rattle.prolly_build.specs.Lists.{IsForked}
+use Rattle.prolly_build.specs.Mergers.{MergesTwo, received_input, sent_input}
+use Rattle.prolly_build.specs.RunResult.{AreLoaded}
 use Rattle.prolly_build.proofs.FirstOnes.{all_first, all_rest}
 use Rattle.prolly_build.proofs.LoaderSteps.{of_all}
 use Rattle.prolly_build.proofs.ForkSteps.{forked_map, forked_maps}

@@ -3,7 +3,7 @@ use Rattle.std.proofs.Common.{◌≡◌, ℕ, ◌+◌, List, [], ◌∷◌, ◌+
 use Rattle.std.proofs.Common.{sym, subst, ◌∙◌, arith}
 use Rattle.std.proofs.lemmas.List.{length-map, map-append}
 use Rattle.std.proofs.lemmas.List.Elements.{All-head, All-tail, All-cons, All-nil, All-append}
-use Rattle.prolly_build.specs.Forks.{IsForked}
+use Rattle.prolly_build.specs.Lists.{IsForked}
 
 module _ {T : Type 0} where
   pub fork_here : (at : ℕ) (old : List T) (one : T) (back new : List T) (left right : T) → at ≡ 0 →

@@ -3,7 +3,7 @@ use Rattle.std.proofs.Common.{ℕ, ◌+◌, List, [], ◌∷◌}
 use Rattle.prolly_entry.specs.Record.{Record}
 use Rattle.prolly_file.specs.Source.{SourceView}
 use Rattle.prolly_link.specs.Views.{Batching, Whole}
-use Rattle.prolly_build.specs.Ran.{AreLoaded}
+use Rattle.prolly_build.specs.RunResult.{AreLoaded}
 use Rattle.prolly_build.specs.Workers.{IsLoadedFrom}
 
 module _ {S : Type 0} (seen : S → SourceView) (limit : ℕ)

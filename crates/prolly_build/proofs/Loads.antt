@@ -8,31 +8,31 @@ use Rattle.prolly_entry.specs.Reading.{Begins, IsReading}
 use Rattle.prolly_entry.specs.Record.{Record}
 use Rattle.prolly_file.specs.Source.{SourceView}
 use Rattle.prolly_link.specs.Views.{Batching, Whole}
-use Rattle.prolly_link.specs.declared.end.End.{End}
-use Rattle.prolly_link.specs.declared.end.End.TheVariants.{Clean, Fault}
+use Rattle.prolly_link.specs.declared.message.End.{End}
+use Rattle.prolly_link.specs.declared.message.End.TheVariants.{Clean, Fault}
 use Rattle.prolly_link.specs.declared.fault.RunFault.{RunFault}
 use Rattle.prolly_link.specs.declared.fault.RunFault.TheVariants as faults
-use Rattle.prolly_load.specs.Loading.{FailsAs, EndsAs}
-use Rattle.prolly_merge.specs.Inputs.{fault_of, lists_of}
-use Rattle.prolly_build.specs.Built.{IsRead, AreRead, IsKept, AreKept, IsInputFault}
-use Rattle.prolly_build.specs.Merging.{sent_input}
-use Rattle.prolly_build.specs.Ran.{AreLoaded}
+use Rattle.prolly_load.specs.Loaded.{FailsAs, EndsAs}
+use Rattle.prolly_merge.specs.Inputs.{fault_in, lists_of}
+use Rattle.prolly_build.specs.BuiltFile.{IsRead, AreRead, IsKept, AreKept, IsLoadFault}
+use Rattle.prolly_build.specs.Mergers.{sent_input}
+use Rattle.prolly_build.specs.RunResult.{AreLoaded}
 use Rattle.prolly_build.specs.Workers.{IsLoadedFrom}
 use Rattle.prolly_build.proofs.LoaderSteps.{of_all}
 use Rattle.prolly_build.proofs.Mergings.{Rises, IfFault, FaultsOnly, EndsClean}
 
 -- records that some bytes begin with
-pub record Begun (bytes : List ℕ) (limit : ℕ) (records : List Record) : Type 0 where
+pub record IsBegunLoad (bytes : List ℕ) (limit : ℕ) (records : List Record) : Type 0 where
   pub rest : List ℕ
   pub begins : Begins bytes limit records rest
 
 of_reading : {bytes : List ℕ} {limit : ℕ} {records : List Record} {ending : Option _} →
-    IsReading bytes limit records ending → Begun bytes limit records
+    IsReading bytes limit records ending → IsBegunLoad bytes limit records
 of_reading h = record { rest = h.rest; begins = h.begins }
 
 -- the fault of a loader is one of its input, and it sent what its bytes begin with
 fault_told : (file limit : ℕ) (bytes : List ℕ) (records : List Record) (fault : RunFault) →
-    FailsAs file limit bytes records fault → Begun bytes limit records × IsInputFault fault
+    FailsAs file limit bytes records fault → IsBegunLoad bytes limit records × IsLoadFault fault
 fault_told file limit bytes records faults.Memory h =
     (record { rest = h.rest; begins = h.begins }, tt)
 fault_told file limit bytes records (faults.Read f) h = (of_reading h.1.reading, tt)
@@ -48,12 +48,12 @@ fault_told file limit bytes records faults.Lost h = absurd h
 fault_told file limit bytes records faults.TooManyFiles h = absurd h
 
 end_told : (file limit : ℕ) (bytes : List ℕ) (records : List Record) (end : End) →
-    EndsAs file limit bytes records end → Begun bytes limit records ×
-    IfFault IsInputFault (fault_of end)
+    EndsAs file limit bytes records end → IsBegunLoad bytes limit records ×
+    IfFault IsLoadFault (fault_in end)
 end_told file limit bytes records Clean h = (of_reading h, tt)
 end_told file limit bytes records (Fault fault) h = fault_told file limit bytes records fault h
 
-pub clean_end : (end : End) → fault_of end ≡ None → end ≡ Clean
+pub clean_end : (end : End) → fault_in end ≡ None → end ≡ Clean
 clean_end Clean e = refl
 clean_end (Fault f) e = absurd cc
 
@@ -62,9 +62,9 @@ module _ {S : Type 0} (seen : S → SourceView) (limit : ℕ) where
   One file s o t c = IsLoadedFrom seen file limit s o.link t c
 
   pub begun : (file : ℕ) (s : S) (o : Batching Record) (t : S) (c : Whole Record)
-      (h : One file s o t c) → Begun h.loaded.handed limit c.items
+      (h : One file s o t c) → IsBegunLoad h.loaded.handed limit c.items
   begun file s o t c h =
-      subst (λ (rs : List Record). Begun h.loaded.handed limit rs) (sym h.loaded.sent)
+      subst (λ (rs : List Record). IsBegunLoad h.loaded.handed limit rs) (sym h.loaded.sent)
       (end_told file limit h.loaded.handed h.loaded.records c.end h.loaded.ends).0
 
   not_read : (file : ℕ) (end : End) → end ≡ Clean → end ≡ Fault (faults.Read file) → ⊥
@@ -107,8 +107,8 @@ module _ {S : Type 0} (seen : S → SourceView) (limit : ℕ) where
 
   pub all_only : (file : ℕ) (ss : List S) (os : List (Batching Record)) (ts : List S)
       (cs : List (Whole Record)) → All file ss os ts cs →
-      AllByRecursion (FaultsOnly IsInputFault) (map sent_input cs)
-  all_only = all_sent (FaultsOnly IsInputFault) (λ file s o t c h.
+      AllByRecursion (FaultsOnly IsLoadFault) (map sent_input cs)
+  all_only = all_sent (FaultsOnly IsLoadFault) (λ file s o t c h.
       (end_told file limit h.loaded.handed h.loaded.records c.end h.loaded.ends).1)
 
   pub all_kept : (file : ℕ) (ss : List S) (os : List (Batching Record)) (ts : List S)

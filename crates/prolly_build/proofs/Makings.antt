@@ -18,25 +18,27 @@ use Rattle.prolly_tree.specs.Tree.{tree_of, level_count}
 use Rattle.prolly_laws.specs.Stages.{composition, enough_stages, within_is_prefix}
 use Rattle.prolly_laws.specs.Trees.{few_chunks}
 use Rattle.prolly_file.specs.Sink.{SinkView, TakesPrefix}
-use Rattle.prolly_link.specs.declared.end.End.{End}
-use Rattle.prolly_link.specs.declared.end.End.TheVariants.{Clean, Fault}
+use Rattle.prolly_link.specs.declared.message.End.{End}
+use Rattle.prolly_link.specs.declared.message.End.TheVariants.{Clean, Fault}
 use Rattle.prolly_link.specs.declared.fault.RunFault.{RunFault}
 use Rattle.prolly_link.specs.declared.fault.RunFault.TheVariants.{Memory, Read, Truncated}
 use Rattle.prolly_link.specs.declared.fault.RunFault.TheVariants.{KeyTooLong, ValueTooLong}
 use Rattle.prolly_link.specs.declared.fault.RunFault.TheVariants.{OutOfOrder, TooManyRecords}
 use Rattle.prolly_link.specs.declared.fault.RunFault.TheVariants.{Write, TooTall, NoThread, Lost}
 use Rattle.prolly_link.specs.declared.fault.RunFault.TheVariants.{TooManyFiles}
-use Rattle.prolly_build.specs.declared.report.Report.{Report}
-use Rattle.prolly_build.specs.declared.run.written.Begun.{Begun}
-use Rattle.prolly_build.specs.declared.run.written.Top.{Top}
-use Rattle.prolly_build.specs.declared.run.written.Written.{Written}
-use Rattle.prolly_build.specs.declared.run.written.Written.TheVariants.{Whole}
-use Rattle.prolly_build.specs.Built.{IsCleanRun, IsRunOf, IsFileOf, IsTooTall, IsCutOff, IsUnmadeOf}
-use Rattle.prolly_build.specs.Built.{tall_file, IsInputEnd, IsInputFault, IsStartFault}
-use Rattle.prolly_build.specs.Built.{IsWriterFault}
-use Rattle.prolly_build.specs.Settings.{Settings}
-use Rattle.prolly_build.specs.Writing.{HasWritten, HasEnded, IsEndFault, IsWhole, IsTall, IsFailed}
-use Rattle.prolly_build.specs.Writing.{IsUnended, IsTopOf, tops_counted, frames_of}
+use Rattle.prolly_build.specs.declared.driver.Report.{Report}
+use Rattle.prolly_build.specs.declared.run.writer.OpenFile.{OpenFile}
+use Rattle.prolly_build.specs.declared.run.writer.LastChunk.{LastChunk}
+use Rattle.prolly_build.specs.declared.run.writer.WriterState.{WriterState}
+use Rattle.prolly_build.specs.declared.run.writer.WriterState.TheVariants.{Writing}
+use Rattle.prolly_build.specs.BuiltFile.{IsCleanRun, IsRunOf, IsMadeFile, IsTooTall, IsCutOff}
+use Rattle.prolly_build.specs.BuiltFile.{IsUnmadeOf}
+use Rattle.prolly_build.specs.BuiltFile.{tall_file, IsInputEnd, IsLoadFault, IsStartFault}
+use Rattle.prolly_build.specs.BuiltFile.{IsWriterFault}
+use Rattle.prolly_build.specs.Config.{Settings}
+use Rattle.prolly_build.specs.WriterState.{HasWritten, IsEndWritten, IsEndFault, AreAllWritten}
+use Rattle.prolly_build.specs.WriterState.{IsTall, IsFailed}
+use Rattle.prolly_build.specs.WriterState.{IsUnended, IsTopOf, tops_counted, frames_of}
 use Rattle.prolly_build.proofs.Tops.{frames_front}
 use Rattle.prolly_build.proofs.WritingSteps.{prefix_on, failed_part}
 
@@ -117,18 +119,18 @@ module _ (settings : Settings) (some : 1 ≤ settings.stages) (most : settings.s
         }
 
     module _ (head : List ℕ) (old new : SinkView) where
-      whole_few : (begun : Begun) → IsWhole head level events old new begun →
+      whole_few : (begun : OpenFile) → AreAllWritten head level events old new begun →
           length (filter (has_level level) events) ≤ 1
       whole_few begun whole = let h = whole.few in let k = at_most_one begun.has_top in
           omega (arith, h, k)
 
       -- so few chunks that their number is told, and one of them at least
-      pub lawful_written : (written : Written) (begun : Begun) → written ≡ Whole begun →
+      pub lawful_written : (written : WriterState) (begun : OpenFile) → written ≡ Writing begun →
           HasWritten head level events old new written →
-          (begun.file.chunks < greatest_count) × ((top : Top) × (begun.top ≡ Some top))
+          (begun.file.chunks < greatest_count) × ((top : LastChunk) × (begun.top ≡ Some top))
       lawful_written written begun is h =
-          let whole : IsWhole head level events old new begun =
-          subst (λ (w : Written). HasWritten head level events old new w) is h in
+          let whole : AreAllWritten head level events old new begun =
+          subst (λ (w : WriterState). HasWritten head level events old new w) is h in
           let tree = is_tree (whole_few begun whole) in
           let n : length events ≡ length (chunks cut settings.version m) =
           ap (λ (es : List Chunk). length es) tree.events_are in
@@ -142,8 +144,8 @@ module _ (settings : Settings) (some : 1 ≤ settings.stages) (most : settings.s
                 tree.root_last),
           )
         where
-          go : (top : Option Top) (before : List Chunk) (root : Chunk) → IsTopOf events top →
-              events ≡ before ++ root ∷ [] → (t : Top) × (top ≡ Some t)
+          go : (top : Option LastChunk) (before : List Chunk) (root : Chunk) → IsTopOf events top →
+              events ≡ before ++ root ∷ [] → (t : LastChunk) × (top ≡ Some t)
           go (Some t) before root h e = (t, refl)
           go None before root h e =
               let n : length events ≡ length (before ++ root ∷ []) =
@@ -178,7 +180,7 @@ module _ (settings : Settings) (some : 1 ≤ settings.stages) (most : settings.s
 
     -- once the end record is written, the file of the map is
     pub file_made : (old new : SinkView) (report : Report) →
-        HasEnded file_head level events old new count report → IsFileOf settings m old new report
+        IsEndWritten file_head level events old new count report → IsMadeFile settings m old new report
     file_made old new report h =
         let tree = is_tree h.few in
         let root_is = root_is tree h.before h.root h.whole in
@@ -257,7 +259,7 @@ module _ (settings : Settings) (some : 1 ≤ settings.stages) (most : settings.s
         f) (sym h.0) (too_tall old after h.1)
 
 -- a fault of an input is neither the writer's nor one that comes before all
-input_alone : (f : RunFault) → IsInputFault f → (IsWriterFault f → ⊥) × (IsStartFault f → ⊥)
+input_alone : (f : RunFault) → IsLoadFault f → (IsWriterFault f → ⊥) × (IsStartFault f → ⊥)
 input_alone Memory i = (λ w. w, λ s. s)
 input_alone (Read n) i = (λ w. w, λ s. s)
 input_alone (Truncated n place) i = (λ w. w, λ s. s)

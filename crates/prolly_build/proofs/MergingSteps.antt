@@ -6,16 +6,16 @@ use Rattle.prolly_entry.specs.Overlay.{AllRising}
 use Rattle.prolly_entry.specs.Pair.{Pair}
 use Rattle.prolly_entry.specs.Record.{Record}
 use Rattle.prolly_link.specs.Views.{Receiving}
-use Rattle.prolly_link.specs.Receipts.{end_given}
-use Rattle.prolly_link.specs.declared.end.End.{End}
-use Rattle.prolly_link.specs.Receipts.{HasEnded}
+use Rattle.prolly_link.specs.Progress.{end_given}
+use Rattle.prolly_link.specs.declared.message.End.{End}
+use Rattle.prolly_link.specs.Progress.{HasEnded}
 use Rattle.prolly_link.specs.Growth.{items_between}
 use Rattle.prolly_merge.specs.Each.{Each}
 use Rattle.prolly_link.specs.declared.fault.RunFault.{RunFault}
 use Rattle.prolly_merge.specs.Inputs.{input_of, inputs_of, lists_of, stop_end, Ends}
-use Rattle.prolly_merge.specs.Sent.{Sends}
-use Rattle.prolly_build.specs.Ran.{IsUnread}
-use Rattle.prolly_build.specs.Merging.{received_input, MergesAll}
+use Rattle.prolly_merge.specs.Merged.{SendsAll}
+use Rattle.prolly_build.specs.RunResult.{IsUnreceived}
+use Rattle.prolly_build.specs.Mergers.{received_input, MergesAll}
 
 module _ (Follows : Receiving Record → Receiving Record → Type 0) where
   -- the inputs of a merger, all received to their ends
@@ -38,26 +38,26 @@ module _ (Follows : Receiving Record → Receiving Record → Type 0) where
       e.0.ended (all_ended rs ss e.1)
 
   pub all_received : (inputs inputs' : List (Receiving Record)) → AllReceived inputs inputs' →
-      All IsUnread inputs →
+      All IsUnreceived inputs →
       inputs_of (λ r. r.progress) (λ a b. items_between a.items b.items) inputs inputs' ≡
       map received_input inputs'
   all_received [] [] e unread = refl
   all_received [] (s ∷ ss) e unread = absurd e
   all_received (r ∷ rs) [] e unread = absurd e
   all_received (r ∷ rs) (s ∷ ss) e unread =
-      let none = (All-head IsUnread r rs unread).0 in
+      let none = (All-head IsUnreceived r rs unread).0 in
       let first : input_of (items_between r.items s.items) (end_given s.progress) ≡
       received_input s =
       ap (λ (xs : List Record). input_of (items_between xs s.items) (end_given s.progress)) none in
-      let rest = all_received rs ss e.1 (All-tail IsUnread r rs unread) in
+      let rest = all_received rs ss e.1 (All-tail IsUnreceived r rs unread) in
       cc (first, rest)
 
 -- what a merger sent over an output that carried nothing before
 pub merges_all : (given inputs : List (Input RunFault)) (before sent : List Pair) (end : End) →
     given ≡ inputs → before ≡ [] →
-    (AllRising (lists_of given) → Sends before (merged_part given) (stop_end given) sent end) →
+    (AllRising (lists_of given) → SendsAll before (merged_part given) (stop_end given) sent end) →
     MergesAll inputs sent end
 merges_all given inputs before sent end given_is none sends =
     subst (λ (is : List (Input RunFault)). MergesAll is sent end) given_is
     (subst (λ (xs : List Pair). AllRising (lists_of given) →
-    Sends xs (merged_part given) (stop_end given) sent end) none sends)
+    SendsAll xs (merged_part given) (stop_end given) sent end) none sends)

@@ -11,14 +11,14 @@ use Rattle.prolly_entry.specs.Position.{Position, last_position, is_before}
 use Rattle.prolly_entry.specs.Record.{Record, keys_of}
 use Rattle.prolly_entry.specs.lemmas.Lists.{all_kept}
 use Rattle.prolly_laws.specs.Merging.{merge_joined, merged_part_rises}
-use Rattle.prolly_link.specs.declared.end.End.{End}
-use Rattle.prolly_link.specs.declared.end.End.TheVariants.{Clean, Fault}
+use Rattle.prolly_link.specs.declared.message.End.{End}
+use Rattle.prolly_link.specs.declared.message.End.TheVariants.{Clean, Fault}
 use Rattle.prolly_link.specs.declared.fault.RunFault.{RunFault}
 use Rattle.prolly_link.specs.declared.fault.RunFault.TheVariants.{Memory}
-use Rattle.prolly_merge.specs.Inputs.{fault_of, end_of, input_of, lists_of, stop_end}
-use Rattle.prolly_merge.specs.Sent.{Sends}
-use Rattle.prolly_build.specs.Feeding.{IsJoint, Joined}
-use Rattle.prolly_build.specs.Merging.{MergesTwo, MergesAll}
+use Rattle.prolly_merge.specs.Inputs.{fault_in, end_of, input_of, lists_of, stop_end}
+use Rattle.prolly_merge.specs.Merged.{SendsAll}
+use Rattle.prolly_build.specs.RecordLinks.{IsJoint, Joined}
+use Rattle.prolly_build.specs.Mergers.{MergesTwo, MergesAll}
 
 abbrev pub Inputs : Type 0
 Inputs = List (Input RunFault)
@@ -29,7 +29,7 @@ fault_is_clean f e = cc
 none_is_some : (f : RunFault) → None ≡ Some f → ⊥
 none_is_some f e = cc
 
-pub fault_of_end_of : (f : Option RunFault) → fault_of (end_of f) ≡ f
+pub fault_of_end_of : (f : Option RunFault) → fault_in (end_of f) ≡ f
 fault_of_end_of None = refl
 fault_of_end_of (Some f) = refl
 
@@ -53,7 +53,7 @@ sent_rises : (left right : Input RunFault) (sent : List Record) (end : End) →
     MergesTwo left right sent end → AllRising (lists_of (left ∷ right ∷ [])) → Rising (keys_of sent)
 sent_rises left right sent end merges rising = go (merges rising)
   where
-    go : Sends [] (raw_merged_part (left ∷ right ∷ []))
+    go : SendsAll [] (raw_merged_part (left ∷ right ∷ []))
         (end_of (stop_fault (stop (left ∷ right ∷ [])))) sent end → Rising (keys_of sent)
     go (inl h) = subst (λ (rs : List Record). Rising (keys_of rs)) (sym h.0)
         (merged_part_rises RunFault (left ∷ right ∷ []))
@@ -136,20 +136,20 @@ stop_only P (i ∷ is) h = earlier_only P (stop_at (last_position i.records) i.f
     (stop_at_only P (last_position i.records) i.fault h.0) (stop_only P is h.1)
 
 end_only : (P : RunFault → Type 0) (f : Option RunFault) → IfFault P f →
-    IfFault P (fault_of (end_of f))
+    IfFault P (fault_in (end_of f))
 end_only P None p = tt
 end_only P (Some f) p = p
 
 module _ (P : RunFault → Type 0) (of_memory : P Memory) where
   -- an end that was sent is the stop's, or tells that memory was refused
   pub sends_only : {T : Type 0} (inputs : Inputs) (items sent : List T) (end : End) →
-      Sends [] items (stop_end inputs) sent end → AllByRecursion (FaultsOnly P) inputs →
-      IfFault P (fault_of end)
+      SendsAll [] items (stop_end inputs) sent end → AllByRecursion (FaultsOnly P) inputs →
+      IfFault P (fault_in end)
   sends_only inputs items sent end (inl h) all =
-      subst (λ e. IfFault P (fault_of e)) (sym h.1)
+      subst (λ e. IfFault P (fault_in e)) (sym h.1)
       (end_only P (stop_fault (stop inputs)) (stop_only P inputs all))
   sends_only inputs items sent end (inr h) all =
-      subst (λ e. IfFault P (fault_of e)) (sym h.0) of_memory
+      subst (λ e. IfFault P (fault_in e)) (sym h.0) of_memory
 
   pub joined_only : (n : ℕ) (files inputs : Inputs) → Joined n files inputs →
       AllByRecursion Rises files → AllByRecursion (FaultsOnly P) files →
@@ -216,13 +216,13 @@ joint_clean before after j rising none = go (j.merges two)
         (subst (λ (is : Inputs). AllByRecursion EndsClean is) j.forked.was
         (all_clean after none))).1.0
 
-    go : Sends [] (raw_merged_part (j.left ∷ j.right ∷ [])) (stop_end (j.left ∷ j.right ∷ []))
+    go : SendsAll [] (raw_merged_part (j.left ∷ j.right ∷ [])) (stop_end (j.left ∷ j.right ∷ []))
         j.sent j.end →
         (stop before ≡ stop after) × (raw_merged_part before ≡ raw_merged_part after)
-    go (inr h) = absurd (none_is_some Memory (sym ends_clean ∙ ap fault_of h.0))
+    go (inr h) = absurd (none_is_some Memory (sym ends_clean ∙ ap fault_in h.0))
     go (inl h) =
-        let fault : fault_of j.end ≡ stop_fault (stop (j.left ∷ j.right ∷ [])) =
-        ap fault_of h.1 ∙ fault_of_end_of (stop_fault (stop (j.left ∷ j.right ∷ []))) in
+        let fault : fault_in j.end ≡ stop_fault (stop (j.left ∷ j.right ∷ [])) =
+        ap fault_in h.1 ∙ fault_of_end_of (stop_fault (stop (j.left ∷ j.right ∷ []))) in
         let one : input_of j.sent j.end ≡ joined_input j.left j.right =
         joined_is j.left j.right j.sent j.end h.0 fault in
         let law = merge_joined j.forked.front j.forked.back j.left j.right
@@ -236,10 +236,10 @@ joint_clean before after j rising none = go (j.merges two)
         )
       where
         joined_is : (l r : Input RunFault) (sent : List Record) (end : End) →
-            sent ≡ raw_merged_part (l ∷ r ∷ []) → fault_of end ≡ stop_fault (stop (l ∷ r ∷ [])) →
+            sent ≡ raw_merged_part (l ∷ r ∷ []) → fault_in end ≡ stop_fault (stop (l ∷ r ∷ [])) →
             input_of sent end ≡ joined_input l r
         joined_is l r sent end records fault =
-            ap (λ (rs : List Record). record { records = rs; fault = fault_of end }) records
+            ap (λ (rs : List Record). record { records = rs; fault = fault_in end }) records
             ∙ ap (λ (f : Option RunFault). record {
               records = raw_merged_part (l ∷ r ∷ []);
               fault = f;
@@ -274,7 +274,7 @@ pub clean_pairs : (n : ℕ) (files inputs : Inputs) (pairs : List Pair) → Join
 clean_pairs n files inputs pairs j rising merges =
     go (merges (rises_all inputs (joined_rises n files inputs j rising)))
   where
-    go : Sends [] (merged_part inputs) (stop_end inputs) pairs Clean →
+    go : SendsAll [] (merged_part inputs) (stop_end inputs) pairs Clean →
         AllByRecursion EndsClean files × (pairs ≡ overlay (lists_of files))
     go (inr h) = absurd (fault_is_clean Memory (sym h.0))
     go (inl h) =

@@ -9,22 +9,22 @@ use Rattle.prolly_tree.specs.File.{header}
 use Rattle.prolly_tree.specs.Pipeline.{before_second}
 use Rattle.prolly_file.specs.Sink.{SinkView, TakesPrefix}
 use Rattle.prolly_link.specs.Views.{Receiving}
-use Rattle.prolly_link.specs.Receipts.{end_given}
-use Rattle.prolly_link.specs.declared.end.End.{End}
-use Rattle.prolly_link.specs.Receipts.{HasEnded}
+use Rattle.prolly_link.specs.Progress.{end_given}
+use Rattle.prolly_link.specs.declared.message.End.{End}
+use Rattle.prolly_link.specs.Progress.{HasEnded}
 use Rattle.prolly_link.specs.Growth.{items_between}
-use Rattle.prolly_link.specs.declared.end.End.TheVariants.{Clean, Fault}
+use Rattle.prolly_link.specs.declared.message.End.TheVariants.{Clean, Fault}
 use Rattle.prolly_link.specs.declared.fault.RunFault.{RunFault}
 use Rattle.prolly_link.specs.declared.fault.RunFault.TheVariants.{Write}
-use Rattle.prolly_build.specs.Settings.{Settings}
-use Rattle.prolly_build.specs.Built.{IsBegun}
-use Rattle.prolly_build.specs.Writing.{HasWritten, IsEndFault, frames_of}
-use Rattle.prolly_build.specs.Ran.{IsWritten, HandsOn}
-use Rattle.prolly_build.specs.declared.end.halt.Halt.{Halt}
-use Rattle.prolly_build.specs.declared.end.halt.Halt.TheVariants.{NoThread, Lost}
-use Rattle.prolly_build.specs.declared.run.written.Written.{Written}
-use Rattle.prolly_build.specs.declared.run.written.Written.TheVariants.{Whole, TooTall, Failed}
-use Rattle.prolly_build.specs.declared.run.writer.Wrote.{Wrote}
+use Rattle.prolly_build.specs.Config.{Settings}
+use Rattle.prolly_build.specs.BuiltFile.{IsBegun}
+use Rattle.prolly_build.specs.WriterState.{HasWritten, IsEndFault, frames_of}
+use Rattle.prolly_build.specs.RunResult.{IsWriterDone, HandsOn}
+use Rattle.prolly_build.specs.declared.end.Halt.{Halt}
+use Rattle.prolly_build.specs.declared.end.Halt.TheVariants.{NoThread, Lost}
+use Rattle.prolly_build.specs.declared.run.writer.WriterState.{WriterState}
+use Rattle.prolly_build.specs.declared.run.writer.WriterState.TheVariants.{Writing, TooTall, Failed}
+use Rattle.prolly_build.specs.declared.run.writer.WriterResult.{WriterResult}
 
 -- a sink that was left alone
 pub nothing_begun : (settings : Settings) (old : SinkView) → IsBegun settings old old
@@ -47,10 +47,10 @@ all_taken {wanted} h = record {
 
 -- a sink that the writer wrote to
 pub written_begun : (settings : Settings) (level : ℕ) (events : List Chunk) (old new : SinkView)
-    (written : Written) →
+    (written : WriterState) →
     HasWritten (header settings.version settings.bits) level events old new written →
     IsBegun settings old new
-written_begun settings level events old new (Whole begun) h =
+written_begun settings level events old new (Writing begun) h =
     record { chunks_begun = events; small = h.small; taken = λ k. all_taken (h.taken_is k) }
 written_begun settings level events old new TooTall h =
     record {
@@ -63,7 +63,7 @@ written_begun settings level events old new Failed h =
 
 -- and once the build has ended with another fault than a failed write
 pub ended_begun : (settings : Settings) (level : ℕ) (events : List Chunk)
-    (old before after : SinkView) (written : Written) (end : End) (fault : RunFault) →
+    (old before after : SinkView) (written : WriterState) (end : End) (fault : RunFault) →
     HasWritten (header settings.version settings.bits) level events old before written →
     IsEndFault (header settings.version settings.bits) level events old before after end fault →
     fault ≢ Write → IsBegun settings old after
@@ -80,14 +80,14 @@ ended_begun settings level events old before after written Clean fault h (inr ta
     }
 
 pub all_begun : (settings : Settings) (last : Receiving Chunk) (old new : SinkView)
-    (wrote : Wrote) → IsWritten settings last old new wrote → IsBegun settings old new
+    (wrote : WriterResult) → IsWriterDone settings last old new wrote → IsBegun settings old new
 all_begun settings last old new wrote h = written_begun settings (settings.stages - 1)
     wrote.last.items old new wrote.written h.written
 
 -- a level that could not meet a link, above a writer that wrote
 pub unmet_hands_on : {T : Type 0} (settings : Settings) (last : Receiving Chunk)
-    (old new : SinkView) (untouched : Type 0) (got : Wrote) (wrote : T → Wrote)
-    (result : Result T Halt) (halt : Halt) → IsWritten settings last old new got →
+    (old new : SinkView) (untouched : Type 0) (got : WriterResult) (wrote : T → WriterResult)
+    (result : Result T Halt) (halt : Halt) → IsWriterDone settings last old new got →
     IsErrAnd result (λ h. h ≡ halt) → halt ≡ Lost →
     HandsOn settings last old new untouched result wrote
 unmet_hands_on settings last old new untouched got wrote result halt h is lost =
@@ -103,12 +103,12 @@ unmet_hands_on settings last old new untouched got wrote result halt h is lost =
 
 -- a level that met its link, or could not meet it, above a writer that wrote
 pub met_hands_on : {T : Type 0} (settings : Settings) (last : Receiving Chunk)
-    (old new : SinkView) (untouched : Type 0) (got : Wrote) (wrote : T → Wrote)
-    (result : Result T Halt) → IsWritten settings last old new got →
+    (old new : SinkView) (untouched : Type 0) (got : WriterResult) (wrote : T → WriterResult)
+    (result : Result T Halt) → IsWriterDone settings last old new got →
     IfOk result (λ t. wrote t ≡ got) → IfErr result (λ h. h ≡ Lost) →
     HandsOn settings last old new untouched result wrote
 met_hands_on settings last old new untouched got wrote (Ok t) h same lost = record {
-  written = subst (λ w. IsWritten settings last old new w) (sym same) h;
+  written = subst (λ w. IsWriterDone settings last old new w) (sym same) h;
   refused = tt;
   begun = tt;
 }
@@ -127,12 +127,12 @@ between_all before after e = ap (λ (xs : List Chunk). items_between xs after) e
 
 -- the writer received all of the last link
 pub all_written : (settings : Settings) (last : Receiving Chunk) (old new : SinkView)
-    (after : Receiving Chunk) (end : End) (written : Written)
+    (after : Receiving Chunk) (end : End) (written : WriterState)
     (bits level : ℕ) → after.link ≡ last.link → HasEnded after.progress →
     end ≡ end_given after.progress → bits ≡ settings.bits → level ≡ settings.stages - 1 →
     last.items ≡ [] → HasWritten (header settings.version bits) level
     (items_between last.items after.items) old new written →
-    IsWritten settings last old new (record { last = after; end = end; written = written })
+    IsWriterDone settings last old new (record { last = after; end = end; written = written })
 all_written settings last old new after end written bits level link ended end_is bits_are level_is
     none h = record {
       link = link;

@@ -16,7 +16,7 @@ use Rattle.prolly_tree.specs.Pipeline.{before_second}
 use Rattle.prolly_entry.specs.Prefix.{IsPrefix}
 use Rattle.prolly_entry.specs.Reading.{IsReading}
 use Rattle.prolly_entry.specs.Record.{Record}
-use Rattle.prolly_entry.specs.declared.flaw.Flaw.{Flaw}
+use Rattle.prolly_entry.specs.declared.next.Flaw.{Flaw}
 use Rattle.prolly_laws.specs.Stages.{composition, within_is_prefix}
 use Rattle.prolly_laws.specs.Merging.{all_rising, fronts_merge, rising_two_as_one, two_of_all}
 use Rattle.prolly_laws.specs.Merging.{overlay_of_two, overlay_is_small}
@@ -24,23 +24,23 @@ use Rattle.prolly_laws.specs.Readings.{begins_all, first_are_good, one_reading, 
 use Rattle.prolly_file.specs.Source.{SourceView}
 use Rattle.prolly_file.specs.Sink.{SinkView, TakesPrefix}
 use Rattle.prolly_link.specs.Views.{Batching, Whole}
-use Rattle.prolly_link.specs.declared.end.End.{End}
-use Rattle.prolly_link.specs.declared.end.End.TheVariants.{Fault}
+use Rattle.prolly_link.specs.declared.message.End.{End}
+use Rattle.prolly_link.specs.declared.message.End.TheVariants.{Fault}
 use Rattle.prolly_link.specs.declared.fault.RunFault.{RunFault}
 use Rattle.prolly_link.specs.declared.fault.RunFault.TheVariants.{Memory}
-use Rattle.prolly_merge.specs.Inputs.{fault_of, input_of, stop_end}
-use Rattle.prolly_merge.specs.Sent.{Sends}
+use Rattle.prolly_merge.specs.Inputs.{fault_in, input_of, stop_end}
+use Rattle.prolly_merge.specs.Merged.{SendsAll}
 use Rattle.prolly_entry.specs.lemmas.Lists.{prefix_trans}
 use Rattle.prolly_stage.specs.lemmas.Takings.{writer_takes}
-use Rattle.prolly_build.specs.Feeding.{IsJoint, Joined}
-use Rattle.prolly_build.specs.Merging.{MergesAll, sent_input}
-use Rattle.prolly_build.specs.Ran.{AreLoaded}
-use Rattle.prolly_build.specs.Refused.{AreGood, IsRefused}
-use Rattle.prolly_build.specs.Settings.{Settings, AreLawful}
-use Rattle.prolly_build.specs.Staging.{HasStaged}
-use Rattle.prolly_build.specs.Stopped.{AreHonest}
+use Rattle.prolly_build.specs.RecordLinks.{IsJoint, Joined}
+use Rattle.prolly_build.specs.Mergers.{MergesAll, sent_input}
+use Rattle.prolly_build.specs.RunResult.{AreLoaded}
+use Rattle.prolly_build.specs.Refusals.{AreGood, IsRefused}
+use Rattle.prolly_build.specs.Config.{Settings, AreLawful}
+use Rattle.prolly_build.specs.Stages.{HasStaged}
+use Rattle.prolly_build.specs.InputFaults.{AreHonest}
 use Rattle.prolly_build.specs.Workers.{IsLoadedFrom}
-use Rattle.prolly_build.specs.Writing.{frames_of}
+use Rattle.prolly_build.specs.WriterState.{frames_of}
 use Rattle.prolly_build.proofs.Counted.{LeftAreBytes}
 use Rattle.prolly_build.proofs.LoaderSteps.{of_all}
 use Rattle.prolly_build.proofs.Loads.{begun, clean_end, one_read}
@@ -89,7 +89,7 @@ record AreSent (inputs : Inputs) (whole : List Record) : Type 0 where
 
 -- what a merger of two sent was sent of the overlay of its two lists
 front_of_two : (l r : Input RunFault) (a b sent : List Record) (end : End) →
-    Sends [] (raw_merged_part (l ∷ r ∷ [])) (stop_end (l ∷ r ∷ [])) sent end →
+    SendsAll [] (raw_merged_part (l ∷ r ∷ [])) (stop_end (l ∷ r ∷ [])) sent end →
     AllRising (a ∷ b ∷ []) → IsFrontOf a l → IsFrontOf b r →
     IsFrontOf (raw_overlay (a ∷ b ∷ [])) (input_of sent end)
 front_of_two l r a b sent end sends rising h k =
@@ -105,19 +105,19 @@ front_of_two l r a b sent end sends rising h k =
     none_is_memory e = cc
 
     go : IsFrontOf (raw_overlay (a ∷ b ∷ [])) merged →
-        Sends [] (raw_merged_part (l ∷ r ∷ [])) (stop_end (l ∷ r ∷ [])) sent end →
+        SendsAll [] (raw_merged_part (l ∷ r ∷ [])) (stop_end (l ∷ r ∷ [])) sent end →
         IsFrontOf (raw_overlay (a ∷ b ∷ [])) (input_of sent end)
     go front (inl s) = record {
       first = subst (λ (rs : List Record). IsPrefix rs (raw_overlay (a ∷ b ∷ []))) (sym s.0)
           front.first;
-      all = λ e. s.0 ∙ front.all (sym (ap fault_of s.1 ∙
+      all = λ e. s.0 ∙ front.all (sym (ap fault_in s.1 ∙
           fault_of_end_of (stop_fault (stop (l ∷ r ∷ [])))) ∙ e);
     }
     go front (inr s) = record {
       first = subst (λ (rs : List Record). IsPrefix rs (raw_overlay (a ∷ b ∷ []))) (sym s.1.2)
           (prefix_trans s.1.0 (raw_merged_part (l ∷ r ∷ [])) (raw_overlay (a ∷ b ∷ [])) s.1.1
           front.first);
-      all = λ e. absurd (none_is_memory (sym e ∙ ap fault_of s.0));
+      all = λ e. absurd (none_is_memory (sym e ∙ ap fault_in s.0));
     }
 
 joint_sent : (before after : Inputs) (j : IsJoint before after) (whole : List Record) →
@@ -175,7 +175,7 @@ first_pairs inputs pairs end whole h merges =
         (subst (λ (rs : List Record). IsPrefix (raw_merged_part inputs) rs) h.overlay_is
         (fronts_merge RunFault h.lists inputs h.rising h.fronts).first)
 
-    go : Sends [] (merged_part inputs) (stop_end inputs) pairs end →
+    go : SendsAll [] (merged_part inputs) (stop_end inputs) pairs end →
         IsPrefix pairs (pairs_put whole)
     go (inl s) = subst (λ (ps : List Pair). IsPrefix ps (pairs_put whole)) (sym s.0) part
     go (inr s) = subst (λ (ps : List Pair). IsPrefix ps (pairs_put whole)) (sym s.1.2)

@@ -12,33 +12,35 @@ use Rattle.prolly_entry.specs.Record.{Record}
 use Rattle.prolly_laws.specs.Merging.{overlay_is_small}
 use Rattle.prolly_file.specs.Source.{SourceView}
 use Rattle.prolly_file.specs.Sink.{SinkView}
-use Rattle.prolly_link.specs.declared.end.End.{End}
-use Rattle.prolly_link.specs.declared.end.End.TheVariants.{Clean, Fault}
+use Rattle.prolly_link.specs.declared.message.End.{End}
+use Rattle.prolly_link.specs.declared.message.End.TheVariants.{Clean, Fault}
 use Rattle.prolly_link.specs.declared.fault.RunFault.{RunFault}
 use Rattle.prolly_link.specs.declared.fault.RunFault.TheVariants.{Memory, NoThread, Lost}
 use Rattle.prolly_link.specs.declared.fault.RunFault.TheVariants.{TooManyFiles}
-use Rattle.prolly_build.specs.declared.end.halt.Halt.{Halt}
-use Rattle.prolly_build.specs.declared.end.halt.Halt.TheVariants.{NoThread as NoThread_halt}
-use Rattle.prolly_build.specs.declared.end.halt.Halt.TheVariants.{Lost as Lost_halt}
-use Rattle.prolly_build.specs.Ran.{IsHaltFault}
-use Rattle.prolly_merge.specs.Inputs.{fault_of, lists_of}
-use Rattle.prolly_merge.specs.Sent.{Counts}
+use Rattle.prolly_build.specs.declared.end.Halt.{Halt}
+use Rattle.prolly_build.specs.declared.end.Halt.TheVariants.{NoThread as NoThread_halt}
+use Rattle.prolly_build.specs.declared.end.Halt.TheVariants.{Lost as Lost_halt}
+use Rattle.prolly_build.specs.RunResult.{IsHaltFault}
+use Rattle.prolly_merge.specs.Inputs.{fault_in, lists_of}
+use Rattle.prolly_merge.specs.Merged.{Counts}
 use Rattle.prolly_stage.specs.Sends.{Sends, closing_of}
-use Rattle.prolly_build.specs.Built.{AreRead, AreKept, IsBuilt, IsFileOf, IsUnmade, IsUnmadeOf}
-use Rattle.prolly_build.specs.Built.{IsRunOf, IsInputFault, IsInputEnd, IsStartFault, IsWriterFault}
-use Rattle.prolly_build.specs.Stopped.{IsFileFault, IsStopped, TookBegun}
-use Rattle.prolly_build.specs.declared.report.Report.{Report}
-use Rattle.prolly_build.specs.Gathering.{IsGathered}
-use Rattle.prolly_build.specs.Merging.{MergesAll, sent_input}
-use Rattle.prolly_build.specs.Settings.{Settings, AreLawful}
-use Rattle.prolly_build.specs.Staging.{HasStaged}
+use Rattle.prolly_build.specs.BuiltFile.{AreRead, AreKept, IsBuilt, IsMadeFile, IsUnmade}
+use Rattle.prolly_build.specs.BuiltFile.{IsUnmadeOf}
+use Rattle.prolly_build.specs.BuiltFile.{IsRunOf, IsLoadFault, IsInputEnd, IsStartFault}
+use Rattle.prolly_build.specs.BuiltFile.{IsWriterFault}
+use Rattle.prolly_build.specs.InputFaults.{IsFileFault, IsStopped, TookBegun}
+use Rattle.prolly_build.specs.declared.driver.Report.{Report}
+use Rattle.prolly_build.specs.LastMerger.{IsGathered}
+use Rattle.prolly_build.specs.Mergers.{MergesAll, sent_input}
+use Rattle.prolly_build.specs.Config.{Settings, AreLawful}
+use Rattle.prolly_build.specs.Stages.{HasStaged}
 use Rattle.prolly_build.proofs.Loads.{all_rise, all_only, all_kept, all_read, all_few}
 use Rattle.prolly_build.proofs.Stops.{IsStoppedRun}
 use Rattle.prolly_build.proofs.Mergings.{IfFault, clean_pairs, joined_rises, joined_only, rises_all}
 use Rattle.prolly_build.proofs.Mergings.{sends_only}
 
 -- an end whose fault is one of the input's
-input_end : (end : End) → IfFault IsInputFault (fault_of end) → IsInputEnd end
+input_end : (end : End) → IfFault IsLoadFault (fault_in end) → IsInputEnd end
 input_end Clean h = tt
 input_end (Fault f) h = h
 
@@ -61,9 +63,9 @@ module _ {S : Type 0} (seen : S → SourceView) (settings : Settings) (before af
       let only = all_only seen settings.max_records 0 before h.loader_outs after h.files h.loaded in
       let inputs_rise = joined_rises h.mergers (map sent_input h.files) h.inputs h.joined rises in
       input_end end
-      (sends_only IsInputFault tt h.inputs (merged_part h.inputs) pairs end
+      (sends_only IsLoadFault tt h.inputs (merged_part h.inputs) pairs end
       (h.merges (rises_all h.inputs inputs_rise))
-      (joined_only IsInputFault tt h.mergers (map sent_input h.files) h.inputs h.joined rises only))
+      (joined_only IsLoadFault tt h.mergers (map sent_input h.files) h.inputs h.joined rises only))
 
   -- the pairs of a clean end are the overlay of the files, and few
   record ArePairs (goods : List (List Record)) (pairs : List Pair) : Type 0 where
@@ -156,7 +158,7 @@ lent_staged {S} {seen} {settings} {level} {before} {lent} {after} {events} {end}
 pub built : {S : Type 0} {seen : S → SourceView} {settings : Settings} {before after : List S}
     {old new : SinkView} {report : Report} →
     (goods : List (List Record)) → AreRead seen settings.max_records before after goods →
-    IsFileOf settings (overlay goods) old new report →
+    IsMadeFile settings (overlay goods) old new report →
     IsBuilt seen settings before after old new report
 built goods read made = record { goods = goods; read = read; made = made }
 

@@ -9,14 +9,14 @@ use Rattle.prolly_tree.specs.Pipeline.{pipeline_events}
 use Rattle.prolly_file.specs.Source.{SourceView}
 use Rattle.prolly_link.specs.Identity.{LinkId}
 use Rattle.prolly_link.specs.Views.{Receiving, Whole}
-use Rattle.prolly_link.specs.Receipts.{end_given}
-use Rattle.prolly_link.specs.declared.end.End.{End}
-use Rattle.prolly_link.specs.declared.progress.Progress.TheVariants.{Ended}
+use Rattle.prolly_link.specs.Progress.{end_given}
+use Rattle.prolly_link.specs.declared.message.End.{End}
+use Rattle.prolly_link.specs.declared.message.Progress.TheVariants.{Ended}
 use Rattle.prolly_stage.specs.Sends.{Sends}
 use Rattle.prolly_stage.specs.lemmas.Joins.{stage_follows}
-use Rattle.prolly_build.specs.Gathering.{IsGathered}
-use Rattle.prolly_build.specs.Settings.{Settings}
-use Rattle.prolly_build.specs.Staging.{HasStaged}
+use Rattle.prolly_build.specs.LastMerger.{IsGathered}
+use Rattle.prolly_build.specs.Config.{Settings}
+use Rattle.prolly_build.specs.Stages.{HasStaged}
 use Rattle.prolly_build.specs.Workers.{IsStaged}
 
 -- what a stage sent of a link that was met, it sent of what its sender sent

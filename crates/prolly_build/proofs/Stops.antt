@@ -16,19 +16,19 @@ use Rattle.prolly_entry.specs.Record.{Record}
 use Rattle.prolly_laws.specs.Merging.{cut_behind_stop, merge_joined, merged_part_rises}
 use Rattle.prolly_laws.specs.Merging.{merged_part_is_small}
 use Rattle.prolly_file.specs.Source.{SourceView}
-use Rattle.prolly_link.specs.declared.end.End.{End}
-use Rattle.prolly_link.specs.declared.end.End.TheVariants.{Clean, Fault}
+use Rattle.prolly_link.specs.declared.message.End.{End}
+use Rattle.prolly_link.specs.declared.message.End.TheVariants.{Clean, Fault}
 use Rattle.prolly_link.specs.declared.fault.RunFault.{RunFault}
 use Rattle.prolly_link.specs.declared.fault.RunFault.TheVariants.{Memory}
-use Rattle.prolly_merge.specs.Inputs.{fault_of, end_of, input_of, lists_of, stop_end}
-use Rattle.prolly_merge.specs.Sent.{Sends}
-use Rattle.prolly_stage.specs.Sends.{closing_of, Sends as StageSends}
-use Rattle.prolly_build.specs.Feeding.{IsJoint, Joined}
-use Rattle.prolly_build.specs.Gathering.{IsGathered}
-use Rattle.prolly_build.specs.Merging.{MergesAll, sent_input}
-use Rattle.prolly_build.specs.Settings.{Settings, AreLawful}
-use Rattle.prolly_build.specs.Staging.{HasStaged}
-use Rattle.prolly_build.specs.Stopped.{CountFor, AreHonest}
+use Rattle.prolly_merge.specs.Inputs.{fault_in, end_of, input_of, lists_of, stop_end}
+use Rattle.prolly_merge.specs.Merged.{SendsAll}
+use Rattle.prolly_stage.specs.Sends.{closing_of, Sends}
+use Rattle.prolly_build.specs.RecordLinks.{IsJoint, Joined}
+use Rattle.prolly_build.specs.LastMerger.{IsGathered}
+use Rattle.prolly_build.specs.Mergers.{MergesAll, sent_input}
+use Rattle.prolly_build.specs.Config.{Settings, AreLawful}
+use Rattle.prolly_build.specs.Stages.{HasStaged}
+use Rattle.prolly_build.specs.InputFaults.{CountFor, AreHonest}
 use Rattle.prolly_build.proofs.Counted.{LeftAreBytes, all_count}
 use Rattle.prolly_build.proofs.Loads.{all_rise, all_few}
 use Rattle.prolly_build.proofs.Mergings.{Inputs, Rises, rises_all, joined_rises, all_front}
@@ -38,16 +38,16 @@ use Rattle.prolly_build.proofs.Mergings.{all_both, fault_of_end_of}
 
 -- what it sent of the two as one
 sent_of_two : (l r : Input RunFault) (sent : List Record) (end : End) →
-    Sends [] (raw_merged_part (l ∷ r ∷ [])) (stop_end (l ∷ r ∷ [])) sent end →
+    SendsAll [] (raw_merged_part (l ∷ r ∷ [])) (stop_end (l ∷ r ∷ [])) sent end →
     IsSentOf Memory (joined_input l r) (input_of sent end)
 sent_of_two l r sent end (inl h) =
-    let fault : fault_of end ≡ stop_fault (stop (l ∷ r ∷ [])) =
-    ap fault_of h.1 ∙ fault_of_end_of (stop_fault (stop (l ∷ r ∷ []))) in
-    inl (ap (λ (rs : List Record). record { records = rs; fault = fault_of end }) h.0
+    let fault : fault_in end ≡ stop_fault (stop (l ∷ r ∷ [])) =
+    ap fault_in h.1 ∙ fault_of_end_of (stop_fault (stop (l ∷ r ∷ []))) in
+    inl (ap (λ (rs : List Record). record { records = rs; fault = fault_in end }) h.0
     ∙ ap (λ (f : Option RunFault). record { records = raw_merged_part (l ∷ r ∷ []); fault = f })
     fault)
 sent_of_two l r sent end (inr h) =
-    inr (ap fault_of h.0, (h.1.1.0, h.1.1.1 ∙ ap (λ (rs : List Record). rs ++ h.1.1.0) (sym h.1.2)))
+    inr (ap fault_in h.0, (h.1.1.0, h.1.1.1 ∙ ap (λ (rs : List Record). rs ++ h.1.1.0) (sym h.1.2)))
 
 same_sent : (is : Inputs) → AreSentOf Memory is is
 same_sent [] = tt
@@ -112,7 +112,7 @@ same_fault f g e = cc
 -- where the last merger's end names another fault than want of memory, it is that of its inputs'
 -- stop, and the pairs are their merged part
 merged_stops : (inputs : Inputs) (pairs : List Pair) (fault : RunFault) → fault ≢ Memory →
-    Sends [] (merged_part inputs) (stop_end inputs) pairs (Fault fault) →
+    SendsAll [] (merged_part inputs) (stop_end inputs) pairs (Fault fault) →
     (s : Stop RunFault) × (stop inputs ≡ Some s) × (s.fault ≡ fault) × (pairs ≡ merged_part inputs)
 merged_stops inputs pairs fault other (inl h) = let s = stop_of_end fault (stop inputs) h.1 in
     (s.0, s.1, s.2, h.0)
@@ -190,7 +190,7 @@ module _ {S : Type 0} (seen : S → SourceView) (settings : Settings) (before af
       stage : Closing → List Pair → List Chunk
       stage = pipeline_events (settings.stages - 1) (sha512_cut settings.bits) settings.version
 
-      go : StageSends stage h.pairs h.pairs_end [] events end → IsStoppedRun events fault
+      go : Sends stage h.pairs h.pairs_end [] events end → IsStoppedRun events fault
       go (inr s) = absurd (other (same_fault fault Memory (sym end_is ∙ s.0)))
       go (inl s) =
           let pairs_end : h.pairs_end ≡ Fault fault = sym s.1 ∙ end_is in

@@ -10,16 +10,16 @@ use Rattle.prolly_entry.specs.Pair.{Pair}
 use Rattle.prolly_tree.specs.Pipeline.{pipeline_events, before_second, within_stages}
 use Rattle.prolly_laws.specs.Stages.{composition}
 use Rattle.prolly_file.specs.Sink.{SinkView, TakesPrefix}
-use Rattle.prolly_link.specs.declared.end.End.{End}
-use Rattle.prolly_link.specs.declared.end.End.TheVariants.{Clean, Fault}
+use Rattle.prolly_link.specs.declared.message.End.{End}
+use Rattle.prolly_link.specs.declared.message.End.TheVariants.{Clean, Fault}
 use Rattle.prolly_link.specs.declared.fault.RunFault.{RunFault}
 use Rattle.prolly_link.specs.declared.fault.RunFault.TheVariants.{Memory, Write}
 use Rattle.prolly_link.specs.declared.fault.RunFault.TheVariants.{TooTall as TooTall_fault, Lost}
-use Rattle.prolly_build.specs.declared.run.written.Written.{Written}
-use Rattle.prolly_build.specs.declared.run.written.Written.TheVariants.{Whole, TooTall, Failed}
-use Rattle.prolly_build.specs.Settings.{Settings}
-use Rattle.prolly_build.specs.Stopped.{IsFileFault, TookBegun, begun_of}
-use Rattle.prolly_build.specs.Writing.{HasWritten, IsEndFault, frames_of}
+use Rattle.prolly_build.specs.declared.run.writer.WriterState.{WriterState}
+use Rattle.prolly_build.specs.declared.run.writer.WriterState.TheVariants.{Writing, TooTall, Failed}
+use Rattle.prolly_build.specs.Config.{Settings}
+use Rattle.prolly_build.specs.InputFaults.{IsFileFault, TookBegun, begun_of}
+use Rattle.prolly_build.specs.WriterState.{HasWritten, IsEndFault, frames_of}
 use Rattle.prolly_build.proofs.Makings.{at_most_one}
 use Rattle.prolly_build.proofs.RanSteps.{all_taken}
 use Rattle.prolly_build.proofs.Tops.{second_all}
@@ -52,9 +52,9 @@ module _ (settings : Settings) (some : 1 ≤ settings.stages) (p : List Pair)
       all : old.is_keeping ≡ true → new.taken ≡ old.taken ++ begun_of settings p
       all k = h k ∙ ap (λ (bytes : List ℕ). old.taken ++ bytes) begun_is
 
-  pub took_begun : (written : Written) → HasWritten file_head level events old new written →
+  pub took_begun : (written : WriterState) → HasWritten file_head level events old new written →
       TookBegun settings p old new
-  took_begun (Whole begun) h =
+  took_begun (Writing begun) h =
       let one = at_most_one begun.has_top in
       let count = h.few in
       let few : length (filter (has_level level) events) ≤ 1 = omega (arith, one, count) in
@@ -70,10 +70,10 @@ module _ (settings : Settings) (some : 1 ≤ settings.stages) (p : List Pair)
 -- what the sink took of events, of which the writer takes those before the second one of the last
 -- stage's level
 took_events : (head : List ℕ) (level : ℕ) (events : List Chunk) (old new : SinkView)
-    (written : Written) → HasWritten head level events old new written →
+    (written : WriterState) → HasWritten head level events old new written →
     old.is_keeping ≡ true → TakesPrefix old.taken new.taken
     (frames_of head (before_second level events))
-took_events head level events old new (Whole begun) h keeps =
+took_events head level events old new (Writing begun) h keeps =
     let one = at_most_one begun.has_top in
     let count = h.few in
     let few : length (filter (has_level level) events) ≤ 1 = omega (arith, one, count) in
@@ -87,7 +87,7 @@ lost_is_no_memory e = cc
 
 -- what is known where a build names want of memory
 pub refused_at : (head : List ℕ) (level : ℕ) (events : List Chunk) (old before after : SinkView)
-    (written : Written) (end : End) (fault : RunFault) →
+    (written : WriterState) (end : End) (fault : RunFault) →
     HasWritten head level events old before written →
     IsEndFault head level events old before after end fault → fault ≡ Memory →
     (end ≡ Fault Memory) × (old.is_keeping ≡ true →
@@ -111,7 +111,7 @@ refused_at head level events old before after written Clean fault h (inr tall) m
 
 -- what is known where a build names the fault of a file
 pub stopped_at : (settings : Settings) (some : 1 ≤ settings.stages) (events : List Chunk)
-    (old before after : SinkView) (written : Written) (end : End) (fault : RunFault) →
+    (old before after : SinkView) (written : WriterState) (end : End) (fault : RunFault) →
     HasWritten (header settings.version settings.bits) (settings.stages - 1) events old before
     written →
     IsEndFault (header settings.version settings.bits) (settings.stages - 1) events old before after

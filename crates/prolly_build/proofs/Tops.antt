@@ -11,7 +11,7 @@ use Rattle.prolly_tree.specs.Events.{has_level}
 use Rattle.prolly_tree.specs.Pipeline.{before_first, before_second}
 use Rattle.prolly_entry.specs.Prefix.{IsPrefix}
 use Rattle.prolly_tree.specs.lemmas.Stages.{count, count_true, count_false}
-use Rattle.prolly_build.specs.Writing.{frames_of}
+use Rattle.prolly_build.specs.WriterState.{frames_of}
 
 module _ (level : ℕ) where
   pub one_more : (es : List Chunk) (e : Chunk) → count level (es ++ e ∷ []) ≡ count level es +

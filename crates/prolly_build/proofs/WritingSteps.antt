@@ -12,11 +12,12 @@ use Rattle.prolly_entry.specs.lemmas.Lists.{all_append, prefix_trans}
 use Rattle.prolly_tree.specs.lemmas.Stages.{count, count_true, count_false}
 use Rattle.prolly_laws.specs.Stages.{within_is_prefix}
 use Rattle.prolly_file.specs.Sink.{SinkView, TakesPrefix}
-use Rattle.prolly_build.specs.declared.run.written.Begun.{Begun}
-use Rattle.prolly_build.specs.declared.run.written.Top.{Top}
-use Rattle.prolly_build.specs.declared.run.written.Written.{Written}
-use Rattle.prolly_build.specs.Writing.{AreSmall, frames_of, tops_counted, IsTopOf, IsWhole, IsTall}
-use Rattle.prolly_build.specs.Writing.{IsFailed, IsUnended, HasWritten}
+use Rattle.prolly_build.specs.declared.run.writer.OpenFile.{OpenFile}
+use Rattle.prolly_build.specs.declared.run.writer.LastChunk.{LastChunk}
+use Rattle.prolly_build.specs.declared.run.writer.WriterState.{WriterState}
+use Rattle.prolly_build.specs.WriterState.{AreSmall, frames_of, tops_counted, IsTopOf}
+use Rattle.prolly_build.specs.WriterState.{AreAllWritten, IsTall}
+use Rattle.prolly_build.specs.WriterState.{IsFailed, IsUnended, HasWritten}
 use Rattle.prolly_build.proofs.Tops.{one_more, second_all, second_last, second_stays, frames_front}
 use Rattle.prolly_build.proofs.Tops.{frames_more}
 
@@ -73,7 +74,7 @@ small_more events e h k = all_append (λ c. length c.bytes < 2 ^ 64) events (e �
 
 -- the second event of the last stage's level
 pub tall_now : {head : List ℕ} {level : ℕ} {events : List Chunk} {old new : SinkView}
-    {begun : Begun} (e : Chunk) → IsWhole head level events old new begun →
+    {begun : OpenFile} (e : Chunk) → AreAllWritten head level events old new begun →
     begun.has_top ≡ true → has_level level e ≡ true → IsTall head level (events ++ e ∷ []) old new
 tall_now {head} {level} {events} {old} e h top t =
     let one : count level events ≡ 1 = h.few ∙ ap tops_counted top in
@@ -110,8 +111,8 @@ part_behind old mid new before wanted e h = record {
 
 -- a frame fails
 pub failed_now : {head : List ℕ} {level : ℕ} {events : List Chunk} {old mid new : SinkView}
-    {begun : Begun} (e : Chunk) (is_top : Bool) →
-    IsWhole head level events old mid begun → IsFew level events begun.has_top is_top e →
+    {begun : OpenFile} (e : Chunk) (is_top : Bool) →
+    AreAllWritten head level events old mid begun → IsFew level events begun.has_top is_top e →
     length e.bytes < 2 ^ 64 →
     (mid.is_keeping ≡ true → TakesPrefix mid.taken new.taken (frame e)) →
     new.failures ≢ mid.failures → (mid.is_keeping ≡ true → new.is_keeping ≡ true) →
@@ -145,13 +146,13 @@ failed_now {head} {level} {events} {old} {mid} {new} {begun} e is_top h few shor
 
 -- the end record fails
 pub unended : {head : List ℕ} {level : ℕ} {events : List Chunk} {old mid new : SinkView}
-    {begun : Begun} (top : Top) → IsWhole head level events old mid begun →
+    {begun : OpenFile} (top : LastChunk) → AreAllWritten head level events old mid begun →
     begun.top ≡ Some top → begun.file.chunks < greatest_count →
     (mid.is_keeping ≡ true → TakesPrefix mid.taken new.taken
     (end_record top.root.0 begun.file.chunks)) → new.failures ≢ mid.failures →
     IsUnended head level events old new
 unended {head} {level} {events} {old} {mid} {new} {begun} top h top_is few part failed =
-    let last = subst (λ (t : Option Top). IsTopOf events t) top_is h.top_is in
+    let last = subst (λ (t : Option LastChunk). IsTopOf events t) top_is h.top_is in
     let count_is = h.count_is in
     let chunks_are : begun.file.chunks ≡ length events = omega (arith, count_is, few) in
     let one = one_at_most begun.has_top in
@@ -173,7 +174,7 @@ unended {head} {level} {events} {old} {mid} {new} {begun} top h top_is few part 
 
 -- the same events
 pub written_of : (head : List ℕ) (level : ℕ) (es more : List Chunk) (old new : SinkView)
-    (written : Written) → more ≡ es → HasWritten head level es old new written →
+    (written : WriterState) → more ≡ es → HasWritten head level es old new written →
     HasWritten head level more old new written
 written_of head level es more old new written e h =
     subst (λ (cs : List Chunk). HasWritten head level cs old new written) (sym e) h

@@ -14,17 +14,17 @@ use Rattle.prolly_entry.specs.Record.{Record}
 use Rattle.prolly_tree.specs.Tree.{level_count}
 use Rattle.prolly_file.specs.Source.{SourceView}
 use Rattle.prolly_file.specs.Sink.{IsSettled, SinkView, TakesPrefix}
-use Rattle.prolly_link.specs.declared.end.End.{End}
-use Rattle.prolly_link.specs.declared.end.End.TheVariants.{Clean, Fault}
+use Rattle.prolly_link.specs.declared.message.End.{End}
+use Rattle.prolly_link.specs.declared.message.End.TheVariants.{Clean, Fault}
 use Rattle.prolly_link.specs.declared.fault.RunFault.{RunFault}
 use Rattle.prolly_link.specs.declared.fault.RunFault.TheVariants as faults
-use Rattle.prolly_build.specs.declared.report.Report.{Report}
-use Rattle.prolly_build.specs.Settings.{Settings}
-use Rattle.prolly_build.specs.Writing.{AreSmall, frames_of}
+use Rattle.prolly_build.specs.declared.driver.Report.{Report}
+use Rattle.prolly_build.specs.Config.{Settings}
+use Rattle.prolly_build.specs.WriterState.{AreSmall, frames_of}
 
 -- The sink took the chunk file of a map and holds none of it back, and the report is that of its
 -- tree, which has no more levels than there are stages.
-pub record IsFileOf (settings : Settings) (m : List Pair) (old new : SinkView) (report : Report)
+pub record IsMadeFile (settings : Settings) (m : List Pair) (old new : SinkView) (report : Report)
     : Type 0 where
   pub stages : level_count (sha512_cut settings.bits) settings.version m ≤ settings.stages
   pub taken : old.is_keeping ≡ true → new.taken ≡ old.taken ++ file (sha512_cut settings.bits)
@@ -131,7 +131,7 @@ module _ {S : Type 0} (seen : S → SourceView) where
       (report : Report) : Type 0 where
     pub goods : List (List Record)
     pub read : AreRead settings.max_records before after goods
-    pub made : IsFileOf settings (overlay goods) old new report
+    pub made : IsMadeFile settings (overlay goods) old new report
 
   -- The sources were read, each to its end, and the file of the overlay of their records was not
   -- made, for this fault of the writer.
@@ -142,20 +142,20 @@ module _ {S : Type 0} (seen : S → SourceView) where
     pub unmade : IsUnmadeOf settings (overlay goods) old new fault
 
 -- A fault of a record file, or want of memory.
-abbrev pub IsInputFault : RunFault → Type 0
-IsInputFault faults.Memory = Unit {0}
-IsInputFault (faults.Read f) = Unit {0}
-IsInputFault (faults.Truncated f place) = Unit {0}
-IsInputFault (faults.KeyTooLong f place) = Unit {0}
-IsInputFault (faults.ValueTooLong f place) = Unit {0}
-IsInputFault (faults.OutOfOrder f place) = Unit {0}
-IsInputFault (faults.TooManyRecords f) = Unit {0}
-IsInputFault _ = ⊥
+abbrev pub IsLoadFault : RunFault → Type 0
+IsLoadFault faults.Memory = Unit {0}
+IsLoadFault (faults.Read f) = Unit {0}
+IsLoadFault (faults.Truncated f place) = Unit {0}
+IsLoadFault (faults.KeyTooLong f place) = Unit {0}
+IsLoadFault (faults.ValueTooLong f place) = Unit {0}
+IsLoadFault (faults.OutOfOrder f place) = Unit {0}
+IsLoadFault (faults.TooManyRecords f) = Unit {0}
+IsLoadFault _ = ⊥
 
 -- An end that the workers of a build may send.
 abbrev pub IsInputEnd : End → Type 0
 IsInputEnd Clean = Unit {0}
-IsInputEnd (Fault fault) = IsInputFault fault
+IsInputEnd (Fault fault) = IsLoadFault fault
 
 -- A fault of a build that started nothing.
 abbrev pub IsStartFault : RunFault → Type 0

@@ -45,16 +45,16 @@ first_settings bits stages capacity max_records = settings_of bits stages capaci
 abbrev pub IsOutside : ℕ → ℕ → Type 0
 IsOutside most n = (n ≡ 0) ⊎ (most < n)
 
-abbrev pub IsWithin : ℕ → ℕ → Type 0
-IsWithin most n = (1 ≤ n) × (n ≤ most)
+abbrev pub IsInRange : ℕ → ℕ → Type 0
+IsInRange most n = (1 ≤ n) × (n ≤ most)
 
 -- Which number is outside its range; the first of the four is told.
 abbrev pub IsConfigFault : ℕ → ℕ → ℕ → ℕ → ConfigFault → Type 0
 IsConfigFault bits stages capacity max_records BadBits = 24 < bits
 IsConfigFault bits stages capacity max_records BadStages = (bits ≤ 24) × IsOutside 12 stages
-IsConfigFault bits stages capacity max_records BadCapacity = (bits ≤ 24) × IsWithin 12 stages ×
+IsConfigFault bits stages capacity max_records BadCapacity = (bits ≤ 24) × IsInRange 12 stages ×
     IsOutside 4096 capacity
 IsConfigFault bits stages capacity max_records BadMaxRecords =
-    (bits ≤ 24) × IsWithin 12 stages × IsWithin 4096 capacity × IsOutside 16777216 max_records
+    (bits ≤ 24) × IsInRange 12 stages × IsInRange 4096 capacity × IsOutside 16777216 max_records
 IsConfigFault bits stages capacity max_records BadBatch = ⊥
 IsConfigFault bits stages capacity max_records BadVersion = ⊥

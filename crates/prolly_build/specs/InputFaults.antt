@@ -9,15 +9,15 @@ use Rattle.prolly_tree.specs.Merge.{Input, stop, stop_fault, merged_part}
 use Rattle.prolly_entry.specs.Pair.{Pair}
 use Rattle.prolly_tree.specs.Pipeline.{within_stages}
 use Rattle.prolly_entry.specs.Reading.{IsReading}
-use Rattle.prolly_entry.specs.declared.flaw.Flaw.{Flaw}
+use Rattle.prolly_entry.specs.declared.next.Flaw.{Flaw}
 use Rattle.prolly_file.specs.Source.{SourceView}
 use Rattle.prolly_file.specs.Sink.{SinkView, TakesPrefix}
 use Rattle.prolly_link.specs.declared.fault.RunFault.{RunFault}
 use Rattle.prolly_link.specs.declared.fault.RunFault.TheVariants as faults
 use Rattle.prolly_load.specs.Fault.{fault_of as fault_of_flaw}
-use Rattle.prolly_load.specs.Loading.{IsReadTo}
-use Rattle.prolly_build.specs.Settings.{Settings}
-use Rattle.prolly_build.specs.Writing.{frames_of}
+use Rattle.prolly_load.specs.Loaded.{IsReadTo}
+use Rattle.prolly_build.specs.Config.{Settings}
+use Rattle.prolly_build.specs.WriterState.{frames_of}
 
 -- How the ending of a file's reading is told: not at all where it is clean, else as the flaw of the
 -- record at this place.

@@ -4,13 +4,13 @@ use Rattle.prolly_tree.specs.Merge.{Input}
 use Rattle.prolly_entry.specs.Pair.{Pair}
 use Rattle.prolly_file.specs.Source.{SourceView}
 use Rattle.prolly_link.specs.Views.{Batching, Whole}
-use Rattle.prolly_link.specs.declared.end.End.{End}
+use Rattle.prolly_link.specs.declared.message.End.{End}
 use Rattle.prolly_link.specs.declared.fault.RunFault.{RunFault}
 use Rattle.prolly_entry.specs.Record.{Record}
-use Rattle.prolly_merge.specs.Sent.{Counts}
-use Rattle.prolly_build.specs.Feeding.{Joined}
-use Rattle.prolly_build.specs.Merging.{MergesAll, sent_input}
-use Rattle.prolly_build.specs.Ran.{AreLoaded}
+use Rattle.prolly_merge.specs.Merged.{Counts}
+use Rattle.prolly_build.specs.RecordLinks.{Joined}
+use Rattle.prolly_build.specs.Mergers.{MergesAll, sent_input}
+use Rattle.prolly_build.specs.RunResult.{AreLoaded}
 
 -- The last merger sent these pairs, with this end, of its inputs, which mergers of two made out of
 -- what the loaders sent of the sources.

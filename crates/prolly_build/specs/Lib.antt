@@ -1,28 +1,28 @@
 -- What a build is set to.
-pub mod Settings
+pub mod Config
 -- What the writer of a pipeline has written of the events that it received.
-pub mod Writing
+pub mod WriterState
 -- Two elements in the place of one.
-pub mod Forks
+pub mod Lists
 -- What the workers of a build give back.
 pub mod Workers
 -- What the driver's parts give back.
-pub mod Ran
+pub mod RunResult
 -- What the mergers of a build give back.
-pub mod Merging
+pub mod Mergers
 -- How the records of the files reach the last merger.
-pub mod Feeding
+pub mod RecordLinks
 -- What the last merger sent of the files.
-pub mod Gathering
+pub mod LastMerger
 -- What the stages of a build sent of the files.
-pub mod Staging
+pub mod Stages
 -- What a build has made of its sources.
-pub mod Built
+pub mod BuiltFile
 -- What a build names, and what it leaves, where a record file is at fault.
-pub mod Stopped
+pub mod InputFaults
 -- What a build leaves where a worker was refused memory.
-pub mod Refused
+pub mod Refusals
 -- What the end of a build makes of a run whose workers have all ended.
-pub mod Finished
+pub mod End
 -- What a build has answered, and what it has made of its sources and of the sink then.
 pub mod Outcome

@@ -6,12 +6,12 @@ use Rattle.prolly_entry.specs.Pair.{Pair}
 use Rattle.prolly_entry.specs.Record.{Record}
 use Rattle.prolly_link.specs.Identity.{LinkId}
 use Rattle.prolly_link.specs.Views.{Receiving, Whole}
-use Rattle.prolly_link.specs.Receipts.{end_given}
-use Rattle.prolly_link.specs.declared.end.End.{End}
-use Rattle.prolly_link.specs.Receipts.{HasEnded}
+use Rattle.prolly_link.specs.Progress.{end_given}
+use Rattle.prolly_link.specs.declared.message.End.{End}
+use Rattle.prolly_link.specs.Progress.{HasEnded}
 use Rattle.prolly_link.specs.declared.fault.RunFault.{RunFault}
 use Rattle.prolly_merge.specs.Inputs.{input_of, lists_of, stop_end}
-use Rattle.prolly_merge.specs.Sent.{Sends, Counts}
+use Rattle.prolly_merge.specs.Merged.{SendsAll, Counts}
 
 -- What went over a link, seen from its receiver and from its sender.
 abbrev pub received_input : Receiving Record → Input RunFault
@@ -23,12 +23,12 @@ sent_input c = input_of c.items c.end
 -- A merger of two sent this, with this end.
 abbrev pub MergesTwo : Input RunFault → Input RunFault → List Record → End → Type 0
 MergesTwo left right sent end = AllRising (lists_of (left ∷ right ∷ [])) →
-    Sends [] (raw_merged_part (left ∷ right ∷ [])) (stop_end (left ∷ right ∷ [])) sent end
+    SendsAll [] (raw_merged_part (left ∷ right ∷ [])) (stop_end (left ∷ right ∷ [])) sent end
 
 -- The last merger sent these pairs, with this end.
 abbrev pub MergesAll : List (Input RunFault) → List Pair → End → Type 0
 MergesAll inputs sent end = AllRising (lists_of inputs) →
-    Sends [] (merged_part inputs) (stop_end inputs) sent end
+    SendsAll [] (merged_part inputs) (stop_end inputs) sent end
 
 -- Both inputs of a merger of two have ended, and what it makes of them was sent, on the links that
 -- it was given.

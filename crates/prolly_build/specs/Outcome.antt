@@ -4,12 +4,12 @@ use Rattle.prolly_file.specs.Sink.{SinkView}
 use Rattle.prolly_file.specs.Source.{SourceView}
 use Rattle.prolly_link.specs.declared.fault.RunFault.{RunFault}
 use Rattle.prolly_link.specs.declared.fault.RunFault.TheVariants.{Memory, Write, NoThread, Lost}
-use Rattle.prolly_build.specs.Built.{IsBegun, IsBuilt, IsUnmade, IsStartFault, IsWriterFault}
-use Rattle.prolly_build.specs.Built.{AreKept}
-use Rattle.prolly_build.specs.Refused.{IsRefused}
-use Rattle.prolly_build.specs.Settings.{Settings}
-use Rattle.prolly_build.specs.Stopped.{AreHonest, IsFileFault, IsStopped}
-use Rattle.prolly_build.specs.declared.report.Report.{Report}
+use Rattle.prolly_build.specs.BuiltFile.{IsBegun, IsBuilt, IsUnmade, IsStartFault, IsWriterFault}
+use Rattle.prolly_build.specs.BuiltFile.{AreKept}
+use Rattle.prolly_build.specs.Refusals.{IsRefused}
+use Rattle.prolly_build.specs.Config.{Settings}
+use Rattle.prolly_build.specs.InputFaults.{AreHonest, IsFileFault, IsStopped}
+use Rattle.prolly_build.specs.declared.driver.Report.{Report}
 
 -- All that a build with these settings promises of its answer: of the sources before and after it,
 -- of which `seen` is what a contract sees, and of the sink as a contract sees it before and after.

@@ -4,12 +4,12 @@ use Rattle.prolly_tree.specs.Merge.{Input}
 use Rattle.prolly_entry.specs.Record.{Record}
 use Rattle.prolly_file.specs.Source.{SourceView}
 use Rattle.prolly_link.specs.Views.{Batching, Whole}
-use Rattle.prolly_link.specs.declared.end.End.{End}
+use Rattle.prolly_link.specs.declared.message.End.{End}
 use Rattle.prolly_link.specs.declared.fault.RunFault.{RunFault}
 use Rattle.prolly_merge.specs.Inputs.{input_of}
-use Rattle.prolly_build.specs.Forks.{IsForked}
-use Rattle.prolly_build.specs.Merging.{MergesTwo, sent_input}
-use Rattle.prolly_build.specs.Ran.{AreLoaded}
+use Rattle.prolly_build.specs.Lists.{IsForked}
+use Rattle.prolly_build.specs.Mergers.{MergesTwo, sent_input}
+use Rattle.prolly_build.specs.RunResult.{AreLoaded}
 
 -- Where two neighbours stood before, now what a merger of two sent of them stands.
 pub record IsJoint (before after : List (Input RunFault)) : Type 0 where
@@ -21,7 +21,7 @@ pub record IsJoint (before after : List (Input RunFault)) : Type 0 where
   pub forked : IsForked at after (input_of sent end) before left right
   pub merges : MergesTwo left right sent end
 
--- So many mergers of two made the inputs out of the files.
+-- A number of mergers of two made the inputs out of the files.
 abbrev pub Joined : ℕ → List (Input RunFault) → List (Input RunFault) → Type 0
 Joined zero files inputs = inputs ≡ files
 Joined (suc n) files inputs = (before : List (Input RunFault)) × Joined n files before ×

@@ -8,11 +8,11 @@ use Rattle.prolly_entry.specs.Pair.{Pair}
 use Rattle.prolly_entry.specs.Prefix.{IsPrefix}
 use Rattle.prolly_entry.specs.Reading.{IsReading}
 use Rattle.prolly_entry.specs.Record.{Record}
-use Rattle.prolly_entry.specs.declared.flaw.Flaw.{Flaw}
+use Rattle.prolly_entry.specs.declared.next.Flaw.{Flaw}
 use Rattle.prolly_file.specs.Source.{SourceView}
 use Rattle.prolly_file.specs.Sink.{SinkView, TakesPrefix}
-use Rattle.prolly_build.specs.Settings.{Settings}
-use Rattle.prolly_build.specs.Writing.{frames_of}
+use Rattle.prolly_build.specs.Config.{Settings}
+use Rattle.prolly_build.specs.WriterState.{frames_of}
 
 module _ {S : Type 0} (seen : S → SourceView) where
   -- The records are the good ones of the bytes that the source had left, whatever follows them.

@@ -6,22 +6,22 @@ use Rattle.prolly_tree.specs.File.{header}
 use Rattle.prolly_file.specs.Source.{SourceView}
 use Rattle.prolly_file.specs.Sink.{SinkView}
 use Rattle.prolly_link.specs.Views.{Batching, Receiving, Whole}
-use Rattle.prolly_link.specs.Receipts.{end_given, HasEnded}
-use Rattle.prolly_link.specs.declared.progress.Progress.TheVariants.{Open}
+use Rattle.prolly_link.specs.Progress.{end_given, HasEnded}
+use Rattle.prolly_link.specs.declared.message.Progress.TheVariants.{Open}
 use Rattle.prolly_link.specs.declared.fault.RunFault.{RunFault}
 use Rattle.prolly_link.specs.declared.fault.RunFault.TheVariants.{NoThread as NoThread_fault}
 use Rattle.prolly_link.specs.declared.fault.RunFault.TheVariants.{Lost as Lost_fault}
-use Rattle.prolly_build.specs.declared.end.halt.Halt.{Halt}
-use Rattle.prolly_build.specs.declared.end.halt.Halt.TheVariants.{NoThread, Lost}
-use Rattle.prolly_build.specs.Settings.{Settings}
-use Rattle.prolly_build.specs.Built.{IsBegun}
-use Rattle.prolly_build.specs.Writing.{HasWritten}
+use Rattle.prolly_build.specs.declared.end.Halt.{Halt}
+use Rattle.prolly_build.specs.declared.end.Halt.TheVariants.{NoThread, Lost}
+use Rattle.prolly_build.specs.Config.{Settings}
+use Rattle.prolly_build.specs.BuiltFile.{IsBegun}
+use Rattle.prolly_build.specs.WriterState.{HasWritten}
 use Rattle.prolly_build.specs.Workers.{IsLoadedFrom}
-use Rattle.prolly_build.specs.declared.run.writer.Wrote.{Wrote}
+use Rattle.prolly_build.specs.declared.run.writer.WriterResult.{WriterResult}
 
 -- The writer has received the last link to its end, and has written what it received.
-pub record IsWritten (settings : Settings) (last : Receiving Chunk) (old new : SinkView)
-    (wrote : Wrote) : Type 0 where
+pub record IsWriterDone (settings : Settings) (last : Receiving Chunk) (old new : SinkView)
+    (wrote : WriterResult) : Type 0 where
   pub link : wrote.last.link ≡ last.link
   pub has_ended : HasEnded wrote.last.progress
   pub end_is : wrote.end ≡ end_given wrote.last.progress
@@ -32,10 +32,10 @@ pub record IsWritten (settings : Settings) (last : Receiving Chunk) (old new : S
 -- names.
 pub record HandsOn {T : Type 0} (settings : Settings) (last : Receiving Chunk) (old new : SinkView)
     (untouched : Type 0)
-    (result : Result T Halt) (wrote : T → Wrote) : Type 0 where
+    (result : Result T Halt) (wrote : T → WriterResult) : Type 0 where
   -- All workers were met: the writer has received the last link to its end, and has written what it
   -- received.
-  pub written : IfOk result (λ t. IsWritten settings last old new (wrote t))
+  pub written : IfOk result (λ t. IsWriterDone settings last old new (wrote t))
   -- A worker was not started: the sink is as it was.
   pub refused : IfErr result (λ halt. halt ≡ NoThread → untouched)
   -- Some worker was not started or not met: no end record is begun.
@@ -54,8 +54,8 @@ abbrev pub IsUnsent : {T : Type 0} → Batching T → Type 0
 IsUnsent out = out.items ≡ []
 
 -- Nothing was received yet.
-abbrev pub IsUnread : {T : Type 0} → Receiving T → Type 0
-IsUnread r = (r.items ≡ []) × (r.progress ≡ Open)
+abbrev pub IsUnreceived : {T : Type 0} → Receiving T → Type 0
+IsUnreceived r = (r.items ≡ []) × (r.progress ≡ Open)
 
 -- The fault that a halt becomes.
 abbrev pub IsHaltFault : Halt → RunFault → Type 0

@@ -5,10 +5,10 @@ use Rattle.prolly_entry.specs.Cut.{sha512_cut}
 use Rattle.prolly_entry.specs.Pair.{Pair}
 use Rattle.prolly_tree.specs.Pipeline.{pipeline_events}
 use Rattle.prolly_file.specs.Source.{SourceView}
-use Rattle.prolly_link.specs.declared.end.End.{End}
+use Rattle.prolly_link.specs.declared.message.End.{End}
 use Rattle.prolly_stage.specs.Sends.{Sends}
-use Rattle.prolly_build.specs.Gathering.{IsGathered}
-use Rattle.prolly_build.specs.Settings.{Settings}
+use Rattle.prolly_build.specs.LastMerger.{IsGathered}
+use Rattle.prolly_build.specs.Config.{Settings}
 
 -- The stage of a level sent these events, with this end: what the pipeline up to it makes of the
 -- pairs of the last merger.

@@ -5,11 +5,11 @@ use Rattle.prolly_tree.specs.Events.{Closing}
 use Rattle.prolly_file.specs.Source.{SourceView}
 use Rattle.prolly_link.specs.Identity.{LinkId}
 use Rattle.prolly_link.specs.Views.{Receiving, Whole}
-use Rattle.prolly_link.specs.Receipts.{end_given, HasEnded}
-use Rattle.prolly_link.specs.declared.end.End.TheVariants.{Fault}
+use Rattle.prolly_link.specs.Progress.{end_given, HasEnded}
+use Rattle.prolly_link.specs.declared.message.End.TheVariants.{Fault}
 use Rattle.prolly_link.specs.declared.fault.RunFault.TheVariants.{Read}
 use Rattle.prolly_entry.specs.Record.{Record}
-use Rattle.prolly_load.specs.Loading.{IsLoaded}
+use Rattle.prolly_load.specs.Loaded.{IsLoaded}
 use Rattle.prolly_stage.specs.Sends.{Sends}
 
 -- The stage's input has ended, and what the stage makes of it was sent, on the links that it was

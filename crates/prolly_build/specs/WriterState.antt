@@ -9,15 +9,15 @@ use Rattle.prolly_tree.specs.Pipeline.{before_second, HasSecond}
 use Rattle.prolly_entry.specs.Prefix.{IsPrefix}
 use Rattle.prolly_entry.specs.Reference.{reference_of}
 use Rattle.prolly_file.specs.Sink.{IsSettled, SinkView, TakesPrefix}
-use Rattle.prolly_link.specs.declared.end.End.{End}
-use Rattle.prolly_link.specs.declared.end.End.TheVariants.{Clean, Fault}
+use Rattle.prolly_link.specs.declared.message.End.{End}
+use Rattle.prolly_link.specs.declared.message.End.TheVariants.{Clean, Fault}
 use Rattle.prolly_link.specs.declared.fault.RunFault.{RunFault}
 use Rattle.prolly_link.specs.declared.fault.RunFault.TheVariants.{Write, TooTall as TooTall_fault}
-use Rattle.prolly_build.specs.declared.report.Report.{Report}
-use Rattle.prolly_build.specs.declared.run.written.Begun.{Begun}
-use Rattle.prolly_build.specs.declared.run.written.Top.{Top}
-use Rattle.prolly_build.specs.declared.run.written.Written.{Written}
-use Rattle.prolly_build.specs.declared.run.written.Written.TheVariants.{Whole, TooTall, Failed}
+use Rattle.prolly_build.specs.declared.driver.Report.{Report}
+use Rattle.prolly_build.specs.declared.run.writer.OpenFile.{OpenFile}
+use Rattle.prolly_build.specs.declared.run.writer.LastChunk.{LastChunk}
+use Rattle.prolly_build.specs.declared.run.writer.WriterState.{WriterState}
+use Rattle.prolly_build.specs.declared.run.writer.WriterState.TheVariants.{Writing, TooTall, Failed}
 
 -- The header and a frame for each chunk.
 abbrev pub frames_of : List ℕ → List Chunk → List ℕ
@@ -34,15 +34,15 @@ tops_counted true = 1
 tops_counted false = 0
 
 -- The reference and the level of the last event, if there is one.
-abbrev pub IsTopOf : List Chunk → Option Top → Type 0
+abbrev pub IsTopOf : List Chunk → Option LastChunk → Type 0
 IsTopOf events None = events ≡ []
 IsTopOf events (Some top) =
     (before : List Chunk) × (last : Chunk) × (events ≡ before ++ last ∷ []) ×
     (top.root.0 ≡ reference_of last.bytes) × (top.level ≡ last.level)
 
 -- All events are written, of which at most one is of the last stage's level.
-pub record IsWhole (head : List ℕ) (level : ℕ) (events : List Chunk) (old new : SinkView)
-    (begun : Begun) : Type 0 where
+pub record AreAllWritten (head : List ℕ) (level : ℕ) (events : List Chunk) (old new : SinkView)
+    (begun : OpenFile) : Type 0 where
   pub few : length (filter (has_level level) events) ≡ tops_counted begun.has_top
   pub small : AreSmall events
   pub unfailed : new.failures ≡ old.failures
@@ -74,8 +74,8 @@ pub record IsFailed (head : List ℕ) (level : ℕ) (events : List Chunk) (old n
     pub keeps : old.is_keeping ≡ true → new.is_keeping ≡ true
 
 -- The writer behind a last stage of this level, once it has received these events.
-abbrev pub HasWritten : List ℕ → ℕ → List Chunk → SinkView → SinkView → Written → Type 0
-HasWritten head level events old new (Whole begun) = IsWhole head level events old new begun
+abbrev pub HasWritten : List ℕ → ℕ → List Chunk → SinkView → SinkView → WriterState → Type 0
+HasWritten head level events old new (Writing begun) = AreAllWritten head level events old new begun
 HasWritten head level events old new TooTall = IsTall head level events old new
 HasWritten head level events old new Failed = IsFailed head level events old new
 
@@ -83,7 +83,7 @@ HasWritten head level events old new Failed = IsFailed head level events old new
 
 -- All events are written, and then the end record, the sink holds nothing of it back, and the
 -- report is that of the last event.
-pub record HasEnded (head : List ℕ) (level : ℕ) (events : List Chunk) (old new : SinkView)
+pub record IsEndWritten (head : List ℕ) (level : ℕ) (events : List Chunk) (old new : SinkView)
     (pairs : ℕ) (report : Report) : Type 0 where
   pub before : List Chunk
   pub root : Chunk

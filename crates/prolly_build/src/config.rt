@@ -1,7 +1,7 @@
 //! What a build is set to.
 ghost use Rattle.std.specs.Prelude.{◌≡◌, ◌≢◌, ◌<◌, ◌≤◌, ◌-◌, IfOk, IfErr};
 ghost use Rattle.prolly_entry.specs.Version.{version_byte};
-ghost use Rattle.prolly_build.specs.Settings.{AreLawful, first_settings, IsOutside, IsConfigFault};
+ghost use Rattle.prolly_build.specs.Config.{AreLawful, first_settings, IsOutside, IsConfigFault};
 ghost use Rattle.prolly_build.specs.declared.config.ConfigFault.TheVariants.{BadBatch, BadVersion};
 
 use prolly_entry::{Sha512Cut, Version};
@@ -45,7 +45,7 @@ pub struct Config {
 }
 
 impl Model for Config {
-    ghost use Rattle.prolly_build.specs.Settings.{Settings, AreLawful, settings_of};
+    ghost use Rattle.prolly_build.specs.Config.{Settings, AreLawful, settings_of};
 
     ghost Value = { Settings };
 
@@ -95,7 +95,7 @@ impl Config {
         })
     }
 
-    /// The same with messages of at most so many items (1 to 1,024).
+    /// These settings with messages of at most so many items (1 to 1,024).
     pub fn with_batch(self, batch: u32) -> Result<Config, ConfigFault>
         ensures ok { IfOk result (λ config. config ≡ record self { batch = batch }) }
         ensures err { IfErr result (λ fault. (fault ≡ BadBatch) × IsOutside 1024 batch) }
@@ -106,7 +106,7 @@ impl Config {
         Ok(Config { batch, ..self })
     }
 
-    /// The same with the version of the chunk file that a byte stands for (1 or 2).
+    /// These settings with the version of the chunk file that a byte stands for (1 or 2).
     pub fn with_version(self, version: u8) -> Result<Config, ConfigFault>
         ensures ok { IfOk result (λ config. (config ≡ record self { version = config.version }) ×
             (version_byte config.version ≡ version)) }

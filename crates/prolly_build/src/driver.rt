@@ -1,18 +1,18 @@
-//! The pipelined build.
+//! The pipelined build, and what it answers.
 ghost use Rattle.std.specs.Prelude.{◌≡◌, ◌≢◌, ◌+◌, ◌<◌, ◌≤◌, ◌↔◌, Err, vec_len, IfOk, IfErr};
 ghost use Rattle.prolly_link.specs.declared.fault.RunFault.TheVariants.{TooManyFiles};
-ghost use Rattle.prolly_build.specs.Settings.{AreLawful};
-ghost use Rattle.prolly_build.specs.Ran.{HandsOn};
-ghost use Rattle.prolly_build.specs.Staging.{HasStaged};
+ghost use Rattle.prolly_build.specs.Config.{AreLawful};
+ghost use Rattle.prolly_build.specs.RunResult.{HandsOn};
+ghost use Rattle.prolly_build.specs.Stages.{HasStaged};
 ghost use Rattle.prolly_build.specs.Outcome.{IsOutcome};
 
 use crate::config::Config;
 use crate::end::{Halt, finish};
-use crate::links::{NewLink, Rings};
-use crate::report::Report;
-use crate::run::{Ran, run_from_top};
-use crate::start::{AllStart, Lent, Permit, Site};
+use crate::links::{Links, NewLink};
+use crate::run::{RunResult, run_from_top};
+use crate::start::{AllStart, Context, Lent, Permit};
 use prolly_chunk::ChunkEvent;
+use prolly_entry::Ref;
 use prolly_file::{Sink, Source};
 use prolly_link::RunFault;
 use prolly_stage::Gate;
@@ -36,21 +36,21 @@ fn run_in<
 >(
     scope: &'s Scope<'s, E>,
     lent: &Lent<'s, '_, R, G, P>,
-    rings: Rings,
+    rings: Links,
     sources: &mut Vec<S>,
     sink: &mut W,
-) -> Result<Ran<ChunkEvent>, Halt>
+) -> Result<RunResult<ChunkEvent>, Halt>
     requires levels { vec_len rings.lower.events < 12 }
     requires files { (rings.lower.feed.files ≡ vec_len sources.old) × (vec_len sources.old ≤ 16) }
     ensures link { IfOk result (λ ran. ran.out.link ≡ ran.wrote.last.link) }
     ensures hands_on { HandsOn lent.now.config rings.last.receiver
         (W.seen sink.old) (W.seen sink.new) (sink.new ≡ sink.old) result (λ ran. ran.wrote) }
-    ensures staged { IfOk result (λ ran. HasStaged S.seen lent.now.config (vec_len rings.lower.events)
-        sources.old.items sources.new.items ran.out.items ran.out.end ran.pairs) }
+    ensures staged { IfOk result (λ ran. HasStaged S.seen lent.now.config
+        (vec_len rings.lower.events) sources.old.items sources.new.items ran.out.items ran.out.end ran.pairs) }
 {
-    let Rings { last, lower } = rings;
+    let Links { last, lower } = rings;
     let NewLink { sender, receiver } = last;
-    let site = Site {
+    let site = Context {
         scope,
         rt: lent.rt,
         alloc: lent.alloc,
@@ -65,7 +65,7 @@ fn run_in<
 /// then ends the file.
 fn run_workers<R: Wait + Threads + Sync, S: Source + Send + Drop, W: Sink, G: Gate, P: Permit>(
     lent: &Lent<'_, '_, R, G, P>,
-    rings: Rings,
+    rings: Links,
     sources: &mut Vec<S>,
     sink: &mut W,
 ) -> Result<Report, RunFault>
@@ -81,12 +81,12 @@ fn run_workers<R: Wait + Threads + Sync, S: Source + Send + Drop, W: Sink, G: Ga
     let (ran, back, sink) = thread::scope(
         thread::scope_env(),
         rt,
-        move |scope| -> (Result<Ran<ChunkEvent>, Halt>, Vec<S>, &mut W)
+        move |scope| -> (Result<RunResult<ChunkEvent>, Halt>, Vec<S>, &mut W)
             requires { (vec_len rings.lower.events < 12) ×
                 (rings.lower.feed.files ≡ vec_len taken) × (vec_len taken ≤ 16) }
             ensures link { IfOk result.0 (λ ran. ran.out.link ≡ ran.wrote.last.link) }
-            ensures hands_on { HandsOn lent.entry.now.config rings.last.receiver (W.seen sink.entry.now)
-                (W.seen result.2.now)
+            ensures hands_on { HandsOn lent.entry.now.config rings.last.receiver
+                (W.seen sink.entry.now) (W.seen result.2.now)
                 (result.2.now ≡ sink.entry.now) result.0 (λ ran. ran.wrote) }
             ensures staged { IfOk result.0 (λ ran. HasStaged S.seen lent.entry.now.config
                 (vec_len rings.lower.events)
@@ -150,7 +150,7 @@ pub fn build_with<R: Wait + Threads + Sync, S: Source + Send + Drop, W: Sink, G:
     if sources.len() > FILES_LIMIT {
         return Err(RunFault::TooManyFiles);
     }
-    let Ok(rings) = Rings::new(alloc, config, sources.len()) else {
+    let Ok(rings) = Links::new(alloc, config, sources.len()) else {
         return Err(RunFault::Memory);
     };
     let lent = Lent {
@@ -163,7 +163,7 @@ pub fn build_with<R: Wait + Threads + Sync, S: Source + Send + Drop, W: Sink, G:
     run_workers(&lent, rings, sources, sink)
 }
 
-/// The same, where all workers may start.
+/// Builds as [`build_with`] does, where all workers may start.
 pub fn build<R: Wait + Threads + Sync, S: Source + Send + Drop, W: Sink, G: Gate>(
     rt: &R,
     alloc: Global,
@@ -178,4 +178,17 @@ pub fn build<R: Wait + Threads + Sync, S: Source + Send + Drop, W: Sink, G: Gate
         (sink.new ≡ sink.old) result }
 {
     build_with(rt, alloc, config, sources, sink, gate, &AllStart)
+}
+
+/// What a build has made.
+#[derive(Clone, Copy, Debug, PartialEq, Eq)]
+pub struct Report {
+    /// The reference of the tree's root.
+    pub root: Ref,
+    /// How many chunks the tree has.
+    pub chunks: u64,
+    /// How many pairs the map has.
+    pub pairs: u64,
+    /// How many levels the tree has, the leaves counted as one.
+    pub levels: u8,
 }

@@ -1,7 +1,151 @@
 //! The end of a build: a halt where a worker can't start, the end record, and the answer.
-mod answer;
-mod end_record;
-mod halt;
+ghost use Rattle.std.specs.Prelude.{◌≡◌, ◌-◌, List, ◌≢◌, ◌<◌, ℕ, Some, IfOk, IfErr, OnOk};
+ghost use Rattle.prolly_entry.specs.Pair.{Pair as PairValue};
+ghost use Rattle.prolly_tree.specs.File.{header};
+ghost use Rattle.prolly_tree.specs.Chunk.{Chunk};
+ghost use Rattle.prolly_tree.specs.Events.{greatest_count};
+ghost use Rattle.prolly_file.specs.Sink.{SinkView};
+ghost use Rattle.prolly_link.specs.Progress.{end_given, HasEnded};
+ghost use Rattle.prolly_link.specs.declared.message.End.TheVariants.{Clean};
+ghost use Rattle.prolly_build.specs.RunResult.{IsHaltFault};
+ghost use Rattle.prolly_build.specs.Config.{AreLawful};
+ghost use Rattle.prolly_build.specs.WriterState.{HasWritten, IsEndWritten, IsEndFault};
+ghost use Rattle.prolly_build.specs.BuiltFile.{IsInputEnd, IsRunOf};
+ghost use Rattle.prolly_build.specs.End.{IsFinished};
+ghost use Rattle.prolly_build.specs.declared.run.writer.OpenFile.{OpenFile as OpenFileValue};
+ghost use Rattle.prolly_build.specs.declared.run.writer.LastChunk.{LastChunk as LastChunkValue};
+ghost use Rattle.prolly_build.specs.declared.run.writer.WriterState.TheVariants.{Writing};
 
-pub(crate) use answer::finish;
-pub(crate) use halt::{Halt, close_all, refuse};
+use crate::config::Config;
+use crate::driver::Report;
+use crate::links::meet;
+use crate::run::{OpenFile, RunResult, WriterResult, WriterState};
+use prolly_chunk::ChunkEvent;
+use prolly_file::Sink;
+use prolly_link::{BatchReceiver, BatchSender, End, RunFault};
+use std::sync::Wait;
+
+/// Why the workers were not all met.
+#[derive(Clone, Copy)]
+pub(crate) enum Halt {
+    /// One could not be started.
+    NoThread,
+    /// A link lost its sender.
+    Lost,
+}
+
+impl Halt {
+    /// What the build answers then.
+    pub(crate) fn fault(self) -> RunFault
+        ensures { IsHaltFault self result }
+    {
+        match self {
+            Halt::NoThread => RunFault::NoThread,
+            Halt::Lost => RunFault::Lost,
+        }
+    }
+}
+
+/// Drops what the workers that are not started would have had, receives the last link to its end,
+/// and writes nothing.
+pub(crate) fn refuse<T: Drop, U: Drop, R: Wait>(rt: &R, unused: U, last: BatchReceiver<T>) -> Halt
+    ensures { result ≡ Halt.NoThread }
+{
+    drop(unused);
+    let _ = last.drain(rt);
+    Halt::NoThread
+}
+
+/// Closes the outputs of workers that were not started.
+pub(crate) fn close_all<T: Drop, R: Wait>(rt: &R, outs: Vec<BatchSender<T>>) {
+    for out in outs {
+        let _ = out.close(rt, End::Fault(RunFault::NoThread));
+    }
+}
+
+/// Meets the last link, and then ends the file.
+pub(crate) fn finish<R: Wait, W: Sink>(
+    rt: &R,
+    config: Config,
+    ran: RunResult<ChunkEvent>,
+    sink: &mut W,
+) -> Result<Report, RunFault>
+    requires lawful { AreLawful config }
+    requires link { ran.out.link ≡ ran.wrote.last.link }
+    requires ended { HasEnded ran.wrote.last.progress }
+    requires end { ran.wrote.end ≡ end_given ran.wrote.last.progress }
+    requires run { (m : List PairValue) × IsRunOf config m ran.out.items ran.out.end ran.pairs }
+    requires faults { IsInputEnd ran.out.end }
+    requires written { (old : SinkView) × HasWritten (header config.version config.bits)
+        (config.stages - 1) ran.wrote.last.items old
+        (W.seen sink.old) ran.wrote.written }
+    ensures { (m : List PairValue) (old : SinkView) →
+        IsRunOf config m ran.out.items ran.out.end ran.pairs →
+        HasWritten (header config.version config.bits) (config.stages - 1) ran.wrote.last.items old
+        (W.seen sink.old) ran.wrote.written →
+        IsFinished config m ran.out old (W.seen sink.new) result }
+{
+    let RunResult { out, pairs, wrote } = ran;
+    let WriterResult { last, end, written } = wrote;
+    match meet(rt, out, last) {
+        Ok(()) => end_build(sink, written, end, pairs),
+        Err(_) => Err(RunFault::Lost),
+    }
+}
+
+/// What the build answers once all workers have ended: the fault that came through the last link,
+/// or else that a write failed, that the tree is too tall, or what was made, with the end record
+/// written.
+pub(crate) fn end_build<W: Sink>(
+    sink: &mut W,
+    written: WriterState,
+    end: End,
+    pairs: u64,
+) -> Result<Report, RunFault>
+    requires { (begun : OpenFileValue) → written ≡ Writing begun → end ≡ Clean →
+        (begun.file.chunks < greatest_count) × ((top : LastChunkValue) × (begun.top ≡ Some top)) }
+    ensures ok { (head : List ℕ) (level : ℕ) (events : List Chunk) (old : SinkView) →
+        HasWritten head level events old (W.seen sink.old) written →
+        IfOk result (IsEndWritten head level events old (W.seen sink.new) pairs) }
+    ensures clean { OnOk result (end ≡ Clean) }
+    ensures err { (head : List ℕ) (level : ℕ) (events : List Chunk) (old : SinkView) →
+        HasWritten head level events old (W.seen sink.old) written →
+        IfErr result (λ fault. IsEndFault head level events old
+        (W.seen sink.old) (W.seen sink.new) end fault) }
+{
+    match (end, written) {
+        (End::Fault(fault), _) => Err(fault),
+        (End::Clean, WriterState::Failed) => Err(RunFault::Write),
+        (End::Clean, WriterState::TooTall) => Err(RunFault::TooTall),
+        (End::Clean, WriterState::Writing(begun)) => end_file(sink, begun, pairs),
+    }
+}
+
+/// Writes the end record.
+fn end_file<W: Sink>(sink: &mut W, begun: OpenFile, pairs: u64) -> Result<Report, RunFault>
+    requires few { begun.file.chunks < greatest_count }
+    requires some { (top : LastChunkValue) × (begun.top ≡ Some top) }
+    ensures ok { (head : List ℕ) (level : ℕ) (events : List Chunk) (old : SinkView) →
+        HasWritten head level events old (W.seen sink.old) (Writing begun) →
+        IfOk result (IsEndWritten head level events old (W.seen sink.new) pairs) }
+    ensures err { (head : List ℕ) (level : ℕ) (events : List Chunk) (old : SinkView) →
+        HasWritten head level events old (W.seen sink.old) (Writing begun) →
+        IfErr result (λ fault. IsEndFault head level events old
+        (W.seen sink.old) (W.seen sink.new) Clean fault) }
+{
+    let OpenFile {
+        file,
+        has_top: _,
+        top,
+    } = begun;
+    let top = top.unwrap();
+    match file.end(sink, &top.root) {
+        Ok(chunks) => Ok(Report {
+            root: top.root,
+            chunks,
+            pairs,
+            levels: top.level.saturating_add(1),
+        }),
+        Err(_) => Err(RunFault::Write),
+    }
+}

@@ -6,11 +6,9 @@ mod driver;
 mod end;
 pub mod laws;
 mod links;
-mod report;
 mod run;
 mod start;
 
 pub use config::{Config, ConfigFault};
-pub use driver::{FILES_LIMIT, build, build_with};
-pub use report::Report;
+pub use driver::{FILES_LIMIT, Report, build, build_with};
 pub use start::{AllStart, Permit};

@@ -1,10 +1,222 @@
 //! The links of a build: what stands between two workers, from one link to all of them.
-mod feed;
-mod fork;
-mod link;
-mod rings;
+ghost use Rattle.std.specs.Prelude.{◌≡◌, [], IfOk, Ok, OnOk, IfErr, vec_len, ◌+◌, ◌<◌, ◌≤◌, All};
+ghost use Rattle.std.specs.Prelude.{map, vec_capacity};
+ghost use Rattle.prolly_link.specs.Progress.{HasEnded};
+ghost use Rattle.prolly_link.specs.declared.message.Progress.TheVariants.{Open, Ended};
+ghost use Rattle.prolly_build.specs.declared.end.Halt.TheVariants.{Lost};
+ghost use Rattle.prolly_build.specs.RunResult.{IsUnsent, IsUnreceived};
+ghost use Rattle.prolly_build.specs.Config.{AreLawful};
 
-pub(crate) use feed::Feed;
-pub(crate) use fork::Fork;
-pub(crate) use link::{NewLink, meet};
-pub(crate) use rings::{LowerRings, Rings};
+use crate::config::Config;
+use crate::end::Halt;
+use prolly_chunk::ChunkEvent;
+use prolly_entry::{Pair, Record};
+use prolly_link::{
+    BatchDrained, BatchReceiver, BatchSender, ClosedBatch, LinkFault, batch_link, meet_batches,
+};
+use std::alloc::{AllocError, Global};
+use std::sync::Wait;
+
+/// Both ends of a link over which nothing went yet.
+#[derive(Drop)]
+pub(crate) struct NewLink<T> {
+    pub sender: BatchSender<T>,
+    pub receiver: BatchReceiver<T>,
+    ghost paired: { sender.link ≡ receiver.link },
+    ghost unsent: { sender.items ≡ [] },
+    ghost unreceived: { (receiver.items ≡ []) × (receiver.progress ≡ Open) },
+}
+
+/// A new link, with room for as many messages, and messages of as many items, as the build is set
+/// to.
+pub(crate) fn new_link<T: Send + Drop>(
+    alloc: Global,
+    config: &Config,
+) -> Result<NewLink<T>, AllocError> {
+    match batch_link(alloc, config.capacity(), config.batch()) {
+        Ok((sender, receiver)) => Ok(NewLink { sender, receiver }),
+        Err(LinkFault::Memory) => Err(AllocError),
+    }
+}
+
+// Two values, where there was memory for both. What is dropped else is one step of the proof here;
+// among links each of their fields is a few.
+pub(crate) fn both<A: Drop, B: Drop>(
+    a: Result<A, AllocError>,
+    b: Result<B, AllocError>,
+) -> Result<(A, B), AllocError>
+    ensures { IfOk result (λ p. (a ≡ Ok p.0) × (b ≡ Ok p.1)) }
+{
+    Ok((a?, b?))
+}
+
+/// Meets the ends of a link: what was received is what was sent. The receiver may have lost its
+/// sender.
+pub(crate) fn meet<T: Drop, R: Wait>(
+    rt: &R,
+    sender: ClosedBatch<T>,
+    receiver: BatchReceiver<T>,
+) -> Result<(), Halt>
+    requires { sender.link ≡ receiver.link }
+    ensures met { OnOk result (HasEnded receiver.progress → (receiver.items ≡ sender.items) ×
+        (receiver.progress ≡ Ended sender.end)) }
+    ensures lost { IfErr result (λ halt. halt ≡ Lost) }
+{
+    match receiver.drain(rt) {
+        BatchDrained::Ended(ended) => {
+            let _met = meet_batches(sender, ended);
+            Ok(())
+        }
+        BatchDrained::Lost(_) => Err(Halt::Lost),
+    }
+}
+
+/// The links into a merger of two.
+#[derive(Drop)]
+pub(crate) struct LinkPair {
+    pub left: NewLink<Record>,
+    pub right: NewLink<Record>,
+}
+
+/// The links into `count` mergers of two.
+pub(crate) fn new_pairs(
+    alloc: Global,
+    config: &Config,
+    count: usize,
+) -> Result<Vec<LinkPair>, AllocError>
+    ensures { IfOk result (λ forks. vec_len forks ≡ count) }
+{
+    let mut forks = Vec::with_capacity(alloc, count)?;
+    for _ in 0..count {
+        let (left, right) = both(new_link(alloc, config), new_link(alloc, config))?;
+        forks.push(LinkPair { left, right })?;
+    }
+    Ok(forks)
+}
+
+/// The links below the last merger, and the room for the closed ends of those into it.
+#[derive(Drop)]
+pub(crate) struct RecordLinks {
+    /// How many files there are.
+    pub files: usize,
+    /// The links into the lower mergers.
+    pub forks: Vec<LinkPair>,
+    /// Both ends of the links into the last merger, apart.
+    pub outs: Vec<BatchSender<Record>>,
+    pub inputs: Vec<BatchReceiver<Record>>,
+    /// Where the closed ends of `outs` come back.
+    pub closed: Vec<ClosedBatch<Record>>,
+    ghost each: { vec_len outs + vec_len forks ≡ files },
+    ghost two: { 0 < vec_len forks → 2 ≤ vec_len outs },
+    ghost room: { (closed.items ≡ []) × (files ≤ vec_capacity closed) ×
+        (files ≤ vec_capacity outs) },
+    ghost unsent: { All IsUnsent outs.items },
+    ghost unread: { All IsUnreceived inputs.items },
+    ghost paired: { map (λ o. o.link) outs.items ≡ map (λ r. r.link) inputs.items },
+}
+
+/// Both ends of links into the last merger, apart.
+#[derive(Drop)]
+struct LinkEnds {
+    outs: Vec<BatchSender<Record>>,
+    inputs: Vec<BatchReceiver<Record>>,
+    ghost unsent: { All IsUnsent outs.items },
+    ghost unread: { All IsUnreceived inputs.items },
+    ghost paired: { map (λ o. o.link) outs.items ≡ map (λ r. r.link) inputs.items },
+}
+
+/// The ends of so many links, with room for as many senders as there are files.
+fn new_ends(
+    alloc: Global,
+    config: &Config,
+    count: usize,
+    files: usize,
+) -> Result<LinkEnds, AllocError>
+    ensures len { IfOk result (λ heads. vec_len heads.outs ≡ count) }
+    ensures room { IfOk result (λ heads. files ≤ vec_capacity heads.outs) }
+{
+    let mut outs = Vec::with_capacity(alloc, files)?;
+    let mut inputs = Vec::with_capacity(alloc, count)?;
+    for _ in 0..count {
+        let NewLink { sender, receiver } = new_link(alloc, config)?;
+        outs.push(sender)?;
+        inputs.push(receiver)?;
+    }
+    Ok(LinkEnds { outs, inputs })
+}
+
+/// The links from so many files to the last merger. It has two inputs where there are two files or
+/// more, and one merger of two stands below it for each file more than two.
+pub(crate) fn new_record_links(
+    alloc: Global,
+    config: &Config,
+    files: usize,
+) -> Result<RecordLinks, AllocError>
+    ensures { IfOk result (λ feed. feed.files ≡ files) }
+{
+    let forks = new_pairs(alloc, config, files.saturating_sub(2))?;
+    let LinkEnds { outs, inputs } = new_ends(alloc, config, files.min(2), files)?;
+    let closed = Vec::<ClosedBatch<Record>>::with_capacity(alloc, files)?;
+    Ok(RecordLinks {
+        files,
+        forks,
+        outs,
+        inputs,
+        closed,
+    })
+}
+
+/// The links of a build.
+#[derive(Drop)]
+pub(crate) struct Links {
+    /// From the last stage to the writer.
+    pub last: NewLink<ChunkEvent>,
+    pub lower: LowerLinks,
+}
+
+/// The links of a build below the last one.
+#[derive(Drop)]
+pub(crate) struct LowerLinks {
+    /// Between the stages, the one into the highest stage last.
+    pub events: Vec<NewLink<ChunkEvent>>,
+    /// From the last merger to the stage of the leaves.
+    pub pairs: NewLink<Pair>,
+    /// From the loaders to the last merger.
+    pub feed: RecordLinks,
+}
+
+impl Links {
+    /// New links for so many files. Each has the memory of its ring and of one message.
+    pub(crate) fn new(alloc: Global, config: &Config, files: usize) -> Result<Links, AllocError>
+        ensures files { IfOk result (λ rings. rings.lower.feed.files ≡ files) }
+        ensures lawful { IfOk result (λ _. AreLawful config.now) }
+        ensures levels { IfOk result (λ rings. vec_len rings.lower.events + 1 ≡ config.now.stages) }
+    {
+        let ends = both(new_link(alloc, config), new_link(alloc, config));
+        let events = new_links(alloc, config, usize::from(config.last_level()));
+        let ((last, pairs), (events, feed)) = both(
+            ends,
+            both(events, new_record_links(alloc, config, files)),
+        )?;
+        let lower = LowerLinks {
+            events,
+            pairs,
+            feed,
+        };
+        Ok(Links { last, lower })
+    }
+}
+
+fn new_links(
+    alloc: Global,
+    config: &Config,
+    count: usize,
+) -> Result<Vec<NewLink<ChunkEvent>>, AllocError>
+    ensures { IfOk result (λ links. vec_len links ≡ count) }
+{
+    let mut links = Vec::with_capacity(alloc, count)?;
+    for _ in 0..count {
+        links.push(new_link(alloc, config)?)?;
+    }
+    Ok(links)
+}

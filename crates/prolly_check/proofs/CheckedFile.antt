@@ -28,18 +28,19 @@ use Rattle.prolly_file.specs.Frame.{framed, has_no_frame, IsSmall, BeginsFrame}
 use Rattle.prolly_file.specs.FrameLaws.{frames_bytes}
 use Rattle.prolly_file.specs.Header.{header_tests, header_fault, version_of}
 use Rattle.prolly_file.specs.declared.format.header.Header.{Header}
-use Rattle.prolly_check.specs.Checked.{chunks_of, IsChecked, content_of, IsLaidOut, HasAt, IsIndex}
-use Rattle.prolly_check.specs.Checked.{AreReferences}
+use Rattle.prolly_check.specs.Chunks.{chunks_of, IsChecked, content_of, IsLaidOut, HasAt, IsIndex}
+use Rattle.prolly_check.specs.Chunks.{AreReferences}
 use Rattle.prolly_check.specs.Content.{Content, root_bytes}
 use Rattle.prolly_check.specs.Entries.{IsBad, IsRead, IsWhole, AreWhole}
 use Rattle.prolly_check.specs.Frames.{ending_of, IsFramed, chunks_in, FramesTo, chunk_in, IsWithin}
-use Rattle.prolly_check.specs.Held.{pairs_held}
-use Rattle.prolly_check.specs.Judged.{Says, chunk_bytes, reuse, canonical_fault, or_content, judged}
-use Rattle.prolly_check.specs.Judged.{CompareAs, ending_of_chunks, order_fault, ending_for}
-use Rattle.prolly_check.specs.Numbers.{size_of}
+use Rattle.prolly_check.specs.HeldPairs.{pairs_held}
+use Rattle.prolly_check.specs.FirstFault.{Says, chunk_bytes, reuse, canonical_fault, or_content}
+use Rattle.prolly_check.specs.FirstFault.{judged}
+use Rattle.prolly_check.specs.FirstFault.{CompareAs, ending_of_chunks, order_fault, ending_for}
+use Rattle.prolly_check.specs.Numbers.{chunks_size}
 use Rattle.prolly_check.specs.Verdict.{UnlessMemory, IsVerdict, IsFileOf, ReadVerdict}
 use Rattle.prolly_check.specs.Verdict.{FramesVerdict}
-use Rattle.prolly_check.specs.declared.index.Index.{Index}
+use Rattle.prolly_check.specs.declared.chunks.Index.{Index}
 use Rattle.prolly_check.specs.declared.verdict.fault.CheckFault.{CheckFault}
 use Rattle.prolly_check.proofs.EntryLists.{leaf_pairs}
 use Rattle.prolly_check.proofs.HeldPairs.{map_holds, all_hold, flat_held}
@@ -136,12 +137,12 @@ few_pairs bytes content f = grind (arith, map_holds, few_in_frames, frames_in)
 
 -- nor have its chunks
 
-few_framed : (cs : List (List ℕ)) → size_of cs ≤ length (flat_map framed cs)
+few_framed : (cs : List (List ℕ)) → chunks_size cs ≤ length (flat_map framed cs)
 few_framed [] = omega arith
 few_framed (c ∷ cs) = grind (arith, length-append, few_framed cs)
 
 pub few_bytes : (bytes : List ℕ) (content : Content) → IsFileOf bytes content →
-    size_of (chunks_of content) ≤ length bytes
+    chunks_size (chunks_of content) ≤ length bytes
 few_bytes bytes content f = grind (arith, few_framed, frames_in)
 
 -- ---- the chunks of a file that was checked, found by their numbers and their references

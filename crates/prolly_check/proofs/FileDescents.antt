@@ -12,10 +12,11 @@ use Rattle.prolly_entry.specs.lemmas.Lists.{all_append}
 use Rattle.prolly_tree.specs.Chunk.{IsIn, chunk_of}
 use Rattle.prolly_tree.specs.Tree.{bytes_of, pairs_below}
 use Rattle.prolly_laws.specs.Trees.{top_in}
-use Rattle.prolly_check.specs.Checked.{HasFile, HasReference, chunks_of, HasAt}
+use Rattle.prolly_check.specs.Chunks.{HasFile, HasReference, chunks_of, HasAt}
 use Rattle.prolly_check.specs.Content.{Content, root_bytes}
-use Rattle.prolly_check.specs.FileWays.{IsCounted, IsEnd, IsNamedAt, IsNext, IsTop, nth_chunk}
-use Rattle.prolly_check.specs.Held.{pairs_held}
+use Rattle.prolly_check.specs.FileWays.{CanBeSought, IsWayEnd, IsNamedAt, IsNextOnWay, IsTop}
+use Rattle.prolly_check.specs.FileWays.{nth_chunk}
+use Rattle.prolly_check.specs.HeldPairs.{pairs_held}
 use Rattle.prolly_check.specs.Kinds.{kind_of}
 use Rattle.prolly_check.specs.Sought.{Sought, EndsAt, LeadsOn, sought_of}
 use Rattle.prolly_check.specs.Sought.Sought.{Key, Number}
@@ -32,13 +33,13 @@ use Rattle.prolly_check.proofs.TreeWays.{Tells, stands_in_all, GoesTo, goes_to, 
 -- ---- from one chunk to the next
 
 can_count : (content : Content) (there : Sought) (number : ℕ) (top : IsTop content number) →
-    IsCounted content.version there →
+    CanBeSought content.version there →
     CanCount content.version there (pairs_below top.level top.tree)
 can_count content (Key key) number top counted = tt
 can_count content (Number n) number top counted = (counted, top.few)
 
 is_counted : (version : Version) (sought : Sought) (pairs : List Pair) →
-    CanCount version sought pairs → IsCounted version sought
+    CanCount version sought pairs → CanBeSought version sought
 is_counted version (Key key) pairs can = tt
 is_counted version (Number n) pairs can = can.0
 
@@ -50,7 +51,7 @@ module _ (content : Content) (f : HasFile content) (number : ℕ) (top : IsTop c
   pub named_at : All IsByte (nth_chunk content number) → IsNamedAt content number
   named_at bytes = record { bytes = bytes; is = refl; ordered = is_ordered }
 
-  module _ (there next : Sought) (reference : List ℕ) (counted : IsCounted content.version there)
+  module _ (there next : Sought) (reference : List ℕ) (counted : CanBeSought content.version there)
       (on : LeadsOn there (kind_of content.version (nth_chunk content number)) reference next) where
     to : GoesTo content.version (chunks_of content) (pairs_below top.level top.tree) there next
         reference top.level
@@ -73,7 +74,7 @@ module _ (content : Content) (f : HasFile content) (number : ℕ) (top : IsTop c
 
     pub one_below : (n : ℕ) → HasAt (chunks_of content) n reference →
         IsTop content n × (level_of (nth_chunk content number) ≡ suc (level_of (nth_chunk content n)))
-        × IsCounted content.version next
+        × CanBeSought content.version next
     unfolding to is_there_below
     one_below n at =
         let is : nth_chunk content n ≡ bytes_of content.version to.level to.t =
@@ -107,10 +108,10 @@ module _ (content : Content) (f : HasFile content) (number : ℕ) (top : IsTop c
 
 pub next_is : (content : Content) (f : HasFile content) (at next : At)
     (top : IsTop content at.number) (reference : List ℕ) →
-    IsCounted content.version (sought_of at.sought) →
+    CanBeSought content.version (sought_of at.sought) →
     LeadsOn (sought_of at.sought) (kind_of content.version (nth_chunk content at.number)) reference
     (sought_of next.sought) → HasAt (chunks_of content) next.number reference →
-    IsNext content at next
+    IsNextOnWay content at next
 next_is content f at next top reference counted on has =
     let below = one_below content f at.number top (sought_of at.sought) (sought_of next.sought)
     reference counted on next.number has in
@@ -143,7 +144,7 @@ pushed items new one chunk is at = search (rules, map-append)
 pub record OnWay (content : Content) (sought : Sought) (above : List (List ℕ)) (number : ℕ)
     (there : Sought) : Type 0 where
   pub top : IsTop content number
-  pub counted : IsCounted content.version there
+  pub counted : CanBeSought content.version there
   pub lead : Lead content.version sought (reference_of (root_bytes content)) above
       (reference_of (nth_chunk content number)) there
   pub down : LevelsFall (above ++ nth_chunk content number ∷ [])
@@ -157,7 +158,7 @@ pub record IsOnWay (content : Content) (sought : Sought) (number : ℕ) (there :
 
 pub way_begins : (content : Content) (sought : Sought) (number : ℕ) → HasFile content →
     number < length (chunks_of content) → nth_chunk content number ≡ root_bytes content →
-    IsCounted content.version sought → OnWay content sought [] number sought
+    CanBeSought content.version sought → OnWay content sought [] number sought
 way_begins content sought number f within is counted = record {
   top = record {
     within = within;
@@ -186,12 +187,12 @@ module _ (content : Content) (sought : Sought) (above : List (List ℕ)) (at : A
   all_inside : AllByRecursion (λ c. IsIn c (chunks_of content)) (above ++ chunk ∷ [])
   all_inside = search (rules, all_append, is_there)
 
-  pub way_goes_on : (next : At) → IsNext content at next →
+  pub way_goes_on : (next : At) → IsNextOnWay content at next →
       OnWay content sought (above ++ chunk ∷ []) next.number (sought_of next.sought)
   way_goes_on next to = grind (arith, lead_more, falls_more, all_inside)
 
   pub way_ends : EndsAt (sought_of at.sought) (kind_of content.version chunk) →
-      IsEnd content sought at
+      IsWayEnd content sought at
   way_ends ends = record {
     chunks = above ++ chunk ∷ [];
     inside = all_inside;
@@ -225,12 +226,12 @@ module _ (content : Content) (f : HasFile content) where
       is_inside (d ∷ cs) all (inl e) = subst (λ c. IsIn c (chunks_of content)) (sym e) all.0
       is_inside (d ∷ cs) all (inr is_in) = is_inside cs all.1 is_in
 
-  can_in : (sought : Sought) → IsCounted content.version sought →
+  can_in : (sought : Sought) → CanBeSought content.version sought →
       CanCount content.version sought content.pairs
   can_in (Key key) counted = tt
   can_in (Number n) counted = grind (arith, few_pairs)
 
-  pub end_tells : (sought : Sought) → IsCounted content.version sought → (at : At) →
-      IsEnd content sought at → Tells sought content.pairs (sought_of at.sought)
+  pub end_tells : (sought : Sought) → CanBeSought content.version sought → (at : At) →
+      IsWayEnd content sought at → Tells sought content.pairs (sought_of at.sought)
       (pairs_held (nth_chunk content at.number))
   end_tells sought counted at end = grind (arith, way_right, can_in, no_clash)

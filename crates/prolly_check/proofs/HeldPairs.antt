@@ -21,8 +21,8 @@ use Rattle.prolly_laws.specs.Trees.{pairs_are}
 use Rattle.prolly_check.specs.Entries.{Child, IsChild, entry_of, Holds, AllHold, pairs_in, IsBad}
 use Rattle.prolly_check.specs.Entries.{IsWhole, AreWhole, IsNode, IsSomeLeaf, children_in}
 use Rattle.prolly_check.specs.Frames.{chunk_in, chunks_in}
-use Rattle.prolly_check.specs.Held.{pairs_held}
-use Rattle.prolly_check.specs.Judged.{chunk_bytes}
+use Rattle.prolly_check.specs.HeldPairs.{pairs_held}
+use Rattle.prolly_check.specs.FirstFault.{chunk_bytes}
 use Rattle.prolly_check.specs.Kinds.{kind_of}
 use Rattle.prolly_check.specs.Kinds.Entries.{Leaf, Node}
 use Rattle.prolly_check.proofs.EntryLists.{leaf_pairs}

@@ -21,10 +21,10 @@ use Rattle.std.proofs.lemmas.List.Sorted.{searchable_from_sorted, sorted_far}
 use Rattle.prolly_entry.specs.Reference.{reference_of}
 use Rattle.prolly_entry.specs.declared.reference.Ref.{Ref}
 use Rattle.prolly_entry.specs.lemmas.Orders.{order_self}
-use Rattle.prolly_check.specs.Checked.{AreReferences, HasAt, IsIndex}
-use Rattle.prolly_check.specs.Judged.{reuse}
+use Rattle.prolly_check.specs.Chunks.{AreReferences, HasAt, IsIndex}
+use Rattle.prolly_check.specs.FirstFault.{reuse}
 use Rattle.prolly_check.specs.Verdict.{AllApart}
-use Rattle.prolly_check.specs.declared.index.Index.{Index}
+use Rattle.prolly_check.specs.declared.chunks.Index.{Index}
 use Rattle.prolly_check.specs.declared.verdict.fault.CheckFault.TheVariants.{Collision}
 use Rattle.prolly_check.proofs.Verdicts.{reuse_is}
 

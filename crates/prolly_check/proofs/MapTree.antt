@@ -23,9 +23,9 @@ use Rattle.prolly_check.specs.Content.{Content}
 use Rattle.prolly_check.specs.Descent.{HasTree, IsTreeOf, NodeFull, child_of, TopIsRead}
 use Rattle.prolly_check.specs.Descent.{entries_below}
 use Rattle.prolly_check.specs.Entries.{pairs_in, children_in}
-use Rattle.prolly_check.specs.Judged.{chunk_bytes}
+use Rattle.prolly_check.specs.FirstFault.{chunk_bytes}
 use Rattle.prolly_check.specs.Kinds.{kind_of}
-use Rattle.prolly_check.specs.Way.{keys_of}
+use Rattle.prolly_check.specs.Way.{entry_keys}
 use Rattle.prolly_check.specs.Kinds.Entries.{Leaf, Node}
 use Rattle.prolly_check.proofs.EntryLists.{as_read, children_read, leaf_pairs}
 use Rattle.prolly_check.proofs.HeldPairs.{all_children, child_below, entries_are, top_is_whole}
@@ -175,7 +175,7 @@ module _ (version : Version) (chunks : List (List ℕ)) where
   read_so (suc level) ts b = ap Node (children_are version level ts b.lawful)
 
   entries_rise : (level : ℕ) (t : Tree level) → IsTreeOf version chunks level t →
-      Rising (keys_of (entries_below version level t))
+      Rising (entry_keys (entries_below version level t))
   entries_rise zero leaf b = b.rising
   entries_rise (suc level) ts b = tops_rise version level ts b.full b.rising
 
@@ -183,7 +183,7 @@ pub top_is_read : (version : Version) → TopIsRead version
 top_is_read version chunks level t b = (
   record {
     whole = top_is_whole version level t b.lawful;
-    rising = subst (λ entries. Rising (keys_of entries)) (sym (read_so version chunks level t b))
+    rising = subst (λ entries. Rising (entry_keys entries)) (sym (read_so version chunks level t b))
         (entries_rise version chunks level t b);
   },
   read_so version chunks level t b,

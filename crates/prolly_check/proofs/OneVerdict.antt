@@ -15,7 +15,7 @@ use Rattle.prolly_file.specs.declared.format.header.HeaderFault.{HeaderFault}
 use Rattle.prolly_check.specs.Content.{Content}
 use Rattle.prolly_check.specs.Entries.{Holds, IsRead, AreWhole}
 use Rattle.prolly_check.specs.Frames.{ending_of}
-use Rattle.prolly_check.specs.Judged.{order_fault, difference, reuse, or_content, last_behind}
+use Rattle.prolly_check.specs.FirstFault.{order_fault, difference, reuse, or_content, last_behind}
 use Rattle.prolly_check.specs.Verdict.{UnlessMemory, IsRefusal, ReadVerdict, EndVerdict}
 use Rattle.prolly_check.specs.Verdict.{FramesVerdict, HeaderVerdict, OneVerdict, IsVerdict}
 use Rattle.prolly_check.specs.declared.verdict.fault.CheckFault.{CheckFault}

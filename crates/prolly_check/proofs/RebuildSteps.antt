@@ -21,12 +21,12 @@ use Rattle.prolly_laws.specs.Stages.{fault_is_prefix, enough_stages}
 use Rattle.prolly_laws.specs.Trees.{few_levels}
 use Rattle.prolly_chunk.specs.LeafLevel.{LeafState, LeafBegins, LeafTakes, LeafEnds}
 use Rattle.prolly_chunk.specs.NodeLevel.{NodeState, NodeBegins, NodeEnds}
-use Rattle.prolly_check.specs.Checked.{AreReferences}
-use Rattle.prolly_check.specs.Held.{pairs_held}
-use Rattle.prolly_check.specs.Judged.{difference, chunk_bytes}
-use Rattle.prolly_check.specs.Rebuilt.{node_levels, sent_through, sent_of, AreBehind, AreFirst}
-use Rattle.prolly_check.specs.Rebuilt.{AreCompared, AreUnused, DifferAs, Passed, Passes, HasTaken}
-use Rattle.prolly_check.specs.Rebuilt.{Takes, Took, AreBelow}
+use Rattle.prolly_check.specs.Chunks.{AreReferences}
+use Rattle.prolly_check.specs.HeldPairs.{pairs_held}
+use Rattle.prolly_check.specs.FirstFault.{difference, chunk_bytes}
+use Rattle.prolly_check.specs.Rebuild.{node_levels, sent_through, sent_of, AreBehind, AreFirst}
+use Rattle.prolly_check.specs.Rebuild.{AreOrDiffer, AreUnused, DifferAs, Passed, PassesUp, HasTaken}
+use Rattle.prolly_check.specs.Rebuild.{TakesPairs, Took, AreBelow}
 use Rattle.prolly_check.specs.Verdict.{UnlessMemory}
 use Rattle.prolly_check.specs.declared.verdict.fault.CheckFault.{CheckFault}
 use Rattle.prolly_check.specs.declared.verdict.rebuild.Rebuild.{Rebuild}
@@ -70,7 +70,7 @@ begun bits version chunks rebuild b u count none_yet = search (rules, unused_sen
 module _ (chunks : List (List ℕ)) (pair : Pair) (old : Rebuild) (leaf' : LeafState ℕ)
     (closed : Option Chunk) (takes : LeafTakes sha512_cut old.leaf leaf' pair closed)
     (levels nodes' : List (NodeState ℕ)) (are : levels ≡ old.nodes.items) (after : List Ref)
-    (result : Result (Unit {0}) CheckFault) (passes : Passes chunks levels nodes' closed
+    (result : Result (Unit {0}) CheckFault) (passes : PassesUp chunks levels nodes' closed
     old.references.items after result) (same_size : length nodes' ≡ length levels)
     (bits : ℕ) (version : Version) (pairs : List Pair) (b : HasTaken bits version chunks pairs old)
   where
@@ -92,7 +92,7 @@ module _ (chunks : List (List ℕ)) (pair : Pair) (old : Rebuild) (leaf' : LeafS
         (subst (λ n. AreFirst chunks old.references.items
         (sent_through (sha512_cut bits) version 1 n before)) (sym b.count) b.first))
 
-    compared : AreCompared chunks (sent_of bits version (pairs ++ pair ∷ [])) after result
+    compared : AreOrDiffer chunks (sent_of bits version (pairs ++ pair ∷ [])) after result
     compared = grind (arith, passed)
 
     one_taken : (new : Rebuild) (done : Unit {0}) → result ≡ Ok done → new.leaf ≡ leaf' →
@@ -114,12 +114,12 @@ pub record PartTaken (chunks : List (List ℕ)) (old new : Rebuild) (all rest : 
   where
     pub done : List Pair
     pub is : all ≡ done ++ rest
-    pub takes : Takes chunks old new done (Ok tt)
+    pub takes : TakesPairs chunks old new done (Ok tt)
 
 module _ (chunks : List (List ℕ)) (old : Rebuild) (all : List Pair) where
   module _ (mid : Rebuild) (rest : List Pair) (p : PartTaken chunks old mid all rest) where
     module _ (held more : List Pair) (e : rest ≡ held ++ more) (new : Rebuild) where
-      pub more_taken : Takes chunks mid new held (Ok tt) → PartTaken chunks old new all more
+      pub more_taken : TakesPairs chunks mid new held (Ok tt) → PartTaken chunks old new all more
       more_taken takes = record {
         done = p.done ++ held;
         is = p.is ∙ ap (λ ps. p.done ++ ps) e ∙ sym (append_assoc p.done held more);
@@ -129,8 +129,8 @@ module _ (chunks : List (List ℕ)) (old : Rebuild) (all : List Pair) where
       }
 
       -- what differs of some pairs differs of more
-      pub fault_taking : (fault : CheckFault) → Takes chunks mid new held (Err fault) →
-          Takes chunks old new all (Err fault)
+      pub fault_taking : (fault : CheckFault) → TakesPairs chunks mid new held (Err fault) →
+          TakesPairs chunks old new all (Err fault)
       fault_taking fault h bits version pairs b =
           let some = (pairs ++ p.done) ++ held in
           let whole : some ++ more ≡ pairs ++ all =
@@ -240,7 +240,7 @@ module _ (bits : ℕ) (version : Version) (pairs : List Pair) where
 
     module _ (nodes levels nodes' : List (NodeState ℕ)) (are : levels ≡ nodes) (last : Option Chunk)
         (old new : List Ref) (result : Result (Unit {0}) CheckFault) (b : IsEnding nodes last old)
-        (passes : Passes chunks levels nodes' last old new result)
+        (passes : PassesUp chunks levels nodes' last old new result)
         (same_size : length nodes' ≡ length levels) where
       as_many_left : length nodes' ≡ length nodes
       as_many_left = same_size ∙ ap length are

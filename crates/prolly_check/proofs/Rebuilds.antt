@@ -26,9 +26,9 @@ use Rattle.prolly_tree.specs.Tree.{leaves}
 use Rattle.prolly_laws.specs.Stages.{fault_is_prefix, stage_step}
 use Rattle.prolly_chunk.specs.NodeLevel.{NodeState, NodeTakes, node_level}
 use Rattle.prolly_chunk.specs.lemmas.{node_passes}
-use Rattle.prolly_check.specs.Judged.{difference}
-use Rattle.prolly_check.specs.Rebuilt.{sent_through, AreBehind, AreBelow, AreFirst, DifferAs}
-use Rattle.prolly_check.specs.Rebuilt.{AreCompared, IsExpected, Passes}
+use Rattle.prolly_check.specs.FirstFault.{difference}
+use Rattle.prolly_check.specs.Rebuild.{sent_through, AreBehind, AreBelow, AreFirst, DifferAs}
+use Rattle.prolly_check.specs.Rebuild.{AreOrDiffer, IsExpected, PassesUp}
 use Rattle.prolly_check.specs.Verdict.{UnlessMemory}
 use Rattle.prolly_check.specs.declared.verdict.fault.CheckFault.{CheckFault}
 use Rattle.prolly_check.proofs.HeldPairs.{bytes_in, bytes_append}
@@ -225,21 +225,21 @@ leaf_below cut version closing pairs sent last e = search (rules, all_back, leav
 
 -- none is no event
 pub none_passes : (chunks : List (List ℕ)) (levels : List (NodeState ℕ)) (references : List Ref) →
-    Passes chunks levels levels None references references (Ok tt)
+    PassesUp chunks levels levels None references references (Ok tt)
 none_passes chunks levels references bits version level events below behind first =
     rw (append-nil events) (record { behind = behind; compared = first })
 
 module _ (chunks : List (List ℕ)) (old mid : List Ref) (event : Chunk) where
   -- no level is left
   pub top_passes : {A : Type 0} (reference : A) → IsExpected chunks old mid event (Ok reference) →
-      Passes chunks [] [] (Some event) old mid (Ok tt)
+      PassesUp chunks [] [] (Some event) old mid (Ok tt)
   top_passes reference there bits version level events below behind first =
       record { behind = tt; compared = there events first }
 
   -- the file has another chunk in its place
   pub is_refused : (A : Type 0) (levels : List (NodeState ℕ)) (fault : CheckFault) →
       IsExpected {A = A} chunks old mid event (Err fault) →
-      Passes chunks levels levels (Some event) old mid (Err fault)
+      PassesUp chunks levels levels (Some event) old mid (Err fault)
   is_refused A levels fault other bits version level events below behind first =
       let sent = sent_through (sha512_cut bits) version level (length levels) in record {
         behind = tt;
@@ -254,8 +254,8 @@ module _ (chunks : List (List ℕ)) (old mid : List Ref) (event : Chunk) where
       (above above' : List (NodeState ℕ)) (closed : Option Chunk) (new : List Ref)
       (result : Result (Unit {0}) CheckFault) → IsExpected chunks old mid event (Ok next) →
       NodeTakes sha512_cut state state' event closed →
-      Passes chunks above above' closed mid new result →
-      Passes chunks (state ∷ above) (state' ∷ above') (Some event) old new result
+      PassesUp chunks above above' closed mid new result →
+      PassesUp chunks (state ∷ above) (state' ∷ above') (Some event) old new result
   one_level next state state' above above' closed new result there takes passes bits version level
       events below behind first =
       let cut = sha512_cut bits in
@@ -276,7 +276,7 @@ module _ (chunks : List (List ℕ)) (old mid : List Ref) (event : Chunk) where
           takes.state bits version level events behind.0,
           subst (AreBehind bits version (suc level) above') (sym sent) b,
         )) p.behind;
-        compared = subst (λ es. AreCompared chunks
+        compared = subst (λ es. AreOrDiffer chunks
             (sent_through cut version (suc level) (length above') es) new result) (sym sent)
             p.compared;
       }

@@ -9,8 +9,8 @@ use Rattle.std.proofs.lemmas.Grind.{common_steps}
 use Rattle.prolly_entry.specs.Keys.{Rising, RisingFrom}
 use Rattle.prolly_entry.specs.Pair.{Pair}
 use Rattle.prolly_entry.specs.Position.{Position}
-use Rattle.prolly_check.specs.Held.{pairs_held}
-use Rattle.prolly_check.specs.Judged.{RisesTo, order_fault, rises_behind, last_behind}
+use Rattle.prolly_check.specs.HeldPairs.{pairs_held}
+use Rattle.prolly_check.specs.FirstFault.{RisesTo, order_fault, rises_behind, last_behind}
 
 -- ---- pairs behind pairs
 

@@ -31,11 +31,11 @@ use Rattle.prolly_tree.specs.Split.{split}
 use Rattle.prolly_tree.specs.Tree.{LeveledTree, Tree, bytes_of, tree_of}
 use Rattle.prolly_tree.specs.lemmas.Trees.{Full}
 use Rattle.prolly_laws.specs.Trees.{grow_is, tree_full}
-use Rattle.prolly_check.specs.Checked.{HasAt, IsIndex}
+use Rattle.prolly_check.specs.Chunks.{HasAt, IsIndex}
 use Rattle.prolly_check.specs.Numbers.{IsAtPlace, IsLevel, at_level, AreLevels, AreOfMap, AreSo}
-use Rattle.prolly_check.specs.Numbers.{has_reference, lacking, size_of}
+use Rattle.prolly_check.specs.Numbers.{has_reference, lacking, chunks_size}
 use Rattle.prolly_check.specs.Way.{level_of}
-use Rattle.prolly_check.specs.declared.index.Index.{Index}
+use Rattle.prolly_check.specs.declared.chunks.Index.{Index}
 use Rattle.prolly_check.specs.declared.numbers.Level.{Level}
 use Rattle.prolly_check.specs.declared.numbers.Missing.{Missing}
 use Rattle.prolly_check.proofs.CheckedFile.{chunks_last}
@@ -69,7 +69,7 @@ pub record CountedTo (index : Index) (chunks : List (List ℕ)) (n : ℕ) (missi
   pub so : (others : List (List ℕ)) → IsIndex index others →
       AreSo (lacking others (take n chunks)) missing
   pub few : missing.chunks ≤ n
-  pub small : missing.bytes ≤ size_of (take n chunks)
+  pub small : missing.bytes ≤ chunks_size (take n chunks)
 
 -- of whatever chunks the index is, the reference is one of theirs or not
 abbrev pub Tells : Index → List ℕ → Bool → Type 0
@@ -78,18 +78,18 @@ Tells index reference there = (others : List (List ℕ)) → IsIndex index other
 
 -- so many bytes one chunk more has
 size_push : (chunks : List (List ℕ)) (chunk : List ℕ) →
-    size_of (chunks ++ chunk ∷ []) ≡ size_of chunks + length chunk
+    chunks_size (chunks ++ chunk ∷ []) ≡ chunks_size chunks + length chunk
 size_push chunks chunk = ap length (flat_map-append (λ c. c) chunks (chunk ∷ [])) ∙
     length-append (flat_map (λ c. c) chunks) (chunk ++ []) ∙
-    ap (λ bytes. size_of chunks + length bytes) (append-nil chunk)
+    ap (λ bytes. chunks_size chunks + length bytes) (append-nil chunk)
 
 -- the first n + 1 are the first n, and one
 module _ (chunks : List (List ℕ)) (n : ℕ) (h : n < length chunks) where
   abbrev chunk : List ℕ
   chunk = get_or chunks n []
 
-  pub size_more : size_of (take (n + 1) chunks) ≡ size_of (take n chunks) + length chunk
-  size_more = ap size_of (take_more chunks n [] h) ∙ size_push (take n chunks) chunk
+  pub size_more : chunks_size (take (n + 1) chunks) ≡ chunks_size (take n chunks) + length chunk
+  size_more = ap chunks_size (take_more chunks n [] h) ∙ size_push (take n chunks) chunk
 
   module _ (others : List (List ℕ)) where
     more : lacking others (take (n + 1) chunks) ≡ lacking others (take n chunks) ++
@@ -138,9 +138,9 @@ counted index chunks n missing new h e chunks_are bytes_are c = record {
 }
 
 -- the first n are not more than all
-pub size_up_to : (chunks : List (List ℕ)) (n : ℕ) → size_of (take n chunks) ≤ size_of chunks
+pub size_up_to : (chunks : List (List ℕ)) (n : ℕ) → chunks_size (take n chunks) ≤ chunks_size chunks
 size_up_to chunks n =
-    let all = ap size_of (sym (take-append-drop n chunks)) ∙
+    let all = ap chunks_size (sym (take-append-drop n chunks)) ∙
     ap length (flat_map-append (λ c. c) (take n chunks) (drop n chunks)) ∙
     length-append (flat_map (λ c. c) (take n chunks)) (flat_map (λ c. c) (drop n chunks)) in
     omega arith
@@ -218,12 +218,12 @@ module _ (sizes sorted : List ℕ) (moved : IsPermutation sizes sorted)
 
 -- ---- the numbers of chunks
 
-pub sizes_sum : (chunks : List (List ℕ)) → sum (map length chunks) ≡ size_of chunks
+pub sizes_sum : (chunks : List (List ℕ)) → sum (map length chunks) ≡ chunks_size chunks
 sizes_sum chunks = sum-map length chunks ∙ sym (length-flat_map (λ c. c) chunks)
 
 -- some of the chunks have no more bytes than all
 pub size_within : (level : ℕ) (chunks : List (List ℕ)) →
-    size_of (at_level level chunks) ≤ size_of chunks
+    chunks_size (at_level level chunks) ≤ chunks_size chunks
 size_within level chunks =
     let is_there = λ (c : List ℕ). level_of c == level in
     let other = λ (c : List ℕ). not (level_of c == level) in

@@ -28,10 +28,10 @@ use Rattle.prolly_file.specs.Header.{header_tests, header_fault, version_of}
 use Rattle.prolly_check.specs.Content.{Content}
 use Rattle.prolly_check.specs.Entries.{Holds, AllHold, IsRead}
 use Rattle.prolly_check.specs.Frames.{ending_of, IsFramed}
-use Rattle.prolly_check.specs.Held.{pairs_held}
-use Rattle.prolly_check.specs.Judged.{order_fault, difference, end_fault, reuse, chunk_bytes}
-use Rattle.prolly_check.specs.Judged.{ending_for, canonical_fault, judged, rises_behind}
-use Rattle.prolly_check.specs.Judged.{last_behind, or_content}
+use Rattle.prolly_check.specs.HeldPairs.{pairs_held}
+use Rattle.prolly_check.specs.FirstFault.{order_fault, difference, end_fault, reuse, chunk_bytes}
+use Rattle.prolly_check.specs.FirstFault.{ending_for, canonical_fault, judged, rises_behind}
+use Rattle.prolly_check.specs.FirstFault.{last_behind, or_content}
 use Rattle.prolly_check.specs.Verdict.{ReadVerdict, EndVerdict, IsVerdict, AllApart, IsFileOf}
 use Rattle.prolly_check.specs.Verdict.{FramesVerdict, AcceptsFiles}
 use Rattle.prolly_check.specs.declared.verdict.fault.CheckFault.{CheckFault}

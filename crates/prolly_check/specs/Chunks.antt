@@ -12,10 +12,10 @@ use Rattle.prolly_file.specs.declared.format.header.Header.{Header}
 use Rattle.prolly_check.specs.Content.{Content}
 use Rattle.prolly_check.specs.Entries.{AreWhole}
 use Rattle.prolly_check.specs.Frames.{IsWithin, chunks_in}
-use Rattle.prolly_check.specs.Held.{pairs_held}
-use Rattle.prolly_check.specs.Judged.{chunk_bytes, judged}
+use Rattle.prolly_check.specs.HeldPairs.{pairs_held}
+use Rattle.prolly_check.specs.FirstFault.{chunk_bytes, judged}
 use Rattle.prolly_check.specs.Verdict.{IsFileOf, IsVerdict}
-use Rattle.prolly_check.specs.declared.index.Index.{Index}
+use Rattle.prolly_check.specs.declared.chunks.Index.{Index}
 
 -- The references of the chunks, in their order.
 abbrev pub AreReferences : List (List ℕ) → List Ref → Type 0

@@ -11,7 +11,7 @@ use Rattle.prolly_tree.specs.Tree.{Tree, pairs_below, greatest_key, pair_count, 
 use Rattle.prolly_tree.specs.Chunk.{Chunk, chunks, post_order, IsIn}
 use Rattle.prolly_file.specs.Scratch.{keys_in}
 use Rattle.prolly_check.specs.Entries.{Child, first_count}
-use Rattle.prolly_check.specs.Judged.{chunk_bytes}
+use Rattle.prolly_check.specs.FirstFault.{chunk_bytes}
 use Rattle.prolly_check.specs.Kinds.{Entries, kind_of}
 use Rattle.prolly_check.specs.Way.{IsOrdered}
 use Rattle.prolly_check.specs.Kinds.Entries.{Leaf, Node}

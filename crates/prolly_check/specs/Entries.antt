@@ -41,7 +41,7 @@ behind_pair entries = drop (6 + key_length entries + value_length entries) entri
 unfoldable pub pairs_in : List ℕ → List Pair
 pairs_in entries = entries_in first_pair behind_pair entries
 
--- The same of a node's entries.
+-- The entries of a node, one child after another.
 abbrev pub first_child : Version → List ℕ → Child
 first_child version entries = record {
   key = take (key_length entries) (drop 2 entries);

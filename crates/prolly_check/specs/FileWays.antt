@@ -6,7 +6,7 @@ use Rattle.prolly_entry.specs.declared.version.Version.{Version}
 use Rattle.prolly_entry.specs.declared.version.Version.TheVariants.{Two}
 use Rattle.prolly_tree.specs.Chunk.{IsIn}
 use Rattle.prolly_tree.specs.Tree.{Tree, bytes_of, pairs_below}
-use Rattle.prolly_check.specs.Checked.{chunks_of}
+use Rattle.prolly_check.specs.Chunks.{chunks_of}
 use Rattle.prolly_check.specs.Content.{Content, root_bytes}
 use Rattle.prolly_check.specs.Descent.{IsTreeOf}
 use Rattle.prolly_check.specs.Kinds.{kind_of}
@@ -16,9 +16,9 @@ use Rattle.prolly_check.specs.Way.{IsNamed, IsWayTo, level_of}
 use Rattle.prolly_check.specs.declared.look_up.descent.At.{At}
 
 -- It can be sought in chunks of the version: only those of version Two have counts.
-abbrev pub IsCounted : Version → Sought → Type 0
-IsCounted version (Key key) = Unit {0}
-IsCounted version (Number n) = version ≡ Two
+abbrev pub CanBeSought : Version → Sought → Type 0
+CanBeSought version (Key key) = Unit {0}
+CanBeSought version (Number n) = version ≡ Two
 
 -- The chunk of this number in a file.
 abbrev pub nth_chunk : Content → ℕ → List ℕ
@@ -39,17 +39,17 @@ IsNamedAt content number = IsNamed content.version (reference_of (nth_chunk cont
     (nth_chunk content number)
 
 -- A look-up goes on from the one chunk at the other, which stands one level below it.
-pub record IsNext (content : Content) (at next : At) : Type 0 where
+pub record IsNextOnWay (content : Content) (at next : At) : Type 0 where
   pub leads : LeadsOn (sought_of at.sought) (kind_of content.version (nth_chunk content at.number))
       (reference_of (nth_chunk content next.number)) (sought_of next.sought)
   pub falls : level_of (nth_chunk content at.number) ≡
       suc (level_of (nth_chunk content next.number))
   pub top : IsTop content next.number
-  pub counted : IsCounted content.version (sought_of next.sought)
+  pub counted : CanBeSought content.version (sought_of next.sought)
 
 -- A look-up ends at the chunk of this number: some chunks of the file are its way, and this one is
 -- the last of them.
-pub record IsEnd (content : Content) (sought : Sought) (at : At) : Type 0 where
+pub record IsWayEnd (content : Content) (sought : Sought) (at : At) : Type 0 where
   pub chunks : List (List ℕ)
   pub inside : AllByRecursion (λ c. IsIn c (chunks_of content)) chunks
   pub way : IsWayTo content.version (reference_of (root_bytes content)) sought chunks

@@ -13,10 +13,11 @@ use Rattle.prolly_entry.specs.declared.version.Version.{Version}
 use Rattle.prolly_tree.specs.Chunk.{chunks}
 use Rattle.prolly_tree.specs.File.{root_reference}
 use Rattle.prolly_check.specs.Content.{Content}
-use Rattle.prolly_check.specs.Held.{pairs_held}
+use Rattle.prolly_check.specs.HeldPairs.{pairs_held}
 use Rattle.prolly_check.specs.declared.verdict.fault.CheckFault.{CheckFault}
 use Rattle.prolly_check.specs.declared.verdict.fault.CheckFault.TheVariants.{KeysOutOfOrder, BadEnd}
-use Rattle.prolly_check.specs.declared.verdict.fault.CheckFault.TheVariants.{NotCanonical, Collision}
+use Rattle.prolly_check.specs.declared.verdict.fault.CheckFault.TheVariants.{NotCanonical}
+use Rattle.prolly_check.specs.declared.verdict.fault.CheckFault.TheVariants.{Collision}
 
 -- Each key of the pairs is greater than the one before it, the first one greater than the last one
 -- before them.
@@ -100,7 +101,7 @@ abbrev pub ending_of_chunks : List (List ℕ) → List ℕ
 ending_of_chunks chunks = reference_of (get_or chunks (length chunks - 1) []) ++
     to_be_bytes w64 (length chunks)
 
--- This is what is wrong with the keys, the chunks or the end record of a file with these chunks, of
+-- What is wrong with the keys, the chunks or the end record of a file with these chunks, of
 -- the pairs that they hold, where an end record follows them.
 abbrev pub Says : Version → ℕ → List (List ℕ) → List ℕ → Option CheckFault → Type 0
 Says version bits chunks behind fault = (ending : List ℕ) → behind ≡ 0x45 ∷ ending →

@@ -4,5 +4,5 @@ use Rattle.std.specs.Borrow.{Bor}
 use Rattle.prolly_entry.specs.Pair.{Pair}
 
 -- The pair of a key and a value that were found.
-abbrev pub pair_of : Option (Bor (List ℕ) × Bor (List ℕ)) → Option Pair
-pair_of found = option_map (λ parts. record { key = parts.0.now; value = parts.1.now }) found
+abbrev pub pair_found : Option (Bor (List ℕ) × Bor (List ℕ)) → Option Pair
+pair_found found = option_map (λ parts. record { key = parts.0.now; value = parts.1.now }) found

@@ -7,31 +7,31 @@ pub mod Entries
 -- What a look-up seeks, and which child of a node it goes on in. (This project's rules.)
 pub mod Sought
 -- The pairs that chunks hold.
-pub mod Held
+pub mod HeldPairs
 -- What the entries of a chunk are.
 pub mod Kinds
 -- Which bytes are the file of a map, and which fault others have.
 pub mod Verdict
 -- What is wrong with the pairs and the chunks of a file that is well formed: the first fault.
-pub mod Judged
+pub mod FirstFault
 -- What is kept of a file that was accepted, and how its chunks are found by their references.
-pub mod Checked
+pub mod Chunks
 -- The numbers of a tree: its levels, and the chunks that others lack.
 pub mod Numbers
 -- How a look-up goes down a tree.
 pub mod Descent
 -- Pairs that were found by a number.
-pub mod Counted
+pub mod FoundPairs
 -- The pairs of a map from a key on.
 pub mod Leaves
 -- Rebuilding the chunks of pairs one by one, by levels that stand one above another.
-pub mod Rebuilt
+pub mod Rebuild
 -- The way of a look-up down a tree, by the references of its chunks.
 pub mod Way
 -- The way of a scan down a tree, for who knows the root alone.
 pub mod ScanWay
 -- What a look-up comes to at a chunk.
-pub mod Steps
+pub mod Step
 -- Look-ups in a file that was checked.
 pub mod FileWays
 -- What is said of a file that is no chunk file. (This project's texts.)

@@ -4,7 +4,7 @@ use Rattle.std.specs.Prelude.{◌≡◌, ℕ, not, Bool, List, length, ◌-◌, 
 use Rattle.std.specs.Prelude.{slice_get, Some, nat_lt, nat_le, count_by}
 use Rattle.std.specs.Str.{bytes_eq}
 use Rattle.prolly_entry.specs.Reference.{reference_of}
-use Rattle.prolly_check.specs.Checked.{chunks_of}
+use Rattle.prolly_check.specs.Chunks.{chunks_of}
 use Rattle.prolly_check.specs.Content.{Content}
 use Rattle.prolly_check.specs.Way.{level_of}
 use Rattle.prolly_check.specs.declared.numbers.Level.{Level}
@@ -14,20 +14,20 @@ use Rattle.prolly_check.specs.declared.numbers.Missing.{Missing}
 abbrev pub has_reference : List (List ℕ) → List ℕ → Bool
 has_reference chunks reference = list_any (λ c. bytes_eq (reference_of c) reference) chunks
 
--- Those of the chunks whose reference none of the others has, in their order.
+-- The chunks whose reference none of the others has, in their order.
 abbrev pub lacking : List (List ℕ) → List (List ℕ) → List (List ℕ)
 lacking others chunks = filter (λ c. not (has_reference others (reference_of c))) chunks
 
--- So many bytes the chunks have together.
-abbrev pub size_of : List (List ℕ) → ℕ
-size_of chunks = length (flat_map (λ c. c) chunks)
+-- How many bytes the chunks have together.
+abbrev pub chunks_size : List (List ℕ) → ℕ
+chunks_size chunks = length (flat_map (λ c. c) chunks)
 
--- This is the number of the chunks, and of their bytes.
+-- The numbers are those of these chunks and of their bytes.
 pub record AreSo (chunks : List (List ℕ)) (missing : Missing) : Type 0 where
   pub chunks_are : missing.chunks ≡ length chunks
-  pub bytes_are : missing.bytes ≡ size_of chunks
+  pub bytes_are : missing.bytes ≡ chunks_size chunks
 
--- Those of the chunks that are of a level, in their order.
+-- The chunks of a level, in their order.
 abbrev pub at_level : ℕ → List (List ℕ) → List (List ℕ)
 at_level level chunks = filter (λ c. level_of c == level) chunks
 
@@ -41,7 +41,7 @@ pub record IsAtPlace (sizes : List ℕ) (place n : ℕ) : Type 0 where
 pub record IsLevel (chunks : List (List ℕ)) (level : Level) : Type 0 where
   pub some : 0 < length chunks
   pub chunks_are : level.chunks ≡ length chunks
-  pub bytes_are : level.bytes ≡ size_of chunks
+  pub bytes_are : level.bytes ≡ chunks_size chunks
   pub least_is : IsAtPlace (map length chunks) 0 level.least
   pub middle_is : IsAtPlace (map length chunks) (length chunks / 2) level.middle
   pub greatest_is : IsAtPlace (map length chunks) (length chunks - 1) level.greatest

@@ -13,8 +13,8 @@ use Rattle.prolly_tree.specs.Events.{clean, faulty, leaf_events, inner_events}
 use Rattle.prolly_tree.specs.Pipeline.{pipeline_events}
 use Rattle.prolly_chunk.specs.LeafLevel.{leaf_level}
 use Rattle.prolly_chunk.specs.NodeLevel.{NodeState, node_level, NodeBegins}
-use Rattle.prolly_check.specs.Checked.{AreReferences}
-use Rattle.prolly_check.specs.Judged.{difference}
+use Rattle.prolly_check.specs.Chunks.{AreReferences}
+use Rattle.prolly_check.specs.FirstFault.{difference}
 use Rattle.prolly_check.specs.Verdict.{UnlessMemory}
 use Rattle.prolly_check.specs.declared.verdict.fault.CheckFault.{CheckFault}
 use Rattle.prolly_check.specs.declared.verdict.rebuild.Rebuild.{Rebuild}
@@ -52,9 +52,9 @@ DifferAs chunks sent fault = (more : List (List ℕ)) →
 
 -- The chunks that were sent are compared with those of a file: they begin them, and these are their
 -- references; or they differ, unless memory was refused.
-abbrev pub AreCompared : {A : Type 0} → List (List ℕ) → List Chunk → List Ref →
+abbrev pub AreOrDiffer : {A : Type 0} → List (List ℕ) → List Chunk → List Ref →
     Result A CheckFault → Type 0
-AreCompared chunks sent references result =
+AreOrDiffer chunks sent references result =
     MatchResult result (λ done. AreFirst chunks references sent)
     (UnlessMemory (DifferAs chunks sent))
 
@@ -63,7 +63,7 @@ AreCompared chunks sent references result =
 abbrev pub IsExpected : {A : Type 0} → List (List ℕ) → List Ref → List Ref → Chunk →
     Result A CheckFault → Type 0
 IsExpected chunks old new event result = (sent : List Chunk) → AreFirst chunks old sent →
-    AreCompared chunks (sent ++ event ∷ []) new result
+    AreOrDiffer chunks (sent ++ event ∷ []) new result
 
 -- The levels took an event, if there was one, behind others, and what leaves the last one is
 -- compared.
@@ -71,14 +71,14 @@ pub record Passed (bits : ℕ) (version : Version) (chunks : List (List ℕ)) (l
     (new : List (NodeState ℕ)) (events : List Chunk) (references : List Ref)
     (result : Result (Unit {0}) CheckFault) : Type 0 where
   pub behind : OnOk result (AreBehind bits version level new events)
-  pub compared : AreCompared chunks (sent_through (sha512_cut bits) version level (length new)
+  pub compared : AreOrDiffer chunks (sent_through (sha512_cut bits) version level (length new)
       events) references result
 
 -- So they do behind any events, where what has left the last one begins the chunks of the file, and
 -- the first list has its references.
-abbrev pub Passes : List (List ℕ) → List (NodeState ℕ) → List (NodeState ℕ) → Option Chunk →
+abbrev pub PassesUp : List (List ℕ) → List (NodeState ℕ) → List (NodeState ℕ) → Option Chunk →
     List Ref → List Ref → Result (Unit {0}) CheckFault → Type 0
-Passes chunks old new event before after result = (bits : ℕ) (version : Version) (level : ℕ)
+PassesUp chunks old new event before after result = (bits : ℕ) (version : Version) (level : ℕ)
     (events : List Chunk) →
     AreBelow level (option_to_list event) → AreBehind bits version level old events →
     AreFirst chunks before (sent_through (sha512_cut bits) version level (length old) events) →
@@ -117,15 +117,15 @@ Took bits version chunks pairs rebuild result =
     (UnlessMemory (DifferAs chunks (sent_of bits version pairs)))
 
 -- Whatever pairs it took before, it took these behind them.
-abbrev pub Takes : List (List ℕ) → Rebuild → Rebuild → List Pair → Result (Unit {0}) CheckFault →
-    Type 0
-Takes chunks old new taken result = (bits : ℕ) (version : Version) (pairs : List Pair) →
+abbrev pub TakesPairs : List (List ℕ) → Rebuild → Rebuild → List Pair → Result (Unit {0})
+    CheckFault → Type 0
+TakesPairs chunks old new taken result = (bits : ℕ) (version : Version) (pairs : List Pair) →
     HasTaken bits version chunks pairs old → Took bits version chunks (pairs ++ taken) new result
 
 -- All that the last level sends of the pairs that it took begins the chunks of a file, and these
 -- are their references; or it differs, unless memory was refused.
-abbrev pub Ends : List (List ℕ) → Rebuild → Result (Vec Ref) CheckFault → Type 0
-Ends chunks rebuild result = (bits : ℕ) (version : Version) (pairs : List Pair) →
+abbrev pub EndsRebuild : List (List ℕ) → Rebuild → Result (Vec Ref) CheckFault → Type 0
+EndsRebuild chunks rebuild result = (bits : ℕ) (version : Version) (pairs : List Pair) →
     HasTaken bits version chunks pairs rebuild →
     let sent = pipeline_events node_levels (sha512_cut bits) version clean pairs in
     MatchResult result (λ references. AreFirst chunks references.items sent)

@@ -19,7 +19,7 @@ pub data Sought : Type 0 where
   Key : List ℕ → Sought
   Number : ℕ → Sought
 
--- The same of what a call was asked for.
+-- What a call was asked for, as what is sought.
 abbrev pub sought_of : Asked → Sought
 sought_of (AskedKey key) = Key key.now
 sought_of (AskedNumber n) = Number n
@@ -50,7 +50,7 @@ abbrev pub EndsAt : Sought → Entries → Type 0
 EndsAt sought (Leaf pairs) = Unit {0}
 EndsAt sought (Node children) = child_sought sought children ≡ None
 
--- This is the child of these that a look-up goes on in: its number, its reference, and what is
+-- The child of these in which a look-up goes on: its number, its reference, and what is
 -- sought below it.
 pub record IsChildSought (sought : Sought) (children : List Child) (is : ChildSought) : Type 0 where
   pub before : List Child
@@ -61,7 +61,7 @@ pub record IsChildSought (sought : Sought) (children : List Child) (is : ChildSo
   pub reference : is.reference.0 ≡ child.reference
   pub sought_there : child_sought sought children ≡ Some (child, sought_of is.sought)
 
--- The same of entries, which are those of a node.
+-- The entries are those of a node, and this is the child in which a look-up goes on.
 abbrev pub IsChildOf : Sought → Entries → ChildSought → Type 0
 IsChildOf sought (Leaf pairs) is = ⊥
 IsChildOf sought (Node children) is = IsChildSought sought children is

@@ -5,10 +5,10 @@ use Rattle.prolly_entry.specs.Pair.{Pair}
 use Rattle.prolly_entry.specs.Reference.{reference_of}
 use Rattle.prolly_entry.specs.declared.version.Version.{Version}
 use Rattle.prolly_check.specs.Entries.{Holds, IsWhole}
-use Rattle.prolly_check.specs.Held.{pairs_held}
+use Rattle.prolly_check.specs.HeldPairs.{pairs_held}
 use Rattle.prolly_check.specs.Kinds.{kind_of}
 use Rattle.prolly_check.specs.Sought.{Sought, EndsAt, LeadsOn, sought_of}
-use Rattle.prolly_check.specs.Way.{FallsTo, IsNamed, keys_of, level_of}
+use Rattle.prolly_check.specs.Way.{FallsTo, IsNamed, entry_keys, level_of}
 use Rattle.prolly_check.specs.declared.look_up.step.ChunkFlaw.{ChunkFlaw}
 use Rattle.prolly_check.specs.declared.look_up.step.ChunkFlaw.TheVariants.{Entries, Level, Order}
 use Rattle.prolly_check.specs.declared.look_up.step.ChunkFlaw.TheVariants.{Reference}
@@ -24,11 +24,11 @@ IsStep version sought chunk (Below due) =
     LeadsOn sought (kind_of version chunk) due.reference.0 (sought_of due.sought) ×
     (due.above ≡ Some (level_of chunk))
 
--- This is wrong with the chunk first, where one with this reference is due below this level.
-abbrev pub IsFlawed : Version → List ℕ → Option ℕ → List ℕ → ChunkFlaw → Type 0
-IsFlawed version due above chunk Reference = reference_of chunk ≡ due → ⊥
-IsFlawed version due above chunk Entries = (reference_of chunk ≡ due) ×
+-- What is wrong first with a chunk, where one with this reference is due below this level.
+abbrev pub IsFlawedChunk : Version → List ℕ → Option ℕ → List ℕ → ChunkFlaw → Type 0
+IsFlawedChunk version due above chunk Reference = reference_of chunk ≡ due → ⊥
+IsFlawedChunk version due above chunk Entries = (reference_of chunk ≡ due) ×
     ((pairs : List Pair) → Holds version chunk pairs → ⊥)
-IsFlawed version due above chunk Order = (reference_of chunk ≡ due) × IsWhole version chunk ×
-    (Rising (keys_of (kind_of version chunk)) → ⊥)
-IsFlawed version due above chunk Level = IsNamed version due chunk × (FallsTo above chunk → ⊥)
+IsFlawedChunk version due above chunk Order = (reference_of chunk ≡ due) × IsWhole version chunk ×
+    (Rising (entry_keys (kind_of version chunk)) → ⊥)
+IsFlawedChunk version due above chunk Level = IsNamed version due chunk × (FallsTo above chunk → ⊥)

@@ -10,26 +10,26 @@ use Rattle.prolly_entry.specs.declared.version.Version.{Version}
 use Rattle.prolly_tree.specs.File.{file}
 use Rattle.prolly_file.specs.Header.{header_tests, header_fault, version_of}
 use Rattle.prolly_file.specs.declared.format.header.HeaderFault.{HeaderFault}
-use Rattle.prolly_file.specs.declared.whole.WholeFault.{WholeFault}
+use Rattle.prolly_file.specs.declared.device.whole.WholeFault.{WholeFault}
 use Rattle.prolly_check.specs.Content.{Content}
 use Rattle.prolly_check.specs.Entries.{IsRead}
 use Rattle.prolly_check.specs.Frames.{IsFramed}
-use Rattle.prolly_check.specs.Judged.{judged, chunk_bytes}
+use Rattle.prolly_check.specs.FirstFault.{judged, chunk_bytes}
 use Rattle.prolly_check.specs.declared.verdict.fault.CheckFault.{CheckFault}
 use Rattle.prolly_check.specs.declared.verdict.fault.CheckFault.TheVariants.{Memory, Read, TooLong}
 use Rattle.prolly_check.specs.declared.verdict.fault.CheckFault.TheVariants.{BadHeader, Truncated}
 use Rattle.prolly_file.specs.declared.format.header.HeaderFault.TheVariants as header
-use Rattle.prolly_file.specs.declared.whole.WholeFault.TheVariants as whole
+use Rattle.prolly_file.specs.declared.device.whole.WholeFault.TheVariants as whole
 
 -- The fault is want of memory, or it is such a one.
 abbrev pub UnlessMemory : (CheckFault → Type 0) → CheckFault → Type 0
 UnlessMemory P fault = (fault ≡ Memory) ⊎ P fault
 
 -- The fault of reading the bytes, as one of checking.
-abbrev pub fault_of : WholeFault → CheckFault
-fault_of whole.Memory = Memory
-fault_of whole.Read = Read
-fault_of whole.TooLong = TooLong
+abbrev pub read_fault : WholeFault → CheckFault
+read_fault whole.Memory = Memory
+read_fault whole.Read = Read
+read_fault whole.TooLong = TooLong
 
 -- The fault of a header, as one of checking.
 abbrev pub fault_of_header : HeaderFault → CheckFault

@@ -14,8 +14,8 @@ use Rattle.prolly_tree.specs.Difference.{IsMap}
 use Rattle.prolly_tree.specs.File.{root_reference}
 use Rattle.prolly_tree.specs.LookUp.{find, nth}
 use Rattle.prolly_check.specs.Entries.{IsWhole}
-use Rattle.prolly_check.specs.Held.{pairs_held}
-use Rattle.prolly_check.specs.Judged.{chunk_bytes}
+use Rattle.prolly_check.specs.HeldPairs.{pairs_held}
+use Rattle.prolly_check.specs.FirstFault.{chunk_bytes}
 use Rattle.prolly_check.specs.Kinds.{Entries, kind_of}
 use Rattle.prolly_check.specs.Sought.{Sought, EndsAt, LeadsOn}
 use Rattle.prolly_check.specs.Sought.Sought.{Key, Number}
@@ -24,14 +24,14 @@ use Rattle.prolly_check.specs.Kinds.Entries.{Leaf, Node}
 -- ---- one chunk
 
 -- The keys of entries, of pairs or of children.
-abbrev pub keys_of : Entries → List (List ℕ)
-keys_of (Leaf pairs) = map (λ p. p.key) pairs
-keys_of (Node children) = map (λ c. c.key) children
+abbrev pub entry_keys : Entries → List (List ℕ)
+entry_keys (Leaf pairs) = map (λ p. p.key) pairs
+entry_keys (Node children) = map (λ c. c.key) children
 
 -- The chunk is a level and whole lawful entries of that level's kind, whose keys rise.
 pub record IsOrdered (version : Version) (chunk : List ℕ) : Type 0 where
   pub whole : IsWhole version chunk
-  pub rising : Rising (keys_of (kind_of version chunk))
+  pub rising : Rising (entry_keys (kind_of version chunk))
 
 -- The chunk has the reference, and is one that can be read. It is bytes, as chunks in memory always
 -- are: lists of other numbers have references too, and for them two different ones with one
@@ -93,7 +93,8 @@ pub record IsWay (version : Version) (root key : List ℕ) (chunks : List (List 
   pub way : IsWayTo version root (Key key) chunks
   pub value_is : value ≡ find (pairs_held way.last) key
 
--- The same of the pair of a number, or none. Only chunks of version Two have counts.
+-- The chunks are the way to a number, and this is its pair, or none. Only chunks of version Two
+-- have counts.
 pub record IsCountWay (root : List ℕ) (n : ℕ) (chunks : List (List ℕ)) (pair : Option Pair) : Type 0
   where
     pub way : IsWayTo Two root (Number n) chunks

@@ -1,12 +1,14 @@
-//! The entries of leaves.
+//! The entries of a chunk that was tested.
 ghost use Rattle.std.specs.Prelude.{◌≡◌, ◌↔◌, ◌==◌, ◌≤◌, [], ◌∷◌, true, false, List, length};
-ghost use Rattle.std.specs.Prelude.{IsTrue, IfSome, IfNone, MatchOption};
+ghost use Rattle.std.specs.Prelude.{IsTrue, IfSome, IfNone, MatchOption, ◌<◌, ◌-◌, drop};
 ghost use Rattle.prolly_entry.specs.Pair.{Pair as PairValue};
+ghost use Rattle.prolly_entry.specs.Child.{value_of};
 ghost use Rattle.prolly_tree.specs.RecordFile.{record_file};
-ghost use Rattle.prolly_check.specs.Entries.{IsLeaf, pairs_in, IsSomeLeaf, IsWhole};
-ghost use Rattle.prolly_check.specs.Held.{pairs_held};
+ghost use Rattle.prolly_check.specs.Entries.{IsLeaf, pairs_in, IsSomeLeaf, IsWhole, IsNode};
+ghost use Rattle.prolly_check.specs.Entries.{children_in};
+ghost use Rattle.prolly_check.specs.HeldPairs.{pairs_held};
 
-use prolly_entry::{Version, split_pair};
+use prolly_entry::{Child, Version, split_pair};
 use std::marker::Model;
 
 /// The first byte of a leaf: its level.
@@ -104,4 +106,30 @@ pub fn pairs_of(version: Version, chunk: &[u8]) -> Pairs<'_>
         return Pairs::new(&chunk[1..]);
     }
     Pairs::new(&[])
+}
+
+/// The first child of the entries of a node, and the entries behind it. Takes no memory.
+pub fn split_first_child(version: Version, entries: &[u8]) -> Option<(Child<'_>, &[u8])>
+    requires { IsNode version entries.now [] }
+    ensures first { MatchOption result (children_in version entries.now ≡ []) (λ r.
+        children_in version entries.now ≡ value_of r.0 ∷ children_in version r.1.now) }
+    ensures node { IfSome result (λ r. IsNode version r.1.now []) }
+    ensures shorter { IfSome result (λ r. length r.1.now < length entries.now) }
+    ensures behind { IfSome result (λ r.
+        r.1.now ≡ drop (length entries.now - length r.1.now) entries.now) }
+{
+    let (child, rest) = Child::split(version, entries)?;
+    Some((child, rest))
+}
+
+/// Whether the entries are those of a node.
+pub(crate) fn is_node(version: Version, mut entries: &[u8]) -> bool
+    ensures node { result ≡ true → IsNode version entries.now [] }
+    ensures other { result ≡ false →
+        (pairs : List PairValue) → IsNode version entries.now pairs → ⊥ }
+{
+    while let Some((_, rest)) = Child::split(version, entries) {
+        entries = rest;
+    }
+    entries.is_empty()
 }

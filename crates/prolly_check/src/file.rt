@@ -1,14 +1,13 @@
 //! A file that was checked, as look-ups see it.
 ghost use Rattle.std.specs.Prelude.{◌≡◌, ◌<◌, ◌^◌, [], length, get_or};
-ghost use Rattle.prolly_check.specs.Held.{pairs_held};
-ghost use Rattle.prolly_check.specs.Checked.{HasAt, IsIndex, HasFile, HasReference, chunks_of};
-ghost use Rattle.prolly_check.specs.Checked.{content_of};
-ghost use Rattle.prolly_check.specs.Numbers.{AreOfMap, size_of};
+ghost use Rattle.prolly_check.specs.HeldPairs.{pairs_held};
+ghost use Rattle.prolly_check.specs.Chunks.{HasAt, IsIndex, HasFile, HasReference, chunks_of};
+ghost use Rattle.prolly_check.specs.Chunks.{content_of};
+ghost use Rattle.prolly_check.specs.Numbers.{AreOfMap, chunks_size};
 ghost use Rattle.prolly_check.specs.Content.{Content, root_bytes};
 
-use crate::chunks::Chunks;
-use crate::index::Index;
-use crate::leaf::Pairs;
+use crate::chunks::{Chunks, Index};
+use crate::entries::Pairs;
 use prolly_entry::{Ref, Version};
 use prolly_file::Header;
 use std::marker::Model;
@@ -65,7 +64,7 @@ impl<'a> CheckedFile<'a> {
     pub(crate) fn chunks(&self) -> &Chunks<'a>
         ensures chunks { result.now ≡ chunks_of self.now }
         ensures tree { AreOfMap result.now }
-        ensures small { size_of result.now < 2 ^ 64 }
+        ensures small { chunks_size result.now < 2 ^ 64 }
     {
         &self.chunks
     }

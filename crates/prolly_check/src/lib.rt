@@ -2,17 +2,15 @@
 #![tactic(auto)]
 
 mod chunks;
+mod entries;
 mod file;
-mod index;
 pub mod laws;
-mod leaf;
 mod look_up;
-mod node;
 mod numbers;
 mod tree;
 mod verdict;
 
-pub use leaf::{Pairs, pairs_of};
+pub use entries::{Pairs, pairs_of};
 pub use look_up::{
     ChildSought, ChunkFlaw, Due, Leaves, Mark, Sought, Step, falls_to, first_pairs_from,
     pair_sought, step_at, step_of, test_chunk, value_in,

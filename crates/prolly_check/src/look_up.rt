@@ -1,5 +1,4 @@
 //! Look-ups: what they seek, their step at a chunk, how they go down a tree, and what they find.
-
 mod descent;
 mod found;
 mod leaves;
@@ -8,8 +7,8 @@ mod sought;
 mod step;
 
 pub(crate) use descent::way_to;
-pub(crate) use found::{find_nth, find_value};
 pub use found::{pair_sought, value_in};
+pub(crate) use found::{find_nth, find_value};
 pub use leaves::Leaves;
 pub use scan::first_pairs_from;
 pub(crate) use scan::scan_pairs;

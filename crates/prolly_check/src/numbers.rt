@@ -1,13 +1,12 @@
 //! What a tree has, in numbers: its pairs, the bytes of its chunks, its levels, and what who has
 //! another tree lacks of it.
 ghost use Rattle.std.specs.Prelude.{◌≡◌, ◌<◌, ◌^◌, ℕ, List, length, map, sum, IfOk};
-ghost use Rattle.prolly_check.specs.Checked.{AreReferences, IsIndex};
+ghost use Rattle.prolly_check.specs.Chunks.{AreReferences, IsIndex};
 ghost use Rattle.prolly_check.specs.Numbers.{AreLevels, AreOfMap, IsLevel, at_level, AreSo};
-ghost use Rattle.prolly_check.specs.Numbers.{lacking, size_of};
+ghost use Rattle.prolly_check.specs.Numbers.{lacking, chunks_size};
 
-use crate::chunks::Chunks;
-use crate::index::Index;
-use crate::leaf::Pairs;
+use crate::chunks::{Chunks, Index};
+use crate::entries::Pairs;
 use crate::look_up::Leaves;
 use prolly_entry::Ref;
 use std::alloc::{AllocError, Global};
@@ -65,8 +64,8 @@ fn count_in(mut leaf: Pairs) -> u64
 
 /// How many bytes the chunks have together. Takes no memory.
 pub(crate) fn size_in(chunks: &Chunks) -> u64
-    requires { size_of chunks.now < 2 ^ 64 }
-    ensures { result ≡ size_of chunks.now }
+    requires { chunks_size chunks.now < 2 ^ 64 }
+    ensures { result ≡ chunks_size chunks.now }
 {
     let mut size = 0;
     for number in 0..chunks.len() {
@@ -79,7 +78,7 @@ pub(crate) fn size_in(chunks: &Chunks) -> u64
 /// Takes memory for the sizes of one level's chunks at a time, and goes over the chunks for each.
 pub(crate) fn levels_in(alloc: Global, chunks: &Chunks) -> Result<Vec<Level>, AllocError>
     requires tree { AreOfMap chunks.now }
-    requires small { size_of chunks.now < 2 ^ 64 }
+    requires small { chunks_size chunks.now < 2 ^ 64 }
     ensures { IfOk result (λ levels. AreLevels chunks.now levels.items) }
 {
     let root = chunks.len() - 1;
@@ -126,7 +125,7 @@ fn numbers_of(mut sizes: Vec<u64>) -> Level
 /// The chunks whose references the index lacks. Takes no memory and no hash, and looks each
 /// reference up.
 pub(crate) fn missing_in(index: &Index, chunks: &Chunks, references: &[Ref]) -> Missing
-    requires small { size_of chunks.now < 2 ^ 64 }
+    requires small { chunks_size chunks.now < 2 ^ 64 }
     requires references { AreReferences chunks.now references.now }
     ensures { (others : List (List ℕ)) → IsIndex index.now others →
         AreSo (lacking others chunks.now) result }

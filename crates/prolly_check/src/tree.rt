@@ -3,27 +3,26 @@ ghost use Rattle.std.specs.Prelude.{◌≡◌, ◌↔◌, ℕ, ◌^◌, ◌<◌,
 ghost use Rattle.std.specs.Prelude.{Err, OnOk};
 ghost use Rattle.std.specs.List.{AllByRecursion};
 ghost use Rattle.std.specs.Option.{option_copied};
-ghost use Rattle.prolly_tree.specs.Chunk.{chunks};
-ghost use Rattle.prolly_tree.specs.Difference.{IsMap};
 ghost use Rattle.prolly_entry.specs.Cut.{sha512_cut};
 ghost use Rattle.prolly_entry.specs.Pair.{IsPair};
+ghost use Rattle.prolly_tree.specs.Chunk.{chunks};
+ghost use Rattle.prolly_tree.specs.Difference.{IsMap};
 ghost use Rattle.prolly_tree.specs.File.{root_reference};
 ghost use Rattle.prolly_tree.specs.LookUp.{find, nth, scan};
 ghost use Rattle.prolly_tree.specs.RecordFile.{record_file};
 ghost use Rattle.prolly_file.specs.Sink.{IsSettled};
 ghost use Rattle.prolly_file.specs.Writes.{Writes};
 ghost use Rattle.prolly_check.specs.Content.{Content};
-ghost use Rattle.prolly_check.specs.Counted.{pair_of};
+ghost use Rattle.prolly_check.specs.FoundPairs.{pair_found};
 ghost use Rattle.prolly_check.specs.Verdict.{UnlessMemory, IsVerdict, IsFileOf};
 ghost use Rattle.prolly_check.specs.Way.{IsWay};
-ghost use Rattle.prolly_check.specs.Checked.{AreReferences, HasFile, IsChecked, IsFile, chunks_of};
+ghost use Rattle.prolly_check.specs.Chunks.{AreReferences, HasFile, IsChecked, IsFile, chunks_of};
 ghost use Rattle.prolly_check.specs.Frames.{chunks_in};
 ghost use Rattle.prolly_check.specs.Leaves.{pairs_from};
-ghost use Rattle.prolly_check.specs.Numbers.{AreLevels, AreOfMap, AreSo, lacking, size_of};
+ghost use Rattle.prolly_check.specs.Numbers.{AreLevels, AreOfMap, AreSo, lacking, chunks_size};
 
-use crate::chunks::{Chunks, Layout};
+use crate::chunks::{Chunks, Index, Layout};
 use crate::file::CheckedFile;
-use crate::index::Index;
 use crate::look_up::{Leaves, find_nth, find_value, scan_pairs, way_to};
 use crate::numbers::{Level, Missing, count_pairs, levels_in, missing_in, size_in};
 use crate::verdict::{CheckFault, inspect};
@@ -101,7 +100,7 @@ impl Tree {
     /// file.
     pub fn size(&self) -> u64
         ensures { (content : Content) → IsFileOf self.now content →
-            result ≡ size_of (chunks_of content) }
+            result ≡ chunks_size (chunks_of content) }
     {
         size_in(self.file().chunks())
     }
@@ -168,7 +167,7 @@ impl Tree {
     /// One have none: there the answer is an error, whatever the number.
     pub fn nth(&self, n: u64) -> Result<Option<(&[u8], &[u8])>, NoCounts>
         ensures found { IfOk result (λ found. (content : Content) → IsFileOf self.now content →
-            pair_of found ≡ nth content.pairs n) }
+            pair_found found ≡ nth content.pairs n) }
         ensures uncounted { (content : Content) → IsFileOf self.now content →
             IsErr result ↔ (content.version ≡ Version.One) }
     {

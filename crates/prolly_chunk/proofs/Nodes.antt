@@ -22,7 +22,8 @@ use Rattle.prolly_laws.specs.Stages.{stage_step}
 use Rattle.prolly_chunk.specs.declared.node.Received.{Received}
 use Rattle.prolly_chunk.specs.declared.node.Received.TheVariants.{Nothing}
 use Rattle.prolly_chunk.specs.Chunk.{empty_chunk, with_child, has_entries}
-use Rattle.prolly_chunk.specs.NodeLevel.{NodeState, received_of, one_more, is_several, children_at}
+use Rattle.prolly_chunk.specs.NodeLevel.{NodeState, received_of, one_more_received, is_several}
+use Rattle.prolly_chunk.specs.NodeLevel.{children_at}
 use Rattle.prolly_chunk.specs.NodeLevel.{node_level, NodeBegins, NodeTakes, NodeEnds}
 use Rattle.prolly_chunk.specs.lemmas.{children_more, Goes}
 use Rattle.prolly_chunk.proofs.Keys.{same_chunk}
@@ -51,7 +52,7 @@ entry_long version e = omega (
 )
 
 received_of-snoc : (es : List Chunk) (e : Chunk) →
-    received_of (es ++ e ∷ []) ≡ one_more (received_of es)
+    received_of (es ++ e ∷ []) ≡ one_more_received (received_of es)
 received_of-snoc [] e = refl
 received_of-snoc (f ∷ []) e = refl
 received_of-snoc (f ∷ g ∷ es) e = refl
@@ -112,7 +113,7 @@ module _ (cut : Cut) (version : Version) (below : ℕ) where
         (with_child version (open_node events) e))
     node : open_node (events ++ e ∷ []) ≡ cond (closes cut version (open_node events) e)
         (empty_chunk (suc below)) (with_child version (open_node events) e)
-    received : received_of (children (events ++ e ∷ [])) ≡ one_more (received_of (children events))
+    received : received_of (children (events ++ e ∷ [])) ≡ one_more_received (received_of (children events))
 
   as_list : (b : Bool) (x : Chunk) → cond b (x ∷ []) [] ≡ option_to_list (some_if b x)
   as_list true x = refl
@@ -211,7 +212,7 @@ module _ {C : Type 0} (cut_of : C → Cut) where
       is_last ≡ closes (cut_of old.cut) old.version old.node event →
       closed ≡ some_if is_last after → node ≡ cond is_last (empty_chunk after.level) after →
       Goes cut_of cut version level events event
-      (state old.cut old.version node (one_more old.received)) closed
+      (state old.cut old.version node (one_more_received old.received)) closed
 
   takes_behind : (after node event : Chunk) (closed : Option Chunk) (is_last : Bool) (cut : C)
       (version : Version) (level : ℕ) (events : List Chunk) →
@@ -223,7 +224,7 @@ module _ {C : Type 0} (cut_of : C → Cut) where
       let step = node_step (cut_of cut) version below events event
       (eq-eqb event.level below (omega arith)) in
       let chunk = with_child version (open_node (cut_of cut) version below events) event in (
-        ap (λ x. state cut version x (one_more
+        ap (λ x. state cut version x (one_more_received
             (received_of (children (cut_of cut) version below events))))
             (n ∙ ap (λ (x : Chunk). cond is_last (empty_chunk x.level) x) a ∙
             ap (λ b. cond b (empty_chunk (suc below)) chunk) i ∙ sym step.node)
@@ -237,7 +238,7 @@ module _ {C : Type 0} (cut_of : C → Cut) where
   -- What the level's code does with an event of the level below is what `NodeTakes` says.
   pub node_takes : (old : NodeState C) (cut : C) (version : Version) (before after node : Chunk)
       (received received' : Received) (event : Chunk) (closed : Option Chunk) (is_last : Bool) →
-      state cut version before received ≡ old → received' ≡ one_more received → 1 ≤ before.level →
+      state cut version before received ≡ old → received' ≡ one_more_received received → 1 ≤ before.level →
       event.level ≡ before.level - 1 →
       after ≡ with_child version before event → is_last ≡ closes (cut_of cut) version before event →
       closed ≡ some_if is_last after → node ≡ cond is_last (empty_chunk after.level) after →
@@ -253,7 +254,7 @@ module _ {C : Type 0} (cut_of : C → Cut) where
     where
       at : (cut' : C) (version' : Version) (level : ℕ) (events : List Chunk) →
           state cut version before received ≡ node_level cut_of cut' version' level events →
-          Goes cut_of cut' version' level events event (state cut version node (one_more received))
+          Goes cut_of cut' version' level events event (state cut version node (one_more_received received))
           closed
       at cut' version' level events e = subst (Takes after node event closed is_last cut' version'
           level events) (sym e)

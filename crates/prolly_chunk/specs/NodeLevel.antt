@@ -24,10 +24,10 @@ received_of [] = Nothing
 received_of (e ∷ []) = Single
 received_of (e ∷ f ∷ es) = Several
 
-abbrev pub one_more : Received → Received
-one_more Nothing = Single
-one_more Single = Several
-one_more Several = Several
+abbrev pub one_more_received : Received → Received
+one_more_received Nothing = Single
+one_more_received Single = Several
+one_more_received Several = Several
 
 abbrev pub is_several : Received → Bool
 is_several Nothing = false

@@ -1,6 +1,6 @@
 //! A level of nodes.
 ghost use Rattle.std.specs.Prelude.{◌≡◌, ◌≤◌, IfOk};
-ghost use Rattle.prolly_chunk.specs.NodeLevel.{NodeBegins, NodeTakes, NodeEnds, one_more};
+ghost use Rattle.prolly_chunk.specs.NodeLevel.{NodeBegins, NodeTakes, NodeEnds, one_more_received};
 ghost use Rattle.prolly_chunk.specs.NodeLevel.{is_several};
 
 use crate::chunk::Chunk;
@@ -20,7 +20,7 @@ enum Received {
 
 impl Received {
     fn one_more(self) -> Received
-        ensures { result ≡ one_more self }
+        ensures { result ≡ one_more_received self }
     {
         match self {
             Received::Nothing => Received::Single,

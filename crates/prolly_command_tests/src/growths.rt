@@ -12,7 +12,7 @@ use prolly_file::{FromRead, ScriptSink};
 use prolly_tool::{
     Answer, LineForm, LinesFault, Notation, PackFault, RecordForm, answer_check, answer_dump,
     answer_get, answer_nth, answer_pack, answer_prove, answer_scan, answer_scratch, answer_verify,
-    pack_lines_as,
+    pack_lines_in,
 };
 use std::alloc::{AllocError, Global};
 use std::process::Abort;
@@ -179,7 +179,7 @@ fn expect_packed(
         removals: false,
     };
     let mut out = b"kept".to_vec(alloc)?;
-    match pack_lines_as(alloc, form, line, &mut out) {
+    match pack_lines_in(alloc, form, line, &mut out) {
         Ok(count) => {
             expect_eq(rt, &count, &1);
             expect_bytes(rt, &out, b"kept\0\x01a\0\0\0\x011");

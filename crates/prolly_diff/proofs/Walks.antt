@@ -16,7 +16,8 @@ use Rattle.prolly_tree.specs.LookUp.{find}
 use Rattle.prolly_tree.specs.lemmas.Differences.{differ_nowhere, shared_first, removed_first}
 use Rattle.prolly_tree.specs.lemmas.Differences.{added_first, changed_first}
 use Rattle.prolly_tree.specs.lemmas.Maps.{Above, find_above, map_behind, rises}
-use Rattle.prolly_diff.specs.Walk.{Maps, AreMaps, AreAlike, IsEnd, IsFirstChange, TakesLeast}
+use Rattle.prolly_diff.specs.Differences.{Maps, AreMaps, AreAlike, IsWalkEnd, IsFirstChange}
+use Rattle.prolly_diff.specs.Differences.{TakesLeast}
 
 -- Maps begin like themselves.
 pub alike_none : (maps : Maps) → AreAlike maps maps
@@ -192,7 +193,7 @@ changed maps mid rest o n m s h differ = rw h.2 (change_behind maps mid rest n.k
 
 -- Where nothing is left behind what both begin with, the maps are the same.
 pub no_change : (maps mid rest : Maps) → AreMaps maps → AreAlike maps mid →
-    TakesLeast mid None None rest → IsEnd maps rest
+    TakesLeast mid None None rest → IsWalkEnd maps rest
 no_change maps mid rest m s h = record {
   same = rw (s.before_is, s.after_is) (shared_first s.shared mid.before
       mid.after [] (subst IsMap s.before_is m.0) (subst IsMap s.after_is m.1)

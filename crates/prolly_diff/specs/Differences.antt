@@ -66,7 +66,7 @@ pub record IsFirstChange (maps : Maps) (key : List ℕ) (before after : Option (
   pub less : length rest.before + length rest.after < length maps.before + length maps.after
 
 -- The maps are the same, and nothing is left of them.
-pub record IsEnd (maps rest : Maps) : Type 0 where
+pub record IsWalkEnd (maps rest : Maps) : Type 0 where
   pub same : IsDifference maps.before maps.after []
   pub before_is : rest.before ≡ []
   pub after_is : rest.after ≡ []

@@ -1,2 +1,2 @@
 -- What a walk over two maps comes to.
-pub mod Walk
+pub mod Differences

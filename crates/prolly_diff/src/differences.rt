@@ -1,15 +1,15 @@
 //! The walk over two trees.
 ghost use Rattle.std.specs.Prelude.{◌≡◌, MatchOption};
-ghost use Rattle.std.specs.Option.{option_copied};
+ghost use Rattle.std.specs.Option.{option_copied, option_map};
 ghost use Rattle.prolly_tree.specs.Difference.{IsMap};
 ghost use Rattle.prolly_check.specs.Content.{Content};
 ghost use Rattle.prolly_check.specs.Verdict.{IsFileOf};
-ghost use Rattle.prolly_diff.specs.Walk.{IsEnd, IsFirstChange};
+ghost use Rattle.prolly_diff.specs.Differences.{IsWalkEnd, IsFirstChange, IsOrder, TakesLeast};
 
-use crate::change::Change;
-use crate::least::take_least;
 use crate::side::{Side, pass_shared};
 use prolly_check::Tree;
+use prolly_entry::key_order;
+use std::cmp::Ordering;
 use std::marker::Model;
 
 /// The changes that are left between two maps, in the order of their keys. Contracts see the two
@@ -26,7 +26,7 @@ pub struct Differences<'a> {
 
 impl<'a> Model for Differences<'a> {
     ghost use Rattle.prolly_tree.specs.Difference.{IsMap};
-    ghost use Rattle.prolly_diff.specs.Walk.{Maps};
+    ghost use Rattle.prolly_diff.specs.Differences.{Maps};
 
     ghost Value = { Maps };
 
@@ -52,7 +52,7 @@ impl<'a> Differences<'a> {
     /// The next change, or none where the rest of both maps is the same. Behind that nothing is left
     /// of either, so there is none at each further call.
     pub fn next(&mut self) -> Option<Change<'a>>
-        ensures { MatchOption result (IsEnd self.old self.new)
+        ensures { MatchOption result (IsWalkEnd self.old self.new)
             (λ change. IsFirstChange self.old change.key.now (option_copied change.before)
             (option_copied change.after) self.new) }
     {
@@ -63,7 +63,7 @@ impl<'a> Differences<'a> {
 /// The next change between two sides.
 fn next_change<'a>(before: &mut Side<'a>, after: &mut Side<'a>) -> Option<Change<'a>>
     requires { IsMap before.old × IsMap after.old }
-    ensures change { MatchOption result (IsEnd
+    ensures change { MatchOption result (IsWalkEnd
         (record { before = before.old; after = after.old })
         (record { before = before.new; after = after.new }))
         (λ change. IsFirstChange (record { before = before.old; after = after.old })
@@ -83,5 +83,62 @@ fn next_change<'a>(before: &mut Side<'a>, after: &mut Side<'a>) -> Option<Change
             (None, Some((key, new))) => return Some(Change::of(key, None, Some(new))),
             (None, None) => return None,
         }
+    }
+}
+
+/// What a key has in two maps, where that is not the same: a value, or nothing.
+///
+/// The key is new where there was nothing before, and is removed where there is nothing after.
+#[derive(Clone, Copy)]
+pub struct Change<'a> {
+    /// The key.
+    pub key: &'a [u8],
+    /// What the old map has.
+    pub before: Option<&'a [u8]>,
+    /// What the new map has.
+    pub after: Option<&'a [u8]>,
+}
+
+impl<'a> Change<'a> {
+    /// What a key had, and what it has.
+    pub(crate) fn of(key: &'a [u8], before: Option<&'a [u8]>, after: Option<&'a [u8]>) -> Change<'a>
+        ensures key { result.key.now ≡ key.now }
+        ensures before { option_copied result.before ≡ option_copied before.entry }
+        ensures after { option_copied result.after ≡ option_copied after.entry }
+    {
+        Change { key, before, after }
+    }
+}
+
+/// A key and its value.
+type Entry<'a> = (&'a [u8], &'a [u8]);
+
+/// Takes what the two sides have of the least key that either has, the one or both of them.
+pub(crate) fn take_least<'a>(
+    before: &mut Side<'a>,
+    after: &mut Side<'a>,
+) -> (Option<Entry<'a>>, Option<Entry<'a>>)
+    requires { IsMap before.old × IsMap after.old }
+    ensures { TakesLeast (record { before = before.old; after = after.old })
+        (option_map (λ p. record { key = p.0.now; value = p.1.now }) result.0)
+        (option_map (λ p. record { key = p.0.now; value = p.1.now }) result.1)
+        (record { before = before.new; after = after.new }) }
+{
+    match entry_order(before.peek(), after.peek()) {
+        Ordering::Less => (before.take(), None),
+        Ordering::Greater => (None, after.take()),
+        Ordering::Equal => (before.take(), after.take()),
+    }
+}
+
+/// Which of two entries comes first: where there is none, the other one.
+fn entry_order(before: Option<Entry<'_>>, after: Option<Entry<'_>>) -> Ordering
+    ensures { IsOrder (option_map (λ p. record { key = p.0.now; value = p.1.now }) before.entry)
+        (option_map (λ p. record { key = p.0.now; value = p.1.now }) after.entry) result }
+{
+    match (before, after) {
+        (Some((before, _)), Some((after, _))) => key_order(before, after),
+        (Some(_), None) => Ordering::Less,
+        (None, _) => Ordering::Greater,
     }
 }

@@ -4,10 +4,7 @@
 //! are passed over, and only the others are read pair by pair.
 #![tactic(auto)]
 
-mod change;
 mod differences;
-mod least;
 mod side;
 
-pub use change::Change;
-pub use differences::Differences;
+pub use differences::{Change, Differences};

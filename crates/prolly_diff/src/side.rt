@@ -1,6 +1,6 @@
 //! One of two maps, from where a walk stands.
 ghost use Rattle.std.specs.Prelude.{◌≡◌, ◌<◌, [], ◌∷◌, ◌++◌, true, false, length, MatchOption};
-ghost use Rattle.prolly_diff.specs.Walk.{pairs_in, StartsWith, AreAlike};
+ghost use Rattle.prolly_diff.specs.Differences.{pairs_in, StartsWith, AreAlike};
 
 use prolly_check::{Leaves, Pairs};
 use std::marker::Model;
@@ -16,7 +16,7 @@ pub(crate) struct Side<'a> {
 impl<'a> Model for Side<'a> {
     ghost use Rattle.std.specs.Prelude.{◌++◌, List};
     ghost use Rattle.prolly_entry.specs.Pair.{Pair as PairValue};
-    ghost use Rattle.prolly_diff.specs.Walk.{pairs_in};
+    ghost use Rattle.prolly_diff.specs.Differences.{pairs_in};
 
     ghost Value = { List PairValue };
 

@@ -12,8 +12,8 @@ use Rattle.prolly_entry.specs.Record.{Record, IsRecord, keys_of}
 use Rattle.prolly_entry.specs.Spelling.{record_spelling}
 use Rattle.prolly_entry.specs.Keys.{key_order, Rising, RisingFrom}
 use Rattle.prolly_entry.specs.Position.{Position, last_position, is_before}
-use Rattle.prolly_entry.specs.declared.flaw.Flaw.{Flaw}
-use Rattle.prolly_entry.specs.declared.flaw.Flaw.TheVariants as flaws
+use Rattle.prolly_entry.specs.declared.next.Flaw.{Flaw}
+use Rattle.prolly_entry.specs.declared.next.Flaw.TheVariants as flaws
 use Rattle.prolly_entry.specs.Reading.{Begins, EndsIn, IsReading, next_flaw}
 use Rattle.prolly_entry.specs.Front.{IsRecordAt}
 use Rattle.prolly_entry.specs.NextRecord.{IsNext, IsUndecided, IsFlawed}

@@ -12,8 +12,8 @@ use Rattle.prolly_entry.specs.declared.front.FrontRecord.TheVariants.{ValueTooLo
 use Rattle.prolly_entry.specs.Record.{Record, IsRecord}
 use Rattle.prolly_entry.specs.Spelling.{record_spelling}
 use Rattle.prolly_entry.specs.Position.{Position}
-use Rattle.prolly_entry.specs.declared.flaw.Flaw.{Flaw}
-use Rattle.prolly_entry.specs.declared.flaw.Flaw.TheVariants as flaws
+use Rattle.prolly_entry.specs.declared.next.Flaw.{Flaw}
+use Rattle.prolly_entry.specs.declared.next.Flaw.TheVariants as flaws
 use Rattle.prolly_entry.specs.Front.{front_of, IsRecordAt}
 use Rattle.prolly_entry.specs.Reading.{key_length, value_length, flaw_by, next_flaw, order_flaw}
 use Rattle.prolly_entry.proofs.FrontCases.{Shape, shape, more_same}

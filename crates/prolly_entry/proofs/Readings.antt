@@ -8,8 +8,8 @@ use Rattle.prolly_entry.specs.declared.front.FrontRecord.TheVariants.{Put, Remov
 use Rattle.prolly_entry.specs.declared.front.FrontRecord.TheVariants.{ValueTooLong}
 use Rattle.prolly_entry.specs.Record.{Record}
 use Rattle.prolly_entry.specs.Position.{last_position, is_before}
-use Rattle.prolly_entry.specs.declared.flaw.Flaw.{Flaw}
-use Rattle.prolly_entry.specs.declared.flaw.Flaw.TheVariants as flaws
+use Rattle.prolly_entry.specs.declared.next.Flaw.{Flaw}
+use Rattle.prolly_entry.specs.declared.next.Flaw.TheVariants as flaws
 use Rattle.prolly_entry.specs.Reading.{Begins, HasReading, SomeReading}
 use Rattle.prolly_entry.specs.Front.{front_of, put_at, removal_at, IsRecordAt, IsFrontRecord}
 use Rattle.prolly_entry.specs.NextRecord.{IsFlawed}

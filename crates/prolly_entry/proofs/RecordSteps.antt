@@ -3,8 +3,8 @@ use Rattle.std.proofs.Common.{◌≡◌, ℕ, ◌+◌, ◌<◌, List, [], ◌∷
 use Rattle.std.proofs.Common.{refl, sym, ap, ◌∙◌, subst, arith, length-append}
 use Rattle.std.proofs.lemmas.List.{append-nil}
 use Rattle.std.proofs.lemmas.List.Concat.{flat_map-append}
-use Rattle.prolly_entry.specs.declared.flaw.Flaw.{Flaw}
-use Rattle.prolly_entry.specs.declared.flaw.Flaw.TheVariants as flaws
+use Rattle.prolly_entry.specs.declared.next.Flaw.{Flaw}
+use Rattle.prolly_entry.specs.declared.next.Flaw.TheVariants as flaws
 use Rattle.prolly_entry.specs.declared.record_file.RecordFault.{RecordFault}
 use Rattle.prolly_entry.specs.Keys.{Rising}
 use Rattle.prolly_entry.specs.Pair.{Pair}
@@ -13,7 +13,7 @@ use Rattle.prolly_entry.specs.Position.{Position, last_position}
 use Rattle.prolly_entry.specs.Reading.{Begins, IsReading}
 use Rattle.prolly_entry.specs.Overlay.{pairs_put, pairs_of_change, raw_overlay}
 use Rattle.prolly_entry.specs.NextRecord.{IsNext, IsUndecided, IsFlawed}
-use Rattle.prolly_entry.specs.RecordList.{ArePairsOf, HasFlawAt, IsFaultOf, fault_of}
+use Rattle.prolly_entry.specs.RecordList.{ArePairsOf, HasFlawAt, IsFaultOf, record_fault}
 use Rattle.prolly_entry.specs.lemmas.Overlays.{overlay_is}
 use Rattle.prolly_entry.proofs.Endings.{begins_more, begins_none, last_more, ends_clean}
 use Rattle.prolly_entry.proofs.Endings.{ends_flawed, ends_cut}
@@ -89,7 +89,7 @@ cut_inside bytes limit rest count position pairs h k some = record {
 pub refused : (bytes : List ℕ) (limit : ℕ) (rest : List ℕ) (count : ℕ) (position : Position)
     (pairs : List Pair) (flaw : Flaw) (fault : RecordFault) →
     IsUnderWay bytes limit rest count position pairs → IsFlawed limit count position rest flaw →
-    fault ≡ fault_of flaw count → IsFaultOf bytes limit fault
+    fault ≡ record_fault flaw count → IsFaultOf bytes limit fault
 refused bytes limit rest count position pairs flaw fault h k f =
     subst (λ x. IsFaultOf bytes limit x) (sym f) (go flaw k)
   where
@@ -98,7 +98,7 @@ refused bytes limit rest count position pairs flaw fault h k f =
         (rw (← h.count_is, ← h.position_is) q)
 
     go : (flaw : Flaw) → IsFlawed limit count position rest flaw →
-        IsFaultOf bytes limit (fault_of flaw count)
+        IsFaultOf bytes limit (record_fault flaw count)
     go flaws.Truncated q = record { good = h.good; reading = ends _ q; place_is = h.count_is }
     go flaws.KeyTooLong q = record { good = h.good; reading = ends _ q; place_is = h.count_is }
     go flaws.ValueTooLong q = record { good = h.good; reading = ends _ q; place_is = h.count_is }

@@ -18,7 +18,7 @@ pub record IsRecordAt (bytes : List ℕ) (r : Record) (len : ℕ) : Type 0 where
   pub size : length (record_spelling r) ≡ len
   pub within : len ≤ length bytes
 
--- The same of a pair.
+-- The spelling of this lawful pair, of this length, begins the bytes.
 pub record IsPairAt (bytes : List ℕ) (p : Pair) (len : ℕ) : Type 0 where
   pub lawful : IsPair p
   pub spelled : bytes ≡ pair_spelling p ++ drop len bytes
@@ -78,7 +78,7 @@ IsFrontRecord bytes KeyTooLong = NoRecordAt bytes × HasLongKey bytes
 IsFrontRecord bytes ValueTooLong = NoRecordAt bytes × HasLongValue bytes ×
     (value_length bytes ≢ 0xFFFF_FFFF)
 
--- The same as a function that computes: of `size` bytes that spell a key of n bytes and the number
+-- What bytes begin with, computed: of `size` bytes that spell a key of n bytes and the number
 -- m for the value's length.
 abbrev pub front_by : ℕ → ℕ → ℕ → FrontRecord
 front_by size n m =

@@ -12,7 +12,7 @@ pub data ComesBefore : List ℕ → List ℕ → Type 0 where
   is_less : (same : List ℕ) (a b : ℕ) (x y : List ℕ) → a < b →
       ComesBefore (same ++ a ∷ x) (same ++ b ∷ y)
 
--- The same as a comparison that computes: byte by byte.
+-- The order of two keys, computed byte by byte.
 abbrev pub key_order : List ℕ → List ℕ → Ordering
 key_order x y = slice_cmp nat_cmp x y
 

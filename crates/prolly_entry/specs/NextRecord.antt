@@ -1,8 +1,8 @@
 -- What the bytes at hand say of the next record, where more bytes may follow them. (This project's
 -- rules.)
 use Rattle.std.specs.Prelude.{◌≡◌, ◌≢◌, ℕ, ◌<◌, true, List, ◌++◌, length, Some}
-use Rattle.prolly_entry.specs.declared.flaw.Flaw.{Flaw}
-use Rattle.prolly_entry.specs.declared.flaw.Flaw.TheVariants.{Truncated}
+use Rattle.prolly_entry.specs.declared.next.Flaw.{Flaw}
+use Rattle.prolly_entry.specs.declared.next.Flaw.TheVariants.{Truncated}
 use Rattle.prolly_entry.specs.declared.next.NextRecord.{NextRecord}
 use Rattle.prolly_entry.specs.declared.next.NextRecord.TheVariants as next
 use Rattle.prolly_entry.specs.Record.{Record}

@@ -4,9 +4,9 @@ use Rattle.std.specs.Prelude.{◌≡◌, ℕ, ◌+◌, ◌≤◌, nat_lt, ◌==�
 use Rattle.std.specs.Prelude.{drop, All, Option, Some, None, if◌then◌else◌}
 use Rattle.std.specs.Int.{w16, w32, from_be_bytes}
 use Rattle.std.specs.List.{flat_map, AllByRecursion}
-use Rattle.prolly_entry.specs.declared.flaw.Flaw.{Flaw}
-use Rattle.prolly_entry.specs.declared.flaw.Flaw.TheVariants.{Truncated, KeyTooLong, ValueTooLong}
-use Rattle.prolly_entry.specs.declared.flaw.Flaw.TheVariants.{OutOfOrder, TooManyRecords}
+use Rattle.prolly_entry.specs.declared.next.Flaw.{Flaw}
+use Rattle.prolly_entry.specs.declared.next.Flaw.TheVariants.{Truncated, KeyTooLong, ValueTooLong}
+use Rattle.prolly_entry.specs.declared.next.Flaw.TheVariants.{OutOfOrder, TooManyRecords}
 use Rattle.prolly_entry.specs.Byte.{IsByte}
 use Rattle.prolly_entry.specs.Keys.{Rising}
 use Rattle.prolly_entry.specs.Prefix.{IsPrefix}
@@ -49,7 +49,7 @@ flaw_by limit count size n m order =
     else (if nat_lt size (6 + n + m) then Some Truncated
     else order))))))
 
--- The same of the bytes that follow, where the last good record's key is the position.
+-- The flaw of the bytes that follow, where the last good record's key is the position.
 abbrev pub next_flaw : ℕ → ℕ → Position → List ℕ → Option Flaw
 next_flaw limit count position rest =
     flaw_by limit count (length rest) (key_length rest) (value_length rest)

@@ -1,6 +1,6 @@
 -- Where the parts of a record lie in the bytes that it begins.
 use Rattle.std.specs.Prelude.{ℕ, ◌-◌, ◌≤◌, List, length, take, drop, option_map, IfSome}
-use Rattle.prolly_entry.specs.declared.record_at.RecordAt.{RecordAt}
+use Rattle.prolly_entry.specs.declared.next.RecordAt.{RecordAt}
 use Rattle.prolly_entry.specs.Record.{Record}
 
 -- The record whose parts lie there.

@@ -1,7 +1,7 @@
 -- What all records of bytes are.
 use Rattle.std.specs.Prelude.{◌≡◌, ℕ, List, [], ◌∷◌, length, Some, None}
-use Rattle.prolly_entry.specs.declared.flaw.Flaw.{Flaw}
-use Rattle.prolly_entry.specs.declared.flaw.Flaw.TheVariants as flaws
+use Rattle.prolly_entry.specs.declared.next.Flaw.{Flaw}
+use Rattle.prolly_entry.specs.declared.next.Flaw.TheVariants as flaws
 use Rattle.prolly_entry.specs.declared.record_file.RecordFault.{RecordFault}
 use Rattle.prolly_entry.specs.declared.record_file.RecordFault.TheVariants.{Memory, Truncated}
 use Rattle.prolly_entry.specs.declared.record_file.RecordFault.TheVariants.{KeyTooLong}
@@ -41,9 +41,9 @@ IsFaultOf bytes limit (OutOfOrder place) = HasFlawAt bytes limit place flaws.Out
 IsFaultOf bytes limit TooManyRecords = HasFlaw bytes limit flaws.TooManyRecords
 
 -- A flaw with its place.
-abbrev pub fault_of : Flaw → ℕ → RecordFault
-fault_of flaws.Truncated place = Truncated place
-fault_of flaws.KeyTooLong place = KeyTooLong place
-fault_of flaws.ValueTooLong place = ValueTooLong place
-fault_of flaws.OutOfOrder place = OutOfOrder place
-fault_of flaws.TooManyRecords place = TooManyRecords
+abbrev pub record_fault : Flaw → ℕ → RecordFault
+record_fault flaws.Truncated place = Truncated place
+record_fault flaws.KeyTooLong place = KeyTooLong place
+record_fault flaws.ValueTooLong place = ValueTooLong place
+record_fault flaws.OutOfOrder place = OutOfOrder place
+record_fault flaws.TooManyRecords place = TooManyRecords

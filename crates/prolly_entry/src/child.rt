@@ -1,16 +1,15 @@
 //! Child entries of the chunk file, as they are appended and found at the front of bytes.
-ghost use Rattle.std.specs.Prelude.{◌≡◌, ◌≤◌, ◌++◌, length, take, drop, OnOk, OnErr, IfSome, IfNone};
+ghost use Rattle.std.specs.Prelude.{◌≡◌, ◌≤◌, ◌++◌, length, take, drop, OnOk, OnErr, IfSome};
+ghost use Rattle.std.specs.Prelude.{IfNone};
 ghost use Rattle.std.specs.Int.{w16, w64, from_be_bytes};
 ghost use Rattle.prolly_entry.specs.declared.version.Version.TheVariants.{One};
 ghost use Rattle.prolly_entry.specs.Child.{IsChild, entry_of, first_count, value_of};
 ghost use Rattle.prolly_entry.specs.ChildAt.{tail_length, IsChildAt, NoChildAt};
 ghost use Rattle.prolly_entry.specs.Spelling.{BeginsWith, child_spelling, count_spelling};
 
-use crate::appending::append_parts;
-use crate::limits::KEY_LIMIT;
-use crate::numbers::{eight_bytes, number_of_two, two_bytes};
+use crate::pair::KEY_LIMIT;
 use crate::reference::Ref;
-use crate::spelling::KEY_START;
+use crate::spelling::{KEY_START, append_parts, eight_bytes, number_of_two, two_bytes};
 use crate::version::Version;
 use std::alloc::AllocError;
 

@@ -1,11 +1,11 @@
 //! Cuts: which entries end a chunk.
 ghost use Rattle.std.specs.Prelude.{◌≡◌, ℕ, ◌≤◌, ◌<◌, ◌%◌, ◌^◌, ◌==◌, IfSome, IfNone};
-ghost use Rattle.prolly_entry.specs.Cut.{Cut as CutValue, sha512_cut, key_cut};
+ghost use Rattle.prolly_entry.specs.Cut.{Cut as CutValue, sha512_cut, key_cut, boundary_number};
 ghost use Rattle.prolly_entry.specs.Spelling.{pair_spelling};
 
-use crate::boundary::boundary_number;
 use crate::pair::Pair;
 use byteorder::{BigEndian, ByteOrder};
+use sha2::{Digest, Sha512};
 use std::marker::Model;
 
 /// The greatest number of bits of a [`Sha512Cut`].
@@ -117,4 +117,14 @@ impl Cut for KeyCut {
         }
         rest[key_length - 1] == b'!'
     }
+}
+
+/// The big-endian number in the bytes 20 to 23 of the SHA-512 of an entry. The first 20 bytes are
+/// left to references.
+#[tactic(auto, unfolding(crate::specs::Cut::boundary_number))]
+pub(crate) fn boundary_number(entry: &[u8]) -> u32
+    ensures { result ≡ boundary_number entry.now }
+{
+    let digest = Sha512::digest(entry);
+    BigEndian::read_u32(&digest[20..24])
 }

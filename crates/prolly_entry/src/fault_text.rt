@@ -1,4 +1,5 @@
 //! What is said of a fault.
+
 use std::fmt;
 use std::fmt::{Display, Formatter};
 

@@ -5,9 +5,8 @@ ghost use Rattle.prolly_entry.specs.Front.{IsFrontRecord, IsFrontPair, NoPairAt,
 ghost use Rattle.prolly_entry.specs.Pair.{IsPair};
 ghost use Rattle.prolly_entry.specs.Spelling.{BeginsWith, pair_spelling};
 
-use crate::limits::{KEY_LIMIT, VALUE_LIMIT};
-use crate::numbers::{number_of_four, number_of_two};
-use crate::spelling::{KEY_START, REMOVAL, VALUE_LENGTH_SIZE};
+use crate::pair::{KEY_LIMIT, VALUE_LIMIT};
+use crate::spelling::{KEY_START, REMOVAL, VALUE_LENGTH_SIZE, number_of_four, number_of_two};
 
 /// The record that bytes begin with. Its key is the bytes `2..key_end`, the value of a put is
 /// `value_start..len`, and its spelling is `0..len`.
@@ -88,7 +87,7 @@ pub fn split_pair(bytes: &[u8]) -> Option<(&[u8], &[u8], &[u8])>
 }
 
 impl FrontRecord {
-    /// The same where only a put is a pair.
+    /// What bytes begin with where only a put is a pair.
     fn as_pair(self) -> Front
         ensures { result ≡ as_pair self }
     {

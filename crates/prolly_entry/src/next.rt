@@ -1,14 +1,13 @@
-//! The next record of a record file.
-ghost use Rattle.std.specs.Prelude.{◌≢◌, ℕ};
+//! The next record of a record file: where its parts lie, or what is wrong with it.
+ghost use Rattle.std.specs.Prelude.{◌≢◌, ℕ, ◌≡◌};
 ghost use Rattle.std.specs.Option.{option_copied};
 ghost use Rattle.prolly_entry.specs.Front.{IsRecordAt};
 ghost use Rattle.prolly_entry.specs.NextRecord.{IsNextRecord};
 ghost use Rattle.prolly_entry.specs.RecordAt.{LiesIn, record_at};
 
-use crate::flaw::Flaw;
 use crate::front::{FrontRecord, front_record};
-use crate::keys::key_rises;
-use crate::record_at::RecordAt;
+use crate::pair::key_rises;
+use crate::spelling::KEY_START;
 
 /// What bytes say of the next record of a record file, where more bytes may follow them.
 #[derive(Clone, Copy)]
@@ -80,4 +79,51 @@ fn rising(last_key: Option<&[u8]>, bytes: &[u8], at: RecordAt) -> NextRecord
     } else {
         NextRecord::Flawed(Flaw::OutOfOrder)
     }
+}
+
+/// Where the parts of a record lie in the bytes that it begins.
+#[derive(Clone, Copy)]
+pub struct RecordAt {
+    /// Where its key ends.
+    pub key_end: usize,
+    /// Where the value begins that it puts, up to its end; none where it removes its key.
+    pub value_start: Option<usize>,
+    /// How many bytes its spelling has.
+    pub len: usize,
+}
+
+impl RecordAt {
+    /// The key of the record, which begins these bytes.
+    pub fn key(self, bytes: &[u8]) -> &[u8]
+        requires { LiesIn bytes.now self }
+        ensures { result.now ≡ (record_at bytes.now self).key }
+    {
+        &bytes[KEY_START..self.key_end]
+    }
+
+    /// The value that the record puts, or none where it removes its key.
+    pub fn value(self, bytes: &[u8]) -> Option<&[u8]>
+        requires { LiesIn bytes.now self }
+        ensures { option_copied result ≡ (record_at bytes.now self).value }
+    {
+        match self.value_start {
+            Some(start) => Some(&bytes[start..self.len]),
+            None => None,
+        }
+    }
+}
+
+/// What is wrong with the record that follows the good ones of a record file.
+#[derive(Clone, Copy, Debug, PartialEq, Eq)]
+pub enum Flaw {
+    /// The bytes end inside the record.
+    Truncated,
+    /// The key's length is over 1,024.
+    KeyTooLong,
+    /// The value's length is over 65,536, and is not the number that marks a removal.
+    ValueTooLong,
+    /// The key is not greater than the key of the record before. An equal key is out of order too.
+    OutOfOrder,
+    /// As many records as are allowed are good, and a further byte follows.
+    TooManyRecords,
 }

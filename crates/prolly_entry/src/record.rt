@@ -1,8 +1,7 @@
 //! Records: what a record file says of its keys.
 ghost use Rattle.std.specs.Prelude.{◌≡◌};
 
-use crate::limits::KEY_LIMIT;
-use crate::pair::{EntryFault, Pair};
+use crate::pair::{EntryFault, KEY_LIMIT, Pair};
 use std::alloc::{AllocError, Global};
 use std::marker::Model;
 

@@ -4,13 +4,11 @@ ghost use Rattle.std.specs.Prelude.{OnOk};
 ghost use Rattle.prolly_entry.specs.Overlay.{pairs_of_change};
 ghost use Rattle.prolly_entry.specs.Record.{IsRecord};
 ghost use Rattle.prolly_entry.specs.RecordAt.{LiesIn, record_at};
-ghost use Rattle.prolly_entry.specs.RecordList.{ArePairsOf, IsFaultOf, fault_of};
+ghost use Rattle.prolly_entry.specs.RecordList.{ArePairsOf, IsFaultOf, record_fault};
 
 use crate::fault_text::FaultText;
-use crate::flaw::Flaw;
-use crate::next::{NextRecord, next_record};
+use crate::next::{Flaw, NextRecord, RecordAt, next_record};
 use crate::pair::Pair;
-use crate::record_at::RecordAt;
 use std::alloc::{AllocError, Global};
 use std::error::Error;
 use std::fmt;
@@ -135,7 +133,7 @@ fn push_put(
 
 /// The fault that a flaw at a place is.
 fn fault_of(flaw: Flaw, place: u32) -> RecordFault
-    ensures { result ≡ fault_of flaw place }
+    ensures { result ≡ record_fault flaw place }
 {
     match flaw {
         Flaw::Truncated => RecordFault::Truncated { place },

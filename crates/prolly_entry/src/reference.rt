@@ -1,6 +1,5 @@
 //! A reference names a chunk by its hash. Its text is for people and for the names of files, so it
 //! has only figures and lower case letters, and one reference has one text.
-
 ghost use Rattle.std.specs.Prelude.{◌≡◌, ◌^◌, ◌<◌, ◌≤◌, ℕ, List, length, All, IfSome, IfNone};
 ghost use Rattle.std.specs.Prelude.{IsSomeAnd};
 ghost use Rattle.prolly_entry.specs.Byte.{IsByte};

@@ -1,11 +1,11 @@
-//! Spelling pairs and records as bytes.
-ghost use Rattle.std.specs.Prelude.{◌≡◌, ◌++◌, OnOk, OnErr};
+//! Spelling numbers, pairs and records as bytes.
+ghost use Rattle.std.specs.Prelude.{◌≡◌, ◌++◌, OnOk, OnErr, ◌+◌, ◌^◌, ◌<◌, ◌≤◌, length, take, drop};
+ghost use Rattle.std.specs.Int.{w16, w32, w64, to_be_bytes, from_be_bytes};
 ghost use Rattle.prolly_entry.specs.Spelling.{pair_spelling, record_spelling};
 
-use crate::appending::append_parts;
-use crate::numbers::{four_bytes, two_bytes};
 use crate::pair::Pair;
 use crate::record::Record;
+use byteorder::{BigEndian, ByteOrder};
 use std::alloc::AllocError;
 
 /// Where the key begins in a pair, a record or a child entry: behind its length.
@@ -50,4 +50,90 @@ pub fn append_record(out: &mut Vec<u8>, record: &Record) -> Result<(), AllocErro
         }
         None => append_parts(out, &key_length, key, &four_bytes(REMOVAL), &[]),
     }
+}
+
+/// Appends four parts, or none of them: the room for all is made first.
+pub(crate) fn append_parts(
+    out: &mut Vec<u8>,
+    a: &[u8],
+    b: &[u8],
+    c: &[u8],
+    d: &[u8],
+) -> Result<(), AllocError>
+    requires { length a.now + length b.now + length c.now + length d.now < 2 ^ 64 }
+    ensures ok { OnOk result (out.new.items ≡ out.old.items ++
+        ((a.now ++ b.now) ++ (c.now ++ d.now))) }
+    ensures err { OnErr result (out.new.items ≡ out.old.items) }
+{
+    out.reserve(a.len() + b.len() + c.len() + d.len())?;
+    out.extend_from_slice(a)?;
+    out.extend_from_slice(b)?;
+    out.extend_from_slice(c)?;
+    out.extend_from_slice(d)
+}
+
+/// An array that begins with four parts.
+pub(crate) fn joined_parts<const N: usize>(a: &[u8], b: &[u8], c: &[u8], d: &[u8]) -> [u8; N]
+    requires { length a.now + length b.now + length c.now + length d.now ≤ N }
+    ensures { take (length a.now + length b.now + length c.now + length d.now) result ≡
+        (a.now ++ b.now) ++ (c.now ++ d.now) }
+{
+    let mut bytes = [0; N];
+    let b_start = a.len();
+    let c_start = b_start + b.len();
+    let d_start = c_start + c.len();
+    write_at(&mut bytes, 0, a);
+    write_at(&mut bytes, b_start, b);
+    write_at(&mut bytes, c_start, c);
+    write_at(&mut bytes, d_start, d);
+    bytes
+}
+
+/// Writes a part behind the first bytes.
+fn write_at(bytes: &mut [u8], start: usize, part: &[u8])
+    requires { start + length part.now ≤ length bytes.old }
+    ensures front { take (start + length part.now) bytes.new ≡ take start bytes.old ++ part.now }
+    ensures len { length bytes.new ≡ length bytes.old }
+{
+    bytes[start..start + part.len()].copy_from_slice(part);
+}
+
+pub(crate) fn two_bytes(number: u16) -> [u8; 2]
+    ensures { result ≡ to_be_bytes w16 number }
+{
+    let mut bytes = [0; 2];
+    BigEndian::write_u16(&mut bytes, number);
+    bytes
+}
+
+pub(crate) fn four_bytes(number: u32) -> [u8; 4]
+    ensures { result ≡ to_be_bytes w32 number }
+{
+    let mut bytes = [0; 4];
+    BigEndian::write_u32(&mut bytes, number);
+    bytes
+}
+
+pub(crate) fn eight_bytes(number: u64) -> [u8; 8]
+    ensures { result ≡ to_be_bytes w64 number }
+{
+    let mut bytes = [0; 8];
+    BigEndian::write_u64(&mut bytes, number);
+    bytes
+}
+
+/// The number in the first two bytes.
+pub(crate) fn number_of_two(bytes: &[u8]) -> u16
+    requires { 2 ≤ length bytes.now }
+    ensures { result ≡ from_be_bytes w16 (take 2 bytes.now) }
+{
+    BigEndian::read_u16(bytes)
+}
+
+/// The number in the four bytes from a place on.
+pub(crate) fn number_of_four(bytes: &[u8], place: usize) -> u32
+    requires { place + 4 ≤ length bytes.now }
+    ensures { result ≡ from_be_bytes w32 (take 4 (drop place bytes.now)) }
+{
+    BigEndian::read_u32(&bytes[place..place + 4])
 }

@@ -3,9 +3,9 @@ ghost use Rattle.std.specs.Prelude.{◌≡◌, ◌≤◌, length, IfOk, IfSome};
 ghost use Rattle.prolly_entry.specs.Spelling.{pair_spelling};
 ghost use Rattle.prolly_entry.specs.Storage.{pair_in, IsStored};
 
-use crate::appending::{append_parts, joined_parts};
-use crate::numbers::{four_bytes, two_bytes};
-use crate::spelling::{KEY_START, VALUE_LENGTH_SIZE};
+use crate::spelling::{
+    KEY_START, VALUE_LENGTH_SIZE, append_parts, four_bytes, joined_parts, two_bytes,
+};
 use std::alloc::{AllocError, Global};
 
 /// The longest spelling that is kept in place. Up to it a pair is no larger than two vectors make

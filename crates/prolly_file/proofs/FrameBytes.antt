@@ -1,6 +1,7 @@
 -- The bytes of a frame.
 use Rattle.std.proofs.Common.{◌≡◌, ℕ, suc, ◌+◌, ◌^◌, ◌<◌, ◌≤◌, List, [], ◌∷◌, ◌++◌, length, take}
-use Rattle.std.proofs.Common.{drop, get_or, sym, ap, ◌∙◌, arith, append_assoc, length-drop, inl, inr}
+use Rattle.std.proofs.Common.{drop, get_or, sym, ap, ◌∙◌, arith, append_assoc, length-drop, inl}
+use Rattle.std.proofs.Common.{inr}
 use Rattle.std.proofs.Common.{slice_index}
 use Rattle.std.specs.Int.{w64, to_be_bytes, from_be_bytes}
 use Rattle.std.proofs.lemmas.Nat.{be_bytes_8}

@@ -1,10 +1,10 @@
 -- What a clause reads of a `Buffered`.
 use Rattle.std.specs.Prelude.{◌≡◌, ℕ, ◌+◌, ◌-◌, ◌≤◌, Bool, true, List, [], ◌++◌, length, drop}
 use Rattle.std.specs.Prelude.{vec_capacity, vec_len, Result, Ok, IfOk, OnOk, OnErr}
-use Rattle.prolly_file.specs.declared.sink.SinkFault.{SinkFault}
+use Rattle.prolly_file.specs.declared.device.sink.SinkFault.{SinkFault}
 use Rattle.prolly_file.specs.Failures.{CountsFailure}
 use Rattle.prolly_file.specs.Sink.{SinkView, Takes, CountsWriteFailure}
-use Rattle.prolly_file.specs.declared.buffered.Buffered.{Buffered}
+use Rattle.prolly_file.specs.declared.device.buffered.Buffered.{Buffered}
 
 -- The sink behind the buffer.
 abbrev pub sink_of : {W : Type 0} → Buffered W → W
@@ -30,8 +30,8 @@ abbrev pub has_failed : {W : Type 0} → Buffered W → Bool
 has_failed buffer = buffer.has_failed
 
 -- How many bytes it has room for while it holds none.
-abbrev pub size_of : {W : Type 0} → Buffered W → ℕ
-size_of buffer = vec_capacity buffer.held
+abbrev pub buffer_size : {W : Type 0} → Buffered W → ℕ
+buffer_size buffer = vec_capacity buffer.held
 
 -- How many bytes it still has room for.
 abbrev pub room_of : {W : Type 0} → Buffered W → ℕ
@@ -39,7 +39,7 @@ room_of buffer = vec_capacity buffer.held - vec_len buffer.held
 
 -- All of these bytes were taken and are held: the sink behind the buffer is as it was, and there is
 -- room for at most so many fewer.
-pub record IsHeld {W : Type 0} (old new : Buffered W) (result : Result ℕ SinkFault)
+pub record AreHeld {W : Type 0} (old new : Buffered W) (result : Result ℕ SinkFault)
     (buf : List ℕ) : Type 0 where
   pub all : result ≡ Ok (length buf)
   pub sink : sink_of new ≡ sink_of old
@@ -61,7 +61,7 @@ pub record IsEmptied {W : Type 0} (old new : Buffered W) : Type 0 where
   pub has_failed : new.has_failed ≡ old.has_failed
 
 -- What comes of handing on all that is held.
-pub record HandsOn {W : Type 0} (seen : W → SinkView) (old new : Buffered W)
+pub record Empties {W : Type 0} (seen : W → SinkView) (old new : Buffered W)
     (result : Result Unit SinkFault) : Type 0 where
   pub bytes : (seen old.sink).is_keeping ≡ true → bytes_taken seen new ≡ bytes_taken seen old
   pub keeping : (seen old.sink).is_keeping ≡ true → (seen new.sink).is_keeping ≡ true
@@ -71,7 +71,7 @@ pub record HandsOn {W : Type 0} (seen : W → SinkView) (old new : Buffered W)
   pub failed : OnErr result (has_failed new ≡ true)
 
 -- What comes of keeping `buf`: nothing else changed.
-pub record Holds {W : Type 0} (old new : Buffered W) (buf : List ℕ) : Type 0 where
+pub record KeepsBytes {W : Type 0} (old new : Buffered W) (buf : List ℕ) : Type 0 where
   pub held : new.held.items ≡ old.held.items ++ buf
   pub len : vec_len new.held ≡ vec_len old.held + length buf
   pub room : vec_capacity old.held ≤ vec_capacity new.held
@@ -82,7 +82,7 @@ pub record Holds {W : Type 0} (old new : Buffered W) (buf : List ℕ) : Type 0 w
 
 -- What comes of a write of `buf` past the buffer, which holds nothing, to the sink behind it: as
 -- much as of any write, and a failure is noted.
-pub record Passes {W : Type 0} (seen : W → SinkView) (old new : Buffered W)
+pub record WritesPast {W : Type 0} (seen : W → SinkView) (old new : Buffered W)
     (result : Result ℕ SinkFault) (buf : List ℕ) : Type 0 where
   pub bound : IfOk result (λ n. n ≤ length buf)
   pub bytes : (seen old.sink).is_keeping ≡ true →

@@ -1,10 +1,10 @@
 -- What is said of faults. (This project's texts.)
 use Rattle.std.specs.Prelude.{ℕ, List, ◌++◌, codes}
 use Rattle.std.specs.Fmt.{decimal}
-use Rattle.prolly_file.specs.declared.plain.ScratchFault.{ScratchFault}
-use Rattle.prolly_file.specs.declared.plain.ScratchFault.TheVariants as scratches
-use Rattle.prolly_file.specs.declared.whole.WholeFault.{WholeFault}
-use Rattle.prolly_file.specs.declared.whole.WholeFault.TheVariants as wholes
+use Rattle.prolly_file.specs.declared.scratch_build.file.ScratchFault.{ScratchFault}
+use Rattle.prolly_file.specs.declared.scratch_build.file.ScratchFault.TheVariants as scratches
+use Rattle.prolly_file.specs.declared.device.whole.WholeFault.{WholeFault}
+use Rattle.prolly_file.specs.declared.device.whole.WholeFault.TheVariants as wholes
 
 abbrev pub whole_fault_text : WholeFault → List ℕ
 whole_fault_text wholes.Memory = codes "out of memory"

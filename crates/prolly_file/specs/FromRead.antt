@@ -2,7 +2,7 @@
 use Rattle.std.specs.Prelude.{ℕ, Bool, false, List, [], Option, if◌then◌else◌}
 use Rattle.prolly_file.specs.Known.{known_bytes, are_known_bytes}
 use Rattle.prolly_file.specs.Source.{SourceView}
-use Rattle.prolly_file.specs.declared.from_read.FromRead.{FromRead}
+use Rattle.prolly_file.specs.declared.device.from_read.FromRead.{FromRead}
 
 -- The reader said that it has no more bytes, so it is asked no more.
 abbrev pub has_ended : {R : Type 0} → FromRead R → Bool

@@ -5,21 +5,21 @@ use Rattle.std.specs.Io.Cursor.{cursor_inner, cursor_position, cursor_remaining}
 use Rattle.std.specs.declared.io.impls.Cursor.{Cursor}
 use Rattle.prolly_file.specs.Device.{DeviceView}
 use Rattle.prolly_file.specs.Known.{known_bytes}
-use Rattle.prolly_file.specs.declared.from_seek.FromSeek.{FromSeek}
+use Rattle.prolly_file.specs.declared.device.seek.FromSeek.{FromSeek}
 
 -- Of bytes that are told, those from the place on are left, and the place is told too.
-abbrev pub IsAtPlace : Option (List ℕ) → Option ℕ → Option (List ℕ) → Type 0
-IsAtPlace bytes place left =
+abbrev pub IsSoughtAt : Option (List ℕ) → Option ℕ → Option (List ℕ) → Type 0
+IsSoughtAt bytes place left =
     IfSome bytes (λ xs. IsSomeAnd place (λ at. left ≡ Some (drop at xs)))
 
-at_place : (known : Option (List ℕ)) (at : ℕ) → IsAtPlace known (Some at)
+at_place : (known : Option (List ℕ)) (at : ℕ) → IsSoughtAt known (Some at)
     (option_map (drop at) known)
 at_place None at = tt
 at_place (Some xs) at = refl
 
 -- A cursor is at its place.
 pub cursor_at_place : {T : Type 0} (bytes : T → Option (List ℕ)) (cursor : Cursor T) →
-    IsAtPlace (bytes (cursor_inner cursor)) (Some (cursor_position cursor))
+    IsSoughtAt (bytes (cursor_inner cursor)) (Some (cursor_position cursor))
     (cursor_remaining bytes cursor)
 cursor_at_place bytes cursor = at_place (bytes cursor.inner) cursor.pos
 

@@ -8,8 +8,10 @@ use Rattle.prolly_entry.specs.Cut.{Cut}
 use Rattle.prolly_tree.specs.Tree.{level_count}
 use Rattle.prolly_tree.specs.File.{file, root_reference}
 use Rattle.prolly_entry.specs.declared.reference.Ref.{Ref}
-use Rattle.prolly_file.specs.declared.plain.ScratchFault.{ScratchFault}
-use Rattle.prolly_file.specs.declared.plain.ScratchFault.TheVariants.{Memory, OutOfOrder, TooTall}
+use Rattle.prolly_file.specs.declared.scratch_build.file.ScratchFault.{ScratchFault}
+use Rattle.prolly_file.specs.declared.scratch_build.file.ScratchFault.TheVariants.{Memory}
+use Rattle.prolly_file.specs.declared.scratch_build.file.ScratchFault.TheVariants.{OutOfOrder}
+use Rattle.prolly_file.specs.declared.scratch_build.file.ScratchFault.TheVariants.{TooTall}
 
 -- The keys of pairs, in their order.
 abbrev pub keys_in : List Pair → List (List ℕ)
@@ -31,16 +33,16 @@ pub record Builds (cut : Cut) (version : Version) (pairs : List Pair) (max_level
   pub root_is : root ≡ root_reference cut version pairs
 
 -- The pairs are a map, whose tree has more levels.
-pub record IsTooTall (cut : Cut) (version : Version) (pairs : List Pair) (max_levels : ℕ) : Type 0
-  where
-    pub rising : Rising (keys_in pairs)
-    pub tall : max_levels < level_count cut version pairs
+pub record IsTallerTree (cut : Cut) (version : Version) (pairs : List Pair) (max_levels : ℕ)
+    : Type 0 where
+  pub rising : Rising (keys_in pairs)
+  pub tall : max_levels < level_count cut version pairs
 
 -- What is wrong with the pairs; want of memory may come over any.
 abbrev pub IsScratchFault : Cut → Version → List Pair → ℕ → ScratchFault → Type 0
 IsScratchFault cut version pairs max_levels Memory = Unit {0}
 IsScratchFault cut version pairs max_levels (OutOfOrder pair) = FallsAt pairs pair
-IsScratchFault cut version pairs max_levels TooTall = IsTooTall cut version pairs max_levels
+IsScratchFault cut version pairs max_levels TooTall = IsTallerTree cut version pairs max_levels
 
 -- What the plain builder answers, over a vector that held `old` before and holds `new` after.
 pub record IsScratched (cut : Cut) (version : Version) (pairs : List Pair) (max_levels : ℕ)

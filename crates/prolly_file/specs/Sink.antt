@@ -1,5 +1,6 @@
 -- What a contract sees of a sink, and what a write does to the bytes that it took.
-use Rattle.std.specs.Prelude.{◌≡◌, ℕ, ◌<◌, Bool, true, List, ◌++◌, length, take, Result, MatchResult}
+use Rattle.std.specs.Prelude.{◌≡◌, ℕ, ◌<◌, Bool, true, List, ◌++◌, length, take, Result}
+use Rattle.std.specs.Prelude.{MatchResult}
 use Rattle.prolly_entry.specs.Prefix.{IsPrefix}
 use Rattle.prolly_file.specs.Failures.{after_failure}
 

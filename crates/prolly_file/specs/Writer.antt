@@ -4,7 +4,7 @@ use Rattle.std.specs.Prelude.{OnOk, OnErr, IfOk}
 use Rattle.prolly_entry.specs.declared.version.Version.{Version}
 use Rattle.prolly_tree.specs.Events.{greatest_count}
 use Rattle.prolly_tree.specs.File.{header}
-use Rattle.prolly_file.specs.declared.writer.WriteFault.{WriteFault}
+use Rattle.prolly_file.specs.declared.format.writer.WriteFault.{WriteFault}
 use Rattle.prolly_file.specs.Failures.{CountsFailure}
 use Rattle.prolly_file.specs.Sink.{SinkView, TakesPrefix}
 
@@ -18,7 +18,7 @@ abbrev pub next_count : ℕ → ℕ
 next_count chunks = min greatest_count (chunks + 1)
 
 -- What comes of writing the header to a sink that was seen as `old` and is seen as `new`.
-pub record Begins (version : Version) (bits : ℕ) (old new : SinkView)
+pub record WritesHeader (version : Version) (bits : ℕ) (old new : SinkView)
     (result : Result Progress WriteFault) : Type 0 where
   pub written : old.is_keeping ≡ true → OnOk result (new.taken ≡ old.taken ++ header version bits)
   pub part : old.is_keeping ≡ true → OnErr result

@@ -15,20 +15,20 @@ use Rattle.prolly_tree.specs.Pipeline.{pipeline_events, within_stages}
 
 -- The pair of a key of one byte and the value `1`; the record that puts it; and the one that
 -- removes the key.
-abbrev pub pair_at : ℕ → Pair
-pair_at key = record { key = key ∷ []; value = 0x31 ∷ [] }
+abbrev pub example_pair : ℕ → Pair
+example_pair key = record { key = key ∷ []; value = 0x31 ∷ [] }
 
-abbrev pub put_at : ℕ → Record
-put_at key = record { key = key ∷ []; value = Some (0x31 ∷ []) }
+abbrev pub example_put : ℕ → Record
+example_put key = record { key = key ∷ []; value = Some (0x31 ∷ []) }
 
-abbrev pub removal_at : ℕ → Record
-removal_at key = record { key = key ∷ []; value = None }
+abbrev pub example_removal : ℕ → Record
+example_removal key = record { key = key ∷ []; value = None }
 
 abbrev pub levels : List Chunk → List ℕ
 levels cs = map (λ c. c.level) cs
 
 abbrev pub abc : List Pair
-abc = pair_at 0x61 ∷ pair_at 0x62 ∷ pair_at 0x63 ∷ []
+abc = example_pair 0x61 ∷ example_pair 0x62 ∷ example_pair 0x63 ∷ []
 
 -- The text of the reference of the bytes `abc`.
 abbrev pub TextOfAbc : Type 0
@@ -44,7 +44,7 @@ FileOfNone = file (sha512_cut 0) One [] ≡ 0x50 ∷ 0x52 ∷ 0x4C ∷ 0x59 ∷ 
 
 -- The file of one pair at 0 bits, 53 bytes: one chunk, although its only entry is a boundary.
 abbrev pub FileOfOne : Type 0
-FileOfOne = file (sha512_cut 0) One (pair_at 0x61 ∷ []) ≡
+FileOfOne = file (sha512_cut 0) One (example_pair 0x61 ∷ []) ≡
     0x50 ∷ 0x52 ∷ 0x4C ∷ 0x59 ∷ 0x01 ∷ 0x00 ∷ 0x43 ∷ 0x00 ∷ 0x00 ∷ 0x00 ∷ 0x00 ∷ 0x00 ∷ 0x00 ∷ 0x00
     ∷ 0x09 ∷ 0x00
     ∷ 0x00 ∷ 0x01 ∷ 0x61 ∷ 0x00 ∷ 0x00 ∷ 0x00 ∷ 0x01 ∷ 0x31 ∷ 0x45 ∷ 0xE4 ∷ 0xB1 ∷ 0x1C ∷ 0x59 ∷
@@ -95,15 +95,15 @@ every_entry = record { bits = 0; is_boundary = λ entry. true }
 
 -- a, b!, c, d!, e with the cut by the key's last byte.
 abbrev pub marked : List Pair
-marked = pair_at 0x61 ∷ record { key = codes "b!"; value = 0x31 ∷ [] } ∷ pair_at 0x63
-    ∷ record { key = codes "d!"; value = 0x31 ∷ [] } ∷ pair_at 0x65 ∷ []
+marked = example_pair 0x61 ∷ record { key = codes "b!"; value = 0x31 ∷ [] } ∷ example_pair 0x63
+    ∷ record { key = codes "d!"; value = 0x31 ∷ [] } ∷ example_pair 0x65 ∷ []
 
 abbrev pub MarkedChunks : Type 0
 MarkedChunks = levels (chunks key_cut One marked) ≡ 0 ∷ 0 ∷ 1 ∷ 0 ∷ 1 ∷ 2 ∷ []
 
 -- Five pairs, each a boundary, have eleven chunks on four levels, in either version.
 abbrev pub abcde : List Pair
-abcde = abc ++ (pair_at 0x64 ∷ pair_at 0x65 ∷ [])
+abcde = abc ++ (example_pair 0x64 ∷ example_pair 0x65 ∷ [])
 
 abbrev pub ChunksOfFive : Type 0
 ChunksOfFive = (levels (chunks every_entry One abcde) ≡ 0 ∷ 0 ∷ 1 ∷ 0 ∷ 0 ∷ 1 ∷ 2 ∷ 0 ∷ 1 ∷ 2 ∷ 3 ∷
@@ -114,7 +114,7 @@ ChunksOfFive = (levels (chunks every_entry One abcde) ≡ 0 ∷ 0 ∷ 1 ∷ 0 �
 -- Two stages, four pairs and then a fault: the writer stops before the second node.
 abbrev pub TwoStagesAtAFault : Type 0
 TwoStagesAtAFault = levels (within_stages 2 (begun_chunks every_entry One
-    (abc ++ pair_at 0x64 ∷ []))) ≡ 0 ∷ 0 ∷ 1 ∷ 0 ∷ 0 ∷ []
+    (abc ++ example_pair 0x64 ∷ []))) ≡ 0 ∷ 0 ∷ 1 ∷ 0 ∷ 0 ∷ []
 
 -- What the leaf stage sends of the marked pairs, what the stage behind it does, and what the leaf
 -- stage sends before a fault.
@@ -122,7 +122,7 @@ abbrev pub MarkedEvents : Type 0
 MarkedEvents = (levels (leaf_events key_cut One clean marked) ≡ 0 ∷ 0 ∷ 0 ∷ [])
     × (levels (pipeline_events 1 key_cut One clean marked) ≡ 0 ∷ 0 ∷ 1 ∷ 0 ∷ 1 ∷ [])
     × (levels (leaf_events key_cut One faulty
-    (pair_at 0x61 ∷ record { key = codes "b!"; value = 0x31 ∷ [] } ∷ pair_at 0x63 ∷ [])) ≡
+    (example_pair 0x61 ∷ record { key = codes "b!"; value = 0x31 ∷ [] } ∷ example_pair 0x63 ∷ [])) ≡
     0 ∷ [])
 
 -- ---- Merging.
@@ -130,17 +130,17 @@ MarkedEvents = (levels (leaf_events key_cut One clean marked) ≡ 0 ∷ 0 ∷ 0 
 -- The first input has the key 5 and then a fault, the second 1, 2 and 7 and none: the fault stands
 -- at 5, and 1, 2 and 5 come before.
 abbrev pub two_inputs : List (Input ℕ)
-two_inputs = record { records = put_at 0x35 ∷ []; fault = Some 0 }
-    ∷ record { records = put_at 0x31 ∷ put_at 0x32 ∷ put_at 0x37 ∷ []; fault = None } ∷ []
+two_inputs = record { records = example_put 0x35 ∷ []; fault = Some 0 }
+    ∷ record { records = example_put 0x31 ∷ example_put 0x32 ∷ example_put 0x37 ∷ []; fault = None } ∷ []
 
 abbrev pub FaultOfLeastPosition : Type 0
 FaultOfLeastPosition = (stop two_inputs ≡ Some (record { position = Some (0x35 ∷ []); fault = 0 }))
-    × (merged_part two_inputs ≡ pair_at 0x31 ∷ pair_at 0x32 ∷ pair_at 0x35 ∷ [])
+    × (merged_part two_inputs ≡ example_pair 0x31 ∷ example_pair 0x32 ∷ example_pair 0x35 ∷ [])
 
 -- A later list removes a key, and one later still puts it again.
 abbrev pub Removals : Type 0
-Removals = (overlay ((put_at 0x61 ∷ put_at 0x62 ∷ []) ∷ (removal_at 0x61 ∷ []) ∷ []) ≡
-    pair_at 0x62 ∷ [])
-    × (overlay ((put_at 0x61 ∷ []) ∷ (removal_at 0x61 ∷ []) ∷ (put_at 0x61 ∷ []) ∷ []) ≡
-    pair_at 0x61 ∷ [])
-    × (overlay ((removal_at 0x61 ∷ []) ∷ []) ≡ [])
+Removals = (overlay ((example_put 0x61 ∷ example_put 0x62 ∷ []) ∷ (example_removal 0x61 ∷ []) ∷ []) ≡
+    example_pair 0x62 ∷ [])
+    × (overlay ((example_put 0x61 ∷ []) ∷ (example_removal 0x61 ∷ []) ∷ (example_put 0x61 ∷ []) ∷ []) ≡
+    example_pair 0x61 ∷ [])
+    × (overlay ((example_removal 0x61 ∷ []) ∷ []) ≡ [])

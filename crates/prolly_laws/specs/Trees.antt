@@ -36,7 +36,7 @@ pairs_are = sizes.pairs_are
 pub few_chunks : (cut : Cut) (version : Version) → FewChunks cut version
 few_chunks = sizes.few_chunks
 
--- And few levels.
+-- The tree of a map has few levels.
 pub few_levels : (cut : Cut) (version : Version) → FewLevels cut version
 few_levels = levels.few_levels
 

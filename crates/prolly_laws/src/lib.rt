@@ -3,11 +3,8 @@
 #![tactic(auto)]
 
 pub mod differences;
+mod entries;
 pub mod examples;
-pub mod files;
 pub mod merging;
-pub mod reading;
-pub mod spelling;
-pub mod splitting;
 pub mod stages;
 pub mod trees;

@@ -1,9 +1,10 @@
-//! How large a map's tree is, and what it holds.
+//! Laws of trees, and of their chunk files.
 ghost use Rattle.std.specs.Prelude.{ℕ, List};
 ghost use Rattle.prolly_entry.specs.declared.version.Version.{Version};
 ghost use Rattle.prolly_entry.specs.Cut.{Cut};
 ghost use Rattle.prolly_tree.specs.Tree.{GrowsByNodes, KeepsPairs, FewLevels};
 ghost use Rattle.prolly_tree.specs.Chunk.{FewChunks, ChunksDiffer};
+ghost use Rattle.prolly_tree.specs.File.{BegunIsPrefix, FileDecidesMap, RootsTellMaps};
 
 /// Trees grow level by level, each level having fewer trees than the one below, until one is left.
 pub fn trees_grow()
@@ -24,4 +25,19 @@ pub fn trees_are_small()
 /// The chunks of a map are all different.
 pub fn chunks_differ()
     ensures { (cut : Cut) (version : Version) → ChunksDiffer cut version }
+{}
+
+/// What a prefix of a map has begun is a prefix of the map's file.
+pub fn begun_files_are_prefixes()
+    ensures { (cut : Cut) (version : Version) → BegunIsPrefix cut version }
+{}
+
+/// A file decides its version, its bits and its map.
+pub fn files_decide_their_map()
+    ensures { FileDecidesMap }
+{}
+
+/// Different maps with one root show two different chunks with one reference.
+pub fn roots_tell_maps()
+    ensures { (version : Version) → RootsTellMaps version }
 {}

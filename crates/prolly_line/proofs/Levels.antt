@@ -21,7 +21,7 @@ use Rattle.clap.specs.declared.builder.value_parser.ValueParser.TheVariants.{Sig
 use Rattle.prolly_line.proofs.Passes.{Each, HasPassed, IsSound, level_passed, none_in, wants_value}
 use Rattle.prolly_line.proofs.Presence.{default_present, has_default, has_required}
 use Rattle.prolly_line.proofs.Presence.{required_present, value_present}
-use Rattle.prolly_line.specs.Accepted.{HasNumber, HasWord, IsAccepted}
+use Rattle.prolly_line.specs.AcceptedWords.{HasNumber, HasWord, IsAccepted}
 use Rattle.prolly_line.specs.Line.{line_faults, line_given, program_line}
 
 -- the subcommand that a word names, as clap builds it

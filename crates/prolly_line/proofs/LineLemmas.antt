@@ -11,9 +11,10 @@ use Rattle.clap.specs.declared.error.kind.ErrorKind.TheVariants.{OutOfMemory}
 use Rattle.clap.specs.declared.parser.matches.ArgMatches.{ArgMatches}
 use Rattle.clap.proofs.OnLiterals.{clap_on_literals}
 use Rattle.prolly_entry.specs.declared.reference.Ref.{Ref}
-use Rattle.prolly_line.specs.Accepted.{Answers, IsRefusedAt}
-use Rattle.prolly_line.specs.Given.{GivesTrust, HasFields, IsAskedFor, IsGivenBy, IsLawfulTrust}
-use Rattle.prolly_line.specs.Given.{IsRefusalOf, IsRefusedBy, IsWithinLimits}
+use Rattle.prolly_line.specs.AcceptedWords.{Answers, IsRefusedAt}
+use Rattle.prolly_line.specs.GivenCommand.{GivesTrust, HasFields, IsAskedFor, IsGivenBy}
+use Rattle.prolly_line.specs.GivenCommand.{IsLawfulTrust}
+use Rattle.prolly_line.specs.GivenCommand.{IsRefusalOf, IsRefusedBy, IsWithinLimits}
 use Rattle.prolly_line.specs.Line.{line_faults, line_given, program_line}
 use Rattle.prolly_line.specs.declared.command.Command.{Command}
 use Rattle.prolly_line.specs.declared.command.Command.TheVariants.{Pack, Scratch, Build, Explain}

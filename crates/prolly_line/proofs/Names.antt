@@ -8,7 +8,7 @@ use Rattle.clap.proofs.OnLiterals.{clap_on_literals}
 use Rattle.prolly_line.proofs.Levels.{accepted_level, found_name, no_aliases}
 use Rattle.prolly_line.proofs.Passes.{Each, found_sound}
 use Rattle.prolly_line.proofs.Stops.{level_past_help}
-use Rattle.prolly_line.specs.Accepted.{IsAccepted}
+use Rattle.prolly_line.specs.AcceptedWords.{IsAccepted}
 use Rattle.prolly_line.specs.Line.{line_faults, program_line}
 
 -- the name is that of no subcommand

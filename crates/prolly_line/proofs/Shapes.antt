@@ -7,7 +7,7 @@ use Rattle.clap.proofs.OnLiterals.{clap_on_literals}
 use Rattle.prolly_line.proofs.Levels.{level_at, number_at, shape_at, word_at}
 use Rattle.prolly_line.proofs.Passes.{Each, IsSound}
 use Rattle.prolly_line.proofs.Sound.{all_sound}
-use Rattle.prolly_line.specs.Accepted.{HasNumber, HasWord, IsAccepted}
+use Rattle.prolly_line.specs.AcceptedWords.{HasNumber, HasWord, IsAccepted}
 use Rattle.prolly_line.specs.Line.{build_line, check_line, diff_line, dump_line, explain_line}
 use Rattle.prolly_line.specs.Line.{get_line, nth_line, pack_line, program_line, prove_line}
 use Rattle.prolly_line.specs.Line.{scan_line, scratch_line, stat_line, verify_line}

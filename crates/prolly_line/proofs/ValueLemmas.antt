@@ -10,8 +10,8 @@ use Rattle.clap.specs.Words.{Row, Text, first_of, one_text, rows_of, without_min
 use Rattle.clap.specs.declared.parser.matches.Found.{Found}
 use Rattle.clap.proofs.CallerReads.{signed_reads}
 use Rattle.clap.proofs.WalkLemmas.{first_value-rows, one_text-rows}
-use Rattle.prolly_line.specs.Accepted.{HasNumber, HasWord, ReadsNumber}
-use Rattle.prolly_line.specs.Given.{decimal_of, number_given}
+use Rattle.prolly_line.specs.AcceptedWords.{HasNumber, HasWord, ReadsNumber}
+use Rattle.prolly_line.specs.GivenCommand.{decimal_of, number_given}
 
 -- a typed getter gives a number where a numeral in its range stands under the name
 pub number_there : (E : Type 0) (G : Text → Result ℕ E → Type 0) (k low high : ℕ) (f : Found)

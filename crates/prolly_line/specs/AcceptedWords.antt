@@ -5,8 +5,9 @@ use Rattle.clap.specs.Words.{Row, Text, first_of, found_of, one_of, rows_of, wit
 use Rattle.clap.specs.declared.parser.matches.ArgMatches.{ArgMatches}
 use Rattle.prolly_line.specs.Line.{line_faults, line_given}
 use Rattle.prolly_entry.specs.declared.reference.Ref.{Ref}
-use Rattle.prolly_line.specs.Given.{GivesBadKey, GivesBadRoot, GivesNumber, HasBadKey, HasBadRoot}
-use Rattle.prolly_line.specs.Given.{HasFields, MayGiveRoot}
+use Rattle.prolly_line.specs.GivenCommand.{GivesBadKey, GivesBadRoot, GivesNumber, HasBadKey}
+use Rattle.prolly_line.specs.GivenCommand.{HasBadRoot}
+use Rattle.prolly_line.specs.GivenCommand.{HasFields, MayGiveRoot}
 use Rattle.prolly_line.specs.declared.command.Command.{Command}
 use Rattle.prolly_line.specs.declared.command.ParseFault.{ParseFault}
 use Rattle.prolly_line.specs.declared.command.ParseFault.TheVariants.{Memory, BadRoot, BadKey}

@@ -10,5 +10,5 @@ abbrev pub IsReadBy : Rule → Arg → Type 0
 IsReadBy rule argument = (rule_of argument ≡ rule) × (argument.global ≡ false)
 
 -- a command without global arguments, with its line
-abbrev pub HasLine : App → Command → Type 0
-HasLine line command = (app_of command ≡ line) × ((fields_of command).has_globals ≡ false)
+abbrev pub HasCommandLine : App → Command → Type 0
+HasCommandLine line command = (app_of command ≡ line) × ((fields_of command).has_globals ≡ false)

@@ -8,7 +8,7 @@ ghost use Rattle.prolly_line.specs.Line.{option_rule, optional_out_word, out_opt
 ghost use Rattle.prolly_line.specs.Line.{proof_word, root_option};
 ghost use Rattle.prolly_line.specs.Line.{root_word, stages_option, stat_flag, sync_flag};
 ghost use Rattle.prolly_line.specs.Line.{text_flag, word_rule};
-ghost use Rattle.prolly_line.specs.Local.{IsReadBy};
+ghost use Rattle.prolly_line.specs.LocalArgs.{IsReadBy};
 
 use clap::builder::ValueParser;
 use clap::{Arg, ArgAction};

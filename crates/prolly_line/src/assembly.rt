@@ -1,7 +1,7 @@
 //! The steps by which a line is put together: its texts, its arguments and its subcommands.
 ghost use Rattle.std.specs.Prelude.{◌≡◌, IfOk, Ok};
 ghost use Rattle.clap.specs.Words.{App, Rule, app_of, new_app, with_rule, with_subcommand};
-ghost use Rattle.prolly_line.specs.Local.{HasLine, IsReadBy};
+ghost use Rattle.prolly_line.specs.LocalArgs.{HasCommandLine, IsReadBy};
 
 use crate::help::Help;
 use clap::{Arg, Command};
@@ -9,7 +9,7 @@ use std::alloc::{AllocError, Global};
 
 /// A command with its texts, and no argument yet.
 pub(crate) fn described<'a>(alloc: Global, name: &'a str, help: Help<'a>) -> Command<'a>
-    ensures { HasLine (new_app name.now) result }
+    ensures { HasCommandLine (new_app name.now) result }
 {
     Command::new(alloc, name)
         .about(help.about)
@@ -23,8 +23,8 @@ pub(crate) fn with_argument<'a>(
     line: Result<Command<'a>, AllocError>,
     argument: Arg<'a>,
 ) -> Result<Command<'a>, AllocError>
-    ensures { (app : App) (rule : Rule) → IfOk line.entry (HasLine app)
-        → IsReadBy rule argument.entry → IfOk result (HasLine (with_rule app rule)) }
+    ensures { (app : App) (rule : Rule) → IfOk line.entry (HasCommandLine app)
+        → IsReadBy rule argument.entry → IfOk result (HasCommandLine (with_rule app rule)) }
 {
     joined(line, Ok(argument), Command::arg)
 }
@@ -36,7 +36,7 @@ pub(crate) fn with_subcommand<'a>(
     subcommand: Result<Command<'a>, AllocError>,
 ) -> Result<Command<'a>, AllocError>
     ensures { (app inner : App) → IfOk line.entry (λ c. app_of c ≡ app)
-        → IfOk subcommand.entry (HasLine inner)
+        → IfOk subcommand.entry (HasCommandLine inner)
         → IfOk result (λ c. app_of c ≡ with_subcommand app inner.top) }
 {
     joined(line, subcommand, Command::subcommand)
@@ -50,8 +50,8 @@ pub(crate) fn with_three<'a>(
     third: Result<Command<'a>, AllocError>,
 ) -> Result<Command<'a>, AllocError>
     ensures { (app one two three : App) → IfOk line.entry (λ c. app_of c ≡ app)
-        → IfOk first.entry (HasLine one) → IfOk second.entry (HasLine two)
-        → IfOk third.entry (HasLine three) → IfOk result (λ c. app_of c
+        → IfOk first.entry (HasCommandLine one) → IfOk second.entry (HasCommandLine two)
+        → IfOk third.entry (HasCommandLine three) → IfOk result (λ c. app_of c
         ≡ with_subcommand (with_subcommand (with_subcommand app one.top) two.top) three.top) }
 {
     let line = with_subcommand(line, first);

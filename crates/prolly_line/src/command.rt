@@ -1,8 +1,9 @@
 //! What the program is asked to do.
 ghost use Rattle.std.specs.Prelude.{◌≡◌, IfOk, IfErr, map, string_bytes, option_map};
 ghost use Rattle.clap.specs.Words.{kind_of, subcommand_rows_of};
-ghost use Rattle.prolly_line.specs.Given.{IsGivenBy, IsRefusalOf, IsRefusedBy, IsWithinLimits};
-ghost use Rattle.prolly_line.specs.Accepted.{Answers, IsAccepted, rows_in};
+ghost use Rattle.prolly_line.specs.GivenCommand.{IsGivenBy, IsRefusalOf, IsRefusedBy};
+ghost use Rattle.prolly_line.specs.GivenCommand.{IsWithinLimits};
+ghost use Rattle.prolly_line.specs.AcceptedWords.{Answers, IsAccepted, rows_in};
 ghost use Rattle.prolly_line.specs.declared.command.ParseFault.TheVariants.{Memory};
 
 use crate::fields;

@@ -1,9 +1,9 @@
 //! The fields of a command, from what clap found for its subcommand. Each function requires that
 //! clap has accepted the words, and so takes what has to be there without a test.
 ghost use Rattle.std.specs.Prelude.{codes, IfErr, IfOk};
-ghost use Rattle.prolly_line.specs.Accepted.{Answers, HasNumber, HasWord, IsAccepted};
-ghost use Rattle.prolly_line.specs.Accepted.{IsRefusedLookUp, rows_in};
-ghost use Rattle.prolly_line.specs.Given.{GivesKey, GivesNotation, GivesTrust};
+ghost use Rattle.prolly_line.specs.AcceptedWords.{Answers, HasNumber, HasWord, IsAccepted};
+ghost use Rattle.prolly_line.specs.AcceptedWords.{IsRefusedLookUp, rows_in};
+ghost use Rattle.prolly_line.specs.GivenCommand.{GivesKey, GivesNotation, GivesTrust};
 
 use crate::command::{Command, ParseFault};
 use crate::values::{

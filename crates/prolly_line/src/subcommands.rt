@@ -5,7 +5,7 @@ ghost use Rattle.prolly_line.specs.Line.{build_line, check_line, diff_line, dump
 ghost use Rattle.prolly_line.specs.Line.{explain_line, get_line, look_up_line, nth_line, pack_line};
 ghost use Rattle.prolly_line.specs.Line.{prove_line, scan_line, scratch_line, stat_line};
 ghost use Rattle.prolly_line.specs.Line.{verify_line, with_mode};
-ghost use Rattle.prolly_line.specs.Local.{HasLine, IsReadBy};
+ghost use Rattle.prolly_line.specs.LocalArgs.{HasCommandLine, IsReadBy};
 
 use crate::assembly::{described, with_argument};
 use crate::help::Help;
@@ -40,8 +40,8 @@ fn with_mode<'a>(
     line: Result<Command<'a>, AllocError>,
     atomic: &'a str,
 ) -> Result<Command<'a>, AllocError>
-    ensures { (app : App) → IfOk line.entry (HasLine app)
-        → IfOk result (HasLine (with_mode app)) }
+    ensures { (app : App) → IfOk line.entry (HasCommandLine app)
+        → IfOk result (HasCommandLine (with_mode app)) }
 {
     let line = with_argument(line, arguments::atomic_flag(alloc, atomic));
     let line = with_argument(line, arguments::sync_flag(alloc));
@@ -58,7 +58,7 @@ fn look_up_line<'a>(
     sought: Arg<'a>,
 ) -> Result<Command<'a>, AllocError>
     ensures { (rule : Rule) → IsReadBy rule sought.entry
-        → IfOk result (HasLine (with_rule (look_up_line name.now) rule)) }
+        → IfOk result (HasCommandLine (with_rule (look_up_line name.now) rule)) }
 {
     let format = arguments::format_option(
         alloc,
@@ -73,7 +73,7 @@ fn look_up_line<'a>(
 
 /// `pack [--text] [--removals] [--atomic] [--sync] [--force] OUT`
 pub(crate) fn pack_line<'a>(alloc: Global) -> Result<Command<'a>, AllocError>
-    ensures { IfOk result (HasLine pack_line) }
+    ensures { IfOk result (HasCommandLine pack_line) }
 {
     let text = arguments::text_flag(
         alloc,
@@ -87,7 +87,7 @@ pub(crate) fn pack_line<'a>(alloc: Global) -> Result<Command<'a>, AllocError>
 
 /// `scratch [--bits Q] [--format V] [--out FILE] [--atomic] [--sync] [--force]`
 pub(crate) fn scratch_line<'a>(alloc: Global) -> Result<Command<'a>, AllocError>
-    ensures { IfOk result (HasLine scratch_line) }
+    ensures { IfOk result (HasCommandLine scratch_line) }
 {
     let line = described(alloc, "scratch", help::SCRATCH).arg(arguments::bits_option(alloc));
     let line = with_argument(line, arguments::format_option(alloc, WRITTEN_FORMAT));
@@ -99,7 +99,7 @@ pub(crate) fn scratch_line<'a>(alloc: Global) -> Result<Command<'a>, AllocError>
 /// `build [--bits Q] [--stages S] [--capacity C] [--max-records M] [--batch B] [--format V]
 /// [--quiet] [--atomic] [--sync] [--force] OUT [FILES...]`
 pub(crate) fn build_line<'a>(alloc: Global) -> Result<Command<'a>, AllocError>
-    ensures { IfOk result (HasLine build_line) }
+    ensures { IfOk result (HasCommandLine build_line) }
 {
     let line = described(alloc, "build", help::BUILD).arg(arguments::bits_option(alloc));
     let line = with_argument(line, arguments::stages_option(alloc));
@@ -115,7 +115,7 @@ pub(crate) fn build_line<'a>(alloc: Global) -> Result<Command<'a>, AllocError>
 
 /// `explain [--text] FILE`
 pub(crate) fn explain_line<'a>(alloc: Global) -> Result<Command<'a>, AllocError>
-    ensures { IfOk result (HasLine explain_line) }
+    ensures { IfOk result (HasCommandLine explain_line) }
 {
     let text = arguments::text_flag(alloc, SHOWN_KEYS);
     let line = described(alloc, "explain", help::EXPLAIN).arg(text);
@@ -124,14 +124,14 @@ pub(crate) fn explain_line<'a>(alloc: Global) -> Result<Command<'a>, AllocError>
 
 /// `check FILE`
 pub(crate) fn check_line<'a>(alloc: Global) -> Result<Command<'a>, AllocError>
-    ensures { IfOk result (HasLine check_line) }
+    ensures { IfOk result (HasCommandLine check_line) }
 {
     described(alloc, "check", help::CHECK).arg(arguments::file_word(alloc, CHUNK_FILE))
 }
 
 /// `stat [--text] [--json] FILE`
 pub(crate) fn stat_line<'a>(alloc: Global) -> Result<Command<'a>, AllocError>
-    ensures { IfOk result (HasLine stat_line) }
+    ensures { IfOk result (HasCommandLine stat_line) }
 {
     let text = arguments::text_flag(alloc, SHOWN_KEYS);
     let line = described(alloc, "stat", help::STAT).arg(text);
@@ -144,7 +144,7 @@ pub(crate) fn stat_line<'a>(alloc: Global) -> Result<Command<'a>, AllocError>
 
 /// `dump [--text] [--hex] [--atomic] [--sync] [--force] FILE [OUT]`
 pub(crate) fn dump_line<'a>(alloc: Global) -> Result<Command<'a>, AllocError>
-    ensures { IfOk result (HasLine dump_line) }
+    ensures { IfOk result (HasCommandLine dump_line) }
 {
     let text = arguments::text_flag(alloc, DUMPED_TEXT);
     let line = described(alloc, "dump", help::DUMP).arg(text);
@@ -158,7 +158,7 @@ pub(crate) fn dump_line<'a>(alloc: Global) -> Result<Command<'a>, AllocError>
 
 /// `diff [--text] [--stat] [--out FILE] [--atomic] [--sync] [--force] OLD NEW`
 pub(crate) fn diff_line<'a>(alloc: Global) -> Result<Command<'a>, AllocError>
-    ensures { IfOk result (HasLine diff_line) }
+    ensures { IfOk result (HasCommandLine diff_line) }
 {
     let text = arguments::text_flag(alloc, "Print the changes as text in place of hexadecimal");
     let out = arguments::out_option(alloc, "Write the changes to FILE, a record file");
@@ -177,7 +177,7 @@ pub(crate) fn diff_line<'a>(alloc: Global) -> Result<Command<'a>, AllocError>
 
 /// `get [--text] [--root ROOT] [--format V] FILE KEY`
 pub(crate) fn get_line<'a>(alloc: Global) -> Result<Command<'a>, AllocError>
-    ensures { IfOk result (HasLine get_line) }
+    ensures { IfOk result (HasCommandLine get_line) }
 {
     let key = arguments::key_word(alloc);
     look_up_line(alloc, "get", help::GET, KEY_AND_VALUE, key)
@@ -185,7 +185,7 @@ pub(crate) fn get_line<'a>(alloc: Global) -> Result<Command<'a>, AllocError>
 
 /// `scan [--text] [--root ROOT] [--format V] FILE KEY LIMIT`
 pub(crate) fn scan_line<'a>(alloc: Global) -> Result<Command<'a>, AllocError>
-    ensures { IfOk result (HasLine scan_line) }
+    ensures { IfOk result (HasCommandLine scan_line) }
 {
     let text = "Take the key and print the pairs as text in place of hexadecimal";
     let key = arguments::key_word(alloc);
@@ -195,7 +195,7 @@ pub(crate) fn scan_line<'a>(alloc: Global) -> Result<Command<'a>, AllocError>
 
 /// `nth [--text] [--root ROOT] [--format V] FILE N`
 pub(crate) fn nth_line<'a>(alloc: Global) -> Result<Command<'a>, AllocError>
-    ensures { IfOk result (HasLine nth_line) }
+    ensures { IfOk result (HasCommandLine nth_line) }
 {
     let text = "Print the pair as text in place of hexadecimal";
     look_up_line(alloc, "nth", help::NTH, text, arguments::n_word(alloc))
@@ -203,7 +203,7 @@ pub(crate) fn nth_line<'a>(alloc: Global) -> Result<Command<'a>, AllocError>
 
 /// `prove [--text] [--atomic] [--sync] [--force] FILE KEY OUT`
 pub(crate) fn prove_line<'a>(alloc: Global) -> Result<Command<'a>, AllocError>
-    ensures { IfOk result (HasLine prove_line) }
+    ensures { IfOk result (HasCommandLine prove_line) }
 {
     let text = arguments::text_flag(alloc, "Take the key as text in place of hexadecimal");
     let line = described(alloc, "prove", help::PROVE).arg(text);
@@ -215,7 +215,7 @@ pub(crate) fn prove_line<'a>(alloc: Global) -> Result<Command<'a>, AllocError>
 
 /// `verify [--text] [--format V] ROOT KEY [PROOF]`
 pub(crate) fn verify_line<'a>(alloc: Global) -> Result<Command<'a>, AllocError>
-    ensures { IfOk result (HasLine verify_line) }
+    ensures { IfOk result (HasCommandLine verify_line) }
 {
     let format = arguments::format_option(
         alloc,

@@ -2,11 +2,12 @@
 ghost use Rattle.std.specs.Prelude.{◌≡◌, ◌⊎◌, Some, IfOk, IfErr, ℕ, List, map, string_bytes};
 ghost use Rattle.std.specs.Prelude.{option_map, codes};
 ghost use Rattle.clap.specs.Words.{first_of};
-ghost use Rattle.prolly_line.specs.Given.{GivesFlag, GivesKey, GivesMode, GivesOption, GivesWord};
-ghost use Rattle.prolly_line.specs.Given.{GivesBadRoot, GivesRoot, GivesTrust, GivesWords};
-ghost use Rattle.prolly_line.specs.Given.{GivesLines, GivesNotation, IsKeyText, bad_key};
-ghost use Rattle.prolly_line.specs.Accepted.{HasNumber, HasWord, IsRefusedKey, ReadsNumber};
-ghost use Rattle.prolly_line.specs.Accepted.{rows_in};
+ghost use Rattle.prolly_line.specs.GivenCommand.{GivesFlag, GivesKey, GivesMode, GivesOption};
+ghost use Rattle.prolly_line.specs.GivenCommand.{GivesWord};
+ghost use Rattle.prolly_line.specs.GivenCommand.{GivesBadRoot, GivesRoot, GivesTrust, GivesWords};
+ghost use Rattle.prolly_line.specs.GivenCommand.{GivesLines, GivesNotation, IsKeyText, bad_key};
+ghost use Rattle.prolly_line.specs.AcceptedWords.{HasNumber, HasWord, IsRefusedKey, ReadsNumber};
+ghost use Rattle.prolly_line.specs.AcceptedWords.{rows_in};
 ghost use Rattle.prolly_line.specs.declared.command.ParseFault.TheVariants.{BadRoot, Memory};
 
 use crate::command::{ParseFault, WriteMode};

@@ -1,12 +1,12 @@
 -- One more message of a receiver that was open.
 use Rattle.std.proofs.Common.{◌≡◌, List, [], ◌∷◌, ◌++◌, refl, ap, ◌∙◌}
-use Rattle.prolly_link.specs.Messages.{is_open, is_closed, end_in}
-use Rattle.prolly_link.specs.Agreement.{is_before_end, Agrees}
-use Rattle.prolly_link.specs.declared.end.End.{End}
+use Rattle.prolly_link.specs.Message.{is_open, is_closed, end_in}
+use Rattle.prolly_link.specs.Receiver.{is_before_end, Agrees}
+use Rattle.prolly_link.specs.declared.message.End.{End}
 use Rattle.prolly_link.specs.declared.message.Message.{Message}
 use Rattle.prolly_link.specs.declared.message.Message.TheVariants.{Item, Last}
-use Rattle.prolly_link.specs.declared.progress.Progress.{Progress}
-use Rattle.prolly_link.specs.declared.progress.Progress.TheVariants.{Open, Ended, Lost}
+use Rattle.prolly_link.specs.declared.message.Progress.{Progress}
+use Rattle.prolly_link.specs.declared.message.Progress.TheVariants.{Open, Ended, Lost}
 use Rattle.prolly_link.proofs.MessageLemmas.{is_open-item, is_open-last, is_closed-item}
 use Rattle.prolly_link.proofs.MessageLemmas.{is_closed-last, end_in-last}
 

@@ -2,8 +2,8 @@
 use Rattle.std.proofs.Common.{◌≡◌, ℕ, List, [], ◌∷◌, ◌++◌, refl, ap, sym, ◌∙◌, append_assoc, arith}
 use Rattle.std.proofs.lemmas.List.{append-nil}
 use Rattle.std.proofs.lemmas.Bool.Decides.{nat_tests}
-use Rattle.prolly_link.specs.Batches.{items_of}
-use Rattle.prolly_link.specs.OpenBatches.{room_of}
+use Rattle.prolly_link.specs.Batch.{items_of}
+use Rattle.prolly_link.specs.BatchSender.{room_taken}
 
 module _ {T : Type 0} where
   pub items_of-append : (bs cs : List (List T)) → items_of (bs ++ cs) ≡ items_of bs ++ items_of cs
@@ -16,5 +16,5 @@ module _ {T : Type 0} where
 
 -- a batch that has not begun, and has its room
 pub room_fresh : (size capacity count : ℕ) → capacity ≡ size → count ≡ 0 →
-    room_of size capacity count ≡ size
+    room_taken size capacity count ≡ size
 room_fresh size capacity count c n = grind (arith, nat_tests)

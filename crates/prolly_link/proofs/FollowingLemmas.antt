@@ -2,15 +2,15 @@
 use Rattle.std.proofs.Common.{◌≡◌, List, [], ◌∷◌, ◌++◌, ap, subst, sym, ◌∙◌, append_assoc}
 use Rattle.std.proofs.lemmas.List.{append-nil}
 use Rattle.prolly_link.specs.Views.{Receiving}
-use Rattle.prolly_link.specs.Receipts.{given_items, progress_after, GivesAgain, HasEnded}
+use Rattle.prolly_link.specs.Progress.{given_items, progress_after, GivesAgain, HasEnded}
 use Rattle.prolly_link.specs.Growth.{rest_is}
-use Rattle.prolly_link.specs.Following.{IsLater}
-use Rattle.prolly_link.specs.Draining.{Drains}
-use Rattle.prolly_link.specs.declared.next.Next.{Next}
-use Rattle.prolly_link.specs.declared.next.Next.TheVariants.{Item as next_item, End as next_end}
-use Rattle.prolly_link.specs.declared.next.Next.TheVariants.{Lost as next_lost}
-use Rattle.prolly_link.specs.declared.progress.Progress.{Progress}
-use Rattle.prolly_link.specs.declared.progress.Progress.TheVariants.{Open, Ended, Lost}
+use Rattle.prolly_link.specs.LaterReceiver.{IsLater}
+use Rattle.prolly_link.specs.Drained.{Drains}
+use Rattle.prolly_link.specs.declared.message.Next.{Next}
+use Rattle.prolly_link.specs.declared.message.Next.TheVariants.{Item as next_item, End as next_end}
+use Rattle.prolly_link.specs.declared.message.Next.TheVariants.{Lost as next_lost}
+use Rattle.prolly_link.specs.declared.message.Progress.{Progress}
+use Rattle.prolly_link.specs.declared.message.Progress.TheVariants.{Open, Ended, Lost}
 
 module _ {T : Type 0} where
   gives_nothing_again : (p : Progress) (n : Next T) → GivesAgain p n → HasEnded p →

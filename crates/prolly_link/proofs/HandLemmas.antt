@@ -7,13 +7,13 @@ use Rattle.std.proofs.lemmas.List.{append-nil}
 use mathlib.Core.List.{IsPrefix}
 use Rattle.prolly_link.specs.Fronts.{before_rest, front_is}
 use Rattle.prolly_link.specs.Views.{Receiving}
-use Rattle.prolly_link.specs.Batches.{items_of}
-use Rattle.prolly_link.specs.Hands.{given_of, empty_after, IsInHand}
-use Rattle.prolly_link.specs.Draining.{Drains}
+use Rattle.prolly_link.specs.Batch.{items_of}
+use Rattle.prolly_link.specs.BatchReceiver.{given_of, empty_after, IsInHand}
+use Rattle.prolly_link.specs.Drained.{Drains}
 use Rattle.prolly_link.proofs.BatchLemmas.{items_of-append, items_of_push}
-use Rattle.prolly_link.specs.declared.end.End.{End}
-use Rattle.prolly_link.specs.declared.progress.Progress.{Progress}
-use Rattle.prolly_link.specs.declared.progress.Progress.TheVariants.{Open, Ended, Lost}
+use Rattle.prolly_link.specs.declared.message.End.{End}
+use Rattle.prolly_link.specs.declared.message.Progress.{Progress}
+use Rattle.prolly_link.specs.declared.message.Progress.TheVariants.{Open, Ended, Lost}
 
 module _ {T : Type 0} where
   -- an item goes from the front of what is left to the end of what was given

@@ -1,8 +1,8 @@
 -- One more message, and the whole of a closed list.
 use Rattle.std.proofs.Common.{◌≡◌, true, false, List, [], ◌∷◌, ◌++◌, refl, ap, sym, ◌∙◌}
 use Rattle.std.proofs.lemmas.List.{append-nil}
-use Rattle.prolly_link.specs.Messages.{items_in, is_open, is_closed, end_in, whole_of}
-use Rattle.prolly_link.specs.declared.end.End.{End}
+use Rattle.prolly_link.specs.Message.{items_in, is_open, is_closed, end_in, whole_of}
+use Rattle.prolly_link.specs.declared.message.End.{End}
 use Rattle.prolly_link.specs.Identity.{LinkId}
 use Rattle.prolly_link.specs.declared.message.Message.{Message}
 use Rattle.prolly_link.specs.declared.message.Message.TheVariants.{Item, Last}

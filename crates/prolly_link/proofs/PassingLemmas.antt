@@ -2,15 +2,15 @@
 use Rattle.std.proofs.Common.{◌≡◌, ◌≢◌, true, List, [], ◌∷◌, ◌++◌, refl, ap, sym, ◌∙◌, append_assoc}
 use Rattle.std.proofs.lemmas.List.{append-nil}
 use mathlib.Core.List.{IsPrefix}
-use Rattle.prolly_link.specs.Messages.{items_in, is_open, is_closed, end_in}
-use Rattle.prolly_link.specs.Agreement.{with_end, is_before_end, is_ended, Agrees}
-use Rattle.prolly_link.specs.Passing.{open_messages, closed_messages, given_messages}
+use Rattle.prolly_link.specs.Message.{items_in, is_open, is_closed, end_in}
+use Rattle.prolly_link.specs.Receiver.{with_end, is_before_end, is_ended, Agrees}
+use Rattle.prolly_link.specs.PassedMessages.{open_messages, closed_messages, given_messages}
 use Rattle.prolly_link.proofs.MessageLemmas.{items_in-append, closed_is_whole}
-use Rattle.prolly_link.specs.declared.end.End.{End}
+use Rattle.prolly_link.specs.declared.message.End.{End}
 use Rattle.prolly_link.specs.declared.message.Message.{Message}
 use Rattle.prolly_link.specs.declared.message.Message.TheVariants.{Item, Last}
-use Rattle.prolly_link.specs.declared.progress.Progress.{Progress}
-use Rattle.prolly_link.specs.declared.progress.Progress.TheVariants.{Open, Ended, Lost}
+use Rattle.prolly_link.specs.declared.message.Progress.{Progress}
+use Rattle.prolly_link.specs.declared.message.Progress.TheVariants.{Open, Ended, Lost}
 
 module _ {T : Type 0} where
   open_front : (ms ns : List (Message T)) → is_open (ms ++ ns) ≡ true → is_open ms ≡ true

@@ -2,9 +2,9 @@
 use Rattle.std.specs.Prelude.{◌≡◌, ℕ, Bool, true, false, List, [], ◌∷◌, ◌++◌, length}
 use Rattle.prolly_link.specs.Fronts.{before_rest}
 use Rattle.prolly_link.specs.Views.{Receiving}
-use Rattle.prolly_link.specs.Batches.{items_of}
-use Rattle.prolly_link.specs.declared.progress.Progress.{Progress}
-use Rattle.prolly_link.specs.declared.progress.Progress.TheVariants.{Open, Ended, Lost}
+use Rattle.prolly_link.specs.Batch.{items_of}
+use Rattle.prolly_link.specs.declared.message.Progress.{Progress}
+use Rattle.prolly_link.specs.declared.message.Progress.TheVariants.{Open, Ended, Lost}
 
 module _ {T : Type 0} where
   -- a receiver of batches: the items of those that came, without those that are left of the last

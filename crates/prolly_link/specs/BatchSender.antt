@@ -1,11 +1,11 @@
 -- The open batch of a sender.
 use Rattle.std.specs.Prelude.{ℕ, ◌-◌, ◌<◌, ◌≤◌, List, ◌++◌, nat_le, if◌then◌else◌}
 use Rattle.prolly_link.specs.Views.{Sending, Batching}
-use Rattle.prolly_link.specs.Batches.{items_of}
+use Rattle.prolly_link.specs.Batch.{items_of}
 
 -- for how many more items room was taken, in an open batch that has `count` of them
-abbrev pub room_of : ℕ → ℕ → ℕ → ℕ
-room_of size capacity count = if nat_le size capacity then size - count else 0
+abbrev pub room_taken : ℕ → ℕ → ℕ → ℕ
+room_taken size capacity count = if nat_le size capacity then size - count else 0
 
 -- an open batch has fewer items than a full one, and where it has some, room for a full one was
 -- taken

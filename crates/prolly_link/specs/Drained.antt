@@ -2,11 +2,11 @@
 use Rattle.std.specs.Prelude.{◌≡◌, List}
 use mathlib.Core.List.{IsPrefix}
 use Rattle.prolly_link.specs.Views.{Receiving}
-use Rattle.prolly_link.specs.declared.progress.Progress.{Progress}
-use Rattle.prolly_link.specs.declared.progress.Progress.TheVariants.{Open, Ended, Lost}
-use Rattle.prolly_link.specs.declared.ends.Drained.{Drained}
-use Rattle.prolly_link.specs.declared.ends.Drained.TheVariants.{Ended as drained_ended}
-use Rattle.prolly_link.specs.declared.ends.Drained.TheVariants.{Lost as drained_lost}
+use Rattle.prolly_link.specs.declared.message.Progress.{Progress}
+use Rattle.prolly_link.specs.declared.message.Progress.TheVariants.{Open, Ended, Lost}
+use Rattle.prolly_link.specs.declared.closed.Drained.{Drained}
+use Rattle.prolly_link.specs.declared.closed.Drained.TheVariants.{Ended as drained_ended}
+use Rattle.prolly_link.specs.declared.closed.Drained.TheVariants.{Lost as drained_lost}
 
 module _ {T : Type 0} where
   -- a receiver that had come to `before` with the items xs is left with the items ys, having come

@@ -1,7 +1,7 @@
 -- A receiver, and the same one later.
 use Rattle.std.proofs.Common.{◌≡◌, [], ◌++◌, refl, ap, subst, sym, ◌∙◌}
 use Rattle.prolly_link.specs.Views.{Receiving}
-use Rattle.prolly_link.specs.Receipts.{HasEnded}
+use Rattle.prolly_link.specs.Progress.{HasEnded}
 use Rattle.prolly_link.specs.Growth.{items_between, Grew, between_nothing, between_more}
 
 module _ {T : Type 0} where

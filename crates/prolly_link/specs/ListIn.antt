@@ -1,10 +1,10 @@
 -- What an end over a list has left: items and then an end, or the end alone again and again.
 use Rattle.std.specs.Prelude.{◌≡◌, Bool, true, false, List, [], ◌++◌}
 use Rattle.prolly_link.specs.Fronts.{before_rest}
-use Rattle.prolly_link.specs.Receipts.{HasEnded}
-use Rattle.prolly_link.specs.declared.end.End.{End}
-use Rattle.prolly_link.specs.declared.progress.Progress.{Progress}
-use Rattle.prolly_link.specs.declared.progress.Progress.TheVariants.{Open, Ended}
+use Rattle.prolly_link.specs.Progress.{HasEnded}
+use Rattle.prolly_link.specs.declared.message.End.{End}
+use Rattle.prolly_link.specs.declared.message.Progress.{Progress}
+use Rattle.prolly_link.specs.declared.message.Progress.TheVariants.{Open, Ended}
 
 pub data Remaining (T : Type 0) : Type 0 where
   Unread : List T → End → Remaining T

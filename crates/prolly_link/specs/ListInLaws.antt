@@ -2,10 +2,10 @@
 use Rattle.std.proofs.Common.{◌≡◌, List, [], ◌++◌, refl, sym, ◌∙◌, ap, subst, append_assoc}
 use Rattle.std.proofs.lemmas.List.{append-nil}
 use Rattle.prolly_link.specs.Fronts.{front_is}
-use Rattle.prolly_link.specs.Remaining.{Remaining, Unread, Read, items_left, last_end, progress_of}
-use Rattle.prolly_link.specs.Remaining.{front_lost, LostFront, IsLaterList}
-use Rattle.prolly_link.specs.Receipts.{HasEnded}
-use Rattle.prolly_link.specs.declared.progress.Progress.TheVariants.{Ended}
+use Rattle.prolly_link.specs.ListIn.{Remaining, Unread, Read, items_left, last_end, progress_of}
+use Rattle.prolly_link.specs.ListIn.{front_lost, LostFront, IsLaterList}
+use Rattle.prolly_link.specs.Progress.{HasEnded}
+use Rattle.prolly_link.specs.declared.message.Progress.TheVariants.{Ended}
 
 module _ {T : Type 0} where
   two_fronts : (xs ys zs p q : List T) → xs ≡ p ++ ys → ys ≡ q ++ zs → xs ≡ (p ++ q) ++ zs

@@ -1,13 +1,13 @@
 -- What a receiver gives, and how far it has come by that.
 use Rattle.std.specs.Prelude.{◌≡◌, List, [], ◌∷◌}
-use Rattle.prolly_link.specs.declared.end.End.{End}
-use Rattle.prolly_link.specs.declared.end.End.TheVariants.{Clean, Fault}
+use Rattle.prolly_link.specs.declared.message.End.{End}
+use Rattle.prolly_link.specs.declared.message.End.TheVariants.{Clean, Fault}
 use Rattle.prolly_link.specs.declared.fault.RunFault.TheVariants.{Lost as lost_fault}
-use Rattle.prolly_link.specs.declared.next.Next.{Next}
-use Rattle.prolly_link.specs.declared.next.Next.TheVariants.{Item as next_item, End as next_end}
-use Rattle.prolly_link.specs.declared.next.Next.TheVariants.{Lost as next_lost}
-use Rattle.prolly_link.specs.declared.progress.Progress.{Progress}
-use Rattle.prolly_link.specs.declared.progress.Progress.TheVariants.{Open, Ended, Lost}
+use Rattle.prolly_link.specs.declared.message.Next.{Next}
+use Rattle.prolly_link.specs.declared.message.Next.TheVariants.{Item as next_item, End as next_end}
+use Rattle.prolly_link.specs.declared.message.Next.TheVariants.{Lost as next_lost}
+use Rattle.prolly_link.specs.declared.message.Progress.{Progress}
+use Rattle.prolly_link.specs.declared.message.Progress.TheVariants.{Open, Ended, Lost}
 
 module _ {T : Type 0} where
   -- the items that a receiver gave: one or none

@@ -1,10 +1,10 @@
 -- How far a receiver has come, by the messages that it popped.
 use Rattle.std.specs.Prelude.{◌≡◌, Bool, true, false, List}
-use Rattle.prolly_link.specs.Messages.{is_open, is_closed, end_in}
-use Rattle.prolly_link.specs.declared.end.End.{End}
+use Rattle.prolly_link.specs.Message.{is_open, is_closed, end_in}
+use Rattle.prolly_link.specs.declared.message.End.{End}
 use Rattle.prolly_link.specs.declared.message.Message.{Message}
-use Rattle.prolly_link.specs.declared.progress.Progress.{Progress}
-use Rattle.prolly_link.specs.declared.progress.Progress.TheVariants.{Open, Ended, Lost}
+use Rattle.prolly_link.specs.declared.message.Progress.{Progress}
+use Rattle.prolly_link.specs.declared.message.Progress.TheVariants.{Open, Ended, Lost}
 
 -- a receiver that has come this far has popped no end
 abbrev pub is_before_end : Progress → Bool

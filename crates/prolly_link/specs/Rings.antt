@@ -7,7 +7,7 @@ use Rattle.rtrb.specs.declared.consumer.Consumer.{Consumer}
 use Rattle.rtrb.specs.Ring.{sent as pushed, received as popped}
 use Rattle.prolly_link.specs.Identity.{producer_link, consumer_link}
 use Rattle.prolly_link.specs.Views.{Sending, Whole}
-use Rattle.prolly_link.specs.Messages.{sending_of, whole_of, is_open, is_closed}
+use Rattle.prolly_link.specs.Message.{sending_of, whole_of, is_open, is_closed}
 use Rattle.prolly_link.specs.declared.message.Message.{Message}
 
 module _ {T : Type 0} where

@@ -1,8 +1,8 @@
 -- What a contract sees of the ends of a link.
 use Rattle.std.specs.Prelude.{ℕ, List}
 use Rattle.prolly_link.specs.Identity.{LinkId}
-use Rattle.prolly_link.specs.declared.end.End.{End}
-use Rattle.prolly_link.specs.declared.progress.Progress.{Progress}
+use Rattle.prolly_link.specs.declared.message.End.{End}
+use Rattle.prolly_link.specs.declared.message.Progress.{Progress}
 
 -- the items that went through an end of a link, oldest first, with no end after them
 pub record Sending (T : Type 0) : Type 0 where

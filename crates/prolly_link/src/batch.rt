@@ -1,14 +1,19 @@
 //! What the ring of a batch link carries, and below it the ends of such a link.
-pub(crate) mod comparing;
-pub(crate) mod ends;
-pub(crate) mod meeting;
-pub(crate) mod opening;
-pub(crate) mod receiver;
-pub(crate) mod sender;
+mod closed;
+mod link;
+mod receiver;
+mod sender;
 
 ghost use Rattle.std.specs.Prelude.{◌≡◌, ◌≤◌, ◌∷◌, length, vec_len};
 ghost use Rattle.std.specs.VecDeque.{deque_len};
 
+pub use closed::{
+    BatchDrained, ClosedBatch, EndedBatch, LostBatch, MetBatch, compare_batches,
+    compare_closed_batches, meet_batches,
+};
+pub use link::batch_link;
+pub use receiver::BatchReceiver;
+pub use sender::BatchSender;
 use std::alloc::Global;
 use std::collections::VecDeque;
 use std::marker::Model;

@@ -1,5 +1,6 @@
 //! A bound on the bytes that a link holds.
-use crate::patience::Patience;
+
+use crate::waiting::Patience;
 use std::sync::Wait;
 use std::sync::atomic::{AtomicU64, Ordering};
 
@@ -21,7 +22,7 @@ pub(crate) struct InFlight {
 }
 
 impl InFlight {
-    /// That of a new link with room for `capacity` batches.
+    /// The counter of a new link with room for `capacity` batches.
     pub(crate) fn new(capacity: usize) -> InFlight {
         InFlight {
             bytes: AtomicU64::new(0),

@@ -10,47 +10,28 @@
 #![tactic(auto)]
 
 mod batch;
-mod bell;
-mod comparing;
-mod end;
+mod closed;
 mod ends;
 mod fault;
 mod in_flight;
-mod input;
-mod list_in;
-mod list_out;
-mod meeting;
+mod lists;
 mod message;
-mod next;
-mod opening;
-mod output;
-mod patience;
-mod pop;
-mod progress;
-mod push;
+mod new_link;
 mod receiver;
-mod rest;
 mod sender;
-mod shared;
+mod waiting;
 
-pub use batch::comparing::{compare_batches, compare_closed_batches};
-pub use batch::ends::{BatchDrained, ClosedBatch, EndedBatch, LostBatch, MetBatch};
-pub use batch::meeting::meet_batches;
-pub use batch::opening::batch_link;
-pub use batch::receiver::BatchReceiver;
-pub use batch::sender::BatchSender;
-pub use comparing::{compare, compare_closed};
-pub use end::End;
-pub use ends::{ClosedSender, Drained, EndedReceiver, LostReceiver, Met};
+pub use batch::{
+    BatchDrained, BatchReceiver, BatchSender, ClosedBatch, EndedBatch, LostBatch, MetBatch,
+    batch_link, compare_batches, compare_closed_batches, meet_batches,
+};
+pub use closed::{
+    ClosedSender, Drained, EndedReceiver, LostReceiver, Met, compare, compare_closed, meet,
+};
+pub use ends::{In, Out, receive_rest};
 pub use fault::RunFault;
-pub use input::In;
-pub use list_in::ListIn;
-pub use list_out::{ClosedList, ListOut};
-pub use meeting::meet;
-pub use next::Next;
-pub use opening::{LinkFault, link};
-pub use output::Out;
-pub use progress::Progress;
+pub use lists::{ClosedList, ListIn, ListOut};
+pub use message::{End, Next, Progress};
+pub use new_link::{LinkFault, link};
 pub use receiver::Receiver;
-pub use rest::receive_rest;
 pub use sender::Sender;

@@ -1,9 +1,34 @@
-//! What a ring carries.
-use crate::end::End;
+//! What goes over a link, and what its receiver is given.
+
+use crate::fault::RunFault;
 
 /// An item, or the end.
 #[derive(Drop)]
 pub(crate) enum Message<T> {
     Item(T),
     Last(End),
+}
+
+/// What follows the last item: nothing more to say, or why there are no more items.
+#[derive(Clone, Copy, PartialEq, Eq, Debug)]
+pub enum End {
+    Clean,
+    Fault(RunFault),
+}
+
+/// An item, or why there is none.
+#[derive(Drop, PartialEq, Eq, Debug)]
+pub enum Next<T> {
+    Item(T),
+    End(End),
+    /// The sender was dropped before it had closed, and no message is left.
+    Lost,
+}
+
+/// Whether a receiver has given its end, or that it has lost its sender.
+#[derive(Clone, Copy, PartialEq, Eq, Debug)]
+pub enum Progress {
+    Open,
+    Ended(End),
+    Lost,
 }

@@ -1,10 +1,10 @@
 //! The making of a link.
 ghost use Rattle.std.specs.Prelude.{◌≡◌, ◌≤◌, [], IfOk, Some, codes};
 
-use crate::patience::Patience;
-use crate::progress::Progress;
+use crate::message::Progress;
 use crate::receiver::Receiver;
 use crate::sender::Sender;
+use crate::waiting::Patience;
 use rtrb::RingBuffer;
 use std::alloc::Global;
 use std::error::Error;

@@ -1,14 +1,11 @@
 //! The end of a link that receives.
 ghost use Rattle.std.specs.Prelude.{◌≡◌, ◌++◌};
-ghost use Rattle.prolly_link.specs.Receipts.{given_items, progress_after, GivesAgain};
+ghost use Rattle.prolly_link.specs.Progress.{given_items, progress_after, GivesAgain};
 
-use crate::ends::{Drained, EndedReceiver, LostReceiver};
-use crate::input::In;
-use crate::message::Message;
-use crate::next::Next;
-use crate::patience::Patience;
-use crate::pop::pop_waiting;
-use crate::progress::Progress;
+use crate::closed::{Drained, EndedReceiver, LostReceiver};
+use crate::ends::In;
+use crate::message::{Message, Next, Progress};
+use crate::waiting::{Patience, pop_waiting};
 use rtrb::Consumer;
 use std::marker::Model;
 use std::sync::Wait;
@@ -29,8 +26,8 @@ impl<T> Model for Receiver<T> {
 
     ghost use Rattle.rtrb.specs.Ring.{received as popped};
     ghost use Rattle.prolly_link.specs.Identity.{consumer_link};
-    ghost use Rattle.prolly_link.specs.Messages.{items_in};
-    ghost use Rattle.prolly_link.specs.Agreement.{Agrees};
+    ghost use Rattle.prolly_link.specs.Message.{items_in};
+    ghost use Rattle.prolly_link.specs.Receiver.{Agrees};
 
     ghost view = { λ r. record {
       link = consumer_link r.ring;
@@ -43,7 +40,7 @@ impl<T> Model for Receiver<T> {
 }
 
 impl<T> Receiver<T> {
-    ghost use Rattle.prolly_link.specs.Draining.{IsDrainOf};
+    ghost use Rattle.prolly_link.specs.Drained.{IsDrainOf};
 
     /// The next item, or the end, waiting for a message. An end, or `Lost`, is given again and
     /// again.
@@ -102,8 +99,8 @@ impl<T> Receiver<T> {
 
 impl<T> In<T> for Receiver<T> {
     ghost use Rattle.prolly_link.specs.Growth.{items_between, between_nothing};
-    ghost use Rattle.prolly_link.specs.Following.{IsLater, later_same, later_more};
-    ghost use Rattle.prolly_link.specs.Following.{received_in_both, nothing_after_end};
+    ghost use Rattle.prolly_link.specs.LaterReceiver.{IsLater, later_same, later_more};
+    ghost use Rattle.prolly_link.specs.LaterReceiver.{received_in_both, nothing_after_end};
 
     ghost link = { λ r. r.link };
 

@@ -1,12 +1,10 @@
 //! The end of a link that sends.
 ghost use Rattle.std.specs.Prelude.{◌≡◌, [], ◌∷◌, ◌++◌, IsOk};
 
-use crate::end::End;
-use crate::ends::ClosedSender;
-use crate::message::Message;
-use crate::output::Out;
-use crate::patience::Patience;
-use crate::push::{Wake, push_waiting};
+use crate::closed::ClosedSender;
+use crate::ends::Out;
+use crate::message::{End, Message};
+use crate::waiting::{Patience, Wake, push_waiting};
 use rtrb::Producer;
 use std::marker::Model;
 use std::sync::Wait;

@@ -2,8 +2,8 @@
 use Rattle.std.specs.Prelude.{Bool, true, Result, Ok, Err, IfOk}
 use Rattle.std.specs.Result.{result_unwrap_or}
 use Rattle.prolly_file.specs.Source.{HandsOut}
-use Rattle.prolly_load.specs.Filling.{Fills}
-use Rattle.prolly_load.specs.declared.span.Span.{Span}
+use Rattle.prolly_load.specs.Fill.{Fills}
+use Rattle.prolly_load.specs.declared.buffer.Span.{Span}
 use Rattle.prolly_load.specs.Span.{part}
 use Rattle.std.proofs.Common.{◌≡◌, ℕ, ◌+◌, ◌-◌, ◌<◌, ◌≤◌, List, ◌++◌, length, take, drop, sym, ap}
 use Rattle.std.proofs.Common.{◌∙◌, arith}

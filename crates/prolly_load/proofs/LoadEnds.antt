@@ -2,20 +2,20 @@
 use Rattle.std.proofs.Common.{◌≡◌, ℕ, ◌<◌, Bool, true, List, [], ◌∷◌, ◌++◌, length, Some, None, inl}
 use Rattle.std.proofs.Common.{inr, refl, sym, ap, ◌∙◌, subst, arith}
 use Rattle.std.proofs.lemmas.List.{append-nil}
-use Rattle.prolly_entry.specs.declared.flaw.Flaw.{Flaw}
-use Rattle.prolly_entry.specs.declared.flaw.Flaw.TheVariants as flaws
+use Rattle.prolly_entry.specs.declared.next.Flaw.{Flaw}
+use Rattle.prolly_entry.specs.declared.next.Flaw.TheVariants as flaws
 use Rattle.prolly_entry.specs.Position.{last_position}
 use Rattle.prolly_entry.specs.Record.{Record}
 use Rattle.prolly_entry.specs.Reading.{Begins, IsReading}
 use Rattle.prolly_entry.specs.NextRecord.{IsUndecided, IsFlawed}
 use Rattle.prolly_laws.specs.Readings.{ends_clean, ends_flawed, ends_cut, first_are_good}
 use Rattle.prolly_laws.specs.Readings.{begins_all}
-use Rattle.prolly_link.specs.declared.end.End.TheVariants.{Clean, Fault}
+use Rattle.prolly_link.specs.declared.message.End.TheVariants.{Clean, Fault}
 use Rattle.prolly_link.specs.declared.fault.RunFault.{RunFault}
 use Rattle.prolly_link.specs.declared.fault.RunFault.TheVariants as faults
-use Rattle.prolly_load.specs.Buffered.{Buffered}
+use Rattle.prolly_load.specs.Buffer.{Buffered}
 use Rattle.prolly_load.specs.Fault.{fault_of}
-use Rattle.prolly_load.specs.Loading.{IsReadTo, AreFirstGood, FailsAs, IsLoaded}
+use Rattle.prolly_load.specs.Loaded.{IsReadTo, AreFirstGood, FailsAs, IsLoaded}
 use Rattle.prolly_load.proofs.UnderWay.{IsUnderWay}
 
 -- ---- first records

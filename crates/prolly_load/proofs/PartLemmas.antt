@@ -3,7 +3,7 @@ use Rattle.std.proofs.Common.{◌≡◌, ℕ, ◌+◌, ◌-◌, ◌≤◌, List,
 use Rattle.std.proofs.Common.{None, refl, sym, ap, ◌∙◌, subst, arith}
 use Rattle.std.specs.Option.{option_map}
 use Rattle.prolly_entry.specs.Position.{Position}
-use Rattle.prolly_load.specs.declared.span.Span.{Span}
+use Rattle.prolly_load.specs.declared.buffer.Span.{Span}
 use Rattle.prolly_load.specs.Span.{part, IsKeyBefore}
 use Rattle.std.proofs.lemmas.List.{append-nil, drop_all, drop-take, drop-drop, length-take}
 use Rattle.std.proofs.lemmas.List.{take_all, take-take}

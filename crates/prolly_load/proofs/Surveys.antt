@@ -5,21 +5,21 @@ use Rattle.std.proofs.Common.{arith}
 use Rattle.std.proofs.lemmas.List.{append-nil}
 use Rattle.std.proofs.Math.Seq.{drop-append_seam}
 use Rattle.std.specs.List.{flat_map}
-use Rattle.prolly_entry.specs.declared.flaw.Flaw.{Flaw}
+use Rattle.prolly_entry.specs.declared.next.Flaw.{Flaw}
 use Rattle.prolly_entry.specs.NextRecord.{IsUndecided, IsFlawed}
 use Rattle.prolly_entry.specs.Position.{last_position}
 use Rattle.prolly_entry.specs.Reading.{Begins, IsReading}
 use Rattle.prolly_entry.specs.Record.{Record}
 use Rattle.prolly_entry.specs.Spelling.{record_spelling}
 use Rattle.prolly_laws.specs.Readings.{begins_all, ends_clean, ends_flawed, ends_cut}
-use Rattle.prolly_load.specs.declared.surveyed.FlawedRecord.{FlawedRecord}
-use Rattle.prolly_load.specs.declared.surveyed.Survey.{Survey}
+use Rattle.prolly_load.specs.declared.tally.FlawedRecord.{FlawedRecord}
+use Rattle.prolly_load.specs.declared.tally.Survey.{Survey}
 use Rattle.prolly_load.specs.declared.tally.Tally.{Tally}
-use Rattle.prolly_load.specs.Buffered.{Buffered}
-use Rattle.prolly_load.specs.Filling.{Gains}
-use Rattle.prolly_load.specs.Passing.{PassesRecord}
-use Rattle.prolly_load.specs.Survey.{IsSurvey, bytes_of, told_key}
-use Rattle.prolly_load.specs.Telling.{HasToldKey, Tells, cut_in}
+use Rattle.prolly_load.specs.Buffer.{Buffered}
+use Rattle.prolly_load.specs.Fill.{Gains}
+use Rattle.prolly_load.specs.Skipped.{PassesRecord}
+use Rattle.prolly_load.specs.Survey.{IsSurvey, key_bytes, told_key}
+use Rattle.prolly_load.specs.Tally.{HasToldKey, Tells, cut_in}
 use Rattle.prolly_load.proofs.Tallies.{IsTallyOf, Counts, one_counted, bytes_bound, record_bound}
 use Rattle.prolly_load.proofs.Tallies.{removals_bound}
 use Rattle.prolly_load.proofs.ToldKeys.{has_told_key, told_stays}
@@ -135,8 +135,8 @@ module _ (honest : Bool) (limit : ℕ) (tally : Tally) (buffered : Buffered) (by
 
     key_right : (flawed : Option FlawedRecord) (flaw : Option Flaw) (unparsed rest : List ℕ) →
         option_map (λ f. f.flaw) flawed ≡ flaw → IfSome flaw (λ f. HasToldKey f unparsed) →
-        rest ≡ unparsed ++ left → IfSome flawed (λ f. bytes_of f.key ≡ told_key f.flaw unparsed) →
-        IfSome flawed (λ f. bytes_of f.key ≡ told_key f.flaw rest)
+        rest ≡ unparsed ++ left → IfSome flawed (λ f. key_bytes f.key ≡ told_key f.flaw unparsed) →
+        IfSome flawed (λ f. key_bytes f.key ≡ told_key f.flaw rest)
     key_right None flaw unparsed rest e has is h = tt
     key_right (Some f) flaw unparsed rest e has is h =
         h ∙ sym (ap (told_key f.flaw) is ∙ told_stays f.flaw unparsed left
@@ -157,7 +157,7 @@ module _ (honest : Bool) (limit : ℕ) (tally : Tally) (buffered : Buffered) (by
           records_are = k.records ∙ h.tally_is.records_are;
           removals_are = k.removals ∙ h.tally_is.removals_are;
           bytes_are = bytes_are;
-          first_is = ap bytes_of k.first_key ∙ h.tally_is.first_is;
+          first_is = ap key_bytes k.first_key ∙ h.tally_is.first_is;
           last_is = k.last_key ∙ position_is h;
           key_is = key_right survey.flawed flaw buffered.unparsed (drop survey.bytes bytes)
               k.flaw_is has

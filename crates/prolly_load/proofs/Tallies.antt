@@ -13,21 +13,21 @@ use Rattle.prolly_entry.specs.Record.{Record, IsRecord, IsChange}
 use Rattle.prolly_entry.specs.Spelling.{record_spelling}
 use Rattle.prolly_entry.specs.lemmas.Spellings.{record_size, value_size}
 use Rattle.prolly_load.specs.declared.tally.Tally.{Tally}
-use Rattle.prolly_load.specs.Survey.{bytes_of, first_position, is_removal}
+use Rattle.prolly_load.specs.Survey.{key_bytes, first_position, is_removal}
 
 -- The tally is that of these records.
 pub record IsTallyOf (good : List Record) (tally : Tally) : Type 0 where
   pub records_are : tally.records ≡ length good
   pub removals_are : tally.removals ≡ length (filter is_removal good)
   pub bytes_are : tally.bytes ≡ length (flat_map record_spelling good)
-  pub first_is : bytes_of tally.first_key ≡ first_position good
+  pub first_is : key_bytes tally.first_key ≡ first_position good
 
 -- One record more is counted.
 pub record Counts (removes : Bool) (len : ℕ) (key : Position) (old new : Tally) : Type 0 where
   pub records : new.records ≡ old.records + 1
   pub removals : new.removals ≡ old.removals + cond removes 1 0
   pub bytes : new.bytes ≡ old.bytes + len
-  pub first_key : bytes_of new.first_key ≡ option_or (bytes_of old.first_key) key
+  pub first_key : key_bytes new.first_key ≡ option_or (key_bytes old.first_key) key
 
 one_kept : (b : Bool) (r : Record) → length (cond b (r ∷ []) []) ≡ cond b 1 0
 one_kept true r = refl

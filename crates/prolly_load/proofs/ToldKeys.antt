@@ -5,13 +5,13 @@ use Rattle.std.proofs.Common.{drop, Option, Some, refl, sym, ap, ◌∙◌, arit
 use Rattle.std.proofs.lemmas.Bool.{ltb-false}
 use Rattle.std.proofs.lemmas.List.{append-nil, take-append-le, drop-append-le}
 use Rattle.std.specs.Int.{w16, from_be_bytes}
-use Rattle.prolly_entry.specs.declared.flaw.Flaw.{Flaw}
-use Rattle.prolly_entry.specs.declared.flaw.Flaw.TheVariants as flaws
+use Rattle.prolly_entry.specs.declared.next.Flaw.{Flaw}
+use Rattle.prolly_entry.specs.declared.next.Flaw.TheVariants as flaws
 use Rattle.prolly_entry.specs.NextRecord.{IsFlawed}
 use Rattle.prolly_entry.specs.Position.{Position}
 use Rattle.prolly_entry.specs.Reading.{key_length, next_flaw}
 use Rattle.prolly_load.specs.Survey.{told_key}
-use Rattle.prolly_load.specs.Telling.{HasToldKey}
+use Rattle.prolly_load.specs.Tally.{HasToldKey}
 
 -- Where a later question than the fourth is answered, the fourth was no.
 fourth_passed : (a b c d : Bool) (rest t : Option Flaw) → (Some flaws.TooManyRecords ≡ t → ⊥) →

@@ -4,18 +4,18 @@ use Rattle.std.proofs.Common.{◌≡◌, ℕ, ◌+◌, Bool, true, List, [], ◌
 use Rattle.std.proofs.Common.{refl, sym, ap, ◌∙◌, subst, arith, append_assoc, length-append}
 use Rattle.std.proofs.lemmas.List.{append-nil, nil_from_length}
 use Rattle.std.specs.List.{flat_map}
-use Rattle.prolly_entry.specs.declared.flaw.Flaw.{Flaw}
+use Rattle.prolly_entry.specs.declared.next.Flaw.{Flaw}
 use Rattle.prolly_entry.specs.Position.{last_position}
 use Rattle.prolly_entry.specs.Record.{Record}
 use Rattle.prolly_entry.specs.Reading.{Begins}
 use Rattle.prolly_entry.specs.Spelling.{record_spelling}
 use Rattle.prolly_entry.specs.NextRecord.{IsNext, IsUndecided, IsFlawed}
 use Rattle.prolly_laws.specs.Readings.{begins_more, begins_none, last_more}
-use Rattle.prolly_load.specs.Buffered.{Buffered}
-use Rattle.prolly_load.specs.Filling.{Gains, GainsNothing}
-use Rattle.prolly_load.specs.declared.taking.Taken.{Taken}
-use Rattle.prolly_load.specs.declared.taking.Taken.TheVariants as takes
-use Rattle.prolly_load.specs.Taking.{TakesRecord, Takes}
+use Rattle.prolly_load.specs.Buffer.{Buffered}
+use Rattle.prolly_load.specs.Fill.{Gains, GainsNothing}
+use Rattle.prolly_load.specs.declared.loader.Taken.{Taken}
+use Rattle.prolly_load.specs.declared.loader.Taken.TheVariants as takes
+use Rattle.prolly_load.specs.Taken.{TakesRecord, TakesNext}
 
 -- Some records are sent: they begin the bytes that were handed out, and behind them are the
 -- unparsed ones.
@@ -113,14 +113,14 @@ nothing_read honest honest' limit count buffered old new bytes left left' before
 -- ---- what was taken
 
 pub record_taken : (limit count : ℕ) (old new : Buffered) (taken : Taken) (r : Record) →
-    Takes limit count old new taken → taken ≡ takes.Record r →
+    TakesNext limit count old new taken → taken ≡ takes.Record r →
     TakesRecord limit count old new r
-record_taken limit count old new taken r h e = subst (Takes limit count old new) e h
+record_taken limit count old new taken r h e = subst (TakesNext limit count old new) e h
 
 pub flaw_taken : (limit count : ℕ) (old new : Buffered) (taken : Taken) (flaw : Flaw) →
-    Takes limit count old new taken → taken ≡ takes.Flawed flaw →
+    TakesNext limit count old new taken → taken ≡ takes.Flawed flaw →
     IsFlawed limit count old.last_key old.unparsed flaw
-flaw_taken limit count old new taken flaw h e = let is = subst (Takes limit count old new) e h in
+flaw_taken limit count old new taken flaw h e = let is = subst (TakesNext limit count old new) e h in
     is.0
 
 -- Nothing was taken, so nothing is decided, and the buffer is as it was.
@@ -129,9 +129,9 @@ pub record TakesNothing (limit count : ℕ) (old new : Buffered) : Type 0 where
   pub same : new ≡ old
 
 pub nothing_taken : (limit count : ℕ) (old new : Buffered) (taken : Taken) →
-    Takes limit count old new taken → taken ≡ takes.Nothing →
+    TakesNext limit count old new taken → taken ≡ takes.Nothing →
     TakesNothing limit count old new
-nothing_taken limit count old new taken h e = let is = subst (Takes limit count old new) e h in
+nothing_taken limit count old new taken h e = let is = subst (TakesNext limit count old new) e h in
     record { undecided = is.0; same = is.1 }
 
 -- ---- a read that brings nothing

@@ -1,7 +1,7 @@
 -- How a flaw of a record file is told on a link.
 use Rattle.std.specs.Prelude.{ℕ}
-use Rattle.prolly_entry.specs.declared.flaw.Flaw.{Flaw}
-use Rattle.prolly_entry.specs.declared.flaw.Flaw.TheVariants as flaws
+use Rattle.prolly_entry.specs.declared.next.Flaw.{Flaw}
+use Rattle.prolly_entry.specs.declared.next.Flaw.TheVariants as flaws
 use Rattle.prolly_link.specs.declared.fault.RunFault.{RunFault}
 use Rattle.prolly_link.specs.declared.fault.RunFault.TheVariants as faults
 

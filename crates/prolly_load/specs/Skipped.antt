@@ -3,11 +3,11 @@ use Rattle.std.specs.Prelude.{◌≡◌, ℕ, Bool, length}
 use Rattle.prolly_entry.specs.NextRecord.{IsUndecided, IsFlawed}
 use Rattle.prolly_entry.specs.Record.{Record as RecordValue}
 use Rattle.prolly_entry.specs.Spelling.{record_spelling}
-use Rattle.prolly_load.specs.declared.passing.Passed.{Passed}
-use Rattle.prolly_load.specs.declared.passing.Passed.TheVariants.{Record, Nothing, Flawed}
-use Rattle.prolly_load.specs.Buffered.{Buffered}
+use Rattle.prolly_load.specs.declared.surveyor.Skipped.{Skipped}
+use Rattle.prolly_load.specs.declared.surveyor.Skipped.TheVariants.{Record, Nothing, Flawed}
+use Rattle.prolly_load.specs.Buffer.{Buffered}
 use Rattle.prolly_load.specs.Survey.{is_removal}
-use Rattle.prolly_load.specs.Taking.{TakesRecord}
+use Rattle.prolly_load.specs.Taken.{TakesRecord}
 
 -- The next good record is gone from the unparsed bytes, and so it is told whether it removes its
 -- key, and how many bytes it takes.
@@ -19,8 +19,8 @@ pub record PassesRecord (limit count : ℕ) (old new : Buffered) (removes : Bool
     pub len_is : len ≡ length (record_spelling passed)
 
 -- What was passed, by the answer.
-abbrev pub Passes : ℕ → ℕ → Buffered → Buffered → Passed → Type 0
-Passes limit count old new (Record removes len) = PassesRecord limit count old new removes len
-Passes limit count old new Nothing = IsUndecided limit count old.last_key old.unparsed × (new ≡ old)
-Passes limit count old new (Flawed flaw) = IsFlawed limit count old.last_key old.unparsed flaw ×
+abbrev pub Skips : ℕ → ℕ → Buffered → Buffered → Skipped → Type 0
+Skips limit count old new (Record removes len) = PassesRecord limit count old new removes len
+Skips limit count old new Nothing = IsUndecided limit count old.last_key old.unparsed × (new ≡ old)
+Skips limit count old new (Flawed flaw) = IsFlawed limit count old.last_key old.unparsed flaw ×
     (new ≡ old)

@@ -1,6 +1,6 @@
 -- Places of bytes.
 use Rattle.std.specs.Prelude.{◌≡◌, ℕ, ◌+◌, ◌-◌, ◌≤◌, List, length, take, drop, Option, Some, None}
-use Rattle.prolly_load.specs.declared.span.Span.{Span}
+use Rattle.prolly_load.specs.declared.buffer.Span.{Span}
 
 -- The bytes of a span.
 abbrev pub part : List ℕ → Span → List ℕ

@@ -3,14 +3,14 @@ use Rattle.std.specs.Prelude.{◌≡◌, ℕ, Bool, List, [], ◌∷◌, length,
 use Rattle.std.specs.Prelude.{IfSome, is_none, option_map}
 use Rattle.std.specs.Global.{Vec}
 use Rattle.std.specs.List.{filter, flat_map}
-use Rattle.prolly_entry.specs.declared.flaw.Flaw.{Flaw}
-use Rattle.prolly_entry.specs.declared.flaw.Flaw.TheVariants.{Truncated, KeyTooLong, ValueTooLong}
-use Rattle.prolly_entry.specs.declared.flaw.Flaw.TheVariants.{OutOfOrder, TooManyRecords}
+use Rattle.prolly_entry.specs.declared.next.Flaw.{Flaw}
+use Rattle.prolly_entry.specs.declared.next.Flaw.TheVariants.{Truncated, KeyTooLong, ValueTooLong}
+use Rattle.prolly_entry.specs.declared.next.Flaw.TheVariants.{OutOfOrder, TooManyRecords}
 use Rattle.prolly_entry.specs.Position.{Position, last_position}
 use Rattle.prolly_entry.specs.Reading.{IsReading, key_length}
 use Rattle.prolly_entry.specs.Record.{Record}
 use Rattle.prolly_entry.specs.Spelling.{record_spelling}
-use Rattle.prolly_load.specs.declared.surveyed.Survey.{Survey}
+use Rattle.prolly_load.specs.declared.tally.Survey.{Survey}
 
 -- The record removes a key.
 abbrev pub is_removal : Record → Bool
@@ -22,8 +22,8 @@ first_position [] = None
 first_position (r ∷ rs) = Some r.key
 
 -- The bytes of a key, where there is one.
-abbrev pub bytes_of : Option (Vec ℕ) → Option (List ℕ)
-bytes_of key = option_map (λ bytes. bytes.items) key
+abbrev pub key_bytes : Option (Vec ℕ) → Option (List ℕ)
+key_bytes key = option_map (λ bytes. bytes.items) key
 
 -- The key of the flawed record that bytes begin with, where the flaw lies behind it.
 abbrev pub told_key : Flaw → List ℕ → Option (List ℕ)
@@ -43,7 +43,7 @@ pub record IsSurvey (bytes : List ℕ) (limit : ℕ) (survey : Survey) : Type 0 
   pub records_are : survey.records ≡ length good
   pub removals_are : survey.removals ≡ length (filter is_removal good)
   pub bytes_are : survey.bytes ≡ length (flat_map record_spelling good)
-  pub first_is : bytes_of survey.first_key ≡ first_position good
-  pub last_is : bytes_of survey.last_key ≡ last_position good
+  pub first_is : key_bytes survey.first_key ≡ first_position good
+  pub last_is : key_bytes survey.last_key ≡ last_position good
   pub key_is : IfSome survey.flawed
-      (λ flawed. bytes_of flawed.key ≡ told_key flawed.flaw (drop survey.bytes bytes))
+      (λ flawed. key_bytes flawed.key ≡ told_key flawed.flaw (drop survey.bytes bytes))

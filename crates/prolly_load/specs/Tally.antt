@@ -1,15 +1,15 @@
 -- How a survey is told of what was passed.
 use Rattle.std.specs.Prelude.{◌≡◌, ℕ, ◌+◌, ◌≤◌, List, [], ◌∷◌, length, Option, Some, None}
 use Rattle.std.specs.Prelude.{IfSome, option_map}
-use Rattle.prolly_entry.specs.declared.flaw.Flaw.{Flaw}
-use Rattle.prolly_entry.specs.declared.flaw.Flaw.TheVariants.{Truncated, KeyTooLong, ValueTooLong}
-use Rattle.prolly_entry.specs.declared.flaw.Flaw.TheVariants.{OutOfOrder, TooManyRecords}
+use Rattle.prolly_entry.specs.declared.next.Flaw.{Flaw}
+use Rattle.prolly_entry.specs.declared.next.Flaw.TheVariants.{Truncated, KeyTooLong, ValueTooLong}
+use Rattle.prolly_entry.specs.declared.next.Flaw.TheVariants.{OutOfOrder, TooManyRecords}
 use Rattle.prolly_entry.specs.Reading.{key_length}
-use Rattle.prolly_load.specs.declared.surveyed.FlawedRecord.{FlawedRecord}
-use Rattle.prolly_load.specs.declared.surveyed.Survey.{Survey}
+use Rattle.prolly_load.specs.declared.tally.FlawedRecord.{FlawedRecord}
+use Rattle.prolly_load.specs.declared.tally.Survey.{Survey}
 use Rattle.prolly_load.specs.declared.tally.Tally.{Tally}
-use Rattle.prolly_load.specs.Buffered.{Buffered}
-use Rattle.prolly_load.specs.Survey.{IsSurvey, bytes_of, told_key}
+use Rattle.prolly_load.specs.Buffer.{Buffered}
+use Rattle.prolly_load.specs.Survey.{IsSurvey, key_bytes, told_key}
 
 -- The key of a record with this flaw is whole, where the flaw lies behind it.
 abbrev pub HasToldKey : Flaw → List ℕ → Type 0
@@ -22,7 +22,7 @@ HasToldKey TooManyRecords bytes = Unit {0}
 -- The flawed record that the bytes begin with is told.
 pub record TellsFlawed (flaw : Flaw) (bytes : List ℕ) (flawed : FlawedRecord) : Type 0 where
   pub flaw_is : flawed.flaw ≡ flaw
-  pub key_is : bytes_of flawed.key ≡ told_key flaw bytes
+  pub key_is : key_bytes flawed.key ≡ told_key flaw bytes
 
 -- The flaw of unparsed bytes where no more come: they are cut, or there are none.
 abbrev pub cut_in : List ℕ → Option Flaw
@@ -36,10 +36,10 @@ pub record Tells (tally : Tally) (buffered : Buffered) (flaw : Option Flaw) (sur
   pub removals : survey.removals ≡ tally.removals
   pub bytes : survey.bytes ≡ tally.bytes
   pub first_key : survey.first_key ≡ tally.first_key
-  pub last_key : bytes_of survey.last_key ≡ buffered.last_key
+  pub last_key : key_bytes survey.last_key ≡ buffered.last_key
   pub flaw_is : option_map (λ flawed. flawed.flaw) survey.flawed ≡ flaw
   pub key_is : IfSome survey.flawed
-      (λ flawed. bytes_of flawed.key ≡ told_key flawed.flaw buffered.unparsed)
+      (λ flawed. key_bytes flawed.key ≡ told_key flawed.flaw buffered.unparsed)
 
 -- No record was passed yet.
 pub record NonePassed (tally : Tally) (buffered : Buffered) : Type 0 where

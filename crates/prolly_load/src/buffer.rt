@@ -1,13 +1,12 @@
-//! What was read of a source and is not yet parsed.
+//! The bytes that were read and are not parsed yet.
 ghost use Rattle.std.specs.Prelude.{◌≡◌, ◌+◌, ◌-◌, ◌<◌, ◌≤◌, true, [], length, take, drop, IsOk};
 ghost use Rattle.std.specs.Prelude.{IfOk};
 ghost use Rattle.std.specs.Option.{option_copied, option_map};
 ghost use Rattle.std.specs.Result.{result_unwrap_or};
 ghost use Rattle.prolly_file.specs.Failures.{CountsFailure};
-ghost use Rattle.prolly_load.specs.Filling.{Fills};
+ghost use Rattle.prolly_load.specs.Fill.{Fills};
 ghost use Rattle.prolly_load.specs.Span.{part, IsPlaced};
 
-use crate::span::Span;
 use prolly_entry::{KEY_LIMIT, VALUE_LIMIT};
 use prolly_file::{Source, SourceFault};
 use std::alloc::{AllocError, Global};
@@ -37,7 +36,7 @@ pub(crate) struct Buffer {
 impl Model for Buffer {
     ghost use Rattle.std.specs.Prelude.{◌≡◌, ◌-◌, vec_len};
     ghost use Rattle.std.specs.Option.{option_map};
-    ghost use Rattle.prolly_load.specs.Buffered.{Buffered};
+    ghost use Rattle.prolly_load.specs.Buffer.{Buffered};
     ghost use Rattle.prolly_load.specs.Span.{part, IsPlaced};
     ghost use Rattle.prolly_load.specs.declared.buffer.TheConstants.{BUFFER_BYTES};
 
@@ -189,4 +188,11 @@ fn read_behind<S: Source>(
     ensures succeeds { (S.seen source.old).is_steady ≡ true → IsOk result }
 {
     source.read(&mut bytes[unparsed.end..])
+}
+
+/// The bytes from one place to another.
+#[derive(Clone, Copy)]
+pub(crate) struct Span {
+    pub(crate) start: usize,
+    pub(crate) end: usize,
 }

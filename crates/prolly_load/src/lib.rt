@@ -3,18 +3,10 @@
 #![tactic(auto)]
 
 mod buffer;
-mod fault;
-mod flawed;
 mod loader;
-mod passing;
-mod sending;
-mod span;
-mod surveyed;
-mod surveying;
-mod taking;
+mod surveyor;
 mod tally;
 
-pub use fault::fault_of;
-pub use loader::{Loaded, load};
-pub use surveyed::{FlawedRecord, Survey};
-pub use surveying::survey;
+pub use loader::{Loaded, fault_of, load};
+pub use surveyor::survey;
+pub use tally::{FlawedRecord, Survey};

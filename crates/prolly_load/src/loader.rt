@@ -1,14 +1,18 @@
 //! Loading a record file.
-ghost use Rattle.std.specs.Prelude.{◌≡◌, ◌≢◌, ◌↔◌, true};
-ghost use Rattle.prolly_link.specs.declared.end.End.TheVariants.{Fault};
+ghost use Rattle.std.specs.Prelude.{◌≡◌, ◌≢◌, ◌↔◌, true, IfOk};
+ghost use Rattle.prolly_entry.specs.Record.{IsRecord};
+ghost use Rattle.prolly_entry.specs.RecordAt.{LiesIn, record_at};
+ghost use Rattle.prolly_link.specs.declared.message.End.TheVariants.{Fault};
 ghost use Rattle.prolly_link.specs.declared.fault.RunFault.TheVariants.{Read};
-ghost use Rattle.prolly_load.specs.Loading.{IsLoaded};
+ghost use Rattle.prolly_load.specs.Loaded.{IsLoaded};
+ghost use Rattle.prolly_load.specs.Taken.{TakesNext};
+ghost use Rattle.prolly_load.specs.Fault.{fault_of};
 
-use crate::sending::send_records;
-use prolly_entry::Record;
+use crate::buffer::Buffer;
+use prolly_entry::{Flaw, NextRecord, Pair, Record, RecordAt, next_record};
 use prolly_file::Source;
-use prolly_link::{Out, RunFault};
-use std::alloc::Global;
+use prolly_link::{End, Out, RunFault};
+use std::alloc::{AllocError, Global};
 use std::sync::Wait;
 
 /// What a loader gives back.
@@ -57,5 +61,125 @@ pub fn load<R: Wait, S: Source, O: Out<Record>>(
     Loaded {
         source,
         out: out.close(rt, end),
+    }
+}
+
+/// Sends the good records of what the source has left, and answers the end that follows them.
+pub(crate) fn send_records<R: Wait, S: Source, O: Out<Record>>(
+    rt: &R,
+    alloc: Global,
+    file: u32,
+    source: &mut S,
+    limit: u32,
+    out: &mut O,
+) -> End
+    ensures link { O.link out.new ≡ O.link out.old }
+    ensures loaded { IsLoaded file limit (S.seen source.old).is_honest (S.seen source.old).left
+        (S.seen source.new).left (O.sent out.old) (O.sent out.new) result }
+    ensures read { (result ≡ Fault (RunFault.Read file)) ↔ ((S.seen
+        source.new).failures ≢ (S.seen source.old).failures) }
+    ensures unfailed { result ≢ Fault (RunFault.Read file) →
+        (S.seen source.new).failures ≡ (S.seen source.old).failures }
+    ensures never { (S.seen source.old).is_steady ≡ true →
+        (S.seen source.new).failures ≡ (S.seen source.old).failures }
+    ensures honest { (S.seen source.old).is_honest ≡ true → (S.seen source.new).is_honest ≡ true }
+    ensures steady { (S.seen source.old).is_steady ≡ true → (S.seen source.new).is_steady ≡ true }
+{
+    let Ok(mut buffer) = Buffer::new(alloc) else {
+        return End::Fault(RunFault::Memory);
+    };
+    let mut count = 0;
+    loop {
+        match take_record(alloc, &mut buffer, limit, count) {
+            Ok(Taken::Record(record)) => {
+                let size = record.size();
+                if let Err(_) = out.send_sized(rt, prepared(record, out.is_ahead()), size) {
+                    return End::Fault(RunFault::Memory);
+                }
+                count += 1;
+            }
+            Ok(Taken::Nothing) => match buffer.fill(source) {
+                Ok(0) => {
+                    if buffer.unparsed().is_empty() {
+                        return End::Clean;
+                    }
+                    return End::Fault(fault_of(file, count, Flaw::Truncated));
+                }
+                Ok(_) => {}
+                Err(_) => return End::Fault(RunFault::Read { file }),
+            },
+            Ok(Taken::Flawed(flaw)) => return End::Fault(fault_of(file, count, flaw)),
+            Err(_) => return End::Fault(RunFault::Memory),
+        }
+    }
+}
+
+/// A record as it is sent. Where the receiver is far behind, it gets its boundary number here: one
+/// thread alone cuts the leaves, and this one would wait for it else.
+fn prepared(record: Record, is_ahead: bool) -> Record
+    ensures { result ≡ «record» }
+{
+    if is_ahead {
+        record.with_boundary_number()
+    } else {
+        record
+    }
+}
+
+/// What could be taken out of a buffer.
+#[derive(Drop)]
+pub(crate) enum Taken {
+    /// The next good record.
+    Record(Record),
+    /// No record: the unparsed bytes are a part of one, or there are none. More of them may bring
+    /// it.
+    Nothing,
+    /// No record: the next one is flawed, whatever bytes follow.
+    Flawed(Flaw),
+}
+
+/// Takes the record behind `count` good ones, of which at most `limit` are allowed. The one copy of
+/// its bytes is made here, and takes the memory that may be refused.
+pub(crate) fn take_record(
+    alloc: Global,
+    buffer: &mut Buffer,
+    limit: u32,
+    count: u32,
+) -> Result<Taken, AllocError>
+    ensures { IfOk result (λ taken. TakesNext limit count buffer.old buffer.new taken) }
+{
+    match next_record(limit, count, buffer.last_key(), buffer.unparsed()) {
+        NextRecord::Record(at) => {
+            let record = copy_of(alloc, buffer.unparsed(), at)?;
+            buffer.consume(at.key_end, at.len);
+            Ok(Taken::Record(record))
+        }
+        NextRecord::More => Ok(Taken::Nothing),
+        NextRecord::Flawed(flaw) => Ok(Taken::Flawed(flaw)),
+    }
+}
+
+/// A copy of the record that lies there.
+fn copy_of(alloc: Global, bytes: &[u8], at: RecordAt) -> Result<Record, AllocError>
+    requires lies { LiesIn bytes.now at }
+    requires lawful { IsRecord (record_at bytes.now at) }
+    ensures { IfOk result (λ r. r ≡ record_at bytes.now at) }
+{
+    match at.value(bytes) {
+        Some(value) => Ok(Record::put(Pair::copy_of(alloc, at.key(bytes), value)?)),
+        None => Record::removal_of(alloc, at.key(bytes)),
+    }
+}
+
+/// The fault of the file of this number whose record at `place` has a flaw.
+pub fn fault_of(file: u32, place: u32, flaw: Flaw) -> RunFault
+    ensures { result ≡ fault_of file place flaw }
+{
+    match flaw {
+        Flaw::Truncated => RunFault::Truncated { file, place },
+        Flaw::KeyTooLong => RunFault::KeyTooLong { file, place },
+        Flaw::ValueTooLong => RunFault::ValueTooLong { file, place },
+        Flaw::OutOfOrder => RunFault::OutOfOrder { file, place },
+        Flaw::TooManyRecords => RunFault::TooManyRecords { file },
     }
 }

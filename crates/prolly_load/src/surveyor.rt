@@ -1,14 +1,12 @@
 //! Surveying a record file.
 ghost use Rattle.std.specs.Prelude.{◌≡◌, ◌≢◌, true, IfErr, IfOk, IfSome, OnErr, OnOk};
 ghost use Rattle.prolly_load.specs.Survey.{IsSurvey};
-ghost use Rattle.prolly_load.specs.Telling.{HasToldKey, IsCounted, NonePassed, Tells, cut_in};
+ghost use Rattle.prolly_load.specs.Tally.{HasToldKey, IsCounted, NonePassed, Tells, cut_in};
+ghost use Rattle.prolly_load.specs.Skipped.{Skips};
 
 use crate::buffer::Buffer;
-use crate::flawed::flawed_record;
-use crate::passing::{Passed, pass_record};
-use crate::surveyed::Survey;
-use crate::tally::{Tally, copied};
-use prolly_entry::Flaw;
+use crate::tally::{Survey, Tally, copied, flawed_record};
+use prolly_entry::{Flaw, NextRecord, next_record};
 use prolly_file::{Source, SourceFault};
 use std::alloc::{AllocError, Global};
 
@@ -49,7 +47,7 @@ pub fn survey<S: Source>(
         bytes: 0,
         first_key: None,
     };
-    match pass_records(alloc, source, limit, &mut buffer, &mut tally)? {
+    match skip_records(alloc, source, limit, &mut buffer, &mut tally)? {
         Ok(flaw) => Ok(Ok(told(alloc, tally, &buffer, flaw)?)),
         Err(fault) => Ok(Err(fault)),
     }
@@ -57,7 +55,7 @@ pub fn survey<S: Source>(
 
 /// Passes the good records of what a source has left, counts them, and answers the flaw of what is
 /// behind them, if there is one.
-fn pass_records<S: Source>(
+fn skip_records<S: Source>(
     alloc: Global,
     source: &mut S,
     limit: u32,
@@ -81,16 +79,16 @@ fn pass_records<S: Source>(
         (S.seen source.new).failures ≡ (S.seen source.old).failures }
 {
     loop {
-        match pass_record(buffer, limit, tally.records) {
-            Passed::Record { removes, len } => {
+        match skip_record(buffer, limit, tally.records) {
+            Skipped::Record { removes, len } => {
                 tally.count(alloc, removes, len, buffer.last_key())?;
             }
-            Passed::Nothing => match buffer.fill(source) {
+            Skipped::Nothing => match buffer.fill(source) {
                 Ok(0) => return Ok(Ok(cut_in(buffer))),
                 Ok(_) => {}
                 Err(fault) => return Ok(Err(fault)),
             },
-            Passed::Flawed(flaw) => return Ok(Ok(Some(flaw))),
+            Skipped::Flawed(flaw) => return Ok(Ok(Some(flaw))),
         }
     }
 }
@@ -128,4 +126,34 @@ fn told(
         last_key: copied(alloc, buffer.last_key())?,
         flawed,
     })
+}
+
+/// What could be passed in a buffer.
+#[derive(Clone, Copy)]
+pub(crate) enum Skipped {
+    /// The next good record: whether it removes its key, and how many bytes it takes.
+    Record { removes: bool, len: usize },
+    /// No record: the unparsed bytes are a part of one, or there are none. More of them may bring
+    /// it.
+    Nothing,
+    /// No record: the next one is flawed, whatever bytes follow.
+    Flawed(Flaw),
+}
+
+/// Passes the record behind `count` good ones, of which at most `limit` are allowed. Nothing is
+/// copied.
+pub(crate) fn skip_record(buffer: &mut Buffer, limit: u32, count: u32) -> Skipped
+    ensures { Skips limit count buffer.old buffer.new result }
+{
+    match next_record(limit, count, buffer.last_key(), buffer.unparsed()) {
+        NextRecord::Record(at) => {
+            buffer.consume(at.key_end, at.len);
+            Skipped::Record {
+                removes: at.value_start.is_none(),
+                len: at.len,
+            }
+        }
+        NextRecord::More => Skipped::Nothing,
+        NextRecord::Flawed(flaw) => Skipped::Flawed(flaw),
+    }
 }

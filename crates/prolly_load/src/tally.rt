@@ -1,8 +1,11 @@
-//! What was passed of a record file, in numbers.
-ghost use Rattle.std.specs.Prelude.{◌≡◌, ◌+◌, ◌^◌, ◌<◌, cond, IfOk, OnOk};
+//! What a survey says, and the counts that it takes on its way.
+ghost use Rattle.std.specs.Prelude.{◌≡◌, ◌+◌, ◌^◌, ◌<◌, cond, IfOk, OnOk, ◌≤◌, length, take, drop};
 ghost use Rattle.std.specs.Option.{option_copied, option_or};
-ghost use Rattle.prolly_load.specs.Survey.{bytes_of};
+ghost use Rattle.prolly_entry.specs.Reading.{key_length};
+ghost use Rattle.prolly_load.specs.Survey.{key_bytes};
+ghost use Rattle.prolly_load.specs.Tally.{HasToldKey, TellsFlawed};
 
+use prolly_entry::{Flaw, KEY_START};
 use std::alloc::{AllocError, Global};
 
 /// The numbers of the records that were passed, and the key of the first of them.
@@ -30,8 +33,8 @@ impl Tally {
         ensures records { OnOk result (self.new.records ≡ self.old.records + 1) }
         ensures removals { OnOk result (self.new.removals ≡ self.old.removals + cond removes 1 0) }
         ensures bytes { OnOk result (self.new.bytes ≡ self.old.bytes + len) }
-        ensures first_key { OnOk result (bytes_of self.new.first_key ≡ option_or
-            (bytes_of self.old.first_key) (option_copied key.entry)) }
+        ensures first_key { OnOk result (key_bytes self.new.first_key ≡ option_or
+            (key_bytes self.old.first_key) (option_copied key.entry)) }
     {
         if self.first_key.is_none() {
             self.first_key = copied(alloc, key)?;
@@ -45,10 +48,63 @@ impl Tally {
 
 /// A copy of the key.
 pub(crate) fn copied(alloc: Global, key: Option<&[u8]>) -> Result<Option<Vec<u8>>, AllocError>
-    ensures { IfOk result (λ copy. bytes_of copy ≡ option_copied key.entry) }
+    ensures { IfOk result (λ copy. key_bytes copy ≡ option_copied key.entry) }
 {
     match key {
         None => Ok(None),
         Some(key) => Ok(Some(Vec::from_slice(alloc, key)?)),
     }
+}
+
+/// What a record file holds, as far as it is good.
+#[derive(Drop)]
+pub struct Survey {
+    /// How many records are good.
+    pub records: u32,
+    /// How many of them remove a key.
+    pub removals: u32,
+    /// How many bytes they take. Where a record behind them is flawed, this is the offset at which
+    /// it begins.
+    pub bytes: u64,
+    /// The key of the first of them.
+    pub first_key: Option<Vec<u8>>,
+    /// The key of the last of them.
+    pub last_key: Option<Vec<u8>>,
+    /// The record behind them, where it is flawed.
+    pub flawed: Option<FlawedRecord>,
+}
+
+/// A record that is not good.
+#[derive(Drop)]
+pub struct FlawedRecord {
+    /// What is wrong with it.
+    pub flaw: Flaw,
+    /// Its key, where the flaw lies behind it: of a value that is too long and of a key out of
+    /// order.
+    pub key: Option<Vec<u8>>,
+}
+
+/// The record that the bytes begin with, which has this flaw.
+pub(crate) fn flawed_record(
+    alloc: Global,
+    flaw: Flaw,
+    bytes: &[u8],
+) -> Result<FlawedRecord, AllocError>
+    requires { HasToldKey flaw bytes.now }
+    ensures { IfOk result (TellsFlawed flaw bytes.now) }
+{
+    let key = match flaw {
+        Flaw::ValueTooLong | Flaw::OutOfOrder => Some(Vec::from_slice(alloc, front_key(bytes))?),
+        Flaw::Truncated | Flaw::KeyTooLong | Flaw::TooManyRecords => None,
+    };
+    Ok(FlawedRecord { flaw, key })
+}
+
+/// The key of the record that the bytes begin with.
+fn front_key(bytes: &[u8]) -> &[u8]
+    requires { 2 + key_length bytes.now ≤ length bytes.now }
+    ensures { result.now ≡ take (key_length bytes.now) (drop 2 bytes.now) }
+{
+    let key_length = usize::from(u16::from_be_bytes([bytes[0], bytes[1]]));
+    &bytes[KEY_START..KEY_START + key_length]
 }

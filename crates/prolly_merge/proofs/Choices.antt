@@ -12,14 +12,14 @@ use Rattle.prolly_entry.specs.Record.{Record}
 use Rattle.prolly_entry.specs.Keys.{key_order, KeyBelow}
 use Rattle.prolly_entry.specs.lemmas.Orders.{order_self, order_same, order_trans, greater_below}
 use Rattle.prolly_entry.specs.lemmas.Orders.{below_greater, eq_true}
-use Rattle.prolly_link.specs.declared.end.End.{End}
-use Rattle.prolly_link.specs.declared.end.End.TheVariants.{Clean, Fault}
+use Rattle.prolly_link.specs.declared.message.End.{End}
+use Rattle.prolly_link.specs.declared.message.End.TheVariants.{Clean, Fault}
 use Rattle.prolly_link.specs.declared.fault.RunFault.{RunFault}
-use Rattle.prolly_merge.specs.declared.head.Head.{Head}
-use Rattle.prolly_merge.specs.declared.head.Head.TheVariants.{Ready, Ended}
-use Rattle.prolly_merge.specs.declared.choice.Least.{Least}
-use Rattle.prolly_merge.specs.Heads.{Allows, has_key, IsFaultIn, Stops}
-use Rattle.prolly_merge.specs.Choices.{IsAbove, IsChosen, IsFirst, IsFirstUnless, IsLeast}
+use Rattle.prolly_merge.specs.declared.heads.Head.{Head}
+use Rattle.prolly_merge.specs.declared.heads.Head.TheVariants.{Ready, Ended}
+use Rattle.prolly_merge.specs.declared.round.Least.{Least}
+use Rattle.prolly_merge.specs.Head.{Allows, has_key, IsFaultIn, Stops}
+use Rattle.prolly_merge.specs.Choice.{IsAbove, IsChosen, IsFirstHead, IsFirstUnless, IsLeast}
 use Rattle.prolly_merge.proofs.Equal.{none_some, some_same, ready_same, ready_ended}
 
 abbrev lone : ℕ → Bool → Least
@@ -50,8 +50,8 @@ chosen_more at [] s h c a = absurd c
 chosen_more zero (x ∷ hs) s h c a = (c.0, all_more (IsAbove s) hs h c.1 a)
 chosen_more (suc at) (x ∷ hs) s h c a = (c.0, chosen_more at hs s h c.1 a)
 
-first_more : (at : ℕ) (hs : List Head) (s : Record) (h : Head) → IsFirst at hs s →
-    IsFirst at (hs ++ h ∷ []) s
+first_more : (at : ℕ) (hs : List Head) (s : Record) (h : Head) → IsFirstHead at hs s →
+    IsFirstHead at (hs ++ h ∷ []) s
 first_more zero hs s h f = tt
 first_more (suc at) [] s h f = absurd f
 first_more (suc at) (x ∷ hs) s h f = (f.0, first_more at hs s h f.1)
@@ -63,7 +63,7 @@ first_unless_more false at hs s h f = first_more at hs s h f
 
 -- Behind clean ends the record is chosen, and no other head has its key.
 after_none : (hs : List Head) (r : Record) → AllByRecursion (λ h. h ≡ Ended Clean) hs →
-    IsChosen (length hs) (hs ++ Ready r ∷ []) r × IsFirst (length hs) (hs ++ Ready r ∷ []) r
+    IsChosen (length hs) (hs ++ Ready r ∷ []) r × IsFirstHead (length hs) (hs ++ Ready r ∷ []) r
 after_none [] r a = ((refl, tt), tt)
 after_none (x ∷ hs) r a =
     let more = after_none hs r a.1 in
@@ -114,12 +114,12 @@ other_key x y (Ready r) k a = go (is_eq (key_order r.key y)) refl
     go false e = e
 
 above_first : (hs : List Head) (s r : Record) → AllByRecursion (IsAbove s) hs →
-    KeyBelow r.key s.key → IsFirst (length hs) (hs ++ Ready r ∷ []) r
+    KeyBelow r.key s.key → IsFirstHead (length hs) (hs ++ Ready r ∷ []) r
 above_first [] s r a k = tt
 above_first (x ∷ hs) s r a k = (other_key s.key r.key x k a.0.0, above_first hs s r a.1 k)
 
 first_lower : (at : ℕ) (hs : List Head) (s r : Record) → IsChosen at hs s → KeyBelow r.key s.key →
-    IsFirst (length hs) (hs ++ Ready r ∷ []) r
+    IsFirstHead (length hs) (hs ++ Ready r ∷ []) r
 first_lower at [] s r c k = absurd c
 first_lower zero (x ∷ hs) s r c k = (
   other_key s.key r.key x k (subst (Allows s.key) (sym c.0) (ap is_lt (order_self s.key))),

@@ -2,7 +2,7 @@
 use Rattle.std.proofs.Common.{◌≡◌, ℕ, ◌+◌, min, List, [], ◌++◌, length, refl, ap, ◌∙◌, sym}
 use Rattle.std.proofs.Common.{append_assoc, length-append, arith}
 use Rattle.std.proofs.lemmas.List.{append-nil}
-use Rattle.prolly_merge.specs.Sent.{Counts}
+use Rattle.prolly_merge.specs.Merged.{Counts}
 
 pub count_none : {T : Type 0} (before : List T) → Counts before before 0
 count_none before = ([], sym (append-nil before), refl)

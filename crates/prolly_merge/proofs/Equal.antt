@@ -1,8 +1,8 @@
 -- What equal values of a variant, and equal numbers, have.
 use Rattle.std.proofs.Common.{◌≡◌, ℕ, suc, Some, None, arith}
 use Rattle.prolly_entry.specs.Record.{Record}
-use Rattle.prolly_link.specs.declared.end.End.{End}
-use Rattle.prolly_merge.specs.declared.head.Head.TheVariants.{Ready, Ended}
+use Rattle.prolly_link.specs.declared.message.End.{End}
+use Rattle.prolly_merge.specs.declared.heads.Head.TheVariants.{Ready, Ended}
 
 pub none_some : {A : Type 0} (x : A) → None ≡ Some x → ⊥
 none_some x e = cc

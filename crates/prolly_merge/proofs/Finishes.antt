@@ -4,16 +4,16 @@ use Rattle.std.proofs.Common.{sym, ap, ◌∙◌, subst}
 use Rattle.prolly_entry.specs.Record.{Record}
 use Rattle.prolly_tree.specs.Merge.{Input}
 use Rattle.prolly_link.specs.Identity.{LinkId}
-use Rattle.prolly_link.specs.Receipts.{end_given}
-use Rattle.prolly_link.specs.declared.progress.Progress.{Progress}
+use Rattle.prolly_link.specs.Progress.{end_given}
+use Rattle.prolly_link.specs.declared.message.Progress.{Progress}
 use Rattle.prolly_link.specs.declared.fault.RunFault.{RunFault}
-use Rattle.prolly_merge.specs.declared.head.Head.{Head}
-use Rattle.prolly_merge.specs.declared.peeked.Peeked.{Peeked}
+use Rattle.prolly_merge.specs.declared.heads.Head.{Head}
+use Rattle.prolly_merge.specs.declared.heads.Peeked.{Peeked}
 use Rattle.prolly_merge.specs.Inputs.{input_of, Ends, inputs_of}
-use Rattle.prolly_merge.specs.Heads.{in_hand, IsHeld}
+use Rattle.prolly_merge.specs.Head.{in_hand, IsHeld}
 use Rattle.prolly_merge.specs.Places.{AllFit, wholes}
 use Rattle.prolly_merge.specs.Each.{Each}
-use Rattle.prolly_merge.specs.PeekedInputs.{AllHeld, Advances, places_after, Opens, Finishes}
+use Rattle.prolly_merge.specs.Peeked.{AllHeld, Advances, places_after, Opens, Finishes}
 use Rattle.prolly_merge.proofs.Peeks.{peeked}
 use Rattle.prolly_merge.proofs.Equal.{none_some, some_same}
 

@@ -3,11 +3,11 @@ use Rattle.std.proofs.Common.{◌≡◌, ℕ, List, [], ◌∷◌, ◌++◌, len
 use Rattle.std.proofs.Common.{sym, ap, ◌∙◌, subst}
 use Rattle.prolly_entry.specs.Record.{Record}
 use Rattle.prolly_link.specs.Identity.{LinkId}
-use Rattle.prolly_link.specs.declared.progress.Progress.{Progress}
-use Rattle.prolly_merge.specs.declared.head.Head.{Head}
-use Rattle.prolly_merge.specs.declared.peeked.Peeked.{Peeked}
+use Rattle.prolly_link.specs.declared.message.Progress.{Progress}
+use Rattle.prolly_merge.specs.declared.heads.Head.{Head}
+use Rattle.prolly_merge.specs.declared.heads.Peeked.{Peeked}
 use Rattle.prolly_merge.specs.Each.{Each}
-use Rattle.prolly_merge.specs.PeekedInputs.{peeked_of, Opens}
+use Rattle.prolly_merge.specs.Peeked.{peeked_of, Opens}
 use Rattle.prolly_merge.proofs.Peeks.{peeked}
 use Rattle.prolly_merge.proofs.Equal.{none_some, some_same, suc_same, zero_suc}
 

@@ -3,10 +3,10 @@ use Rattle.std.proofs.Common.{◌≡◌, ℕ, zero, suc, ◌<◌, List, [], ◌�
 use Rattle.std.proofs.Common.{slice_set, get_or, take, drop, ◌++◌, refl, sym, ap, ◌∙◌, subst, arith}
 use Rattle.std.proofs.Math.Seq.{take-append_seam}
 use Rattle.std.proofs.lemmas.Option.{slice_get-get_or}
-use Rattle.prolly_merge.specs.declared.head.Head.{Head}
-use Rattle.prolly_merge.specs.declared.peeked.Peeked.{Peeked}
+use Rattle.prolly_merge.specs.declared.heads.Head.{Head}
+use Rattle.prolly_merge.specs.declared.heads.Peeked.{Peeked}
 use Rattle.prolly_merge.specs.Each.{Each}
-use Rattle.prolly_merge.specs.PeekedInputs.{peeked_of, heads_in}
+use Rattle.prolly_merge.specs.Peeked.{peeked_of, heads_in}
 use Rattle.prolly_merge.proofs.Equal.{none_some, some_same, suc_same, suc_zero, zero_suc}
 
 pred_less : (i n : ℕ) → suc i < suc n → i < n

@@ -15,17 +15,17 @@ use Rattle.prolly_tree.specs.Merge.{raw_merged_part, merged_part, stop_fault}
 use Rattle.prolly_entry.specs.Position.{Position, last_position, is_before}
 use Rattle.prolly_entry.specs.lemmas.RisingRecords.{IsRising, is_rising, rising_is, found_above}
 use Rattle.prolly_entry.specs.lemmas.RisingRecords.{above_trans}
-use Rattle.prolly_link.specs.declared.end.End.{End}
-use Rattle.prolly_link.specs.declared.end.End.TheVariants.{Clean, Fault}
+use Rattle.prolly_link.specs.declared.message.End.{End}
+use Rattle.prolly_link.specs.declared.message.End.TheVariants.{Clean, Fault}
 use Rattle.prolly_link.specs.declared.fault.RunFault.{RunFault}
-use Rattle.prolly_merge.specs.declared.head.Head.{Head}
-use Rattle.prolly_merge.specs.declared.head.Head.TheVariants.{Ready, Ended}
-use Rattle.prolly_merge.specs.Inputs.{fault_of, end_of, input_of, lists_of, stop_end}
-use Rattle.prolly_merge.specs.Heads.{in_hand, Fits, Allows, has_key, MovesIf, Moves, IsFaultIn}
-use Rattle.prolly_merge.specs.Heads.{Stops}
+use Rattle.prolly_merge.specs.declared.heads.Head.{Head}
+use Rattle.prolly_merge.specs.declared.heads.Head.TheVariants.{Ready, Ended}
+use Rattle.prolly_merge.specs.Inputs.{fault_in, end_of, input_of, lists_of, stop_end}
+use Rattle.prolly_merge.specs.Head.{in_hand, Fits, Allows, has_key, MovesIf, Moves, IsFaultIn}
+use Rattle.prolly_merge.specs.Head.{Stops}
 use Rattle.prolly_merge.specs.Places.{Place, heads_of, AllFit, after, wholes, lefts, Continues}
 use Rattle.prolly_merge.specs.Places.{ComeFirst, Halts}
-use Rattle.prolly_merge.specs.Sent.{Sends}
+use Rattle.prolly_merge.specs.Merged.{SendsAll}
 use Rattle.prolly_merge.proofs.MergeSteps.{not_below_above, Live, rests, merged_step}
 use Rattle.prolly_merge.proofs.Equal.{ready_ended, ended_same}
 
@@ -148,7 +148,7 @@ cons_nil r m e = cc
 
 live_one : (key : List ℕ) (h : Head) (f : Input RunFault) → Allows key h → Fits h f →
     Live (after (in_hand h) f)
-live_one key (Ended e) f allows fit = λ _. ap (λ i. i.fault) fit ∙ ap fault_of allows
+live_one key (Ended e) f allows fit = λ _. ap (λ i. i.fault) fit ∙ ap fault_in allows
 live_one key (Ready r) f allows fit = λ none. absurd (cons_nil r f.records none)
 
 not_below_one : (key : List ℕ) (h : Head) (f : Input RunFault) → Allows key h → Fits h f →
@@ -363,7 +363,7 @@ stops ps xs end first at fs fit rising =
 pub sends_records : (ps : List Place) (before sent xs : List Record) (end end_sent : End) →
     Halts ps xs end → sent ≡ before ++ xs → end_sent ≡ end →
     (fs : List (Input RunFault)) → AllFit ps fs → AllRising (lists_of (wholes ps fs)) →
-    Sends before (raw_merged_part (wholes ps fs)) (stop_end (wholes ps fs)) sent end_sent
+    SendsAll before (raw_merged_part (wholes ps fs)) (stop_end (wholes ps fs)) sent end_sent
 sends_records ps before sent xs end end_sent (inl h) is is' fs fit rising =
     let all = stops ps xs end h.0 h.1 fs fit rising in
     inl (is ∙ ap (λ s. before ++ s) (sym all.0), is' ∙ all.1)
@@ -397,7 +397,7 @@ pairs_more xs r = pairs_append xs (r ∷ []) ∙ ap (λ ps. pairs_put xs ++ ps)
 pub sends_pairs : (ps : List Place) (before sent : List Pair) (xs : List Record)
     (end end_sent : End) → Halts ps xs end → sent ≡ before ++ pairs_put xs → end_sent ≡ end →
     (fs : List (Input RunFault)) → AllFit ps fs → AllRising (lists_of (wholes ps fs)) →
-    Sends before (merged_part (wholes ps fs)) (stop_end (wholes ps fs)) sent end_sent
+    SendsAll before (merged_part (wholes ps fs)) (stop_end (wholes ps fs)) sent end_sent
 sends_pairs ps before sent xs end end_sent (inl h) is is' fs fit rising =
     let all = stops ps xs end h.0 h.1 fs fit rising in
     inl (is ∙ ap (λ s. before ++ pairs_put s) (sym all.0), is' ∙ all.1)

@@ -7,18 +7,18 @@ use Rattle.prolly_entry.specs.Record.{Record}
 use Rattle.prolly_entry.specs.Overlay.{change_of, or_else, last_change_of}
 use Rattle.prolly_entry.specs.lemmas.Orders.{order_self}
 use Rattle.prolly_link.specs.Identity.{LinkId}
-use Rattle.prolly_link.specs.declared.end.End.{End}
-use Rattle.prolly_link.specs.declared.progress.Progress.{Progress}
-use Rattle.prolly_merge.specs.declared.head.Head.{Head}
-use Rattle.prolly_merge.specs.declared.head.Head.TheVariants.{Ready, Ended}
-use Rattle.prolly_merge.specs.declared.step.Step.TheVariants.{Send}
+use Rattle.prolly_link.specs.declared.message.End.{End}
+use Rattle.prolly_link.specs.declared.message.Progress.{Progress}
+use Rattle.prolly_merge.specs.declared.heads.Head.{Head}
+use Rattle.prolly_merge.specs.declared.heads.Head.TheVariants.{Ready, Ended}
+use Rattle.prolly_merge.specs.declared.heads.Step.TheVariants.{Send}
 use Rattle.std.proofs.lemmas.Option.{slice_get_within}
-use Rattle.prolly_merge.specs.declared.peeked.Peeked.{Peeked}
+use Rattle.prolly_merge.specs.declared.heads.Peeked.{Peeked}
 use Rattle.prolly_merge.specs.Each.{Each, EachUpto}
-use Rattle.prolly_merge.specs.Heads.{in_hand, Allows, has_key}
-use Rattle.prolly_merge.specs.PeekedInputs.{peeked_of, heads_in, Advances}
-use Rattle.prolly_merge.specs.Steps.{hands_of, MovesOn, IsStep}
-use Rattle.prolly_merge.specs.Choices.{IsAbove, IsChosen, IsFirst}
+use Rattle.prolly_merge.specs.Head.{in_hand, Allows, has_key}
+use Rattle.prolly_merge.specs.Peeked.{peeked_of, heads_in, Advances}
+use Rattle.prolly_merge.specs.Step.{hands_of, MovesOn, IsStep}
+use Rattle.prolly_merge.specs.Choice.{IsAbove, IsChosen, IsFirstHead}
 use Rattle.prolly_merge.proofs.EachLemmas.{each_same}
 use Rattle.prolly_merge.proofs.Peeks.{peeked_head, heads_are}
 use Rattle.prolly_merge.proofs.Choices.{get_chosen}
@@ -93,7 +93,7 @@ module _ {I : Type 0} (link : I → LinkId) (progress : I → Progress) (Follows
 
   -- Where no other input before the chosen one has its key, they stay.
   pub first_stays : (at : ℕ) (r : Record) (os : List (Peeked I)) (n : Peeked I) →
-      IsFirst at (heads_in os) r → EachUpto (Move r.key) Stay at (slice_set os at n)
+      IsFirstHead at (heads_in os) r → EachUpto (Move r.key) Stay at (slice_set os at n)
       (slice_set os at n)
   first_stays zero r os n f = self (slice_set os 0 n)
     where

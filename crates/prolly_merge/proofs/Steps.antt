@@ -6,15 +6,15 @@ use Rattle.std.specs.List.{AllByRecursion}
 use Rattle.prolly_entry.specs.Record.{Record}
 use Rattle.prolly_entry.specs.Overlay.{last_change_of}
 use Rattle.prolly_link.specs.Identity.{LinkId}
-use Rattle.prolly_link.specs.declared.end.End.{End}
-use Rattle.prolly_link.specs.declared.progress.Progress.{Progress}
-use Rattle.prolly_merge.specs.declared.peeked.Peeked.{Peeked}
-use Rattle.prolly_merge.specs.declared.step.Step.TheVariants.{Send, Stop}
-use Rattle.prolly_merge.specs.Heads.{in_hand, IsHeld, has_key, Allows, MovesIf, Stops}
+use Rattle.prolly_link.specs.declared.message.End.{End}
+use Rattle.prolly_link.specs.declared.message.Progress.{Progress}
+use Rattle.prolly_merge.specs.declared.heads.Peeked.{Peeked}
+use Rattle.prolly_merge.specs.declared.heads.Step.TheVariants.{Send, Stop}
+use Rattle.prolly_merge.specs.Head.{in_hand, IsHeld, has_key, Allows, MovesIf, Stops}
 use Rattle.prolly_merge.specs.Places.{Place, heads_of, ComeFirst}
 use Rattle.prolly_merge.specs.Each.{Each}
-use Rattle.prolly_merge.specs.PeekedInputs.{heads_in, AllHeld, Advances, places_after}
-use Rattle.prolly_merge.specs.Steps.{hands_of, MovesOn, IsStep}
+use Rattle.prolly_merge.specs.Peeked.{heads_in, AllHeld, Advances, places_after}
+use Rattle.prolly_merge.specs.Step.{hands_of, MovesOn, IsStep}
 use Rattle.prolly_merge.proofs.Places.{AllMove, begins, goes_on as come_first_goes_on}
 
 pub nothing_more : (h got : List Record) → got ≡ [] → h ++ got ≡ h

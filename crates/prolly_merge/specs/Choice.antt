@@ -3,13 +3,13 @@ use Rattle.std.specs.Prelude.{◌≡◌, ℕ, zero, suc, Bool, true, false, List
 use Rattle.std.specs.Prelude.{None}
 use Rattle.std.specs.List.{AllByRecursion}
 use Rattle.prolly_entry.specs.Record.{Record}
-use Rattle.prolly_link.specs.declared.end.End.TheVariants.{Clean}
-use Rattle.prolly_merge.specs.Heads.{Allows, has_key, Stops}
-use Rattle.prolly_merge.specs.declared.head.Head.{Head}
-use Rattle.prolly_merge.specs.declared.head.Head.TheVariants.{Ready, Ended}
-use Rattle.prolly_merge.specs.declared.choice.Least.{Least}
-use Rattle.prolly_merge.specs.declared.choice.Choice.{Choice}
-use Rattle.prolly_merge.specs.declared.choice.Choice.TheVariants.{Take, Stop}
+use Rattle.prolly_link.specs.declared.message.End.TheVariants.{Clean}
+use Rattle.prolly_merge.specs.Head.{Allows, has_key, Stops}
+use Rattle.prolly_merge.specs.declared.heads.Head.{Head}
+use Rattle.prolly_merge.specs.declared.heads.Head.TheVariants.{Ready, Ended}
+use Rattle.prolly_merge.specs.declared.round.Least.{Least}
+use Rattle.prolly_merge.specs.declared.round.Choice.{Choice}
+use Rattle.prolly_merge.specs.declared.round.Choice.TheVariants.{Take, Stop}
 
 -- The head is above the record, or a clean end.
 abbrev pub IsAbove : Record → Head → Type 0
@@ -22,15 +22,15 @@ IsChosen zero (h ∷ hs) r = (h ≡ Ready r) × AllByRecursion (IsAbove r) hs
 IsChosen (suc at) (h ∷ hs) r = Allows r.key h × IsChosen at hs r
 
 -- No head before number `at` has the record's key.
-abbrev pub IsFirst : ℕ → List Head → Record → Type 0
-IsFirst zero hs r = Unit {0}
-IsFirst (suc at) [] r = ⊥
-IsFirst (suc at) (h ∷ hs) r = (has_key r.key h ≡ false) × IsFirst at hs r
+abbrev pub IsFirstHead : ℕ → List Head → Record → Type 0
+IsFirstHead zero hs r = Unit {0}
+IsFirstHead (suc at) [] r = ⊥
+IsFirstHead (suc at) (h ∷ hs) r = (has_key r.key h ≡ false) × IsFirstHead at hs r
 
 -- Where the key is not shared, no other head has it.
 abbrev pub IsFirstUnless : Bool → ℕ → List Head → Record → Type 0
 IsFirstUnless true at hs r = Unit {0}
-IsFirstUnless false at hs r = IsFirst at hs r
+IsFirstUnless false at hs r = IsFirstHead at hs r
 
 -- The last head of the least key; none where all heads are clean ends.
 abbrev pub IsLeast : List Head → Option Least → Type 0

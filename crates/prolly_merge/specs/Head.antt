@@ -5,14 +5,14 @@ use Rattle.std.specs.Ordering.{is_lt, is_eq}
 use Rattle.prolly_entry.specs.Record.{Record}
 use Rattle.prolly_entry.specs.Keys.{key_order}
 use Rattle.prolly_tree.specs.Merge.{Input}
-use Rattle.prolly_link.specs.Receipts.{HasEnded, end_given}
-use Rattle.prolly_link.specs.declared.end.End.{End}
-use Rattle.prolly_link.specs.declared.progress.Progress.{Progress}
-use Rattle.prolly_link.specs.declared.end.End.TheVariants.{Clean, Fault}
+use Rattle.prolly_link.specs.Progress.{HasEnded, end_given}
+use Rattle.prolly_link.specs.declared.message.End.{End}
+use Rattle.prolly_link.specs.declared.message.Progress.{Progress}
+use Rattle.prolly_link.specs.declared.message.End.TheVariants.{Clean, Fault}
 use Rattle.prolly_link.specs.declared.fault.RunFault.{RunFault}
 use Rattle.prolly_merge.specs.Inputs.{input_of}
-use Rattle.prolly_merge.specs.declared.head.Head.{Head}
-use Rattle.prolly_merge.specs.declared.head.Head.TheVariants.{Ready, Ended}
+use Rattle.prolly_merge.specs.declared.heads.Head.{Head}
+use Rattle.prolly_merge.specs.declared.heads.Head.TheVariants.{Ready, Ended}
 
 -- The records of a head: one or none.
 abbrev pub in_hand : Head → List Record

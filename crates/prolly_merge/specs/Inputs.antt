@@ -3,16 +3,16 @@ use Rattle.std.specs.Prelude.{◌≡◌, List, [], ◌∷◌, map, Option, Some,
 use Rattle.prolly_entry.specs.Record.{Record}
 use Rattle.prolly_tree.specs.Merge.{Input, stop, stop_fault}
 use Rattle.prolly_link.specs.Identity.{LinkId}
-use Rattle.prolly_link.specs.Receipts.{HasEnded, end_given}
-use Rattle.prolly_link.specs.declared.end.End.{End}
-use Rattle.prolly_link.specs.declared.progress.Progress.{Progress}
-use Rattle.prolly_link.specs.declared.end.End.TheVariants.{Clean, Fault}
+use Rattle.prolly_link.specs.Progress.{HasEnded, end_given}
+use Rattle.prolly_link.specs.declared.message.End.{End}
+use Rattle.prolly_link.specs.declared.message.Progress.{Progress}
+use Rattle.prolly_link.specs.declared.message.End.TheVariants.{Clean, Fault}
 use Rattle.prolly_link.specs.declared.fault.RunFault.{RunFault}
 
 -- The fault of an end.
-abbrev pub fault_of : End → Option RunFault
-fault_of Clean = None
-fault_of (Fault f) = Some f
+abbrev pub fault_in : End → Option RunFault
+fault_in Clean = None
+fault_in (Fault f) = Some f
 
 -- The end with a fault, or the clean one.
 abbrev pub end_of : Option RunFault → End
@@ -21,7 +21,7 @@ end_of (Some f) = Fault f
 
 -- The input that gave these records and this end.
 abbrev pub input_of : List Record → End → Input RunFault
-input_of records end = record { records = records; fault = fault_of end }
+input_of records end = record { records = records; fault = fault_in end }
 
 -- The records of inputs, a list for each.
 abbrev pub lists_of : List (Input RunFault) → List (List Record)

@@ -3,16 +3,16 @@ pub mod Each
 -- What the inputs of a merger gave, as the inputs that a merged part is made of.
 pub mod Inputs
 -- What a merger sent.
-pub mod Sent
+pub mod Merged
 -- The heads of inputs: what each of them gave last.
-pub mod Heads
+pub mod Head
 -- How far a merger has come.
 pub mod Places
 -- Inputs beside their heads, and how they go on.
-pub mod PeekedInputs
+pub mod Peeked
 -- One step of a merger.
-pub mod Steps
+pub mod Step
 -- Which of two inputs is next.
-pub mod Turns
+pub mod Turn
 -- Which of many inputs is next.
-pub mod Choices
+pub mod Choice

@@ -3,13 +3,13 @@ use Rattle.std.specs.Prelude.{◌≡◌, List, [], ◌∷◌, ◌++◌, map}
 use Rattle.std.specs.List.{AllByRecursion}
 use Rattle.prolly_entry.specs.Record.{Record}
 use Rattle.prolly_link.specs.Identity.{LinkId}
-use Rattle.prolly_link.specs.Receipts.{end_given}
-use Rattle.prolly_link.specs.declared.progress.Progress.{Progress}
+use Rattle.prolly_link.specs.Progress.{end_given}
+use Rattle.prolly_link.specs.declared.message.Progress.{Progress}
 use Rattle.prolly_merge.specs.Inputs.{input_of, Ends}
-use Rattle.prolly_merge.specs.Heads.{in_hand, IsHeld, Fits}
+use Rattle.prolly_merge.specs.Head.{in_hand, IsHeld, Fits}
 use Rattle.prolly_merge.specs.Places.{Place}
-use Rattle.prolly_merge.specs.declared.head.Head.{Head}
-use Rattle.prolly_merge.specs.declared.peeked.Peeked.{Peeked}
+use Rattle.prolly_merge.specs.declared.heads.Head.{Head}
+use Rattle.prolly_merge.specs.declared.heads.Peeked.{Peeked}
 
 module _ {I : Type 0} where
   -- The inputs, each beside its head.

@@ -3,13 +3,13 @@ use Rattle.std.specs.Prelude.{◌≡◌, List, [], ◌∷◌, ◌++◌, map, ◌
 use Rattle.prolly_entry.specs.Record.{Record}
 use Rattle.prolly_entry.specs.Overlay.{AllRising}
 use Rattle.prolly_tree.specs.Merge.{Input, stop, stop_fault, raw_merged_part}
-use Rattle.prolly_link.specs.declared.end.End.{End}
-use Rattle.prolly_link.specs.declared.end.End.TheVariants.{Fault}
+use Rattle.prolly_link.specs.declared.message.End.{End}
+use Rattle.prolly_link.specs.declared.message.End.TheVariants.{Fault}
 use Rattle.prolly_link.specs.declared.fault.RunFault.{RunFault}
 use Rattle.prolly_link.specs.declared.fault.RunFault.TheVariants.{Memory}
 use Rattle.prolly_merge.specs.Inputs.{lists_of}
-use Rattle.prolly_merge.specs.Heads.{in_hand, Fits, Stops}
-use Rattle.prolly_merge.specs.declared.head.Head.{Head}
+use Rattle.prolly_merge.specs.Head.{in_hand, Fits, Stops}
+use Rattle.prolly_merge.specs.declared.heads.Head.{Head}
 
 -- The place of an input: the records that were received of it, the last of which may still be in
 -- hand, and its head.

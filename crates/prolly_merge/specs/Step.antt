@@ -4,14 +4,14 @@ use Rattle.std.specs.List.{AllByRecursion}
 use Rattle.prolly_entry.specs.Record.{Record}
 use Rattle.prolly_entry.specs.Overlay.{last_change_of}
 use Rattle.prolly_link.specs.Identity.{LinkId}
-use Rattle.prolly_link.specs.declared.progress.Progress.{Progress}
+use Rattle.prolly_link.specs.declared.message.Progress.{Progress}
 use Rattle.prolly_merge.specs.Each.{Each}
-use Rattle.prolly_merge.specs.Heads.{in_hand, IsHeld, Allows, Moves, Stops}
-use Rattle.prolly_merge.specs.PeekedInputs.{heads_in}
-use Rattle.prolly_merge.specs.declared.head.Head.{Head}
-use Rattle.prolly_merge.specs.declared.peeked.Peeked.{Peeked}
-use Rattle.prolly_merge.specs.declared.step.Step.{Step}
-use Rattle.prolly_merge.specs.declared.step.Step.TheVariants.{Send, Stop}
+use Rattle.prolly_merge.specs.Head.{in_hand, IsHeld, Allows, Moves, Stops}
+use Rattle.prolly_merge.specs.Peeked.{heads_in}
+use Rattle.prolly_merge.specs.declared.heads.Head.{Head}
+use Rattle.prolly_merge.specs.declared.heads.Peeked.{Peeked}
+use Rattle.prolly_merge.specs.declared.heads.Step.{Step}
+use Rattle.prolly_merge.specs.declared.heads.Step.TheVariants.{Send, Stop}
 
 -- The records of heads, a list for each.
 abbrev pub hands_of : List Head → List (List Record)

@@ -3,11 +3,11 @@ use Rattle.std.specs.Prelude.{◌≡◌, false, [], ◌∷◌}
 use Rattle.std.specs.declared.cmp.Ordering.TheVariants.{Equal}
 use Rattle.prolly_entry.specs.Record.{Record}
 use Rattle.prolly_entry.specs.Keys.{key_order}
-use Rattle.prolly_merge.specs.Heads.{Allows, has_key, Stops}
-use Rattle.prolly_merge.specs.declared.head.Head.{Head}
-use Rattle.prolly_merge.specs.declared.head.Head.TheVariants.{Ready}
-use Rattle.prolly_merge.specs.declared.turn.Turn.{Turn}
-use Rattle.prolly_merge.specs.declared.turn.Turn.TheVariants.{Left, Right, Both, Stop}
+use Rattle.prolly_merge.specs.Head.{Allows, has_key, Stops}
+use Rattle.prolly_merge.specs.declared.heads.Head.{Head}
+use Rattle.prolly_merge.specs.declared.heads.Head.TheVariants.{Ready}
+use Rattle.prolly_merge.specs.declared.two.Turn.{Turn}
+use Rattle.prolly_merge.specs.declared.two.Turn.TheVariants.{Left, Right, Both, Stop}
 
 -- The turn is that of the input whose key is less, or of both where the keys are equal; or the
 -- merger stops.

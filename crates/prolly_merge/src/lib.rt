@@ -5,16 +5,9 @@
 //! and `Out`, and hold one record of each input.
 #![tactic(auto)]
 
-mod choice;
-mod ending;
-mod head;
+mod heads;
 mod many;
-mod opening;
-mod peeked;
-mod put;
 mod round;
-mod step;
-mod turn;
 mod two;
 
 pub use many::{Merged, merge};

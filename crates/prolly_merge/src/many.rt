@@ -1,23 +1,19 @@
 //! Many inputs into one.
-ghost use Rattle.std.specs.Prelude.{◌≡◌, ◌++◌, List, length};
+ghost use Rattle.std.specs.Prelude.{◌≡◌, ◌++◌, List, length, ◌+◌, OnOk, OnErr, IfOk, min};
 ghost use Rattle.prolly_entry.specs.Record.{Record as RecordValue};
-ghost use Rattle.prolly_entry.specs.Overlay.{AllRising, pairs_put};
+ghost use Rattle.prolly_entry.specs.Overlay.{AllRising, pairs_put, pairs_of_change};
 ghost use Rattle.prolly_tree.specs.Merge.{merged_part};
 ghost use Rattle.prolly_merge.specs.Each.{Each};
 ghost use Rattle.prolly_merge.specs.Inputs.{inputs_of, lists_of, stop_end, Ends};
-ghost use Rattle.prolly_merge.specs.Sent.{Sends, Counts};
-ghost use Rattle.prolly_merge.specs.PeekedInputs.{peeked_of, AllHeld, Advances, places_after};
+ghost use Rattle.prolly_merge.specs.Merged.{SendsAll, Counts};
+ghost use Rattle.prolly_merge.specs.Peeked.{peeked_of, AllHeld, Advances, places_after};
 ghost use Rattle.prolly_merge.specs.Places.{Halts};
 
-use crate::ending::{finish_all, receive_rests};
-use crate::head::Head;
-use crate::opening::receive_heads;
-use crate::put::send_put;
+use crate::heads::{Head, Step, finish_all, receive_heads, receive_rests};
 use crate::round::next_of_many;
-use crate::step::Step;
 use prolly_entry::{Pair, Record};
 use prolly_link::{End, In, Out, RunFault};
-use std::alloc::Global;
+use std::alloc::{AllocError, Global};
 use std::sync::Wait;
 
 /// What a merger of many inputs gives back: each input in its place.
@@ -71,7 +67,7 @@ fn merge_all<I: In<Record>, O: Out<Pair>, R: Wait>(
     ensures pairs { Counts (O.sent out) (O.all_sent result.1) result.0 }
     ensures merged { let given = inputs_of I.progress I.received inputs.old inputs.new in
         AllRising (lists_of given) →
-        Sends (O.sent out) (merged_part given) (stop_end given)
+        SendsAll (O.sent out) (merged_part given) (stop_end given)
         (O.all_sent result.1) (O.end_sent result.1) }
 {
     let Some(mut heads) = receive_heads(rt, alloc, inputs) else {
@@ -109,9 +105,45 @@ pub fn merge<I: In<Record>, O: Out<Pair>, R: Wait>(
     ensures pairs { Counts (O.sent out) (O.all_sent result.out) result.pairs }
     ensures merged { let given = inputs_of I.progress I.received inputs.items result.inputs.items in
         AllRising (lists_of given) →
-        Sends (O.sent out) (merged_part given) (stop_end given)
+        SendsAll (O.sent out) (merged_part given) (stop_end given)
         (O.all_sent result.out) (O.end_sent result.out) }
 {
     let (pairs, out) = merge_all(rt, alloc, &mut inputs, out);
     Merged { inputs, out, pairs }
+}
+
+/// Sends the pair that a record puts; a removal puts none. Gives the count of pairs with it.
+pub(crate) fn send_put<O: Out<Pair>, R: Wait>(
+    rt: &R,
+    out: &mut O,
+    merged: Record,
+    pairs: u64,
+) -> Result<u64, AllocError>
+    ensures link { O.link out.new ≡ O.link out.old }
+    ensures sent { OnOk result (O.sent out.new
+        ≡ O.sent out.old ++ pairs_of_change merged.key merged.value) }
+    ensures count { IfOk result (λ n.
+        n ≡ min (pairs + length (pairs_of_change merged.key merged.value)) 0xFFFF_FFFF_FFFF_FFFF) }
+    ensures refused { OnErr result (O.sent out.new ≡ O.sent out.old) }
+{
+    let Some(pair) = merged.into_pair() else {
+        return Ok(pairs);
+    };
+    let size = pair.size();
+    match out.send_sized(rt, prepared(pair, out.is_ahead()), size) {
+        Ok(()) => Ok(pairs.saturating_add(1)),
+        Err(_) => Err(AllocError),
+    }
+}
+
+// A pair as it is sent. Where the receiver is far behind, the pair gets its boundary number here,
+// if it has none: this thread would wait else.
+fn prepared(pair: Pair, is_ahead: bool) -> Pair
+    ensures { result ≡ pair }
+{
+    if is_ahead {
+        pair.with_boundary_number()
+    } else {
+        pair
+    }
 }

@@ -1,17 +1,16 @@
-//! A round of a merger of many inputs.
-ghost use Rattle.std.specs.Prelude.{◌≡◌, ◌<◌, ◌≤◌, Some, length, slice_get, slice_set};
+//! One round of a merger of many: which heads go, and which one wins.
+ghost use Rattle.std.specs.Prelude.{◌≡◌, ◌<◌, ◌≤◌, Some, length, slice_get, slice_set, ◌+◌, take};
 ghost use Rattle.prolly_merge.specs.Each.{EachUpto};
-ghost use Rattle.prolly_merge.specs.Heads.{in_hand, has_key};
-ghost use Rattle.prolly_merge.specs.PeekedInputs.{peeked_of, Advances};
-ghost use Rattle.prolly_merge.specs.Steps.{IsStep, MovesOn};
-ghost use Rattle.prolly_merge.specs.Choices.{IsLeast};
-ghost use Rattle.prolly_merge.specs.declared.peeked.Peeked.{Peeked};
+ghost use Rattle.prolly_merge.specs.Head.{in_hand, has_key};
+ghost use Rattle.prolly_merge.specs.Peeked.{peeked_of, Advances};
+ghost use Rattle.prolly_merge.specs.Step.{IsStep, MovesOn};
+ghost use Rattle.prolly_merge.specs.Choice.{IsLeast, IsChoice};
+ghost use Rattle.prolly_merge.specs.declared.heads.Peeked.{Peeked};
 
-use crate::choice::{Choice, Least, choose};
-use crate::head::{Head, receive};
-use crate::step::Step;
+use crate::heads::{Head, Step, receive};
 use prolly_entry::{Record, key_order};
-use prolly_link::In;
+use prolly_link::{End, In};
+use std::cmp::Ordering;
 use std::mem;
 use std::sync::Wait;
 
@@ -96,5 +95,65 @@ pub(crate) fn next_of_many<I: In<Record>, R: Wait>(
     match choose(heads) {
         Choice::Take(least) => Step::Send(take(rt, least, inputs, heads)),
         Choice::Stop(end) => Step::Stop(end),
+    }
+}
+
+/// The last head of the least key, and whether another one before it has the key too.
+#[derive(Clone, Copy)]
+pub(crate) struct Least {
+    pub(crate) at: usize,
+    pub(crate) is_shared: bool,
+}
+
+/// The input whose record is sent next, or why there is none.
+#[derive(Drop)]
+pub(crate) enum Choice {
+    Take(Least),
+    Stop(End),
+}
+
+// The least of the heads up to and with number `at`, which has this record, where that of those
+// before it is known.
+fn least_with(heads: &[Head], least: Option<Least>, at: usize, next: &Record) -> Least
+    requires head { slice_get heads.now at ≡ Some (Head.Ready next.now) }
+    requires least { IsLeast (take at heads.now) least }
+    ensures { IsLeast (take (at + 1) heads.now) (Some result) }
+{
+    let alone = Least {
+        at,
+        is_shared: false,
+    };
+    let Some(least) = least else {
+        return alone;
+    };
+    let Head::Ready(other) = &heads[least.at] else {
+        unreachable!()
+    };
+    match key_order(next.key(), other.key()) {
+        Ordering::Less => alone,
+        Ordering::Equal => Least {
+            at,
+            is_shared: true,
+        },
+        Ordering::Greater => least,
+    }
+}
+
+/// Finds the last head of the least key, by one comparison a head. A fault stops the merger before
+/// any other record is sent: what is left has greater keys.
+pub(crate) fn choose(heads: &[Head]) -> Choice
+    ensures { IsChoice heads.now result }
+{
+    let mut least = None;
+    for (i, head) in heads.iter().enumerate() {
+        match head {
+            Head::Ready(record) => least = Some(least_with(heads, least, i, record)),
+            Head::Ended(End::Clean) => {}
+            Head::Ended(End::Fault(fault)) => return Choice::Stop(End::Fault(*fault)),
+        }
+    }
+    match least {
+        Some(least) => Choice::Take(least),
+        None => Choice::Stop(End::Clean),
     }
 }

@@ -5,18 +5,17 @@ ghost use Rattle.prolly_entry.specs.Overlay.{AllRising};
 ghost use Rattle.prolly_tree.specs.Merge.{raw_merged_part};
 ghost use Rattle.prolly_merge.specs.Each.{Each};
 ghost use Rattle.prolly_merge.specs.Inputs.{inputs_of, lists_of, stop_end, Ends};
-ghost use Rattle.prolly_merge.specs.Sent.{Sends, Counts};
-ghost use Rattle.prolly_merge.specs.Heads.{IsHeld};
-ghost use Rattle.prolly_merge.specs.PeekedInputs.{Advances, places_after};
-ghost use Rattle.prolly_merge.specs.Steps.{IsStep};
+ghost use Rattle.prolly_merge.specs.Merged.{SendsAll, Counts};
+ghost use Rattle.prolly_merge.specs.Head.{IsHeld};
+ghost use Rattle.prolly_merge.specs.Peeked.{Advances, places_after};
+ghost use Rattle.prolly_merge.specs.Step.{IsStep};
 ghost use Rattle.prolly_merge.specs.Places.{Halts};
+ghost use Rattle.prolly_merge.specs.Turn.{IsTurn};
 
-use crate::head::Head;
-use crate::peeked::Peeked;
-use crate::step::Step;
-use crate::turn::{Turn, turn_of};
-use prolly_entry::Record;
+use crate::heads::{Head, Peeked, Step};
+use prolly_entry::{Record, key_order};
 use prolly_link::{End, In, Out, RunFault};
+use std::cmp::Ordering;
 use std::sync::Wait;
 
 /// What a merger of two inputs gives back.
@@ -106,7 +105,7 @@ pub fn merge_two<I: In<Record>, O: Out<Record>, R: Wait>(
     ensures merged { let inputs = inputs_of I.progress I.received
         (left ∷ right ∷ []) (result.left ∷ result.right ∷ []) in
         AllRising (lists_of inputs) →
-        Sends (O.sent out) (raw_merged_part inputs) (stop_end inputs)
+        SendsAll (O.sent out) (raw_merged_part inputs) (stop_end inputs)
         (O.all_sent result.out) (O.end_sent result.out) }
 {
     let mut left = Peeked::new(rt, left);
@@ -118,5 +117,34 @@ pub fn merge_two<I: In<Record>, O: Out<Record>, R: Wait>(
         right: right.finish(rt),
         out,
         items,
+    }
+}
+
+/// The input whose record is sent next. Of two records with one key the right one is sent, and the
+/// left one is left out.
+#[derive(Drop)]
+pub(crate) enum Turn {
+    Left,
+    Right,
+    Both,
+    Stop(End),
+}
+
+/// Compares the two heads. A fault stops the merger before any other record: what is left has
+/// greater keys.
+pub(crate) fn turn_of(left: &Head, right: &Head) -> Turn
+    ensures { IsTurn left.now right.now result }
+{
+    match (left, right) {
+        (Head::Ended(End::Fault(fault)), _) => Turn::Stop(End::Fault(*fault)),
+        (_, Head::Ended(End::Fault(fault))) => Turn::Stop(End::Fault(*fault)),
+        (Head::Ended(End::Clean), Head::Ended(End::Clean)) => Turn::Stop(End::Clean),
+        (Head::Ready(_), Head::Ended(End::Clean)) => Turn::Left,
+        (Head::Ended(End::Clean), Head::Ready(_)) => Turn::Right,
+        (Head::Ready(left), Head::Ready(right)) => match key_order(left.key(), right.key()) {
+            Ordering::Less => Turn::Left,
+            Ordering::Equal => Turn::Both,
+            Ordering::Greater => Turn::Right,
+        },
     }
 }

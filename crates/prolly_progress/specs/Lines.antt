@@ -5,7 +5,7 @@ use Rattle.std.specs.Fmt.{decimal}
 use Rattle.std.specs.Int.{div_ceil}
 use Rattle.prolly_progress.specs.declared.progress.Progress.{Progress}
 
--- So many bytes in megabytes, of a million bytes each, rounded down.
+-- A number of bytes in megabytes, of a million bytes each, rounded down.
 abbrev pub megabytes : ℕ → ℕ
 megabytes bytes = bytes / 1_000_000
 

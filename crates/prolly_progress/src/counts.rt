@@ -1,10 +1,13 @@
-//! What a run counts while it is under way.
+//! How far a build came: counters beside its sources, its sink and its gate.
 ghost use Rattle.std.specs.Prelude.{◌≡◌, ◌/◌};
 ghost use Rattle.std.specs.Io.Iter.{u64_saturate};
 ghost use Rattle.std.specs.Duration.{as_nanos};
 
-use crate::counter::Counter;
 use crate::progress::Progress;
+use prolly_file::{Sink, SinkFault, Source, SourceFault};
+use prolly_stage::{Gate, Worker};
+use std::sync::Wait;
+use std::sync::atomic::{AtomicU64, Ordering};
 use std::time::Duration;
 
 /// How far a run has come. Its threads share it.
@@ -39,6 +42,118 @@ impl Counts {
             total,
             written: self.written.count(),
             millis: u64::try_from(elapsed.as_millis()).unwrap_or(u64::MAX),
+        }
+    }
+}
+
+/// How many things were counted by all that share it, modulo 2^64. No contract says which number it
+/// has: another thread may add to it at any time.
+#[derive(Drop)]
+pub struct Counter {
+    count: AtomicU64,
+}
+
+impl Counter {
+    /// A counter of nothing.
+    pub const fn new() -> Counter {
+        Counter {
+            count: AtomicU64::new(0),
+        }
+    }
+
+    /// Counts so many more.
+    pub fn add(&self, more: u64) {
+        self.count.fetch_add(more, Ordering::SeqCst);
+    }
+
+    /// How many were counted so far.
+    pub fn count(&self) -> u64 {
+        self.count.load(Ordering::SeqCst)
+    }
+}
+
+/// A source whose bytes are counted, in all that contracts see the source itself. Each read adds
+/// once to the counter, which is the whole cost.
+#[derive(Drop)]
+pub struct CountedSource<'a, S> {
+    source: S,
+    counts: &'a Counts,
+}
+
+impl<'a, S: Source> CountedSource<'a, S> {
+    /// The source, of which each byte read from now on is counted.
+    pub fn new(source: S, counts: &'a Counts) -> CountedSource<'a, S>
+        ensures { (⟦<CountedSource<'a, S> as Source>⟧.seen result) ≡ S.seen source }
+    {
+        CountedSource { source, counts }
+    }
+}
+
+impl<'a, S: Source> Source for CountedSource<'a, S> {
+    ghost seen = { λ counted. S.seen counted.source };
+
+    ghost left_are_bytes = { λ counted. S.left_are_bytes counted.source };
+
+    fn read(&mut self, buf: &mut [u8]) -> Result<usize, SourceFault> {
+        let count = self.source.read(buf)?;
+        self.counts.read.add(count as u64);
+        Ok(count)
+    }
+}
+
+/// A sink whose bytes are counted, in all that contracts see the sink itself. Each write adds once
+/// to the counter, which is the whole cost.
+#[derive(Drop)]
+pub struct CountedSink<'a, W> {
+    sink: W,
+    counts: &'a Counts,
+}
+
+impl<'a, W: Sink> CountedSink<'a, W> {
+    /// The sink, of which each byte taken from now on is counted.
+    pub fn new(sink: W, counts: &'a Counts) -> CountedSink<'a, W>
+        ensures { (⟦<CountedSink<'a, W> as Sink>⟧.seen result) ≡ W.seen sink }
+    {
+        CountedSink { sink, counts }
+    }
+}
+
+impl<'a, W: Sink> Sink for CountedSink<'a, W> {
+    ghost seen = { λ counted. W.seen counted.sink };
+
+    fn write(&mut self, buf: &[u8]) -> Result<usize, SinkFault> {
+        let count = self.sink.write(buf)?;
+        self.counts.written.add(count as u64);
+        Ok(count)
+    }
+
+    fn flush(&mut self) -> Result<(), SinkFault> {
+        self.sink.flush()
+    }
+}
+
+/// How many records of a loader are counted at once: so few that a slow file shows that it is read,
+/// and so many that a record costs no addition that threads share.
+const RECORDS_AT_ONCE: u64 = 64;
+
+/// The gate that holds nobody back, and counts the records that the loaders make, 64 at once. What
+/// is left of a file at its end is not counted.
+#[derive(Clone, Copy)]
+pub struct CountingGate<'a> {
+    counts: &'a Counts,
+}
+
+impl<'a> CountingGate<'a> {
+    /// The gate that adds to these counts.
+    pub fn new(counts: &'a Counts) -> CountingGate<'a> {
+        CountingGate { counts }
+    }
+}
+
+impl Gate for CountingGate<'_> {
+    fn before_send<R: Wait>(&self, _rt: &R, worker: Worker, nth: u64) {
+        if matches!(worker, Worker::Loader(_)) && nth % RECORDS_AT_ONCE == RECORDS_AT_ONCE - 1 {
+            self.counts.records.add(RECORDS_AT_ONCE);
         }
     }
 }

@@ -15,7 +15,7 @@ use Rattle.prolly_check.specs.declared.look_up.step.Due.{Due}
 use Rattle.prolly_check.specs.lemmas.Ways.{lead_more}
 use Rattle.prolly_entry.specs.declared.version.Version.{Version}
 use Rattle.prolly_tree.specs.Tree.{Tree}
-use Rattle.prolly_root.specs.Descent.{StandsBelow, StandsInPlace, chunks_in}
+use Rattle.prolly_root.specs.Descent.{StandsBelow, StandsInPlace, chunks_on_way}
 use Rattle.prolly_root.specs.ProofFault.{last_level}
 use Rattle.prolly_root.specs.declared.look_up.chunk_on_way.ChunkOnWay.{ChunkOnWay}
 use Rattle.prolly_root.specs.declared.root_fault.RootFault.{RootFault}
@@ -39,8 +39,8 @@ falls_more (c ∷ d ∷ passed) chunk down falls =
 -- the chunks of those that were met, of which one more was kept
 pub one_more : {T : Type 0} (levels new : List (ChunkOnWay T)) (level : ChunkOnWay T) →
     new ≡ levels ++ level ∷ [] →
-    chunks_in new ≡ chunks_in levels ++ level.chunk.items ∷ []
-one_more levels new level kept = ap chunks_in kept ∙
+    chunks_on_way new ≡ chunks_on_way levels ++ level.chunk.items ∷ []
+one_more levels new level kept = ap chunks_on_way kept ∙
     map-append (λ level. level.chunk.items) levels (level ∷ [])
 
 -- the last one

@@ -1,7 +1,7 @@
 -- Going down in a lawful tree, from a node to the top of a tree below it.
 use Rattle.std.proofs.Common.{◌≡◌, ℕ, zero, suc, ◌-◌, List, [], ◌∷◌, ◌++◌, length, drop, map, inl}
 use Rattle.std.proofs.Common.{inr, Option, Some, Result, Ok, Err, refl, sym, ap, ◌∙◌, subst, arith}
-use Rattle.prolly_check.specs.Checked.{chunks_of}
+use Rattle.prolly_check.specs.Chunks.{chunks_of}
 use Rattle.prolly_check.specs.Content.{Content}
 use Rattle.prolly_check.specs.Descent.{ChildIsTree, HasTree, IsTreeOf, RootIsTree}
 use Rattle.prolly_check.specs.Descent.{TopIsRead, child_of}
@@ -21,7 +21,7 @@ use Rattle.prolly_tree.specs.lemmas.Trees.{in_back}
 use Rattle.prolly_root.specs.Descent.{StandsAt, StandsBelow, StandsInPlace}
 use Rattle.prolly_root.specs.RootFault.{IsOrFails, MayFail, OnlyRead}
 use Rattle.prolly_root.specs.declared.root_fault.RootFault.{RootFault}
-use Rattle.prolly_root.specs.ChunkSource.{IsChildAt, IsLawful, root_level, root_tree}
+use Rattle.prolly_root.specs.ChunkSource.{IsChildNumber, IsLawful, root_level, root_tree}
 use Rattle.prolly_root.specs.declared.look_up.chunk_on_way.ChunkOnWay.{ChunkOnWay}
 use Rattle.prolly_root.proofs.Walking.{level_is}
 
@@ -31,7 +31,7 @@ use Rattle.prolly_root.proofs.Walking.{level_is}
 pub record IsTreeAt (version : Version) (level : ℕ) (ts : List (Tree level)) (n : ℕ) (child : Child)
     : Type 0 where
   pub t : Tree level
-  pub at : IsChildAt level ts n t
+  pub at : IsChildNumber level ts n t
   pub is : child ≡ child_of version level t
 
 tree_at : (version : Version) (level : ℕ) (ts : List (Tree level)) (before : List Child)
@@ -71,7 +71,7 @@ pub record StepsTo {T : Type 0} (is_place : Content → (level : ℕ) → Tree l
   pub reference : chunk.reference.0 ≡ reference_of (bytes_of content.version (suc level) ts)
   pub is : chunk.chunk.items ≡ bytes_of content.version (suc level) ts
   pub stands : is_place content (suc level) ts chunk.place
-  pub at : IsChildAt level ts child.number t
+  pub at : IsChildNumber level ts child.number t
   pub below : IsTreeOf content.version (chunks_of content) level t
   pub named : child.reference.0 ≡ reference_of (bytes_of content.version level t)
 
@@ -146,7 +146,7 @@ module _ {T : Type 0} (is_place : Content → (level : ℕ) → Tree level → T
       ((ts : List (Tree (level - 1))) → is_place content (suc (level - 1)) ts chunk.place →
       is_place content (suc (level - 1)) ts new.place) → (found : Result T RootFault) →
       ((ts : List (Tree (level - 1))) (t : Tree (level - 1)) →
-      is_place content (suc (level - 1)) ts chunk.place → IsChildAt (level - 1) ts child.number t →
+      is_place content (suc (level - 1)) ts chunk.place → IsChildNumber (level - 1) ts child.number t →
       IsOrFails (is_place content (level - 1) t) OnlyRead found) →
       StandsInPlace is_place content new ×
       IsOrFails (StandsBelow is_place content child.reference.0 (Some level)) MayFail found

@@ -13,13 +13,13 @@ use Rattle.std.proofs.lemmas.Bool.{false≢true}
 use Rattle.std.proofs.Math.Dec.{eqb-suc-zero}
 use Rattle.std.specs.Int.{w64, to_be_bytes}
 use Rattle.prolly_check.specs.Kinds.{kind_of}
-use Rattle.prolly_check.specs.Held.{pairs_held}
+use Rattle.prolly_check.specs.HeldPairs.{pairs_held}
 use Rattle.prolly_check.specs.Sought.{EndsAt, LeadsOn, sought_of, Sought}
 use Rattle.prolly_check.specs.Sought.Sought.{Key}
 use Rattle.prolly_check.specs.Way.{FallsTo, IsNamed, level_of, Lead, LevelsFall}
 use Rattle.prolly_check.specs.declared.look_up.step.Due.{Due}
 use Rattle.prolly_root.specs.ProofFault.{HasPassed, IsChunkFault, IsFault, IsFrameFault, HasMore}
-use Rattle.prolly_root.specs.ProofFault.{last_level, EndsWithin, IsStartFault, IsWrongChunk}
+use Rattle.prolly_root.specs.ProofFault.{last_level, EndsWithin, IsProofStartFault, IsWrongChunk}
 use Rattle.prolly_root.proofs.Descending.{Descended, none_passed, one_passed, way_ends}
 use Rattle.prolly_root.specs.declared.proof.fault.ProofFault.{ProofFault}
 use Rattle.prolly_tree.specs.LookUp.{find}
@@ -341,7 +341,7 @@ module _ (version : Version) (root key bytes : List ℕ) (value : Option (List �
   other_start Two One x y e = absurd cc
   other_start Two Two x y e = refl
 
-  start_fine : (fault : ProofFault) → IsStartFault version bytes fault → ⊥
+  start_fine : (fault : ProofFault) → IsProofStartFault version bytes fault → ⊥
   start_fine faults.Header h =
       h.none version (record { rest = flat_map framed p.chunks; is = p.is })
   start_fine faults.Version h = h.differs (other_start h.other version h.begins.rest

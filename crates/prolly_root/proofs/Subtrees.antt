@@ -8,7 +8,7 @@ use Rattle.std.proofs.lemmas.Bool.{cases_eq, cases_lt}
 use Rattle.std.proofs.lemmas.List.{get_or-drop, get_or_append_left, get_or_push, length-append}
 use Rattle.std.proofs.lemmas.List.{map-append, take_all}
 use Rattle.std.proofs.lemmas.List.Concat.{flat_map-append}
-use Rattle.prolly_check.specs.Checked.{chunks_of}
+use Rattle.prolly_check.specs.Chunks.{chunks_of}
 use Rattle.prolly_check.specs.Content.{Content}
 use Rattle.prolly_check.specs.FileWays.{nth_chunk}
 use Rattle.prolly_check.specs.Way.{level_of}
@@ -17,7 +17,7 @@ use Rattle.prolly_tree.specs.Chunk.{post_order}
 use Rattle.prolly_tree.specs.Tree.{Tree, bytes_of}
 use Rattle.prolly_root.specs.Subtree.{IsPlaceNth, IsPlaceOf}
 use Rattle.prolly_root.specs.RootFault.{OnlyRead}
-use Rattle.prolly_root.specs.Walk.{IsBehind, IsFirst, IsNth, NoneBetween, chunks_below}
+use Rattle.prolly_root.specs.Walk.{IsBehind, IsFirstOfLevel, IsNth, NoneBetween, chunks_below}
 use Rattle.prolly_root.specs.Walk.{chunks_of_tree, IsFrame, IsWalk}
 use Rattle.prolly_root.specs.declared.file.subtree.Place.{Place}
 use Rattle.prolly_root.specs.declared.root_fault.RootFault.{RootFault}
@@ -25,14 +25,14 @@ use Rattle.prolly_root.proofs.Walking.{IsLower, all_lower, level_is, top_last, a
 use Rattle.prolly_root.proofs.Walking.{ending, front, front_length}
 use Rattle.prolly_check.specs.Verdict.{IsFileOf}
 use Rattle.prolly_file.specs.Frame.{framed}
-use Rattle.prolly_root.specs.ChunkSource.{IsChildAt, root_level, root_tree}
+use Rattle.prolly_root.specs.ChunkSource.{IsChildNumber, root_level, root_tree}
 use Rattle.prolly_root.specs.declared.file.walk.Frame.{Frame}
 
 -- ---- one behind another
 
 module _ (content : Content) (level : ℕ) where
   -- there is one
-  first_one : (from n m : ℕ) → IsFirst content level from n → IsFirst content level from m → n ≡ m
+  first_one : (from n m : ℕ) → IsFirstOfLevel content level from n → IsFirstOfLevel content level from m → n ≡ m
   first_one from n m h k = by_order (cases_lt n m) (cases_lt m n)
     where
       by_order : (n < m) ⊎ (m ≤ n) → (m < n) ⊎ (n ≤ m) → n ≡ m
@@ -44,7 +44,7 @@ module _ (content : Content) (level : ℕ) where
       n ≡ m
   nth_one zero from n m h g = first_one from n m h g
   nth_one (suc k) from n m h g = first_one (suc h.0) n m h.2
-      (subst (λ j. IsFirst content level (suc j) m) (sym (nth_one k from h.0 g.0 h.1 g.1)) g.2)
+      (subst (λ j. IsFirstOfLevel content level (suc j) m) (sym (nth_one k from h.0 g.0 h.1 g.1)) g.2)
 
   pub behind_one : (k from n m : ℕ) → IsBehind content level from k n →
       IsBehind content level from k m → n ≡ m
@@ -58,13 +58,13 @@ module _ (content : Content) (level : ℕ) where
 
   -- one more
   pub nth_next : (k from behind n : ℕ) → IsBehind content level from k behind →
-      IsFirst content level behind n → IsNth content level from k n
-  nth_next zero from behind n h first = subst (λ b. IsFirst content level b n) h first
+      IsFirstOfLevel content level behind n → IsNth content level from k n
+  nth_next zero from behind n h first = subst (λ b. IsFirstOfLevel content level b n) h first
   nth_next (suc k) from behind n h first =
-      (h.0, h.1, subst (λ b. IsFirst content level b n) h.2 first)
+      (h.0, h.1, subst (λ b. IsFirstOfLevel content level b n) h.2 first)
 
   pub behind_next : (from k behind n next : ℕ) → IsBehind content level from k behind →
-      IsFirst content level behind n → next ≡ suc n → IsBehind content level from (k + 1) next
+      IsFirstOfLevel content level behind n → next ≡ suc n → IsBehind content level from (k + 1) next
   behind_next from k behind n next h first e =
       suc_behind from k next (n, nth_next k from behind n h first, e)
 
@@ -146,7 +146,7 @@ module _ (content : Content) (level : ℕ) where
   -- the first of the level is the top
   top_first : (t : Tree level) (before left : List (List ℕ)) →
       chunks_of content ≡ before ++ (tree t ++ left) →
-      IsFirst content level (length before) (length before + length (under t))
+      IsFirstOfLevel content level (length before) (length before + length (under t))
   top_first t before left are = record {
     from_on = omega arith;
     within = omega (
@@ -240,7 +240,7 @@ module _ (content : Content) (level : ℕ) (t : Tree level) (from k : ℕ)
       (ahead + length (chunks_below content.version level t))
   top_nth = nth_next content level k from ahead
       (ahead + length (chunks_below content.version level t)) behind_there
-      (subst (λ n. IsFirst content level n (n + length (chunks_below content.version level t)))
+      (subst (λ n. IsFirstOfLevel content level n (n + length (chunks_below content.version level t)))
       (length-append a.before (chunks_of_trees content level a.front))
       (top_first content level t (a.before ++ chunks_of_trees content level a.front)
       (chunks_of_trees content level a.after ++ a.left) parted))
@@ -323,7 +323,7 @@ root_is_place content place below begins frame last =
 -- a child of a node stands among those below it
 pub child_among : (content : Content) (level : ℕ) (ts : List (Tree level)) (number : ℕ)
     (t : Tree level) (place : Place) → IsPlaceOf content (suc level) ts place →
-    IsChildAt level ts number t → StandsAmong content level t place.below.number number
+    IsChildNumber level ts number t → StandsAmong content level t place.below.number number
 child_among content level ts number t place stands at =
     let top = bytes_of content.version (suc level) ts in record {
       front = at.front;

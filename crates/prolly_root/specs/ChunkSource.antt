@@ -2,7 +2,7 @@
 use Rattle.std.specs.Prelude.{◌≡◌, ℕ, List, ◌∷◌, ◌++◌, length, map, Result}
 use Rattle.std.specs.List.{AllByRecursion}
 use Rattle.prolly_check.specs.Content.{Content}
-use Rattle.prolly_check.specs.Judged.{chunk_bytes}
+use Rattle.prolly_check.specs.FirstFault.{chunk_bytes}
 use Rattle.prolly_check.specs.Verdict.{AllApart}
 use Rattle.prolly_entry.specs.Cut.{sha512_cut}
 use Rattle.prolly_entry.specs.Keys.{Rising}
@@ -31,7 +31,7 @@ abbrev pub root_tree : (content : Content) → Tree (root_level content)
 root_tree content = (tree_of (sha512_cut content.bits) content.version content.pairs).tree
 
 -- The tree is the one of this number among these, counted from 0.
-pub record IsChildAt (level : ℕ) (ts : List (Tree level)) (number : ℕ) (t : Tree level) : Type 0
+pub record IsChildNumber (level : ℕ) (ts : List (Tree level)) (number : ℕ) (t : Tree level) : Type 0
   where
     pub front : List (Tree level)
     pub after : List (Tree level)

@@ -1,7 +1,7 @@
 -- Going down from the root, from each chunk to the one that it refers to.
 use Rattle.std.specs.List.{AllByRecursion}
 use Rattle.std.specs.Prelude.{◌≡◌, ℕ, List, [], ◌∷◌, ◌++◌, map, Option, Some}
-use Rattle.prolly_check.specs.Checked.{chunks_of}
+use Rattle.prolly_check.specs.Chunks.{chunks_of}
 use Rattle.prolly_check.specs.Content.{Content}
 use Rattle.prolly_check.specs.Descent.{IsTreeOf}
 use Rattle.prolly_check.specs.Kinds.{kind_of}
@@ -31,8 +31,8 @@ pub record IsAtDue {T : Type 0} (version : Version) (due : Due) (chunk : ChunkOn
     pub falls : FallsTo due.above chunk.chunk.items
 
 -- The bytes of the chunks.
-abbrev pub chunks_in : {T : Type 0} → List (ChunkOnWay T) → List (List ℕ)
-chunks_in levels = map (λ level. level.chunk.items) levels
+abbrev pub chunks_on_way : {T : Type 0} → List (ChunkOnWay T) → List (List ℕ)
+chunks_on_way levels = map (λ level. level.chunk.items) levels
 
 -- The last chunk of the descent, which can be read.
 pub record LastTested {T : Type 0} (version : Version) (descent : Descent T) : Type 0 where
@@ -45,7 +45,7 @@ pub record LastTested {T : Type 0} (version : Version) (descent : Descent T) : T
 -- and can be read, and this is what is sought in the last one.
 pub record IsDescent {T : Type 0} (version : Version) (root : List ℕ) (sought : Sought)
     (descent : Descent T) : Type 0 where
-  pub way : IsWayTo version root sought (chunks_in descent.levels.items)
+  pub way : IsWayTo version root sought (chunks_on_way descent.levels.items)
   pub there : way.there ≡ sought_of descent.sought
   pub all : AllByRecursion (IsTested version) descent.levels.items
   pub end : LastTested version descent
@@ -69,7 +69,7 @@ pub record StandsAt {T : Type 0} (is_place : Content → (level : ℕ) → Tree 
   pub named : reference ≡ reference_of (bytes_of content.version level t)
   pub stands : is_place content level t place
 
--- And it stands one level below this one.
+-- The chunk of a reference stands in this place, one level below this one.
 pub record StandsBelow {T : Type 0} (is_place : Content → (level : ℕ) → Tree level → T → Type 0)
     (content : Content) (reference : List ℕ) (above : Option ℕ) (place : T) : Type 0 where
   pub at : StandsAt is_place content reference place

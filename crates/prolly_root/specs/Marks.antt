@@ -22,11 +22,11 @@ pub record AreRuns (content : Content) (next : ℕ) (runs : List Run) : Type 0 w
 
 -- The mark stands behind so many chunks of its level from its first number on, of which the last is
 -- right before it.
-pub record IsMark (content : Content) (mark : Mark) : Type 0 where
+pub record IsPlaceMark (content : Content) (mark : Mark) : Type 0 where
   pub walk : IsWalk content mark.reached.walk
   pub behind : IsBehind content mark.level mark.from mark.reached.count mark.reached.walk.number
 
--- Each of them does.
+-- There are 32 marks, and each stands where it should.
 pub record AreMarks (content : Content) (marks : Marks) : Type 0 where
   pub long : length marks.places ≡ 32
-  pub each : AllByRecursion (IsMark content) marks.places
+  pub each : AllByRecursion (IsPlaceMark content) marks.places

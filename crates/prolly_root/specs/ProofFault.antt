@@ -1,7 +1,7 @@
 -- What is wrong with bytes that are no proof: the first fault.
 use Rattle.std.specs.Prelude.{◌≡◌, ℕ, ◌⊎◌, true, List, [], ◌∷◌, ◌++◌, length, Option, Some, None}
 use Rattle.std.specs.List.{AllByRecursion}
-use Rattle.prolly_check.specs.Steps.{IsFlawed}
+use Rattle.prolly_check.specs.Step.{IsFlawedChunk}
 use Rattle.prolly_check.specs.Sought.{Sought}
 use Rattle.prolly_check.specs.Sought.Sought.{Key}
 use Rattle.prolly_check.specs.Way.{Lead, LevelsFall, level_of}
@@ -16,43 +16,43 @@ use Rattle.prolly_root.specs.declared.proof.fault.ProofFault.TheVariants as faul
 -- ---- the start
 
 -- The bytes begin with these.
-pub record BeginsWith (start bytes : List ℕ) : Type 0 where
+pub record IsStartOf (start bytes : List ℕ) : Type 0 where
   pub rest : List ℕ
   pub is : bytes ≡ start ++ rest
 
--- They end before these do, as far as which they are the same.
+-- The bytes are a part of these, and end before they do.
 pub record EndsWithin (start bytes : List ℕ) : Type 0 where
   pub byte : ℕ
   pub more : List ℕ
   pub is : start ≡ bytes ++ byte ∷ more
 
--- They begin as a proof over chunks of another version.
+-- The bytes begin as a proof over chunks of another version.
 pub record BeginsAsOther (version : Version) (bytes : List ℕ) : Type 0 where
   pub other : Version
   pub differs : other ≡ version → ⊥
-  pub begins : BeginsWith (proof_start other) bytes
+  pub begins : IsStartOf (proof_start other) bytes
 
--- They begin as no proof, and do not end within what a proof begins with.
+-- The bytes begin as no proof, and do not end within what a proof begins with.
 pub record BeginsAsNone (version : Version) (bytes : List ℕ) : Type 0 where
   pub whole : EndsWithin (proof_start version) bytes → ⊥
-  pub none : (any : Version) → BeginsWith (proof_start any) bytes → ⊥
+  pub none : (any : Version) → IsStartOf (proof_start any) bytes → ⊥
 
 -- What is wrong with the start of a proof over chunks of the version.
-abbrev pub IsStartFault : Version → List ℕ → ProofFault → Type 0
-IsStartFault version bytes faults.Header = BeginsAsNone version bytes
-IsStartFault version bytes faults.Version = BeginsAsOther version bytes
-IsStartFault version bytes faults.Truncated = EndsWithin (proof_start version) bytes
-IsStartFault version bytes fault = ⊥
+abbrev pub IsProofStartFault : Version → List ℕ → ProofFault → Type 0
+IsProofStartFault version bytes faults.Header = BeginsAsNone version bytes
+IsProofStartFault version bytes faults.Version = BeginsAsOther version bytes
+IsProofStartFault version bytes faults.Truncated = EndsWithin (proof_start version) bytes
+IsProofStartFault version bytes fault = ⊥
 
 -- ---- a frame
 
 -- What is wrong with bytes that no whole frame begins, in the place of the chunk of this number:
 -- they end within a frame, or begin with a byte that begins none.
 abbrev pub IsFrameFault : ℕ → List ℕ → ProofFault → Type 0
-IsFrameFault number rest faults.Truncated = ((rest ≡ []) ⊎ BeginsWith (0x43 ∷ []) rest) ×
+IsFrameFault number rest faults.Truncated = ((rest ≡ []) ⊎ IsStartOf (0x43 ∷ []) rest) ×
     (has_no_frame rest ≡ true)
 IsFrameFault number rest (faults.Frame n) = (n ≡ number) × (rest ≡ [] → ⊥) ×
-    (BeginsWith (0x43 ∷ []) rest → ⊥)
+    (IsStartOf (0x43 ∷ []) rest → ⊥)
 IsFrameFault number rest fault = ⊥
 
 -- ---- a chunk
@@ -64,19 +64,19 @@ last_level (chunk ∷ []) = Some (level_of chunk)
 last_level (chunk ∷ below ∷ chunks) = last_level (below ∷ chunks)
 
 -- The fault that the chunk of this number has where it is flawed so.
-abbrev pub fault_of : ℕ → ChunkFlaw → ProofFault
-fault_of number flaws.Reference = faults.Reference number
-fault_of number flaws.Entries = faults.Chunk number
-fault_of number flaws.Order = faults.KeysOutOfOrder number
-fault_of number flaws.Level = faults.Level number
+abbrev pub proof_fault : ℕ → ChunkFlaw → ProofFault
+proof_fault number flaws.Reference = faults.Reference number
+proof_fault number flaws.Entries = faults.Chunk number
+proof_fault number flaws.Order = faults.KeysOutOfOrder number
+proof_fault number flaws.Level = faults.Level number
 
 -- What is wrong with the chunk of this number, where one with this reference is due below this
 -- level.
 pub record IsChunkFault (version : Version) (due : List ℕ) (above : Option ℕ) (chunk : List ℕ)
     (number : ℕ) (fault : ProofFault) : Type 0 where
   pub flaw : ChunkFlaw
-  pub is : fault ≡ fault_of number flaw
-  pub so : IsFlawed version due above chunk flaw
+  pub is : fault ≡ proof_fault number flaw
+  pub so : IsFlawedChunk version due above chunk flaw
 
 -- ---- all
 
@@ -91,7 +91,8 @@ pub record HasPassed (version : Version) (root key bytes : List ℕ) (passed : L
   pub down : LevelsFall passed
 
 -- No frame begins where the next chunk is due.
-pub record IsCut (version : Version) (root key bytes : List ℕ) (fault : ProofFault) : Type 0 where
+pub record EndsEarly (version : Version) (root key bytes : List ℕ) (fault : ProofFault)
+    : Type 0 where
   pub passed : List (List ℕ)
   pub due : List ℕ
   pub rest : List ℕ
@@ -118,9 +119,9 @@ pub record HasMore (version : Version) (root key bytes : List ℕ) : Type 0 wher
   pub is : bytes ≡ proof ++ byte ∷ more
   pub proves : IsProof version root key proof value
 
--- This is what is wrong first.
+-- What is wrong first with bytes that are no proof.
 abbrev pub IsFault : Version → List ℕ → List ℕ → List ℕ → ProofFault → Type 0
-IsFault version root key bytes fault = IsStartFault version bytes fault
-    ⊎ IsCut version root key bytes fault
+IsFault version root key bytes fault = IsProofStartFault version bytes fault
+    ⊎ EndsEarly version root key bytes fault
     ⊎ IsWrongChunk version root key bytes fault
     ⊎ ((fault ≡ faults.Trailing) × HasMore version root key bytes)

@@ -6,7 +6,7 @@ use Rattle.prolly_check.specs.ScanWay.{IsScanWay}
 use Rattle.prolly_entry.specs.Pair.{Pair}
 use Rattle.prolly_entry.specs.declared.version.Version.{Version}
 use Rattle.prolly_tree.specs.Tree.{Tree}
-use Rattle.prolly_root.specs.Descent.{StandsAt, StandsInPlace, chunks_in}
+use Rattle.prolly_root.specs.Descent.{StandsAt, StandsInPlace, chunks_on_way}
 use Rattle.prolly_root.specs.declared.look_up.chunk_on_way.ChunkOnWay.{ChunkOnWay}
 
 -- What a reader keeps: the version and the root that it was opened for, the place of the root, and
@@ -19,7 +19,7 @@ pub record ReaderView (T : Type 0) : Type 0 where
 
 -- The chunks that show what the last look-up has found.
 abbrev pub way_of : {T : Type 0} → ReaderView T → List (List ℕ)
-way_of reader = chunks_in reader.levels
+way_of reader = chunks_on_way reader.levels
 
 -- What the reader keeps is so of the tree of this content.
 pub record IsReaderOf {T : Type 0}

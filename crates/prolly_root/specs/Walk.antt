@@ -2,7 +2,7 @@
 use Rattle.std.specs.Prelude.{◌≡◌, ℕ, zero, suc, ◌+◌, ◌^◌, ◌<◌, ◌≤◌, ◌⊎◌, true, List, [], ◌∷◌}
 use Rattle.std.specs.Prelude.{length, map, take, Option, Some, None, Result, Ok, Err}
 use Rattle.std.specs.List.{flat_map}
-use Rattle.prolly_check.specs.Checked.{chunks_of}
+use Rattle.prolly_check.specs.Chunks.{chunks_of}
 use Rattle.prolly_check.specs.Content.{Content}
 use Rattle.prolly_check.specs.FileWays.{nth_chunk}
 use Rattle.prolly_check.specs.Verdict.{IsFileOf}
@@ -55,14 +55,14 @@ abbrev pub offset_of : Content → ℕ → ℕ
 offset_of content number = 6 + length (flat_map framed (take number (chunks_of content)))
 
 -- The size of the file of this content.
-abbrev pub size_of : Content → ℕ
-size_of content = length (file (sha512_cut content.bits) content.version content.pairs)
+abbrev pub file_size : Content → ℕ
+file_size content = length (file (sha512_cut content.bits) content.version content.pairs)
 
 -- The walk stands before the chunk of its number, or behind the last one.
 pub record IsWalk (content : Content) (walk : Walk) : Type 0 where
   pub within : walk.number ≤ length (chunks_of content)
   pub offset : walk.offset ≡ offset_of content walk.number
-  pub whole : walk.size ≡ size_of content
+  pub whole : walk.size ≡ file_size content
 
 -- The frame is that of the chunk of its number.
 pub record IsFrame (content : Content) (frame : Frame) : Type 0 where
@@ -86,7 +86,7 @@ NoneBetween content level from to = (n : ℕ) → from ≤ n → n < to →
     level_of (nth_chunk content n) ≡ level → ⊥
 
 -- The chunk of this number is the first of the level from the one number on.
-pub record IsFirst (content : Content) (level from n : ℕ) : Type 0 where
+pub record IsFirstOfLevel (content : Content) (level from n : ℕ) : Type 0 where
   pub from_on : from ≤ n
   pub within : n < length (chunks_of content)
   pub is : level_of (nth_chunk content n) ≡ level
@@ -94,9 +94,9 @@ pub record IsFirst (content : Content) (level from n : ℕ) : Type 0 where
 
 -- It is the one with k of the level before it, from the one number on.
 abbrev pub IsNth : Content → ℕ → ℕ → ℕ → ℕ → Type 0
-IsNth content level from zero n = IsFirst content level from n
+IsNth content level from zero n = IsFirstOfLevel content level from n
 IsNth content level from (suc k) n = (m : ℕ) × IsNth content level from k m ×
-    IsFirst content level (suc m) n
+    IsFirstOfLevel content level (suc m) n
 
 -- The number is the one behind k chunks of the level from the one number on, of which the last is
 -- right before it.
@@ -108,7 +108,7 @@ IsBehind content level from (suc k) n = (m : ℕ) × IsNth content level from k 
 -- none.
 abbrev pub GoesToLevel : Content → ℕ → ℕ → Walk → Result Frame RootFault → Type 0
 GoesToLevel content level number walk (Ok frame) = IsFrame content frame ×
-    IsFirst content level number frame.number × IsWalk content walk ×
+    IsFirstOfLevel content level number frame.number × IsWalk content walk ×
     (walk.number ≡ suc frame.number)
 GoesToLevel content level number walk (Err fault) =
     NoneBetween content level number (length (chunks_of content)) ⊎ OnlyRead fault
@@ -121,6 +121,6 @@ chunks_below version zero leaf = []
 chunks_below version (suc level) ts =
     map (λ c. c.bytes) (flat_map (post_order version level) ts)
 
--- Those of the tree.
+-- The bytes of the chunks of a tree, in the file's order.
 abbrev pub chunks_of_tree : Version → (level : ℕ) → Tree level → List (List ℕ)
 chunks_of_tree version level t = map (λ c. c.bytes) (post_order version level t)

@@ -2,7 +2,7 @@
 ghost use Rattle.std.specs.Prelude.{◌≡◌, ◌-◌, ℕ, suc, List};
 ghost use Rattle.prolly_check.specs.Content.{Content};
 ghost use Rattle.prolly_root.specs.RootFault.{IsOrFails, MayFail, OnlyRead};
-ghost use Rattle.prolly_root.specs.ChunkSource.{HasAsked, IsChildAt, IsLawful, root_level};
+ghost use Rattle.prolly_root.specs.ChunkSource.{HasAsked, IsChildNumber, IsLawful, root_level};
 ghost use Rattle.prolly_root.specs.ChunkSource.{root_tree};
 ghost use Rattle.prolly_tree.specs.Tree.{Tree, bytes_of};
 
@@ -46,7 +46,7 @@ pub trait ChunkSource {
     ) -> Result<Self::Place, RootFault>
         ensures place { (content : Content) (ts : List (Tree level)) (t : Tree level) →
             has self.old content → is_place content (suc level) ts node.old →
-            IsChildAt level ts number t → IsOrFails (is_place content level t) OnlyRead result }
+            IsChildNumber level ts number t → IsOrFails (is_place content level t) OnlyRead result }
         ensures node { (content : Content) (ts : List (Tree level)) → has self.old content →
             is_place content (suc level) ts node.old → is_place content (suc level) ts node.new }
         ensures asked { HasAsked has failures self.old self.new result };

@@ -1,7 +1,7 @@
 -- An output behind a gate.
 use Rattle.std.specs.Prelude.{◌≡◌, ℕ, ◌+◌, min, List, [], ◌∷◌, ◌++◌, Result, OnOk, IfErr}
 use Rattle.prolly_link.specs.Identity.{LinkId}
-use Rattle.prolly_stage.specs.declared.worker.Worker.{Worker}
+use Rattle.prolly_stage.specs.declared.gate.Worker.{Worker}
 
 -- The output, the worker that sends, the gate that it asks, and the number of its next item.
 pub record GatedOutput (G O : Type 0) : Type 0 where
@@ -11,8 +11,8 @@ pub record GatedOutput (G O : Type 0) : Type 0 where
   pub next : ℕ
 
 -- The number behind a number, where the greatest one is followed by itself.
-abbrev pub one_more : ℕ → ℕ
-one_more n = min (n + 1) 0xFFFF_FFFF_FFFF_FFFF
+abbrev pub next_number : ℕ → ℕ
+next_number n = min (n + 1) 0xFFFF_FFFF_FFFF_FFFF
 
 -- What comes of sending an item through a gate: what comes of sending it to the output alone; the
 -- gate had opened for its number, which the next one follows, and nothing else changed. `link` and
@@ -26,4 +26,4 @@ pub record SendsThrough {T G O : Type 0} (link : O → LinkId) (sent : O → Lis
   pub asked : opened old.gate old.worker old.next
   pub worker : new.worker ≡ old.worker
   pub gate : new.gate ≡ old.gate
-  pub next : new.next ≡ one_more old.next
+  pub next : new.next ≡ next_number old.next

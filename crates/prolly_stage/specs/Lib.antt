@@ -4,7 +4,7 @@ pub mod Gated
 -- and of that list it makes the list
 pub mod Sends
 -- What a stage does with one item: its level takes it, and what that brings is sent.
-pub mod Taking
+pub mod StageStep
 -- Workers that stand one behind another.
 pub mod Workers
 -- Lemmas for the crates above.

@@ -3,8 +3,8 @@
 use Rattle.std.specs.Prelude.{◌≡◌, List, ◌++◌, ◌⊎◌}
 use Rattle.prolly_tree.specs.Events.{Closing, clean, faulty}
 use Rattle.prolly_entry.specs.Prefix.{IsPrefix}
-use Rattle.prolly_link.specs.declared.end.End.{End}
-use Rattle.prolly_link.specs.declared.end.End.TheVariants.{Clean, Fault}
+use Rattle.prolly_link.specs.declared.message.End.{End}
+use Rattle.prolly_link.specs.declared.message.End.TheVariants.{Clean, Fault}
 use Rattle.prolly_link.specs.declared.fault.RunFault.TheVariants.{Memory}
 
 -- How a list closes whose end this is: clean, or with a fault, whichever it is.

@@ -1,8 +1,7 @@
-//! What may hold a worker back before it sends.
+//! The gate that each worker asks for each item.
 ghost use Rattle.std.specs.Prelude.{ℕ};
-ghost use Rattle.prolly_stage.specs.declared.worker.Worker.{Worker as WorkerValue};
+ghost use Rattle.prolly_stage.specs.declared.gate.Worker.{Worker as WorkerValue};
 
-use crate::worker::Worker;
 use std::sync::Wait;
 
 /// What a worker asks before it sends an item, so that a test or an observer can hold workers back
@@ -24,4 +23,34 @@ pub struct OpenGate;
 
 impl Gate for OpenGate {
     fn before_send<R: Wait>(&self, _rt: &R, _worker: Worker, _nth: u64) {}
+}
+
+/// A worker, which has a thread of its own. Each kind is numbered from 0.
+#[derive(Clone, Copy, Debug, PartialEq, Eq)]
+pub enum Worker {
+    /// The loader of the record file of this number.
+    Loader(u32),
+    /// A merger, by the order in which the mergers are formed.
+    Merger(u32),
+    /// The stage that makes the chunks of this level.
+    Stage(u32),
+}
+
+/// A [`Gate`] that need not be `Sync`: a method of a trait can't pass on a bound that promises to
+/// be shared between threads, so what `Gated` does for the trait `Out` asks for this one.
+pub(crate) trait Ask {
+    /// As `Gate::HasOpened`.
+    ghost HasOpened: { Self → WorkerValue → ℕ → Type 0 };
+
+    /// As `Gate::before_send`.
+    fn ask<R: Wait>(&self, rt: &R, worker: Worker, nth: u64)
+        ensures { HasOpened self.now worker nth };
+}
+
+impl<G: Gate> Ask for G {
+    ghost HasOpened = { G.HasOpened };
+
+    fn ask<R: Wait>(&self, rt: &R, worker: Worker, nth: u64) {
+        self.before_send(rt, worker, nth);
+    }
 }

@@ -1,10 +1,8 @@
 //! An output behind a gate.
 ghost use Rattle.std.specs.Prelude.{◌≡◌, ◌∷◌, [], ◌++◌, OnOk, IfErr};
-ghost use Rattle.prolly_stage.specs.Gated.{one_more};
+ghost use Rattle.prolly_stage.specs.Gated.{next_number};
 
-use crate::ask::Ask;
-use crate::gate::Gate;
-use crate::worker::Worker;
+use crate::gate::{Ask, Gate, Worker};
 use prolly_link::Out;
 use std::marker::Model;
 use std::sync::Wait;
@@ -67,7 +65,7 @@ impl<'a, G: Ask, O> Gated<'a, G, O> {
             (O.sent self.new.out ≡ O.sent self.old.out)) }
         ensures worker { self.new.worker ≡ self.old.worker }
         ensures gate { self.new.gate ≡ self.old.gate }
-        ensures next { self.new.next ≡ one_more self.old.next }
+        ensures next { self.new.next ≡ next_number self.old.next }
     {
         self.next = self.next.saturating_add(1);
         self.out.send_sized(rt, item, bytes)

@@ -2,12 +2,11 @@
 ghost use Rattle.std.specs.Prelude.{◌≡◌, ◌≤◌, ◌++◌, IfOk, OnOk, OnErr};
 ghost use Rattle.prolly_entry.specs.declared.version.Version.TheVariants.{One};
 ghost use Rattle.prolly_tree.specs.Events.{inner_events};
-ghost use Rattle.prolly_link.specs.Receipts.{HasEnded, end_given};
+ghost use Rattle.prolly_link.specs.Progress.{HasEnded, end_given};
 ghost use Rattle.prolly_stage.specs.Sends.{closing_of, Sends, GivesUp};
-ghost use Rattle.prolly_stage.specs.Taking.{SendsNode, SendsNodeInPart};
+ghost use Rattle.prolly_stage.specs.StageStep.{SendsNode, SendsNodeInPart};
 
-use crate::sending::{send_closed, send_event};
-use crate::staged::{Staged, give_up};
+use crate::staged::{Staged, give_up, send_closed, send_event};
 use prolly_chunk::{ChunkEvent, NodeLevel};
 use prolly_entry::{Cut, Version};
 use prolly_link::{End, In, Next, Out, RunFault};

@@ -2,12 +2,11 @@
 ghost use Rattle.std.specs.Prelude.{◌≡◌, ◌++◌, IfOk, OnOk, OnErr};
 ghost use Rattle.prolly_entry.specs.declared.version.Version.{Version as VersionValue};
 ghost use Rattle.prolly_tree.specs.Events.{leaf_events};
-ghost use Rattle.prolly_link.specs.Receipts.{HasEnded, end_given};
+ghost use Rattle.prolly_link.specs.Progress.{HasEnded, end_given};
 ghost use Rattle.prolly_stage.specs.Sends.{closing_of, Sends, GivesUp};
-ghost use Rattle.prolly_stage.specs.Taking.{SendsLeaf};
+ghost use Rattle.prolly_stage.specs.StageStep.{SendsLeaf};
 
-use crate::sending::send_closed;
-use crate::staged::{Staged, give_up};
+use crate::staged::{Staged, give_up, send_closed};
 use prolly_chunk::{ChunkEvent, LeafLevel};
 use prolly_entry::{Cut, Pair};
 use prolly_link::{End, In, Next, Out, RunFault};

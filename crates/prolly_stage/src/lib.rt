@@ -6,21 +6,17 @@
 //! received and sent.
 #![tactic(auto)]
 
-mod ask;
 mod gate;
 mod gated;
 mod gated_out;
 mod inner;
 pub mod laws;
 mod leaf;
-mod sending;
 mod staged;
-mod worker;
 
-pub use gate::{Gate, OpenGate};
+pub use gate::{Gate, OpenGate, Worker};
 pub use gated::Gated;
 pub use inner::{inner_stage, inner_stage_as};
 pub use leaf::leaf_stage;
 pub use prolly_chunk::ChunkEvent;
 pub use staged::Staged;
-pub use worker::Worker;

@@ -1,11 +1,13 @@
-//! What a stage gives back.
-ghost use Rattle.std.specs.Prelude.{◌≡◌};
-ghost use Rattle.prolly_link.specs.Receipts.{HasEnded};
-ghost use Rattle.prolly_link.specs.declared.end.End.TheVariants.{Fault};
+//! What a stage gives back, and how it sends what was closed.
+ghost use Rattle.std.specs.Prelude.{◌≡◌, ◌∷◌, [], ◌++◌, OnOk, OnErr};
+ghost use Rattle.std.specs.Option.{option_to_list};
+ghost use Rattle.prolly_link.specs.Progress.{HasEnded};
+ghost use Rattle.prolly_link.specs.declared.message.End.TheVariants.{Fault};
 ghost use Rattle.prolly_link.specs.declared.fault.RunFault.TheVariants.{Memory};
 
 use prolly_chunk::ChunkEvent;
 use prolly_link::{End, In, Out, RunFault, receive_rest};
+use std::alloc::AllocError;
 use std::sync::Wait;
 
 /// The ends that a stage was given: the input has ended, and the output is closed.
@@ -31,4 +33,37 @@ pub(crate) fn give_up<T: Drop, I: In<T>, O: Out<ChunkEvent>, R: Wait>(
     let out = out.close(rt, End::Fault(RunFault::Memory));
     receive_rest(rt, &mut input);
     Staged { input, out }
+}
+
+/// Sends an event. An `Err` has sent nothing.
+pub(crate) fn send_event<O: Out<ChunkEvent>, R: Wait>(
+    rt: &R,
+    out: &mut O,
+    event: ChunkEvent,
+) -> Result<(), AllocError>
+    ensures link { O.link out.new ≡ O.link out.old }
+    ensures ok { OnOk result (O.sent out.new ≡ O.sent out.old ++ event ∷ []) }
+    ensures err { OnErr result (O.sent out.new ≡ O.sent out.old) }
+{
+    let size = event.bytes().len();
+    match out.send_sized(rt, event, size) {
+        Ok(()) => Ok(()),
+        Err(_) => Err(AllocError),
+    }
+}
+
+/// Sends the event of a chunk, if one closed. An `Err` has sent nothing.
+pub(crate) fn send_closed<O: Out<ChunkEvent>, R: Wait>(
+    rt: &R,
+    out: &mut O,
+    closed: Option<ChunkEvent>,
+) -> Result<(), AllocError>
+    ensures link { O.link out.new ≡ O.link out.old }
+    ensures ok { OnOk result (O.sent out.new ≡ O.sent out.old ++ option_to_list closed) }
+    ensures err { OnErr result (O.sent out.new ≡ O.sent out.old) }
+{
+    match closed {
+        None => Ok(()),
+        Some(event) => send_event(rt, out, event),
+    }
 }

@@ -5,7 +5,7 @@ use Rattle.std.proofs.Math.Nat.{sub_self}
 use Rattle.std.specs.Char.{encode_utf8}
 use Rattle.std.specs.Fmt.{format_spec, padded_integral, char_count}
 use Rattle.std.specs.List.{repeat}
-use Rattle.prolly_stat.specs.Table.{right}
+use Rattle.prolly_text.specs.Table.{right}
 
 spaces : (n : ℕ) → repeat n (encode_utf8 0x20) ≡ replicate n 0x20
 unfolding encode_utf8

@@ -6,7 +6,7 @@ use Rattle.std.proofs.lemmas.Grind.{flat_map-append}
 use Rattle.std.proofs.lemmas.List.{length-map, length-take-le, map-append}
 use Rattle.std.proofs.lemmas.Option.{slice_get_within}
 use Rattle.std.specs.List.{flat_map, join_with_byte}
-use Rattle.prolly_stat.specs.Json.{array, behind_comma, comma_before, member, object, quoted}
+use Rattle.prolly_text.specs.Json.{array, behind_comma, comma_before, member, object, quoted}
 
 -- ---- an array, value by value
 

@@ -17,13 +17,14 @@ use Rattle.prolly_text.specs.declared.notation.Notation.TheVariants.{Hex, Text}
 use Rattle.prolly_text.specs.lemmas.Notations.{texts_stand_apart}
 use Rattle.prolly_text.specs.lemmas.Digits.{all_so}
 use Rattle.prolly_tree.specs.Split.{in_front}
-use Rattle.prolly_tool.specs.Lines.{lines_of, reads_bare_keys, CutsAt, IsBadLine, IsDashLine}
-use Rattle.prolly_tool.specs.Lines.{IsLineOf, IsPairLine, IsRemovalLine}
-use Rattle.prolly_tool.specs.declared.lines.line.LineFlaw.{LineFlaw}
-use Rattle.prolly_tool.specs.declared.lines.line.LineFlaw.TheVariants as flaws
-use Rattle.prolly_tool.specs.declared.lines.line_form.LineForm.{LineForm}
-use Rattle.prolly_tool.specs.Pack.{IsChangeOf, IsLongKey, IsLongPair, IsNotWritten, IsWrongLine}
-use Rattle.prolly_tool.specs.Pack.{MarksRemoval, StandsFor}
+use Rattle.prolly_text.specs.Lines.{lines_of, reads_bare_keys, CutsAt, IsBadLine, IsDashLine}
+use Rattle.prolly_text.specs.Lines.{IsLineOf, IsPairLine, IsRemovalLine}
+use Rattle.prolly_text.specs.declared.lines.line.LineFlaw.{LineFlaw}
+use Rattle.prolly_text.specs.declared.lines.line.LineFlaw.TheVariants as flaws
+use Rattle.prolly_text.specs.declared.lines.form.LineForm.{LineForm}
+use Rattle.prolly_text.specs.PackedLines.{IsChangeOf, IsLongKey, IsLongPair, IsNotWritten}
+use Rattle.prolly_text.specs.PackedLines.{IsWrongLine}
+use Rattle.prolly_text.specs.PackedLines.{MarksRemoval, StandsFor}
 
 -- no place of the list has the byte
 abbrev pub Lacks : ℕ → List ℕ → Type 0

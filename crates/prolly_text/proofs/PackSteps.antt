@@ -8,13 +8,14 @@ use Rattle.prolly_entry.specs.Record.{Record}
 use Rattle.prolly_entry.specs.Spelling.{record_spelling}
 use Rattle.prolly_text.specs.declared.notation.Notation.{Notation}
 use Rattle.prolly_text.specs.declared.notation.Notation.TheVariants.{Hex, Text}
-use Rattle.prolly_tool.specs.declared.lines.line_form.LineForm.{LineForm}
-use Rattle.prolly_tool.specs.declared.lines.line.LineFlaw.{LineFlaw}
-use Rattle.prolly_tool.specs.declared.lines.line.LineFlaw.TheVariants as flaws
-use Rattle.prolly_tool.specs.declared.faults.pack_fault.LinesFault.{LinesFault}
-use Rattle.prolly_tool.specs.Lines.{lines_of}
-use Rattle.prolly_tool.specs.Pack.{StandsFor, IsWrongLine, IsFirstWrong, IsLineFault, IsLinesFault}
-use Rattle.prolly_tool.specs.Pack.{Packs, PacksLine, bad_line, fault_at}
+use Rattle.prolly_text.specs.declared.lines.form.LineForm.{LineForm}
+use Rattle.prolly_text.specs.declared.lines.line.LineFlaw.{LineFlaw}
+use Rattle.prolly_text.specs.declared.lines.line.LineFlaw.TheVariants as flaws
+use Rattle.prolly_text.specs.declared.lines.pack.LinesFault.{LinesFault}
+use Rattle.prolly_text.specs.Lines.{lines_of}
+use Rattle.prolly_text.specs.PackedLines.{StandsFor, IsWrongLine, IsFirstWrong, IsLineFault}
+use Rattle.prolly_text.specs.PackedLines.{IsLinesFault}
+use Rattle.prolly_text.specs.PackedLines.{Packs, PacksLine, bad_line, fault_at}
 
 -- Some lines are packed, and the rest follows.
 pub record IsUnderWay (form : LineForm) (text old out rest : List ℕ) (count : ℕ) : Type 0 where

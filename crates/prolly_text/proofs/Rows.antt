@@ -3,7 +3,7 @@ use Rattle.std.proofs.Common.{◌≡◌, ℕ, zero, suc, ◌+◌, ◌<◌, List,
 use Rattle.std.proofs.Common.{slice_index_or, drop, reverse, ◌++◌, refl, sym, ap, ◌∙◌, arith}
 use Rattle.std.proofs.lemmas.List.{flat_map_more, reverse-append}
 use Rattle.std.specs.List.{flat_map}
-use Rattle.prolly_stat.specs.Rows.{rows_from}
+use Rattle.prolly_text.specs.Rows.{rows_from}
 use Rattle.prolly_check.specs.declared.numbers.Level.{Level}
 
 -- The first row.

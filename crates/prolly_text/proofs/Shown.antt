@@ -3,7 +3,7 @@ use Rattle.std.proofs.Common.{◌≡◌, ℕ, true, nat_lt, List, ◌++◌, code
 use Rattle.std.proofs.Common.{◌∙◌, append_assoc}
 use Rattle.std.specs.Fmt.{decimal}
 use Rattle.std.specs.Prelude.{if◌then◌else◌}
-use Rattle.prolly_stat.specs.Flawed.{shortened}
+use Rattle.prolly_text.specs.Flaws.{shortened}
 use Rattle.prolly_text.specs.Notations.{written}
 use Rattle.prolly_text.specs.declared.notation.Notation.{Notation}
 

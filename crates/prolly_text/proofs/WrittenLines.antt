@@ -12,13 +12,14 @@ use Rattle.prolly_text.specs.Notations.{IsWritten, separator, written}
 use Rattle.prolly_text.specs.declared.notation.Notation.{Notation}
 use Rattle.prolly_text.specs.declared.notation.Notation.TheVariants.{Hex, Text}
 use Rattle.prolly_text.specs.lemmas.Notations.{one_reading, written_is_read}
-use Rattle.prolly_tool.specs.declared.lines.line_form.LineForm.{LineForm}
-use Rattle.prolly_tool.specs.declared.lines.record_form.RecordForm.TheVariants.{Lines}
-use Rattle.prolly_tool.specs.Lines.{lines_of, CutsAt, IsLineOf, IsPairLine, IsRemovalLine}
-use Rattle.prolly_tool.specs.Pack.{HasLine, IsOfBytes, LinesArePacked, ReadsRemovals, StandsFor}
-use Rattle.prolly_tool.specs.RecordForms.{change_text, record_line, removal_mark, written_records}
-use Rattle.prolly_tool.proofs.LineLemmas.{Lacks, dash_texts, has_byte, lacks_newline}
-use Rattle.prolly_tool.proofs.LineLemmas.{lacks_separator, line_first, pair_texts}
+use Rattle.prolly_text.specs.declared.lines.form.LineForm.{LineForm}
+use Rattle.prolly_text.specs.declared.lines.form.RecordForm.TheVariants.{Lines}
+use Rattle.prolly_text.specs.Lines.{lines_of, CutsAt, IsLineOf, IsPairLine, IsRemovalLine}
+use Rattle.prolly_text.specs.PackedLines.{HasLine, IsOfBytes, LinesArePacked, ReadsRemovals}
+use Rattle.prolly_text.specs.PackedLines.{StandsFor}
+use Rattle.prolly_text.specs.RecordForms.{change_text, record_line, removal_mark, written_records}
+use Rattle.prolly_text.proofs.LineLemmas.{Lacks, dash_texts, has_byte, lacks_newline}
+use Rattle.prolly_text.proofs.LineLemmas.{lacks_separator, line_first, pair_texts}
 
 -- The line of a record without its newline.
 abbrev line_text : Notation → Record → List ℕ

@@ -4,10 +4,10 @@ use Rattle.std.specs.Fmt.{decimal}
 use Rattle.std.specs.List.{join_with_byte}
 use Rattle.std.specs.Option.{option_copied}
 use Rattle.prolly_entry.specs.Version.{version_byte}
-use Rattle.prolly_stat.specs.Rows.{rows_of}
-use Rattle.prolly_stat.specs.declared.row.Row.{Row}
-use Rattle.prolly_stat.specs.declared.tree.TreeNumbers.{TreeNumbers}
-use Rattle.prolly_stat.specs.declared.records.RecordNumbers.{RecordNumbers}
+use Rattle.prolly_text.specs.Rows.{rows_of}
+use Rattle.prolly_text.specs.declared.numbers.table.Row.{Row}
+use Rattle.prolly_text.specs.declared.numbers.table.TreeNumbers.{TreeNumbers}
+use Rattle.prolly_text.specs.declared.numbers.records.RecordNumbers.{RecordNumbers}
 use Rattle.prolly_text.specs.Notations.{written}
 use Rattle.prolly_text.specs.declared.notation.Notation.TheVariants.{Hex}
 

@@ -1,8 +1,8 @@
 -- How keys are shown.
 use Rattle.std.specs.Prelude.{ℕ, List}
-use Rattle.prolly_stat.specs.Flawed.{shortened}
-use Rattle.prolly_stat.specs.declared.key_form.KeyForm.{KeyForm}
-use Rattle.prolly_stat.specs.declared.key_form.KeyForm.TheVariants.{Whole, Shortened}
+use Rattle.prolly_text.specs.Flaws.{shortened}
+use Rattle.prolly_text.specs.declared.numbers.records.KeyForm.{KeyForm}
+use Rattle.prolly_text.specs.declared.numbers.records.KeyForm.TheVariants.{Whole, Shortened}
 use Rattle.prolly_text.specs.Notations.{written}
 
 -- A key in this form: as its notation writes it, or shortened.

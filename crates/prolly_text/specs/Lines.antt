@@ -6,7 +6,7 @@ use Rattle.prolly_text.specs.Notations.{IsWritten, separator}
 use Rattle.prolly_text.specs.declared.notation.Notation.{Notation}
 use Rattle.prolly_text.specs.declared.notation.Notation.TheVariants.{Hex, Text}
 use Rattle.prolly_tree.specs.Split.{in_front}
-use Rattle.prolly_tool.specs.declared.lines.line_form.LineForm.{LineForm}
+use Rattle.prolly_text.specs.declared.lines.form.LineForm.{LineForm}
 
 -- The lines of a text: it is cut at newlines. A last line without a newline counts, and the empty
 -- rest behind a last newline does not.
@@ -60,13 +60,13 @@ abbrev pub IsBadLine : LineForm → List ℕ → Type 0
 IsBadLine form line = (key : List ℕ) (change : Option (List ℕ)) → IsLineOf form line key change → ⊥
 
 -- The line stands for a key that is too long; for a key that is not, and a value that is.
-pub record HasLongKey (form : LineForm) (line : List ℕ) : Type 0 where
+pub record IsLongKeyLine (form : LineForm) (line : List ℕ) : Type 0 where
   pub key : List ℕ
   pub change : Option (List ℕ)
   pub is : IsLineOf form line key change
   pub over : 1024 < length key
 
-pub record HasLongValue (form : LineForm) (line : List ℕ) : Type 0 where
+pub record IsLongValueLine (form : LineForm) (line : List ℕ) : Type 0 where
   pub key : List ℕ
   pub value : List ℕ
   pub is : IsLineOf form line key (Some value)

@@ -28,9 +28,9 @@ IsWritten Hex text bytes = decode_of text ≡ Ok bytes
 IsWritten Text text bytes = IsTextOf text bytes
 
 -- Why a text is not read: it stands for no bytes, or memory is wanted, which may be at any text.
-abbrev pub IsUnread : Notation → List ℕ → TextFault → Type 0
-IsUnread notation text Memory = Unit {0}
-IsUnread notation text Bad = (bytes : List ℕ) → IsWritten notation text bytes → ⊥
+abbrev pub IsTextFault : Notation → List ℕ → TextFault → Type 0
+IsTextFault notation text Memory = Unit {0}
+IsTextFault notation text Bad = (bytes : List ℕ) → IsWritten notation text bytes → ⊥
 
 -- ---- laws
 
@@ -40,8 +40,8 @@ WrittenIsRead = (notation : Notation) (bytes : List ℕ) → AllByRecursion IsBy
     IsWritten notation (written notation bytes) bytes
 
 -- Law: a text stands for one list of bytes at most.
-abbrev pub OneReading : Type 0
-OneReading = (notation : Notation) (text a b : List ℕ) →
+abbrev pub OneTextReading : Type 0
+OneTextReading = (notation : Notation) (text a b : List ℕ) →
     IsWritten notation text a → IsWritten notation text b → a ≡ b
 
 -- The byte is no newline, and not what stands between a key and its value.

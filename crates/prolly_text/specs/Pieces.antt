@@ -29,20 +29,20 @@ IsPiece piece byte =
     ⊎ ((digits : List ℕ) × (piece ≡ 0x5C ∷ 0x78 ∷ digits) × (decode_of digits ≡ Ok (byte ∷ [])))
 
 -- The text begins with a piece that stands for the byte, and this is behind it.
-pub record BeginsWith (text : List ℕ) (byte : ℕ) (behind : List ℕ) : Type 0 where
+pub record HasPiece (text : List ℕ) (byte : ℕ) (behind : List ℕ) : Type 0 where
   pub piece : List ℕ
   pub whole : text ≡ piece ++ behind
   pub is : IsPiece piece byte
 
 -- The text begins with no piece.
 abbrev pub BeginsWithNone : List ℕ → Type 0
-BeginsWithNone text = (byte : ℕ) (behind : List ℕ) → BeginsWith text byte behind → ⊥
+BeginsWithNone text = (byte : ℕ) (behind : List ℕ) → HasPiece text byte behind → ⊥
 
 -- The text begins with a piece for each of the bytes, in their order, and this is behind them.
 abbrev pub BeginsWithAll : List ℕ → List ℕ → List ℕ → Type 0
 BeginsWithAll text [] behind = text ≡ behind
 BeginsWithAll text (byte ∷ bytes) behind =
-    (rest : List ℕ) × BeginsWith text byte rest × BeginsWithAll rest bytes behind
+    (rest : List ℕ) × HasPiece text byte rest × BeginsWithAll rest bytes behind
 
 -- The text is the pieces of the bytes, and nothing else.
 abbrev pub IsTextOf : List ℕ → List ℕ → Type 0

@@ -6,8 +6,8 @@ use Rattle.prolly_entry.specs.Spelling.{record_spelling}
 use Rattle.prolly_text.specs.Notations.{separator, written}
 use Rattle.prolly_text.specs.declared.notation.Notation.{Notation}
 use Rattle.prolly_text.specs.declared.notation.Notation.TheVariants.{Hex, Text}
-use Rattle.prolly_tool.specs.declared.lines.record_form.RecordForm.{RecordForm}
-use Rattle.prolly_tool.specs.declared.lines.record_form.RecordForm.TheVariants.{Lines, Records}
+use Rattle.prolly_text.specs.declared.lines.form.RecordForm.{RecordForm}
+use Rattle.prolly_text.specs.declared.lines.form.RecordForm.TheVariants.{Lines, Records}
 
 -- What a line has behind its key for a removal: in hexadecimal a space and a dash, and in text
 -- nothing.
@@ -29,7 +29,7 @@ abbrev pub spelled : RecordForm → Record → List ℕ
 spelled (Lines notation) r = record_line notation r
 spelled Records r = record_spelling r
 
--- The same, where a form is given, and nothing where none is.
+-- A record in the form that is given, and nothing where none is.
 abbrev pub spelled_in : Option RecordForm → Record → List ℕ
 spelled_in None r = []
 spelled_in (Some form) r = spelled form r

@@ -2,8 +2,8 @@
 use Rattle.std.specs.Prelude.{ℕ, List, ◌++◌, codes, option_map}
 use Rattle.std.specs.Fmt.{decimal}
 use Rattle.std.specs.Option.{option_copied}
-use Rattle.prolly_stat.specs.Lines.{line_of, optional_line}
-use Rattle.prolly_stat.specs.declared.records.RecordNumbers.{RecordNumbers}
+use Rattle.prolly_text.specs.NumberLines.{line_of, optional_line}
+use Rattle.prolly_text.specs.declared.numbers.records.RecordNumbers.{RecordNumbers}
 use Rattle.prolly_text.specs.Notations.{written}
 use Rattle.prolly_text.specs.declared.notation.Notation.{Notation}
 

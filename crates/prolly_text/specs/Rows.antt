@@ -1,8 +1,8 @@
 -- The levels of a tree in their places.
 use Rattle.std.specs.Prelude.{ℕ, suc, List, [], ◌∷◌}
-use Rattle.prolly_stat.specs.declared.row.Row.{Row}
+use Rattle.prolly_text.specs.declared.numbers.table.Row.{Row}
 use Rattle.prolly_check.specs.declared.numbers.Level.{Level}
-use Rattle.prolly_stat.specs.declared.tree.TreeNumbers.{TreeNumbers}
+use Rattle.prolly_text.specs.declared.numbers.table.TreeNumbers.{TreeNumbers}
 
 -- Levels in rows, upwards from this number: the first one has these entries, and each other one an
 -- entry for each chunk of the level below it.

@@ -3,10 +3,10 @@ use Rattle.std.specs.Prelude.{ℕ, false, ◌-◌, List, [], ◌∷◌, ◌++◌
 use Rattle.std.specs.Fmt.{decimal, digits}
 use Rattle.std.specs.List.{flat_map}
 use Rattle.prolly_entry.specs.Version.{version_byte}
-use Rattle.prolly_stat.specs.Lines.{line_of}
-use Rattle.prolly_stat.specs.Rows.{rows_of}
-use Rattle.prolly_stat.specs.declared.row.Row.{Row}
-use Rattle.prolly_stat.specs.declared.tree.TreeNumbers.{TreeNumbers}
+use Rattle.prolly_text.specs.NumberLines.{line_of}
+use Rattle.prolly_text.specs.Rows.{rows_of}
+use Rattle.prolly_text.specs.declared.numbers.table.Row.{Row}
+use Rattle.prolly_text.specs.declared.numbers.table.TreeNumbers.{TreeNumbers}
 
 -- A text at the right of a column of this width, behind spaces; one that is longer takes more room.
 abbrev pub right : ℕ → List ℕ → List ℕ

@@ -1,8 +1,9 @@
 //! Laws of the notations. Each is the contract of a function that does nothing: to call it is to
 //! know the law, and to prove the crate is to prove it.
 ghost use Rattle.prolly_text.specs.Names.{NamesShow};
-ghost use Rattle.prolly_text.specs.Notations.{OneReading, TextsStandApart, WrittenIsRead};
+ghost use Rattle.prolly_text.specs.Notations.{OneTextReading, TextsStandApart, WrittenIsRead};
 ghost use Rattle.prolly_text.specs.Notations.{WrittenShows};
+ghost use Rattle.prolly_text.specs.PackedLines.{LinesArePacked};
 
 /// What is written for bytes stands for them.
 pub fn written_is_read()
@@ -11,7 +12,7 @@ pub fn written_is_read()
 
 /// A text stands for one list of bytes at most.
 pub fn one_reading()
-    ensures { OneReading }
+    ensures { OneTextReading }
 {}
 
 /// No text that stands for bytes has a newline, or what stands between a key and its value.
@@ -27,4 +28,9 @@ pub fn written_shows()
 /// What a line shows of a name stands for that name alone, as text, and has no control character.
 pub fn names_show()
     ensures { NamesShow }
+{}
+
+/// What `pack` makes of lines that were written is the record file of the same records.
+pub fn lines_are_packed()
+    ensures { LinesArePacked }
 {}

@@ -1,14 +1,22 @@
-//! How the bytes of keys and values are written: in hexadecimal, or as text with the backslash
-//! escapes of PostgreSQL's `COPY`; and how the names of files are.
+//! How things are written for people to read: the bytes of keys and values, in hexadecimal or as
+//! text with the backslash escapes of PostgreSQL's `COPY`; records as lines; the names of files;
+//! and the numbers of files, as tables, lines and JSON.
 #![tactic(auto)]
 
-mod escape;
 mod laws;
-mod name;
+mod lines;
 mod notation;
-mod piece;
-mod unescape;
+mod numbers;
 
-pub use laws::{names_show, one_reading, texts_stand_apart, written_is_read, written_shows};
-pub use name::append_name;
-pub use notation::{Notation, TextFault, append_hex};
+pub use laws::{
+    lines_are_packed, names_show, one_reading, texts_stand_apart, written_is_read, written_shows,
+};
+pub use lines::{
+    LineForm, LinesFault, PackFault, RecordForm, append_change, append_line, pack_lines,
+    pack_lines_in,
+};
+pub use notation::{Notation, TextFault, append_hex, append_name};
+pub use numbers::{
+    RecordNumbers, TreeNumbers, append_flaw, append_json, append_records, append_records_json,
+    append_table,
+};

@@ -1,11 +1,16 @@
 //! The two ways in which keys and values are written.
+mod escape;
+mod name;
+mod unescape;
+
 ghost use Rattle.std.specs.Prelude.{◌≡◌, ◌++◌, IfOk, IfErr, OnOk};
 ghost use Rattle.hex.specs.Hex.{encode_lower};
-ghost use Rattle.prolly_text.specs.Notations.{IsWritten, IsUnread, separator, written};
+ghost use Rattle.prolly_text.specs.Notations.{IsWritten, IsTextFault, separator, written};
 
-use crate::escape::append_text;
-use crate::unescape::unescaped;
+use crate::notation::escape::append_text;
+use crate::notation::unescape::unescaped;
 use hex::FromHexError;
+pub use name::append_name;
 use std::alloc::{AllocError, Global};
 
 /// How the bytes of keys and values are written.
@@ -53,7 +58,7 @@ impl Notation {
     /// The bytes for which a text is written, in time linear in it.
     pub fn bytes_of(self, alloc: Global, text: &[u8]) -> Result<Vec<u8>, TextFault>
         ensures ok { IfOk result (λ bytes. IsWritten self text.now bytes.items) }
-        ensures err { IfErr result (λ fault. IsUnread self text.now fault) }
+        ensures err { IfErr result (λ fault. IsTextFault self text.now fault) }
     {
         match self {
             Notation::Hex => hex_bytes(alloc, text),
@@ -74,7 +79,7 @@ pub fn append_hex(alloc: Global, out: &mut Vec<u8>, bytes: &[u8]) -> Result<(), 
 /// The bytes that a text in hexadecimal is.
 fn hex_bytes(alloc: Global, text: &[u8]) -> Result<Vec<u8>, TextFault>
     ensures ok { IfOk result (λ bytes. IsWritten Notation.Hex text.now bytes.items) }
-    ensures err { IfErr result (λ fault. IsUnread Notation.Hex text.now fault) }
+    ensures err { IfErr result (λ fault. IsTextFault Notation.Hex text.now fault) }
 {
     match hex::decode(alloc, text) {
         Ok(bytes) => Ok(bytes),

@@ -2,7 +2,7 @@
 use Rattle.std.proofs.Common.{◌≡◌, ◌≤◌, List, ℕ, length, ◌⊎◌, inl, inr, subst, ap, Result, Ok, Err}
 use Rattle.std.specs.Prelude.{◌↔◌, IfOk, IsErrOf, OnErr}
 use Rattle.prolly_entry.specs.Record.{Record}
-use Rattle.prolly_check.specs.Checked.{IsFile}
+use Rattle.prolly_check.specs.Chunks.{IsFile}
 use Rattle.prolly_check.specs.Content.{Content}
 use Rattle.prolly_check.specs.Verdict.{IsRefusal, IsFileOf}
 use Rattle.prolly_check.specs.declared.verdict.fault.CheckFault.{CheckFault}
@@ -10,7 +10,7 @@ use Rattle.prolly_check.specs.declared.verdict.fault.CheckFault.TheVariants.{Rea
 use Rattle.prolly_tool.specs.Answers.{ShowsFault}
 use Rattle.prolly_tool.specs.LookUps.{IsLookedUp, IsNoFileAs, file_limit}
 use Rattle.prolly_tool.specs.OutputFault.{told}
-use Rattle.prolly_tool.specs.Outputs.{IsAnswer, IsCutOff, IsCutShort, IsStopped}
+use Rattle.prolly_tool.specs.Outputs.{IsAnswer, IsShownPart, IsCutShort, IsPart}
 use Rattle.prolly_tool.specs.declared.answers.answer.Answer.{Answer}
 use Rattle.prolly_tool.specs.declared.faults.fault.Fault.{Fault}
 use Rattle.prolly_tool.specs.declared.faults.fault.Fault.TheVariants.{Write}
@@ -76,7 +76,7 @@ pub cut_off : {E : Type 0} (are : (List Record → Type 0) → Type 0)
     (took_until : OutputFault → List Record → Type 0) (is_done refused : Answer → Type 0)
     (result : Result Answer E) (output : OutputFault) (fault : Fault) → are (took_until output) →
     fault ≡ told output → IfOk result (λ answer. ShowsFault answer fault) →
-    IfOk result (λ answer. is_done answer ⊎ IsCutOff are took_until answer ⊎ refused answer)
+    IfOk result (λ answer. is_done answer ⊎ IsShownPart are took_until answer ⊎ refused answer)
 cut_off are took_until is_done refused (Ok answer) output fault is same shows = inr (inl (record {
   fault = output;
   is = is;
@@ -87,6 +87,6 @@ cut_off are took_until is_done refused (Err e) output fault is same shows = tt
 pub stopped : {E : Type 0} (are : (List Record → Type 0) → Type 0)
     (took_until : OutputFault → List Record → Type 0) (untouched : Type 0) (result : Result Answer E)
     (fault : OutputFault) → are (took_until fault) →
-    OnErr result (untouched ⊎ IsStopped are took_until)
+    OnErr result (untouched ⊎ IsPart are took_until)
 stopped are took_until untouched (Ok answer) fault is = tt
 stopped are took_until untouched (Err e) fault is = inr (record { fault = fault; is = is })

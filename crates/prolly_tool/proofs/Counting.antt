@@ -8,12 +8,12 @@ use Rattle.std.proofs.lemmas.List.Sums.{sum_by-cons}
 use Rattle.prolly_entry.specs.Pair.{Pair}
 use Rattle.prolly_entry.specs.Record.{Record}
 use Rattle.prolly_tree.specs.LookUp.{find}
-use Rattle.prolly_check.specs.Checked.{chunks_of}
+use Rattle.prolly_check.specs.Chunks.{chunks_of}
 use Rattle.prolly_check.specs.Content.{Content}
 use Rattle.prolly_check.specs.Numbers.{AreSo, lacking}
 use Rattle.prolly_check.specs.Verdict.{IsFileOf}
 use Rattle.prolly_check.specs.declared.numbers.Missing.{Missing}
-use Rattle.prolly_tool.specs.Counts.{AreCounts, is_added, is_changed, is_removed, stat_line}
+use Rattle.prolly_tool.specs.Counts.{AreCounts, is_added, is_changed, is_removed, counts_line}
 use Rattle.prolly_tool.specs.Counts.{stat_text}
 use Rattle.prolly_tool.specs.Diff.{stat_shown}
 use Rattle.prolly_tool.specs.declared.answers.diff.ChangeCounts.{ChangeCounts}
@@ -56,7 +56,7 @@ line_is : (old new : Content) (records : List Record) (counts : ChangeCounts)
     (missing : Missing) → AreCounts old.pairs records counts →
     AreSo (lacking (chunks_of old) (chunks_of new)) missing →
     stat_text counts.added counts.changed counts.removed missing.chunks missing.bytes ≡
-    stat_line old new records
+    counts_line old new records
 line_is old new records counts missing h k =
     let lacked = lacking (chunks_of old) (chunks_of new) in
     ap (λ n. stat_text n counts.changed counts.removed missing.chunks missing.bytes) h.added_is ∙

@@ -19,22 +19,22 @@ use Rattle.prolly_tree.specs.lemmas.Differences.{some_difference}
 use Rattle.prolly_file.specs.Failures.{after_failure}
 use Rattle.prolly_file.specs.Sink.{IsSettled, SinkView}
 use Rattle.prolly_file.specs.Writes.{Writes}
-use Rattle.prolly_diff.specs.Walk.{Maps, AreMaps, IsFirstChange}
+use Rattle.prolly_diff.specs.Differences.{Maps, AreMaps, IsFirstChange}
 use Rattle.std.specs.Prelude.{IfOk, OnErr}
-use Rattle.prolly_check.specs.Checked.{IsFile}
+use Rattle.prolly_check.specs.Chunks.{IsFile}
 use Rattle.prolly_check.specs.Content.{Content}
 use Rattle.prolly_check.specs.Verdict.{IsFileOf}
 use Rattle.prolly_check.proofs.CheckedFile.{few_pairs}
 use Rattle.prolly_tool.specs.declared.faults.output_fault.OutputFault.TheVariants.{Memory, Write}
 use Rattle.prolly_tool.specs.declared.answers.answer.Answer.{Answer}
 use Rattle.prolly_tool.specs.declared.answers.diff.ChangeCounts.{ChangeCounts}
-use Rattle.prolly_tool.specs.declared.lines.record_form.RecordForm.{RecordForm}
+use Rattle.prolly_text.specs.declared.lines.form.RecordForm.{RecordForm}
 use Rattle.prolly_tool.specs.Counts.{AreCounts}
-use Rattle.prolly_tool.specs.Diff.{AreCompared, AreStopped, AreWritten, HasDifference}
+use Rattle.prolly_tool.specs.Diff.{AreTwoFiles, AreStopped, AreWritten, HasDifference}
 use Rattle.prolly_tool.specs.Diff.{HaveChanges, ShowsDiff}
 use Rattle.prolly_tool.specs.LookUps.{file_limit}
-use Rattle.prolly_tool.specs.Outputs.{IsStopped, TookAll, TookPrefix, TookUntil}
-use Rattle.prolly_tool.specs.RecordForms.{spelled, spelled_in, written_records}
+use Rattle.prolly_tool.specs.Outputs.{IsPart, TookAll, TookPrefix, TookUntil}
+use Rattle.prolly_text.specs.RecordForms.{spelled, spelled_in, written_records}
 use Rattle.prolly_tool.proofs.Answering.{looked_up}
 use Rattle.prolly_tool.proofs.Writing.{TookSoFar, took_none, took_more, took_front, took_until}
 use Rattle.prolly_tool.proofs.Writing.{flushed, other_failures, unflushed}
@@ -351,7 +351,7 @@ module _ (old new old_left new_left : List ℕ) (old_failed new_failed : Type 0)
       ((before after : Content) (records : List Record) → IsFileOf old before →
       IsFileOf new after → so records → holds before after records) →
       HasDifference maps.before maps.after so →
-      AreCompared old_left old_failed new_left new_failed holds
+      AreTwoFiles old_left old_failed new_left new_failed holds
   compared holds so says h =
       looked_up old old_left old_failed _ olds file within unfailed
       (λ before is. looked_up new new_left new_failed _ news other within' unfailed'
@@ -373,7 +373,7 @@ module _ (old new old_left new_left : List ℕ) (old_failed new_failed : Type 0)
       ShowsDiff answer stat before after records) →
       HasDifference maps.before maps.after
       (λ records. written records × AreCounts maps.before records counts) →
-      IfOk result (λ answer. AreCompared old_left old_failed new_left new_failed
+      IfOk result (λ answer. AreTwoFiles old_left old_failed new_left new_failed
       (λ before after records. written records × ShowsDiff answer stat before after records)
       ⊎ others answer)
   all_shown (Ok answer) written counts stat others shows h = inl (compared
@@ -392,7 +392,7 @@ module _ (old new old_left new_left : List ℕ) (old_failed new_failed : Type 0)
       HasDifference maps.before maps.after
       (λ records. AreWritten form (λ bytes. TookAll seen bytes sink sink') (sink' ≡ sink) records ×
       counted records) →
-      OnErr result ((sink' ≡ sink) ⊎ IsStopped (HaveChanges old_left old_failed new_left new_failed)
+      OnErr result ((sink' ≡ sink) ⊎ IsPart (HaveChanges old_left old_failed new_left new_failed)
       (AreStopped form (λ fault bytes. TookUntil seen fault bytes sink sink')))
   unshown (Ok answer) seen form counted sink sink' h = tt
   unshown (Err e) seen None counted sink sink' h = inl h.so.0

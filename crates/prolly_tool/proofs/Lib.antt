@@ -1,9 +1,3 @@
--- Lines of text, and the split of a line at its first space.
-pub mod LineLemmas
--- Lines that are written, and what they stand for.
-pub mod WrittenLines
--- Packing a text line by line.
-pub mod PackSteps
 -- The pairs of a record file are in order, so the plain builder finds none that isn't.
 pub mod Rises
 -- What a command answers where writing its file fails.

@@ -1,7 +1,7 @@
 -- What the command `build` prints.
 use Rattle.std.specs.Prelude.{ℕ, List, ◌∷◌, ◌++◌, Result, Ok, Err}
 use Rattle.std.specs.Fmt.{decimal}
-use Rattle.prolly_build.specs.declared.report.Report.{Report}
+use Rattle.prolly_build.specs.declared.driver.Report.{Report}
 use Rattle.prolly_entry.specs.Reference.{reference_text}
 use Rattle.prolly_link.specs.declared.fault.RunFault.{RunFault}
 use Rattle.prolly_tool.specs.Answers.{ShowsLine, ShowsFault}

@@ -6,9 +6,9 @@ use Rattle.std.specs.Prelude.{◌≡◌, ◌&&◌, ℕ, List, [], ◌∷◌, ◌
 use Rattle.prolly_entry.specs.Pair.{Pair}
 use Rattle.prolly_entry.specs.Record.{Record}
 use Rattle.prolly_tree.specs.LookUp.{find}
-use Rattle.prolly_check.specs.Checked.{chunks_of}
+use Rattle.prolly_check.specs.Chunks.{chunks_of}
 use Rattle.prolly_check.specs.Content.{Content}
-use Rattle.prolly_check.specs.Numbers.{lacking, size_of}
+use Rattle.prolly_check.specs.Numbers.{lacking, chunks_size}
 use Rattle.prolly_tool.specs.declared.answers.diff.ChangeCounts.{ChangeCounts}
 
 -- ---- kinds of changes
@@ -48,8 +48,8 @@ stat_text added changed removed chunks bytes =
 
 -- The line of two files and the difference of their maps: how many records there are of each kind,
 -- and how many chunks of the new file the old one lacks.
-abbrev pub stat_line : Content → Content → List Record → List ℕ
-stat_line old new records =
+abbrev pub counts_line : Content → Content → List Record → List ℕ
+counts_line old new records =
     let missing = lacking (chunks_of old) (chunks_of new) in
     stat_text (count_by (is_added old.pairs) records) (count_by (is_changed old.pairs) records)
-    (count_by is_removed records) (length missing) (size_of missing)
+    (count_by is_removed records) (length missing) (chunks_size missing)

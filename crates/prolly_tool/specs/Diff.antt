@@ -5,13 +5,13 @@ use Rattle.prolly_entry.specs.Pair.{Pair}
 use Rattle.prolly_entry.specs.Record.{Record}
 use Rattle.prolly_tree.specs.Difference.{IsDifference}
 use Rattle.prolly_tool.specs.Answers.{Shows}
-use Rattle.prolly_tool.specs.Counts.{are_some, stat_line}
+use Rattle.prolly_tool.specs.Counts.{are_some, counts_line}
 use Rattle.prolly_tool.specs.LookUps.{IsLookedUp, IsNoFileAs}
-use Rattle.prolly_tool.specs.Outputs.{IsCutOff}
-use Rattle.prolly_tool.specs.RecordForms.{written_records}
+use Rattle.prolly_tool.specs.Outputs.{IsShownPart}
+use Rattle.prolly_text.specs.RecordForms.{written_records}
 use Rattle.prolly_tool.specs.declared.answers.answer.Answer.{Answer}
 use Rattle.prolly_tool.specs.declared.faults.output_fault.OutputFault.{OutputFault}
-use Rattle.prolly_tool.specs.declared.lines.record_form.RecordForm.{RecordForm}
+use Rattle.prolly_text.specs.declared.lines.form.RecordForm.{RecordForm}
 use Rattle.prolly_tool.specs.declared.faults.fault.Fault.TheVariants.{CheckOld, CheckNew}
 
 -- ---- of which difference
@@ -23,16 +23,16 @@ pub record HasDifference (old new : List Pair) (holds : List Record → Type 0) 
   pub so : holds records
 
 -- Both files were read whole and are the files of these contents, of whose difference this holds.
-abbrev pub AreCompared : List ℕ → Type 0 → List ℕ → Type 0 →
+abbrev pub AreTwoFiles : List ℕ → Type 0 → List ℕ → Type 0 →
     (Content → Content → List Record → Type 0) → Type 0
-AreCompared old old_failed new new_failed holds = IsLookedUp old old_failed
+AreTwoFiles old old_failed new new_failed holds = IsLookedUp old old_failed
     (λ before. IsLookedUp new new_failed (λ after. HasDifference before.pairs after.pairs
     (holds before after)))
 
--- The same, where it is said of the difference alone.
+-- Both files were read whole, and this holds of the difference of their maps.
 abbrev pub HaveChanges : List ℕ → Type 0 → List ℕ → Type 0 → (List Record → Type 0) → Type 0
 HaveChanges old old_failed new new_failed holds =
-    AreCompared old old_failed new new_failed (λ before after. holds)
+    AreTwoFiles old old_failed new new_failed (λ before after. holds)
 
 -- ---- what is written
 
@@ -58,7 +58,7 @@ status_of true = 1
 -- What is shown of the difference: the line of its numbers, where it is asked for.
 abbrev pub stat_shown : Bool → Content → Content → List Record → List ℕ
 stat_shown false old new records = []
-stat_shown true old new records = stat_line old new records
+stat_shown true old new records = counts_line old new records
 
 -- Done: the numbers are shown where they are asked for, and the status tells whether there are
 -- changes.
@@ -78,8 +78,8 @@ IsOneRefused old old_failed new new_failed answer = IsNoFileAs CheckOld old old_
 abbrev pub IsDiff : Option RecordForm → Bool → List ℕ → Type 0 → List ℕ → Type 0 →
     (List ℕ → Type 0) → (OutputFault → List ℕ → Type 0) → Type 0 → Answer → Type 0
 IsDiff form stat old old_failed new new_failed took_all took_until untouched answer =
-    AreCompared old old_failed new new_failed
+    AreTwoFiles old old_failed new new_failed
     (λ before after records. AreWritten form took_all untouched records ×
     ShowsDiff answer stat before after records)
-    ⊎ IsCutOff (HaveChanges old old_failed new new_failed) (AreStopped form took_until) answer
+    ⊎ IsShownPart (HaveChanges old old_failed new new_failed) (AreStopped form took_until) answer
     ⊎ (IsOneRefused old old_failed new new_failed answer × untouched)

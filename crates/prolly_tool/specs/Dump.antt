@@ -6,13 +6,13 @@ use Rattle.prolly_tree.specs.Difference.{puts}
 use Rattle.prolly_tree.specs.RecordFile.{record_file}
 use Rattle.prolly_tool.specs.Answers.{ShowsDone}
 use Rattle.prolly_tool.specs.LookUps.{IsLookedUp, IsNoFile}
-use Rattle.prolly_tool.specs.Outputs.{IsCutOff}
-use Rattle.prolly_tool.specs.RecordForms.{written_records}
+use Rattle.prolly_tool.specs.Outputs.{IsShownPart}
+use Rattle.prolly_text.specs.RecordForms.{written_records}
 use Rattle.prolly_tool.specs.declared.answers.answer.Answer.{Answer}
 use Rattle.prolly_tool.specs.declared.faults.output_fault.OutputFault.{OutputFault}
 use Rattle.prolly_tool.specs.declared.faults.output_fault.OutputFault.TheVariants.{Write}
-use Rattle.prolly_tool.specs.declared.lines.record_form.RecordForm.{RecordForm}
-use Rattle.prolly_tool.specs.declared.lines.record_form.RecordForm.TheVariants.{Lines, Records}
+use Rattle.prolly_text.specs.declared.lines.form.RecordForm.{RecordForm}
+use Rattle.prolly_text.specs.declared.lines.form.RecordForm.TheVariants.{Lines, Records}
 
 -- The bytes were read whole and are the file of a map, and this holds of the records that put its
 -- pairs.
@@ -39,7 +39,7 @@ abbrev pub IsDump : RecordForm → List ℕ → Type 0 → (List ℕ → Type 0)
 IsDump form bytes failed took_all took_until untouched answer =
     (IsDumped bytes failed (λ records. took_all (written_records form records)) ×
     ShowsDone answer)
-    ⊎ IsCutOff (IsDumped bytes failed) (IsStoppedDump form took_until) answer
+    ⊎ IsShownPart (IsDumped bytes failed) (IsStoppedDump form took_until) answer
     ⊎ (IsNoFile bytes failed answer × untouched)
 
 -- Law: the records that put the pairs of a map are, as a record file, the record file of the map.

@@ -1,6 +1,5 @@
 -- The line and the status of each fault. (This project's texts.)
 use Rattle.std.specs.Prelude.{ℕ, List, [], ◌∷◌, ◌++◌, codes}
-use Rattle.std.specs.Fmt.{decimal}
 use Rattle.prolly_link.specs.FaultTexts.{run_text}
 use Rattle.prolly_link.specs.declared.fault.RunFault.{RunFault}
 use Rattle.prolly_link.specs.declared.fault.RunFault.TheVariants as runs
@@ -10,28 +9,18 @@ use Rattle.prolly_check.specs.declared.verdict.fault.CheckFault.TheVariants as c
 use Rattle.prolly_root.specs.FaultTexts.{proof_fault_text, root_fault_text}
 use Rattle.prolly_root.specs.declared.root_fault.RootFault.{RootFault}
 use Rattle.prolly_root.specs.declared.root_fault.RootFault.TheVariants as roots
-use Rattle.prolly_tool.specs.declared.faults.pack_fault.LinesFault.{LinesFault}
-use Rattle.prolly_tool.specs.declared.faults.pack_fault.LinesFault.TheVariants as lines
-use Rattle.prolly_tool.specs.declared.faults.pack_fault.PackFault.{PackFault}
-use Rattle.prolly_tool.specs.declared.faults.pack_fault.PackFault.TheVariants as packs
+use Rattle.prolly_text.specs.declared.lines.pack.LinesFault.TheVariants as lines
+use Rattle.prolly_text.specs.declared.lines.pack.PackFault.TheVariants as packs
 use Rattle.prolly_tool.specs.declared.faults.fault.Fault.{Fault}
 use Rattle.prolly_tool.specs.declared.faults.fault.Fault.TheVariants.{Memory, Read, Write}
 use Rattle.prolly_tool.specs.declared.faults.fault.Fault.TheVariants.{Run, Pack, Check, NoCounts}
-use Rattle.prolly_tool.specs.declared.faults.fault.Fault.TheVariants.{InputTooLong, BadKey, BadTextKey}
+use Rattle.prolly_tool.specs.declared.faults.fault.Fault.TheVariants.{InputTooLong, BadKey}
+use Rattle.prolly_tool.specs.declared.faults.fault.Fault.TheVariants.{BadTextKey}
 use Rattle.prolly_tool.specs.declared.faults.fault.Fault.TheVariants.{NotUnicode}
-use Rattle.prolly_tool.specs.declared.faults.fault.Fault.TheVariants.{OutIsStdout, CheckOld, CheckNew}
+use Rattle.prolly_tool.specs.declared.faults.fault.Fault.TheVariants.{OutIsStdout, CheckOld}
+use Rattle.prolly_tool.specs.declared.faults.fault.Fault.TheVariants.{CheckNew}
 use Rattle.prolly_tool.specs.declared.faults.fault.Fault.TheVariants.{Proof, Root, BadRoot}
-
-abbrev pub pack_text : PackFault → List ℕ
-pack_text packs.Memory = codes "out of memory"
-pack_text (packs.BadLine line) = codes "line " ++ decimal line ++
-    codes ": not a pair in hexadecimal"
-pack_text (packs.KeyTooLong line) = codes "line " ++ decimal line ++ codes ": key too long"
-pack_text (packs.ValueTooLong line) = codes "line " ++ decimal line ++ codes ": value too long"
-
-abbrev pub lines_text : LinesFault → List ℕ
-lines_text (lines.Pack fault) = pack_text fault
-lines_text (lines.BadText line) = codes "line " ++ decimal line ++ codes ": not a pair of text"
+use Rattle.prolly_text.specs.LinesFaults.{lines_text}
 
 -- What is said of one of two files, which is told first; want of memory is no file's fault.
 abbrev pub side_fault_text : List ℕ → CheckFault → List ℕ

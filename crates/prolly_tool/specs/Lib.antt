@@ -1,5 +1,3 @@
--- Lines of text, and the records that they stand for. (This project's format.)
-pub mod Lines
 -- How a command reads its input, and what it says of one that it can't read whole.
 pub mod Input
 -- Why an output is not written whole.
@@ -8,7 +6,7 @@ pub mod OutputFault
 pub mod Outputs
 -- What the command `scratch` answers.
 pub mod Scratch
--- What packing a text comes to.
+-- What the command `pack` answers.
 pub mod Pack
 -- The line and the status of each fault. (This project's texts.)
 pub mod Faults
@@ -20,8 +18,6 @@ pub mod Answers
 pub mod Build
 -- What the commands that read a chunk file print.
 pub mod LookUps
--- How records are written: as lines, as `pack` reads them, or as a record file.
-pub mod RecordForms
 -- What the command `dump` answers.
 pub mod Dump
 -- How many changes the difference of two maps has, and the line that tells it.

@@ -94,7 +94,7 @@ pub record IsNoFileAs (told : CheckFault → Fault) (bytes : List ℕ) (failed :
   pub read : (fault ≡ Read) ↔ failed
   pub shows : ShowsFault answer (told fault)
 
--- The same of the only file that a command reads.
+-- The only file that a command reads is refused, and the answer shows why.
 abbrev pub IsNoFile : List ℕ → Type 0 → Answer → Type 0
 IsNoFile bytes failed answer = IsNoFileAs (λ fault. Check fault) bytes failed answer
 
@@ -125,7 +125,7 @@ ShowsFound notation answer (Ok found) =
     ShowsValue notation answer (option_map (λ value. value.items) found)
 ShowsFound notation answer (Err fault) = ShowsFault answer (Root fault)
 
--- The same of the pair that it found, or none.
+-- What is shown of a look-up by a number: the pair that it found, or none, or its fault.
 abbrev pub ShowsFoundPair : Notation → Answer → Result (Option Pair) RootFault → Type 0
 ShowsFoundPair notation answer (Ok found) = ShowsPair notation answer found
 ShowsFoundPair notation answer (Err fault) = ShowsFault answer (Root fault)

@@ -57,13 +57,13 @@ OfSink happened (Some old) (Some new) = happened old new
 -- ---- records that are written
 
 -- The records are there, and they were not all written, for some fault.
-pub record IsStopped (are : (List Record → Type 0) → Type 0)
+pub record IsPart (are : (List Record → Type 0) → Type 0)
     (took_until : OutputFault → List Record → Type 0) : Type 0 where
   pub fault : OutputFault
   pub is : are (took_until fault)
 
--- This is the fault that is shown.
-pub record IsCutOff (are : (List Record → Type 0) → Type 0)
+-- The records are there, they were not all written, and the answer shows the fault.
+pub record IsShownPart (are : (List Record → Type 0) → Type 0)
     (took_until : OutputFault → List Record → Type 0) (answer : Answer) : Type 0 where
   pub fault : OutputFault
   pub is : are (took_until fault)

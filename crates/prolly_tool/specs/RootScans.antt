@@ -42,7 +42,8 @@ RefusesNone has version root fault = (content : Content) → has content →
     version ≡ content.version →
     root ≡ root_reference (sha512_cut content.bits) content.version content.pairs → MayFail fault
 
--- The same of a source and a reader: where the source has the tree that the reader was opened for.
+-- A source that has the tree of a reader's root is not refused, but for want of memory or a failed
+-- read.
 abbrev pub RefusesNoneOf : {T : Type 0} →
     (Content → (level : ℕ) → Tree level → T → Type 0) → (Content → Type 0) → ReaderView T →
     RootFault → Type 0
@@ -79,7 +80,7 @@ StoppedScan may version root limit notation took_all took_until Write lists =
     took_until outputs.Write (limited_lines notation limit lists)
 StoppedScan may version root limit notation took_all took_until _ lists = ⊥
 
--- The same of lists that look-ups found.
+-- A scan of lists that look-ups found has ended early, with this fault.
 abbrev pub IsStoppedScan : (RootFault → Type 0) → Version → List ℕ → List ℕ → ℕ → Notation →
     (List ℕ → Type 0) → (OutputFault → List ℕ → Type 0) → Fault → Type 0
 IsStoppedScan may version root from limit notation took_all took_until fault =

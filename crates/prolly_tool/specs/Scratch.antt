@@ -7,7 +7,7 @@ use Rattle.prolly_entry.specs.Pair.{Pair}
 use Rattle.prolly_entry.specs.Cut.{sha512_cut}
 use Rattle.prolly_entry.specs.RecordList.{ArePairsOf, IsFaultOf}
 use Rattle.prolly_entry.specs.Reference.{reference_text}
-use Rattle.prolly_file.specs.Scratch.{Builds, IsTooTall}
+use Rattle.prolly_file.specs.Scratch.{Builds, IsTallerTree}
 use Rattle.prolly_link.specs.declared.fault.RunFault.{RunFault}
 use Rattle.prolly_link.specs.declared.fault.RunFault.TheVariants as runs
 use Rattle.prolly_tool.specs.declared.faults.fault.Fault.{Fault}
@@ -40,7 +40,7 @@ pub record MakesTallTree (bits : ℕ) (version : Version) (bytes : List ℕ) (ha
     : Type 0 where
   pub pairs : List Pair
   pub held : HoldsPairs bytes has_failed pairs
-  pub tall : IsTooTall (sha512_cut bits) version pairs 255
+  pub tall : IsTallerTree (sha512_cut bits) version pairs 255
 
 -- The input was read whole, and is no record file: this is its fault, told as that of file 0.
 pub record IsNoRecordFile (bytes : List ℕ) (has_failed : Type 0) (file : ℕ) (fault : RecordFault)
@@ -65,10 +65,10 @@ IsRecordsFault bytes has_failed (Run (runs.TooManyRecords file)) =
 IsRecordsFault bytes has_failed fault = IsInputFault bytes has_failed fault
 
 -- The input gives no chunk file: it gives no pairs, or too tall a tree.
-abbrev pub IsScratchFault : ℕ → Version → List ℕ → Type 0 → Fault → Type 0
-IsScratchFault bits version bytes has_failed (Run runs.TooTall) =
+abbrev pub IsScratchRefusal : ℕ → Version → List ℕ → Type 0 → Fault → Type 0
+IsScratchRefusal bits version bytes has_failed (Run runs.TooTall) =
     MakesTallTree bits version bytes has_failed
-IsScratchFault bits version bytes has_failed fault = IsRecordsFault bytes has_failed fault
+IsScratchRefusal bits version bytes has_failed fault = IsRecordsFault bytes has_failed fault
 
 -- The fault of file 0 that a record fault is.
 abbrev pub run_fault : RecordFault → RunFault

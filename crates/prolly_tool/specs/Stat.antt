@@ -7,20 +7,20 @@ use Rattle.prolly_entry.specs.Cut.{sha512_cut}
 use Rattle.prolly_entry.specs.Reference.{reference_text}
 use Rattle.prolly_tree.specs.File.{root_reference}
 use Rattle.prolly_file.specs.Source.{HandedOutFewer, SourceView}
-use Rattle.prolly_check.specs.Checked.{chunks_of}
+use Rattle.prolly_check.specs.Chunks.{chunks_of}
 use Rattle.prolly_check.specs.Content.{Content}
-use Rattle.prolly_check.specs.Numbers.{AreLevels, size_of}
+use Rattle.prolly_check.specs.Numbers.{AreLevels, chunks_size}
 use Rattle.prolly_load.specs.Fault.{fault_of}
-use Rattle.prolly_load.specs.declared.surveyed.FlawedRecord.{FlawedRecord}
-use Rattle.prolly_load.specs.declared.surveyed.Survey.{Survey}
-use Rattle.prolly_stat.specs.Json.{json_of, records_json_of}
-use Rattle.prolly_stat.specs.Records.{records_of}
-use Rattle.prolly_stat.specs.Table.{table_of}
-use Rattle.prolly_stat.specs.declared.records.RecordNumbers.{RecordNumbers}
-use Rattle.prolly_stat.specs.declared.tree.TreeNumbers.{TreeNumbers}
+use Rattle.prolly_load.specs.declared.tally.FlawedRecord.{FlawedRecord}
+use Rattle.prolly_load.specs.declared.tally.Survey.{Survey}
+use Rattle.prolly_text.specs.Json.{json_of, records_json_of}
+use Rattle.prolly_text.specs.Records.{records_of}
+use Rattle.prolly_text.specs.Table.{table_of}
+use Rattle.prolly_text.specs.declared.numbers.records.RecordNumbers.{RecordNumbers}
+use Rattle.prolly_text.specs.declared.numbers.table.TreeNumbers.{TreeNumbers}
 use Rattle.prolly_tool.specs.Answers.{Shows, ShowsFault}
 use Rattle.prolly_tool.specs.LookUps.{IsLookUp, ShowsFailedRead}
-use Rattle.prolly_tool.specs.Surveys.{AreOfSurvey, IsSurveyAnswer, IsUnread}
+use Rattle.prolly_tool.specs.Surveys.{AreOfSurvey, IsSurveyAnswer, IsReadFailure}
 use Rattle.prolly_tool.specs.declared.answers.answer.Answer.{Answer}
 use Rattle.prolly_tool.specs.declared.faults.fault.Fault.TheVariants.{Read, Run}
 use Rattle.prolly_tool.specs.declared.answers.stat.StatForm.{StatForm}
@@ -36,7 +36,7 @@ pub record AreOfTree (content : Content) (numbers : TreeNumbers) : Type 0 where
   pub bits_are : numbers.bits ≡ content.bits
   pub pairs_are : numbers.pairs ≡ length content.pairs
   pub chunks_are : numbers.chunks ≡ length (chunks_of content)
-  pub bytes_are : numbers.bytes ≡ size_of (chunks_of content)
+  pub bytes_are : numbers.bytes ≡ chunks_size (chunks_of content)
   pub levels_are : AreLevels (chunks_of content) numbers.levels.now
 
 -- Their text.
@@ -44,7 +44,7 @@ abbrev pub tree_text : StatForm → TreeNumbers → List ℕ
 tree_text (Lines notation) numbers = table_of numbers
 tree_text Json numbers = json_of numbers
 
--- They are shown.
+-- The answer shows the numbers of a tree.
 pub record ShowsTree (form : StatForm) (answer : Answer) (content : Content) : Type 0 where
   pub numbers : TreeNumbers
   pub are : AreOfTree content numbers
@@ -57,7 +57,7 @@ abbrev pub records_text : StatForm → RecordNumbers → List ℕ
 records_text (Lines notation) numbers = records_of notation numbers
 records_text Json numbers = records_json_of numbers
 
--- They are shown.
+-- The answer shows the numbers of a record file.
 pub record ShowsSurvey (form : StatForm) (answer : Answer) (survey : Survey) : Type 0 where
   pub numbers : RecordNumbers
   pub are : AreOfSurvey survey numbers
@@ -87,7 +87,7 @@ IsStatOf false form bytes failed answer = IsSurveyAnswer bytes failed (ShowsReco
 -- this is told.
 pub record IsUnknown (bytes left : List ℕ) (failed : Type 0) (answer : Answer) : Type 0 where
   pub fewer : HandedOutFewer 4 bytes left
-  pub unread : IsUnread failed answer
+  pub unread : IsReadFailure failed answer
 
 -- The answer is of the kind of file that it is; or what kind that is could not be read.
 abbrev pub IsStat : StatForm → List ℕ → List ℕ → Type 0 → Answer → Type 0
@@ -101,7 +101,7 @@ AnswersOf is_chunk_file seen old new form result = (seen old).is_honest ≡ true
     IfOk result (IsStatOf is_chunk_file form (seen old).left
     ((seen new).failures ≢ (seen old).failures))
 
--- And to any honest source, of what that had left and has left.
+-- What `stat` answers to any honest source, of what that had left and has left.
 abbrev pub AnswersStat : {S : Type 0} → (S → SourceView) → S → S → StatForm →
     Result Answer AllocError → Type 0
 AnswersStat seen old new form result = (seen old).is_honest ≡ true →

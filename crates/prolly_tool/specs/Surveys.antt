@@ -5,11 +5,11 @@ use Rattle.std.specs.Fmt.{decimal}
 use Rattle.std.specs.Option.{option_copied}
 use Rattle.std.specs.declared.alloc.AllocError.{AllocError}
 use Rattle.prolly_file.specs.Source.{SourceView}
-use Rattle.prolly_load.specs.Survey.{IsSurvey, bytes_of}
-use Rattle.prolly_load.specs.declared.surveyed.FlawedRecord.{FlawedRecord}
-use Rattle.prolly_load.specs.declared.surveyed.Survey.{Survey}
-use Rattle.prolly_stat.specs.Flawed.{flawed_text}
-use Rattle.prolly_stat.specs.declared.records.RecordNumbers.{RecordNumbers}
+use Rattle.prolly_load.specs.Survey.{IsSurvey, key_bytes}
+use Rattle.prolly_load.specs.declared.tally.FlawedRecord.{FlawedRecord}
+use Rattle.prolly_load.specs.declared.tally.Survey.{Survey}
+use Rattle.prolly_text.specs.Flaws.{flawed_text}
+use Rattle.prolly_text.specs.declared.numbers.records.RecordNumbers.{RecordNumbers}
 use Rattle.prolly_text.specs.declared.notation.Notation.{Notation}
 use Rattle.prolly_tool.specs.Answers.{Shows, ShowsLine, ShowsFault}
 use Rattle.prolly_tool.specs.declared.answers.answer.Answer.{Answer}
@@ -23,14 +23,14 @@ pub record IsSurveyed (bytes : List ℕ) (failed : Type 0) (shows : Survey → T
   pub shown : shows survey
 
 -- A read failed, and this is told.
-pub record IsUnread (failed : Type 0) (answer : Answer) : Type 0 where
+pub record IsReadFailure (failed : Type 0) (answer : Answer) : Type 0 where
   pub failed_is : failed
   pub shows : ShowsFault answer Read
 
 -- The answer of a command of which `shows` says what it shows of a survey.
 abbrev pub IsSurveyAnswer : List ℕ → Type 0 → (Answer → Survey → Type 0) → Answer → Type 0
 IsSurveyAnswer bytes failed shows answer =
-    IsSurveyed bytes failed (shows answer) ⊎ IsUnread failed answer
+    IsSurveyed bytes failed (shows answer) ⊎ IsReadFailure failed answer
 
 -- What such a command answers to an honest source, of what that has left.
 abbrev pub AnswersSurvey : {S : Type 0} → (S → SourceView) → S → S → (Answer → Survey → Type 0) →
@@ -49,8 +49,8 @@ pub record AreOfSurvey (survey : Survey) (numbers : RecordNumbers) : Type 0 wher
   pub records_are : numbers.records ≡ survey.records
   pub removals_are : numbers.removals ≡ survey.removals
   pub bytes_are : numbers.bytes ≡ survey.bytes
-  pub first_is : option_copied numbers.first_key ≡ bytes_of survey.first_key
-  pub last_is : option_copied numbers.last_key ≡ bytes_of survey.last_key
+  pub first_is : option_copied numbers.first_key ≡ key_bytes survey.first_key
+  pub last_is : option_copied numbers.last_key ≡ key_bytes survey.last_key
 
 -- ---- explain
 
@@ -59,7 +59,7 @@ pub record ShowsFlaw (notation : Notation) (answer : Answer) (survey : Survey)
     (flawed : FlawedRecord) : Type 0 where
   pub good : RecordNumbers
   pub are : AreOfSurvey survey good
-  pub shows : Shows answer 1 (flawed_text notation good flawed.flaw (bytes_of flawed.key)) []
+  pub shows : Shows answer 1 (flawed_text notation good flawed.flaw (key_bytes flawed.key)) []
 
 -- `ok`, and how many records there are.
 abbrev pub good_text : Survey → List ℕ

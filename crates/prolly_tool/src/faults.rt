@@ -2,9 +2,7 @@
 mod fault;
 mod name_fault;
 mod output_fault;
-mod pack_fault;
 
 pub use fault::Fault;
 pub use name_fault::NameFault;
 pub use output_fault::OutputFault;
-pub use pack_fault::{LinesFault, PackFault};

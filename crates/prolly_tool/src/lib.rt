@@ -9,13 +9,14 @@ mod lines;
 
 pub use answers::{
     Answer, RootScan, StatForm, Stated, answer_build, answer_check, answer_diff, answer_dump,
-    answer_explain, answer_found, answer_found_pair, answer_get, answer_get_as, answer_nth,
-    answer_nth_as, answer_pack, answer_pack_as, answer_prove, answer_scan, answer_scan_as,
-    answer_scan_by_root, answer_scratch, answer_stat, answer_verify,
+    answer_explain, answer_found, answer_found_pair, answer_get, answer_get_in, answer_nth,
+    answer_nth_in, answer_pack, answer_pack_in, answer_prove, answer_scan, answer_scan_by_root,
+    answer_scan_in, answer_scratch, answer_stat, answer_verify,
 };
-pub use faults::{Fault, LinesFault, NameFault, OutputFault, PackFault};
+pub use faults::{Fault, NameFault, OutputFault};
 pub use input::INPUT_LIMIT;
-pub use lines::{LineForm, RecordForm, pack_lines, pack_lines_as};
 pub use prolly_build::{AllStart, Config, ConfigFault, Permit, Report, build, build_with};
 pub use prolly_line::{Command, ParseFault, WriteMode, parse};
-pub use prolly_text::Notation;
+pub use prolly_text::{
+    LineForm, LinesFault, Notation, PackFault, RecordForm, pack_lines, pack_lines_in,
+};

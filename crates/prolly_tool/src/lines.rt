@@ -1,12 +1,83 @@
-//! Lines of text: how they are read, and how they are written.
-mod line;
-mod line_form;
-mod output;
-mod pack;
-mod record_form;
+//! Lines that are written.
+ghost use Rattle.std.specs.Prelude.{◌≡◌, ◌++◌, ◌∷◌, OnOk, IfErr};
+ghost use Rattle.std.specs.Fmt.{decimal};
+ghost use Rattle.prolly_text.specs.Notations.{separator, written};
+ghost use Rattle.prolly_tree.specs.Difference.{puts};
+ghost use Rattle.prolly_tool.specs.Outputs.{TookAll, TookUntil};
+ghost use Rattle.prolly_text.specs.RecordForms.{written_records};
+ghost use Rattle.prolly_text.specs.declared.lines.form.RecordForm.TheVariants.{Lines};
 
-pub use line_form::LineForm;
-pub(crate) use output::{append_number, append_pair, write_lines};
-pub use pack::{pack_lines, pack_lines_as};
-pub use record_form::RecordForm;
-pub(crate) use record_form::append_change;
+use crate::faults::OutputFault;
+use prolly_check::{Leaves, Pairs};
+use prolly_file::{Sink, write_all};
+use prolly_text::{Notation, append_line};
+use std::alloc::{AllocError, Global};
+
+/// Appends a space, and the number in decimal.
+pub(crate) fn append_number(
+    alloc: Global,
+    line: &mut Vec<u8>,
+    number: u64,
+) -> Result<(), AllocError>
+    ensures { OnOk result (line.new.items ≡ line.old.items ++ 0x20 ∷ decimal number) }
+{
+    let text = format!(in alloc; " {number}")?;
+    line.extend_from_slice(text.as_bytes())?;
+    Ok(())
+}
+
+/// Appends a key and its value, with a separator between them.
+pub(crate) fn append_pair(
+    alloc: Global,
+    line: &mut Vec<u8>,
+    notation: Notation,
+    key: &[u8],
+    value: &[u8],
+) -> Result<(), AllocError>
+    ensures { OnOk result (line.new.items ≡ line.old.items ++ written notation
+        key.now ++ separator notation ∷ written notation value.now) }
+{
+    notation.append(alloc, line, key)?;
+    line.push(notation.separator())?;
+    notation.append(alloc, line, value)
+}
+
+/// Writes a line for each pair of the leaves to a sink, and flushes it.
+///
+/// The lines of a leaf are put together in memory, and written in a call of the sink.
+pub(crate) fn write_lines<W: Sink>(
+    alloc: Global,
+    notation: Notation,
+    mut leaves: Leaves,
+    sink: &mut W,
+) -> Result<(), OutputFault>
+    ensures ok { OnOk result (TookAll W.seen (written_records (Lines notation) (puts leaves.entry))
+        sink.old sink.new) }
+    ensures err { IfErr result (λ fault. TookUntil W.seen fault
+        (written_records (Lines notation) (puts leaves.entry)) sink.old sink.new) }
+{
+    let mut lines = Vec::new(alloc);
+    while let Some(leaf) = leaves.next() {
+        lines.clear();
+        append_lines(alloc, &mut lines, notation, leaf)?;
+        write_all(sink, &lines)?;
+    }
+    sink.flush()?;
+    Ok(())
+}
+
+/// Appends a line for each of the pairs.
+fn append_lines(
+    alloc: Global,
+    lines: &mut Vec<u8>,
+    notation: Notation,
+    mut pairs: Pairs,
+) -> Result<(), AllocError>
+    ensures { OnOk result (lines.new.items ≡ lines.old.items ++
+        written_records (Lines notation) (puts pairs.entry)) }
+{
+    while let Some((key, value)) = pairs.next() {
+        append_line(alloc, lines, notation, key, Some(value))?;
+    }
+    Ok(())
+}

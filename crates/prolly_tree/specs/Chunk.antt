@@ -55,7 +55,7 @@ closed_post_order cut version (suc level) children =
 abbrev pub chunks : Cut → Version → List Pair → List Chunk
 chunks cut version m = post_order version (tree_of cut version m).level (tree_of cut version m).tree
 
--- Those of them that are closed.
+-- The chunks of a map's tree that are closed.
 abbrev pub begun_chunks : Cut → Version → List Pair → List Chunk
 begun_chunks cut version m = closed_post_order cut version (tree_of cut version m).level
     (tree_of cut version m).tree

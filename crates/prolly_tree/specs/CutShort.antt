@@ -12,7 +12,7 @@ abbrev pub IsSentOf : {Fault : Type 0} → Fault → Input Fault → Input Fault
 IsSentOf refused input sent = (sent ≡ input) ⊎
     ((sent.fault ≡ Some refused) × IsPrefix sent.records input.records)
 
--- So it is of each input, in its place.
+-- Each input was sent so, in its place.
 abbrev pub AreSentOf : {Fault : Type 0} → Fault → List (Input Fault) → List (Input Fault) → Type 0
 AreSentOf refused [] [] = Unit {0}
 AreSentOf refused (i ∷ inputs) (j ∷ sent) = IsSentOf refused i j × AreSentOf refused inputs sent
@@ -33,7 +33,7 @@ pub record IsFrontOf {Fault : Type 0} (whole : List Record) (sent : Input Fault)
   pub first : IsPrefix sent.records whole
   pub all : sent.fault ≡ None → sent.records ≡ whole
 
--- So it is of each list, in its place.
+-- Each input is a front of its list, in its place.
 abbrev pub AreFrontsOf : {Fault : Type 0} → List (List Record) → List (Input Fault) → Type 0
 AreFrontsOf [] [] = Unit {0}
 AreFrontsOf (l ∷ lists) (j ∷ sent) = IsFrontOf l j × AreFrontsOf lists sent

@@ -1,7 +1,7 @@
 -- The record file of a map. (This project's format.)
 use Rattle.std.specs.Prelude.{◌≡◌, ℕ, ◌≤◌, List, [], ◌∷◌, length, Option, None}
 use Rattle.std.specs.List.{flat_map, AllByRecursion}
-use Rattle.prolly_entry.specs.declared.flaw.Flaw.{Flaw}
+use Rattle.prolly_entry.specs.declared.next.Flaw.{Flaw}
 use Rattle.prolly_entry.specs.declared.version.Version.{Version}
 use Rattle.prolly_entry.specs.Cut.{Cut}
 use Rattle.prolly_entry.specs.Overlay.{overlay}

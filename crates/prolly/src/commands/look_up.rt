@@ -8,8 +8,8 @@ use prolly_entry::{Pair, Ref, Version};
 use prolly_file::{Blocks, FromSeek, ToWrite};
 use prolly_root::{ChunkSource, FileChunks, Reader, RootFault};
 use prolly_tool::{
-    Answer, Fault, Notation, RootScan, answer_found, answer_found_pair, answer_get_as,
-    answer_nth_as, answer_scan_as, answer_scan_by_root,
+    Answer, Fault, Notation, RootScan, answer_found, answer_found_pair, answer_get_in,
+    answer_nth_in, answer_scan_by_root, answer_scan_in,
 };
 use std::fs::File;
 
@@ -61,7 +61,7 @@ pub fn get(
     match root {
         None => {
             let mut source = chunk_file(rt, &file)?;
-            Ok(answer_get_as(rt.alloc(), &mut source, &key, notation)?)
+            Ok(answer_get_in(rt.alloc(), &mut source, &key, notation)?)
         }
         Some(root) => { get_from_root(rt, RootedFile::of(&file, version, &root, notation), &key) }
     }
@@ -98,7 +98,7 @@ pub fn scan(
     match root {
         None => {
             let mut source = chunk_file(rt, &file)?;
-            Ok(answer_scan_as(rt.alloc(), &mut source, &from, limit, notation)?)
+            Ok(answer_scan_in(rt.alloc(), &mut source, &from, limit, notation)?)
         }
         Some(root) => {
             let scan = RootScan {
@@ -134,7 +134,7 @@ pub fn nth(
     match root {
         None => {
             let mut source = chunk_file(rt, &file)?;
-            Ok(answer_nth_as(rt.alloc(), &mut source, n, notation)?)
+            Ok(answer_nth_in(rt.alloc(), &mut source, n, notation)?)
         }
         Some(root) => nth_from_root(rt, RootedFile::of(&file, version, &root, notation), n),
     }

@@ -4,7 +4,7 @@ use crate::patient::Patient;
 use crate::refusal::Refusal;
 use crate::target::Target;
 use prolly_file::{FromRead, ToWrite};
-use prolly_tool::{Answer, LineForm, WriteMode, answer_pack_as};
+use prolly_tool::{Answer, LineForm, WriteMode, answer_pack_in};
 use std::io::IsTerminal;
 
 /// `pack [--text] [--removals] [--sync] [--force] OUT`
@@ -20,7 +20,7 @@ pub fn pack(
     if rt.stdin().is_terminal() {
         let _ = eprintln!(rt; "prolly: reading lines from the terminal; Control-D ends them");
     }
-    let answer = answer_pack_as(
+    let answer = answer_pack_in(
         rt.alloc(),
         &mut FromRead::new(Patient::new(rt, rt.stdin())),
         &mut ToWrite::new(&mut output),

@@ -2,7 +2,7 @@
 //! few and short, so that moving the rest costs nothing.
 ghost use Rattle.std.specs.Prelude.{◌≡◌, ◌+◌, ◌<◌, ◌≤◌, ◌∷◌, [], MatchOption, vec_len};
 ghost use Rattle.std.specs.Prelude.{vec_capacity};
-ghost use Rattle.prolly_build.specs.Forks.{IsForked};
+ghost use Rattle.prolly_build.specs.Lists.{IsForked};
 
 /// Takes the first element.
 pub(crate) fn pop_first<T>(list: &mut Vec<T>) -> Option<T>

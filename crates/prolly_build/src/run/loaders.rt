@@ -1,11 +1,11 @@
 //! The loaders of all files, and the writer below them.
 ghost use Rattle.std.specs.Prelude.{◌≡◌, ◌+◌, ◌<◌, ◌≤◌, [], All, vec_len, vec_capacity, OnOk};
-ghost use Rattle.prolly_build.specs.Ran.{HandsOn, IsUnsent, AreLoaded};
+ghost use Rattle.prolly_build.specs.RunResult.{HandsOn, IsUnsent, AreLoaded};
 
 use crate::end::{Halt, close_all, refuse};
 use crate::run::lists::{pop_first, push_first};
-use crate::run::writer::{Wrote, write_all};
-use crate::start::{Input, Load, Permit, Runtime, Site};
+use crate::run::writer::{WriterResult, write_all};
+use crate::start::{Context, Input, Load, Permit, Runtime};
 use prolly_chunk::ChunkEvent;
 use prolly_entry::Record;
 use prolly_file::Sink;
@@ -14,14 +14,14 @@ use prolly_stage::Gate;
 
 /// Starts a loader for each source, from file number `file` on, then writes, and joins them.
 pub(crate) fn load_all<'s, E, R: Runtime, G: Gate, P: Permit, S: Input + 's, W: Sink>(
-    site: &Site<'s, '_, E, R, G, P>,
+    site: &Context<'s, '_, E, R, G, P>,
     file: u32,
     mut outs: Vec<BatchSender<Record>>,
     sources: &mut Vec<S>,
     closed: &mut Vec<ClosedBatch<Record>>,
     last: BatchReceiver<ChunkEvent>,
     sink: &mut W,
-) -> Result<Wrote, Halt>
+) -> Result<WriterResult, Halt>
     requires numbers { file + vec_len outs ≤ 16 }
     requires each { vec_len outs ≡ vec_len sources.old }
     requires room { (closed.old.items ≡ []) × (vec_len outs ≤ vec_capacity closed.old) }

@@ -1,30 +1,34 @@
 //! The stages, one above the other, and all workers below them.
-ghost use Rattle.std.specs.Prelude.{◌≡◌, ◌<◌, ◌≤◌, [], vec_len, IfOk};
-ghost use Rattle.prolly_build.specs.Ran.{HandsOn};
-ghost use Rattle.prolly_build.specs.Staging.{HasStaged};
+ghost use Rattle.std.specs.Prelude.{◌≡◌, ◌<◌, ◌≤◌, [], vec_len, IfOk, IfErr, OnOk};
+ghost use Rattle.prolly_link.specs.Progress.{HasEnded};
+ghost use Rattle.prolly_link.specs.declared.message.Progress.TheVariants.{Ended};
+ghost use Rattle.prolly_build.specs.RunResult.{HandsOn};
+ghost use Rattle.prolly_build.specs.Stages.{HasStaged};
+ghost use Rattle.prolly_build.specs.declared.end.Halt.TheVariants.{Lost};
 
 use crate::end::{Halt, refuse};
-use crate::links::{Feed, LowerRings, NewLink};
-use crate::run::last_merger::gather;
-use crate::run::ran::Ran;
-use crate::start::{CutLeaves, CutNodes, Input, Permit, Runtime, Site};
+use crate::links::{LowerLinks, NewLink, RecordLinks, meet};
+use crate::run::mergers::gather;
+use crate::run::writer::WriterResult;
+use crate::start::{Context, CutLeaves, CutNodes, Input, Permit, Runtime};
 use prolly_chunk::ChunkEvent;
 use prolly_entry::Pair;
 use prolly_file::Sink;
-use prolly_link::{BatchReceiver, BatchSender};
+use prolly_link::{BatchReceiver, BatchSender, ClosedBatch};
 use prolly_stage::Gate;
+use std::sync::Wait;
 
 /// Starts the stage of the leaves, then all workers below it, writes, joins it, and meets the link
 /// into it.
 fn run_from_leaves<'s, E, R: Runtime, G: Gate, P: Permit, S: Input + 's, W: Sink>(
-    site: &Site<'s, '_, E, R, G, P>,
+    site: &Context<'s, '_, E, R, G, P>,
     pairs: NewLink<Pair>,
-    feed: Feed,
+    feed: RecordLinks,
     out: BatchSender<ChunkEvent>,
     sources: &mut Vec<S>,
     last: BatchReceiver<ChunkEvent>,
     sink: &mut W,
-) -> Result<Ran<ChunkEvent>, Halt>
+) -> Result<RunResult<ChunkEvent>, Halt>
     requires files { (feed.files ≡ vec_len sources.old) × (vec_len sources.old ≤ 16) }
     requires unsent { out.items ≡ [] }
     requires unread { last.items ≡ [] }
@@ -51,13 +55,13 @@ fn run_from_leaves<'s, E, R: Runtime, G: Gate, P: Permit, S: Input + 's, W: Sink
 /// writes, joins the stages, and meets the links into them. The output is that of the highest
 /// stage, whose level is the number of the links.
 pub(crate) fn run_from_top<'s, E, R: Runtime, G: Gate, P: Permit, S: Input + 's, W: Sink>(
-    site: &Site<'s, '_, E, R, G, P>,
-    lower: LowerRings,
+    site: &Context<'s, '_, E, R, G, P>,
+    lower: LowerLinks,
     out: BatchSender<ChunkEvent>,
     sources: &mut Vec<S>,
     last: BatchReceiver<ChunkEvent>,
     sink: &mut W,
-) -> Result<Ran<ChunkEvent>, Halt>
+) -> Result<RunResult<ChunkEvent>, Halt>
     requires levels { vec_len lower.events < 12 }
     requires files { (lower.feed.files ≡ vec_len sources.old) × (vec_len sources.old ≤ 16) }
     requires unsent { out.items ≡ [] }
@@ -68,7 +72,7 @@ pub(crate) fn run_from_top<'s, E, R: Runtime, G: Gate, P: Permit, S: Input + 's,
     ensures staged { IfOk result (λ ran. HasStaged S.seen site.now.config (vec_len lower.events)
         sources.old.items sources.new.items ran.out.items ran.out.end ran.pairs) }
 {
-    let LowerRings {
+    let LowerLinks {
         mut events,
         pairs,
         feed,
@@ -87,7 +91,7 @@ pub(crate) fn run_from_top<'s, E, R: Runtime, G: Gate, P: Permit, S: Input + 's,
     let Some(handle) = site.start(job, out) else {
         return Err(refuse(site.rt, (events, pairs, feed, sender), last));
     };
-    let lower = LowerRings {
+    let lower = LowerLinks {
         events,
         pairs,
         feed,
@@ -95,4 +99,38 @@ pub(crate) fn run_from_top<'s, E, R: Runtime, G: Gate, P: Permit, S: Input + 's,
     let ran = run_from_top(site, lower, sender, sources, last, sink);
     let (input, out) = handle.join(site.rt);
     ran?.up_to_stage(site.rt, input, out)
+}
+
+/// What the workers up to one of them gave back: its closed output, how many pairs the last merger
+/// sent, and what the writer gave.
+#[derive(Drop)]
+pub(crate) struct RunResult<T> {
+    pub out: ClosedBatch<T>,
+    pub pairs: u64,
+    pub wrote: WriterResult,
+}
+
+impl<T: Drop> RunResult<T> {
+    /// The result up to the stage above, which gave these ends back: meets the link into it.
+    pub(crate) fn up_to_stage<R: Wait>(
+        self,
+        rt: &R,
+        input: BatchReceiver<T>,
+        out: ClosedBatch<ChunkEvent>,
+    ) -> Result<RunResult<ChunkEvent>, Halt>
+        requires { self.out.link ≡ input.link }
+        ensures ran { IfOk result (λ ran.
+            ran ≡ record { out = out; pairs = self.pairs; wrote = self.wrote }) }
+        ensures met { OnOk result (HasEnded input.progress → (input.items ≡ self.out.items) ×
+            (input.progress ≡ Ended self.out.end)) }
+        ensures lost { IfErr result (λ halt. halt ≡ Lost) }
+    {
+        let RunResult {
+            out: sent,
+            pairs,
+            wrote,
+        } = self;
+        meet(rt, sent, input)?;
+        Ok(RunResult { out, pairs, wrote })
+    }
 }

@@ -1,14 +1,15 @@
-//! What a worker does.
+//! What a worker does, and what a run asks of the types that it is written over.
 ghost use Rattle.std.specs.Prelude.{◌≡◌, []};
 ghost use Rattle.prolly_link.specs.Identity.{LinkId};
 ghost use Rattle.prolly_link.specs.Views.{Whole};
 
+use prolly_file::Source;
 use prolly_link::{BatchSender, ClosedBatch, Out};
 use prolly_stage::Worker;
 use std::alloc::Global;
 use std::snapshot::Snapshot;
 use std::sync::Wait;
-use std::thread::Promise;
+use std::thread::{Promise, Threads};
 
 /// The work of a worker: all that it is handed but its output.
 pub(crate) trait Job {
@@ -53,3 +54,13 @@ pub(crate) struct Kept<J: Job> {
 impl<J: Job> Promise<(J::Done, ClosedBatch<J::Item>)> for Kept<J> {
     ghost kept_by = { λ p done. J.Gives p.job.value p.out.value.link done.0 done.1 };
 }
+
+/// A runtime that waits and starts threads, which share it.
+pub(crate) trait Runtime: Wait + Threads + Sync {}
+
+impl<R: Wait + Threads + Sync> Runtime for R {}
+
+/// A source that goes to the thread of its loader.
+pub(crate) trait Input: Source + Send + Drop {}
+
+impl<S: Source + Send + Drop> Input for S {}

@@ -3,9 +3,8 @@ ghost use Rattle.std.specs.Prelude.{◌≡◌, [], IfSome};
 
 use crate::config::Config;
 use crate::start::job::{Job, Kept};
-use crate::start::permit::{Permit, permitted};
-use crate::start::stack::worker_stack;
-use prolly_link::{BatchSender, ClosedBatch};
+use core::thread::Stack;
+use prolly_link::{BatchSender, ClosedBatch, End, RunFault};
 use prolly_stage::{Gate, Gated, Worker};
 use std::alloc::Global;
 use std::snapshot::Snapshot;
@@ -15,7 +14,7 @@ use std::thread::{PromisedHandle, Scope};
 /// The scope of the workers' threads, the runtime, the gate that they ask, the permit that the
 /// driver asks, and the settings.
 #[derive(Drop)]
-pub(crate) struct Site<'s, 'p, E, R, G, P> {
+pub(crate) struct Context<'s, 'p, E, R, G, P> {
     pub scope: &'s Scope<'s, E>,
     pub rt: &'s R,
     pub alloc: Global,
@@ -24,7 +23,7 @@ pub(crate) struct Site<'s, 'p, E, R, G, P> {
     pub config: Config,
 }
 
-impl<'s, E, R: Wait + Sync, G: Gate, P: Permit> Site<'s, '_, E, R, G, P> {
+impl<'s, E, R: Wait + Sync, G: Gate, P: Permit> Context<'s, '_, E, R, G, P> {
     /// Has a worker do its job, on a thread of its own, behind the gate. `None` where it may not
     /// start, and its output is closed and the job dropped, or where no thread can be had, and both
     /// are dropped.
@@ -74,4 +73,59 @@ impl<'s, E, R: Wait + Sync, G: Gate, P: Permit> Site<'s, '_, E, R, G, P> {
             .spawn_scoped_with(self.scope, promise, work)
             .ok()
     }
+}
+
+/// The runtime, the gate that workers ask, the permit that the driver asks, and the settings.
+#[derive(Drop)]
+pub(crate) struct Lent<'s, 'p, R, G, P> {
+    pub rt: &'s R,
+    pub alloc: Global,
+    pub gate: &'s G,
+    pub permit: &'p P,
+    pub config: Config,
+}
+
+/// What a build asks before it starts a worker, on the caller's thread, so that a test can refuse
+/// one.
+pub trait Permit {
+    /// Whether the worker may start. Where it may not, no further one is asked for, those that run
+    /// end, and the build answers that a thread could not be started.
+    fn may_start(&self, worker: Worker) -> bool;
+}
+
+/// All may start.
+#[derive(Clone, Copy, Debug)]
+pub struct AllStart;
+
+impl Permit for AllStart {
+    fn may_start(&self, _worker: Worker) -> bool {
+        true
+    }
+}
+
+/// The output of a worker that may start. `None` where it may not: the output is closed with that
+/// fault.
+pub(crate) fn permitted<T: Drop, R: Wait, P: Permit>(
+    rt: &R,
+    permit: &P,
+    worker: Worker,
+    out: BatchSender<T>,
+) -> Option<BatchSender<T>>
+    ensures { IfSome result (λ o. o ≡ out) }
+{
+    if permit.may_start(worker) {
+        return Some(out);
+    }
+    let _ = out.close(rt, End::Fault(RunFault::NoThread));
+    None
+}
+
+/// How many bytes of addresses the stack of a worker's thread has: four times those in which each
+/// kind of worker was seen to run. The system's own choice is often 8 MB, which for 40 threads is
+/// 320 MB that nobody uses.
+const STACK_BYTES: usize = 262_144;
+
+/// The stack of a worker's thread.
+pub(crate) fn worker_stack() -> Stack {
+    Stack::new().stack_size(STACK_BYTES)
 }

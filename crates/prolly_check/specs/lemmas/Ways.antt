@@ -4,7 +4,7 @@ use Rattle.prolly_entry.specs.Reference.{reference_of}
 use Rattle.prolly_entry.specs.declared.version.Version.{Version}
 use Rattle.prolly_check.specs.Kinds.{Entries as EntriesOf, kind_of}
 use Rattle.prolly_check.specs.Sought.{Sought, EndsAt, IsChildOf, LeadsOn, sought_of}
-use Rattle.prolly_check.specs.Steps.{IsFlawed}
+use Rattle.prolly_check.specs.Step.{IsFlawedChunk}
 use Rattle.prolly_check.specs.Way.{FallsTo, IsNamed, IsOrdered, Lead}
 use Rattle.prolly_check.specs.Kinds.Entries.{Leaf, Node}
 use Rattle.prolly_check.specs.declared.look_up.sought.ChildSought.{ChildSought}
@@ -34,7 +34,7 @@ child_leads sought (Node children) child is = grind arith
 -- A chunk that has the reference, can be read and stands where it may has no flaw.
 pub no_flaw : (version : Version) (due : List ℕ) (above : Option ℕ) (chunk : List ℕ)
     (flaw : ChunkFlaw) → reference_of chunk ≡ due → IsOrdered version chunk → FallsTo above chunk →
-    IsFlawed version due above chunk flaw → ⊥
+    IsFlawedChunk version due above chunk flaw → ⊥
 no_flaw version due above chunk Reference is ordered falls h = h is
 no_flaw version due above chunk Entries is ordered falls h = search rules
 no_flaw version due above chunk Order is ordered falls h = h.2 ordered.rising

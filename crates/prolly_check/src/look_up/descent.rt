@@ -2,8 +2,8 @@
 ghost use Rattle.std.specs.Prelude.{map, IfOk, IfSome, IfNone};
 ghost use Rattle.prolly_entry.specs.Reference.{reference_of};
 ghost use Rattle.prolly_tree.specs.LookUp.{find};
-ghost use Rattle.prolly_check.specs.Checked.{HasFile};
-ghost use Rattle.prolly_check.specs.FileWays.{IsCounted, IsEnd, IsNamedAt, IsNext, IsTop};
+ghost use Rattle.prolly_check.specs.Chunks.{HasFile};
+ghost use Rattle.prolly_check.specs.FileWays.{CanBeSought, IsWayEnd, IsNamedAt, IsNextOnWay, IsTop};
 ghost use Rattle.prolly_check.specs.FileWays.{nth_chunk};
 ghost use Rattle.prolly_check.specs.Kinds.{kind_of};
 ghost use Rattle.prolly_check.specs.Content.{root_bytes};
@@ -25,8 +25,8 @@ pub(crate) struct At<'a> {
 /// Where a look-up in a checked file ends. Goes down from the root, one chunk a level, and takes no
 /// memory. Only a file of version Two has the counts by which a number is found.
 pub(crate) fn descend<'a>(file: &CheckedFile<'_>, sought: Sought<'a>) -> At<'a>
-    requires { IsCounted file.now.version (sought_of sought) }
-    ensures end { IsEnd file.now (sought_of sought.entry) result }
+    requires { CanBeSought file.now.version (sought_of sought) }
+    ensures end { IsWayEnd file.now (sought_of sought.entry) result }
     ensures file { HasFile file.now }
 {
     let mut at = At {
@@ -66,9 +66,9 @@ pub(crate) fn way_to<'f>(
 fn below<'a>(file: &CheckedFile<'_>, at: At<'a>) -> Option<At<'a>>
     requires file { HasFile file.now }
     requires top { IsTop file.now at.number }
-    requires counted { IsCounted file.now.version (sought_of at.sought) }
+    requires counted { CanBeSought file.now.version (sought_of at.sought) }
     ensures named { IsNamedAt file.now at.entry.number }
-    ensures on { IfSome result (IsNext file.now at.entry) }
+    ensures on { IfSome result (IsNextOnWay file.now at.entry) }
     ensures ends { IfNone result (EndsAt (sought_of at.entry.sought)
         (kind_of file.now.version (nth_chunk file.now at.entry.number))) }
 {

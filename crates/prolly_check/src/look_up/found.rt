@@ -3,12 +3,12 @@ ghost use Rattle.std.specs.Prelude.{◌≡◌, ◌≤◌, length, IfSome};
 ghost use Rattle.std.specs.Option.{option_copied};
 ghost use Rattle.prolly_entry.specs.declared.version.Version.TheVariants.{Two};
 ghost use Rattle.prolly_tree.specs.LookUp.{find, nth};
-ghost use Rattle.prolly_check.specs.Counted.{pair_of};
+ghost use Rattle.prolly_check.specs.FoundPairs.{pair_found};
 ghost use Rattle.prolly_check.specs.Sought.{sought_of};
 ghost use Rattle.prolly_check.specs.Way.{nth_sought};
 
+use crate::entries::Pairs;
 use crate::file::CheckedFile;
-use crate::leaf::Pairs;
 use crate::look_up::descent::descend;
 use crate::look_up::sought::Sought;
 use prolly_entry::key_order;
@@ -28,7 +28,7 @@ pub fn value_in<'a>(mut pairs: Pairs<'a>, key: &[u8]) -> Option<&'a [u8]>
 /// The pair whose number is sought, counted from 0, among the pairs of a leaf; none where a key is.
 /// Takes no memory, and time linear in the number.
 pub fn pair_sought<'a>(pairs: Pairs<'a>, sought: Sought<'_>) -> Option<(&'a [u8], &'a [u8])>
-    ensures is { pair_of result ≡ nth_sought (sought_of sought.entry) pairs.entry }
+    ensures is { pair_found result ≡ nth_sought (sought_of sought.entry) pairs.entry }
     ensures lawful { IfSome result (λ pair.
         (length pair.0.now ≤ 1024) × (length pair.1.now ≤ 65536)) }
 {
@@ -40,7 +40,7 @@ pub fn pair_sought<'a>(pairs: Pairs<'a>, sought: Sought<'_>) -> Option<(&'a [u8]
 
 /// The pair of this number, counted from 0.
 fn pair_at<'a>(mut pairs: Pairs<'a>, n: u64) -> Option<(&'a [u8], &'a [u8])>
-    ensures is { pair_of result ≡ nth pairs.entry n }
+    ensures is { pair_found result ≡ nth pairs.entry n }
     ensures lawful { IfSome result (λ pair.
         (length pair.0.now ≤ 1024) × (length pair.1.now ≤ 65536)) }
 {
@@ -65,7 +65,7 @@ pub(crate) fn find_value<'f>(file: &CheckedFile<'f>, key: &[u8]) -> Option<&'f [
 /// The pair of this number in a file of version Two that was checked.
 pub(crate) fn find_nth<'f>(file: &CheckedFile<'f>, n: u64) -> Option<(&'f [u8], &'f [u8])>
     requires { file.now.version ≡ Two }
-    ensures { pair_of result ≡ nth file.now.pairs n }
+    ensures { pair_found result ≡ nth file.now.pairs n }
 {
     let end = descend(file, Sought::Number(n));
     pair_sought(file.pairs(end.number), end.sought)

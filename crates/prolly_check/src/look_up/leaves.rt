@@ -3,13 +3,13 @@ ghost use Rattle.std.specs.Prelude.{◌≡◌, ◌<◌, List, [], ◌++◌, leng
 ghost use Rattle.std.specs.Prelude.{MatchOption};
 ghost use Rattle.std.specs.List.{flat_map};
 ghost use Rattle.prolly_entry.specs.Pair.{Pair as PairValue};
-ghost use Rattle.prolly_check.specs.Checked.{HasFile, chunks_of};
-ghost use Rattle.prolly_check.specs.Held.{pairs_held};
-ghost use Rattle.prolly_check.specs.Leaves.{pairs_from};
 ghost use Rattle.prolly_tree.specs.Difference.{IsMap};
+ghost use Rattle.prolly_check.specs.Chunks.{HasFile, chunks_of};
+ghost use Rattle.prolly_check.specs.HeldPairs.{pairs_held};
+ghost use Rattle.prolly_check.specs.Leaves.{pairs_from};
 
+use crate::entries::Pairs;
 use crate::file::CheckedFile;
-use crate::leaf::Pairs;
 use crate::look_up::descent::descend;
 use crate::look_up::sought::Sought;
 use prolly_entry::key_order;

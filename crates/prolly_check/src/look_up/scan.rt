@@ -2,7 +2,7 @@
 ghost use Rattle.std.specs.Prelude.{◌≡◌, [], ◌∷◌, ◌++◌, ◌≤◌, length, take, OnOk, IfOk};
 ghost use Rattle.prolly_check.specs.Leaves.{pairs_from};
 
-use crate::leaf::Pairs;
+use crate::entries::Pairs;
 use crate::look_up::leaves::Leaves;
 use prolly_entry::{Pair, key_order};
 use std::alloc::{AllocError, Global};

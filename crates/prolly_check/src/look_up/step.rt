@@ -1,17 +1,16 @@
 //! The step of a look-up at one chunk.
-ghost use Rattle.std.specs.Prelude.{◌≡◌, ◌↔◌, ℕ, ◌<◌, [], All, length, map, Option, IsTrue};
-ghost use Rattle.std.specs.Prelude.{IfSome, IfNone, IfOk, IfErr, OnOk};
+ghost use Rattle.std.specs.Prelude.{◌≡◌, ◌↔◌, ℕ, ◌<◌, [], All, length, map, Option, IsTrue, IfSome};
+ghost use Rattle.std.specs.Prelude.{IfNone, IfOk, IfErr, OnOk};
 ghost use Rattle.prolly_entry.specs.Byte.{IsByte};
 ghost use Rattle.prolly_entry.specs.Keys.{Rising};
 ghost use Rattle.prolly_check.specs.Entries.{IsNode, IsWhole, children_in};
 ghost use Rattle.prolly_check.specs.Kinds.{kind_of};
 ghost use Rattle.prolly_check.specs.Sought.{IsChildOf, IsMark, EndsAt, sought_of};
-ghost use Rattle.prolly_check.specs.Steps.{IsFlawed, IsStep};
-ghost use Rattle.prolly_check.specs.Way.{FallsTo, IsNamed, IsOrdered, keys_of};
+ghost use Rattle.prolly_check.specs.Step.{IsFlawedChunk, IsStep};
+ghost use Rattle.prolly_check.specs.Way.{FallsTo, IsNamed, IsOrdered, entry_keys};
 
-use crate::leaf::{LEAF, Pairs, pairs_of};
+use crate::entries::{LEAF, Pairs, pairs_of, split_first_child};
 use crate::look_up::sought::{ChildSought, Mark, Sought, child_sought};
-use crate::node::split_first_child;
 use crate::verdict::{is_whole, last_in};
 use prolly_entry::{Ref, Version, key_rises};
 
@@ -59,7 +58,7 @@ pub fn step_at<'c, 'a>(
     ensures named { OnOk result (IsNamed version due.now.reference.0 chunk.now) }
     ensures falls { OnOk result (FallsTo due.now.above chunk.now) }
     ensures step { IfOk result (IsStep version (sought_of due.now.sought) chunk.now) }
-    ensures err { IfErr result (IsFlawed version due.now.reference.0 due.now.above chunk.now) }
+    ensures err { IfErr result (IsFlawedChunk version due.now.reference.0 due.now.above chunk.now) }
 {
     test_chunk(version, chunk, &due.reference)?;
     if !falls_to(due.above, chunk) {
@@ -82,7 +81,7 @@ pub fn step_at<'c, 'a>(
 pub fn test_chunk(version: Version, chunk: &[u8], reference: &Ref) -> Result<(), ChunkFlaw>
     ensures ok { OnOk result (IsNamed version reference.now.0 chunk.now) }
     ensures err { IfErr result (λ flaw. (above : Option ℕ) →
-        IsFlawed version reference.now.0 above chunk.now flaw) }
+        IsFlawedChunk version reference.now.0 above chunk.now flaw) }
 {
     if Ref::of(chunk) != *reference {
         return Err(ChunkFlaw::Reference);
@@ -134,7 +133,7 @@ pub fn step_of<'a>(
 /// Whether each key of a chunk's entries is greater than the one before it.
 fn keys_rise(version: Version, chunk: &[u8]) -> bool
     requires { IsWhole version chunk.now }
-    ensures { IsTrue result ↔ Rising (keys_of (kind_of version chunk.now)) }
+    ensures { IsTrue result ↔ Rising (entry_keys (kind_of version chunk.now)) }
 {
     if chunk[0] == LEAF {
         return last_in(None, pairs_of(version, chunk)).is_ok();

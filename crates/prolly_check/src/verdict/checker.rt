@@ -2,21 +2,19 @@
 ghost use Rattle.std.specs.Prelude.{◌≡◌, ◌≢◌, ◌↔◌, ◌⊎◌, ◌∷◌, ◌<◌, ◌≤◌, ◌^◌, true, None, Some};
 ghost use Rattle.std.specs.Prelude.{length, Err, IfOk, OnOk, IfErr, IsErrOf};
 ghost use Rattle.std.specs.List.{flat_map};
-ghost use Rattle.prolly_check.specs.Judged.{Says, ending_of_chunks};
+ghost use Rattle.prolly_check.specs.FirstFault.{Says, ending_of_chunks};
 ghost use Rattle.prolly_check.specs.Verdict.{IsRefusal, IsFileOf, IsVerdict, UnlessMemory};
-ghost use Rattle.prolly_check.specs.Checked.{IsChecked, IsFile, IsLaidOut, AreReferences};
+ghost use Rattle.prolly_check.specs.Chunks.{IsChecked, IsFile, IsLaidOut, AreReferences};
 ghost use Rattle.prolly_check.specs.Content.{Content};
-ghost use Rattle.prolly_check.specs.Held.{pairs_held};
+ghost use Rattle.prolly_check.specs.HeldPairs.{pairs_held};
 ghost use Rattle.prolly_check.specs.Frames.{chunks_in};
 
-use crate::chunks::{Chunks, Layout};
-use crate::index::Index;
+use crate::chunks::{Chunks, Index, Layout};
 use crate::tree::Tree;
 use crate::verdict::fault::CheckFault;
-use crate::verdict::frames::{find_frames, test_ending};
+use crate::verdict::frames::{find_frames, test_chunks, test_ending};
 use crate::verdict::order::test_order;
 use crate::verdict::rebuild::test_rebuilt;
-use crate::verdict::whole::test_chunks;
 use prolly_entry::{Ref, Sha512Cut, Version};
 use prolly_file::{Source, end_record, read_header, read_whole};
 use std::alloc::Global;

@@ -101,9 +101,9 @@ impl From<AllocError> for CheckFault {
 
 impl From<WholeFault> for CheckFault {
     ghost use Rattle.std.specs.Prelude.{◌≡◌};
-    ghost use Rattle.prolly_check.specs.Verdict.{fault_of};
+    ghost use Rattle.prolly_check.specs.Verdict.{read_fault};
 
-    ghost from_gives = { λ whole fault. fault ≡ fault_of whole };
+    ghost from_gives = { λ whole fault. fault ≡ read_fault whole };
 
     fn from(whole: WholeFault) -> Self {
         match whole {

@@ -1,11 +1,11 @@
 //! The order of the keys of a file.
 ghost use Rattle.std.specs.Prelude.{◌≡◌, [], false, map, None, Some, OnOk, OnErr, IfOk, IfErr};
 ghost use Rattle.std.specs.Option.{option_copied};
-ghost use Rattle.prolly_check.specs.Held.{pairs_held};
-ghost use Rattle.prolly_check.specs.Judged.{order_fault, rises_behind, RisesTo};
+ghost use Rattle.prolly_check.specs.HeldPairs.{pairs_held};
+ghost use Rattle.prolly_check.specs.FirstFault.{order_fault, rises_behind, RisesTo};
 
 use crate::chunks::Chunks;
-use crate::leaf::Pairs;
+use crate::entries::Pairs;
 use crate::verdict::fault::CheckFault;
 use prolly_entry::key_rises;
 

@@ -3,15 +3,16 @@ ghost use Rattle.std.specs.Prelude.{◌≡◌, [], ◌∷◌, ◌<◌, ◌≤◌
 ghost use Rattle.std.specs.Prelude.{IfOk, IfErr};
 ghost use Rattle.std.specs.List.{flat_map};
 ghost use Rattle.prolly_entry.specs.Reference.{reference_of};
-ghost use Rattle.prolly_check.specs.Judged.{CompareAs};
-ghost use Rattle.prolly_check.specs.Held.{pairs_held};
-ghost use Rattle.prolly_check.specs.Checked.{AreReferences};
-ghost use Rattle.prolly_check.specs.Rebuilt.{AreUnused, Ends, HasTaken, IsExpected, Passes, Takes};
-ghost use Rattle.prolly_check.specs.Rebuilt.{node_levels};
+ghost use Rattle.prolly_check.specs.FirstFault.{CompareAs};
+ghost use Rattle.prolly_check.specs.HeldPairs.{pairs_held};
+ghost use Rattle.prolly_check.specs.Chunks.{AreReferences};
+ghost use Rattle.prolly_check.specs.Rebuild.{AreUnused, EndsRebuild, HasTaken, IsExpected};
+ghost use Rattle.prolly_check.specs.Rebuild.{PassesUp, TakesPairs};
+ghost use Rattle.prolly_check.specs.Rebuild.{node_levels};
 ghost use Rattle.prolly_check.specs.Verdict.{UnlessMemory};
 
 use crate::chunks::Chunks;
-use crate::leaf::Pairs;
+use crate::entries::Pairs;
 use crate::verdict::fault::CheckFault;
 use prolly_chunk::{ChunkEvent, LeafLevel, NodeLevel};
 use prolly_entry::{Pair, Ref, Sha512Cut, Version};
@@ -94,7 +95,7 @@ fn pass(
     chunks: &Chunks,
     references: &mut Vec<Ref>,
 ) -> Result<(), CheckFault>
-    ensures passed { Passes chunks.now levels.old levels.new event references.old.items
+    ensures passed { PassesUp chunks.now levels.old levels.new event references.old.items
         references.new.items result }
     ensures size { length levels.new ≡ length levels.old }
 {
@@ -122,7 +123,7 @@ fn add_copy(
 ) -> Result<(), CheckFault>
     requires key { length key.now ≤ 1024 }
     requires value { length value.now ≤ 65536 }
-    ensures { Takes chunks.now rebuild.old rebuild.new
+    ensures { TakesPairs chunks.now rebuild.old rebuild.new
         (record { key = key.now; value = value.now } ∷ []) result }
 {
     let pair = Pair::copy_of(alloc, key, value)?;
@@ -143,7 +144,7 @@ fn add_leaf(
     mut leaf: Pairs,
     chunks: &Chunks,
 ) -> Result<(), CheckFault>
-    ensures { Takes chunks.now rebuild.old rebuild.new leaf.entry result }
+    ensures { TakesPairs chunks.now rebuild.old rebuild.new leaf.entry result }
 {
     while let Some((key, value)) = leaf.next() {
         add_copy(alloc, rebuild, key, value, chunks)?;
@@ -153,7 +154,8 @@ fn add_leaf(
 
 /// Takes the pairs of all chunks of a file.
 fn add_chunks(alloc: Global, rebuild: &mut Rebuild, chunks: &Chunks) -> Result<(), CheckFault>
-    ensures { Takes chunks.now rebuild.old rebuild.new (flat_map pairs_held chunks.now) result }
+    ensures { TakesPairs chunks.now rebuild.old rebuild.new (flat_map pairs_held chunks.now)
+        result }
 {
     for number in 0..chunks.len() {
         add_leaf(alloc, rebuild, chunks.pairs(number), chunks)?;
@@ -164,7 +166,7 @@ fn add_chunks(alloc: Global, rebuild: &mut Rebuild, chunks: &Chunks) -> Result<(
 /// Closes what is left open, level by level from the leaves up, and answers the references of all
 /// chunks.
 fn finish(alloc: Global, rebuild: Rebuild, chunks: &Chunks) -> Result<Vec<Ref>, CheckFault>
-    ensures { Ends chunks.now rebuild result }
+    ensures { EndsRebuild chunks.now rebuild result }
 {
     let Rebuild {
         leaf,

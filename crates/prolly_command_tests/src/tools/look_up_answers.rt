@@ -4,8 +4,8 @@ use prolly_entry::{Sha512Cut, Version};
 use prolly_file::{FromRead, scratch_as};
 use prolly_test_parts::pairs_of;
 use prolly_tool::{
-    Notation, answer_check, answer_get, answer_get_as, answer_nth, answer_nth_as, answer_scan,
-    answer_scan_as,
+    Notation, answer_check, answer_get, answer_get_in, answer_nth, answer_nth_in, answer_scan,
+    answer_scan_in,
 };
 use std::alloc::Global;
 use std::process::Abort;
@@ -37,7 +37,7 @@ fn a_value_is_shown_or_the_status_tells_that_there_is_none(rt: HostRuntime) -> R
         let answer = answer_get(alloc, &mut FromRead::new(file.as_slice()), key)?;
         expect_answer(&rt, &answer, status, hex, b"");
         let mut source = FromRead::new(file.as_slice());
-        let answer = answer_get_as(alloc, &mut source, key, Notation::Text)?;
+        let answer = answer_get_in(alloc, &mut source, key, Notation::Text)?;
         expect_answer(&rt, &answer, status, text, b"");
     }
     Ok(())
@@ -60,7 +60,7 @@ fn a_line_is_shown_for_each_pair_of_a_scan(rt: HostRuntime) -> Result<(), Fail> 
         let answer = answer_scan(alloc, &mut FromRead::new(file.as_slice()), from, limit)?;
         expect_answer(&rt, &answer, 0, hex, b"");
         let mut source = FromRead::new(file.as_slice());
-        let answer = answer_scan_as(alloc, &mut source, from, limit, Notation::Text)?;
+        let answer = answer_scan_in(alloc, &mut source, from, limit, Notation::Text)?;
         expect_answer(&rt, &answer, 0, text, b"");
     }
     Ok(())
@@ -90,7 +90,7 @@ fn the_pair_of_a_number_is_shown(rt: HostRuntime) -> Result<(), Fail> {
         let answer = answer_nth(alloc, &mut FromRead::new(file.as_slice()), n)?;
         expect_answer(&rt, &answer, status, hex, err);
         let mut source = FromRead::new(file.as_slice());
-        let answer = answer_nth_as(alloc, &mut source, n, Notation::Text)?;
+        let answer = answer_nth_in(alloc, &mut source, n, Notation::Text)?;
         expect_answer(&rt, &answer, status, text, err);
     }
     Ok(())

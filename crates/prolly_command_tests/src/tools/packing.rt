@@ -1,7 +1,7 @@
 //! Lines of text, as they are packed.
 use crate::expect::{expect_bytes, expect_eq};
 use prolly_test_parts::joined;
-use prolly_tool::{LineForm, LinesFault, Notation, PackFault, pack_lines, pack_lines_as};
+use prolly_tool::{LineForm, LinesFault, Notation, PackFault, pack_lines, pack_lines_in};
 use std::alloc::Global;
 use std::process::Abort;
 use std::test::Fail;
@@ -118,7 +118,7 @@ fn expect_text_packed(
         removals,
     };
     let mut out = b"kept".to_vec(alloc)?;
-    expect_eq(rt, &pack_lines_as(alloc, form, text, &mut out), &packed);
+    expect_eq(rt, &pack_lines_in(alloc, form, text, &mut out), &packed);
     expect_bytes(rt, &out, &joined(alloc, &[b"kept", records])?);
     Ok(())
 }

@@ -3,8 +3,8 @@ ghost use Rattle.std.specs.Prelude.{◌≡◌, ◌+◌, ◌-◌, ◌≤◌, true
 ghost use Rattle.std.specs.Prelude.{OnOk, OnErr};
 ghost use Rattle.prolly_file.specs.Failures.{CountsFailure};
 
-use crate::device::Device;
-use crate::source::SourceFault;
+use crate::device::seek::Device;
+use crate::device::source::SourceFault;
 use std::alloc::{AllocError, Global};
 
 /// How many bytes a block has.

@@ -1,10 +1,10 @@
 //! A sink that gathers small writes.
-ghost use Rattle.std.specs.Prelude.{◌≡◌, ◌≤◌, ◌<◌, ◌↔◌, ◌+◌, true, false, [], length, vec_len};
-ghost use Rattle.std.specs.Prelude.{◌-◌, vec_capacity, IsErr, IfOk, OnOk};
+ghost use Rattle.std.specs.Prelude.{◌≡◌, ◌≤◌, ◌<◌, ◌↔◌, ◌+◌, true, false, [], length, vec_len, ◌-◌};
+ghost use Rattle.std.specs.Prelude.{vec_capacity, IsErr, IfOk, OnOk};
 ghost use Rattle.prolly_file.specs.Failures.{CountsFailure, after_failure};
 ghost use Rattle.prolly_file.specs.Sink.{Takes, CountsWriteFailure, IsSettled};
 
-use crate::sink::{Sink, SinkFault};
+use crate::device::sink::{Sink, SinkFault};
 use std::alloc::{AllocError, Global};
 
 /// A sink that gathers bytes, and hands them on to another sink in large writes.
@@ -27,7 +27,7 @@ pub struct Buffered<W> {
 }
 
 impl<W: Sink + Drop> Buffered<W> {
-    ghost use Rattle.prolly_file.specs.Buffered.{has_failed, room_of, sink_of, size_of};
+    ghost use Rattle.prolly_file.specs.Buffered.{has_failed, room_of, sink_of, buffer_size};
 
     /// A buffer of at least so many bytes before the sink. This is all the memory that it takes.
     pub fn with_capacity(alloc: Global, capacity: usize, sink: W) -> Result<Buffered<W>, AllocError>
@@ -42,7 +42,7 @@ impl<W: Sink + Drop> Buffered<W> {
         ensures sink { IfOk result (λ buffer. (sink_of buffer ≡ sink) ×
             (has_failed buffer ≡ false)) }
         ensures room { IfOk result (λ buffer. (capacity ≤ room_of buffer) ×
-            (room_of buffer ≡ size_of buffer)) }
+            (room_of buffer ≡ buffer_size buffer)) }
     {
         Ok(Buffered {
             sink,
@@ -55,7 +55,7 @@ impl<W: Sink + Drop> Buffered<W> {
 }
 
 impl<W: Sink> Buffered<W> {
-    ghost use Rattle.prolly_file.specs.Buffered.{sink_of, HandsOn, Holds, Passes};
+    ghost use Rattle.prolly_file.specs.Buffered.{sink_of, Empties, KeepsBytes, WritesPast};
 
     /// The sink behind the buffer.
     pub fn sink(&self) -> &W
@@ -66,7 +66,7 @@ impl<W: Sink> Buffered<W> {
 
     /// Hands on all that is held.
     fn hand_on(&mut self) -> Result<(), SinkFault>
-        ensures { HandsOn W.seen self.old self.new result }
+        ensures { Empties W.seen self.old self.new result }
     {
         while self.sent < self.held.len() {
             match self.sink.write(&self.held[self.sent..]) {
@@ -82,7 +82,7 @@ impl<W: Sink> Buffered<W> {
     /// Has the other sink take bytes, before which nothing is held.
     fn pass(&mut self, buf: &[u8]) -> Result<usize, SinkFault>
         requires { self.old.held.items ≡ [] }
-        ensures { Passes W.seen self.old self.new result buf.now }
+        ensures { WritesPast W.seen self.old self.new result buf.now }
     {
         match self.sink.write(buf) {
             Ok(0) if !buf.is_empty() => Err(self.failed()),
@@ -94,7 +94,7 @@ impl<W: Sink> Buffered<W> {
     /// Keeps bytes for which there is room.
     fn hold(&mut self, buf: &[u8])
         requires { length buf.now ≤ vec_capacity self.old.held - vec_len self.old.held }
-        ensures { Holds self.old self.new buf.now }
+        ensures { KeepsBytes self.old self.new buf.now }
     {
         let Ok(()) = self.held.extend_from_slice(buf) else {
             unreachable!();
@@ -116,7 +116,7 @@ impl<W: Sink> Buffered<W> {
 
 impl<W: Sink> Sink for Buffered<W> {
     ghost use Rattle.prolly_file.specs.Buffered.{bytes_taken, has_failed, room_of, seen_before};
-    ghost use Rattle.prolly_file.specs.Buffered.{sink_of, size_of, FailsWithSink, IsHeld};
+    ghost use Rattle.prolly_file.specs.Buffered.{sink_of, buffer_size, FailsWithSink, AreHeld};
 
     ghost seen = { seen_before W.seen };
 
@@ -137,10 +137,10 @@ impl<W: Sink> Sink for Buffered<W> {
 
         // What there is room for is held back; else what was held is handed on.
         ensures held { has_failed self.old ≡ false → length buf.now < room_of self.old →
-            IsHeld self.old self.new result buf.now }
+            AreHeld self.old self.new result buf.now }
         ensures emptied { room_of self.old < length buf.now →
-            OnOk result (size_of self.old ≤ room_of self.new + length buf.now) }
-        ensures size { OnOk result (size_of self.old ≤ size_of self.new) }
+            OnOk result (buffer_size self.old ≤ room_of self.new + length buf.now) }
+        ensures size { OnOk result (buffer_size self.old ≤ buffer_size self.new) }
     {
         if self.has_failed {
             return Err(self.failed());
@@ -176,8 +176,8 @@ impl<W: Sink> Sink for Buffered<W> {
         ensures alone { has_failed self.old ≡ true → sink_of self.new ≡ sink_of self.old }
 
         // Nothing is held.
-        ensures room { OnOk result ((room_of self.new ≡ size_of self.old) ×
-            (size_of self.new ≡ size_of self.old)) }
+        ensures room { OnOk result ((room_of self.new ≡ buffer_size self.old) ×
+            (buffer_size self.new ≡ buffer_size self.old)) }
     {
         if self.has_failed {
             return Err(self.failed());

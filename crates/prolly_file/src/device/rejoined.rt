@@ -1,8 +1,8 @@
 //! A source of which the first bytes were taken off.
 ghost use Rattle.std.specs.Prelude.{◌≡◌, ◌++◌, true};
 
-use crate::script_source::copy_some;
-use crate::source::{Source, SourceFault};
+use crate::device::script::copy_some;
+use crate::device::source::{Source, SourceFault};
 
 /// A source of which some bytes were taken off already: they come first, and then what it has left.
 /// While some of them are left, a read gives no others and does not ask the rest.

@@ -2,7 +2,7 @@
 ghost use Rattle.std.specs.Prelude.{◌≡◌, ◌≢◌, ◌↔◌, ◌<◌, ◌≤◌, true, [], length, vec_len, IfOk, OnOk};
 ghost use Rattle.std.specs.Prelude.{IsErrOf};
 
-use crate::source::{Source, SourceFault};
+use crate::device::source::{Source, SourceFault};
 use std::alloc::{AllocError, Global};
 use std::error::Error;
 use std::fmt;
@@ -40,7 +40,7 @@ impl Display for WholeFault {
 impl Error for WholeFault {}
 
 impl From<AllocError> for WholeFault {
-    ghost use Rattle.prolly_file.specs.declared.whole.WholeFault.TheVariants.{Memory};
+    ghost use Rattle.prolly_file.specs.declared.device.whole.WholeFault.TheVariants.{Memory};
 
     ghost from_gives = { λ _ fault. fault ≡ Memory };
 
@@ -50,7 +50,7 @@ impl From<AllocError> for WholeFault {
 }
 
 impl From<SourceFault> for WholeFault {
-    ghost use Rattle.prolly_file.specs.declared.whole.WholeFault.TheVariants.{Read};
+    ghost use Rattle.prolly_file.specs.declared.device.whole.WholeFault.TheVariants.{Read};
 
     ghost from_gives = { λ _ fault. fault ≡ Read };
 

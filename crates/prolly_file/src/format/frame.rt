@@ -1,11 +1,12 @@
-//! The frame of a chunk: a letter, the chunk's length in eight bytes, and the chunk.
+//! The frame of a chunk in a chunk file, and the end record behind the last one.
 ghost use Rattle.std.specs.Prelude.{◌≡◌, ◌^◌, ◌<◌, ◌≤◌, ◌++◌, ◌∷◌, ℕ, List, [], true, None, Ok};
 ghost use Rattle.std.specs.Prelude.{length, take, drop, IfSome};
 ghost use Rattle.std.specs.Int.{w64, from_be_bytes};
+ghost use Rattle.prolly_tree.specs.File.{end_record};
 ghost use Rattle.prolly_file.specs.Frame.{frame_start, framed, has_no_frame, IsSmall, BeginsFrame};
 
-use crate::format::end_record::END_LETTER;
 use byteorder::{BigEndian, ByteOrder};
+use prolly_entry::Ref;
 
 /// What a frame begins with.
 pub const FRAME_LETTER: u8 = b'C';
@@ -100,4 +101,20 @@ pub fn front_frame(bytes: &[u8]) -> Option<(&[u8], &[u8])>
     let len = frame_at(bytes)?;
     let (_, rest) = bytes.split_at(FRAME_START);
     Some(rest.split_at(len))
+}
+
+/// What an end record begins with.
+pub const END_LETTER: u8 = b'E';
+
+/// The size of an end record, in bytes: the letter, the reference, and the number of chunks.
+pub const END_SIZE: usize = 29;
+
+/// What a file with this root and so many chunks ends with.
+pub fn end_record(root: &Ref, chunks: u64) -> [u8; END_SIZE]
+    ensures { result ≡ end_record root.now.0 chunks }
+{
+    let mut record = [END_LETTER; END_SIZE];
+    BigEndian::write_u64(&mut record[21..], chunks);
+    record[1..21].copy_from_slice(&root.0);
+    record
 }

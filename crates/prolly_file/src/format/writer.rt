@@ -4,16 +4,15 @@ ghost use Rattle.std.specs.Prelude.{IfOk};
 ghost use Rattle.prolly_entry.specs.declared.version.Version.TheVariants.{One};
 ghost use Rattle.prolly_tree.specs.Events.{greatest_count};
 ghost use Rattle.prolly_tree.specs.File.{header, end_record};
-ghost use Rattle.prolly_file.specs.Writer.{Begins, next_count};
+ghost use Rattle.prolly_file.specs.Writer.{WritesHeader, next_count};
 ghost use Rattle.prolly_file.specs.Writes.{Writes};
 ghost use Rattle.prolly_file.specs.Failures.{CountsFailure};
 ghost use Rattle.prolly_file.specs.Frame.{framed};
 ghost use Rattle.prolly_file.specs.Sink.{IsSettled, TakesPrefix};
 
-use crate::format::end_record::end_record;
-use crate::format::frame::frame_start;
+use crate::device::{Sink, SinkFault};
+use crate::format::frame::{end_record, frame_start};
 use crate::format::header::Header;
-use crate::sink::{Sink, SinkFault};
 use prolly_entry::{Ref, Version};
 use std::error::Error;
 use std::fmt;
@@ -69,7 +68,7 @@ impl FileWriter {
     /// Writes the header of a file of version One, whose cut has this number of bits. Any number is
     /// written, also one that no cut has.
     pub fn begin<W: Sink>(sink: &mut W, bits: u8) -> Result<FileWriter, WriteFault>
-        ensures { Begins One bits (W.seen sink.old) (W.seen sink.new) result }
+        ensures { WritesHeader One bits (W.seen sink.old) (W.seen sink.new) result }
     {
         FileWriter::begin_as(sink, Version::One, bits)
     }
@@ -81,7 +80,7 @@ impl FileWriter {
         version: Version,
         bits: u8,
     ) -> Result<FileWriter, WriteFault>
-        ensures { Begins version bits (W.seen sink.old) (W.seen sink.new) result }
+        ensures { WritesHeader version bits (W.seen sink.old) (W.seen sink.new) result }
     {
         write_all(sink, &Header { version, bits }.to_bytes())?;
         Ok(FileWriter {

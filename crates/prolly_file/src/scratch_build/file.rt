@@ -1,12 +1,14 @@
-//! The plain builder: the file of a map as the definitions say it, level by level, in one thread.
-ghost use Rattle.std.specs.Prelude.{◌≡◌, ◌<◌, List, [], ◌∷◌, ◌++◌, length};
+//! Building a chunk file in one thread.
+ghost use Rattle.std.specs.Prelude.{◌≡◌, ◌<◌, List, [], ◌∷◌, ◌++◌, length, take, OnOk, OnErr};
+ghost use Rattle.std.specs.List.{flat_map};
 ghost use Rattle.prolly_entry.specs.declared.version.Version.TheVariants.{One};
 ghost use Rattle.prolly_entry.specs.Reference.{reference_of};
 ghost use Rattle.prolly_tree.specs.Chunk.{Chunk};
+ghost use Rattle.prolly_tree.specs.File.{header, frame, end_record};
 ghost use Rattle.prolly_file.specs.Scratch.{IsScratched};
 
-use crate::levels::{all_chunks, first_fall};
-use crate::whole_file::append_file;
+use crate::format::{Header, end_record, frame_start};
+use crate::scratch_build::levels::{all_chunks, first_fall};
 use prolly_chunk::ChunkEvent;
 use prolly_entry::{Cut, FaultText, Pair, Ref, Version};
 use std::alloc::{AllocError, Global};
@@ -58,7 +60,7 @@ impl Display for ScratchFault {
 impl Error for ScratchFault {}
 
 impl From<AllocError> for ScratchFault {
-    ghost use Rattle.prolly_file.specs.declared.plain.ScratchFault.TheVariants.{Memory};
+    ghost use Rattle.prolly_file.specs.declared.scratch_build.file.ScratchFault.TheVariants.{Memory};
 
     ghost from_gives = { λ _ fault. fault ≡ Memory };
 
@@ -113,4 +115,46 @@ fn root_of(chunks: &[ChunkEvent]) -> Ref
         result.0 ≡ reference_of root.bytes }
 {
     chunks[chunks.len() - 1].reference()
+}
+
+/// Appends a file of these chunks. An `Err` leaves the vector as it was.
+pub(crate) fn append_file(
+    out: &mut Vec<u8>,
+    version: Version,
+    bits: u8,
+    chunks: &[ChunkEvent],
+    root: &Ref,
+) -> Result<(), AllocError>
+    ensures ok { OnOk result (out.new.items ≡ out.old.items ++ (header version bits ++ flat_map
+        frame chunks.now ++ end_record root.now.0 (length chunks.now))) }
+    ensures err { OnErr result (out.new.items ≡ out.old.items) }
+{
+    let start = out.len();
+    let header = Header { version, bits }.to_bytes();
+    let end = end_record(root, chunks.len() as u64);
+    if append_parts(out, &header, chunks, &end).is_err() {
+        out.truncate(start);
+        return Err(AllocError);
+    }
+    Ok(())
+}
+
+/// Appends a header, frames and an end; on refusal some of them.
+fn append_parts(
+    out: &mut Vec<u8>,
+    header: &[u8],
+    chunks: &[ChunkEvent],
+    end: &[u8],
+) -> Result<(), AllocError>
+    ensures ok { OnOk result (out.new.items ≡
+        out.old.items ++ (header.now ++ flat_map frame chunks.now ++ end.now)) }
+    ensures err { take (length out.old.items) out.new.items ≡ out.old.items }
+{
+    out.extend_from_slice(header)?;
+    for chunk in chunks {
+        let bytes = chunk.bytes();
+        out.extend_from_slice(&frame_start(bytes.len() as u64))?;
+        out.extend_from_slice(bytes)?;
+    }
+    out.extend_from_slice(end)
 }

@@ -1,15 +1,15 @@
 //! The end of a batch link that receives.
 ghost use Rattle.std.specs.Prelude.{◌≡◌, ◌++◌};
 ghost use Rattle.std.specs.VecDeque.{deque_len};
-ghost use Rattle.prolly_link.specs.Hands.{given_of, IsInHand};
-ghost use Rattle.prolly_link.specs.Receipts.{given_items, progress_after, GivesAgain};
+ghost use Rattle.prolly_link.specs.BatchReceiver.{given_of, IsInHand};
+ghost use Rattle.prolly_link.specs.Progress.{given_items, progress_after, GivesAgain};
 
 use crate::batch::Batch;
-use crate::batch::ends::{BatchDrained, EndedBatch, LostBatch};
-use crate::ends::Drained;
+use crate::batch::closed::{BatchDrained, EndedBatch, LostBatch};
+use crate::closed::Drained;
+use crate::ends::In;
 use crate::in_flight::InFlight;
-use crate::input::In;
-use crate::next::Next;
+use crate::message::Next;
 use crate::receiver::Receiver;
 use rtrb::Producer;
 use std::alloc::Global;
@@ -36,7 +36,7 @@ impl<T> Model for BatchReceiver<T> {
 
     ghost Value = { Receiving T };
 
-    ghost use Rattle.prolly_link.specs.Hands.{given_of, IsInHand};
+    ghost use Rattle.prolly_link.specs.BatchReceiver.{given_of, IsInHand};
 
     ghost view = { λ r. given_of r.receiver r.hand.items };
 
@@ -76,7 +76,7 @@ fn recv_batch<T: Drop, R: Wait>(
 }
 
 impl<T: Drop> BatchReceiver<T> {
-    ghost use Rattle.prolly_link.specs.BatchDraining.{IsBatchDrainOf};
+    ghost use Rattle.prolly_link.specs.BatchDrained.{IsBatchDrainOf};
 
     /// The next item, or the end. It waits for a message only where no item is left of the batch in
     /// hand.
@@ -118,8 +118,8 @@ impl<T: Drop> BatchReceiver<T> {
 
 impl<T: Drop> In<T> for BatchReceiver<T> {
     ghost use Rattle.prolly_link.specs.Growth.{items_between, between_nothing};
-    ghost use Rattle.prolly_link.specs.Following.{IsLater, later_same, later_more};
-    ghost use Rattle.prolly_link.specs.Following.{received_in_both, nothing_after_end};
+    ghost use Rattle.prolly_link.specs.LaterReceiver.{IsLater, later_same, later_more};
+    ghost use Rattle.prolly_link.specs.LaterReceiver.{received_in_both, nothing_after_end};
 
     ghost link = { λ r. r.link };
 

@@ -1,15 +1,15 @@
 //! The end of a batch link that sends.
 ghost use Rattle.std.specs.Prelude.{◌≡◌, ◌<◌, ◌≤◌, ◌+◌, [], ◌∷◌, ◌++◌, OnOk, OnErr, IsOk, IfErr};
 ghost use Rattle.std.specs.Prelude.{vec_len, vec_capacity};
-ghost use Rattle.prolly_link.specs.Batches.{items_of};
+ghost use Rattle.prolly_link.specs.Batch.{items_of};
 
 use crate::batch::Batch;
-use crate::batch::ends::ClosedBatch;
-use crate::end::End;
+use crate::batch::closed::ClosedBatch;
+use crate::ends::Out;
 use crate::in_flight::{InFlight, LARGE_BATCH_BYTES};
-use crate::output::Out;
-use crate::push::Wake;
+use crate::message::End;
 use crate::sender::Sender;
+use crate::waiting::Wake;
 use rtrb::Consumer;
 use std::alloc::{AllocError, Global};
 use std::marker::Model;
@@ -39,10 +39,10 @@ impl<T> Model for BatchSender<T> {
 
     ghost Value = { Batching T };
 
-    ghost use Rattle.prolly_link.specs.OpenBatches.{batching_of, room_of, IsOpenBatch};
+    ghost use Rattle.prolly_link.specs.BatchSender.{batching_of, room_taken, IsOpenBatch};
 
     ghost view = { λ s. batching_of s.sender s.pending.items
-        (room_of s.size (vec_capacity s.pending) (vec_len s.pending)) };
+        (room_taken s.size (vec_capacity s.pending) (vec_len s.pending)) };
 
     ghost invariant = { λ s. IsOpenBatch s.size (vec_capacity s.pending) (vec_len s.pending) ×
         (s.bytes < LARGE_BATCH_BYTES) };

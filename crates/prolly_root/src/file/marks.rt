@@ -1,7 +1,7 @@
 //! Places that are remembered while the root is sought, and from which look-ups set out.
 ghost use Rattle.std.specs.Prelude.{◌≡◌, ◌≤◌, ◌+◌, ◌<◌, IfSome, true};
 ghost use Rattle.prolly_check.specs.Content.{Content};
-ghost use Rattle.prolly_root.specs.Marks.{AreMarks, AreRuns, IsMark};
+ghost use Rattle.prolly_root.specs.Marks.{AreMarks, AreRuns, IsPlaceMark};
 ghost use Rattle.prolly_root.specs.Walk.{IsBehind, IsFrame, IsWalk};
 
 use crate::file::walk::{Frame, Walk};
@@ -156,8 +156,8 @@ impl Marks {
     /// Remembers the place in its part of the file, unless one behind a higher chunk is there.
     fn keep(&mut self, mark: Mark)
         ensures runs { self.new.runs ≡ self.old.runs }
-        ensures places { (content : Content) → IsMark content mark → AreMarks content self.old →
-            AreMarks content self.new }
+        ensures places { (content : Content) → IsPlaceMark content mark →
+            AreMarks content self.old → AreMarks content self.new }
     {
         let part = mark.reached.walk.part(PARTS);
         if self.places[part].level <= mark.level {

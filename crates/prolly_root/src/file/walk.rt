@@ -35,7 +35,7 @@ pub(crate) struct Walk {
 }
 
 impl Walk {
-    ghost use Rattle.prolly_check.specs.Checked.{chunks_of};
+    ghost use Rattle.prolly_check.specs.Chunks.{chunks_of};
     ghost use Rattle.prolly_check.specs.Content.{Content};
     ghost use Rattle.prolly_root.specs.Marks.{AreMarks};
     ghost use Rattle.prolly_root.specs.RootFault.{IsOrFails, OnlyRead};

@@ -3,7 +3,7 @@ ghost use Rattle.std.specs.Prelude.{◌≡◌, ◌≤◌, [], length, option_map
 ghost use Rattle.std.specs.List.{AllByRecursion};
 ghost use Rattle.std.specs.Option.{option_copied};
 ghost use Rattle.prolly_check.specs.Content.{Content};
-ghost use Rattle.prolly_check.specs.Counted.{pair_of};
+ghost use Rattle.prolly_check.specs.FoundPairs.{pair_found};
 ghost use Rattle.prolly_check.specs.Sought.{sought_of};
 ghost use Rattle.prolly_check.specs.Way.{IsCountWay, IsWay};
 ghost use Rattle.prolly_entry.specs.Cut.{sha512_cut};
@@ -233,7 +233,7 @@ fn copied(alloc: Global, value: Option<&[u8]>) -> Result<Option<Vec<u8>>, AllocE
 fn copy_of(alloc: Global, pair: Option<(&[u8], &[u8])>) -> Result<Option<Pair>, AllocError>
     requires { IfSome pair (λ pair. (length pair.0.now ≤ 1024) ×
         (length pair.1.now ≤ 65536)) }
-    ensures { IfOk result (λ copy. copy ≡ pair_of pair.entry) }
+    ensures { IfOk result (λ copy. copy ≡ pair_found pair.entry) }
 {
     match pair {
         None => Ok(None),

@@ -1,5 +1,5 @@
 //! Why bytes prove nothing.
-ghost use Rattle.prolly_root.specs.ProofFault.{fault_of};
+ghost use Rattle.prolly_root.specs.ProofFault.{proof_fault};
 
 use prolly_check::ChunkFlaw;
 use prolly_entry::FaultText;
@@ -42,7 +42,7 @@ impl ProofFault {
 
     /// The fault that the chunk of this number has.
     pub(crate) fn of_flaw(flaw: ChunkFlaw, chunk: usize) -> ProofFault
-        ensures { result ≡ fault_of chunk flaw }
+        ensures { result ≡ proof_fault chunk flaw }
     {
         match flaw {
             ChunkFlaw::Reference => ProofFault::Reference { chunk },

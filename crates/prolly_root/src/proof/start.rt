@@ -1,6 +1,6 @@
 //! The bytes with which a proof begins.
 ghost use Rattle.std.specs.Prelude.{◌≡◌, ◌≢◌, ◌++◌, IfOk, IfErr};
-ghost use Rattle.prolly_root.specs.ProofFault.{BeginsWith, IsStartFault};
+ghost use Rattle.prolly_root.specs.ProofFault.{IsStartOf, IsProofStartFault};
 ghost use Rattle.prolly_root.specs.ProofFile.{proof_start};
 
 use crate::proof::fault::ProofFault;
@@ -16,7 +16,7 @@ pub(crate) fn proof_start(version: Version) -> [u8; 5]
 /// What stands behind the start of a proof over chunks of the version.
 pub(crate) fn behind_start(version: Version, proof: &[u8]) -> Result<&[u8], ProofFault>
     ensures ok { IfOk result (λ rest. proof.now ≡ proof_start version ++ rest.now) }
-    ensures err { IfErr result (IsStartFault version proof.now) }
+    ensures err { IfErr result (IsProofStartFault version proof.now) }
 {
     match proof.strip_prefix(&proof_start(version)) {
         Some(rest) => Ok(rest),
@@ -26,8 +26,8 @@ pub(crate) fn behind_start(version: Version, proof: &[u8]) -> Result<&[u8], Proo
 
 /// What is wrong with the start of bytes that do not begin as a proof over chunks of the version.
 fn start_fault(version: Version, proof: &[u8]) -> ProofFault
-    requires { BeginsWith (proof_start version) proof.now → ⊥ }
-    ensures { IsStartFault version proof.now result }
+    requires { IsStartOf (proof_start version) proof.now → ⊥ }
+    ensures { IsProofStartFault version proof.now result }
 {
     if proof_start(version).starts_with(proof) {
         ProofFault::Truncated

@@ -2,7 +2,7 @@
 ghost use Rattle.std.specs.Prelude.{◌≡◌, ◌++◌, true, Option, List, ℕ, IfOk, IfErr, OnOk};
 ghost use Rattle.std.specs.Option.{option_copied};
 ghost use Rattle.prolly_check.specs.Sought.{sought_of};
-ghost use Rattle.prolly_check.specs.Steps.{IsStep};
+ghost use Rattle.prolly_check.specs.Step.{IsStep};
 ghost use Rattle.prolly_check.specs.Way.{FallsTo, IsNamed};
 ghost use Rattle.prolly_file.specs.Frame.{framed, has_no_frame, IsSmall};
 ghost use Rattle.prolly_root.specs.ProofFault.{IsChunkFault, IsFault, IsFrameFault};

@@ -7,12 +7,12 @@ use Rattle.prolly_tree.specs.Chunk.{Chunk}
 use Rattle.prolly_entry.specs.Cut.{Cut}
 use Rattle.prolly_tree.specs.Events.{Closing, faulty, leaf_events, inner_events}
 use Rattle.prolly_tree.specs.Pipeline.{pipeline_events}
-use Rattle.prolly_link.specs.declared.end.End.{End}
-use Rattle.prolly_link.specs.declared.end.End.TheVariants.{Fault}
+use Rattle.prolly_link.specs.declared.message.End.{End}
+use Rattle.prolly_link.specs.declared.message.End.TheVariants.{Fault}
 use Rattle.prolly_link.specs.declared.fault.RunFault.TheVariants.{Memory}
 use Rattle.prolly_chunk.specs.NodeLevel.{NodeState, node_level}
 use Rattle.prolly_stage.specs.Sends.{closing_of, Sends, GivesUp}
-use Rattle.prolly_stage.specs.Taking.{SendsNodeInPart}
+use Rattle.prolly_stage.specs.StageStep.{SendsNodeInPart}
 use Rattle.prolly_stage.specs.Workers.{KeepsPrefixes, behind, WorkersJoin, StageFollows}
 use Rattle.prolly_laws.specs.Stages.{fault_is_prefix}
 use Rattle.prolly_entry.specs.lemmas.Lists.{prefix_trans}

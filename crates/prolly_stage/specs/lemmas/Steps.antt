@@ -3,12 +3,12 @@ use Rattle.std.proofs.Common.{◌≡◌, List, [], ◌++◌, refl, sym, ◌∙�
 use Rattle.std.proofs.lemmas.List.{append-nil}
 use Rattle.std.specs.Prelude.{Result, Ok, Err, OnErr}
 use Rattle.prolly_tree.specs.Events.{Closing, faulty}
-use Rattle.prolly_link.specs.Receipts.{end_given}
-use Rattle.prolly_link.specs.declared.end.End.{End}
-use Rattle.prolly_link.specs.declared.progress.Progress.{Progress}
-use Rattle.prolly_link.specs.declared.end.End.TheVariants.{Fault}
+use Rattle.prolly_link.specs.Progress.{end_given}
+use Rattle.prolly_link.specs.declared.message.End.{End}
+use Rattle.prolly_link.specs.declared.message.Progress.{Progress}
+use Rattle.prolly_link.specs.declared.message.End.TheVariants.{Fault}
 use Rattle.prolly_link.specs.declared.fault.RunFault.TheVariants.{Memory}
-use Rattle.prolly_link.specs.Receipts.{HasEnded}
+use Rattle.prolly_link.specs.Progress.{HasEnded}
 use Rattle.prolly_stage.specs.Sends.{closing_of, Sends, GivesUp}
 use Rattle.prolly_stage.specs.Workers.{KeepsPrefixes}
 use Rattle.prolly_entry.specs.lemmas.Lists.{prefix_trans}

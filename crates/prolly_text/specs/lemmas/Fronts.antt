@@ -4,7 +4,7 @@ use Rattle.std.proofs.Common.{Some, None, Ok, length, refl, sym, ap, ◌∙◌}
 use Rattle.hex.specs.Hex.{decode_of}
 use Rattle.hex.proofs.HexLemmas.{decode_of-ok, decode_of-same}
 use Rattle.prolly_entry.specs.lemmas.Lists.{apart}
-use Rattle.prolly_text.specs.Pieces.{is_plain, named_byte, IsPiece, BeginsWith, BeginsWithNone}
+use Rattle.prolly_text.specs.Pieces.{is_plain, named_byte, IsPiece, HasPiece, BeginsWithNone}
 
 -- What stands at the front of a text that begins with a piece of the byte.
 abbrev pub IsFront : ℕ → List ℕ → ℕ → List ℕ → Type 0
@@ -27,7 +27,7 @@ front_of first after byte behind piece e (inr (inr h)) =
     inr (inr (h.0, cc, cc, h.2))
 
 pub front : (first : ℕ) (after : List ℕ) (byte : ℕ) (behind : List ℕ) →
-    BeginsWith (first ∷ after) byte behind → IsFront first after byte behind
+    HasPiece (first ∷ after) byte behind → IsFront first after byte behind
 front first after byte behind h = front_of first after byte behind h.piece h.whole h.is
 
 -- Two hexadecimal digits are what stands for one byte.
@@ -37,18 +37,18 @@ two_digits digits byte h = (decode_of-ok digits (byte ∷ []) h).2
 -- ---- texts that begin with a piece
 
 pub begins_plain : (byte : ℕ) (behind : List ℕ) → is_plain byte ≡ true →
-    BeginsWith (byte ∷ behind) byte behind
+    HasPiece (byte ∷ behind) byte behind
 begins_plain byte behind h =
     record { piece = byte ∷ []; whole = refl; is = inl (refl, h) }
 
 pub begins_named : (letter byte : ℕ) (behind : List ℕ) → named_byte letter ≡ Some byte →
-    BeginsWith (0x5C ∷ letter ∷ behind) byte behind
+    HasPiece (0x5C ∷ letter ∷ behind) byte behind
 begins_named letter byte behind h =
     record { piece = 0x5C ∷ letter ∷ []; whole = refl; is = inr (inl (letter, refl, h)) }
 
 pub begins_digits : (digits : List ℕ) (byte : ℕ) (text behind : List ℕ) →
     text ≡ digits ++ behind → decode_of digits ≡ Ok (byte ∷ []) →
-    BeginsWith (0x5C ∷ 0x78 ∷ text) byte behind
+    HasPiece (0x5C ∷ 0x78 ∷ text) byte behind
 begins_digits digits byte text behind e h = record {
   piece = 0x5C ∷ 0x78 ∷ digits;
   whole = ap (λ t. 0x5C ∷ 0x78 ∷ t) e;
@@ -182,7 +182,7 @@ one_front first after byte other behind rest (inr (inr h)) (inr (inr k)) =
     same_digits after behind rest h.0 k.0 byte other h.2 k.2 h.3 k.3
 
 pub one_piece : (text : List ℕ) (byte other : ℕ) (behind rest : List ℕ) →
-    BeginsWith text byte behind → BeginsWith text other rest → IsSame byte other behind rest
+    HasPiece text byte behind → HasPiece text other rest → IsSame byte other behind rest
 one_piece [] byte other behind rest h k = absurd (none_of_nothing byte behind h)
 one_piece (first ∷ after) byte other behind rest h k =
     one_front first after byte other behind rest (front first after byte behind h)

@@ -7,10 +7,11 @@ use Rattle.hex.proofs.HexLemmas.{decode_of-same}
 use Rattle.prolly_entry.specs.lemmas.Lists.{all_append}
 use Rattle.prolly_text.specs.declared.notation.Notation.{Notation}
 use Rattle.prolly_text.specs.declared.notation.Notation.TheVariants.{Hex, Text}
-use Rattle.prolly_text.specs.Notations.{OneReading, StandsWithin, TextsStandApart, WrittenIsRead}
+use Rattle.prolly_text.specs.Notations.{OneTextReading, StandsWithin, TextsStandApart}
+use Rattle.prolly_text.specs.Notations.{WrittenIsRead}
 use Rattle.prolly_text.specs.Notations.{WrittenShows, separator}
 use Rattle.prolly_text.specs.Names.{NamesShow, shown_in_name}
-use Rattle.prolly_text.specs.Pieces.{is_plain, named_byte, BeginsWith, IsPiece, IsTextOf}
+use Rattle.prolly_text.specs.Pieces.{is_plain, named_byte, HasPiece, IsPiece, IsTextOf}
 use Rattle.prolly_text.specs.lemmas.Sequences.{one_text}
 use Rattle.prolly_text.specs.lemmas.Digits.{all_so, digits_of, digits_show, hex_read}
 use Rattle.prolly_text.specs.lemmas.Spelled.{name_spells, valid_spelled}
@@ -22,7 +23,7 @@ written_is_read Hex bytes h = hex_read bytes h
 written_is_read Text bytes h = (text_spelled bytes h).0
 
 -- A text stands for one list of bytes at most.
-pub one_reading : OneReading
+pub one_reading : OneTextReading
 one_reading Hex text a b h k = decode_of-same text a b h k
 one_reading Text text a b h k = one_text text a b h k
 
@@ -89,7 +90,7 @@ piece_within piece byte (inr (inr h)) = subst (AllByRecursion (StandsWithin Text
 text_within : (bytes text : List ℕ) → IsTextOf text bytes → AllByRecursion (StandsWithin Text) text
 text_within [] text h = subst (AllByRecursion (StandsWithin Text)) (sym h) tt
 text_within (b ∷ bytes) text h =
-    let first : BeginsWith text b h.0 = h.1 in
+    let first : HasPiece text b h.0 = h.1 in
     subst (AllByRecursion (StandsWithin Text)) (sym first.whole)
     (all_append (StandsWithin Text) first.piece h.0 (piece_within first.piece b first.is)
     (text_within bytes h.0 h.2))

@@ -1,7 +1,7 @@
 -- Pieces one after another.
 use Rattle.std.proofs.Common.{◌≡◌, inl, inr, ℕ, ◌<◌, List, [], ◌∷◌, ◌++◌, length, refl, sym, ap}
 use Rattle.std.proofs.Common.{◌∙◌, subst, append-nil, append_assoc, arith, length-append}
-use Rattle.prolly_text.specs.Pieces.{BeginsWith, BeginsWithNone, BeginsWithAll, IsPiece, IsTextOf}
+use Rattle.prolly_text.specs.Pieces.{HasPiece, BeginsWithNone, BeginsWithAll, IsPiece, IsTextOf}
 use Rattle.prolly_text.specs.lemmas.Fronts.{none_of_nothing, one_piece}
 
 -- Pieces behind pieces.
@@ -25,12 +25,12 @@ all_longer (b ∷ bytes) text behind more h = (
   all_longer bytes h.0 behind more h.2,
 )
 
-pub all_one : (byte : ℕ) (text behind : List ℕ) → BeginsWith text byte behind →
+pub all_one : (byte : ℕ) (text behind : List ℕ) → HasPiece text byte behind →
     BeginsWithAll text (byte ∷ []) behind
 all_one byte text behind h = (behind, h, refl)
 
 pub all_more : (bytes text rest behind : List ℕ) (byte : ℕ) → BeginsWithAll text bytes rest →
-    BeginsWith rest byte behind → BeginsWithAll text (bytes ++ byte ∷ []) behind
+    HasPiece rest byte behind → BeginsWithAll text (bytes ++ byte ∷ []) behind
 all_more bytes text rest behind byte h k =
     all_both bytes (byte ∷ []) text rest behind h (all_one byte rest behind k)
 
@@ -48,7 +48,7 @@ more_behind [] bytes text rest h k = record {
   is = subst (λ t. IsTextOf t bytes) h k;
 }
 more_behind (b ∷ begun) [] text rest h k =
-    absurd (none_of_nothing b h.0 (subst (λ t. BeginsWith t b h.0) k h.1))
+    absurd (none_of_nothing b h.0 (subst (λ t. HasPiece t b h.0) k h.1))
 more_behind (b ∷ begun) (x ∷ bytes) text rest h k =
     let same = one_piece text x b k.0 h.0 k.1 h.1 in
     let inner = more_behind begun bytes h.0 rest h.2
@@ -80,7 +80,7 @@ none_read text begun rest bytes h none some k =
     go (x ∷ left) e = none x e.0 e.1
 
 -- A piece takes a part of its text.
-pub piece_shortens : (text : List ℕ) (byte : ℕ) (behind : List ℕ) → BeginsWith text byte behind →
+pub piece_shortens : (text : List ℕ) (byte : ℕ) (behind : List ℕ) → HasPiece text byte behind →
     length behind < length text
 piece_shortens text byte behind h = go h.is
   where

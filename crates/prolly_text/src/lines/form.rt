@@ -1,13 +1,48 @@
-//! How records are written.
+//! How lines are written and read, and how records are written.
+ghost use Rattle.std.specs.Prelude.{◌≡◌};
+ghost use Rattle.prolly_text.specs.Lines.{hex_lines, reads_bare_keys};
 ghost use Rattle.std.specs.Prelude.{◌≡◌, ◌≢◌, ◌++◌, None, OnOk, IfOk, OnErr};
 ghost use Rattle.std.specs.Option.{option_copied};
 ghost use Rattle.prolly_entry.specs.Record.{IsRecord};
 ghost use Rattle.prolly_entry.specs.Spelling.{record_spelling};
-ghost use Rattle.prolly_tool.specs.RecordForms.{change_text, record_line, removal_mark, spelled_in};
+ghost use Rattle.prolly_text.specs.RecordForms.{change_text, record_line, removal_mark, spelled_in};
 
+use crate::notation::Notation;
 use prolly_entry::{Pair, Record, append_record};
-use prolly_text::Notation;
 use std::alloc::{AllocError, Global};
+
+/// How lines are written: `HEXKEY HEXVALUE`, or `HEXKEY -` for a removal; or in text a key, a tab
+/// and a value, or a key alone for a removal.
+#[derive(Clone, Copy)]
+pub struct LineForm {
+    /// How keys and values are written.
+    pub notation: Notation,
+    /// Whether in text a line that is a key alone is its removal. It is ignored for lines in
+    /// hexadecimal, where a dash marks a removal.
+    pub removals: bool,
+}
+
+impl LineForm {
+    /// Lines in hexadecimal.
+    pub fn hex() -> LineForm
+        ensures { result ≡ hex_lines }
+    {
+        LineForm {
+            notation: Notation::Hex,
+            removals: false,
+        }
+    }
+
+    /// Whether a line that is a key alone is read as its removal.
+    pub(crate) fn reads_bare_keys(self) -> bool
+        ensures { result ≡ reads_bare_keys self.notation self.removals }
+    {
+        match self.notation {
+            Notation::Hex => false,
+            Notation::Text => self.removals,
+        }
+    }
+}
 
 /// How records are written: the value that is put at a key, or that the key is removed.
 #[derive(Clone, Copy)]
@@ -20,7 +55,7 @@ pub enum RecordForm {
 }
 
 /// Appends a change in this form, or nothing where there is none.
-pub(crate) fn append_change(
+pub fn append_change(
     alloc: Global,
     out: &mut Vec<u8>,
     form: Option<RecordForm>,
@@ -40,7 +75,7 @@ pub(crate) fn append_change(
 }
 
 /// Appends the line of a change.
-pub(crate) fn append_line(
+pub fn append_line(
     alloc: Global,
     out: &mut Vec<u8>,
     notation: Notation,

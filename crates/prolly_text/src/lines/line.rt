@@ -4,13 +4,13 @@ ghost use Rattle.std.specs.Prelude.{Some, None, slice_get, IfOk, IfErr, IfSome, 
 ghost use Rattle.std.specs.Prelude.{◌↔◌};
 ghost use Rattle.std.specs.List.{AllByRecursion};
 ghost use Rattle.prolly_text.specs.Notations.{IsWritten, separator};
-ghost use Rattle.prolly_tool.specs.Lines.{CutsAt, lines_of};
-ghost use Rattle.prolly_tool.specs.Pack.{IsChangeOf, IsLongKey, IsLongPair, IsNotWritten};
-ghost use Rattle.prolly_tool.specs.Pack.{IsWrongLine, MarksRemoval, StandsFor, flaw_of};
+ghost use Rattle.prolly_text.specs.Lines.{CutsAt, lines_of};
+ghost use Rattle.prolly_text.specs.PackedLines.{IsChangeOf, IsLongKey, IsLongPair, IsNotWritten};
+ghost use Rattle.prolly_text.specs.PackedLines.{IsWrongLine, MarksRemoval, StandsFor, flaw_of};
 
-use crate::lines::line_form::LineForm;
+use crate::lines::form::LineForm;
+use crate::notation::{Notation, TextFault};
 use prolly_entry::{EntryFault, Pair, Record};
-use prolly_text::{Notation, TextFault};
 use std::alloc::Global;
 
 /// What is wrong with a line.

@@ -1,25 +1,91 @@
-//! Record files out of text.
+//! Record files out of text, and why a text is not packed. Lines are numbered from 0.
 ghost use Rattle.std.specs.Prelude.{◌≡◌, ◌++◌, IfOk, IfErr, OnOk, OnErr};
-ghost use Rattle.prolly_tool.specs.Lines.{hex_lines};
-ghost use Rattle.prolly_tool.specs.Pack.{IsLineFault, IsLinesFault, IsPackFault, Packs, PacksLine};
-ghost use Rattle.prolly_tool.specs.Pack.{fault_at};
+ghost use Rattle.prolly_text.specs.Lines.{hex_lines};
+ghost use Rattle.prolly_text.specs.PackedLines.{IsLineFault, IsLinesFault, IsPackFault, Packs};
+ghost use Rattle.prolly_text.specs.PackedLines.{PacksLine};
+ghost use Rattle.prolly_text.specs.PackedLines.{fault_at};
+ghost use Rattle.std.specs.Prelude.{◌≡◌, Some};
 
-use crate::faults::{LinesFault, PackFault};
+use crate::lines::form::LineForm;
 use crate::lines::line::{LineFlaw, record_of, split_line};
-use crate::lines::line_form::LineForm;
+use crate::notation::Notation;
 use prolly_entry::append_record;
-use prolly_text::Notation;
 use std::alloc::Global;
+use std::fmt;
+use std::fmt::{Display, Formatter};
+use thiserror::Error;
+
+/// Why a text in hexadecimal is not packed.
+#[derive(Clone, Copy, Debug, PartialEq, Eq, Error)]
+pub enum PackFault {
+    /// Memory was refused.
+    Memory,
+    /// The line is not a key and a value, or a key and a dash, in hexadecimal with one space
+    /// between them.
+    BadLine { line: u64 },
+    /// The key has more than 1,024 bytes.
+    KeyTooLong { line: u64 },
+    /// The value has more than 65,536 bytes.
+    ValueTooLong { line: u64 },
+}
+
+impl Display for PackFault {
+    ghost use Rattle.prolly_text.specs.LinesFaults.{pack_text};
+
+    ghost output = { λ fault. Some (pack_text fault) };
+
+    fn fmt<W: fmt::Write>(&self, f: &mut Formatter<W>) -> fmt::Result {
+        match self {
+            PackFault::Memory => write!(f, "out of memory"),
+            PackFault::BadLine { line } => write!(f, "line {line}: not a pair in hexadecimal"),
+            PackFault::KeyTooLong { line } => write!(f, "line {line}: key too long"),
+            PackFault::ValueTooLong { line } => write!(f, "line {line}: value too long"),
+        }
+    }
+}
+
+/// Why a text in one of the forms of lines is not packed.
+#[derive(Clone, Copy, Debug, PartialEq, Eq, Error)]
+pub enum LinesFault {
+    /// For a reason that a text in hexadecimal may have too.
+    Pack(PackFault),
+    /// The line is not a key and a value of text with one tab between them, and no key alone where
+    /// removals are looked for.
+    BadText { line: u64 },
+}
+
+impl From<PackFault> for LinesFault {
+    ghost use Rattle.prolly_text.specs.declared.lines.pack.LinesFault.TheVariants.{Pack};
+
+    ghost from_gives = { λ pack fault. fault ≡ Pack pack };
+
+    fn from(pack: PackFault) -> Self {
+        LinesFault::Pack(pack)
+    }
+}
+
+impl Display for LinesFault {
+    ghost use Rattle.prolly_text.specs.LinesFaults.{lines_text};
+
+    ghost output = { λ fault. Some (lines_text fault) };
+
+    fn fmt<W: fmt::Write>(&self, f: &mut Formatter<W>) -> fmt::Result {
+        match self {
+            LinesFault::Pack(fault) => fault.fmt(f),
+            LinesFault::BadText { line } => write!(f, "line {line}: not a pair of text"),
+        }
+    }
+}
 
 /// Appends the spellings of the records that the lines of a text in hexadecimal stand for, and
-/// answers their number: see [`pack_lines_as`].
+/// answers their number: see [`pack_lines_in`].
 pub fn pack_lines(alloc: Global, text: &[u8], out: &mut Vec<u8>) -> Result<u64, PackFault>
     ensures ok { IfOk result (λ count.
         Packs hex_lines text.now out.old.items out.new.items count) }
     ensures err { IfErr result (λ fault. IsPackFault hex_lines text.now fault) }
     ensures unchanged { OnErr result (out.new.items ≡ out.old.items) }
 {
-    match pack_lines_as(alloc, LineForm::hex(), text, out) {
+    match pack_lines_in(alloc, LineForm::hex(), text, out) {
         Ok(count) => Ok(count),
         Err(LinesFault::Pack(fault)) => Err(fault),
         Err(LinesFault::BadText { .. }) => unreachable!(),
@@ -30,7 +96,7 @@ pub fn pack_lines(alloc: Global, text: &[u8], out: &mut Vec<u8>) -> Result<u64, 
 /// number. An `Err` leaves `out` as it was. Whether keys rise is not tested.
 ///
 /// One pass, in time linear in the text.
-pub fn pack_lines_as(
+pub fn pack_lines_in(
     alloc: Global,
     form: LineForm,
     text: &[u8],

@@ -2,7 +2,7 @@
 ghost use Rattle.std.specs.Prelude.{◌≡◌, ◌++◌, OnOk};
 ghost use Rattle.prolly_text.specs.Names.{shown_in_name, shown_name};
 
-use crate::escape::append_plain;
+use crate::notation::escape::append_plain;
 use std::alloc::{AllocError, Global};
 
 /// Appends a file's name, in which control characters and backslashes are escaped, so that a line

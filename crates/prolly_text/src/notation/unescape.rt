@@ -1,10 +1,34 @@
-//! The first piece of a text, and the byte that it stands for.
-ghost use Rattle.std.specs.Prelude.{◌≡◌, ◌∷◌, IfSome, IfNone};
-ghost use Rattle.prolly_text.specs.Pieces.{BeginsWith, BeginsWithNone, is_plain, named_byte};
+//! Reading text: one piece after another, a byte or an escape.
+ghost use Rattle.std.specs.Prelude.{IfOk, IfErr, ◌≡◌, ◌∷◌, IfSome, IfNone};
+ghost use Rattle.prolly_text.specs.Notations.{IsTextFault, IsWritten};
+ghost use Rattle.prolly_text.specs.declared.notation.Notation.TheVariants.{Text};
+ghost use Rattle.prolly_text.specs.Pieces.{HasPiece, BeginsWithNone, is_plain, named_byte};
+
+use crate::notation::TextFault;
+use std::alloc::Global;
+
+/// The bytes whose pieces a text is.
+pub(crate) fn unescaped(alloc: Global, text: &[u8]) -> Result<Vec<u8>, TextFault>
+    ensures ok { IfOk result (λ bytes. IsWritten Text text.now bytes.items) }
+    ensures err { IfErr result (λ fault. IsTextFault Text text.now fault) }
+{
+    let mut bytes = Vec::new(alloc);
+    let mut rest = text;
+    while !rest.is_empty() {
+        let Some((byte, behind)) = split_piece(rest) else {
+            return Err(TextFault::Bad);
+        };
+        if bytes.push(byte).is_err() {
+            return Err(TextFault::Memory);
+        }
+        rest = behind;
+    }
+    Ok(bytes)
+}
 
 /// The byte that the first piece of a text stands for, and the text behind that piece.
 pub(crate) fn split_piece(text: &[u8]) -> Option<(u8, &[u8])>
-    ensures some { IfSome result (λ first. BeginsWith text.now first.0 first.1.now) }
+    ensures some { IfSome result (λ first. HasPiece text.now first.0 first.1.now) }
     ensures none { IfNone result (BeginsWithNone text.now) }
 {
     let (first, behind) = text.split_first()?;
@@ -17,9 +41,9 @@ pub(crate) fn split_piece(text: &[u8]) -> Option<(u8, &[u8])>
     None
 }
 
-/// The same, where a backslash stands in front of the text.
+/// The first byte of a text in front of which a backslash stands, and the text behind it.
 fn split_escape(text: &[u8]) -> Option<(u8, &[u8])>
-    ensures some { IfSome result (λ first. BeginsWith (0x5C ∷ text.now) first.0 first.1.now) }
+    ensures some { IfSome result (λ first. HasPiece (0x5C ∷ text.now) first.0 first.1.now) }
     ensures none { IfNone result (BeginsWithNone (0x5C ∷ text.now)) }
 {
     let (letter, behind) = text.split_first()?;
@@ -30,10 +54,10 @@ fn split_escape(text: &[u8]) -> Option<(u8, &[u8])>
     Some((byte, behind))
 }
 
-/// The same, where `\x` stands in front of the text.
+/// The first byte of a text in front of which `\x` stands, and the text behind it.
 fn split_digits(text: &[u8]) -> Option<(u8, &[u8])>
     ensures some { IfSome result (λ first.
-        BeginsWith (0x5C ∷ 0x78 ∷ text.now) first.0 first.1.now) }
+        HasPiece (0x5C ∷ 0x78 ∷ text.now) first.0 first.1.now) }
     ensures none { IfNone result (BeginsWithNone (0x5C ∷ 0x78 ∷ text.now)) }
 {
     if text.len() < 2 {

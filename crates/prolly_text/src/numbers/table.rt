@@ -1,11 +1,11 @@
-//! The table of a tree.
-ghost use Rattle.std.specs.Prelude.{◌≡◌, ◌++◌, OnOk};
-ghost use Rattle.prolly_stat.specs.Table.{bar, head_of, row_line, table_of};
+//! The numbers of a tree, and the table of them.
+ghost use Rattle.std.specs.Prelude.{◌≡◌, ◌++◌, OnOk, ◌<◌, Some, length, slice_get};
+ghost use Rattle.prolly_text.specs.Table.{bar, head_of, row_line, table_of};
+ghost use Rattle.prolly_text.specs.Rows.{rows_of};
 
-use crate::line::append_number_line;
-use crate::row::{Row, row_at};
-use crate::tree::TreeNumbers;
+use crate::numbers::records::append_number_line;
 use prolly_check::Level;
+use prolly_entry::Version;
 use std::alloc::{AllocError, Global};
 
 /// The names of the columns, each above the end of its numbers.
@@ -75,4 +75,48 @@ fn append_bar(alloc: Global, out: &mut Vec<u8>, number: u64) -> Result<(), Alloc
         out.push(b'#')?;
     }
     Ok(())
+}
+
+/// A level with its number, which is 0 for the leaves, and its entries.
+#[derive(Clone, Copy)]
+pub(crate) struct Row {
+    pub(crate) number: usize,
+    pub(crate) entries: u64,
+    pub(crate) level: Level,
+}
+
+/// The row of the level of this number.
+pub(crate) fn row_at(tree: &TreeNumbers, number: usize) -> Row
+    requires { number < length tree.now.levels.now }
+    ensures { slice_get (rows_of tree.now) number ≡ Some result }
+{
+    let entries = if number == 0 {
+        tree.pairs
+    } else {
+        tree.levels[number - 1].chunks
+    };
+    Row {
+        number,
+        entries,
+        level: tree.levels[number],
+    }
+}
+
+/// A chunk file, in numbers.
+#[derive(Clone, Copy)]
+pub struct TreeNumbers<'a> {
+    /// The text of the root's reference, 32 characters.
+    pub root: &'a [u8],
+    /// The version of the file.
+    pub version: Version,
+    /// The bits of the cut: one entry in 2 to this power ends a chunk.
+    pub bits: u8,
+    /// How many pairs the map has.
+    pub pairs: u64,
+    /// How many chunks the levels have, together.
+    pub chunks: u64,
+    /// The sizes of all chunks, together.
+    pub bytes: u64,
+    /// The levels, from the leaves to the root's.
+    pub levels: &'a [Level],
 }

@@ -6,24 +6,25 @@ ghost use Rattle.std.specs.List.{AllByRecursion};
 ghost use Rattle.prolly_check.specs.Content.{Content};
 ghost use Rattle.prolly_check.specs.Verdict.{IsFileOf};
 ghost use Rattle.prolly_check.specs.declared.verdict.fault.CheckFault.TheVariants.{Read};
-ghost use Rattle.prolly_diff.specs.Walk.{AreMaps};
+ghost use Rattle.prolly_diff.specs.Differences.{AreMaps};
 ghost use Rattle.prolly_entry.specs.Pair.{IsPair, Pair};
 ghost use Rattle.prolly_entry.specs.Record.{Record as RecordValue, Record};
 ghost use Rattle.prolly_tool.specs.Answers.{ShowsFault};
 ghost use Rattle.prolly_tool.specs.Counts.{AreCounts, stat_text, are_some};
 ghost use Rattle.prolly_tool.specs.Diff.{AreStopped, AreWritten, HasDifference, HaveChanges};
 ghost use Rattle.prolly_tool.specs.Diff.{IsDiff, ShowsDiff, stat_shown, status_of};
-ghost use Rattle.prolly_tool.specs.Outputs.{IsStopped, TookAll, TookUntil};
+ghost use Rattle.prolly_tool.specs.Outputs.{IsPart, TookAll, TookUntil};
 ghost use Rattle.std.specs.Option.{option_copied};
 ghost use Rattle.prolly_tree.specs.LookUp.{find};
 
 use crate::answers::answer::Answer;
 use crate::faults::{Fault, OutputFault};
 use crate::input::INPUT_LIMIT;
-use crate::lines::{RecordForm, append_change, append_number};
+use crate::lines::append_number;
 use prolly_check::{Missing, Tree, check};
 use prolly_diff::Differences;
 use prolly_file::{Sink, Source, write_all};
+use prolly_text::{RecordForm, append_change};
 use std::alloc::{AllocError, Global};
 
 /// What `diff` answers: it reads two chunk files, and writes what turns the map of the old one into
@@ -56,7 +57,7 @@ pub fn answer_diff<S: Source, T: Source, W: Sink>(
         (sink.new ≡ sink.old)) }
     ensures err { (S.seen old_source.old).is_honest ≡ true →
         (T.seen new_source.old).is_honest ≡ true →
-        OnErr result ((sink.new ≡ sink.old) ⊎ IsStopped (HaveChanges (S.seen old_source.old).left
+        OnErr result ((sink.new ≡ sink.old) ⊎ IsPart (HaveChanges (S.seen old_source.old).left
         ((S.seen old_source.new).failures ≢ (S.seen old_source.old).failures)
         (T.seen new_source.old).left
         ((T.seen new_source.new).failures ≢ (T.seen new_source.old).failures))

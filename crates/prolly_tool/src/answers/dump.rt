@@ -5,15 +5,16 @@ ghost use Rattle.prolly_check.specs.Verdict.{IsFileOf};
 ghost use Rattle.prolly_tree.specs.Difference.{puts};
 ghost use Rattle.prolly_tool.specs.Dump.{IsDump, IsDumped, IsStoppedDump};
 ghost use Rattle.prolly_tool.specs.LookUps.{ShowsFailedRead};
-ghost use Rattle.prolly_tool.specs.Outputs.{IsStopped, TookAll, TookUntil};
-ghost use Rattle.prolly_tool.specs.RecordForms.{written_records};
+ghost use Rattle.prolly_tool.specs.Outputs.{IsPart, TookAll, TookUntil};
+ghost use Rattle.prolly_text.specs.RecordForms.{written_records};
 
 use crate::answers::answer::Answer;
 use crate::faults::{Fault, OutputFault};
 use crate::input::INPUT_LIMIT;
-use crate::lines::{RecordForm, write_lines};
+use crate::lines::write_lines;
 use prolly_check::{Tree, check};
 use prolly_file::{Sink, Source, WriteFault};
+use prolly_text::RecordForm;
 use std::alloc::{AllocError, Global};
 
 /// What `dump` answers: it reads a chunk file from the source, writes its pairs to the sink, as
@@ -38,7 +39,7 @@ pub fn answer_dump<S: Source, W: Sink>(
         (λ fault bytes. TookUntil W.seen fault bytes sink.old sink.new)
         (sink.new ≡ sink.old)) }
     ensures err { (S.seen source.old).is_honest ≡ true →
-        OnErr result ((sink.new ≡ sink.old) ⊎ IsStopped (IsDumped (S.seen source.old).left
+        OnErr result ((sink.new ≡ sink.old) ⊎ IsPart (IsDumped (S.seen source.old).left
         ((S.seen source.new).failures ≢ (S.seen source.old).failures))
         (IsStoppedDump form (λ fault bytes. TookUntil W.seen fault bytes sink.old sink.new))) }
     ensures read { (S.seen source.new).failures ≢ (S.seen source.old).failures →

@@ -10,8 +10,7 @@ use crate::input::RECORD_LIMIT;
 use crate::lines::append_number;
 use prolly_file::{Source, SourceFault};
 use prolly_load::{FlawedRecord, Survey, survey};
-use prolly_stat::append_flaw;
-use prolly_text::Notation;
+use prolly_text::{Notation, append_flaw};
 use std::alloc::{AllocError, Global};
 
 /// What `explain` answers: `ok` and the number of records of a record file that is good, and else,

@@ -17,7 +17,7 @@ use std::alloc::{AllocError, Global};
 /// memory for the answer's own text.
 ///
 /// The file is checked first, as by `check`; the look-up itself touches one chunk a level.
-pub fn answer_get_as<S: Source>(
+pub fn answer_get_in<S: Source>(
     alloc: Global,
     source: &mut S,
     key: &[u8],
@@ -33,7 +33,7 @@ pub fn answer_get_as<S: Source>(
     Answer::of_value(alloc, notation, tree.get(key))
 }
 
-/// What `get` answers in hexadecimal: see [`answer_get_as`].
+/// What `get` answers in hexadecimal: see [`answer_get_in`].
 pub fn answer_get<S: Source>(
     alloc: Global,
     source: &mut S,
@@ -42,7 +42,7 @@ pub fn answer_get<S: Source>(
     ensures shown { AnswersLookUp S.seen source.old source.new (ShowsGet Hex key.now) result }
     ensures read { AnswersFailedRead S.seen source.old source.new result }
 {
-    answer_get_as(alloc, source, key, Notation::Hex)
+    answer_get_in(alloc, source, key, Notation::Hex)
 }
 
 /// What `get` answers to who names the root: the value that was found, in this notation; nothing,

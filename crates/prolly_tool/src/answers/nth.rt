@@ -1,7 +1,7 @@
 //! What `nth` answers, of a checked file and by the root.
 ghost use Rattle.std.specs.Prelude.{◌≡◌, ◌↔◌, ℕ, List, IfOk, IsErr};
 ghost use Rattle.prolly_check.specs.Content.{Content};
-ghost use Rattle.prolly_check.specs.Counted.{pair_of};
+ghost use Rattle.prolly_check.specs.FoundPairs.{pair_found};
 ghost use Rattle.prolly_check.specs.Verdict.{IsFileOf};
 ghost use Rattle.prolly_entry.specs.declared.version.Version.TheVariants.{One};
 ghost use Rattle.prolly_text.specs.declared.notation.Notation.TheVariants.{Hex};
@@ -26,7 +26,7 @@ use std::alloc::{AllocError, Global};
 ///
 /// The file is checked first, as by `check`; the look-up itself skips by the counts of the pairs
 /// below.
-pub fn answer_nth_as<S: Source>(
+pub fn answer_nth_in<S: Source>(
     alloc: Global,
     source: &mut S,
     n: u64,
@@ -51,7 +51,7 @@ fn nth_shown(
 ) -> Result<Answer, AllocError>
     ensures { (bytes : List ℕ) (n : ℕ) →
         IfOk found.entry (λ f. (content : Content) → IsFileOf bytes content →
-        pair_of f ≡ nth content.pairs n) →
+        pair_found f ≡ nth content.pairs n) →
         ((content : Content) → IsFileOf bytes content →
         IsErr found.entry ↔ (content.version ≡ One)) →
         IfOk result (λ answer. (content : Content) → IsFileOf bytes content →
@@ -64,12 +64,12 @@ fn nth_shown(
     }
 }
 
-/// What `nth` answers in hexadecimal: see [`answer_nth_as`].
+/// What `nth` answers in hexadecimal: see [`answer_nth_in`].
 pub fn answer_nth<S: Source>(alloc: Global, source: &mut S, n: u64) -> Result<Answer, AllocError>
     ensures shown { AnswersLookUp S.seen source.old source.new (ShowsPlace Hex n) result }
     ensures read { AnswersFailedRead S.seen source.old source.new result }
 {
-    answer_nth_as(alloc, source, n, Notation::Hex)
+    answer_nth_in(alloc, source, n, Notation::Hex)
 }
 
 /// What `nth` answers to who names the root: the pair that was found, as key and value in this

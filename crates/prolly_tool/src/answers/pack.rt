@@ -1,15 +1,16 @@
 //! The command `pack`: a record file out of text.
 ghost use Rattle.std.specs.Prelude.{◌≡◌, ◌≢◌, true, [], IfOk, IfErr, OnOk, IsErrOf};
 ghost use Rattle.prolly_tool.specs.Input.{IsReadWhole};
-ghost use Rattle.prolly_tool.specs.Lines.{hex_lines};
-ghost use Rattle.prolly_tool.specs.Pack.{AnswersPack, IsPackingFault, LeavesPack, Packs};
+ghost use Rattle.prolly_text.specs.Lines.{hex_lines};
+ghost use Rattle.prolly_text.specs.PackedLines.{Packs};
+ghost use Rattle.prolly_tool.specs.Pack.{AnswersPack, IsPackingFault, LeavesPack};
 ghost use Rattle.prolly_tool.specs.Pack.{TellsPackRead};
 
 use crate::answers::answer::Answer;
 use crate::faults::Fault;
 use crate::input::input_of;
-use crate::lines::{LineForm, pack_lines_as};
 use prolly_file::{Sink, Source, WriteFault, write_whole};
+use prolly_text::{LineForm, pack_lines_in};
 use std::alloc::{AllocError, Global};
 
 /// A record file, and the number of its records.
@@ -26,7 +27,7 @@ struct Packed {
 /// own text; the sink is then as it was, or it failed.
 ///
 /// Takes time linear in the text, and holds the text and the record file in memory.
-pub fn answer_pack_as<S: Source, W: Sink>(
+pub fn answer_pack_in<S: Source, W: Sink>(
     alloc: Global,
     source: &mut S,
     sink: &mut W,
@@ -49,7 +50,7 @@ pub fn answer_pack_as<S: Source, W: Sink>(
     }
 }
 
-/// What `pack` answers to lines in hexadecimal: see [`answer_pack_as`].
+/// What `pack` answers to lines in hexadecimal: see [`answer_pack_in`].
 pub fn answer_pack<S: Source, W: Sink>(
     alloc: Global,
     source: &mut S,
@@ -61,7 +62,7 @@ pub fn answer_pack<S: Source, W: Sink>(
         result }
     ensures read { TellsPackRead S.seen source.old source.new sink.old sink.new result }
 {
-    answer_pack_as(alloc, source, sink, LineForm::hex())
+    answer_pack_in(alloc, source, sink, LineForm::hex())
 }
 
 /// The record file of the lines that a source has left.
@@ -80,6 +81,6 @@ fn packed_of<S: Source>(alloc: Global, source: &mut S, form: LineForm) -> Result
 {
     let text = input_of(alloc, source)?;
     let mut file = Vec::new(alloc);
-    let count = pack_lines_as(alloc, form, &text, &mut file)?;
+    let count = pack_lines_in(alloc, form, &text, &mut file)?;
     Ok(Packed { file, count })
 }

@@ -20,7 +20,7 @@ use std::alloc::{AllocError, Global};
 ///
 /// The file is checked first, as by `check`. Beside what that takes, memory is taken for the lines
 /// alone: they are made from where the pairs lie, leaf by leaf, up to the limit.
-pub fn answer_scan_as<S: Source>(
+pub fn answer_scan_in<S: Source>(
     alloc: Global,
     source: &mut S,
     from: &[u8],
@@ -39,7 +39,7 @@ pub fn answer_scan_as<S: Source>(
     Ok(Answer::of_lines(alloc, lines))
 }
 
-/// What `scan` answers in hexadecimal: see [`answer_scan_as`].
+/// What `scan` answers in hexadecimal: see [`answer_scan_in`].
 pub fn answer_scan<S: Source>(
     alloc: Global,
     source: &mut S,
@@ -50,7 +50,7 @@ pub fn answer_scan<S: Source>(
         (ShowsScan Hex from.now limit) result }
     ensures read { AnswersFailedRead S.seen source.old source.new result }
 {
-    answer_scan_as(alloc, source, from, limit, Notation::Hex)
+    answer_scan_in(alloc, source, from, limit, Notation::Hex)
 }
 
 /// A line for each of the first pairs of the leaves, at most `limit` of them. Asks for no leaf

@@ -6,7 +6,7 @@ ghost use Rattle.prolly_tool.specs.Answers.{ShowsFault};
 ghost use Rattle.prolly_tool.specs.Outputs.{TookAll, TookPart, IfSink, OfSink, IsAnswer};
 ghost use Rattle.prolly_tool.specs.Outputs.{IsCutShort};
 ghost use Rattle.prolly_tool.specs.Scratch.{HoldsPairs, MakesFile, Scratches, IsRecordsFault};
-ghost use Rattle.prolly_tool.specs.Scratch.{IsScratchFault, run_fault};
+ghost use Rattle.prolly_tool.specs.Scratch.{IsScratchRefusal, run_fault};
 
 use crate::answers::answer::Answer;
 use crate::faults::Fault;
@@ -46,7 +46,7 @@ pub fn answer_scratch<S: Source, W: Sink>(
     ensures ok { (S.seen source.old).is_honest ≡ true → IfOk result (IsAnswer
         (Scratches bits version (S.seen source.old).left
         ((S.seen source.new).failures ≢ (S.seen source.old).failures))
-        (IsScratchFault bits version (S.seen source.old).left
+        (IsScratchRefusal bits version (S.seen source.old).left
         ((S.seen source.new).failures ≢ (S.seen source.old).failures))
         (λ file. IfSink (TookAll W.seen file) sink.old sink.new)
         (λ file. OfSink (TookPart W.seen file) sink.old sink.new)
@@ -83,7 +83,7 @@ fn tree_of<S: Source>(
         IfOk result (λ tree. MakesFile bits version (S.seen source.old).left
         ((S.seen source.new).failures ≢ (S.seen source.old).failures) tree.file.items tree.root.0) }
     ensures err { (S.seen source.old).is_honest ≡ true →
-        IfErr result (λ fault. IsScratchFault bits version (S.seen source.old).left
+        IfErr result (λ fault. IsScratchRefusal bits version (S.seen source.old).left
         ((S.seen source.new).failures ≢ (S.seen source.old).failures) fault) }
     ensures read { (S.seen source.new).failures ≢ (S.seen source.old).failures →
         IsErrOf result Fault.Read }

@@ -5,7 +5,7 @@ ghost use Rattle.std.specs.Prelude.{◌≡◌, ◌++◌, IfOk, OnOk};
 ghost use Rattle.prolly_check.specs.Content.{Content};
 ghost use Rattle.prolly_check.specs.Verdict.{IsFileOf};
 ghost use Rattle.std.specs.Option.{option_copied};
-ghost use Rattle.prolly_load.specs.Survey.{bytes_of};
+ghost use Rattle.prolly_load.specs.Survey.{key_bytes};
 ghost use Rattle.prolly_tool.specs.Surveys.{AreOfSurvey};
 
 use crate::answers::answer::Answer;
@@ -14,10 +14,10 @@ use crate::input::{INPUT_LIMIT, RECORD_LIMIT};
 use prolly_check::{Tree, check};
 use prolly_file::{Rejoined, Source, SourceFault, take_front};
 use prolly_load::{Survey, fault_of, survey};
-use prolly_stat::{
-    RecordNumbers, TreeNumbers, append_json, append_records, append_records_json, append_table,
+use prolly_text::{
+    Notation, RecordNumbers, TreeNumbers, append_json, append_records, append_records_json,
+    append_table,
 };
-use prolly_text::Notation;
 use std::alloc::{AllocError, Global};
 
 /// The letters with which each chunk file begins. A record file that began so would have a key of
@@ -168,7 +168,7 @@ pub(crate) fn numbers_of(survey: &Survey) -> RecordNumbers<'_>
 
 /// The key, where there is one.
 pub(crate) fn key_in(key: &Option<Vec<u8>>) -> Option<&[u8]>
-    ensures { option_copied result ≡ bytes_of key.now }
+    ensures { option_copied result ≡ key_bytes key.now }
 {
     match key {
         None => None,

@@ -3,11 +3,11 @@ ghost use Rattle.std.specs.Prelude.{◌≡◌, Some};
 ghost use Rattle.prolly_tool.specs.Faults.{fault_text, check_status, root_status, run_status};
 ghost use Rattle.prolly_tool.specs.Faults.{fault_status, side_fault_text};
 
-use crate::faults::pack_fault::{LinesFault, PackFault};
 use prolly_check::CheckFault;
 use prolly_file::SinkFault;
 use prolly_link::RunFault;
 use prolly_root::{ProofFault, RootFault};
+use prolly_text::{LinesFault, PackFault};
 use std::alloc::AllocError;
 use std::fmt;
 use std::fmt::{Display, Formatter};

@@ -1,8 +1,8 @@
 //! Numbers that one thread sends and another receives.
 ghost use Rattle.std.specs.Prelude.{◌≡◌, ◌++◌, IfOk};
 ghost use Rattle.std.specs.List.{range_with_len};
-ghost use Rattle.prolly_link.specs.declared.end.End.TheVariants.{Clean};
-ghost use Rattle.prolly_link.specs.declared.progress.Progress.TheVariants.{Ended};
+ghost use Rattle.prolly_link.specs.declared.message.End.TheVariants.{Clean};
+ghost use Rattle.prolly_link.specs.declared.message.Progress.TheVariants.{Ended};
 
 use super::gather::gather;
 use super::numbers::send_numbers;

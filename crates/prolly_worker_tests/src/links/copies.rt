@@ -1,7 +1,7 @@
 //! A worker that sends what it receives.
 ghost use Rattle.std.specs.Prelude.{◌≡◌, ◌≢◌, ◌++◌};
-ghost use Rattle.prolly_link.specs.Receipts.{HasEnded, end_given};
-ghost use Rattle.prolly_link.specs.declared.end.End.TheVariants.{Fault};
+ghost use Rattle.prolly_link.specs.Progress.{HasEnded, end_given};
+ghost use Rattle.prolly_link.specs.declared.message.End.TheVariants.{Fault};
 
 use prolly_link::{ClosedList, End, In, ListIn, ListOut, Next, Out, RunFault, receive_rest};
 use std::alloc::Global;

@@ -1,7 +1,7 @@
 //! A worker that sends numbers.
 ghost use Rattle.std.specs.Prelude.{◌≡◌, ◌++◌};
 ghost use Rattle.std.specs.List.{range_with_len};
-ghost use Rattle.prolly_link.specs.declared.end.End.TheVariants.{Clean};
+ghost use Rattle.prolly_link.specs.declared.message.End.TheVariants.{Clean};
 
 use prolly_link::{End, Out, RunFault};
 use std::sync::Wait;

@@ -3,7 +3,7 @@ ghost use Rattle.std.specs.Prelude.{◌≡◌, []};
 ghost use Rattle.prolly_entry.specs.declared.version.Version.{Version as VersionValue};
 ghost use Rattle.prolly_entry.specs.Cut.{key_cut};
 ghost use Rattle.prolly_tree.specs.Events.{leaf_events};
-ghost use Rattle.prolly_link.specs.Receipts.{end_given};
+ghost use Rattle.prolly_link.specs.Progress.{end_given};
 ghost use Rattle.prolly_stage.specs.Sends.{Sends};
 
 use prolly_entry::{KeyCut, Pair};

@@ -1,7 +1,7 @@
 use Rattle.std.proofs.Common.{◌≡◌, ◌≤◌, length, ap, sym, subst, ◌∙◌, arith}
 use Rattle.std.proofs.lemmas.Result.{IfErr-weaker}
 use Rattle.prolly_entry.specs.Overlay.{overlay}
-use Rattle.prolly_build.specs.Built.{IsBegun}
+use Rattle.prolly_build.specs.BuiltFile.{IsBegun}
 use Rattle.prolly_build.specs.Outcome.{IsOutcome}
 use Rattle.prolly_build.proofs.Makings.{at_ok, at_err, if_ok, if_ok_any}
 use Rattle.prolly_build.proofs.Runs.{lent_staged, source_run, built, not_built, not_counted}

@@ -1,7 +1,7 @@
 use Rattle.std.proofs.lemmas.Grind.{common_steps}
 use Rattle.std.proofs.Common.{rules, refl, inl, inr, arith}
 use Rattle.prolly_build.proofs.WritingSteps.{unended}
-use Rattle.prolly_build.proofs.end.end_record.end_file.Goals as goal
+use Rattle.prolly_build.proofs.end.end_file.Goals as goal
 
 pub returns-in-Err-clause-err : goal.returns-in-Err-clause-err
 returns-in-Err-clause-err g c = λ head level events old h.

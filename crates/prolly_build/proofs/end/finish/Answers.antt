@@ -3,16 +3,16 @@ use Rattle.std.proofs.lemmas.Result.{on_ok_weaker, IfErr-weaker}
 use Rattle.prolly_tree.specs.Chunk.{Chunk}
 use Rattle.prolly_tree.specs.File.{header}
 use Rattle.prolly_file.specs.Sink.{SinkView}
-use Rattle.prolly_link.specs.Receipts.{end_given}
-use Rattle.prolly_link.specs.declared.end.End.{End}
-use Rattle.prolly_link.specs.declared.end.End.TheVariants.{Clean}
+use Rattle.prolly_link.specs.Progress.{end_given}
+use Rattle.prolly_link.specs.declared.message.End.{End}
+use Rattle.prolly_link.specs.declared.message.End.TheVariants.{Clean}
 use Rattle.prolly_link.specs.declared.fault.RunFault.{RunFault}
-use Rattle.prolly_build.specs.Built.{IsInputEnd}
-use Rattle.prolly_build.specs.Writing.{HasWritten, IsEndFault}
+use Rattle.prolly_build.specs.BuiltFile.{IsInputEnd}
+use Rattle.prolly_build.specs.WriterState.{HasWritten, IsEndFault}
 use Rattle.prolly_build.proofs.RanSteps.{written_begun, ended_begun}
 use Rattle.prolly_build.proofs.Takings.{lost_is_no_memory, refused_at, stopped_at}
 use Rattle.prolly_build.proofs.Makings.{lawful_written, file_made, no_start_fault, unmade_at, if_ok}
-use Rattle.prolly_build.proofs.end.answer.finish.Goals as goal
+use Rattle.prolly_build.proofs.end.finish.Goals as goal
 
 pub end_build-requires : goal.end_build-requires
 end_build-requires g c = λ begun is clean.

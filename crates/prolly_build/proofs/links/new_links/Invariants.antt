@@ -1,5 +1,5 @@
 use Rattle.std.proofs.Common.{◌≡◌, vec_len}
-use Rattle.prolly_build.proofs.links.rings.new_links.Given as goal
+use Rattle.prolly_build.proofs.links.new_links.Given as goal
 
 abbrev pub invariant-loop : goal.invariant-loop
 invariant-loop l = vec_len l.links ≡ l.counter

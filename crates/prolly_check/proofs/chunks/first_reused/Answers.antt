@@ -1,6 +1,6 @@
 use Rattle.std.proofs.Common.{sym, ◌∙◌}
 use Rattle.prolly_check.proofs.IndexSteps.{is_passed, is_reused}
-use Rattle.prolly_check.proofs.index.first_reused.Goals as goal
+use Rattle.prolly_check.proofs.chunks.first_reused.Goals as goal
 
 pub returns-then-contains : goal.returns-then-contains
 returns-then-contains c = λ chunks are. is_reused chunks c.args.references.now are

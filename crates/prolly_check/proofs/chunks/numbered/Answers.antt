@@ -1,5 +1,5 @@
 use Rattle.prolly_check.proofs.IndexSteps.{one_numbered}
-use Rattle.prolly_check.proofs.index.numbered.Goals as goal
+use Rattle.prolly_check.proofs.chunks.numbered.Goals as goal
 
 pub loop-number-preserved : goal.loop-number-preserved
 loop-number-preserved c = one_numbered c.args.references.now c.loop-number.entries.items _

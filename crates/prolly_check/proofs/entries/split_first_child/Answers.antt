@@ -2,7 +2,7 @@ use Rattle.std.proofs.Common.{rules}
 use Rattle.prolly_check.specs.Entries.{IsChild, entry_of}
 use Rattle.prolly_check.proofs.EntryLists.{shorter, behind_first, next_child, no_next_child}
 use Rattle.prolly_check.proofs.EntryLists.{node_apart, node_less}
-use Rattle.prolly_check.proofs.node.split_first_child.Goals as goal
+use Rattle.prolly_check.proofs.entries.split_first_child.Goals as goal
 
 pub returns : goal.returns
 returns c =

@@ -1,6 +1,6 @@
 use Rattle.std.proofs.Common.{◌≡◌, take}
-use Rattle.prolly_check.specs.Numbers.{size_of}
+use Rattle.prolly_check.specs.Numbers.{chunks_size}
 use Rattle.prolly_check.proofs.numbers.size_in.Given as goal
 
 abbrev pub invariant-loop-number : goal.invariant-loop-number
-invariant-loop-number l = l.size ≡ size_of (take l.number l.chunks)
+invariant-loop-number l = l.size ≡ chunks_size (take l.number l.chunks)

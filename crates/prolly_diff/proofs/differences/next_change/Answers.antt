@@ -1,4 +1,4 @@
-use Rattle.prolly_diff.specs.Walk.{Maps, AreAlike}
+use Rattle.prolly_diff.specs.Differences.{Maps, AreAlike}
 use Rattle.prolly_diff.proofs.Walks.{alike_more, alike_one, maps_behind, removed, added, changed}
 use Rattle.prolly_diff.proofs.Walks.{differ, same, nothing_left}
 use Rattle.prolly_diff.proofs.differences.next_change.Goals as goal

@@ -1,8 +1,8 @@
 use Rattle.std.proofs.Common.{◌≡◌, ◌∷◌, subst}
 use Rattle.std.specs.Option.{option_map}
-use Rattle.prolly_diff.specs.Walk.{StartsWith, IsOrder}
+use Rattle.prolly_diff.specs.Differences.{StartsWith, IsOrder}
 use Rattle.prolly_diff.proofs.Steps.{pair_of, mapped, takes_before, takes_after, takes_both}
-use Rattle.prolly_diff.proofs.least.take_least.Goals as goal
+use Rattle.prolly_diff.proofs.differences.take_least.Goals as goal
 
 pub returns-in-Less : goal.returns-in-Less
 returns-in-Less c = rw (c.peek-2.ensures.same) (takes_before c.args.before.now c.args.after.now

@@ -1,6 +1,6 @@
 use Rattle.std.proofs.Common.{rules}
 use Rattle.prolly_entry.specs.Cut.{boundary_number}
-use Rattle.prolly_entry.proofs.boundary.boundary_number.Goals as goal
+use Rattle.prolly_entry.proofs.cut.boundary_number.Goals as goal
 
 pub returns : goal.returns
 unfolding boundary_number

@@ -1,6 +1,6 @@
 use Rattle.std.proofs.lemmas.Grind.{common_steps}
 use Rattle.std.proofs.Common.{rules, arith}
-use Rattle.prolly_entry.proofs.appending.append_parts.Goals as goal
+use Rattle.prolly_entry.proofs.spelling.append_parts.Goals as goal
 
 pub returns-clause-err : goal.returns-clause-err
 returns-clause-err c = search rules

@@ -1,6 +1,6 @@
 use Rattle.prolly_entry.specs.lemmas.Spellings.{pair_spellings_apart, record_spellings_apart}
 use Rattle.prolly_entry.specs.lemmas.Spellings.{child_spellings_apart}
-use Rattle.prolly_laws.proofs.spelling.no_spelling_begins_another.Goals as goal
+use Rattle.prolly_laws.proofs.entries.no_spelling_begins_another.Goals as goal
 
 pub returns : goal.returns
 returns c = record {

@@ -1,6 +1,6 @@
 use Rattle.std.proofs.Common.{subst, sym}
 use Rattle.prolly_line.proofs.Names.{not_strange}
-use Rattle.prolly_line.specs.Accepted.{Answers, IsAccepted, rows_in}
+use Rattle.prolly_line.specs.AcceptedWords.{Answers, IsAccepted, rows_in}
 use Rattle.prolly_line.proofs.command.command_of.Goals as goal
 
 pub unreachable-requires : goal.unreachable-requires

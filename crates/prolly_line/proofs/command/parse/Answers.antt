@@ -1,6 +1,6 @@
 use Rattle.std.proofs.Common.{ap, map, option_map, string_bytes, sym, ◌∙◌}
 use Rattle.prolly_line.proofs.LineLemmas.{answers_words, entered_at, limits_kept, refused_by}
-use Rattle.prolly_line.specs.Accepted.{rows_in}
+use Rattle.prolly_line.specs.AcceptedWords.{rows_in}
 use Rattle.prolly_line.proofs.command.parse.Goals as goal
 
 pub returns-in-Err-clause-refused : goal.returns-in-Err-clause-refused

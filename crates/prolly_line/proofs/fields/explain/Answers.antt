@@ -1,5 +1,5 @@
 use Rattle.prolly_line.proofs.Shapes.{takes_explain}
-use Rattle.prolly_line.specs.Accepted.{rows_in}
+use Rattle.prolly_line.specs.AcceptedWords.{rows_in}
 use Rattle.prolly_line.proofs.fields.explain.Goals as goal
 
 pub text_of-requires : goal.text_of-requires

@@ -1,5 +1,5 @@
 use Rattle.prolly_line.proofs.Shapes.{takes_get}
-use Rattle.prolly_line.specs.Accepted.{rows_in}
+use Rattle.prolly_line.specs.AcceptedWords.{rows_in}
 use Rattle.prolly_line.proofs.fields.get.Goals as goal
 
 pub trusted_key-requires : goal.trusted_key-requires

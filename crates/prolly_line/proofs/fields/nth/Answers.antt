@@ -1,8 +1,8 @@
 use Rattle.std.proofs.Common.{arith, codes, refl, subst, sym}
 use Rattle.prolly_line.proofs.Shapes.{takes_nth}
 use Rattle.prolly_line.proofs.ValueLemmas.{HasNumber-wider}
-use Rattle.prolly_line.specs.Given.{GivesNumber}
-use Rattle.prolly_line.specs.Accepted.{rows_in}
+use Rattle.prolly_line.specs.GivenCommand.{GivesNumber}
+use Rattle.prolly_line.specs.AcceptedWords.{rows_in}
 use Rattle.prolly_line.proofs.fields.nth.Goals as goal
 
 pub trust_of-requires : goal.trust_of-requires

@@ -1,5 +1,5 @@
 use Rattle.prolly_line.proofs.Shapes.{takes_prove}
-use Rattle.prolly_line.specs.Accepted.{rows_in}
+use Rattle.prolly_line.specs.AcceptedWords.{rows_in}
 use Rattle.prolly_line.proofs.fields.prove.Goals as goal
 
 pub key_of-requires : goal.key_of-requires

@@ -1,7 +1,7 @@
 use Rattle.std.proofs.Common.{arith, codes, refl}
 use Rattle.prolly_line.proofs.Shapes.{takes_verify}
 use Rattle.prolly_line.proofs.ValueLemmas.{HasNumber-wider}
-use Rattle.prolly_line.specs.Accepted.{rows_in}
+use Rattle.prolly_line.specs.AcceptedWords.{rows_in}
 use Rattle.prolly_line.proofs.fields.verify.Goals as goal
 
 pub root_of-requires : goal.root_of-requires

@@ -3,7 +3,7 @@ use Rattle.std.proofs.lemmas.Bool.{false≢true}
 use Rattle.std.proofs.lemmas.Slice.Eq.{bytes_eq-Decides}
 use Rattle.clap.specs.Words.{first_of, found_of}
 use Rattle.clap.proofs.WalkLemmas.{first_value-rows}
-use Rattle.prolly_line.specs.Accepted.{rows_in}
+use Rattle.prolly_line.specs.AcceptedWords.{rows_in}
 use Rattle.prolly_line.proofs.values.flag_of.Goals as goal
 
 pub returns-in-Some : goal.returns-in-Some

@@ -1,8 +1,8 @@
 use Rattle.std.proofs.Common.{◌≡◌, ◌∙◌, None, Some, arith, codes, subst, sym}
 use Rattle.clap.specs.Words.{first_of, found_of}
 use Rattle.clap.proofs.WalkLemmas.{first_value-rows}
-use Rattle.prolly_line.specs.Accepted.{rows_in}
-use Rattle.prolly_line.specs.Given.{MayGiveRoot}
+use Rattle.prolly_line.specs.AcceptedWords.{rows_in}
+use Rattle.prolly_line.specs.GivenCommand.{MayGiveRoot}
 use Rattle.prolly_line.proofs.values.trust_of.Goals.{in-None, in-Some+in_ok-root_of-in-Some}
 use Rattle.prolly_line.proofs.values.trust_of.Goals as goal
 

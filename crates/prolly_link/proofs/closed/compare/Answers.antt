@@ -1,9 +1,9 @@
 use Rattle.std.proofs.Common.{◌≡◌, true, ◌∙◌, ap}
 use Rattle.rtrb.specs.Ring.{sent as pushed, received as popped, known_items}
-use Rattle.prolly_link.specs.Agreement.{Agrees}
-use Rattle.prolly_link.specs.Messages.{items_in, is_open}
+use Rattle.prolly_link.specs.Receiver.{Agrees}
+use Rattle.prolly_link.specs.Message.{items_in, is_open}
 use Rattle.prolly_link.proofs.PassingLemmas.{items_begin, not_ended, received_of_open}
-use Rattle.prolly_link.proofs.comparing.compare.Goals as goal
+use Rattle.prolly_link.proofs.closed.compare.Goals as goal
 
 pub returns-clause-passed : goal.returns-clause-passed
 returns-clause-passed g c =

@@ -1,9 +1,9 @@
 use Rattle.std.proofs.Common.{◌≡◌, true, ◌∙◌, ap}
 use Rattle.rtrb.specs.Ring.{sent as pushed, received as popped, known_items}
-use Rattle.prolly_link.specs.Agreement.{Agrees}
-use Rattle.prolly_link.specs.Messages.{items_in, is_closed, end_in}
+use Rattle.prolly_link.specs.Receiver.{Agrees}
+use Rattle.prolly_link.specs.Message.{items_in, is_closed, end_in}
 use Rattle.prolly_link.proofs.PassingLemmas.{items_begin, ended_whole, received_of_closed}
-use Rattle.prolly_link.proofs.comparing.compare_closed.Goals as goal
+use Rattle.prolly_link.proofs.closed.compare_closed.Goals as goal
 
 pub returns-clause-passed : goal.returns-clause-passed
 returns-clause-passed g c =

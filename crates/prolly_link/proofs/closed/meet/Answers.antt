@@ -1,9 +1,9 @@
 use Rattle.std.proofs.Common.{◌≡◌, ◌∙◌, ap, sym}
 use Rattle.rtrb.specs.Ring.{sent as pushed, received as popped, known_items}
 use Rattle.prolly_link.specs.Identity.{consumer_link, producer_link}
-use Rattle.prolly_link.specs.Messages.{is_closed}
+use Rattle.prolly_link.specs.Message.{is_closed}
 use Rattle.prolly_link.proofs.MessageLemmas.{closed_is_whole, same_whole}
-use Rattle.prolly_link.proofs.meeting.meet.Goals as goal
+use Rattle.prolly_link.proofs.closed.meet.Goals as goal
 
 pub returns-clause-sent : goal.returns-clause-sent
 returns-clause-sent g c =

@@ -1,5 +1,5 @@
 use Rattle.std.proofs.Common.{◌∙◌, rules}
-use Rattle.prolly_link.proofs.rest.receive_rest.Goals as goal
+use Rattle.prolly_link.proofs.ends.receive_rest.Goals as goal
 
 pub loop-preserved-in-Item : goal.loop-preserved-in-Item
 loop-preserved-in-Item g c = (

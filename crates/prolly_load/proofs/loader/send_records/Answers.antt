@@ -1,12 +1,12 @@
 use Rattle.std.proofs.lemmas.Grind.{common_steps}
 use Rattle.std.proofs.Common.{rules, ◌≡◌, ◌∙◌, refl, ap, None, [], ◌∷◌, ◌++◌, arith}
 use Rattle.std.proofs.lemmas.List.{nil_from_length}
-use Rattle.prolly_load.specs.Buffered.{Buffered}
+use Rattle.prolly_load.specs.Buffer.{Buffered}
 use Rattle.prolly_load.proofs.UnderWay.{none_sent, one_sent, more_read, nothing_read, record_taken}
 use Rattle.prolly_load.proofs.UnderWay.{flaw_taken, nothing_taken, gains_none, still_undecided}
 use Rattle.prolly_load.proofs.LoadEnds.{memory_ends, refused_ends, flaw_ends, clean_ends, cut_ends}
 use Rattle.prolly_load.proofs.LoadEnds.{read_ends}
-use Rattle.prolly_load.proofs.sending.send_records.Goals as goal
+use Rattle.prolly_load.proofs.loader.send_records.Goals as goal
 
 -- ---- before the first record
 

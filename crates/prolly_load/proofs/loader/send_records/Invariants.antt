@@ -1,6 +1,6 @@
 use Rattle.std.proofs.Common.{◌≡◌, ◌+◌, ◌-◌, ◌*◌, true, length}
 use Rattle.prolly_load.proofs.UnderWay.{IsUnderWay}
-use Rattle.prolly_load.proofs.sending.send_records.Given as goal
+use Rattle.prolly_load.proofs.loader.send_records.Given as goal
 
 abbrev pub invariant-loop-record : goal.invariant-loop-record
 invariant-loop-record g l = record {

@@ -1,13 +1,14 @@
 use Rattle.std.proofs.Common.{rules, ◌≡◌, ◌∙◌, Some, refl, sym, ap, subst, arith}
 use Rattle.std.specs.Option.{option_or}
-use Rattle.prolly_load.specs.Buffered.{Buffered}
-use Rattle.prolly_load.specs.Survey.{bytes_of}
-use Rattle.prolly_load.specs.Telling.{HasToldKey, Tells}
-use Rattle.prolly_load.proofs.Surveys.{IsSurveying, none_passed, one_passed, more_came, has_room, flaw_told}
+use Rattle.prolly_load.specs.Buffer.{Buffered}
+use Rattle.prolly_load.specs.Survey.{key_bytes}
+use Rattle.prolly_load.specs.Tally.{HasToldKey, Tells}
+use Rattle.prolly_load.proofs.Surveys.{IsSurveying, none_passed, one_passed, more_came, has_room}
+use Rattle.prolly_load.proofs.Surveys.{flaw_told}
 use Rattle.prolly_load.proofs.Surveys.{end_told}
 use Rattle.prolly_load.proofs.ToldKeys.{has_told_key}
 use Rattle.prolly_load.proofs.UnderWay.{gains_none, still_undecided}
-use Rattle.prolly_load.proofs.surveying.pass_records.Goals as goal
+use Rattle.prolly_load.proofs.surveyor.skip_records.Goals as goal
 
 pub loop-removes-init : goal.loop-removes-init
 loop-removes-init g c = record {
@@ -39,13 +40,13 @@ loop-removes-preserved-in-Continue-1 g c =
     let l = c.loop-removes in
     let counted = c.in_ok-count-in-Record.ensures in record {
       surveying = one_passed _ _ c.in-Record.len c.in-Record.removes l.tally c.count.new.self
-          l.buffer c.pass_record.new.buffer _ _ l.invariant.surveying c.in-Record.ensures
+          l.buffer c.skip_record.new.buffer _ _ l.invariant.surveying c.in-Record.ensures
           (record {
             records = counted.records;
             removals = counted.removals;
             bytes = counted.bytes;
             first_key = counted.first_key ∙
-                ap (option_or (bytes_of l.tally.first_key)) c.last_key.ensures;
+                ap (option_or (key_bytes l.tally.first_key)) c.last_key.ensures;
           });
       honest = l.invariant.honest;
       steady = l.invariant.steady;
@@ -70,11 +71,11 @@ returns-in-Ok-eq0-clause-ok g c =
     let none : c.in-Ok-eq0.field-0 ≡ 0 = search rules in
     let same = gains_none c.in-Ok-eq0.field-0 (g.S.Source.seen l.source).is_honest
     (g.S.Source.seen l.source).left (g.S.Source.seen c.fill.new.source).left
-    c.pass_record.new.buffer.unparsed c.fill.new.self.unparsed c.in-Ok-eq0.ensures.fills none in
+    c.skip_record.new.buffer.unparsed c.fill.new.self.unparsed c.in-Ok-eq0.ensures.fills none in
     λ o survey tells. end_told _ _ _ _ _ _ survey
     (more_came _ _ _ _ _ _ _ _ _ _ _ l.invariant.surveying c.in-Nothing.ensures.1
     c.in-Ok-eq0.ensures.fills c.fill.ensures.last_key l.invariant.honest)
-    (still_undecided c.args.limit l.tally.records l.buffer c.pass_record.new.buffer c.fill.new.self
+    (still_undecided c.args.limit l.tally.records l.buffer c.skip_record.new.buffer c.fill.new.self
     (record { undecided = c.in-Nothing.ensures.0; same = c.in-Nothing.ensures.1 })
     c.fill.ensures.last_key same)
     (λ o. c.in-Ok-eq0.ensures.fills.over (l.invariant.honest o) none)

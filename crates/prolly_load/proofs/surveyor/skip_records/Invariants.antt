@@ -1,6 +1,6 @@
 use Rattle.std.proofs.Common.{◌≡◌, ◌+◌, ◌-◌, ◌*◌, true, length}
 use Rattle.prolly_load.proofs.Surveys.{IsSurveying}
-use Rattle.prolly_load.proofs.surveying.pass_records.Given as goal
+use Rattle.prolly_load.proofs.surveyor.skip_records.Given as goal
 
 abbrev pub invariant-loop-removes : goal.invariant-loop-removes
 invariant-loop-removes g l = record {

@@ -1,12 +1,12 @@
 use Rattle.std.proofs.Common.{◌≡◌, ◌<◌, ◌∙◌, sym, length, get_or, slice_set, refl, subst, arith}
 use Rattle.std.proofs.lemmas.Option.{slice_get-get_or}
 use Rattle.prolly_merge.specs.Each.{EachUpto}
-use Rattle.prolly_merge.specs.Heads.{IsHeld}
-use Rattle.prolly_merge.specs.PeekedInputs.{peeked_of, Finishes}
+use Rattle.prolly_merge.specs.Head.{IsHeld}
+use Rattle.prolly_merge.specs.Peeked.{peeked_of, Finishes}
 use Rattle.prolly_merge.proofs.EachLemmas.{upto_next, upto_get, upto_at, upto_all}
 use Rattle.prolly_merge.proofs.Peeks.{peeked_some, read_same, inputs_are}
 use Rattle.prolly_merge.proofs.Finishes.{held_get, finishes_same}
-use Rattle.prolly_merge.proofs.ending.finish_all.Goals as goal
+use Rattle.prolly_merge.proofs.heads.finish_all.Goals as goal
 
 pub loop-i-init : goal.loop-i-init
 loop-i-init g c = inputs_are c.args.inputs.now c.args.heads.now c.requires.len

@@ -1,7 +1,7 @@
 use Rattle.std.proofs.Common.{◌≡◌}
 use Rattle.prolly_merge.specs.Each.{EachUpto}
-use Rattle.prolly_merge.specs.PeekedInputs.{peeked_of, Finishes}
-use Rattle.prolly_merge.proofs.ending.finish_all.Given as goal
+use Rattle.prolly_merge.specs.Peeked.{peeked_of, Finishes}
+use Rattle.prolly_merge.proofs.heads.finish_all.Given as goal
 
 abbrev pub invariant-loop-i : goal.invariant-loop-i
 invariant-loop-i g l =

@@ -1,7 +1,7 @@
 use Rattle.std.proofs.Common.{◌≡◌, ◌∙◌, ap, ◌+◌, ◌<◌, length, get_or, arith}
 use Rattle.std.proofs.lemmas.Option.{slice_get-get_or}
 use Rattle.prolly_merge.proofs.Openings.{open_at, open_all}
-use Rattle.prolly_merge.proofs.opening.receive_heads.Goals as goal
+use Rattle.prolly_merge.proofs.heads.receive_heads.Goals as goal
 
 pub loop-input-preserved : goal.loop-input-preserved
 loop-input-preserved g c =

@@ -1,7 +1,7 @@
 use Rattle.std.proofs.Common.{◌≡◌, ◌≤◌, length}
 use Rattle.std.specs.Prelude.{vec_len, vec_capacity}
 use Rattle.prolly_merge.proofs.Openings.{FirstOpen}
-use Rattle.prolly_merge.proofs.opening.receive_heads.Given as goal
+use Rattle.prolly_merge.proofs.heads.receive_heads.Given as goal
 
 abbrev pub invariant-loop-input : goal.invariant-loop-input
 invariant-loop-input g l = record {

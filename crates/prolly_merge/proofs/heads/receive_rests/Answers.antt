@@ -3,7 +3,7 @@ use Rattle.std.proofs.lemmas.Option.{slice_get-get_or}
 use Rattle.prolly_merge.specs.Each.{EachUpto}
 use Rattle.prolly_merge.specs.Inputs.{Ends}
 use Rattle.prolly_merge.proofs.EachLemmas.{each_self, upto_next, upto_at, upto_all}
-use Rattle.prolly_merge.proofs.ending.receive_rests.Goals as goal
+use Rattle.prolly_merge.proofs.heads.receive_rests.Goals as goal
 
 pub loop-input-init : goal.loop-input-init
 loop-input-init g c = each_self (λ old new. new ≡ old) c.args.inputs.now (λ n. refl)

@@ -1,7 +1,7 @@
 use Rattle.std.proofs.Common.{◌≡◌}
 use Rattle.prolly_merge.specs.Each.{EachUpto}
 use Rattle.prolly_merge.specs.Inputs.{Ends}
-use Rattle.prolly_merge.proofs.ending.receive_rests.Given as goal
+use Rattle.prolly_merge.proofs.heads.receive_rests.Given as goal
 
 abbrev pub invariant-loop-input : goal.invariant-loop-input
 invariant-loop-input g l =

@@ -4,8 +4,8 @@ use Rattle.prolly_entry.specs.Overlay.{AllRising}
 use Rattle.prolly_tree.specs.Merge.{merged_part}
 use Rattle.prolly_merge.specs.Each.{Each}
 use Rattle.prolly_merge.specs.Inputs.{inputs_of, lists_of, stop_end}
-use Rattle.prolly_merge.specs.PeekedInputs.{peeked_of, AllHeld, places_after, Opens, Finishes}
-use Rattle.prolly_merge.specs.Sent.{Sends}
+use Rattle.prolly_merge.specs.Peeked.{peeked_of, AllHeld, places_after, Opens, Finishes}
+use Rattle.prolly_merge.specs.Merged.{SendsAll}
 use Rattle.prolly_merge.proofs.Peeks.{written}
 use Rattle.prolly_merge.proofs.Places.{sends_pairs}
 use Rattle.prolly_merge.proofs.Finishes.{open_held, advance_held, rest_of, are_finished}
@@ -74,7 +74,7 @@ returns g c =
       inputs = all.ends;
       out_link = closed.link ∙ e.out_link;
       pairs = (e.pairs.0, closed.sent ∙ e.pairs.1, e.pairs.2);
-      merged = subst (λ is. AllRising (lists_of is) → Sends (g.O.Out.sent c.args.out)
+      merged = subst (λ is. AllRising (lists_of is) → SendsAll (g.O.Out.sent c.args.out)
           (merged_part is) (stop_end is) sent end_sent) all.whole
           (sends_pairs (places_after g.I.In.received os ms) (g.O.Out.sent c.args.out) sent
           e.halts.0 c.send_many-pairs.result.1 end_sent e.halts.2 (closed.sent ∙ e.halts.1)

@@ -1,7 +1,7 @@
 use Rattle.std.proofs.Common.{[], ◌∷◌, ◌++◌, inl, inr, refl, sym, ap, ◌∙◌, append_assoc}
 use Rattle.std.proofs.lemmas.List.{append-nil}
 use Rattle.prolly_entry.specs.Overlay.{pairs_put, pairs_of_change}
-use Rattle.prolly_merge.specs.PeekedInputs.{peeked_of}
+use Rattle.prolly_merge.specs.Peeked.{peeked_of}
 use Rattle.prolly_merge.proofs.Counts.{count_none, count_more}
 use Rattle.prolly_merge.proofs.Places.{pairs_more}
 use Rattle.prolly_merge.proofs.Steps.{all_stay, start, step_sends, step_advances, step_stops}

@@ -2,9 +2,9 @@ use Rattle.std.proofs.Common.{◌≡◌, ◌++◌, List}
 use Rattle.prolly_entry.specs.Record.{Record}
 use Rattle.prolly_entry.specs.Overlay.{pairs_put}
 use Rattle.prolly_merge.specs.Each.{Each}
-use Rattle.prolly_merge.specs.PeekedInputs.{peeked_of, Advances, places_after}
+use Rattle.prolly_merge.specs.Peeked.{peeked_of, Advances, places_after}
 use Rattle.prolly_merge.specs.Places.{ComeFirst}
-use Rattle.prolly_merge.specs.Sent.{Counts}
+use Rattle.prolly_merge.specs.Merged.{Counts}
 use Rattle.prolly_merge.proofs.many.send_many.Given as goal
 
 abbrev pub invariant-loop : goal.invariant-loop

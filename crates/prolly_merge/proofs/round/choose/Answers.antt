@@ -1,12 +1,12 @@
 use Rattle.std.proofs.lemmas.Grind.{common_steps}
 use Rattle.std.proofs.Common.{◌≡◌, ◌+◌, Some, length, take, refl, sym, ap, ◌∙◌, subst, rules, arith}
 use Rattle.std.proofs.lemmas.Option.{slice_get_read}
-use Rattle.prolly_link.specs.declared.end.End.TheVariants.{Fault}
-use Rattle.prolly_merge.specs.declared.head.Head.TheVariants.{Ended}
-use Rattle.prolly_merge.specs.Choices.{IsLeast}
+use Rattle.prolly_link.specs.declared.message.End.TheVariants.{Fault}
+use Rattle.prolly_merge.specs.declared.heads.Head.TheVariants.{Ended}
+use Rattle.prolly_merge.specs.Choice.{IsLeast}
 use Rattle.prolly_merge.proofs.Choices.{least_ended, first_fault}
-use Rattle.prolly_merge.proofs.choice.choose.Goals as goal
-use Rattle.prolly_merge.proofs.choice.choose.Goals.{in-Ready, in-Ended-Clean}
+use Rattle.prolly_merge.proofs.round.choose.Goals as goal
+use Rattle.prolly_merge.proofs.round.choose.Goals.{in-Ready, in-Ended-Clean}
 
 pub returns-in-Ended-Fault : goal.returns-in-Ended-Fault
 returns-in-Ended-Fault c =

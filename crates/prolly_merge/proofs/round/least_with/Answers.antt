@@ -1,11 +1,11 @@
 use Rattle.std.proofs.Common.{◌<◌, length, take, subst, rules}
 use Rattle.std.proofs.lemmas.Option.{slice_get_within}
 use Rattle.std.specs.declared.cmp.Ordering.TheVariants.{Less, Equal, Greater}
-use Rattle.prolly_merge.specs.declared.head.Head.TheVariants.{Ready}
-use Rattle.prolly_merge.specs.Choices.{IsLeast}
+use Rattle.prolly_merge.specs.declared.heads.Head.TheVariants.{Ready}
+use Rattle.prolly_merge.specs.Choice.{IsLeast}
 use Rattle.prolly_merge.proofs.Choices.{least_first, least_less, least_equal, least_keeps}
 use Rattle.prolly_merge.proofs.Choices.{chosen_get, chosen_is, chosen_not, keys_compare}
-use Rattle.prolly_merge.proofs.choice.least_with.Goals as goal
+use Rattle.prolly_merge.proofs.round.least_with.Goals as goal
 
 pub returns-in_default : goal.returns-in_default
 returns-in_default c = least_first c.args.heads.now c.args.at c.args.next.now c.requires.head

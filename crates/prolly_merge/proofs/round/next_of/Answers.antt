@@ -1,6 +1,6 @@
 use Rattle.std.proofs.Common.{get_or, sym, ap, ◌∙◌, subst}
 use Rattle.std.proofs.lemmas.Option.{slice_get-get_or}
-use Rattle.prolly_merge.specs.Heads.{in_hand, IsHeld}
+use Rattle.prolly_merge.specs.Head.{in_hand, IsHeld}
 use Rattle.prolly_merge.proofs.Peeks.{peeked, peeked_get, peeked_set}
 use Rattle.prolly_merge.proofs.round.next_of.Goals as goal
 

@@ -1,6 +1,6 @@
 use Rattle.std.proofs.Common.{refl, sym, subst}
-use Rattle.prolly_merge.specs.Heads.{Stops}
-use Rattle.prolly_merge.specs.Choices.{IsChoice}
+use Rattle.prolly_merge.specs.Head.{Stops}
+use Rattle.prolly_merge.specs.Choice.{IsChoice}
 use Rattle.prolly_merge.proofs.Peeks.{heads_are}
 use Rattle.prolly_merge.proofs.round.next_of_many.Goals as goal
 

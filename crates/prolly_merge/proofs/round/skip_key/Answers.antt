@@ -1,6 +1,6 @@
 use Rattle.std.proofs.Common.{◌≡◌, ◌<◌, true, false, length, slice_set, refl, sym, ap, ◌∙◌, arith}
-use Rattle.prolly_merge.specs.Heads.{has_key}
-use Rattle.prolly_merge.specs.PeekedInputs.{peeked_of}
+use Rattle.prolly_merge.specs.Head.{has_key}
+use Rattle.prolly_merge.specs.Peeked.{peeked_of}
 use Rattle.prolly_merge.proofs.EachLemmas.{each_self, upto_next, upto_skip, upto_at}
 use Rattle.prolly_merge.proofs.Peeks.{peeked_some, read_same}
 use Rattle.prolly_merge.proofs.Rounds.{Move, Stay, due_moves, other_stays}

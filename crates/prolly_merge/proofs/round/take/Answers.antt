@@ -1,8 +1,8 @@
 use Rattle.std.proofs.Common.{◌≡◌, ◌<◌, length, slice_set, sym, ◌∙◌, subst, arith}
 use Rattle.prolly_merge.specs.Each.{EachUpto}
-use Rattle.prolly_merge.specs.PeekedInputs.{peeked_of}
-use Rattle.prolly_merge.specs.Steps.{MovesOn}
-use Rattle.prolly_merge.specs.Choices.{IsChosen, IsFirst, IsFirstUnless}
+use Rattle.prolly_merge.specs.Peeked.{peeked_of}
+use Rattle.prolly_merge.specs.Step.{MovesOn}
+use Rattle.prolly_merge.specs.Choice.{IsChosen, IsFirstHead, IsFirstUnless}
 use Rattle.prolly_merge.proofs.Peeks.{heads_are}
 use Rattle.prolly_merge.proofs.Rounds.{chosen_head, chosen_within, chosen_same, chosen_not_ended}
 use Rattle.prolly_merge.proofs.Rounds.{round_step, first_stays}
@@ -66,7 +66,7 @@ returns-else-least g c =
     let r = c.in-Ready.record in
     let same = chosen_same l.0 r e.0.head c.next_of.result (chosen_head ns hs at l.0 e.0 l.1 e.2)
     e.4 c.in-Ready.is in
-    let first : IsFirst at hs r = subst (IsFirst at hs) same
+    let first : IsFirstHead at hs r = subst (IsFirstHead at hs) same
     (subst (λ b. IsFirstUnless b at hs l.0) c.if-least.false l.2) in
     round_step g.I.In.link g.I.In.progress g.I.In.Follows g.I.In.received g.met.I.In.stays
     g.met.I.In.received_none at r ns hs e.0 e.1
@@ -76,4 +76,4 @@ returns-else-least g c =
     (λ old new. new ≡ old) at (slice_set (peeked_of ns hs) at e.1)) (sym e.3)
     (first_stays g.I.In.link g.I.In.progress g.I.In.Follows g.I.In.received g.met.I.In.stays
     g.met.I.In.received_none at r (peeked_of ns hs) e.1
-    (subst (λ xs. IsFirst at xs r) (sym (heads_are ns hs c.requires.inputs)) first)))
+    (subst (λ xs. IsFirstHead at xs r) (sym (heads_are ns hs c.requires.inputs)) first)))

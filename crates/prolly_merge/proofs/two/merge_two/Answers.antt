@@ -2,8 +2,8 @@ use Rattle.std.proofs.Common.{[], ◌∷◌, ◌∙◌, subst}
 use Rattle.prolly_entry.specs.Overlay.{AllRising}
 use Rattle.prolly_tree.specs.Merge.{raw_merged_part}
 use Rattle.prolly_merge.specs.Inputs.{lists_of, stop_end}
-use Rattle.prolly_merge.specs.PeekedInputs.{places_after}
-use Rattle.prolly_merge.specs.Sent.{Sends}
+use Rattle.prolly_merge.specs.Peeked.{places_after}
+use Rattle.prolly_merge.specs.Merged.{SendsAll}
 use Rattle.prolly_merge.proofs.Places.{sends_records}
 use Rattle.prolly_merge.proofs.Finishes.{are_finished, rest_of}
 use Rattle.prolly_merge.proofs.two.merge_two.Goals as goal
@@ -27,7 +27,7 @@ returns g c =
       right = all.ends.1.0;
       out_link = c.close-out.ensures.link ∙ e.out_link;
       items = (e.items.0, c.close-out.ensures.sent ∙ e.items.1, e.items.2);
-      merged = subst (λ is. AllRising (lists_of is) → Sends sent (raw_merged_part is) (stop_end is)
+      merged = subst (λ is. AllRising (lists_of is) → SendsAll sent (raw_merged_part is) (stop_end is)
           all_sent end_sent) all.whole
           (sends_records (places_after g.I.In.received os ms) sent all_sent e.halts.0
           c.send_two-items.result.1 end_sent e.halts.2

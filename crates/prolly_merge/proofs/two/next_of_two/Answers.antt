@@ -1,7 +1,7 @@
 use Rattle.std.proofs.Common.{◌≡◌, sym, ◌∙◌, subst}
-use Rattle.prolly_merge.specs.PeekedInputs.{Advances}
-use Rattle.prolly_merge.specs.Heads.{in_hand}
-use Rattle.prolly_merge.specs.Turns.{IsTurn}
+use Rattle.prolly_merge.specs.Peeked.{Advances}
+use Rattle.prolly_merge.specs.Head.{in_hand}
+use Rattle.prolly_merge.specs.Turn.{IsTurn}
 use Rattle.prolly_merge.proofs.Turns.{step_left, step_right, step_both}
 use Rattle.prolly_merge.proofs.two.next_of_two.Goals as goal
 use Rattle.prolly_merge.proofs.two.next_of_two.Goals.{in-Left, in-Right, in-Both}

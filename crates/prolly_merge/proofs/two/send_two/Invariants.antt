@@ -1,9 +1,9 @@
 use Rattle.std.proofs.Common.{◌≡◌, ◌++◌, List, [], ◌∷◌}
 use Rattle.prolly_entry.specs.Record.{Record}
 use Rattle.prolly_merge.specs.Each.{Each}
-use Rattle.prolly_merge.specs.PeekedInputs.{Advances, places_after}
+use Rattle.prolly_merge.specs.Peeked.{Advances, places_after}
 use Rattle.prolly_merge.specs.Places.{ComeFirst}
-use Rattle.prolly_merge.specs.Sent.{Counts}
+use Rattle.prolly_merge.specs.Merged.{Counts}
 use Rattle.prolly_merge.proofs.two.send_two.Given as goal
 
 abbrev pub invariant-loop : goal.invariant-loop

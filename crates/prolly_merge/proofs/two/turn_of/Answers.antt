@@ -1,7 +1,7 @@
 use Rattle.std.proofs.Common.{sym, ◌∙◌, ap, rules}
 use Rattle.prolly_entry.specs.Keys.{key_order}
 use Rattle.prolly_merge.proofs.Turns.{left_is_less}
-use Rattle.prolly_merge.proofs.turn.turn_of.Goals as goal
+use Rattle.prolly_merge.proofs.two.turn_of.Goals as goal
 
 pub returns-in-Less : goal.returns-in-Less
 returns-in-Less c =

@@ -1,5 +1,5 @@
 use Rattle.std.proofs.Common.{◌≡◌, ◌⊎◌, inl, inr}
-use Rattle.prolly_check.specs.Judged.{chunk_bytes}
+use Rattle.prolly_check.specs.FirstFault.{chunk_bytes}
 use Rattle.prolly_check.specs.Way.{Clash}
 use Rattle.prolly_tree.specs.LookUp.{find}
 use Rattle.prolly_root.specs.ProofFile.{ShowsClash}

@@ -1,6 +1,6 @@
 use Rattle.std.proofs.Common.{◌∷◌, [], ◌∙◌, refl, subst, inl, inr}
 use Rattle.std.proofs.lemmas.Result.{on_ok_weaker, on_err_weaker}
-use Rattle.prolly_stage.specs.Taking.{SendsNode, SendsNodeInPart}
+use Rattle.prolly_stage.specs.StageStep.{SendsNode, SendsNodeInPart}
 use Rattle.prolly_stage.specs.lemmas.Steps.{on_err, sent_both}
 use Rattle.prolly_stage.proofs.inner.take_event.Goals as goal
 

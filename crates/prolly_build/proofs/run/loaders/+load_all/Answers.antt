@@ -1,6 +1,6 @@
 use Rattle.std.proofs.lemmas.Grind.{common_steps}
 use Rattle.std.proofs.Common.{refl, length, ap, arith}
-use Rattle.prolly_build.specs.Ran.{IsUnsent}
+use Rattle.prolly_build.specs.RunResult.{IsUnsent}
 use Rattle.prolly_build.proofs.FirstOnes.{all_first, all_rest}
 use Rattle.prolly_build.proofs.RanSteps.{nothing_begun}
 use Rattle.prolly_build.proofs.run.loaders.+load_all.Goals as goal

@@ -2,11 +2,11 @@ use Rattle.std.proofs.Common.{ap, ◌∙◌, sym, arith, refl}
 use Rattle.std.proofs.lemmas.Result.{err_from_is_err_and, on_ok_weaker}
 use Rattle.prolly_entry.specs.Record.{Record}
 use Rattle.prolly_link.specs.Views.{Batching, Whole}
-use Rattle.prolly_build.specs.Ran.{IsUnsent}
+use Rattle.prolly_build.specs.RunResult.{IsUnsent}
 use Rattle.prolly_build.proofs.ForkSteps.{forked_one, forked_all, forked_maps, same_length}
 use Rattle.prolly_build.proofs.RanSteps.{nothing_begun, unmet_hands_on}
 use Rattle.prolly_build.proofs.FeedingSteps.{fed_by_loaders, fed_by_merger, merges_met}
-use Rattle.prolly_build.proofs.run.merger_tree.+merge_tree.Goals as goal
+use Rattle.prolly_build.proofs.run.mergers.+merge_tree.Goals as goal
 
 pub returns-in_default-start : goal.returns-in_default-start
 returns-in_default-start g t c = record {

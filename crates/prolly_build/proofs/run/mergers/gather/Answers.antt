@@ -1,6 +1,6 @@
 use Rattle.std.proofs.Common.{◌∙◌, refl, ap, arith}
 use Rattle.prolly_build.proofs.RanSteps.{nothing_begun, unmet_hands_on}
-use Rattle.prolly_build.proofs.run.last_merger.gather.Goals as goal
+use Rattle.prolly_build.proofs.run.mergers.gather.Goals as goal
 
 pub returns-in_default : goal.returns-in_default
 returns-in_default g c = record {

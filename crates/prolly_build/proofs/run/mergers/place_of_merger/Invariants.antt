@@ -1,5 +1,5 @@
 use Rattle.std.proofs.Common.{◌≡◌, ◌+◌, ◌<◌}
-use Rattle.prolly_build.proofs.run.merger_place.place_of_merger.Given as goal
+use Rattle.prolly_build.proofs.run.mergers.place_of_merger.Given as goal
 
 abbrev pub invariant-loop-width : goal.invariant-loop-width
 invariant-loop-width l = (l.place + l.fn.files ≡ l.fn.number + l.width) × (l.place + 2 < l.width)

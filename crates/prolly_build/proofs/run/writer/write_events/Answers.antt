@@ -1,6 +1,6 @@
 use Rattle.std.proofs.Common.{rules, ◌++◌, List, ap, ◌∙◌, append-nil}
 use Rattle.prolly_tree.specs.Chunk.{Chunk}
-use Rattle.prolly_link.specs.Receipts.{given_items}
+use Rattle.prolly_link.specs.Progress.{given_items}
 use Rattle.prolly_build.proofs.WritingSteps.{written_of}
 use Rattle.prolly_build.proofs.run.writer.write_events.Goals as goal
 

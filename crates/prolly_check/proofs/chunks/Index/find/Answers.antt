@@ -2,9 +2,9 @@ use Rattle.std.proofs.Common.{◌<◌, get_or, length, sym, subst, ◌∙◌, ap
 use Rattle.std.proofs.lemmas.List.Sorted.{answers_always}
 use Rattle.prolly_entry.specs.Keys.{key_order}
 use Rattle.prolly_entry.specs.lemmas.Orders.{order_same}
-use Rattle.prolly_check.specs.Checked.{HasAt}
+use Rattle.prolly_check.specs.Chunks.{HasAt}
 use Rattle.prolly_check.proofs.IndexSteps.{each_right, search_ends}
-use Rattle.prolly_check.proofs.index.Index.find.Goals as goal
+use Rattle.prolly_check.proofs.chunks.Index.find.Goals as goal
 
 pub returns-in-Ok : goal.returns-in-Ok
 returns-in-Ok c = λ chunks i.

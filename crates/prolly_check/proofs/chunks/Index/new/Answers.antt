@@ -3,9 +3,9 @@ use Rattle.std.specs.Cmp.Lexicographic.{slice_cmp}
 use Rattle.std.specs.Ordering.{is_lt, nat_cmp}
 use Rattle.std.proofs.lemmas.List.Sorted.{answers_always}
 use Rattle.prolly_check.proofs.IndexSteps.{none_reused}
-use Rattle.prolly_check.proofs.index.Index.new.Goals.{then-not-is_sorted_by+in_default}
-use Rattle.prolly_check.proofs.index.Index.new.Goals.{else-not-is_sorted_by}
-use Rattle.prolly_check.proofs.index.Index.new.Goals as goal
+use Rattle.prolly_check.proofs.chunks.Index.new.Goals.{then-not-is_sorted_by+in_default}
+use Rattle.prolly_check.proofs.chunks.Index.new.Goals.{else-not-is_sorted_by}
+use Rattle.prolly_check.proofs.chunks.Index.new.Goals as goal
 
 pub returns-clause-index : goal.returns-clause-index
 returns-clause-index c = λ chunks are. record {

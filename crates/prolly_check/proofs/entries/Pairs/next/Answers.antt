@@ -1,6 +1,6 @@
 use Rattle.std.proofs.Common.{rules, sym, ◌∙◌}
 use Rattle.prolly_check.proofs.EntryLists.{next_pair, no_next, leaf_less}
-use Rattle.prolly_check.proofs.leaf.Pairs.next.Goals as goal
+use Rattle.prolly_check.proofs.entries.Pairs.next.Goals as goal
 
 pub invariant_of-self : goal.invariant_of-self
 invariant_of-self c = leaf_less c.self.inside.entries.now c.in_ok-key.rest.now _

@@ -1,5 +1,5 @@
 use Rattle.std.proofs.Common.{sym, ap, ◌∙◌, subst}
-use Rattle.prolly_check.specs.Checked.{HasReference, chunks_of}
+use Rattle.prolly_check.specs.Chunks.{HasReference, chunks_of}
 use Rattle.prolly_check.proofs.CheckedFile.{number_of}
 use Rattle.prolly_check.proofs.file.CheckedFile.child.Goals as goal
 

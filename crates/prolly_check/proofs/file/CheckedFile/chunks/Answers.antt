@@ -1,6 +1,6 @@
 use Rattle.std.proofs.Common.{ap, arith}
-use Rattle.prolly_check.specs.Checked.{content_of}
-use Rattle.prolly_check.specs.Numbers.{size_of}
+use Rattle.prolly_check.specs.Chunks.{content_of}
+use Rattle.prolly_check.specs.Numbers.{chunks_size}
 use Rattle.prolly_check.proofs.CheckedFile.{few_bytes}
 use Rattle.prolly_check.proofs.file.CheckedFile.chunks.Goals as goal
 
@@ -9,4 +9,4 @@ returns-clause-small c =
     let has = c.self.invariant.0 in
     let few = few_bytes has.bytes (content_of c.self.inside.header c.self.inside.chunks) has.is in
     let short = has.short in
-    omega (arith, ap size_of c.self.invariant.1)
+    omega (arith, ap chunks_size c.self.invariant.1)

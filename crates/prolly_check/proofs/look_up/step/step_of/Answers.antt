@@ -1,6 +1,6 @@
 use Rattle.std.proofs.Common.{subst}
 use Rattle.prolly_entry.specs.Keys.{Rising}
-use Rattle.prolly_check.specs.Way.{keys_of}
+use Rattle.prolly_check.specs.Way.{entry_keys}
 use Rattle.prolly_check.proofs.HeldPairs.{of_children, of_pairs}
 use Rattle.prolly_check.proofs.look_up.step.step_of.Goals as goal
 
@@ -9,7 +9,7 @@ returns-then-chunk-eq-LEAF-clause-ends c = rw (of_pairs c.args.version c.args.ch
     c.requires.ordered.whole c.if-chunk-eq-LEAF.true).kind tt
 
 pub child_sought-requires-clause-rising : goal.child_sought-requires-clause-rising
-child_sought-requires-clause-rising c = subst (λ entries. Rising (keys_of entries))
+child_sought-requires-clause-rising c = subst (λ entries. Rising (entry_keys entries))
     (of_children c.args.version c.args.chunk.now c.requires.ordered.whole
     c.if-chunk-eq-LEAF.false).kind c.requires.ordered.rising
 

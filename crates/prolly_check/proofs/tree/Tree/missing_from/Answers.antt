@@ -1,5 +1,5 @@
 use Rattle.std.proofs.Common.{rules, ◌∙◌, sym, ap, subst}
-use Rattle.prolly_check.specs.Checked.{chunks_of, content_of, AreReferences}
+use Rattle.prolly_check.specs.Chunks.{chunks_of, content_of, AreReferences}
 use Rattle.prolly_check.specs.Frames.{chunks_in}
 use Rattle.prolly_check.specs.Verdict.{IsFileOf}
 use Rattle.prolly_check.proofs.CheckedFile.{chunks_are}

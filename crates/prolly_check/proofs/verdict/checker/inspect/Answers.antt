@@ -1,7 +1,7 @@
 use Rattle.std.proofs.Common.{sym, subst}
 use Rattle.std.proofs.lemmas.Result.{err_from_is_err_and}
 use Rattle.prolly_entry.specs.lemmas.Lists.{rest_is}
-use Rattle.prolly_check.specs.Checked.{AreReferences}
+use Rattle.prolly_check.specs.Chunks.{AreReferences}
 use Rattle.prolly_check.proofs.CheckedFile.{at_canonical, at_references, at_end}
 use Rattle.prolly_check.proofs.verdict.checker.inspect.Goals as goal
 

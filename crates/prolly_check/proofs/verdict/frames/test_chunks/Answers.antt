@@ -1,6 +1,6 @@
 use Rattle.std.proofs.Common.{arith}
 use Rattle.prolly_check.proofs.HeldPairs.{bad_next}
-use Rattle.prolly_check.proofs.verdict.whole.test_chunks.Goals as goal
+use Rattle.prolly_check.proofs.verdict.frames.test_chunks.Goals as goal
 
 pub returns-then-not-is_whole-clause-err : goal.returns-then-not-is_whole-clause-err
 returns-then-not-is_whole-clause-err c =

@@ -1,6 +1,6 @@
 use Rattle.std.proofs.Common.{drop}
 use Rattle.std.specs.List.{flat_map}
-use Rattle.prolly_check.specs.Held.{pairs_held}
+use Rattle.prolly_check.specs.HeldPairs.{pairs_held}
 use Rattle.prolly_check.proofs.RebuildSteps.{PartTaken}
 use Rattle.prolly_check.proofs.verdict.rebuild.add_chunks.Given as goal
 

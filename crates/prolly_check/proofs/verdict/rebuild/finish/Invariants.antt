@@ -1,7 +1,7 @@
 use Rattle.std.proofs.Common.{ℕ, List, vec_len}
 use Rattle.prolly_entry.specs.Pair.{Pair}
 use Rattle.prolly_entry.specs.declared.version.Version.{Version}
-use Rattle.prolly_check.specs.Rebuilt.{HasTaken}
+use Rattle.prolly_check.specs.Rebuild.{HasTaken}
 use Rattle.prolly_check.proofs.RebuildSteps.{IsEnding}
 use Rattle.prolly_check.proofs.verdict.rebuild.finish.Given as goal
 

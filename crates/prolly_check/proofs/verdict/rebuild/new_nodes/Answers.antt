@@ -1,5 +1,5 @@
 use Rattle.std.proofs.Common.{arith}
-use Rattle.prolly_check.specs.Rebuilt.{node_levels}
+use Rattle.prolly_check.specs.Rebuild.{node_levels}
 use Rattle.prolly_check.proofs.RebuildSteps.{unused_more}
 use Rattle.prolly_check.proofs.verdict.rebuild.new_nodes.Goals as goal
 

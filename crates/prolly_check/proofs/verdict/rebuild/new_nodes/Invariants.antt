@@ -1,5 +1,5 @@
 use Rattle.std.proofs.Common.{◌≡◌, length}
-use Rattle.prolly_check.specs.Rebuilt.{AreUnused}
+use Rattle.prolly_check.specs.Rebuild.{AreUnused}
 use Rattle.prolly_check.proofs.verdict.rebuild.new_nodes.Given as goal
 
 abbrev pub invariant-loop-level : goal.invariant-loop-level

@@ -1,7 +1,7 @@
 use Rattle.std.proofs.Common.{[], ◌≤◌, ◌∙◌, arith, inr, length}
 use Rattle.std.specs.List.{flat_map}
 use Rattle.std.proofs.lemmas.Result.{err_from_is_err_and}
-use Rattle.prolly_check.specs.Held.{pairs_held}
+use Rattle.prolly_check.specs.HeldPairs.{pairs_held}
 use Rattle.prolly_check.proofs.RebuildSteps.{differ_by_end, verdict_fault, verdict_short, all_named}
 use Rattle.prolly_check.proofs.RebuildSteps.{verdict_none}
 use Rattle.prolly_check.proofs.verdict.rebuild.test_rebuilt.Goals as goal

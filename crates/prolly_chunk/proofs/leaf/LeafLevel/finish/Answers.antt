@@ -1,7 +1,8 @@
 use Rattle.std.proofs.Common.{◌≡◌, ◌||◌, true, false, not, nat_le, length, Some, refl, ap, rules}
 use Rattle.prolly_chunk.proofs.Leaves.{leaf_ends}
 use Rattle.prolly_chunk.proofs.leaf.LeafLevel.finish.Goals as goal
-use Rattle.prolly_chunk.proofs.leaf.LeafLevel.finish.Goals.{then-not-self-via-then-not-self, then-not-self-via-else-not-self+then-has_entries}
+use Rattle.prolly_chunk.proofs.leaf.LeafLevel.finish.Goals.{then-not-self-via-then-not-self}
+use Rattle.prolly_chunk.proofs.leaf.LeafLevel.finish.Goals.{then-not-self-via-else-not-self+then-has_entries}
 
 pub returns-then-not-self : goal.returns-then-not-self
 returns-then-not-self g c =

@@ -2,7 +2,8 @@ use Rattle.std.proofs.Common.{◌≡◌, ◌&&◌, true, false, nat_le, length, 
 use Rattle.prolly_chunk.specs.NodeLevel.{is_several}
 use Rattle.prolly_chunk.proofs.Nodes.{node_ends}
 use Rattle.prolly_chunk.proofs.node.NodeLevel.finish.Goals as goal
-use Rattle.prolly_chunk.proofs.node.NodeLevel.finish.Goals.{else-is_several-via-then-is_several+else-has_entries, else-is_several-via-else-is_several}
+use Rattle.prolly_chunk.proofs.node.NodeLevel.finish.Goals.{else-is_several-via-then-is_several+else-has_entries}
+use Rattle.prolly_chunk.proofs.node.NodeLevel.finish.Goals.{else-is_several-via-else-is_several}
 
 pub returns-then-has_entries : goal.returns-then-has_entries
 returns-then-has_entries g c =

@@ -5,7 +5,8 @@ use Rattle.prolly_chunk.specs.NodeLevel.{NodeState}
 use Rattle.prolly_chunk.specs.lemmas.{node_passes}
 use Rattle.prolly_chunk.proofs.Nodes.{node_takes}
 use Rattle.prolly_chunk.proofs.node.NodeLevel.push.Goals as goal
-use Rattle.prolly_chunk.proofs.node.NodeLevel.push.Goals.{then-is_first-via-then-is_first, then-is_first-via-else-is_first+then-not-is_boundary}
+use Rattle.prolly_chunk.proofs.node.NodeLevel.push.Goals.{then-is_first-via-then-is_first}
+use Rattle.prolly_chunk.proofs.node.NodeLevel.push.Goals.{then-is_first-via-else-is_first+then-not-is_boundary}
 
 pub returns-then-level : goal.returns-then-level
 returns-then-level g c =

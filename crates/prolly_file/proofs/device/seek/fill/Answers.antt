@@ -3,7 +3,7 @@ use Rattle.std.proofs.lemmas.Grind.{common_steps}
 use Rattle.std.proofs.Common.{rules}
 use Rattle.std.proofs.KnownBytes.{Keeps-trans}
 use Rattle.prolly_file.proofs.Filled.{more_filled}
-use Rattle.prolly_file.proofs.from_seek.fill.Goals as goal
+use Rattle.prolly_file.proofs.device.seek.fill.Goals as goal
 
 pub loop-filled-preserved : goal.loop-filled-preserved
 loop-filled-preserved g c = record {

@@ -1,7 +1,7 @@
 use Rattle.std.proofs.Common.{◌≡◌, ◌≤◌, ◌-◌, length}
 use Rattle.std.specs.Io.KnownBytes.{Keeps}
 use Rattle.prolly_file.proofs.Filled.{IsFilled}
-use Rattle.prolly_file.proofs.from_seek.fill.Given as goal
+use Rattle.prolly_file.proofs.device.seek.fill.Given as goal
 
 abbrev pub invariant-loop-filled : goal.invariant-loop-filled
 invariant-loop-filled g l = record {

@@ -1,6 +1,6 @@
 use Rattle.std.proofs.lemmas.Grind.{common_steps}
 use Rattle.std.proofs.Common.{rules, arith}
-use Rattle.prolly_file.proofs.whole.read_whole.Goals as goal
+use Rattle.prolly_file.proofs.device.whole.read_whole.Goals as goal
 
 pub loop-part-smaller : goal.loop-part-smaller
 loop-part-smaller g c = search rules

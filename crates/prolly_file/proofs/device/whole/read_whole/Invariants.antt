@@ -1,5 +1,5 @@
 use Rattle.std.proofs.Common.{◌≡◌, ◌<◌, ◌≤◌, ◌-◌, ◌++◌, true, vec_len}
-use Rattle.prolly_file.proofs.whole.read_whole.Given as goal
+use Rattle.prolly_file.proofs.device.whole.read_whole.Given as goal
 
 abbrev pub invariant-loop-part : goal.invariant-loop-part
 invariant-loop-part g l = record {

@@ -1,10 +1,10 @@
 use Rattle.std.proofs.Common.{◌++◌}
 use Rattle.std.specs.VecDeque.{deque_len}
-use Rattle.prolly_link.specs.Batches.{items_of}
-use Rattle.prolly_link.specs.Hands.{given_of, IsInHand}
+use Rattle.prolly_link.specs.Batch.{items_of}
+use Rattle.prolly_link.specs.BatchReceiver.{given_of, IsInHand}
 use Rattle.prolly_link.proofs.HandLemmas.{given_begins}
 use Rattle.prolly_link.proofs.PassingLemmas.{received_of_open}
-use Rattle.prolly_link.proofs.batch.comparing.compare_batches.Goals as goal
+use Rattle.prolly_link.proofs.batch.closed.compare_batches.Goals as goal
 
 pub returns-clause-passed : goal.returns-clause-passed
 returns-clause-passed g c =

@@ -1,9 +1,9 @@
 use Rattle.std.specs.VecDeque.{deque_len}
-use Rattle.prolly_link.specs.Batches.{items_of}
-use Rattle.prolly_link.specs.Hands.{given_of, IsInHand}
+use Rattle.prolly_link.specs.Batch.{items_of}
+use Rattle.prolly_link.specs.BatchReceiver.{given_of, IsInHand}
 use Rattle.prolly_link.proofs.HandLemmas.{given_begins_whole, given_whole}
 use Rattle.prolly_link.proofs.PassingLemmas.{received_of_closed}
-use Rattle.prolly_link.proofs.batch.comparing.compare_closed_batches.Goals as goal
+use Rattle.prolly_link.proofs.batch.closed.compare_closed_batches.Goals as goal
 
 pub returns-clause-passed : goal.returns-clause-passed
 returns-clause-passed g c =

@@ -1,6 +1,6 @@
 use Rattle.std.specs.Prelude.{vec_len, vec_capacity}
 use Rattle.prolly_link.proofs.BatchLemmas.{room_fresh}
-use Rattle.prolly_link.proofs.batch.opening.batch_link.Goals as goal
+use Rattle.prolly_link.proofs.batch.link.batch_link.Goals as goal
 
 pub returns : goal.returns
 returns g c = record {

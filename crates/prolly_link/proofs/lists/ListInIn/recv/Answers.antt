@@ -1,6 +1,6 @@
 use Rattle.std.proofs.lemmas.Grind.{common_steps}
 use Rattle.std.proofs.Common.{rules, arith}
-use Rattle.prolly_link.proofs.list_in.ListInIn.recv.Goals as goal
+use Rattle.prolly_link.proofs.lists.ListInIn.recv.Goals as goal
 
 pub returns-in-Some-clause-received : goal.returns-in-Some-clause-received
 returns-in-Some-clause-received g c = search rules

@@ -1,5 +1,5 @@
 use Rattle.std.proofs.Common.{◌≡◌}
-use Rattle.prolly_link.specs.Draining.{Drains}
+use Rattle.prolly_link.specs.Drained.{Drains}
 use Rattle.prolly_link.proofs.receiver.Receiver.drain.Given as goal
 
 abbrev pub invariant-loop : goal.invariant-loop

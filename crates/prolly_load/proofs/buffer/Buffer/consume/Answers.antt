@@ -1,5 +1,5 @@
 use Rattle.std.proofs.Common.{◌≡◌, ◌≤◌, ◌-◌, ◌∙◌, Some, List, ℕ, arith, ap, take, drop, length}
-use Rattle.prolly_load.specs.Buffered.{Buffered}
+use Rattle.prolly_load.specs.Buffer.{Buffered}
 use Rattle.prolly_load.specs.Span.{part}
 use Rattle.prolly_load.proofs.PartLemmas.{part_within, part_behind}
 use Rattle.prolly_load.proofs.buffer.Buffer.consume.Goals as goal

@@ -1,6 +1,6 @@
 use Rattle.std.proofs.lemmas.Grind.{common_steps}
 use Rattle.std.proofs.Common.{ap, ◌∙◌, arith}
-use Rattle.prolly_load.specs.Buffered.{Buffered}
+use Rattle.prolly_load.specs.Buffer.{Buffered}
 use Rattle.prolly_load.proofs.PartLemmas.{key_given_back}
 use Rattle.prolly_load.proofs.buffer.Buffer.fill.Goals as goal
 

@@ -4,7 +4,7 @@ use Rattle.std.specs.Vec.Iter.{into_iter_items}
 use Rattle.prolly_check.specs.Sought.{sought_of}
 use Rattle.prolly_check.specs.Way.{IsNamed}
 use Rattle.prolly_entry.specs.lemmas.Lists.{all_append}
-use Rattle.prolly_root.specs.Descent.{IsOnward, IsTested, StandsInPlace, StepsDown, chunks_in}
+use Rattle.prolly_root.specs.Descent.{IsOnward, IsTested, StandsInPlace, StepsDown, chunks_on_way}
 use Rattle.prolly_root.specs.RootFault.{TellsFailure}
 use Rattle.prolly_root.specs.declared.root_fault.RootFault.TheVariants.{Memory}
 use Rattle.prolly_root.proofs.Descending.{Descended, asked_on, handed_on, less_room, next_kept}
@@ -79,13 +79,13 @@ returns-in-End-clause-found g c =
     let is = c.in_ok-chunk.ensures.is in
     let stepped = c.in_ok-onward.ensures in
     let more = c.in_ok-keep.ensures in record {
-      way = way_ends version c.args.root.now.0 (sought_of c.args.sought) (chunks_in above) due
+      way = way_ends version c.args.root.now.0 (sought_of c.args.sought) (chunks_on_way above) due
           before.way chunk.chunk.items
           (subst (λ r. IsNamed version r.0 chunk.chunk.items) is.reference is.is.named) is.falls
           (subst (IsOnward version (sought_of due.sought) chunk.chunk.items) c.in-End.is stepped.is)
-          (chunks_in c.keep.new.levels.items)
+          (chunks_on_way c.keep.new.levels.items)
           (one_more above c.keep.new.levels.items c.step.new.self more ∙
-          ap (λ chunk. chunks_in above ++ chunk.items ∷ []) stepped.stays.1);
+          ap (λ chunk. chunks_on_way above ++ chunk.items ∷ []) stepped.stays.1);
       there = refl;
       all = subst (AllByRecursion (IsTested version)) (sym more)
           (all_append (IsTested version) above (c.step.new.self ∷ []) before.tested
@@ -123,9 +123,9 @@ loop-levels-preserved g c =
     stepped.is in record {
       way = subst
           (λ chunks. Descended version root (sought_of c.args.sought) chunks c.in-Below.next) (ap
-          (λ chunk. chunks_in above ++ chunk.items ∷ []) (sym stepped.stays.1) ∙
+          (λ chunk. chunks_on_way above ++ chunk.items ∷ []) (sym stepped.stays.1) ∙
           sym (one_more above c.keep.new.levels.items c.step.new.self more))
-          (one_passed version root (sought_of c.args.sought) (chunks_in above) due before.way
+          (one_passed version root (sought_of c.args.sought) (chunks_on_way above) due before.way
           chunk.chunk.items
           (subst (λ r. IsNamed version r.0 chunk.chunk.items) is.reference is.is.named) is.falls
           c.in-Below.next on.0 on.1);

@@ -4,13 +4,13 @@ use Rattle.std.specs.Vec.Iter.{into_iter_items}
 use Rattle.prolly_check.specs.Content.{Content}
 use Rattle.prolly_check.specs.Sought.{sought_of}
 use Rattle.prolly_root.specs.ChunkSource.{HasAsked}
-use Rattle.prolly_root.specs.Descent.{IsTested, StandsAt, StandsInPlace, chunks_in}
+use Rattle.prolly_root.specs.Descent.{IsTested, StandsAt, StandsInPlace, chunks_on_way}
 use Rattle.prolly_root.proofs.Descending.{Descended, GoesOnLawful, room_below}
 use Rattle.prolly_root.proofs.look_up.descent.go_down.Given as goal
 
 abbrev pub invariant-loop-levels : goal.invariant-loop-levels
 invariant-loop-levels g l = record {
-  way : Descended l.version l.root.0 (sought_of l.fn.sought) (chunks_in l.levels.items) l.due;
+  way : Descended l.version l.root.0 (sought_of l.fn.sought) (chunks_on_way l.levels.items) l.due;
   tested : AllByRecursion (IsTested l.version) l.levels.items;
   kept : AllByRecursion (IsTested l.version) (into_iter_items l.kept);
   asked : HasAsked g.S.ChunkSource.has g.S.ChunkSource.failures l.fn.source l.source

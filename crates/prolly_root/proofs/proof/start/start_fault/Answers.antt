@@ -2,10 +2,10 @@ use Rattle.std.proofs.Common.{◌≡◌, ℕ, List, [], ◌∷◌, ◌++◌, len
 use Rattle.std.proofs.Common.{subst}
 use Rattle.std.proofs.lemmas.Bool.Decides.{Decides-eqb}
 use Rattle.std.proofs.lemmas.Slice.Eq.{starts_is}
-use Rattle.prolly_root.specs.ProofFault.{BeginsWith, EndsWithin}
+use Rattle.prolly_root.specs.ProofFault.{IsStartOf, EndsWithin}
 use Rattle.prolly_root.proofs.proof.start.start_fault.Goals as goal
 
-within : (start bytes left : List ℕ) → start ≡ bytes ++ left → (BeginsWith start bytes → ⊥) →
+within : (start bytes left : List ℕ) → start ≡ bytes ++ left → (IsStartOf start bytes → ⊥) →
     EndsWithin start bytes
 within start bytes [] e other =
     absurd (other (record {
@@ -23,4 +23,4 @@ returns-then-starts_with c =
     (within start bytes (drop (length bytes) start)
     ((starts_is Decides-eqb start bytes c.starts_with.result c.starts_with.ensures.value).0
     c.if-starts_with.true)
-    (subst (λ start. BeginsWith start bytes → ⊥) (sym c.proof_start.ensures) c.requires))
+    (subst (λ start. IsStartOf start bytes → ⊥) (sym c.proof_start.ensures) c.requires))

@@ -1,7 +1,7 @@
 use Rattle.std.proofs.Common.{ap, refl, subst, sym, ◌+◌, ◌++◌, ◌∙◌}
 use Rattle.prolly_tree.specs.LookUp.{find}
 use Rattle.prolly_check.specs.Sought.{sought_of}
-use Rattle.prolly_check.specs.Steps.{IsStep}
+use Rattle.prolly_check.specs.Step.{IsStep}
 use Rattle.prolly_root.specs.ProofFile.{IsProof, proof_start}
 use Rattle.prolly_root.proofs.Passing.{ends_here, goes_on, has_more, none_left, some_left}
 use Rattle.prolly_root.proofs.proof.verifier.go_down.Goals as goal

@@ -1,9 +1,9 @@
 use Rattle.std.proofs.Common.{◌≡◌, true, false, rules}
 use Rattle.std.specs.Prelude.{IfErr}
-use Rattle.prolly_tool.specs.Lines.{reads_bare_keys}
-use Rattle.prolly_tool.specs.Pack.{IsNotWritten}
-use Rattle.prolly_tool.proofs.LineLemmas.{bare_refused, part_wrong, wrong_bare}
-use Rattle.prolly_tool.proofs.lines.line.bare_record.Goals as goal
+use Rattle.prolly_text.specs.Lines.{reads_bare_keys}
+use Rattle.prolly_text.specs.PackedLines.{IsNotWritten}
+use Rattle.prolly_text.proofs.LineLemmas.{bare_refused, part_wrong, wrong_bare}
+use Rattle.prolly_text.proofs.lines.line.bare_record.Goals as goal
 
 pub returns-then-not-reads_bare_keys-clause-err : goal.returns-then-not-reads_bare_keys-clause-err
 returns-then-not-reads_bare_keys-clause-err c =

@@ -1,10 +1,10 @@
 use Rattle.std.proofs.Common.{rules}
 use Rattle.std.specs.Prelude.{IfErr}
 use Rattle.prolly_text.specs.Notations.{IsWritten, separator}
-use Rattle.prolly_tool.specs.Lines.{CutsAt}
-use Rattle.prolly_tool.specs.Pack.{IsNotWritten, MarksRemoval}
-use Rattle.prolly_tool.proofs.LineLemmas.{line_put, part_wrong, put_wrong, wrong_change, wrong_key}
-use Rattle.prolly_tool.proofs.lines.line.record_of.Goals as goal
+use Rattle.prolly_text.specs.Lines.{CutsAt}
+use Rattle.prolly_text.specs.PackedLines.{IsNotWritten, MarksRemoval}
+use Rattle.prolly_text.proofs.LineLemmas.{line_put, part_wrong, put_wrong, wrong_change, wrong_key}
+use Rattle.prolly_text.proofs.lines.line.record_of.Goals as goal
 
 pub returns-in_err-key-clause-err : goal.returns-in_err-key-clause-err
 returns-in_err-key-clause-err c =

@@ -1,6 +1,6 @@
 use Rattle.std.proofs.Common.{rules, length-drop}
-use Rattle.prolly_tool.proofs.LineLemmas.{no_cut, cuts_there, behind}
-use Rattle.prolly_tool.proofs.lines.line.split_at.Goals as goal
+use Rattle.prolly_text.proofs.LineLemmas.{no_cut, cuts_there, behind}
+use Rattle.prolly_text.proofs.lines.line.split_at.Goals as goal
 
 pub returns-then-is_empty-clause-none : goal.returns-then-is_empty-clause-none
 returns-then-is_empty-clause-none c =

@@ -1,6 +1,6 @@
 use Rattle.std.proofs.Common.{rules, length-drop}
-use Rattle.prolly_tool.proofs.LineLemmas.{last_line, next_line}
-use Rattle.prolly_tool.proofs.lines.line.split_line.Goals as goal
+use Rattle.prolly_text.proofs.LineLemmas.{last_line, next_line}
+use Rattle.prolly_text.proofs.lines.line.split_line.Goals as goal
 
 pub returns-then-is_empty-clause-lines : goal.returns-then-is_empty-clause-lines
 returns-then-is_empty-clause-lines c =

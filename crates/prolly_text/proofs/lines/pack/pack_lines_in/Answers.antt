@@ -1,8 +1,8 @@
 use Rattle.std.proofs.lemmas.Grind.{common_steps}
 use Rattle.std.proofs.Common.{rules, arith}
 use Rattle.std.proofs.lemmas.List.{nil_from_length}
-use Rattle.prolly_tool.proofs.PackSteps.{none_packed, one_packed, all_packed}
-use Rattle.prolly_tool.proofs.lines.pack.pack_lines_as.Goals as goal
+use Rattle.prolly_text.proofs.PackSteps.{none_packed, one_packed, all_packed}
+use Rattle.prolly_text.proofs.lines.pack.pack_lines_in.Goals as goal
 
 pub loop-rest-init : goal.loop-rest-init
 loop-rest-init c = none_packed c.args.form c.args.text.now c.args.out.now.items

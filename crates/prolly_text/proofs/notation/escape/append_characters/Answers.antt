@@ -5,7 +5,7 @@ use Rattle.std.specs.List.{flat_map}
 use Rattle.std.specs.Str.{chars}
 use Rattle.std.specs.Str.Iter.{chars_rest}
 use Rattle.prolly_text.specs.Escapes.{shown_character}
-use Rattle.prolly_text.proofs.escape.append_characters.Goals as goal
+use Rattle.prolly_text.proofs.notation.escape.append_characters.Goals as goal
 
 pub loop-character-preserved : goal.loop-character-preserved
 loop-character-preserved c =

@@ -4,7 +4,7 @@ use Rattle.std.specs.List.{flat_map}
 use Rattle.std.specs.Str.{chars, IsUtf8}
 use Rattle.std.specs.Str.Iter.{chars_rest}
 use Rattle.prolly_text.specs.Escapes.{shown_character}
-use Rattle.prolly_text.proofs.escape.append_characters.Given as goal
+use Rattle.prolly_text.proofs.notation.escape.append_characters.Given as goal
 
 abbrev pub invariant-loop-character : goal.invariant-loop-character
 invariant-loop-character l =

@@ -2,7 +2,7 @@
 use Rattle.std.specs.Prelude.{◌≡◌, ◌++◌, take}
 use Rattle.std.specs.List.{flat_map}
 use Rattle.prolly_text.specs.Escapes.{hex_escape}
-use Rattle.prolly_text.proofs.escape.append_escapes.Given as goal
+use Rattle.prolly_text.proofs.notation.escape.append_escapes.Given as goal
 
 abbrev pub invariant-loop-byte : goal.invariant-loop-byte
 invariant-loop-byte l = l.out.items ≡

@@ -4,7 +4,7 @@ use Rattle.std.specs.Str.{chars}
 use Rattle.std.specs.Str.Chunks.{utf8_chunks_rest, utf8_chunk_valid, utf8_chunk_invalid}
 use Rattle.prolly_text.specs.Escapes.{hex_escape, shown_character, text_of}
 use Rattle.prolly_text.proofs.Writing.{text_chunk, text_of_none}
-use Rattle.prolly_text.proofs.escape.append_text.Goals as goal
+use Rattle.prolly_text.proofs.notation.escape.append_text.Goals as goal
 
 pub loop-chunk-preserved : goal.loop-chunk-preserved
 loop-chunk-preserved c =

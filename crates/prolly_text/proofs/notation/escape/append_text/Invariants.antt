@@ -2,7 +2,7 @@
 use Rattle.std.specs.Prelude.{◌≡◌, ◌++◌}
 use Rattle.std.specs.Str.Chunks.{utf8_chunks_rest}
 use Rattle.prolly_text.specs.Escapes.{text_of}
-use Rattle.prolly_text.proofs.escape.append_text.Given as goal
+use Rattle.prolly_text.proofs.notation.escape.append_text.Given as goal
 
 abbrev pub invariant-loop-chunk : goal.invariant-loop-chunk
 invariant-loop-chunk l = l.out.items ++ text_of (utf8_chunks_rest l.chunk-iterator) ≡

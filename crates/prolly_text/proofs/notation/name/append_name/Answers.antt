@@ -5,7 +5,7 @@ use Rattle.std.specs.List.{flat_map}
 use Rattle.std.specs.Str.{chars}
 use Rattle.std.specs.Str.Iter.{chars_rest}
 use Rattle.prolly_text.specs.Names.{shown_in_name}
-use Rattle.prolly_text.proofs.name.append_name.Goals as goal
+use Rattle.prolly_text.proofs.notation.name.append_name.Goals as goal
 
 pub loop-character-preserved : goal.loop-character-preserved
 loop-character-preserved c =

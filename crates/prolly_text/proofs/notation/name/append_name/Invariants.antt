@@ -4,7 +4,7 @@ use Rattle.std.specs.List.{flat_map}
 use Rattle.std.specs.Str.{chars, IsUtf8}
 use Rattle.std.specs.Str.Iter.{chars_rest}
 use Rattle.prolly_text.specs.Names.{shown_in_name}
-use Rattle.prolly_text.proofs.name.append_name.Given as goal
+use Rattle.prolly_text.proofs.notation.name.append_name.Given as goal
 
 abbrev pub invariant-loop-character : goal.invariant-loop-character
 invariant-loop-character l =

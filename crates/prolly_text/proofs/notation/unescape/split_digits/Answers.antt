@@ -1,6 +1,6 @@
 use Rattle.prolly_text.specs.lemmas.Fronts.{begins_digits}
 use Rattle.prolly_text.proofs.Digits.{digits_read, none_here, none_so_short}
-use Rattle.prolly_text.proofs.piece.split_digits.Goals as goal
+use Rattle.prolly_text.proofs.notation.unescape.split_digits.Goals as goal
 
 pub returns-then-text-lt2-clause-none : goal.returns-then-text-lt2-clause-none
 returns-then-text-lt2-clause-none c = none_so_short c.args.text.now c.if-text-lt2.true

@@ -1,8 +1,8 @@
 use Rattle.std.proofs.Common.{◌∷◌, sym, ap, ◌∙◌, subst, rules}
 use Rattle.std.specs.Prelude.{IfNone}
-use Rattle.prolly_text.specs.Pieces.{BeginsWith, BeginsWithNone}
+use Rattle.prolly_text.specs.Pieces.{HasPiece, BeginsWithNone}
 use Rattle.prolly_text.specs.lemmas.Fronts.{begins_named}
-use Rattle.prolly_text.proofs.piece.split_escape.Goals as goal
+use Rattle.prolly_text.proofs.notation.unescape.split_escape.Goals as goal
 
 pub returns-then-letter-eq120-clause-none : goal.returns-then-letter-eq120-clause-none
 returns-then-letter-eq120-clause-none c =
@@ -13,7 +13,7 @@ returns-then-letter-eq120-clause-none c =
 
 pub returns-clause-some : goal.returns-clause-some
 returns-clause-some c =
-    subst (λ t. BeginsWith (0x5C ∷ t) c.in_ok-byte.byte c.in_ok-letter.behind.now)
+    subst (λ t. HasPiece (0x5C ∷ t) c.in_ok-byte.byte c.in_ok-letter.behind.now)
     (sym c.in_ok-letter.ensures.cases.0)
     (begins_named c.in_ok-letter.letter.now c.in_ok-byte.byte c.in_ok-letter.behind.now
     (search rules))

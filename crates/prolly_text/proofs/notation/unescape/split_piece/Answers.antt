@@ -1,8 +1,8 @@
 use Rattle.std.proofs.Common.{◌∷◌, sym, ap, ◌∙◌, subst, rules}
 use Rattle.std.specs.Prelude.{IfNone}
-use Rattle.prolly_text.specs.Pieces.{BeginsWith, BeginsWithNone}
+use Rattle.prolly_text.specs.Pieces.{HasPiece, BeginsWithNone}
 use Rattle.prolly_text.specs.lemmas.Fronts.{begins_plain}
-use Rattle.prolly_text.proofs.piece.split_piece.Goals as goal
+use Rattle.prolly_text.proofs.notation.unescape.split_piece.Goals as goal
 
 pub returns-then-first-eq92-clause-none : goal.returns-then-first-eq92-clause-none
 returns-then-first-eq92-clause-none c =
@@ -13,6 +13,6 @@ returns-then-first-eq92-clause-none c =
 
 pub returns-then-is_plain-clause-some : goal.returns-then-is_plain-clause-some
 returns-then-is_plain-clause-some c =
-    subst (λ t. BeginsWith t c.in_ok-first.first.now c.in_ok-first.behind.now)
+    subst (λ t. HasPiece t c.in_ok-first.first.now c.in_ok-first.behind.now)
     (sym c.in_ok-first.ensures.cases.0)
     (begins_plain c.in_ok-first.first.now c.in_ok-first.behind.now (search rules))

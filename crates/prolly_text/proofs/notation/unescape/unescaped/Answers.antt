@@ -1,7 +1,7 @@
 use Rattle.std.proofs.Common.{◌≡◌, [], ◌∷◌, ◌++◌, length, arith, rules, ap, subst, sym}
-use Rattle.prolly_text.specs.Pieces.{BeginsWith, BeginsWithAll, BeginsWithNone}
+use Rattle.prolly_text.specs.Pieces.{HasPiece, BeginsWithAll, BeginsWithNone}
 use Rattle.prolly_text.specs.lemmas.Sequences.{all_more, none_read, piece_shortens}
-use Rattle.prolly_text.proofs.unescape.unescaped.Goals as goal
+use Rattle.prolly_text.proofs.notation.unescape.unescaped.Goals as goal
 
 pub returns-in_default-clause-err : goal.returns-in_default-clause-err
 returns-in_default-clause-err c bytes h =
@@ -12,7 +12,7 @@ returns-in_default-clause-err c bytes h =
 
 pub loop-rest-preserved : goal.loop-rest-preserved
 loop-rest-preserved c =
-    let first : BeginsWith c.loop-rest.rest.now c.in-Some.byte c.in-Some.behind.now = search rules
+    let first : HasPiece c.loop-rest.rest.now c.in-Some.byte c.in-Some.behind.now = search rules
     in
     let more = all_more c.loop-rest.bytes.items c.args.text.now
     c.loop-rest.rest.now c.in-Some.behind.now c.in-Some.byte c.loop-rest.invariant first in
@@ -22,6 +22,6 @@ loop-rest-preserved c =
 
 pub loop-rest-smaller : goal.loop-rest-smaller
 loop-rest-smaller c =
-    let first : BeginsWith c.loop-rest.rest.now c.in-Some.byte c.in-Some.behind.now = search rules
+    let first : HasPiece c.loop-rest.rest.now c.in-Some.byte c.in-Some.behind.now = search rules
     in
     piece_shortens c.loop-rest.rest.now c.in-Some.byte c.in-Some.behind.now first

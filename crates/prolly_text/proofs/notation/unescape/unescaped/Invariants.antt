@@ -1,7 +1,7 @@
 -- The bytes so far are those of the pieces in front of the rest.
 use Rattle.std.specs.Prelude.{length}
 use Rattle.prolly_text.specs.Pieces.{BeginsWithAll}
-use Rattle.prolly_text.proofs.unescape.unescaped.Given as goal
+use Rattle.prolly_text.proofs.notation.unescape.unescaped.Given as goal
 
 abbrev pub invariant-loop-rest : goal.invariant-loop-rest
 invariant-loop-rest l = BeginsWithAll l.fn.text l.bytes.items l.rest

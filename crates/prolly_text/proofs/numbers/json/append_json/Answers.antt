@@ -1,10 +1,10 @@
 use Rattle.std.proofs.Common.{◌≡◌, [], ◌∷◌, ◌++◌, ◌∙◌, ap, codes, map, rules}
 use Rattle.std.specs.Fmt.{decimal}
 use Rattle.prolly_entry.specs.Version.{version_byte}
-use Rattle.prolly_stat.specs.Json.{array, json_of, level_json, member, quoted}
-use Rattle.prolly_stat.specs.Rows.{rows_of}
-use Rattle.prolly_stat.proofs.Commas.{named, seven}
-use Rattle.prolly_stat.proofs.tree_json.append_json.Goals as goal
+use Rattle.prolly_text.specs.Json.{array, json_of, level_json, member, quoted}
+use Rattle.prolly_text.specs.Rows.{rows_of}
+use Rattle.prolly_text.proofs.Commas.{named, seven}
+use Rattle.prolly_text.proofs.numbers.json.append_json.Goals as goal
 
 pub returns : goal.returns
 unfolding json_of
@@ -23,6 +23,6 @@ returns c =
     seven c.args.out.now.items c.extend_from_slice.new.self.items root format bits pairs chunks
     bytes (member (codes "levels") levels) (0x0A ∷ [])
     (c.in_ok-extend_from_slice.ensures.items ∙ ap (λ t. t ++ 0x7D ∷ 0x0A ∷ [])
-    (c.in_ok-append_levels.ensures ∙ ap (λ t. t ++ levels) (c.in_ok-append_name.ensures ∙
+    (c.in_ok-append_levels.ensures ∙ ap (λ t. t ++ levels) (c.in_ok-append_member_name.ensures ∙
     ap (λ t. t ++ 0x2C ∷ quoted (codes "levels") ++ 0x3A ∷ []) begun) ∙
     named front (codes "levels") levels))

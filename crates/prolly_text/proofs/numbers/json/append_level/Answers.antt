@@ -1,8 +1,8 @@
 use Rattle.std.proofs.Common.{[], ◌++◌, ◌∙◌, ap, append-nil, codes, rules}
 use Rattle.std.specs.Fmt.{decimal}
-use Rattle.prolly_stat.specs.Json.{level_json, member}
-use Rattle.prolly_stat.proofs.Commas.{seven}
-use Rattle.prolly_stat.proofs.tree_json.append_level.Goals as goal
+use Rattle.prolly_text.specs.Json.{level_json, member}
+use Rattle.prolly_text.proofs.Commas.{seven}
+use Rattle.prolly_text.proofs.numbers.json.append_level.Goals as goal
 
 pub returns : goal.returns
 unfolding level_json

@@ -1,11 +1,11 @@
 use Rattle.std.proofs.Common.{◌≡◌, [], ◌∷◌, ◌++◌, ◌∙◌, ap, map, take, arith}
 use Rattle.std.proofs.lemmas.List.{take_all}
 use Rattle.std.specs.List.{join_with_byte}
-use Rattle.prolly_stat.specs.Json.{level_json, comma_before}
-use Rattle.prolly_stat.specs.Rows.{rows_of}
-use Rattle.prolly_stat.proofs.Commas.{bracketed, next_value}
-use Rattle.prolly_stat.proofs.Rows.{length-rows_from}
-use Rattle.prolly_stat.proofs.tree_json.append_levels.Goals as goal
+use Rattle.prolly_text.specs.Json.{level_json, comma_before}
+use Rattle.prolly_text.specs.Rows.{rows_of}
+use Rattle.prolly_text.proofs.Commas.{bracketed, next_value}
+use Rattle.prolly_text.proofs.Rows.{length-rows_from}
+use Rattle.prolly_text.proofs.numbers.json.append_levels.Goals as goal
 
 pub loop-number-preserved : goal.loop-number-preserved
 loop-number-preserved c =

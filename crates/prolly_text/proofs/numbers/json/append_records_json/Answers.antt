@@ -1,9 +1,9 @@
 use Rattle.std.proofs.Common.{[], ◌∷◌, codes, rules}
 use Rattle.std.specs.Fmt.{decimal}
 use Rattle.std.specs.Option.{option_copied}
-use Rattle.prolly_stat.specs.Json.{key_member, member, records_json_of}
-use Rattle.prolly_stat.proofs.Commas.{three_and_more}
-use Rattle.prolly_stat.proofs.records_json.append_records_json.Goals as goal
+use Rattle.prolly_text.specs.Json.{key_member, member, records_json_of}
+use Rattle.prolly_text.proofs.Commas.{three_and_more}
+use Rattle.prolly_text.proofs.numbers.json.append_records_json.Goals as goal
 
 pub returns : goal.returns
 unfolding records_json_of

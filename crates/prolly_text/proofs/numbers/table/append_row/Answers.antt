@@ -1,8 +1,8 @@
 use Rattle.std.proofs.Common.{◌≡◌, ◌++◌, [], ◌∷◌, ◌∙◌, ap, append_assoc, codes, rules, string_bytes}
 use Rattle.std.specs.Fmt.{decimal}
-use Rattle.prolly_stat.specs.Table.{bar, row_line}
-use Rattle.prolly_stat.proofs.Columns.{hole, hole_is}
-use Rattle.prolly_stat.proofs.table.append_row.Goals as goal
+use Rattle.prolly_text.specs.Table.{bar, row_line}
+use Rattle.prolly_text.proofs.Columns.{hole, hole_is}
+use Rattle.prolly_text.proofs.numbers.table.append_row.Goals as goal
 
 pub returns : goal.returns
 unfolding row_line

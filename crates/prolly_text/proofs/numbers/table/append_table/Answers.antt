@@ -2,10 +2,10 @@ use Rattle.std.proofs.Common.{◌≡◌, ◌++◌, ◌-◌, [], drop, length, re
 use Rattle.std.proofs.Common.{append_assoc, append-nil, rules}
 use Rattle.std.proofs.lemmas.List.{drop_all}
 use Rattle.std.specs.List.{flat_map}
-use Rattle.prolly_stat.specs.Rows.{rows_of}
-use Rattle.prolly_stat.specs.Table.{head_of, heading, row_line, table_of}
-use Rattle.prolly_stat.proofs.Rows.{last_first, length-rows_from}
-use Rattle.prolly_stat.proofs.table.append_table.Goals as goal
+use Rattle.prolly_text.specs.Rows.{rows_of}
+use Rattle.prolly_text.specs.Table.{head_of, heading, row_line, table_of}
+use Rattle.prolly_text.proofs.Rows.{last_first, length-rows_from}
+use Rattle.prolly_text.proofs.numbers.table.append_table.Goals as goal
 
 pub loop-number-init : goal.loop-number-init
 unfolding heading

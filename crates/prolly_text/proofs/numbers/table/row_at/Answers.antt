@@ -1,7 +1,7 @@
 use Rattle.std.proofs.Common.{◌-◌, arith}
-use Rattle.prolly_stat.proofs.Rows.{first_row, upper_row}
-use Rattle.prolly_stat.proofs.row.row_at.Goals.{then-number-eq0, else-number-eq0}
-use Rattle.prolly_stat.proofs.row.row_at.Goals as goal
+use Rattle.prolly_text.proofs.Rows.{first_row, upper_row}
+use Rattle.prolly_text.proofs.numbers.table.row_at.Goals.{then-number-eq0, else-number-eq0}
+use Rattle.prolly_text.proofs.numbers.table.row_at.Goals as goal
 
 pub returns : goal.returns
 returns c = elim c.if-number-eq0.branch [

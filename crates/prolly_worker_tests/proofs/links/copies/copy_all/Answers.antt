@@ -1,5 +1,5 @@
 use Rattle.std.proofs.Common.{◌++◌, sym, ◌∙◌, ap}
-use Rattle.prolly_link.specs.Receipts.{end_given}
+use Rattle.prolly_link.specs.Progress.{end_given}
 use Rattle.prolly_entry.specs.lemmas.Lists.{nothing_came}
 use Rattle.prolly_worker_tests.proofs.links.copies.copy_all.Goals as goal
 

@@ -1,7 +1,7 @@
 use Rattle.std.proofs.Common.{◌++◌, ◌∙◌, ap}
-use Rattle.prolly_link.specs.Receipts.{end_given}
-use Rattle.prolly_link.specs.Remaining.{items_left, last_end, front_lost}
-use Rattle.prolly_link.specs.RemainingLaws.{all_lost}
+use Rattle.prolly_link.specs.Progress.{end_given}
+use Rattle.prolly_link.specs.ListIn.{items_left, last_end, front_lost}
+use Rattle.prolly_link.specs.ListInLaws.{all_lost}
 use Rattle.prolly_worker_tests.proofs.links.copies.copy_list.Goals as goal
 
 pub returns : goal.returns

@@ -1,8 +1,8 @@
 use Rattle.std.proofs.Common.{◌∙◌, ap}
 use Rattle.prolly_tree.specs.Events.{leaf_events}
-use Rattle.prolly_link.specs.Receipts.{end_given}
-use Rattle.prolly_link.specs.Remaining.{items_left, last_end}
-use Rattle.prolly_link.specs.RemainingLaws.{all_lost}
+use Rattle.prolly_link.specs.Progress.{end_given}
+use Rattle.prolly_link.specs.ListIn.{items_left, last_end}
+use Rattle.prolly_link.specs.ListInLaws.{all_lost}
 use Rattle.prolly_stage.specs.lemmas.Steps.{sends_of}
 use Rattle.prolly_worker_tests.proofs.stages.lists.leaves_of.Goals as goal
 

@@ -2,9 +2,9 @@ use Rattle.std.proofs.lemmas.Grind.{common_steps}
 use Rattle.std.proofs.Common.{◌≡◌, ℕ, List, length, ap, rules, refl, arith}
 use Rattle.prolly_tree.specs.Events.{has_level}
 use Rattle.prolly_build.proofs.WritingSteps.{tall_now, failed_now}
-use Rattle.prolly_build.proofs.run.written.Begun.push.Goals as goal
-use Rattle.prolly_build.proofs.run.written.Begun.push.Goals.{else-is_top-via-then-is_top+else-self}
-use Rattle.prolly_build.proofs.run.written.Begun.push.Goals.{else-is_top-via-else-is_top}
+use Rattle.prolly_build.proofs.run.writer.OpenFile.push.Goals as goal
+use Rattle.prolly_build.proofs.run.writer.OpenFile.push.Goals.{else-is_top-via-then-is_top+else-self}
+use Rattle.prolly_build.proofs.run.writer.OpenFile.push.Goals.{else-is_top-via-else-is_top}
 
 pub returns-then-self : goal.returns-then-self
 returns-then-self g c = λ head events old h. tall_now c.args.event.now h c.if-self.true

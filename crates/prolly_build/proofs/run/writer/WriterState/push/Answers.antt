@@ -1,7 +1,7 @@
 use Rattle.std.proofs.Common.{subst}
-use Rattle.prolly_build.specs.Writing.{HasWritten}
+use Rattle.prolly_build.specs.WriterState.{HasWritten}
 use Rattle.prolly_build.proofs.WritingSteps.{tall_stays, failed_stays}
-use Rattle.prolly_build.proofs.run.written.Written.push.Goals as goal
+use Rattle.prolly_build.proofs.run.writer.WriterState.push.Goals as goal
 
 pub returns-in-TooTall : goal.returns-in-TooTall
 returns-in-TooTall g c = λ head events old h. tall_stays c.args.event.now

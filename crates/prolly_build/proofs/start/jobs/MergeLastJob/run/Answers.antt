@@ -1,8 +1,8 @@
 use Rattle.std.proofs.Common.{subst, List}
 use Rattle.prolly_entry.specs.Pair.{Pair}
-use Rattle.prolly_merge.specs.Sent.{Counts}
+use Rattle.prolly_merge.specs.Merged.{Counts}
 use Rattle.prolly_build.proofs.MergingSteps.{same_links, all_ended, all_received, merges_all}
-use Rattle.prolly_build.proofs.start.mergers.MergeLastJob.run.Goals as goal
+use Rattle.prolly_build.proofs.start.jobs.MergeLastJob.run.Goals as goal
 
 pub returns : goal.returns
 returns g c =

@@ -3,8 +3,8 @@ use Rattle.std.specs.List.{flat_map}
 use Rattle.std.proofs.lemmas.Bool.{false≢true}
 use Rattle.std.proofs.lemmas.Bool.Decides.{Decides-eqb}
 use Rattle.std.proofs.lemmas.List.{nil_from_length}
-use Rattle.prolly_check.specs.Checked.{chunks_of}
-use Rattle.prolly_check.specs.Held.{pairs_held}
+use Rattle.prolly_check.specs.Chunks.{chunks_of}
+use Rattle.prolly_check.specs.HeldPairs.{pairs_held}
 use Rattle.prolly_check.specs.Leaves.{pairs_from}
 use Rattle.prolly_check.specs.ScanWay.{AreFirstFrom}
 use Rattle.prolly_check.specs.Sought.Sought.{Key}

@@ -4,7 +4,7 @@ use Rattle.prolly_entry.specs.Byte.{IsByte}
 use Rattle.prolly_entry.specs.lemmas.Lists.{rest_is}
 use Rattle.prolly_file.specs.Bytes.{are_bytes}
 use Rattle.prolly_file.specs.BytesLaws.{both_true, bytes_from_test, test_from_bytes}
-use Rattle.prolly_file.proofs.rejoined.RejoinedSource.read.Goals as goal
+use Rattle.prolly_file.proofs.device.rejoined.RejoinedSource.read.Goals as goal
 
 -- Where bytes are bytes, beside what else is true, so are those from a place on.
 still_bytes : (bytes : List ℕ) (at : ℕ) (other : Bool) → (are_bytes bytes && other) ≡ true →

@@ -3,7 +3,7 @@ use Rattle.std.proofs.Common.{◌≡◌, ◌∙◌, true, arith, length, sym, ap
 use Rattle.prolly_file.specs.Bytes.{are_bytes}
 use Rattle.prolly_file.specs.Script.{SourceScript}
 use Rattle.prolly_file.proofs.ScriptReads.{all_given, handed_out, rest_are_bytes}
-use Rattle.prolly_file.proofs.script_source.ScriptSourceSource.read.Goals as goal
+use Rattle.prolly_file.proofs.device.script.ScriptSourceSource.read.Goals as goal
 
 pub returns-clause-bytes : goal.returns-clause-bytes
 returns-clause-bytes c =

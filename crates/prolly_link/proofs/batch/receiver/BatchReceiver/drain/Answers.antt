@@ -1,5 +1,5 @@
 use Rattle.std.specs.VecDeque.{deque_len}
-use Rattle.prolly_link.specs.declared.progress.Progress.TheVariants.{Ended, Lost}
+use Rattle.prolly_link.specs.declared.message.Progress.TheVariants.{Ended, Lost}
 use Rattle.prolly_link.proofs.HandLemmas.{drained_batches}
 use Rattle.prolly_link.proofs.batch.receiver.BatchReceiver.drain.Goals as goal
 

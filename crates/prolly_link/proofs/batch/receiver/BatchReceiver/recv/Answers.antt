@@ -1,7 +1,7 @@
 use Rattle.std.proofs.Common.{◌++◌, ap, ◌∙◌}
 use Rattle.std.specs.Option.{option_to_list}
 use Rattle.std.specs.VecDeque.{deque_len}
-use Rattle.prolly_link.specs.Batches.{items_of}
+use Rattle.prolly_link.specs.Batch.{items_of}
 use Rattle.prolly_link.proofs.HandLemmas.{hand_after, given_one}
 use Rattle.prolly_link.proofs.batch.receiver.BatchReceiver.recv.Goals as goal
 

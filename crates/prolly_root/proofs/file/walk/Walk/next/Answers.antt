@@ -1,6 +1,6 @@
 use Rattle.std.proofs.Common.{Ok, drop, sym, subst}
 use Rattle.std.proofs.lemmas.Bool.{false≢true}
-use Rattle.prolly_check.specs.Checked.{chunks_of}
+use Rattle.prolly_check.specs.Chunks.{chunks_of}
 use Rattle.prolly_root.specs.Walk.{GoesOver, IsStartOf}
 use Rattle.prolly_root.proofs.Walking.{ends_there, fits, goes_over, number_fits}
 use Rattle.prolly_root.proofs.file.walk.Walk.next.Goals as goal

@@ -1,6 +1,6 @@
 use Rattle.std.proofs.Common.{ap, subst, sym, ◌∙◌}
 use Rattle.prolly_tree.specs.LookUp.{find}
-use Rattle.prolly_check.specs.Held.{pairs_held}
+use Rattle.prolly_check.specs.HeldPairs.{pairs_held}
 use Rattle.prolly_root.specs.Descent.{LastTested}
 use Rattle.prolly_root.proofs.Descending.{keeps_levels, keeps_none}
 use Rattle.prolly_root.proofs.look_up.reader.Reader.get.Goals as goal

@@ -1,9 +1,9 @@
 use Rattle.std.proofs.Common.{◌≡◌, ap, subst, sym, ◌∙◌}
-use Rattle.prolly_check.specs.Held.{pairs_held}
+use Rattle.prolly_check.specs.HeldPairs.{pairs_held}
 use Rattle.prolly_check.specs.Sought.{sought_of}
 use Rattle.prolly_check.specs.Sought.Sought.{Number}
 use Rattle.prolly_check.specs.Way.{IsCountWay, IsWayTo, nth_sought}
-use Rattle.prolly_root.specs.Descent.{LastTested, chunks_in}
+use Rattle.prolly_root.specs.Descent.{LastTested, chunks_on_way}
 use Rattle.prolly_root.proofs.Descending.{keeps_levels, keeps_none}
 use Rattle.prolly_root.proofs.look_up.reader.Reader.nth.Goals as goal
 
@@ -17,7 +17,7 @@ returns-clause-found g c =
     let root = c.args.self.now.root in
     let descent = c.in_ok-descent.descent in
     let found = c.in_ok-descent.ensures.found in
-    let chunks = chunks_in descent.levels.items in
+    let chunks = chunks_on_way descent.levels.items in
     let pair = c.in_ok-pair.pair in
     subst (λ v. (way : IsWayTo v root (Number c.args.n) chunks) →
     pair ≡ nth_sought way.there (pairs_held way.last) → IsCountWay root c.args.n chunks pair)

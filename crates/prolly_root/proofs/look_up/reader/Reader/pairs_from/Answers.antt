@@ -1,5 +1,5 @@
 use Rattle.std.proofs.Common.{ap, refl, subst, sym, take, ◌∙◌}
-use Rattle.prolly_check.specs.Held.{pairs_held}
+use Rattle.prolly_check.specs.HeldPairs.{pairs_held}
 use Rattle.prolly_check.specs.Leaves.{pairs_from}
 use Rattle.prolly_root.specs.Descent.{LastTested}
 use Rattle.prolly_root.proofs.Descending.{keeps_levels, keeps_none}

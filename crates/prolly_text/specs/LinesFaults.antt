@@ -1,0 +1,20 @@
+-- What is said of a text that is not packed. (This project's texts.)
+use Rattle.std.specs.Prelude.{ℕ, List, ◌++◌, codes}
+use Rattle.std.specs.Fmt.{decimal}
+use Rattle.prolly_text.specs.declared.lines.pack.LinesFault.{LinesFault}
+use Rattle.prolly_text.specs.declared.lines.pack.LinesFault.TheVariants as lines
+use Rattle.prolly_text.specs.declared.lines.pack.PackFault.{PackFault}
+use Rattle.prolly_text.specs.declared.lines.pack.PackFault.TheVariants as packs
+
+-- What is said of a line in hexadecimal.
+abbrev pub pack_text : PackFault → List ℕ
+pack_text packs.Memory = codes "out of memory"
+pack_text (packs.BadLine line) = codes "line " ++ decimal line ++
+    codes ": not a pair in hexadecimal"
+pack_text (packs.KeyTooLong line) = codes "line " ++ decimal line ++ codes ": key too long"
+pack_text (packs.ValueTooLong line) = codes "line " ++ decimal line ++ codes ": value too long"
+
+-- What is said of a line in one of the forms of lines.
+abbrev pub lines_text : LinesFault → List ℕ
+lines_text (lines.Pack fault) = pack_text fault
+lines_text (lines.BadText line) = codes "line " ++ decimal line ++ codes ": not a pair of text"

@@ -1,0 +1,8 @@
+//! The numbers of files, as tables, lines and JSON.
+mod json;
+mod records;
+mod table;
+
+pub use json::{append_json, append_records_json};
+pub use records::{RecordNumbers, append_flaw, append_records};
+pub use table::{TreeNumbers, append_table};

@@ -1,5 +1,0 @@
-use Rattle.prolly_tool.proofs.WrittenLines.{lines_are_packed}
-use Rattle.prolly_tool.proofs.laws.lines_are_packed.Goals as goal
-
-pub returns : goal.returns
-returns c = lines_are_packed
