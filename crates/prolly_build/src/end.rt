@@ -18,7 +18,7 @@ ghost use Rattle.prolly_build.specs.declared.run.writer.WriterState.TheVariants.
 
 use crate::config::Config;
 use crate::driver::Report;
-use crate::links::meet;
+use crate::links::meet_link;
 use crate::run::{OpenFile, RunResult, WriterResult, WriterState};
 use prolly_chunk::ChunkEvent;
 use prolly_file::Sink;
@@ -87,7 +87,7 @@ pub(crate) fn finish<R: Wait, W: Sink>(
 {
     let RunResult { out, pairs, wrote } = ran;
     let WriterResult { last, end, written } = wrote;
-    match meet(rt, out, last) {
+    match meet_link(rt, out, last) {
         Ok(()) => end_build(sink, written, end, pairs),
         Err(_) => Err(RunFault::Lost),
     }

@@ -52,7 +52,7 @@ pub(crate) fn both<A: Drop, B: Drop>(
 
 /// Meets the ends of a link: what was received is what was sent. The receiver may have lost its
 /// sender.
-pub(crate) fn meet<T: Drop, R: Wait>(
+pub(crate) fn meet_link<T: Drop, R: Wait>(
     rt: &R,
     sender: ClosedBatch<T>,
     receiver: BatchReceiver<T>,

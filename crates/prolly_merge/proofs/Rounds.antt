@@ -11,13 +11,13 @@ use Rattle.prolly_link.specs.declared.message.End.{End}
 use Rattle.prolly_link.specs.declared.message.Progress.{Progress}
 use Rattle.prolly_merge.specs.declared.heads.Head.{Head}
 use Rattle.prolly_merge.specs.declared.heads.Head.TheVariants.{Ready, Ended}
-use Rattle.prolly_merge.specs.declared.heads.Step.TheVariants.{Send}
+use Rattle.prolly_merge.specs.declared.heads.MergeStep.TheVariants.{Send}
 use Rattle.std.proofs.lemmas.Option.{slice_get_within}
 use Rattle.prolly_merge.specs.declared.heads.Peeked.{Peeked}
 use Rattle.prolly_merge.specs.Each.{Each, EachUpto}
 use Rattle.prolly_merge.specs.Head.{in_hand, Allows, has_key}
 use Rattle.prolly_merge.specs.Peeked.{peeked_of, heads_in, Advances}
-use Rattle.prolly_merge.specs.Step.{hands_of, MovesOn, IsStep}
+use Rattle.prolly_merge.specs.MergeStep.{hands_of, MovesOn, IsStep}
 use Rattle.prolly_merge.specs.Choice.{IsAbove, IsChosen, IsFirstHead}
 use Rattle.prolly_merge.proofs.EachLemmas.{each_same}
 use Rattle.prolly_merge.proofs.Peeks.{peeked_head, heads_are}

@@ -9,12 +9,12 @@ use Rattle.prolly_link.specs.Identity.{LinkId}
 use Rattle.prolly_link.specs.declared.message.End.{End}
 use Rattle.prolly_link.specs.declared.message.Progress.{Progress}
 use Rattle.prolly_merge.specs.declared.heads.Peeked.{Peeked}
-use Rattle.prolly_merge.specs.declared.heads.Step.TheVariants.{Send, Stop}
+use Rattle.prolly_merge.specs.declared.heads.MergeStep.TheVariants.{Send, Stop}
 use Rattle.prolly_merge.specs.Head.{in_hand, IsHeld, has_key, Allows, MovesIf, Stops}
 use Rattle.prolly_merge.specs.Places.{Place, heads_of, ComeFirst}
 use Rattle.prolly_merge.specs.Each.{Each}
 use Rattle.prolly_merge.specs.Peeked.{heads_in, AllHeld, Advances, places_after}
-use Rattle.prolly_merge.specs.Step.{hands_of, MovesOn, IsStep}
+use Rattle.prolly_merge.specs.MergeStep.{hands_of, MovesOn, IsStep}
 use Rattle.prolly_merge.proofs.Places.{AllMove, begins, goes_on as come_first_goes_on}
 
 pub nothing_more : (h got : List Record) → got ≡ [] → h ++ got ≡ h

@@ -9,14 +9,14 @@ use Rattle.prolly_entry.specs.Overlay.{change_of, or_else}
 use Rattle.prolly_entry.specs.lemmas.Orders.{order_self, below_greater}
 use Rattle.prolly_merge.specs.declared.heads.Head.{Head}
 use Rattle.prolly_merge.specs.declared.heads.Head.TheVariants.{Ready, Ended}
-use Rattle.prolly_merge.specs.declared.heads.Step.TheVariants.{Send}
+use Rattle.prolly_merge.specs.declared.heads.MergeStep.TheVariants.{Send}
 use Rattle.prolly_merge.specs.declared.two.Turn.TheVariants.{Left, Right, Both}
 use Rattle.prolly_link.specs.Identity.{LinkId}
 use Rattle.prolly_link.specs.declared.message.Progress.{Progress}
 use Rattle.prolly_merge.specs.declared.heads.Peeked.{Peeked}
 use Rattle.prolly_merge.specs.Head.{in_hand, Allows, has_key}
 use Rattle.prolly_merge.specs.Peeked.{Advances}
-use Rattle.prolly_merge.specs.Step.{MovesOn, IsStep}
+use Rattle.prolly_merge.specs.MergeStep.{MovesOn, IsStep}
 use Rattle.prolly_merge.specs.Turn.{IsTurn}
 use Rattle.prolly_merge.proofs.Steps.{has_moved, has_stayed}
 use Rattle.prolly_merge.proofs.Equal.{ready_same}

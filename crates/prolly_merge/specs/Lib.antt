@@ -11,7 +11,7 @@ pub mod Places
 -- Inputs beside their heads, and how they go on.
 pub mod Peeked
 -- One step of a merger.
-pub mod Step
+pub mod MergeStep
 -- Which of two inputs is next.
 pub mod Turn
 -- Which of many inputs is next.

@@ -70,7 +70,7 @@ impl<I: In<Record>> Peeked<I> {
 
 /// A merger sends a record, or stops with an end.
 #[derive(Drop)]
-pub(crate) enum Step {
+pub(crate) enum MergeStep {
     Send(Record),
     Stop(End),
 }

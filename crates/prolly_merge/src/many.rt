@@ -9,7 +9,7 @@ ghost use Rattle.prolly_merge.specs.Merged.{SendsAll, Counts};
 ghost use Rattle.prolly_merge.specs.Peeked.{peeked_of, AllHeld, Advances, places_after};
 ghost use Rattle.prolly_merge.specs.Places.{Halts};
 
-use crate::heads::{Head, Step, finish_all, receive_heads, receive_rests};
+use crate::heads::{Head, MergeStep, finish_all, receive_heads, receive_rests};
 use crate::round::next_of_many;
 use prolly_entry::{Pair, Record};
 use prolly_link::{End, In, Out, RunFault};
@@ -45,11 +45,11 @@ fn send_many<I: In<Record>, O: Out<Pair>, R: Wait>(
     let mut pairs = 0u64;
     for _ in rt.forever() {
         match next_of_many(rt, inputs, heads) {
-            Step::Send(record) => match send_put(rt, out, record, pairs) {
+            MergeStep::Send(record) => match send_put(rt, out, record, pairs) {
                 Ok(count) => pairs = count,
                 Err(_) => return (pairs, End::Fault(RunFault::Memory)),
             },
-            Step::Stop(end) => return (pairs, end),
+            MergeStep::Stop(end) => return (pairs, end),
         }
     }
     unreachable!()

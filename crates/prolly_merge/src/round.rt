@@ -3,11 +3,11 @@ ghost use Rattle.std.specs.Prelude.{◌≡◌, ◌<◌, ◌≤◌, Some, length,
 ghost use Rattle.prolly_merge.specs.Each.{EachUpto};
 ghost use Rattle.prolly_merge.specs.Head.{in_hand, has_key};
 ghost use Rattle.prolly_merge.specs.Peeked.{peeked_of, Advances};
-ghost use Rattle.prolly_merge.specs.Step.{IsStep, MovesOn};
+ghost use Rattle.prolly_merge.specs.MergeStep.{IsStep, MovesOn};
 ghost use Rattle.prolly_merge.specs.Choice.{IsLeast, IsChoice};
 ghost use Rattle.prolly_merge.specs.declared.heads.Peeked.{Peeked};
 
-use crate::heads::{Head, Step, receive};
+use crate::heads::{Head, MergeStep, receive};
 use prolly_entry::{Record, key_order};
 use prolly_link::{End, In};
 use std::cmp::Ordering;
@@ -69,7 +69,7 @@ fn take<I: In<Record>, R: Wait>(
     requires inputs { length heads.old ≡ length inputs.old }
     requires least { IsLeast heads.old (Some least) }
     ensures { IsStep I.link I.progress I.Follows I.received (peeked_of inputs.old heads.old)
-        (Step.Send result)
+        (MergeStep.Send result)
         (peeked_of inputs.new heads.new) }
 {
     let record = match next_of(rt, inputs, heads, least.at) {
@@ -87,14 +87,14 @@ pub(crate) fn next_of_many<I: In<Record>, R: Wait>(
     rt: &R,
     inputs: &mut [I],
     heads: &mut [Head],
-) -> Step
+) -> MergeStep
     requires { length heads.old ≡ length inputs.old }
     ensures { IsStep I.link I.progress I.Follows I.received (peeked_of inputs.old heads.old) result
         (peeked_of inputs.new heads.new) }
 {
     match choose(heads) {
-        Choice::Take(least) => Step::Send(take(rt, least, inputs, heads)),
-        Choice::Stop(end) => Step::Stop(end),
+        Choice::Take(least) => MergeStep::Send(take(rt, least, inputs, heads)),
+        Choice::Stop(end) => MergeStep::Stop(end),
     }
 }
 

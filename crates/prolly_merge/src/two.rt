@@ -8,11 +8,11 @@ ghost use Rattle.prolly_merge.specs.Inputs.{inputs_of, lists_of, stop_end, Ends}
 ghost use Rattle.prolly_merge.specs.Merged.{SendsAll, Counts};
 ghost use Rattle.prolly_merge.specs.Head.{IsHeld};
 ghost use Rattle.prolly_merge.specs.Peeked.{Advances, places_after};
-ghost use Rattle.prolly_merge.specs.Step.{IsStep};
+ghost use Rattle.prolly_merge.specs.MergeStep.{IsStep};
 ghost use Rattle.prolly_merge.specs.Places.{Halts};
 ghost use Rattle.prolly_merge.specs.Turn.{IsTurn};
 
-use crate::heads::{Head, Peeked, Step};
+use crate::heads::{Head, MergeStep, Peeked};
 use prolly_entry::{Record, key_order};
 use prolly_link::{End, In, Out, RunFault};
 use std::cmp::Ordering;
@@ -29,7 +29,11 @@ pub struct MergedTwo<I, O: Out<Record>> {
 }
 
 // The next record of the two, which its inputs give away, or why there is none.
-fn next_of_two<I: In<Record>, R: Wait>(rt: &R, left: &mut Peeked<I>, right: &mut Peeked<I>) -> Step
+fn next_of_two<I: In<Record>, R: Wait>(
+    rt: &R,
+    left: &mut Peeked<I>,
+    right: &mut Peeked<I>,
+) -> MergeStep
     ensures { IsStep I.link I.progress I.Follows I.received (left.old ∷ right.old ∷ []) result
         (left.new ∷ right.new ∷ []) }
 {
@@ -40,10 +44,10 @@ fn next_of_two<I: In<Record>, R: Wait>(rt: &R, left: &mut Peeked<I>, right: &mut
             drop(left.next(rt));
             right.next(rt)
         }
-        Turn::Stop(end) => return Step::Stop(end),
+        Turn::Stop(end) => return MergeStep::Stop(end),
     };
     match head {
-        Head::Ready(record) => Step::Send(record),
+        Head::Ready(record) => MergeStep::Send(record),
         Head::Ended(_) => unreachable!(),
     }
 }
@@ -69,14 +73,14 @@ fn send_two<I: In<Record>, O: Out<Record>, R: Wait>(
     let mut items = 0u64;
     for _ in rt.forever() {
         match next_of_two(rt, left, right) {
-            Step::Send(record) => {
+            MergeStep::Send(record) => {
                 let size = record.size();
                 if let Err(_) = out.send_sized(rt, record, size) {
                     return (items, End::Fault(RunFault::Memory));
                 }
                 items = items.saturating_add(1);
             }
-            Step::Stop(end) => return (items, end),
+            MergeStep::Stop(end) => return (items, end),
         }
     }
     unreachable!()

@@ -4,7 +4,7 @@ ghost use Rattle.prolly_build.specs.RunResult.{HandsOn, IsUnsent, AreLoaded};
 
 use crate::end::{Halt, close_all, refuse};
 use crate::run::lists::{pop_first, push_first};
-use crate::run::writer::{WriterResult, write_all};
+use crate::run::writer::{WriterResult, write_chunks};
 use crate::start::{Context, Input, Load, Permit, Runtime};
 use prolly_chunk::ChunkEvent;
 use prolly_entry::Record;
@@ -37,7 +37,7 @@ pub(crate) fn load_all<'s, E, R: Runtime, G: Gate, P: Permit, S: Input + 's, W: 
         (vec_capacity closed.old ≤ vec_capacity closed.new) }
 {
     let Some(out) = pop_first(&mut outs) else {
-        return Ok(write_all(site.rt, site.config, last, sink));
+        return Ok(write_chunks(site.rt, site.config, last, sink));
     };
     let Some(source) = pop_first(sources) else {
         unreachable!()

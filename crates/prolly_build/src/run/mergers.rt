@@ -10,7 +10,7 @@ ghost use Rattle.prolly_build.specs.LastMerger.{IsGathered};
 ghost use Rattle.prolly_build.specs.RecordLinks.{IsFed};
 
 use crate::end::{Halt, close_all, refuse};
-use crate::links::{LinkPair, RecordLinks, meet};
+use crate::links::{LinkPair, RecordLinks, meet_link};
 use crate::run::lists::{fork_at, join_at, pop_first};
 use crate::run::loaders::load_all;
 use crate::run::stages::RunResult;
@@ -37,7 +37,7 @@ fn meet_all<R: Wait>(
     let (Some(sender), Some(receiver)) = (pop_first(&mut closed), pop_first(&mut inputs)) else {
         return Ok(());
     };
-    meet(rt, sender, receiver)?;
+    meet_link(rt, sender, receiver)?;
     meet_all(rt, closed, inputs)
 }
 
@@ -156,8 +156,8 @@ fn meet_two<R: Wait>(
         (inputs.1.progress ≡ Ended sent.1.end)) }
     ensures lost { IfErr result (λ halt. halt ≡ Lost) }
 {
-    meet(rt, sent.0, inputs.0)?;
-    meet(rt, sent.1, inputs.1)
+    meet_link(rt, sent.0, inputs.0)?;
+    meet_link(rt, sent.1, inputs.1)
 }
 
 /// The place of a merger of two among the inputs of its round, once the mergers left of it have

@@ -7,7 +7,7 @@ ghost use Rattle.prolly_build.specs.Stages.{HasStaged};
 ghost use Rattle.prolly_build.specs.declared.end.Halt.TheVariants.{Lost};
 
 use crate::end::{Halt, refuse};
-use crate::links::{LowerLinks, NewLink, RecordLinks, meet};
+use crate::links::{LowerLinks, NewLink, RecordLinks, meet_link};
 use crate::run::mergers::gather;
 use crate::run::writer::WriterResult;
 use crate::start::{Context, CutLeaves, CutNodes, Input, Permit, Runtime};
@@ -130,7 +130,7 @@ impl<T: Drop> RunResult<T> {
             pairs,
             wrote,
         } = self;
-        meet(rt, sent, input)?;
+        meet_link(rt, sent, input)?;
         Ok(RunResult { out, pairs, wrote })
     }
 }

@@ -25,7 +25,7 @@ pub(crate) struct WriterResult {
 }
 
 /// Writes the header, and then the chunks of the events that the last link carries.
-pub(crate) fn write_all<R: Wait, W: Sink>(
+pub(crate) fn write_chunks<R: Wait, W: Sink>(
     rt: &R,
     config: Config,
     mut last: BatchReceiver<ChunkEvent>,

@@ -1,7 +1,7 @@
 use Rattle.std.proofs.Common.{◌≡◌}
 use Rattle.prolly_merge.specs.Each.{EachUpto}
 use Rattle.prolly_merge.specs.Peeked.{peeked_of}
-use Rattle.prolly_merge.specs.Step.{MovesOn}
+use Rattle.prolly_merge.specs.MergeStep.{MovesOn}
 use Rattle.prolly_merge.proofs.round.skip_key.Given as goal
 
 abbrev pub invariant-loop-i : goal.invariant-loop-i

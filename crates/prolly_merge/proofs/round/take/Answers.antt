@@ -1,7 +1,7 @@
 use Rattle.std.proofs.Common.{◌≡◌, ◌<◌, length, slice_set, sym, ◌∙◌, subst, arith}
 use Rattle.prolly_merge.specs.Each.{EachUpto}
 use Rattle.prolly_merge.specs.Peeked.{peeked_of}
-use Rattle.prolly_merge.specs.Step.{MovesOn}
+use Rattle.prolly_merge.specs.MergeStep.{MovesOn}
 use Rattle.prolly_merge.specs.Choice.{IsChosen, IsFirstHead, IsFirstUnless}
 use Rattle.prolly_merge.proofs.Peeks.{heads_are}
 use Rattle.prolly_merge.proofs.Rounds.{chosen_head, chosen_within, chosen_same, chosen_not_ended}

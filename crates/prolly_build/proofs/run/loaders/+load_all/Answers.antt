@@ -27,7 +27,7 @@ returns-in_default-clause-loaded g t c = grind (arith, common_steps) steps 20000
 
 pub returns-in_default-clause-hands_on : goal.returns-in_default-clause-hands_on
 returns-in_default-clause-hands_on g t c =
-    record { written = c.write_all.ensures; refused = tt; begun = tt }
+    record { written = c.write_chunks.ensures; refused = tt; begun = tt }
 
 pub returns-in_default-start-clause-fewer
     : goal.returns-in_default-start-clause-fewer

@@ -7,5 +7,5 @@ returns-clause-met g t c =
     on_ok_weaker c.meet_all.result
     (all_met c.args.inputs.items c.args.closed.items c.in-Some-Some.receiver c.in-Some-Some.sender
     c.pop_first-2.new.list.items c.pop_first.new.list.items
-    c.in-Some-Some.ensures'.items c.in-Some-Some.ensures.items c.in_ok-meet.ensures.met)
+    c.in-Some-Some.ensures'.items c.in-Some-Some.ensures.items c.in_ok-meet_link.ensures.met)
     c.meet_all.ensures.met

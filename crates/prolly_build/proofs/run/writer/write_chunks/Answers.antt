@@ -1,5 +1,5 @@
 use Rattle.prolly_build.proofs.RanSteps.{all_written}
-use Rattle.prolly_build.proofs.run.writer.write_all.Goals as goal
+use Rattle.prolly_build.proofs.run.writer.write_chunks.Goals as goal
 
 pub returns : goal.returns
 returns g c = all_written c.args.config c.args.last _ _ c.write_events-written.new.input

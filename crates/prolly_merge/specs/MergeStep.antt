@@ -10,8 +10,8 @@ use Rattle.prolly_merge.specs.Head.{in_hand, IsHeld, Allows, Moves, Stops}
 use Rattle.prolly_merge.specs.Peeked.{heads_in}
 use Rattle.prolly_merge.specs.declared.heads.Head.{Head}
 use Rattle.prolly_merge.specs.declared.heads.Peeked.{Peeked}
-use Rattle.prolly_merge.specs.declared.heads.Step.{Step}
-use Rattle.prolly_merge.specs.declared.heads.Step.TheVariants.{Send, Stop}
+use Rattle.prolly_merge.specs.declared.heads.MergeStep.{MergeStep}
+use Rattle.prolly_merge.specs.declared.heads.MergeStep.TheVariants.{Send, Stop}
 
 -- The records of heads, a list for each.
 abbrev pub hands_of : List Head → List (List Record)
@@ -29,7 +29,7 @@ module _ {I : Type 0} (link : I → LinkId) (progress : I → Progress) (Follows
 
   -- The last record of the least key among the heads is sent, and the inputs that have the key move
   -- on; or the merger stops.
-  abbrev pub IsStep : List (Peeked I) → Step → List (Peeked I) → Type 0
+  abbrev pub IsStep : List (Peeked I) → MergeStep → List (Peeked I) → Type 0
   IsStep os (Send r) ns =
       AllByRecursion (Allows r.key) (heads_in os) ×
       (last_change_of (hands_of (heads_in os)) r.key ≡ Some r.value) ×
