@@ -1,5 +1,6 @@
 -- What the leaf stage sends, and its open leaf, with one pair more and at a clean end.
-use Rattle.std.proofs.Common.{◌≡◌, ℕ, ◌+◌, ◌<◌, ◌≤◌, ◌^◌, Bool, true, false, not, cond, min, ◌||◌}
+use Rattle.std.proofs.Common.{◌≡◌, ℕ, suc, ◌+◌, ◌<◌, ◌≤◌, ◌^◌, Bool, true, false, not, ◌&&◌, ◌||◌}
+use Rattle.std.proofs.Common.{cond, min}
 use Rattle.std.proofs.Common.{nat_le, List, [], ◌∷◌, ◌++◌, length, map, Option, refl, sym, ap, ◌∙◌}
 use Rattle.std.proofs.Common.{subst, arith, append-nil, length-append}
 use Rattle.std.proofs.lemmas.List.{map-append}
@@ -17,10 +18,12 @@ use Rattle.prolly_tree.specs.Split.{split, closed_groups, open_entries, is_close
 use Rattle.prolly_tree.specs.Tree.{pair_is_boundary, last_key, leaves_of}
 use Rattle.prolly_tree.specs.Chunk.{Chunk, chunk_of}
 use Rattle.prolly_tree.specs.Events.{clean, faulty, leaf_events, greatest_count}
-use Rattle.prolly_tree.specs.lemmas.Splits.{flat, as_group}
-use Rattle.prolly_laws.specs.Splits.{split_splits, split_step}
+use Rattle.prolly_tree.specs.lemmas.Splits.{flat, as_group, closes, Ends}
+use Rattle.prolly_laws.specs.Splits.{split_splits, split_step, split_goes_on, closed_parts}
+use Rattle.prolly_laws.specs.Splits.{open_parts}
 use Rattle.prolly_chunk.specs.Chunk.{empty_chunk, with_pair, has_entries}
 use Rattle.prolly_chunk.specs.LeafLevel.{LeafState, leaf_level, LeafBegins, LeafTakes, LeafEnds}
+use Rattle.prolly_chunk.specs.LeafLevel.{is_whole_leaf, LeafPasses}
 use Rattle.prolly_chunk.proofs.Keys.{same_chunk}
 use Rattle.prolly_chunk.proofs.Groups.{some_if, has_entries-snoc, closed_by_any, in_parts}
 
@@ -235,3 +238,95 @@ leaf_ends {C} cut_of level cut leaf had_pairs last is_left o i l cut' version pa
     subst Last (o ∙ e) (l ∙ ap (λ b. some_if b leaf) i) in
     leaf_end (cut_of cut') version pairs ∙ ap (λ x. leaf_events (cut_of cut') version faulty
     pairs ++ option_to_list x) (sym l')
+
+-- ---- a leaf that passes whole
+
+closes_any : (cut : Cut) (n : ℕ) (p : Pair) →
+    closes (pair_is_boundary cut) 1 n p ≡ pair_is_boundary cut p
+closes_any cut n p = ap (λ b. b && pair_is_boundary cut p) (le-leb 1 (suc n) (omega arith))
+
+whole_ends : (cut : Cut) (n : ℕ) (leaf : List Pair) → is_whole_leaf cut leaf ≡ true →
+    Ends (pair_is_boundary cut) 1 n leaf
+whole_ends cut n [] h = cc
+whole_ends cut n (p ∷ []) h = closes_any cut n p ∙ h
+whole_ends cut n (p ∷ q ∷ ps) h =
+    go (pair_is_boundary cut p) (is_whole_leaf cut (q ∷ ps)) refl refl
+    (whole_ends cut (suc n) (q ∷ ps)) h
+  where
+    go : (first others : Bool) → pair_is_boundary cut p ≡ first →
+        is_whole_leaf cut (q ∷ ps) ≡ others → (is_whole_leaf cut (q ∷ ps) ≡ true →
+        Ends (pair_is_boundary cut) 1 (suc n) (q ∷ ps)) → (not first && others) ≡ true →
+        Ends (pair_is_boundary cut) 1 n (p ∷ q ∷ ps)
+    go false true f o more e = (closes_any cut n p ∙ f, more o)
+    go false false f o more e = cc
+    go true others f o more e = cc
+
+-- A whole leaf is the one group of its own split, and it is closed.
+whole_closed : (cut : Cut) (leaf : List Pair) → is_whole_leaf cut leaf ≡ true →
+    closed_groups (pair_is_boundary cut) 1 leaf ≡ leaf ∷ []
+whole_closed cut leaf h =
+    let test = pair_is_boundary cut in
+    ap (closed_groups test 1) (sym (append-nil (leaf ++ []) ∙ append-nil leaf)) ∙
+    closed_parts test 1 (leaf ∷ []) [] (whole_ends cut 0 leaf h, tt) tt
+
+whole_open : (cut : Cut) (leaf : List Pair) → is_whole_leaf cut leaf ≡ true →
+    open_entries (pair_is_boundary cut) 1 leaf ≡ []
+whole_open cut leaf h =
+    let test = pair_is_boundary cut in
+    ap (open_entries test 1) (sym (append-nil (leaf ++ []) ∙ append-nil leaf)) ∙
+    ap flat (open_parts test 1 (leaf ∷ []) [] (whole_ends cut 0 leaf h, tt) tt)
+
+no_entries : {A : Type 0} (xs : List A) → has_entries xs ≡ false → xs ≡ []
+no_entries [] e = refl
+no_entries (x ∷ xs) e = cc
+
+whole_some : (cut : Cut) (pairs leaf : List Pair) → is_whole_leaf cut leaf ≡ true →
+    has_entries (pairs ++ leaf) ≡ true
+whole_some cut (p ∷ pairs) leaf h = refl
+whole_some cut [] [] h = cc
+whole_some cut [] (p ∷ leaf) h = refl
+
+module _ {C : Type 0} (cut_of : C → Cut) where
+  abbrev Passed : C → List Pair → List Pair → LeafState C → Type 0
+  Passed cut pairs leaf old = nat_le 2 (length old.leaf.bytes) ≡ false →
+      (state cut_of old.cut old.leaf true ≡ leaf_level cut_of cut (pairs ++ leaf))
+      × ((version : Version) → leaf_events (cut_of cut) version faulty (pairs ++ leaf) ≡
+      leaf_events (cut_of cut) version faulty pairs ++ chunk_of version 0 leaf ∷ [])
+
+  passed_behind : (cut : C) (pairs leaf : List Pair) → is_whole_leaf (cut_of cut) leaf ≡ true →
+      Passed cut pairs leaf (leaf_level cut_of cut pairs)
+  passed_behind cut pairs leaf h between =
+      let test = pair_is_boundary (cut_of cut) in
+      let none : open_entries test 1 pairs ≡ [] =
+      no_entries (open_entries test 1 pairs) (sym (leaf_has (open_entries test 1 pairs)) ∙ between)
+      in
+      let more = split_goes_on test 1 pairs leaf in
+      let opens : open_entries test 1 (pairs ++ leaf) ≡ [] =
+      more.2 ∙ ap (λ o. open_entries test 1 (o ++ leaf)) none ∙ whole_open (cut_of cut) leaf h in
+      let closed : closed_groups test 1 (pairs ++ leaf) ≡ closed_groups test 1 pairs ++ leaf ∷ [] =
+      more.1 ∙ ap (λ o. closed_groups test 1 pairs ++ closed_groups test 1 (o ++ leaf)) none
+      ∙ ap (λ gs. closed_groups test 1 pairs ++ gs) (whole_closed (cut_of cut) leaf h) in (
+        ap (λ o. state cut_of cut (chunk_of One 0 o) true) (none ∙ sym opens)
+            ∙ ap (state cut_of cut (open_leaf (cut_of cut) (pairs ++ leaf)))
+            (sym (whole_some (cut_of cut) pairs leaf h)),
+        λ version. ap (map (chunk_of version 0)) closed
+            ∙ map-append (chunk_of version 0) (closed_groups test 1 pairs) (leaf ∷ []),
+      )
+
+  -- What the level's code does with a leaf that passes is what `LeafPasses` says.
+  pub leaf_passes : (old : LeafState C) (cut : C) (leaf : Chunk) (had_pairs : Bool) →
+      state cut_of cut leaf had_pairs ≡ old → nat_le 2 (length leaf.bytes) ≡ false →
+      LeafPasses cut_of old (state cut_of cut leaf true)
+  leaf_passes old cut leaf had_pairs o between = subst (λ x. LeafPasses cut_of x
+      (state cut_of cut leaf true)) o (record {
+        state = λ cut' pairs whole h e. (at cut' pairs whole h e).0;
+        events = λ cut' version pairs whole h e. (at cut' pairs whole h e).1 version;
+      })
+    where
+      at : (cut' : C) (pairs whole : List Pair) → is_whole_leaf (cut_of cut') whole ≡ true →
+          state cut_of cut leaf had_pairs ≡ leaf_level cut_of cut' pairs →
+          (state cut_of cut leaf true ≡ leaf_level cut_of cut' (pairs ++ whole))
+          × ((version : Version) → leaf_events (cut_of cut') version faulty (pairs ++ whole) ≡
+          leaf_events (cut_of cut') version faulty pairs ++ chunk_of version 0 whole ∷ [])
+      at cut' pairs whole h e = subst (Passed cut' pairs whole) (sym e)
+          (passed_behind cut' pairs whole h) between

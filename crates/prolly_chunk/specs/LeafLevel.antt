@@ -1,5 +1,5 @@
 -- The level of the leaves, as a machine that takes pairs one by one.
-use Rattle.std.specs.Prelude.{◌≡◌, Bool, List, [], ◌∷◌, ◌++◌, Option}
+use Rattle.std.specs.Prelude.{◌≡◌, Bool, true, false, not, ◌&&◌, List, [], ◌∷◌, ◌++◌, Option}
 use Rattle.std.specs.Option.{option_to_list}
 use Rattle.prolly_entry.specs.declared.version.Version.{Version}
 use Rattle.prolly_entry.specs.declared.version.Version.TheVariants.{One}
@@ -46,3 +46,19 @@ LeafEnds {C} cut_of level last = (cut : C) (version : Version) (pairs : List Pai
     level ≡ leaf_level cut_of cut pairs →
     leaf_events (cut_of cut) version clean pairs ≡ leaf_events (cut_of cut) version faulty pairs ++
     option_to_list last
+
+-- The last pair is a boundary, and none before it is.
+abbrev pub is_whole_leaf : Cut → List Pair → Bool
+is_whole_leaf cut [] = false
+is_whole_leaf cut (p ∷ []) = pair_is_boundary cut p
+is_whole_leaf cut (p ∷ q ∷ ps) = not (pair_is_boundary cut p) && is_whole_leaf cut (q ∷ ps)
+
+-- A whole leaf passes the level, whatever pairs came before: the level is as behind its pairs, and
+-- its event is what the leaf stage sends for them.
+pub record LeafPasses {C : Type 0} (cut_of : C → Cut) (old new : LeafState C) : Type 0 where
+  pub state : (cut : C) (pairs leaf : List Pair) → is_whole_leaf (cut_of cut) leaf ≡ true →
+      old ≡ leaf_level cut_of cut pairs → new ≡ leaf_level cut_of cut (pairs ++ leaf)
+  pub events : (cut : C) (version : Version) (pairs leaf : List Pair) →
+      is_whole_leaf (cut_of cut) leaf ≡ true → old ≡ leaf_level cut_of cut pairs →
+      leaf_events (cut_of cut) version faulty (pairs ++ leaf) ≡ leaf_events (cut_of cut) version
+      faulty pairs ++ chunk_of version 0 leaf ∷ []

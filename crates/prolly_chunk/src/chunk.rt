@@ -1,11 +1,13 @@
 //! A chunk that is filled entry by entry.
 ghost use Rattle.std.specs.Prelude.{◌≡◌, ◌<◌, ◌≤◌, ◌^◌, nat_le, length, OnOk, OnErr, IfOk};
+ghost use Rattle.prolly_entry.specs.Reference.{reference_of};
 ghost use Rattle.prolly_tree.specs.Events.{event_is_boundary};
 ghost use Rattle.prolly_tree.specs.Tree.{pair_is_boundary};
 ghost use Rattle.prolly_chunk.specs.Chunk.{empty_chunk, with_pair, with_child};
 
+use crate::borrowed::BorrowedEvent;
 use crate::event::ChunkEvent;
-use prolly_entry::{Cut, KEY_START, Pair, Version, append_child_as, append_pair};
+use prolly_entry::{Cut, KEY_START, Pair, Ref, Version, append_child_as, append_pair};
 use std::alloc::{AllocError, Global};
 use std::marker::Model;
 use std::mem;
@@ -87,14 +89,16 @@ impl Chunk {
         Ok(cut.is_boundary_pair(pair, &self.bytes[start..]))
     }
 
-    /// Adds the child that an event stands for, and says whether its entry is a boundary. An `Err`
-    /// leaves the chunk as it was.
+    /// Adds the child that an event stands for, whose chunk has this reference, and says whether its
+    /// entry is a boundary. An `Err` leaves the chunk as it was.
     pub(crate) fn add_child<C: Cut>(
         &mut self,
         cut: &C,
         version: Version,
-        event: &ChunkEvent,
+        event: &BorrowedEvent,
+        reference: &Ref,
     ) -> Result<bool, AllocError>
+        requires { reference.now.0 ≡ reference_of event.now.bytes }
         ensures added { OnOk result (self.new ≡ with_child version self.old event.now) }
         ensures boundary { IfOk result (λ is_boundary. is_boundary ≡ event_is_boundary
             (C.cut cut.now) version event.now) }
@@ -102,13 +106,7 @@ impl Chunk {
     {
         let start = self.bytes.len();
         let key = event.key();
-        append_child_as(
-            &mut self.bytes,
-            version,
-            key,
-            &event.reference(),
-            event.count(),
-        )?;
+        append_child_as(&mut self.bytes, version, key, reference, event.count())?;
         self.key_start = start + KEY_START;
         self.key_length = key.len();
         // The count stays at the greatest number, since more pairs than that are not told apart.

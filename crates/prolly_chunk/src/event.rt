@@ -2,6 +2,7 @@
 ghost use Rattle.std.specs.Prelude.{◌≡◌, ◌≤◌, length, vec_len};
 ghost use Rattle.prolly_entry.specs.Reference.{reference_of};
 
+use crate::borrowed::BorrowedEvent;
 use crate::chunk::Chunk;
 use prolly_entry::Ref;
 use std::marker::Model;
@@ -77,20 +78,6 @@ impl ChunkEvent {
         ChunkEvent { reference, ..self }
     }
 
-    /// The same event, which carries this reference of its bytes from now on. Takes no hash, and no
-    /// memory.
-    ///
-    /// For whoever has had to hash the same bytes before.
-    pub fn with_known_reference(self, reference: Ref) -> ChunkEvent
-        requires { reference.0 ≡ reference_of self.bytes }
-        ensures { result ≡ self }
-    {
-        ChunkEvent {
-            reference: Some(reference),
-            ..self
-        }
-    }
-
     /// The level: 0 for a leaf, and for a node one more than that of its children.
     pub fn level(&self) -> u8
         ensures { result ≡ self.now.level }
@@ -131,6 +118,13 @@ impl ChunkEvent {
         ensures { result ≡ self.now.count }
     {
         self.chunk.count()
+    }
+
+    /// What the event tells, without its reference. Takes no hash.
+    pub fn as_borrowed(&self) -> BorrowedEvent<'_>
+        ensures { result ≡ self.now }
+    {
+        BorrowedEvent::new(self.level(), self.key(), self.count(), self.bytes())
     }
 
     /// The bytes as a vector. Takes no memory, and copies nothing.

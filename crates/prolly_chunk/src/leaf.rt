@@ -1,6 +1,6 @@
 //! The level of the leaves.
-ghost use Rattle.std.specs.Prelude.{IfOk};
-ghost use Rattle.prolly_chunk.specs.LeafLevel.{LeafBegins, LeafTakes, LeafEnds};
+ghost use Rattle.std.specs.Prelude.{◌≡◌, true, false, not, nat_le, length, IfOk};
+ghost use Rattle.prolly_chunk.specs.LeafLevel.{LeafBegins, LeafTakes, LeafPasses, LeafEnds};
 
 use crate::chunk::Chunk;
 use crate::event::ChunkEvent;
@@ -51,6 +51,23 @@ impl<C: Cut> LeafLevel<C> {
             return Ok(Some(self.leaf.take_event(alloc)?));
         }
         Ok(None)
+    }
+
+    /// Lets a whole leaf pass where no leaf is open, and answers whether it did: the caller has the
+    /// leaf's event, and sends it. Else the level is as it was.
+    ///
+    /// A leaf is whole where its last pair is a boundary and none before it is. Takes no time and
+    /// no memory.
+    pub fn pass(&mut self) -> bool
+        ensures passes { result ≡ not (nat_le 2 (length self.old.leaf.bytes)) }
+        ensures passed { result ≡ true → LeafPasses C.cut self.old self.new }
+        ensures same { result ≡ false → self.new ≡ self.old }
+    {
+        if self.leaf.has_entries() {
+            return false;
+        }
+        self.has_pairs = true;
+        true
     }
 
     /// What is left at a clean end: the open leaf where it has pairs, or the leaf without pairs

@@ -2,11 +2,13 @@
 //! threads, which takes a level's entries one by one and answers the chunks that they close.
 #![tactic(auto)]
 
+mod borrowed;
 mod chunk;
 mod event;
 mod leaf;
 mod node;
 
+pub use borrowed::BorrowedEvent;
 pub use event::ChunkEvent;
 pub use leaf::LeafLevel;
 pub use node::NodeLevel;

@@ -1,11 +1,13 @@
 //! A level of nodes.
-ghost use Rattle.std.specs.Prelude.{◌≡◌, ◌≤◌, IfOk};
+ghost use Rattle.std.specs.Prelude.{◌≡◌, ◌-◌, ◌≤◌, IfOk};
+ghost use Rattle.prolly_entry.specs.Reference.{reference_of};
 ghost use Rattle.prolly_chunk.specs.NodeLevel.{NodeBegins, NodeTakes, NodeEnds, one_more_received};
 ghost use Rattle.prolly_chunk.specs.NodeLevel.{is_several};
 
+use crate::borrowed::BorrowedEvent;
 use crate::chunk::Chunk;
 use crate::event::ChunkEvent;
-use prolly_entry::{Cut, Version};
+use prolly_entry::{Cut, Ref, Version};
 use std::alloc::{AllocError, Global};
 use std::marker::Model;
 
@@ -93,10 +95,43 @@ impl<C: Cut> NodeLevel<C> {
         if event.level() != self.node.level() - 1 {
             return Ok(None);
         }
+        self.add(alloc, &event.as_borrowed(), &event.reference())
+    }
+
+    /// Takes an event whose chunk has this reference, as [`NodeLevel::push`] does. Takes no hash of
+    /// the child's bytes.
+    pub fn push_known(
+        &mut self,
+        alloc: Global,
+        event: &BorrowedEvent,
+        reference: &Ref,
+    ) -> Result<Option<ChunkEvent>, AllocError>
+        requires { reference.now.0 ≡ reference_of event.now.bytes }
+        ensures { IfOk result (λ closed. NodeTakes C.cut self.old self.new event.now closed) }
+    {
+        if event.level() != self.node.level() - 1 {
+            return Ok(None);
+        }
+        self.add(alloc, event, reference)
+    }
+
+    /// Adds the child that an event of the level below stands for.
+    fn add(
+        &mut self,
+        alloc: Global,
+        event: &BorrowedEvent,
+        reference: &Ref,
+    ) -> Result<Option<ChunkEvent>, AllocError>
+        requires below { event.now.level ≡ self.old.node.level - 1 }
+        requires reference { reference.now.0 ≡ reference_of event.now.bytes }
+        ensures { IfOk result (λ closed. NodeTakes C.cut self.old self.new event.now closed) }
+    {
         self.received = self.received.one_more();
         // A node of one child would be no step towards a root, so the first child closes none.
         let is_first = !self.node.has_entries();
-        let is_boundary = self.node.add_child(&self.cut, self.version, event)?;
+        let is_boundary = self
+            .node
+            .add_child(&self.cut, self.version, event, reference)?;
         if is_first || !is_boundary {
             return Ok(None);
         }

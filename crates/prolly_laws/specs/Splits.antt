@@ -1,8 +1,9 @@
 -- How a list is split into groups.
 use Rattle.std.proofs.Common.{◌≡◌, ℕ, Bool, List, ◌++◌}
 use Rattle.prolly_tree.specs.Split.{split, closed_groups, open_groups, IsSplit, OneSplit, FewGroups}
-use Rattle.prolly_tree.specs.Split.{SplitStep}
+use Rattle.prolly_tree.specs.Split.{SplitStep, SplitGoesOn}
 use Rattle.prolly_tree.specs.lemmas.Splits.{flat, as_group, Open, AllEnd, Parts}
+use Rattle.prolly_tree.proofs.splits.Behind as behind
 use Rattle.prolly_tree.proofs.splits.Parts as proved
 use Rattle.prolly_tree.proofs.splits.Splits as splits
 use Rattle.prolly_tree.proofs.stages.Steps as steps
@@ -58,3 +59,8 @@ few_groups = splits.few_groups
 pub split_step : {A : Type 0} (test : A → Bool) (least : ℕ) (list : List A) (x : A) →
     SplitStep test least list x
 split_step = steps.split_step
+
+-- Behind a list a split goes on from the list's open group.
+pub split_goes_on : {A : Type 0} (test : A → Bool) (least : ℕ) (xs ys : List A) →
+    SplitGoesOn test least xs ys
+split_goes_on = behind.split_goes_on

@@ -7,7 +7,7 @@ ghost use Rattle.prolly_entry.specs.Spelling.{PairSpellingsApart, RecordSpelling
 ghost use Rattle.prolly_entry.specs.Spelling.{ChildSpellingsApart};
 ghost use Rattle.prolly_entry.specs.Reading.{FirstAreGood, OneReading, SomeReading};
 ghost use Rattle.prolly_tree.specs.RecordFile.{RecordFilesAreRead, RecordFilesMakeFiles};
-ghost use Rattle.prolly_tree.specs.Split.{OneSplit, FewGroups, SplitStep};
+ghost use Rattle.prolly_tree.specs.Split.{OneSplit, FewGroups, SplitStep, SplitGoesOn};
 
 /// Keys are compared byte by byte, as the words say.
 pub fn keys_are_ordered_bytewise()
@@ -57,4 +57,9 @@ pub fn groups_are_few<A>()
 /// A split goes on entry by entry.
 pub fn splits_go_on<A>()
     ensures { (test : A → Bool) (least : ℕ) (list : List A) (x : A) → SplitStep test least list x }
+{}
+
+/// Behind a list a split goes on from the list's open group.
+pub fn splits_go_on_behind<A>()
+    ensures { (test : A → Bool) (least : ℕ) (xs ys : List A) → SplitGoesOn test least xs ys }
 {}

@@ -84,3 +84,12 @@ SplitStep test least list x =
     (if is_closed test least group then group ∷ [] else []))
     × (open_entries test least (list ++ x ∷ []) ≡
     (if is_closed test least group then [] else group))
+
+-- Law: behind a list a split goes on as that of the list's open group and what is behind it.
+abbrev pub SplitGoesOn : {A : Type 0} → (A → Bool) → ℕ → List A → List A → Type 0
+SplitGoesOn test least xs ys =
+    let more = open_entries test least xs ++ ys in
+    (split test least (xs ++ ys) ≡ closed_groups test least xs ++ split test least more)
+    × (closed_groups test least (xs ++ ys) ≡ closed_groups test least xs ++
+    closed_groups test least more)
+    × (open_entries test least (xs ++ ys) ≡ open_entries test least more)

@@ -9,7 +9,7 @@ pub returns-clause-added : goal.returns-clause-added
 returns-clause-added g c =
     child_added c.args.version c.args.event.now c.self.view_is refl (c.len-start.ensures ∙
     c.self.inside.bytes.ok.0)
-    refl c.key-key.ensures.key c.reference.ensures c.count.ensures
+    refl c.key-key.ensures.key c.requires c.count.ensures
     c.in_ok-append_child_as.ensures.ok
     (c.saturating_add-self-inside.ensures ∙ ap (λ n. min (c.self.inside.count + n) greatest_count)
     c.count-2.ensures)
