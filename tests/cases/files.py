@@ -434,6 +434,16 @@ def has_few_threads(place):
     place.holds(in_rec=A)
 
 
+def is_checked_without_threads(place):
+    """Where no thread can be had, a file is checked all the same, and refused by the same fault."""
+    place.lay(abc_prl=TREE, cut_prl=TREE[:-1])
+    limits = {resource.RLIMIT_NPROC: 1}
+    told = b"ok " + root_text(ABC, 0).strip() + b" 0 6\n"
+    place.answers(place.run("check", "abc.prl", limits=limits, is_nobody=True), (0, told, b""))
+    answer = place.run("check", "cut.prl", limits=limits, is_nobody=True)
+    place.answers(answer, (4, b"", b"prolly: chunk file: truncated\n"))
+
+
 def has_little_room(place):
     """A build of two files asks for less than 100 megabytes of addresses."""
     pairs = numbered(100_000)
@@ -547,7 +557,7 @@ def tests():
     yield from ended()
     yield from in_part()
     alone = [is_a_device, is_told_early, needs_its_folder, one_of_two, is_not_on_the_disk, has_few_files, has_few_threads]
-    alone += [has_little_room, is_a_pipe, is_a_link, is_read_only, is_shown_escaped, is_process_substitution, grows]
+    alone += [is_checked_without_threads, has_little_room, is_a_pipe, is_a_link, is_read_only, is_shown_escaped, is_process_substitution, grows]
     for test in alone:
         yield test.__name__.replace("_", " "), test
     for name in ("folder", "pipe", "/dev/null"):

@@ -12,6 +12,7 @@ mod scratch;
 
 ghost use Rattle.prolly_line.specs.GivenCommand.{IsWithinLimits};
 
+use crate::hashing::on_all_processors;
 use crate::refusal::Refusal;
 use prolly_entry::Version;
 use prolly_tool::{Answer, Command, Config, LineForm};
@@ -76,12 +77,12 @@ fn answer_or_refusal<T: Wait + Threads + Clock + Sync>(
             build::build_from(rt, threads, &config, &out, &files, quiet, mode)
         }
         Command::Explain { file, notation } => report::explain(rt, file, notation),
-        Command::Check { file } => report::check(rt, file),
+        Command::Check { file } => report::check(rt, &on_all_processors(threads), file),
         Command::Stat {
             file,
             json,
             notation,
-        } => report::stat(rt, file, json, notation),
+        } => report::stat(rt, &on_all_processors(threads), file, json, notation),
         Command::Get {
             file,
             key,
@@ -90,7 +91,15 @@ fn answer_or_refusal<T: Wait + Threads + Clock + Sync>(
             notation,
         } => {
             let version = Version::of(version).unwrap();
-            look_up::get(rt, file, root, version, key, notation)
+            look_up::get(
+                rt,
+                &on_all_processors(threads),
+                file,
+                root,
+                version,
+                key,
+                notation,
+            )
         }
         Command::Scan {
             file,
@@ -101,7 +110,16 @@ fn answer_or_refusal<T: Wait + Threads + Clock + Sync>(
             notation,
         } => {
             let version = Version::of(version).unwrap();
-            look_up::scan(rt, file, root, version, from, limit, notation)
+            look_up::scan(
+                rt,
+                &on_all_processors(threads),
+                file,
+                root,
+                version,
+                from,
+                limit,
+                notation,
+            )
         }
         Command::Nth {
             file,
@@ -111,14 +129,22 @@ fn answer_or_refusal<T: Wait + Threads + Clock + Sync>(
             notation,
         } => {
             let version = Version::of(version).unwrap();
-            look_up::nth(rt, file, root, version, n, notation)
+            look_up::nth(
+                rt,
+                &on_all_processors(threads),
+                file,
+                root,
+                version,
+                n,
+                notation,
+            )
         }
         Command::Dump {
             file,
             out,
             lines,
             mode,
-        } => dump::dump(rt, file, lines, out, mode),
+        } => dump::dump(rt, &on_all_processors(threads), file, lines, out, mode),
         Command::Diff {
             old,
             new,
@@ -126,13 +152,22 @@ fn answer_or_refusal<T: Wait + Threads + Clock + Sync>(
             stat,
             notation,
             mode,
-        } => diff::diff(rt, old, new, stat, notation, out, mode),
+        } => diff::diff(
+            rt,
+            &on_all_processors(threads),
+            old,
+            new,
+            stat,
+            notation,
+            out,
+            mode,
+        ),
         Command::Prove {
             file,
             key,
             out,
             mode,
-        } => proof::prove(rt, &file, &key, &out, mode),
+        } => proof::prove(rt, &on_all_processors(threads), &file, &key, &out, mode),
         Command::Verify {
             root,
             key,

@@ -4,6 +4,7 @@
 
 mod commands;
 mod file_id;
+mod hashing;
 mod inputs;
 mod links;
 mod output;

@@ -19,10 +19,11 @@ use Rattle.prolly_entry.specs.Reference.{reference_of}
 use Rattle.prolly_entry.specs.Spelling.{pair_spelling}
 use Rattle.prolly_entry.specs.declared.reference.Ref.{Ref}
 use Rattle.prolly_entry.specs.declared.version.Version.{Version}
+use Rattle.prolly_entry.specs.declared.version.Version.TheVariants.{One}
 use Rattle.prolly_entry.specs.lemmas.Lists.{all_append}
 use Rattle.prolly_tree.specs.Chunk.{Chunk, chunk_of, chunks, post_order, IsIn}
 use Rattle.prolly_tree.specs.File.{header, end_record}
-use Rattle.prolly_tree.specs.Tree.{Tree, bytes_of, tree_of}
+use Rattle.prolly_tree.specs.Tree.{Tree, bytes_of, last_key, tree_of}
 use Rattle.prolly_tree.specs.lemmas.Splits.{flat}
 use Rattle.prolly_file.specs.Frame.{framed, has_no_frame, IsSmall, BeginsFrame}
 use Rattle.prolly_file.specs.FrameLaws.{frames_bytes}
@@ -42,7 +43,7 @@ use Rattle.prolly_check.specs.Verdict.{UnlessMemory, IsVerdict, IsFileOf, ReadVe
 use Rattle.prolly_check.specs.Verdict.{FramesVerdict}
 use Rattle.prolly_check.specs.declared.chunks.Index.{Index}
 use Rattle.prolly_check.specs.declared.verdict.fault.CheckFault.{CheckFault}
-use Rattle.prolly_check.proofs.EntryLists.{leaf_pairs}
+use Rattle.prolly_check.proofs.EntryLists.{leaf_pairs, leaf_spelled}
 use Rattle.prolly_check.proofs.HeldPairs.{map_holds, all_hold, flat_held}
 use Rattle.prolly_check.proofs.IndexSteps.{as_many, reference_at}
 use Rattle.prolly_check.proofs.OneVerdict.{one_verdict}
@@ -104,11 +105,41 @@ each_has_bytes : (pairs : List Pair) → length pairs ≤ length (flat_map pair_
 each_has_bytes [] = omega arith
 each_has_bytes (p ∷ pairs) = grind (arith, length-append, each_has_bytes pairs)
 
-few_in_one : (version : Version) (chunk : List ℕ) → IsWhole version chunk →
+pub few_in_one : (version : Version) (chunk : List ℕ) → IsWhole version chunk →
     length (pairs_held chunk) ≤ length chunk
 few_in_one version [] w = omega arith
 few_in_one version (zero ∷ entries) w = grind (arith, each_has_bytes, leaf_pairs)
 few_in_one version (suc level ∷ entries) w = omega arith
+
+-- the bytes of a chunk with pairs are those of the leaf of them
+pub leaf_bytes : (version : Version) (chunk : List ℕ) → IsWhole version chunk →
+    0 < length (pairs_held chunk) → chunk ≡ 0 ∷ flat_map pair_spelling (pairs_held chunk)
+leaf_bytes version [] w some = absurd w.holds
+leaf_bytes version (zero ∷ entries) w some =
+    ap (λ bytes. 0 ∷ bytes) (leaf_spelled entries (record { pairs = w.pairs; is = w.holds }))
+leaf_bytes version (suc level ∷ entries) w some = absurd (omega (arith, some))
+
+-- so it is the chunk of that leaf
+pub leaf_event_is : (version : Version) (chunk : List ℕ) (pairs : List Pair) (key : List ℕ)
+    (count : ℕ) → IsWhole version chunk → 0 < length (pairs_held chunk) →
+    pairs ≡ pairs_held chunk → key ≡ last_key pairs → count ≡ length pairs →
+    record { level = 0; key = key; count = count; bytes = chunk } ≡ chunk_of One 0
+    (pairs_held chunk)
+leaf_event_is version chunk pairs key count w some are k n =
+    ap (λ key. record { level = 0; key = key; count = count; bytes = chunk })
+    (k ∙ ap last_key are) ∙
+    ap (λ count. record {
+      level = 0;
+      key = last_key (pairs_held chunk);
+      count = count;
+      bytes = chunk;
+    }) (n ∙ ap length are) ∙
+    ap (λ bytes. record {
+      level = 0;
+      key = last_key (pairs_held chunk);
+      count = length (pairs_held chunk);
+      bytes = bytes;
+    }) (leaf_bytes version chunk w some)
 
 few_in_frames : (version : Version) (cs : List (List ℕ)) → AreWhole version cs →
     length (flat_map pairs_held cs) ≤ length (flat_map framed cs)

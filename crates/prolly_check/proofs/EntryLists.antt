@@ -17,6 +17,7 @@ use Rattle.prolly_entry.specs.declared.version.Version.TheVariants.{One, Two}
 use Rattle.prolly_entry.specs.lemmas.Spellings.{numbers, key_size, pair_spellings_apart, found_key}
 use Rattle.prolly_entry.specs.lemmas.Spellings.{key_there, after_two, child_spellings_apart}
 use Rattle.prolly_tree.specs.RecordFile.{record_file}
+use Rattle.prolly_tree.specs.Tree.{last_key}
 use Rattle.prolly_check.specs.Entries.{BeginsWith, entries_up_to, entries_in, NoLeaf, IsLeaf}
 use Rattle.prolly_check.specs.Entries.{first_pair, behind_pair, pairs_in, NoNode, Child, IsChild}
 use Rattle.prolly_check.specs.Entries.{IsNode, entry_of, first_count, first_child, behind_child}
@@ -215,6 +216,13 @@ pub next_pair : (entries : List ℕ) (p : Pair) (rest : List ℕ) →
 unfolding pairs_in
 next_pair entries p rest b = search (rules, reads_on, pair_shrinks, pair_reads)
 
+-- the bytes before what is left are the pair's spelling
+pub spelling_is : (entries rest : List ℕ) (p : Pair) (n : ℕ) →
+    BeginsWith pair_spelling IsPair entries p rest → n ≡ length entries - length rest →
+    take n entries ≡ pair_spelling p
+spelling_is entries rest p n b e = ap (take n) b.is ∙ take_at (pair_spelling p) rest n
+    (omega (arith, ap length b.is, length-append (pair_spelling p) rest))
+
 pub no_next : (entries : List ℕ) → NoPairAt entries → IsSomeLeaf entries → pairs_in entries ≡ []
 unfolding pairs_in
 no_next entries none l = ap (entries_in first_pair behind_pair) (leaf_left entries none l)
@@ -371,3 +379,29 @@ pub no_next_child : (version : Version) (entries : List ℕ) → NoChildAt versi
 unfolding children_in
 no_next_child version entries none n = ap (entries_in (first_child version) (behind_child version))
     (node_left version entries none n)
+
+-- ---- the last key of pairs, and how many they are
+
+pub last_behind : (ps : List Pair) (p : Pair) → last_key (ps ++ p ∷ []) ≡ p.key
+last_behind [] p = refl
+last_behind (q ∷ []) p = refl
+last_behind (q ∷ r ∷ ps) p = last_behind (r ∷ ps) p
+
+-- some first pairs were read of all, the last one has this key, and so many they are
+pub record AreRead (all rest : List Pair) (last : List ℕ) (count : ℕ) : Type 0 where
+  pub front : List Pair
+  pub whole : all ≡ front ++ rest
+  pub key : last ≡ last_key front
+  pub many : count ≡ length front
+  pub short : length last ≤ 1024
+
+pub one_more_read : (all rest rest' : List Pair) (last : List ℕ) (count : ℕ) (p : Pair) →
+    AreRead all rest last count → rest ≡ p ∷ rest' → length p.key ≤ 1024 →
+    AreRead all rest' p.key (count + 1)
+one_more_read all rest rest' last count p r e short = record {
+  front = r.front ++ p ∷ [];
+  whole = r.whole ∙ ap (λ ps. r.front ++ ps) e ∙ sym (append_assoc r.front (p ∷ []) rest');
+  key = sym (last_behind r.front p);
+  many = omega (arith, r.many, length-append r.front (p ∷ []));
+  short = short;
+}

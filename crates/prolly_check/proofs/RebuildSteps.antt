@@ -1,7 +1,7 @@
 -- Rebuilding the chunks of pairs, and their end.
 use Rattle.std.proofs.Common.{rules, ◌≡◌, ℕ, suc, ◌+◌, ◌<◌, List, [], ◌∷◌, ◌++◌, length, drop}
 use Rattle.std.proofs.Common.{get_or, Option, Result, Ok, Err, refl, sym, ap, ◌∙◌, subst, arith}
-use Rattle.std.proofs.Common.{append_assoc, zero, ◌^◌, ◌≤◌, take, Some, None, append-nil}
+use Rattle.std.proofs.Common.{append_assoc, zero, ◌^◌, ◌≤◌, take, Some, None, append-nil, true}
 use Rattle.std.specs.List.{flat_map}
 use Rattle.std.specs.Option.{option_to_list}
 use Rattle.std.specs.Vec.{with_items}
@@ -11,6 +11,7 @@ use Rattle.std.proofs.lemmas.List.{with_items_is, take_all}
 use Rattle.prolly_entry.specs.Cut.{sha512_cut, Cut}
 use Rattle.prolly_entry.specs.Pair.{Pair}
 use Rattle.prolly_entry.specs.Prefix.{IsPrefix}
+use Rattle.prolly_entry.specs.Reference.{reference_of}
 use Rattle.prolly_entry.specs.declared.reference.Ref.{Ref}
 use Rattle.prolly_entry.specs.declared.version.Version.{Version}
 use Rattle.prolly_tree.specs.Chunk.{Chunk, chunks}
@@ -19,15 +20,18 @@ use Rattle.prolly_tree.specs.Pipeline.{pipeline_events}
 use Rattle.prolly_tree.specs.Tree.{level_count}
 use Rattle.prolly_laws.specs.Stages.{fault_is_prefix, enough_stages}
 use Rattle.prolly_laws.specs.Trees.{few_levels}
-use Rattle.prolly_chunk.specs.LeafLevel.{LeafState, LeafBegins, LeafTakes, LeafEnds}
+use Rattle.prolly_chunk.specs.LeafLevel.{LeafState, leaf_level, LeafBegins, LeafEnds}
+use Rattle.prolly_chunk.specs.LeafLevel.{is_whole_leaf}
 use Rattle.prolly_chunk.specs.NodeLevel.{NodeState, NodeBegins, NodeEnds}
 use Rattle.prolly_check.specs.Chunks.{AreReferences}
+use Rattle.prolly_check.specs.Digests.{AreDigests}
 use Rattle.prolly_check.specs.HeldPairs.{pairs_held}
 use Rattle.prolly_check.specs.FirstFault.{difference, chunk_bytes}
 use Rattle.prolly_check.specs.Rebuild.{node_levels, sent_through, sent_of, AreBehind, AreFirst}
 use Rattle.prolly_check.specs.Rebuild.{AreOrDiffer, AreUnused, DifferAs, Passed, PassesUp, HasTaken}
 use Rattle.prolly_check.specs.Rebuild.{TakesPairs, Took, AreBelow}
 use Rattle.prolly_check.specs.Verdict.{UnlessMemory}
+use Rattle.prolly_check.specs.declared.verdict.digests.ChunkDigest.{ChunkDigest}
 use Rattle.prolly_check.specs.declared.verdict.fault.CheckFault.{CheckFault}
 use Rattle.prolly_check.specs.declared.verdict.rebuild.Rebuild.{Rebuild}
 use Rattle.prolly_check.proofs.HeldPairs.{bytes_in}
@@ -65,73 +69,88 @@ pub begun : (bits : ℕ) (version : Version) (chunks : List (List ℕ)) (rebuild
     rebuild.references.items ≡ [] → HasTaken bits version chunks [] rebuild
 begun bits version chunks rebuild b u count none_yet = search (rules, unused_sent, unused_behind)
 
--- ---- one more pair
+-- ---- the chunk that is due
 
-module _ (chunks : List (List ℕ)) (pair : Pair) (old : Rebuild) (leaf' : LeafState ℕ)
-    (closed : Option Chunk) (takes : LeafTakes sha512_cut old.leaf leaf' pair closed)
+-- the digest of a chunk names whatever has its bytes
+pub digest_names : (bits : ℕ) (chunks : List (List ℕ)) (digests : List ChunkDigest) (number : ℕ)
+    (other : ChunkDigest) (bytes : List ℕ) → AreDigests bits chunks digests →
+    number < length chunks → get_or chunks number [] ≡ bytes →
+    (get_or digests number other).reference.0 ≡ reference_of bytes
+digest_names bits chunks digests number other bytes are within same =
+    (are.each number other within).reference ∙ ap reference_of same
+
+-- a whole leaf has pairs
+pub some_pairs : (cut : Cut) (leaf : List Pair) → is_whole_leaf cut leaf ≡ true → 0 < length leaf
+some_pairs cut [] h = cc
+some_pairs cut (p ∷ ps) h = omega arith
+
+-- ---- more pairs, of which the level of the leaves closes one leaf at most
+
+module _ (chunks : List (List ℕ)) (bits : ℕ) (version : Version) (pairs more : List Pair)
+    (old : Rebuild) (leaf' : LeafState ℕ) (closed : Option Chunk)
+    (state : leaf' ≡ leaf_level sha512_cut bits (pairs ++ more))
+    (sends : leaf_events (sha512_cut bits) version faulty (pairs ++ more) ≡
+    leaf_events (sha512_cut bits) version faulty pairs ++ option_to_list closed)
     (levels nodes' : List (NodeState ℕ)) (are : levels ≡ old.nodes.items) (after : List Ref)
     (result : Result (Unit {0}) CheckFault) (passes : PassesUp chunks levels nodes' closed
     old.references.items after result) (same_size : length nodes' ≡ length levels)
-    (bits : ℕ) (version : Version) (pairs : List Pair) (b : HasTaken bits version chunks pairs old)
+    (b : HasTaken bits version chunks pairs old)
   where
     size : length nodes' ≡ length old.nodes.items
     size = same_size ∙ ap length are
 
-    sends : leaf_events (sha512_cut bits) version faulty (pairs ++ pair ∷ []) ≡
-        leaf_events (sha512_cut bits) version faulty pairs ++ option_to_list closed
-    sends = takes.events bits version pairs b.leaf
-
     passed : Passed bits version chunks 1 nodes'
-        (leaf_events (sha512_cut bits) version faulty (pairs ++ pair ∷ [])) after result
+        (leaf_events (sha512_cut bits) version faulty (pairs ++ more)) after result
     passed =
         let before = leaf_events (sha512_cut bits) version faulty pairs in
         subst (λ es. Passed bits version chunks 1 nodes' es after result) (sym sends)
         ((rw are at passes) bits version 1 before
-        (leaf_below (sha512_cut bits) version faulty (pairs ++ pair ∷ []) before closed sends)
+        (leaf_below (sha512_cut bits) version faulty (pairs ++ more) before closed sends)
         b.nodes
         (subst (λ n. AreFirst chunks old.references.items
         (sent_through (sha512_cut bits) version 1 n before)) (sym b.count) b.first))
 
-    compared : AreOrDiffer chunks (sent_of bits version (pairs ++ pair ∷ [])) after result
+    compared : AreOrDiffer chunks (sent_of bits version (pairs ++ more)) after result
     compared = grind (arith, passed)
 
-    one_taken : (new : Rebuild) (done : Unit {0}) → result ≡ Ok done → new.leaf ≡ leaf' →
+    all_taken : (new : Rebuild) (done : Unit {0}) → result ≡ Ok done → new.leaf ≡ leaf' →
         new.nodes ≡ with_items old.nodes nodes' → new.references.items ≡ after →
-        HasTaken bits version chunks (pairs ++ pair ∷ []) new
-    one_taken new done ok leaf nodes references =
-        search (rules, with_items_is, size, passed, compared)
+        HasTaken bits version chunks (pairs ++ more) new
+    all_taken new done ok leaf nodes references =
+        search (rules, with_items_is, size, passed, compared, state)
 
-    pub one_took : (new : Rebuild) (told : Result (Unit {0}) CheckFault) → result ≡ told →
+    pub all_took : (new : Rebuild) (told : Result (Unit {0}) CheckFault) → result ≡ told →
         new.leaf ≡ leaf' → new.nodes ≡ with_items old.nodes nodes' →
-        new.references.items ≡ after → Took bits version chunks (pairs ++ pair ∷ []) new told
-    one_took new (Ok done) is leaf nodes references = one_taken new done is leaf nodes references
-    one_took new (Err fault) is leaf nodes references = rw is at compared
+        new.references.items ≡ after → Took bits version chunks (pairs ++ more) new told
+    all_took new (Ok done) is leaf nodes references = all_taken new done is leaf nodes references
+    all_took new (Err fault) is leaf nodes references = rw is at compared
 
 -- ---- pairs behind pairs
 
 -- of all pairs the rest is left, and those before it were taken
-pub record PartTaken (chunks : List (List ℕ)) (old new : Rebuild) (all rest : List Pair) : Type 0
+pub record PartTaken (bits : ℕ) (chunks : List (List ℕ)) (old new : Rebuild) (all rest : List Pair) : Type 0
   where
     pub done : List Pair
     pub is : all ≡ done ++ rest
-    pub takes : TakesPairs chunks old new done (Ok tt)
+    pub takes : TakesPairs bits chunks old new done (Ok tt)
 
-module _ (chunks : List (List ℕ)) (old : Rebuild) (all : List Pair) where
-  module _ (mid : Rebuild) (rest : List Pair) (p : PartTaken chunks old mid all rest) where
+module _ (bits : ℕ) (chunks : List (List ℕ)) (old : Rebuild) (all : List Pair) where
+  module _ (mid : Rebuild) (rest : List Pair) (p : PartTaken bits chunks old mid all rest) where
     module _ (held more : List Pair) (e : rest ≡ held ++ more) (new : Rebuild) where
-      pub more_taken : TakesPairs chunks mid new held (Ok tt) → PartTaken chunks old new all more
+      pub more_taken : TakesPairs bits chunks mid new held (Ok tt) →
+          PartTaken bits chunks old new all more
       more_taken takes = record {
         done = p.done ++ held;
         is = p.is ∙ ap (λ ps. p.done ++ ps) e ∙ sym (append_assoc p.done held more);
-        takes = λ bits version pairs b. subst (λ ps. HasTaken bits version chunks ps new)
+        takes = λ version pairs b. subst (λ ps. HasTaken bits version chunks ps new)
             (append_assoc pairs p.done held)
-            (takes bits version (pairs ++ p.done) (p.takes bits version pairs b));
+            (takes version (pairs ++ p.done) (p.takes version pairs b));
       }
 
       -- what differs of some pairs differs of more
-      pub fault_taking : (fault : CheckFault) → TakesPairs chunks mid new held (Err fault) →
-          TakesPairs chunks old new all (Err fault)
-      fault_taking fault h bits version pairs b =
+      pub fault_taking : (fault : CheckFault) → TakesPairs bits chunks mid new held (Err fault) →
+          TakesPairs bits chunks old new all (Err fault)
+      fault_taking fault h version pairs b =
           let some = (pairs ++ p.done) ++ held in
           let whole : some ++ more ≡ pairs ++ all =
           append_assoc (pairs ++ p.done) held more ∙ append_assoc pairs p.done (held ++ more) ∙
@@ -142,7 +161,7 @@ module _ (chunks : List (List ℕ)) (old : Rebuild) (all : List Pair) where
           fault
           (sent_prefix (sha512_cut bits) version 1 node_levels (events some) (events (some ++ more))
           ((fault_is_prefix (sha512_cut bits) version).0 faulty some more))
-          (h bits version (pairs ++ p.done) (p.takes bits version pairs b)))
+          (h version (pairs ++ p.done) (p.takes version pairs b)))
 
 -- the pairs of the next chunk
 pub held_next : (chunks : List (List ℕ)) (number : ℕ) (held : List Pair) → number < length chunks →

@@ -16,6 +16,8 @@ pub mod Verdict
 pub mod FirstFault
 -- What is kept of a file that was accepted, and how its chunks are found by their references.
 pub mod Chunks
+-- What the hashes of chunks tell.
+pub mod Digests
 -- The numbers of a tree: its levels, and the chunks that others lack.
 pub mod Numbers
 -- How a look-up goes down a tree.

@@ -3,7 +3,7 @@ use Rattle.std.specs.Global.{Vec}
 use Rattle.std.specs.List.{AllByRecursion}
 use Rattle.std.specs.Option.{option_to_list}
 use Rattle.std.specs.Prelude.{◌≡◌, ℕ, zero, suc, ◌<◌, List, [], ◌∷◌, ◌++◌, length, take, map}
-use Rattle.std.specs.Prelude.{Option, Some, Result, OnOk, MatchResult}
+use Rattle.std.specs.Prelude.{Option, Some, Result, OnOk, MatchResult, true}
 use Rattle.prolly_entry.specs.Cut.{Cut, sha512_cut}
 use Rattle.prolly_entry.specs.Pair.{Pair}
 use Rattle.prolly_entry.specs.declared.reference.Ref.{Ref}
@@ -11,11 +11,12 @@ use Rattle.prolly_entry.specs.declared.version.Version.{Version}
 use Rattle.prolly_tree.specs.Chunk.{Chunk}
 use Rattle.prolly_tree.specs.Events.{clean, faulty, leaf_events, inner_events}
 use Rattle.prolly_tree.specs.Pipeline.{pipeline_events}
-use Rattle.prolly_chunk.specs.LeafLevel.{leaf_level}
+use Rattle.prolly_chunk.specs.LeafLevel.{leaf_level, LeafPasses}
 use Rattle.prolly_chunk.specs.NodeLevel.{NodeState, node_level, NodeBegins}
 use Rattle.prolly_check.specs.Chunks.{AreReferences}
 use Rattle.prolly_check.specs.FirstFault.{difference}
 use Rattle.prolly_check.specs.Verdict.{UnlessMemory}
+use Rattle.prolly_check.specs.declared.verdict.digests.ChunkDigest.{ChunkDigest}
 use Rattle.prolly_check.specs.declared.verdict.fault.CheckFault.{CheckFault}
 use Rattle.prolly_check.specs.declared.verdict.rebuild.Rebuild.{Rebuild}
 
@@ -116,11 +117,18 @@ Took bits version chunks pairs rebuild result =
     MatchResult result (λ done. HasTaken bits version chunks pairs rebuild)
     (UnlessMemory (DifferAs chunks (sent_of bits version pairs)))
 
--- Whatever pairs it took before, it took these behind them.
-abbrev pub TakesPairs : List (List ℕ) → Rebuild → Rebuild → List Pair → Result (Unit {0})
-    CheckFault → Type 0
-TakesPairs chunks old new taken result = (bits : ℕ) (version : Version) (pairs : List Pair) →
+-- Whatever pairs it took before, by a cut of so many bits, it took these behind them.
+abbrev pub TakesPairs : ℕ → List (List ℕ) → Rebuild → Rebuild → List Pair →
+    Result (Unit {0}) CheckFault → Type 0
+TakesPairs bits chunks old new taken result = (version : Version) (pairs : List Pair) →
     HasTaken bits version chunks pairs old → Took bits version chunks (pairs ++ taken) new result
+
+-- A whole leaf has passed the level of the leaves; the levels of nodes are as they were.
+pub record LeafPassed (digest : ChunkDigest) (old new : Rebuild) : Type 0 where
+  pub whole : digest.is_whole_leaf ≡ true
+  pub passes : LeafPasses sha512_cut old.leaf new.leaf
+  pub nodes : new.nodes ≡ old.nodes
+  pub references : new.references ≡ old.references
 
 -- All that the last level sends of the pairs that it took begins the chunks of a file, and these
 -- are their references; or it differs, unless memory was refused.

@@ -2,6 +2,8 @@
 ghost use Rattle.std.specs.Prelude.{◌≡◌, ℕ, ◌<◌, List, [], get_or, length, ◌+◌, true, None, IfOk};
 ghost use Rattle.std.specs.Prelude.{IfErr, MatchOption, OnOk, option_map};
 ghost use Rattle.std.specs.List.{AllByRecursion};
+ghost use Rattle.prolly_entry.specs.declared.version.Version.TheVariants.{One};
+ghost use Rattle.prolly_tree.specs.Chunk.{chunk_of};
 ghost use Rattle.prolly_check.specs.HeldPairs.{pairs_held};
 ghost use Rattle.prolly_check.specs.Frames.{IsWithin, chunks_in};
 ghost use Rattle.prolly_check.specs.Entries.{AreWhole};
@@ -10,8 +12,9 @@ ghost use Rattle.prolly_check.specs.Chunks.{AreNumbered, AreReferences, HasAt, I
 ghost use Rattle.prolly_check.specs.FirstFault.{reuse};
 ghost use Rattle.prolly_check.specs.Verdict.{UnlessMemory};
 
-use crate::entries::{Pairs, pairs_of};
+use crate::entries::{LEAF, Pairs, pairs_of};
 use crate::verdict::{CheckFault, chunk_at};
+use prolly_chunk::BorrowedEvent;
 use prolly_entry::Ref;
 use prolly_file::Header;
 use std::alloc::{AllocError, Global};
@@ -83,6 +86,18 @@ impl<'a> Chunks<'a> {
         ensures { result ≡ pairs_held (get_or self.now number []) }
     {
         pairs_of(self.layout.header.version, self.chunk(number))
+    }
+
+    /// The event of the chunk of this number, which is a leaf with pairs. Takes no memory and no
+    /// hash, and goes over the pairs once.
+    pub(crate) fn leaf_event(&self, number: usize) -> BorrowedEvent<'a>
+        requires number { number < length self.now }
+        requires some { 0 < length (pairs_held (get_or self.now number [])) }
+        ensures { result ≡ chunk_of One 0 (pairs_held (get_or self.now number [])) }
+    {
+        let chunk = self.chunk(number);
+        let (key, count) = pairs_of(self.layout.header.version, chunk).last_key_and_count();
+        BorrowedEvent::new(LEAF, key, count, chunk)
     }
 }
 

@@ -1,9 +1,11 @@
 //! The entries of a chunk that was tested.
 ghost use Rattle.std.specs.Prelude.{◌≡◌, ◌↔◌, ◌==◌, ◌≤◌, [], ◌∷◌, true, false, List, length};
-ghost use Rattle.std.specs.Prelude.{IsTrue, IfSome, IfNone, MatchOption, ◌<◌, ◌-◌, drop};
+ghost use Rattle.std.specs.Prelude.{IsTrue, IfSome, IfNone, MatchOption, ◌<◌, ◌^◌, ◌-◌, drop};
 ghost use Rattle.prolly_entry.specs.Pair.{Pair as PairValue};
 ghost use Rattle.prolly_entry.specs.Child.{value_of};
+ghost use Rattle.prolly_entry.specs.Spelling.{pair_spelling};
 ghost use Rattle.prolly_tree.specs.RecordFile.{record_file};
+ghost use Rattle.prolly_tree.specs.Tree.{last_key};
 ghost use Rattle.prolly_check.specs.Entries.{IsLeaf, pairs_in, IsSomeLeaf, IsWhole, IsNode};
 ghost use Rattle.prolly_check.specs.Entries.{children_in};
 ghost use Rattle.prolly_check.specs.HeldPairs.{pairs_held};
@@ -62,6 +64,18 @@ impl<'a> Pairs<'a> {
         Some((key, value))
     }
 
+    /// The spelling of the next pair. Takes no memory.
+    pub(crate) fn next_spelling(&mut self) -> Option<&'a [u8]>
+        ensures next { MatchOption result (self.old ≡ []) (λ spelling. (p : PairValue) ×
+            (spelling.now ≡ pair_spelling p) × (self.old ≡ p ∷ self.new)) }
+        ensures none { IfNone result (self.new ≡ []) }
+    {
+        let (_, _, rest) = split_pair(self.entries)?;
+        let (spelling, _) = self.entries.split_at(self.entries.len() - rest.len());
+        self.entries = rest;
+        Some(spelling)
+    }
+
     /// The key and the value of the first pair, which stays. Takes no memory.
     pub fn first(&self) -> Option<(&'a [u8], &'a [u8])>
         ensures { MatchOption result (self.now ≡ []) (λ first. (rest : List PairValue) ×
@@ -86,6 +100,22 @@ impl<'a> Pairs<'a> {
         ensures { IsTrue result ↔ (self.now ≡ other.now) }
     {
         self.entries == other.entries
+    }
+
+    /// The last key, empty where no pair is left, and how many pairs are left. Takes no memory.
+    pub(crate) fn last_key_and_count(mut self) -> (&'a [u8], u64)
+        requires { length self < 2 ^ 64 }
+        ensures key { result.0.now ≡ last_key self.entry }
+        ensures short { length result.0.now ≤ 1024 }
+        ensures count { result.1 ≡ length self.entry }
+    {
+        let mut last: &[u8] = &[];
+        let mut count = 0;
+        while let Some((key, _)) = self.next() {
+            last = key;
+            count += 1;
+        }
+        (last, count)
     }
 
     /// The bytes of the pairs that are left, as a record file has them.

@@ -17,4 +17,4 @@ pub use look_up::{
 };
 pub use numbers::{Level, Missing};
 pub use tree::{NoCounts, Tree};
-pub use verdict::{CheckFault, check};
+pub use verdict::{CheckFault, ChunkDigest, ChunkHasher, ManyThreads, OneThread, check, check_by};

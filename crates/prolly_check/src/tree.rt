@@ -25,7 +25,7 @@ use crate::chunks::{Chunks, Index, Layout};
 use crate::file::CheckedFile;
 use crate::look_up::{Leaves, find_nth, find_value, scan_pairs, way_to};
 use crate::numbers::{Level, Missing, count_pairs, levels_in, missing_in, size_in};
-use crate::verdict::{CheckFault, inspect};
+use crate::verdict::{CheckFault, ChunkHasher, inspect};
 use prolly_entry::{Pair, Ref, Version};
 use prolly_file::{Sink, WriteFault, write_all};
 use std::alloc::{AllocError, Global};
@@ -58,12 +58,17 @@ impl Model for Tree {
 
 impl Tree {
     /// The tree of the bytes of a file.
-    pub(crate) fn of(alloc: Global, bytes: Vec<u8>) -> Result<Tree, CheckFault>
+    pub(crate) fn of<H: ChunkHasher>(
+        hasher: &H,
+        alloc: Global,
+        bytes: Vec<u8>,
+    ) -> Result<Tree, CheckFault>
+        requires { H.can_hash hasher.now }
         ensures same { IfOk result (λ tree. tree ≡ bytes.items) }
         ensures file { IfOk result (λ tree. IsFile tree) }
         ensures err { IfErr result (UnlessMemory (λ fault. IsVerdict bytes.items (Err fault))) }
     {
-        let (layout, references, index) = inspect(alloc, &bytes)?;
+        let (layout, references, index) = inspect(hasher, alloc, &bytes)?;
         Ok(Tree {
             bytes,
             layout,

@@ -7,6 +7,7 @@ use crate::command_line::outcome;
 use crate::expect::{expect_bytes, expect_eq};
 use crate::tools::expect_answer;
 use crate::tools::look_up_answers::file_of_three;
+use prolly_check::OneThread;
 use prolly_entry::{Ref, Version};
 use prolly_file::{FromRead, ScriptSink};
 use prolly_tool::{
@@ -145,7 +146,13 @@ fn a_dump_is_written_or_wants_memory(rt: HostRuntime) {
         (RecordForm::Lines(Notation::Hex), b"61 31\n"),
     ] {
         let mut sink = ScriptSink::new(alloc, 4_096, None);
-        let answer = answer_dump(alloc, &mut FromRead::new(FILE_OF_ONE), form, &mut sink);
+        let answer = answer_dump(
+            &OneThread,
+            alloc,
+            &mut FromRead::new(FILE_OF_ONE),
+            form,
+            &mut sink,
+        );
         expect_written(&rt, answer, b"", sink.taken(), whole);
     }
 }
@@ -157,7 +164,13 @@ const PROOF: &[u8] = b"PRLP\x01C\0\0\0\0\0\0\0\x09\0\0\x01a\0\0\0\x011";
 fn a_proof_is_made_and_verified_or_wants_memory(rt: HostRuntime) {
     let alloc = rt.alloc();
     let mut sink = ScriptSink::new(alloc, 4_096, None);
-    let answer = answer_prove(alloc, &mut FromRead::new(FILE_OF_ONE), b"a", &mut sink);
+    let answer = answer_prove(
+        &OneThread,
+        alloc,
+        &mut FromRead::new(FILE_OF_ONE),
+        b"a",
+        &mut sink,
+    );
     expect_written(&rt, answer, b"", sink.taken(), PROOF);
 
     let root = Ref::of(b"\0\0\x01a\0\0\0\x011");

@@ -17,6 +17,7 @@ mod leaves;
 mod look_ups;
 mod numbers;
 mod short;
+mod threads;
 
 /// The file of no pairs, of 0 bits.
 const FILE_OF_NONE: [u8; 45] = [
@@ -32,8 +33,13 @@ const LEAF_OF_B: &[u8] = b"\0\0\x01b\0\0\0\x011";
 
 /// The file of these pairs, of 0 bits.
 fn file_of(alloc: Global, version: Version, pairs: &[Pair]) -> Result<Vec<u8>, Fail> {
+    file_cut_by(alloc, 0, version, pairs)
+}
+
+/// The file of these pairs, of so many bits.
+fn file_cut_by(alloc: Global, bits: u8, version: Version, pairs: &[Pair]) -> Result<Vec<u8>, Fail> {
     let mut file = Vec::new(alloc);
-    let cut = Sha512Cut::new(0).ok_or("bits")?;
+    let cut = Sha512Cut::new(bits).ok_or("bits")?;
     scratch_as(alloc, cut, version, pairs, 12, &mut file)?;
     Ok(file)
 }

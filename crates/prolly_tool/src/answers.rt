@@ -16,7 +16,7 @@ mod stat;
 
 pub use answer::Answer;
 pub use build::answer_build;
-pub use check::answer_check;
+pub use check::{answer_check, answer_check_by};
 pub use diff::answer_diff;
 pub use dump::answer_dump;
 pub use explain::answer_explain;

@@ -27,7 +27,7 @@ pub(crate) fn append_number(
 }
 
 /// Appends a key and its value, with a separator between them.
-pub(crate) fn append_pair(
+pub(crate) fn append_pair_text(
     alloc: Global,
     line: &mut Vec<u8>,
     notation: Notation,

@@ -7,7 +7,7 @@ use crate::patient::Patient;
 use crate::refusal::Refusal;
 use crate::streams::Stream;
 use crate::target::Target;
-use prolly_check::CheckFault;
+use prolly_check::{CheckFault, ChunkHasher};
 use prolly_file::{Buffered, FromRead, ToWrite};
 use prolly_tool::{Answer, Fault, Notation, RecordForm, WriteMode, answer_diff};
 use std::alloc::AllocError;
@@ -15,15 +15,18 @@ use std::fs::File;
 use std::io::Write;
 
 /// `diff [--text] [--stat] OLD NEW [--out FILE] [--sync] [--force]`
-pub fn diff(
+pub fn diff<H: ChunkHasher>(
     rt: &HostRuntime,
+    hasher: &H,
     old: String,
     new: String,
     stat: bool,
     notation: Notation,
     out: Option<String>,
     mode: WriteMode,
-) -> Result<Answer, Refusal> {
+) -> Result<Answer, Refusal>
+    requires { H.can_hash hasher.now }
+{
     match out {
         None => {
             let (old, new) = both_chunk_files(rt, &old, &new, Stream::Output.found(rt)?)?;
@@ -32,21 +35,32 @@ pub fn diff(
             } else {
                 Some(RecordForm::Lines(notation))
             };
-            Ok(diff_into(rt, old, new, form, stat, Patient::new(rt, rt.stdout()))?)
+            Ok(diff_into(
+                rt,
+                hasher,
+                old,
+                new,
+                form,
+                stat,
+                Patient::new(rt, rt.stdout()),
+            )?)
         }
-        Some(out) => diff_to(rt, &old, &new, stat, &out, mode),
+        Some(out) => diff_to(rt, hasher, &old, &new, stat, &out, mode),
     }
 }
 
 /// `diff [--stat] OLD NEW --out FILE [--sync] [--force]`
-fn diff_to(
+fn diff_to<H: ChunkHasher>(
     rt: &HostRuntime,
+    hasher: &H,
     old: &str,
     new: &str,
     stat: bool,
     out: &str,
     mode: WriteMode,
-) -> Result<Answer, Refusal> {
+) -> Result<Answer, Refusal>
+    requires { H.can_hash hasher.now }
+{
     let target = Target::look(rt, out, OutputKind::RecordFile, mode)?;
     let (old, new) = both_chunk_files(rt, old, new, target.found())?;
     let mut output = if stat {
@@ -55,22 +69,33 @@ fn diff_to(
         target.open(rt)?
     };
     let form = Some(RecordForm::Records);
-    let answer = diff_into(rt, old, new, form, stat, &mut output);
+    let answer = diff_into(rt, hasher, old, new, form, stat, &mut output);
     output.finish(rt, out, answer)
 }
 
 /// Writes what turns the map of the one source into that of the other, where there is a form, and
 /// answers how much that is where `stat` asks for it.
-fn diff_into<W: Write + Drop>(
+fn diff_into<H: ChunkHasher, W: Write + Drop>(
     rt: &HostRuntime,
+    hasher: &H,
     mut old: FromRead<File>,
     mut new: FromRead<File>,
     form: Option<RecordForm>,
     stat: bool,
     writer: W,
-) -> Result<Answer, AllocError> {
+) -> Result<Answer, AllocError>
+    requires { H.can_hash hasher.now }
+{
     let mut sink = Buffered::with_capacity(rt.alloc(), OUTPUT_BYTES, ToWrite::new(writer))?;
-    answer_diff(rt.alloc(), &mut old, &mut new, form, stat, &mut sink)
+    answer_diff(
+        hasher,
+        rt.alloc(),
+        &mut old,
+        &mut new,
+        form,
+        stat,
+        &mut sink,
+    )
 }
 
 /// The chunk files of these two names, to be read whole, where neither is the output.

@@ -6,6 +6,7 @@ use crate::patient::Patient;
 use crate::refusal::Refusal;
 use crate::streams::Stream;
 use crate::target::Target;
+use prolly_check::ChunkHasher;
 use prolly_file::{Buffered, FromRead, ToWrite};
 use prolly_tool::{Answer, Notation, RecordForm, WriteMode, answer_dump};
 use std::alloc::AllocError;
@@ -21,32 +22,38 @@ fn dump_form(lines: Option<Notation>) -> RecordForm {
 }
 
 /// `dump [--text] [--hex] FILE [OUT] [--sync] [--force]`
-pub fn dump(
+pub fn dump<H: ChunkHasher>(
     rt: &HostRuntime,
+    hasher: &H,
     file: String,
     lines: Option<Notation>,
     out: Option<String>,
     mode: WriteMode,
-) -> Result<Answer, Refusal> {
+) -> Result<Answer, Refusal>
+    requires { H.can_hash hasher.now }
+{
     let form = dump_form(lines);
     match out {
         None => {
             let input = Input::open_beside(rt, &file, Stream::Output.found(rt)?)?;
             let source = input.into_chunk_file(rt)?;
-            Ok(dump_into(rt, source, form, Patient::new(rt, rt.stdout()))?)
+            Ok(dump_into(rt, hasher, source, form, Patient::new(rt, rt.stdout()))?)
         }
-        Some(out) => dump_to(rt, &file, form, &out, mode),
+        Some(out) => dump_to(rt, hasher, &file, form, &out, mode),
     }
 }
 
 /// `dump [--text] [--hex] FILE OUT [--sync] [--force]`
-fn dump_to(
+fn dump_to<H: ChunkHasher>(
     rt: &HostRuntime,
+    hasher: &H,
     file: &str,
     form: RecordForm,
     out: &str,
     mode: WriteMode,
-) -> Result<Answer, Refusal> {
+) -> Result<Answer, Refusal>
+    requires { H.can_hash hasher.now }
+{
     let kind = match form {
         RecordForm::Records => OutputKind::RecordFile,
         RecordForm::Lines(_) => OutputKind::Lines,
@@ -55,17 +62,20 @@ fn dump_to(
     let input = Input::open_beside(rt, file, target.found())?;
     let source = input.into_chunk_file(rt)?;
     let mut output = target.open(rt)?;
-    let answer = dump_into(rt, source, form, &mut output);
+    let answer = dump_into(rt, hasher, source, form, &mut output);
     output.finish(rt, out, answer)
 }
 
 /// Writes the source's pairs in this form.
-fn dump_into<W: Write + Drop>(
+fn dump_into<H: ChunkHasher, W: Write + Drop>(
     rt: &HostRuntime,
+    hasher: &H,
     mut source: FromRead<File>,
     form: RecordForm,
     writer: W,
-) -> Result<Answer, AllocError> {
+) -> Result<Answer, AllocError>
+    requires { H.can_hash hasher.now }
+{
     let mut sink = Buffered::with_capacity(rt.alloc(), OUTPUT_BYTES, ToWrite::new(writer))?;
-    answer_dump(rt.alloc(), &mut source, form, &mut sink)
+    answer_dump(hasher, rt.alloc(), &mut source, form, &mut sink)
 }

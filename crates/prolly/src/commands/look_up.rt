@@ -4,6 +4,7 @@ use crate::inputs::{Input, chunk_file};
 use crate::patient::Patient;
 use crate::refusal::Refusal;
 use crate::streams::Stream;
+use prolly_check::ChunkHasher;
 use prolly_entry::{Pair, Ref, Version};
 use prolly_file::{Blocks, FromSeek, ToWrite};
 use prolly_root::{ChunkSource, FileChunks, Reader, RootFault};
@@ -50,18 +51,21 @@ fn chunks_of(rt: &HostRuntime, input: Input) -> Result<Chunks, Refusal> {
 }
 
 /// `get [--text] [--root ROOT] [--format V] FILE KEY`
-pub fn get(
+pub fn get<H: ChunkHasher>(
     rt: &HostRuntime,
+    hasher: &H,
     file: String,
     root: Option<Ref>,
     version: Version,
     key: Vec<u8>,
     notation: Notation,
-) -> Result<Answer, Refusal> {
+) -> Result<Answer, Refusal>
+    requires { H.can_hash hasher.now }
+{
     match root {
         None => {
             let mut source = chunk_file(rt, &file)?;
-            Ok(answer_get_in(rt.alloc(), &mut source, &key, notation)?)
+            Ok(answer_get_in(hasher, rt.alloc(), &mut source, &key, notation)?)
         }
         Some(root) => { get_from_root(rt, RootedFile::of(&file, version, &root, notation), &key) }
     }
@@ -86,19 +90,22 @@ fn value_in<S: ChunkSource>(
 }
 
 /// `scan [--text] [--root ROOT] [--format V] FILE KEY LIMIT`
-pub fn scan(
+pub fn scan<H: ChunkHasher>(
     rt: &HostRuntime,
+    hasher: &H,
     file: String,
     root: Option<Ref>,
     version: Version,
     from: Vec<u8>,
     limit: u32,
     notation: Notation,
-) -> Result<Answer, Refusal> {
+) -> Result<Answer, Refusal>
+    requires { H.can_hash hasher.now }
+{
     match root {
         None => {
             let mut source = chunk_file(rt, &file)?;
-            Ok(answer_scan_in(rt.alloc(), &mut source, &from, limit, notation)?)
+            Ok(answer_scan_in(hasher, rt.alloc(), &mut source, &from, limit, notation)?)
         }
         Some(root) => {
             let scan = RootScan {
@@ -123,18 +130,21 @@ fn scan_from_root(rt: &HostRuntime, file: &str, scan: &RootScan<'_>) -> Result<A
 }
 
 /// `nth [--text] [--root ROOT] [--format V] FILE N`
-pub fn nth(
+pub fn nth<H: ChunkHasher>(
     rt: &HostRuntime,
+    hasher: &H,
     file: String,
     root: Option<Ref>,
     version: Version,
     n: u64,
     notation: Notation,
-) -> Result<Answer, Refusal> {
+) -> Result<Answer, Refusal>
+    requires { H.can_hash hasher.now }
+{
     match root {
         None => {
             let mut source = chunk_file(rt, &file)?;
-            Ok(answer_nth_in(rt.alloc(), &mut source, n, notation)?)
+            Ok(answer_nth_in(hasher, rt.alloc(), &mut source, n, notation)?)
         }
         Some(root) => nth_from_root(rt, RootedFile::of(&file, version, &root, notation), n),
     }

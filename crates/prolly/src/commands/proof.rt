@@ -4,23 +4,33 @@ use crate::output_kind::OutputKind;
 use crate::patient::Patient;
 use crate::refusal::Refusal;
 use crate::target::Target;
+use prolly_check::ChunkHasher;
 use prolly_entry::{Ref, Version};
 use prolly_file::{FromRead, ToWrite};
 use prolly_tool::{Answer, Fault, Notation, WriteMode, answer_prove, answer_verify};
 
 /// `prove [--text] FILE KEY OUT [--sync] [--force]`
-pub fn prove(
+pub fn prove<H: ChunkHasher>(
     rt: &HostRuntime,
+    hasher: &H,
     file: &str,
     key: &[u8],
     out: &str,
     mode: WriteMode,
-) -> Result<Answer, Refusal> {
+) -> Result<Answer, Refusal>
+    requires { H.can_hash hasher.now }
+{
     let target = Target::look(rt, out, OutputKind::Proof, mode)?;
     let input = Input::open_beside(rt, file, target.found())?;
     let mut source = input.into_chunk_file(rt)?;
     let mut output = target.open(rt)?;
-    let answer = answer_prove(rt.alloc(), &mut source, key, &mut ToWrite::new(&mut output));
+    let answer = answer_prove(
+        hasher,
+        rt.alloc(),
+        &mut source,
+        key,
+        &mut ToWrite::new(&mut output),
+    );
     output.finish(rt, out, answer)
 }
 

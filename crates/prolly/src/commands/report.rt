@@ -1,7 +1,8 @@
 //! The commands that say how a file is: `explain`, `check` and `stat`.
 use crate::inputs::{Input, chunk_file};
 use crate::refusal::Refusal;
-use prolly_tool::{Answer, Notation, StatForm, answer_check, answer_explain, answer_stat};
+use prolly_check::ChunkHasher;
+use prolly_tool::{Answer, Notation, StatForm, answer_check_by, answer_explain, answer_stat};
 
 /// `explain [--text] FILE`
 pub fn explain(rt: &HostRuntime, file: String, notation: Notation) -> Result<Answer, Refusal> {
@@ -10,25 +11,30 @@ pub fn explain(rt: &HostRuntime, file: String, notation: Notation) -> Result<Ans
 }
 
 /// `check FILE`
-pub fn check(rt: &HostRuntime, file: String) -> Result<Answer, Refusal> {
+pub fn check<H: ChunkHasher>(rt: &HostRuntime, hasher: &H, file: String) -> Result<Answer, Refusal>
+    requires { H.can_hash hasher.now }
+{
     let mut source = chunk_file(rt, &file)?;
-    Ok(answer_check(rt.alloc(), &mut source)?)
+    Ok(answer_check_by(hasher, rt.alloc(), &mut source)?)
 }
 
 /// `stat [--json] [--text] FILE`. Of the two kinds of files a chunk file is read whole.
-pub fn stat(
+pub fn stat<H: ChunkHasher>(
     rt: &HostRuntime,
+    hasher: &H,
     file: String,
     json: bool,
     notation: Notation,
-) -> Result<Answer, Refusal> {
+) -> Result<Answer, Refusal>
+    requires { H.can_hash hasher.now }
+{
     let input = Input::open(rt, &file)?;
     let source = if input.begins_with(b"PRLY") {
         input.into_chunk_file(rt)?
     } else {
         input.into_source()
     };
-    Ok(answer_stat(rt.alloc(), source, stat_form(json, notation)).answer?)
+    Ok(answer_stat(hasher, rt.alloc(), source, stat_form(json, notation)).answer?)
 }
 
 /// How `stat` shows numbers: as JSON, or as lines with keys in this notation.

@@ -6,11 +6,13 @@ ghost use Rattle.prolly_check.specs.FirstFault.{Says, ending_of_chunks};
 ghost use Rattle.prolly_check.specs.Verdict.{IsRefusal, IsFileOf, IsVerdict, UnlessMemory};
 ghost use Rattle.prolly_check.specs.Chunks.{IsChecked, IsFile, IsLaidOut, AreReferences};
 ghost use Rattle.prolly_check.specs.Content.{Content};
+ghost use Rattle.prolly_check.specs.Digests.{AreDigests};
 ghost use Rattle.prolly_check.specs.HeldPairs.{pairs_held};
 ghost use Rattle.prolly_check.specs.Frames.{chunks_in};
 
 use crate::chunks::{Chunks, Index, Layout};
 use crate::tree::Tree;
+use crate::verdict::digests::{ChunkDigest, ChunkHasher, OneThread};
 use crate::verdict::fault::CheckFault;
 use crate::verdict::frames::{find_frames, test_chunks, test_ending};
 use crate::verdict::order::test_order;
@@ -26,11 +28,48 @@ use std::alloc::Global;
 /// header; the frames and the end record; the entries of each chunk; the order of the keys; the
 /// chunks and the end record against those of the file of the same pairs; the references.
 ///
-/// Takes time linear in the bytes, but for the ordering of the references, and hashes each entry
-/// once and each chunk once. Beside the bytes it holds the place of each chunk, while the chunks
+/// Takes time linear in the bytes, but for the ordering of the references. Hashes each chunk once,
+/// and each entry once; the entries of a leaf that is not whole, as the last one often is not, it
+/// hashes twice. Beside the bytes it holds the place and the digest of each chunk, while the chunks
 /// are rebuilt one open chunk of each level and the reference of each chunk that was found right,
 /// and then the index of the references.
 pub fn check<S: Source>(alloc: Global, source: &mut S, max_bytes: u32) -> Result<Tree, CheckFault>
+    // What is accepted are the bytes of the source, and they are the file of a map.
+    ensures same { (S.seen source.old).is_honest ≡ true →
+        IfOk result (λ tree. tree ≡ (S.seen source.old).left) }
+    ensures accepted { IfOk result (λ tree. IsFile tree) }
+    ensures within { IfOk result (λ tree. length tree ≤ max_bytes) }
+
+    // No file of a map is refused, but for want of memory or a failed read.
+    ensures files { (S.seen source.old).is_honest ≡ true →
+        (content : Content) → IsFileOf (S.seen source.old).left content →
+        length (S.seen source.old).left ≤ max_bytes →
+        IfErr result (λ fault. (fault ≡ CheckFault.Memory) ⊎ (fault ≡ CheckFault.Read)) }
+
+    // Other bytes are refused by their first fault, and only bytes within the limit have a fault.
+    ensures refused { (S.seen source.old).is_honest ≡ true →
+        IfErr result (IsRefusal (S.seen source.old).left max_bytes) }
+
+    // A failed read is told as one, whatever else would follow it.
+    ensures read { IsErrOf result CheckFault.Read ↔
+        ((S.seen source.new).failures ≢ (S.seen source.old).failures) }
+    ensures unfailed { OnOk result ((S.seen source.new).failures ≡ (S.seen source.old).failures) }
+    ensures never { (S.seen source.old).is_steady ≡ true →
+        (S.seen source.new).failures ≡ (S.seen source.old).failures }
+    ensures honest { (S.seen source.old).is_honest ≡ true → (S.seen source.new).is_honest ≡ true }
+    ensures steady { (S.seen source.old).is_steady ≡ true → (S.seen source.new).is_steady ≡ true }
+{
+    check_by(&OneThread, alloc, source, max_bytes)
+}
+
+/// Checks as [`check`] does, and leaves it to `hasher` who takes the hashes: one thread or many.
+pub fn check_by<H: ChunkHasher, S: Source>(
+    hasher: &H,
+    alloc: Global,
+    source: &mut S,
+    max_bytes: u32,
+) -> Result<Tree, CheckFault>
+    requires { H.can_hash hasher.now }
     // What is accepted are the bytes of the source, and they are the file of a map.
     ensures same { (S.seen source.old).is_honest ≡ true →
         IfOk result (λ tree. tree ≡ (S.seen source.old).left) }
@@ -60,13 +99,18 @@ pub fn check<S: Source>(alloc: Global, source: &mut S, max_bytes: u32) -> Result
         Ok(bytes) => bytes,
         Err(fault) => return Err(CheckFault::from(fault)),
     };
-    Tree::of(alloc, bytes)
+    Tree::of(hasher, alloc, bytes)
 }
 
 /// Checks the bytes of a file. Answers its layout, the reference of each chunk, and the index of
 /// these.
-pub(crate) fn inspect(alloc: Global, bytes: &[u8]) -> Result<(Layout, Vec<Ref>, Index), CheckFault>
-    requires { length bytes.now < 2 ^ 64 }
+pub(crate) fn inspect<H: ChunkHasher>(
+    hasher: &H,
+    alloc: Global,
+    bytes: &[u8],
+) -> Result<(Layout, Vec<Ref>, Index), CheckFault>
+    requires can { H.can_hash hasher.now }
+    requires short { length bytes.now < 2 ^ 64 }
     ensures ok { IfOk result (λ r. IsChecked bytes.now r.0.header r.0.spans.items r.2) }
     ensures references { IfOk result (λ r.
         AreReferences (chunks_in bytes.now r.0.spans.items) r.1.items) }
@@ -77,8 +121,10 @@ pub(crate) fn inspect(alloc: Global, bytes: &[u8]) -> Result<(Layout, Vec<Ref>, 
         Some(cut) => cut,
         None => unreachable!(),
     };
+    let version = layout.header.version;
+    let digests = hasher.digests(alloc, cut, version, bytes, &layout.spans)?;
     let chunks = Chunks::new(bytes, &layout);
-    let references = test_canonical(alloc, cut, layout.header.version, &chunks, &bytes[end..])?;
+    let references = test_canonical(alloc, cut, version, &chunks, digests, &bytes[end..])?;
     let index = Index::new(alloc, &references)?;
     Ok((layout, references, index))
 }
@@ -107,9 +153,11 @@ fn test_canonical(
     cut: Sha512Cut,
     version: Version,
     chunks: &Chunks,
+    digests: Vec<ChunkDigest>,
     end: &[u8],
 ) -> Result<Vec<Ref>, CheckFault>
-    requires { length (flat_map pairs_held chunks.now) < 2 ^ 64 }
+    requires few { length (flat_map pairs_held chunks.now) < 2 ^ 64 }
+    requires digests { AreDigests cut chunks.now digests.items }
     ensures ok { OnOk result (Says version cut chunks.now end.now None) }
     ensures references { IfOk result (λ references.
         AreReferences chunks.now references.items) }
@@ -117,7 +165,7 @@ fn test_canonical(
         Says version cut chunks.now end.now (Some fault))) }
 {
     test_order(chunks)?;
-    let references = test_rebuilt(alloc, cut, version, chunks)?;
+    let references = test_rebuilt(alloc, cut, version, chunks, &digests)?;
     test_end(end, chunks, &references)?;
     Ok(references)
 }

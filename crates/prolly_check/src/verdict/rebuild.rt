@@ -1,22 +1,32 @@
 //! Rebuilding the chunks of pairs that come one by one, and comparing each with that of a file.
 ghost use Rattle.std.specs.Prelude.{◌≡◌, [], ◌∷◌, ◌<◌, ◌≤◌, ◌^◌, None, Some, List, ℕ, length, OnOk};
-ghost use Rattle.std.specs.Prelude.{IfOk, IfErr};
+ghost use Rattle.std.specs.Prelude.{IfOk, IfErr, true, false, get_or};
 ghost use Rattle.std.specs.List.{flat_map};
 ghost use Rattle.prolly_entry.specs.Reference.{reference_of};
+ghost use Rattle.prolly_check.specs.Digests.{AreDigests};
 ghost use Rattle.prolly_check.specs.FirstFault.{CompareAs};
 ghost use Rattle.prolly_check.specs.HeldPairs.{pairs_held};
 ghost use Rattle.prolly_check.specs.Chunks.{AreReferences};
 ghost use Rattle.prolly_check.specs.Rebuild.{AreUnused, EndsRebuild, HasTaken, IsExpected};
-ghost use Rattle.prolly_check.specs.Rebuild.{PassesUp, TakesPairs};
-ghost use Rattle.prolly_check.specs.Rebuild.{node_levels};
+ghost use Rattle.prolly_check.specs.Rebuild.{LeafPassed, PassesUp, TakesPairs, node_levels};
 ghost use Rattle.prolly_check.specs.Verdict.{UnlessMemory};
 
 use crate::chunks::Chunks;
 use crate::entries::Pairs;
+use crate::verdict::digests::ChunkDigest;
 use crate::verdict::fault::CheckFault;
-use prolly_chunk::{ChunkEvent, LeafLevel, NodeLevel};
+use prolly_chunk::{BorrowedEvent, ChunkEvent, LeafLevel, NodeLevel};
 use prolly_entry::{Pair, Ref, Sha512Cut, Version};
 use std::alloc::{AllocError, Global};
+
+/// The chunks of a file, and what their hashes tell where entries are cut so.
+#[derive(Drop)]
+struct Hashed<'a> {
+    chunks: &'a Chunks<'a>,
+    cut: Sha512Cut,
+    digests: &'a [ChunkDigest],
+    ghost are: { AreDigests cut chunks.now digests.now },
+}
 
 /// The number of levels of nodes. A tree of fewer than 2^64 pairs has no more.
 const NODE_LEVELS: u8 = 64;
@@ -61,55 +71,71 @@ fn begin(alloc: Global, cut: Sha512Cut, version: Version) -> Result<Rebuild, All
 /// Tests that the next chunk of a file, behind those whose references are there, is that of the
 /// event. Adds its reference, and answers it.
 fn expect_chunk(
-    chunks: &Chunks,
+    file: &Hashed,
     references: &mut Vec<Ref>,
-    event: &ChunkEvent,
+    event: &BorrowedEvent,
 ) -> Result<Ref, CheckFault>
-    ensures expected { IsExpected chunks.now references.old.items references.new.items event.now
-        result }
+    ensures expected { IsExpected file.now.chunks.now references.old.items
+        references.new.items event.now result }
     ensures named { IfOk result (λ reference. reference.0 ≡ reference_of event.now.bytes) }
 {
     let number = references.len();
-    if number >= chunks.len() {
+    if number >= file.chunks.len() {
         return Err(CheckFault::NotCanonical { chunk: number });
     }
-    if chunks.chunk(number) != event.bytes() {
+    if file.chunks.chunk(number) != event.bytes() {
         return Err(CheckFault::NotCanonical { chunk: number });
     }
-    let reference = event.reference();
+    let reference = file.digests[number].reference;
     let Ok(()) = references.push(reference) else {
         return Err(CheckFault::Memory);
     };
     Ok(reference)
 }
 
-/// Lets an event pass the levels, if there is one, and compares what leaves the last one with the
-/// next chunks of a file, behind those whose references are there. Adds theirs.
+/// Lets an event pass the levels, and compares what leaves the last one with the next chunks of a
+/// file, behind those whose references are there. Adds theirs.
 ///
 /// The event leaves the last level first: the first level takes it, and those above let it pass.
 /// Then the node that the first level closes, if it does, passes those above in the same way.
 fn pass(
     alloc: Global,
     levels: &mut [NodeLevel<Sha512Cut>],
-    event: Option<ChunkEvent>,
-    chunks: &Chunks,
+    event: &BorrowedEvent,
+    file: &Hashed,
     references: &mut Vec<Ref>,
 ) -> Result<(), CheckFault>
-    ensures passed { PassesUp chunks.now levels.old levels.new event references.old.items
-        references.new.items result }
+    ensures passed { PassesUp file.now.chunks.now levels.old levels.new (Some event.now)
+        references.old.items references.new.items result }
     ensures size { length levels.new ≡ length levels.old }
 {
-    let Some(event) = event else {
-        return Ok(());
-    };
-    let reference = expect_chunk(chunks, references, &event)?;
-    let event = event.with_known_reference(reference);
+    let reference = expect_chunk(file, references, event)?;
     match levels.split_first_mut() {
         None => Ok(()),
         Some((level, above)) => {
-            let closed = level.push(alloc, &event)?;
-            pass(alloc, above, closed, chunks, references)
+            let Some(closed) = level.push_known(alloc, event, &reference)? else {
+                return Ok(());
+            };
+            pass(alloc, above, &closed.as_borrowed(), file, references)
         }
+    }
+}
+
+/// Lets an event pass the levels, if there is one.
+fn pass_closed(
+    alloc: Global,
+    levels: &mut [NodeLevel<Sha512Cut>],
+    event: Option<ChunkEvent>,
+    file: &Hashed,
+    references: &mut Vec<Ref>,
+) -> Result<(), CheckFault>
+    ensures passed { PassesUp file.now.chunks.now levels.old levels.new event references.old.items
+        references.new.items result }
+    ensures size { length levels.new ≡ length levels.old }
+{
+    match event {
+        None => Ok(()),
+        Some(event) => pass(alloc, levels, &event.as_borrowed(), file, references),
     }
 }
 
@@ -119,54 +145,92 @@ fn add_copy(
     rebuild: &mut Rebuild,
     key: &[u8],
     value: &[u8],
-    chunks: &Chunks,
+    file: &Hashed,
 ) -> Result<(), CheckFault>
     requires key { length key.now ≤ 1024 }
     requires value { length value.now ≤ 65536 }
-    ensures { TakesPairs chunks.now rebuild.old rebuild.new
+    ensures { TakesPairs file.now.cut file.now.chunks.now rebuild.old rebuild.new
         (record { key = key.now; value = value.now } ∷ []) result }
 {
     let pair = Pair::copy_of(alloc, key, value)?;
     let closed = rebuild.leaf.push(alloc, &pair)?;
-    pass(
+    pass_closed(
         alloc,
         &mut rebuild.nodes,
         closed,
-        chunks,
+        file,
         &mut rebuild.references,
     )
 }
 
-/// Takes the pairs of a leaf.
-fn add_leaf(
+/// Takes copies of the pairs of a leaf.
+fn add_pairs(
     alloc: Global,
     rebuild: &mut Rebuild,
     mut leaf: Pairs,
-    chunks: &Chunks,
+    file: &Hashed,
 ) -> Result<(), CheckFault>
-    ensures { TakesPairs chunks.now rebuild.old rebuild.new leaf.entry result }
+    ensures { TakesPairs file.now.cut file.now.chunks.now rebuild.old rebuild.new leaf.entry
+        result }
 {
     while let Some((key, value)) = leaf.next() {
-        add_copy(alloc, rebuild, key, value, chunks)?;
+        add_copy(alloc, rebuild, key, value, file)?;
     }
     Ok(())
 }
 
-/// Takes the pairs of all chunks of a file.
-fn add_chunks(alloc: Global, rebuild: &mut Rebuild, chunks: &Chunks) -> Result<(), CheckFault>
-    ensures { TakesPairs chunks.now rebuild.old rebuild.new (flat_map pairs_held chunks.now)
-        result }
+/// Lets a whole leaf pass the level of the leaves, if none is open there, and answers whether it
+/// did.
+fn pass_leaf(rebuild: &mut Rebuild, digest: ChunkDigest) -> bool
+    ensures passed { result ≡ true → LeafPassed digest rebuild.old rebuild.new }
+    ensures same { result ≡ false → rebuild.new ≡ rebuild.old }
 {
-    for number in 0..chunks.len() {
-        add_leaf(alloc, rebuild, chunks.pairs(number), chunks)?;
+    if !digest.is_whole_leaf {
+        return false;
+    }
+    rebuild.leaf.pass()
+}
+
+/// Takes the pairs of the chunk of this number: those of a whole leaf together and without a copy,
+/// where no leaf is open.
+fn add_leaf(
+    alloc: Global,
+    rebuild: &mut Rebuild,
+    number: usize,
+    file: &Hashed,
+) -> Result<(), CheckFault>
+    requires { number < length file.now.chunks.now }
+    ensures { TakesPairs file.now.cut file.now.chunks.now rebuild.old rebuild.new
+        (pairs_held (get_or file.now.chunks.now number [])) result }
+{
+    if !pass_leaf(rebuild, file.digests[number]) {
+        return add_pairs(alloc, rebuild, file.chunks.pairs(number), file);
+    }
+    let event = file.chunks.leaf_event(number);
+    pass(
+        alloc,
+        &mut rebuild.nodes,
+        &event,
+        file,
+        &mut rebuild.references,
+    )
+}
+
+/// Takes the pairs of all chunks of a file.
+fn add_chunks(alloc: Global, rebuild: &mut Rebuild, file: &Hashed) -> Result<(), CheckFault>
+    ensures { TakesPairs file.now.cut file.now.chunks.now rebuild.old rebuild.new
+        (flat_map pairs_held file.now.chunks.now) result }
+{
+    for number in 0..file.chunks.len() {
+        add_leaf(alloc, rebuild, number, file)?;
     }
     Ok(())
 }
 
 /// Closes what is left open, level by level from the leaves up, and answers the references of all
 /// chunks.
-fn finish(alloc: Global, rebuild: Rebuild, chunks: &Chunks) -> Result<Vec<Ref>, CheckFault>
-    ensures { EndsRebuild chunks.now rebuild result }
+fn finish(alloc: Global, rebuild: Rebuild, file: &Hashed) -> Result<Vec<Ref>, CheckFault>
+    ensures { EndsRebuild file.now.chunks.now rebuild result }
 {
     let Rebuild {
         leaf,
@@ -175,7 +239,7 @@ fn finish(alloc: Global, rebuild: Rebuild, chunks: &Chunks) -> Result<Vec<Ref>, 
     } = rebuild;
     let mut last = leaf.finish();
     loop {
-        pass(alloc, &mut nodes, last, chunks, &mut references)?;
+        pass_closed(alloc, &mut nodes, last, file, &mut references)?;
         if nodes.len() == 0 {
             return Ok(references);
         }
@@ -193,17 +257,24 @@ pub(crate) fn test_rebuilt(
     cut: Sha512Cut,
     version: Version,
     chunks: &Chunks,
+    digests: &[ChunkDigest],
 ) -> Result<Vec<Ref>, CheckFault>
-    requires { length (flat_map pairs_held chunks.now) < 2 ^ 64 }
+    requires few { length (flat_map pairs_held chunks.now) < 2 ^ 64 }
+    requires digests { AreDigests cut chunks.now digests.now }
     ensures ok { OnOk result (CompareAs version cut chunks.now None) }
     ensures references { IfOk result (λ references.
         AreReferences chunks.now references.items) }
     ensures err { IfErr result (UnlessMemory (λ fault.
         CompareAs version cut chunks.now (Some fault))) }
 {
+    let file = Hashed {
+        chunks,
+        cut,
+        digests,
+    };
     let mut rebuild = begin(alloc, cut, version)?;
-    add_chunks(alloc, &mut rebuild, chunks)?;
-    let references = finish(alloc, rebuild, chunks)?;
+    add_chunks(alloc, &mut rebuild, &file)?;
+    let references = finish(alloc, rebuild, &file)?;
     let count = references.len();
     if count < chunks.len() {
         return Err(CheckFault::NotCanonical { chunk: count });

@@ -1,6 +1,7 @@
 //! What `diff` leaves where it is refused memory.
 use super::{FILE_OF_ONE, expect_begun};
 use crate::tools::look_up_answers::file_of_three;
+use prolly_check::OneThread;
 use prolly_entry::Version;
 use prolly_file::{FromRead, ScriptSink};
 use prolly_tool::{Notation, RecordForm, answer_diff};
@@ -20,7 +21,15 @@ fn changes_are_written_or_want_memory(rt: HostRuntime) -> Result<(), Fail> {
         let mut sink = ScriptSink::new(alloc, 4_096, None);
         let mut old = FromRead::new(FILE_OF_ONE);
         let mut new = FromRead::new(three.as_slice());
-        let answer = answer_diff(alloc, &mut old, &mut new, Some(form), false, &mut sink);
+        let answer = answer_diff(
+            &OneThread,
+            alloc,
+            &mut old,
+            &mut new,
+            Some(form),
+            false,
+            &mut sink,
+        );
         expect_begun(&rt, answer, 1, sink.taken(), whole);
     }
     Ok(())

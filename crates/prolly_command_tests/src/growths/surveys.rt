@@ -1,5 +1,6 @@
 //! What `explain` and `stat` show where they are refused memory.
 use super::{FILE_OF_ONE, RECORD, expect_shown};
+use prolly_check::OneThread;
 use prolly_file::FromRead;
 use prolly_tool::{Notation, StatForm, answer_explain, answer_stat};
 
@@ -18,10 +19,10 @@ fn a_record_file_is_explained_or_wants_memory(rt: HostRuntime) {
 fn a_file_is_shown_in_numbers_or_wants_memory(rt: HostRuntime) {
     let alloc = rt.alloc();
     let lines = StatForm::Lines(Notation::Hex);
-    let records = answer_stat(alloc, FromRead::new(RECORD), lines);
+    let records = answer_stat(&OneThread, alloc, FromRead::new(RECORD), lines);
     let numbers = b"records 1\nremovals 0\nbytes 8\nfirst 61\nlast 61\n";
     expect_shown(&rt, records.answer, 0, numbers);
-    let tree = answer_stat(alloc, FromRead::new(FILE_OF_ONE), lines);
+    let tree = answer_stat(&OneThread, alloc, FromRead::new(FILE_OF_ONE), lines);
     let table = b"root siohomb4dih8dpq7rscofpf57l9lfog4\nformat 1\nbits 0\n\
           pairs 1\nchunks 1\nbytes 9\n\
           level      chunks     entries         bytes       least      middle    greatest\n\
@@ -30,6 +31,11 @@ fn a_file_is_shown_in_numbers_or_wants_memory(rt: HostRuntime) {
     let line = b"{\"root\":\"siohomb4dih8dpq7rscofpf57l9lfog4\",\"format\":1,\"bits\":0,\
           \"pairs\":1,\"chunks\":1,\"bytes\":9,\"levels\":[{\"level\":0,\"chunks\":1,\"entries\":1,\
           \"bytes\":9,\"least\":9,\"middle\":9,\"greatest\":9}]}\n";
-    let tree = answer_stat(alloc, FromRead::new(FILE_OF_ONE), StatForm::Json);
+    let tree = answer_stat(
+        &OneThread,
+        alloc,
+        FromRead::new(FILE_OF_ONE),
+        StatForm::Json,
+    );
     expect_shown(&rt, tree.answer, 0, line);
 }

@@ -1,6 +1,7 @@
 //! What `dump` answers.
 use super::expect_answer;
 use crate::expect::expect_bytes;
+use prolly_check::OneThread;
 use prolly_file::{FromRead, ScriptSink, ScriptSource};
 use prolly_test_parts::chunk_file;
 use prolly_tool::{Notation, RecordForm, answer_dump};
@@ -31,7 +32,13 @@ fn expect_records(rt: &impl Abort, alloc: Global, version: u8) -> Result<(), Fai
     for &(fail_at, status, err, taken) in WRITES {
         let mut sink = ScriptSink::new(alloc, 3, fail_at);
         let mut source = FromRead::new(file.as_slice());
-        let answer = answer_dump(alloc, &mut source, RecordForm::Records, &mut sink)?;
+        let answer = answer_dump(
+            &OneThread,
+            alloc,
+            &mut source,
+            RecordForm::Records,
+            &mut sink,
+        )?;
         expect_answer(rt, &answer, status, b"", err);
         expect_bytes(rt, sink.taken(), taken);
     }
@@ -50,7 +57,7 @@ fn writes_a_line_for_each_pair(rt: HostRuntime) -> Result<(), Fail> {
     let file = chunk_file(alloc, [1, 24], &[LEAF])?;
     let mut source = FromRead::new(file.as_slice());
     let mut sink = ScriptSink::new(alloc, 5, None);
-    let answer = answer_dump(alloc, &mut source, HEX_LINES, &mut sink)?;
+    let answer = answer_dump(&OneThread, alloc, &mut source, HEX_LINES, &mut sink)?;
     expect_answer(&rt, &answer, 0, b"", b"");
     expect_bytes(&rt, sink.taken(), b"61 31\n62 32\n");
     Ok(())
@@ -65,7 +72,7 @@ fn expect_no_lines(
     line: &[u8],
 ) -> Result<(), Fail> {
     let mut sink = ScriptSink::new(alloc, 3, None);
-    let answer = answer_dump(alloc, &mut source, HEX_LINES, &mut sink)?;
+    let answer = answer_dump(&OneThread, alloc, &mut source, HEX_LINES, &mut sink)?;
     expect_answer(rt, &answer, status, b"", line);
     expect_bytes(rt, sink.taken(), b"");
     Ok(())

@@ -1,5 +1,6 @@
 //! What `get`, `scan`, `nth` and `check` answer.
 use super::expect_answer;
+use prolly_check::OneThread;
 use prolly_entry::{Sha512Cut, Version};
 use prolly_file::{FromRead, scratch_as};
 use prolly_test_parts::pairs_of;
@@ -37,7 +38,7 @@ fn a_value_is_shown_or_the_status_tells_that_there_is_none(rt: HostRuntime) -> R
         let answer = answer_get(alloc, &mut FromRead::new(file.as_slice()), key)?;
         expect_answer(&rt, &answer, status, hex, b"");
         let mut source = FromRead::new(file.as_slice());
-        let answer = answer_get_in(alloc, &mut source, key, Notation::Text)?;
+        let answer = answer_get_in(&OneThread, alloc, &mut source, key, Notation::Text)?;
         expect_answer(&rt, &answer, status, text, b"");
     }
     Ok(())
@@ -60,7 +61,7 @@ fn a_line_is_shown_for_each_pair_of_a_scan(rt: HostRuntime) -> Result<(), Fail> 
         let answer = answer_scan(alloc, &mut FromRead::new(file.as_slice()), from, limit)?;
         expect_answer(&rt, &answer, 0, hex, b"");
         let mut source = FromRead::new(file.as_slice());
-        let answer = answer_scan_in(alloc, &mut source, from, limit, Notation::Text)?;
+        let answer = answer_scan_in(&OneThread, alloc, &mut source, from, limit, Notation::Text)?;
         expect_answer(&rt, &answer, 0, text, b"");
     }
     Ok(())
@@ -90,7 +91,7 @@ fn the_pair_of_a_number_is_shown(rt: HostRuntime) -> Result<(), Fail> {
         let answer = answer_nth(alloc, &mut FromRead::new(file.as_slice()), n)?;
         expect_answer(&rt, &answer, status, hex, err);
         let mut source = FromRead::new(file.as_slice());
-        let answer = answer_nth_in(alloc, &mut source, n, Notation::Text)?;
+        let answer = answer_nth_in(&OneThread, alloc, &mut source, n, Notation::Text)?;
         expect_answer(&rt, &answer, status, text, err);
     }
     Ok(())

@@ -1,6 +1,7 @@
 //! What `prove` and `verify` answer.
 use super::expect_answer;
 use crate::expect::expect_bytes;
+use prolly_check::OneThread;
 use prolly_entry::{Ref, Version};
 use prolly_file::{FromRead, ScriptSink};
 use prolly_test_parts::{chunk_file, joined};
@@ -26,7 +27,7 @@ fn expect_proof(
     out: &[u8],
 ) -> Result<(), Fail> {
     let mut sink = ScriptSink::new(alloc, 3, None);
-    let made = answer_prove(alloc, &mut FromRead::new(file), key, &mut sink)?;
+    let made = answer_prove(&OneThread, alloc, &mut FromRead::new(file), key, &mut sink)?;
     expect_answer(rt, &made, 0, b"", b"");
     expect_bytes(rt, sink.taken(), &joined(alloc, &[START, LEAF])?);
     expect_verified(

@@ -6,7 +6,7 @@ ghost use Rattle.prolly_tool.specs.Answers.{ShowsName, ShowsRefusal};
 ghost use Rattle.prolly_tool.specs.LookUps.{ShowsPair, ShowsValue};
 
 use crate::faults::{Fault, NameFault};
-use crate::lines::append_pair;
+use crate::lines::append_pair_text;
 use prolly_line::ParseFault;
 use prolly_text::{Notation, append_name};
 use std::alloc::{AllocError, Global};
@@ -98,7 +98,7 @@ impl Answer {
             (Some (record { key = key.now; value = value.now }))) }
     {
         let mut line = Vec::new(alloc);
-        append_pair(alloc, &mut line, notation, key, value)?;
+        append_pair_text(alloc, &mut line, notation, key, value)?;
         Answer::of_line(alloc, &line)
     }
 

@@ -21,7 +21,7 @@ use crate::answers::answer::Answer;
 use crate::faults::{Fault, OutputFault};
 use crate::input::INPUT_LIMIT;
 use crate::lines::append_number;
-use prolly_check::{Missing, Tree, check};
+use prolly_check::{ChunkHasher, Missing, Tree, check_by};
 use prolly_diff::Differences;
 use prolly_file::{Sink, Source, write_all};
 use prolly_text::{RecordForm, append_change};
@@ -38,7 +38,8 @@ use std::alloc::{AllocError, Global};
 /// at the same place are passed over. A change is put together in memory, and written in a call of
 /// the sink; without a form the sink is not called. An `Err` is want of memory for the line that is
 /// to be shown; the sink is then as it was, or has a part of the changes, or all of them.
-pub fn answer_diff<S: Source, T: Source, W: Sink>(
+pub fn answer_diff<H: ChunkHasher, S: Source, T: Source, W: Sink>(
+    hasher: &H,
     alloc: Global,
     old_source: &mut S,
     new_source: &mut T,
@@ -46,6 +47,7 @@ pub fn answer_diff<S: Source, T: Source, W: Sink>(
     stat: bool,
     sink: &mut W,
 ) -> Result<Answer, AllocError>
+    requires { H.can_hash hasher.now }
     ensures ok { (S.seen old_source.old).is_honest ≡ true →
         (T.seen new_source.old).is_honest ≡ true →
         IfOk result (IsDiff form stat (S.seen old_source.old).left
@@ -69,11 +71,11 @@ pub fn answer_diff<S: Source, T: Source, W: Sink>(
         (sink.new ≡ sink.old) ×
         IfOk result (λ answer. ShowsFault answer (Fault.CheckNew Read)) }
 {
-    let old_tree = match check(alloc, old_source, INPUT_LIMIT) {
+    let old_tree = match check_by(hasher, alloc, old_source, INPUT_LIMIT) {
         Ok(tree) => tree,
         Err(fault) => return Answer::of_fault(alloc, Fault::CheckOld(fault)),
     };
-    let new_tree = match check(alloc, new_source, INPUT_LIMIT) {
+    let new_tree = match check_by(hasher, alloc, new_source, INPUT_LIMIT) {
         Ok(tree) => tree,
         Err(fault) => return Answer::of_fault(alloc, Fault::CheckNew(fault)),
     };

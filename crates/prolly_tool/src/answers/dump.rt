@@ -12,7 +12,7 @@ use crate::answers::answer::Answer;
 use crate::faults::{Fault, OutputFault};
 use crate::input::INPUT_LIMIT;
 use crate::lines::write_lines;
-use prolly_check::{Tree, check};
+use prolly_check::{ChunkHasher, Tree, check_by};
 use prolly_file::{Sink, Source, WriteFault};
 use prolly_text::RecordForm;
 use std::alloc::{AllocError, Global};
@@ -26,12 +26,14 @@ use std::alloc::{AllocError, Global};
 /// want of it is shown as a fault. Either way the sink is called once for each leaf, or more often
 /// where it takes only a part. An `Err` is want of memory for the line of a fault; the sink is then
 /// as it was, or has a part of the pairs.
-pub fn answer_dump<S: Source, W: Sink>(
+pub fn answer_dump<H: ChunkHasher, S: Source, W: Sink>(
+    hasher: &H,
     alloc: Global,
     source: &mut S,
     form: RecordForm,
     sink: &mut W,
 ) -> Result<Answer, AllocError>
+    requires { H.can_hash hasher.now }
     ensures ok { (S.seen source.old).is_honest ≡ true →
         IfOk result (IsDump form (S.seen source.old).left
         ((S.seen source.new).failures ≢ (S.seen source.old).failures)
@@ -45,7 +47,7 @@ pub fn answer_dump<S: Source, W: Sink>(
     ensures read { (S.seen source.new).failures ≢ (S.seen source.old).failures →
         (sink.new ≡ sink.old) × IfOk result ShowsFailedRead }
 {
-    let tree = match check(alloc, source, INPUT_LIMIT) {
+    let tree = match check_by(hasher, alloc, source, INPUT_LIMIT) {
         Ok(tree) => tree,
         Err(fault) => return Answer::of_fault(alloc, Fault::Check(fault)),
     };

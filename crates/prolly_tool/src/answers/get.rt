@@ -6,7 +6,7 @@ ghost use Rattle.std.specs.Prelude.{IfOk};
 use crate::answers::answer::Answer;
 use crate::faults::Fault;
 use crate::input::INPUT_LIMIT;
-use prolly_check::check;
+use prolly_check::{ChunkHasher, OneThread, check_by};
 use prolly_file::Source;
 use prolly_root::RootFault;
 use prolly_text::Notation;
@@ -17,16 +17,18 @@ use std::alloc::{AllocError, Global};
 /// memory for the answer's own text.
 ///
 /// The file is checked first, as by `check`; the look-up itself touches one chunk a level.
-pub fn answer_get_in<S: Source>(
+pub fn answer_get_in<H: ChunkHasher, S: Source>(
+    hasher: &H,
     alloc: Global,
     source: &mut S,
     key: &[u8],
     notation: Notation,
 ) -> Result<Answer, AllocError>
+    requires { H.can_hash hasher.now }
     ensures shown { AnswersLookUp S.seen source.old source.new (ShowsGet notation key.now) result }
     ensures read { AnswersFailedRead S.seen source.old source.new result }
 {
-    let tree = match check(alloc, source, INPUT_LIMIT) {
+    let tree = match check_by(hasher, alloc, source, INPUT_LIMIT) {
         Ok(tree) => tree,
         Err(fault) => return Answer::of_fault(alloc, Fault::Check(fault)),
     };
@@ -42,7 +44,7 @@ pub fn answer_get<S: Source>(
     ensures shown { AnswersLookUp S.seen source.old source.new (ShowsGet Hex key.now) result }
     ensures read { AnswersFailedRead S.seen source.old source.new result }
 {
-    answer_get_in(alloc, source, key, Notation::Hex)
+    answer_get_in(&OneThread, alloc, source, key, Notation::Hex)
 }
 
 /// What `get` answers to who names the root: the value that was found, in this notation; nothing,

@@ -12,7 +12,7 @@ ghost use Rattle.prolly_tool.specs.LookUps.{ShowsFoundPair, ShowsPair};
 use crate::answers::answer::Answer;
 use crate::faults::Fault;
 use crate::input::INPUT_LIMIT;
-use prolly_check::{NoCounts, check};
+use prolly_check::{ChunkHasher, NoCounts, OneThread, check_by};
 use prolly_entry::Pair;
 use prolly_file::Source;
 use prolly_root::RootFault;
@@ -26,16 +26,18 @@ use std::alloc::{AllocError, Global};
 ///
 /// The file is checked first, as by `check`; the look-up itself skips by the counts of the pairs
 /// below.
-pub fn answer_nth_in<S: Source>(
+pub fn answer_nth_in<H: ChunkHasher, S: Source>(
+    hasher: &H,
     alloc: Global,
     source: &mut S,
     n: u64,
     notation: Notation,
 ) -> Result<Answer, AllocError>
+    requires { H.can_hash hasher.now }
     ensures shown { AnswersLookUp S.seen source.old source.new (ShowsPlace notation n) result }
     ensures read { AnswersFailedRead S.seen source.old source.new result }
 {
-    let tree = match check(alloc, source, INPUT_LIMIT) {
+    let tree = match check_by(hasher, alloc, source, INPUT_LIMIT) {
         Ok(tree) => tree,
         Err(fault) => return Answer::of_fault(alloc, Fault::Check(fault)),
     };
@@ -69,7 +71,7 @@ pub fn answer_nth<S: Source>(alloc: Global, source: &mut S, n: u64) -> Result<An
     ensures shown { AnswersLookUp S.seen source.old source.new (ShowsPlace Hex n) result }
     ensures read { AnswersFailedRead S.seen source.old source.new result }
 {
-    answer_nth_in(alloc, source, n, Notation::Hex)
+    answer_nth_in(&OneThread, alloc, source, n, Notation::Hex)
 }
 
 /// What `nth` answers to who names the root: the pair that was found, as key and value in this

@@ -8,7 +8,7 @@ ghost use Rattle.prolly_tool.specs.Answers.{ShowsFault};
 use crate::answers::answer::Answer;
 use crate::faults::Fault;
 use crate::input::{INPUT_LIMIT, input_of};
-use prolly_check::check;
+use prolly_check::{ChunkHasher, check_by};
 use prolly_entry::{Ref, Version};
 use prolly_file::{Sink, Source, WriteFault, write_whole};
 use prolly_root::{prove, verify};
@@ -22,12 +22,14 @@ use std::alloc::{AllocError, Global};
 /// The file is checked first, as by `check`. Beside what that takes, memory is taken for the proof,
 /// one chunk a level. An `Err` is want of memory for that, or for the line of a fault; the sink is
 /// then as it was, or it failed.
-pub fn answer_prove<S: Source, W: Sink>(
+pub fn answer_prove<H: ChunkHasher, S: Source, W: Sink>(
+    hasher: &H,
     alloc: Global,
     source: &mut S,
     key: &[u8],
     sink: &mut W,
 ) -> Result<Answer, AllocError>
+    requires { H.can_hash hasher.now }
     ensures ok { (S.seen source.old).is_honest ≡ true →
         IfOk result (IsProve key.now (S.seen source.old).left
         ((S.seen source.new).failures ≢ (S.seen source.old).failures)
@@ -41,7 +43,7 @@ pub fn answer_prove<S: Source, W: Sink>(
     ensures read { (S.seen source.new).failures ≢ (S.seen source.old).failures →
         (sink.new ≡ sink.old) × IfOk result ShowsFailedRead }
 {
-    let tree = match check(alloc, source, INPUT_LIMIT) {
+    let tree = match check_by(hasher, alloc, source, INPUT_LIMIT) {
         Ok(tree) => tree,
         Err(fault) => return Answer::of_fault(alloc, Fault::Check(fault)),
     };

@@ -7,8 +7,8 @@ ghost use Rattle.prolly_tool.specs.LookUps.{pair_lines};
 use crate::answers::answer::Answer;
 use crate::faults::Fault;
 use crate::input::INPUT_LIMIT;
-use crate::lines::append_pair;
-use prolly_check::{Leaves, Pairs, check};
+use crate::lines::append_pair_text;
+use prolly_check::{ChunkHasher, Leaves, OneThread, Pairs, check_by};
 use prolly_entry::Pair;
 use prolly_file::Source;
 use prolly_text::Notation;
@@ -20,18 +20,20 @@ use std::alloc::{AllocError, Global};
 ///
 /// The file is checked first, as by `check`. Beside what that takes, memory is taken for the lines
 /// alone: they are made from where the pairs lie, leaf by leaf, up to the limit.
-pub fn answer_scan_in<S: Source>(
+pub fn answer_scan_in<H: ChunkHasher, S: Source>(
+    hasher: &H,
     alloc: Global,
     source: &mut S,
     from: &[u8],
     limit: u32,
     notation: Notation,
 ) -> Result<Answer, AllocError>
+    requires { H.can_hash hasher.now }
     ensures shown { AnswersLookUp S.seen source.old source.new
         (ShowsScan notation from.now limit) result }
     ensures read { AnswersFailedRead S.seen source.old source.new result }
 {
-    let tree = match check(alloc, source, INPUT_LIMIT) {
+    let tree = match check_by(hasher, alloc, source, INPUT_LIMIT) {
         Ok(tree) => tree,
         Err(fault) => return Answer::of_fault(alloc, Fault::Check(fault)),
     };
@@ -50,7 +52,7 @@ pub fn answer_scan<S: Source>(
         (ShowsScan Hex from.now limit) result }
     ensures read { AnswersFailedRead S.seen source.old source.new result }
 {
-    answer_scan_in(alloc, source, from, limit, Notation::Hex)
+    answer_scan_in(&OneThread, alloc, source, from, limit, Notation::Hex)
 }
 
 /// A line for each of the first pairs of the leaves, at most `limit` of them. Asks for no leaf
@@ -92,7 +94,7 @@ fn append_first(
         let Some((key, value)) = leaf.next() else {
             return Ok(left);
         };
-        append_pair(alloc, lines, notation, key, value)?;
+        append_pair_text(alloc, lines, notation, key, value)?;
         lines.extend_from_slice(b"\n")?;
         left -= 1;
     }
@@ -109,7 +111,7 @@ pub(crate) fn lines_of(
 {
     let mut lines = Vec::new(alloc);
     for pair in pairs {
-        append_pair(alloc, &mut lines, notation, pair.key(), pair.value())?;
+        append_pair_text(alloc, &mut lines, notation, pair.key(), pair.value())?;
         lines.extend_from_slice(b"\n")?;
     }
     Ok(lines)

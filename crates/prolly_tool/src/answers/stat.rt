@@ -11,7 +11,7 @@ ghost use Rattle.prolly_tool.specs.Surveys.{AreOfSurvey};
 use crate::answers::answer::Answer;
 use crate::faults::Fault;
 use crate::input::{INPUT_LIMIT, RECORD_LIMIT};
-use prolly_check::{Tree, check};
+use prolly_check::{ChunkHasher, Tree, check_by};
 use prolly_file::{Rejoined, Source, SourceFault, take_front};
 use prolly_load::{Survey, fault_of, survey};
 use prolly_text::{
@@ -39,7 +39,13 @@ pub struct Stated<S> {
 ///
 /// A chunk file is checked first, as by `check`, and held in memory. A record file is gone over
 /// once, in memory that does not grow with it.
-pub fn answer_stat<S: Source>(alloc: Global, mut source: S, form: StatForm) -> Stated<S>
+pub fn answer_stat<H: ChunkHasher, S: Source>(
+    hasher: &H,
+    alloc: Global,
+    mut source: S,
+    form: StatForm,
+) -> Stated<S>
+    requires { H.can_hash hasher.now }
     ensures shown { AnswersStat S.seen source result.source form result.answer }
     ensures read { AnswersBadRead S.seen source result.source result.answer }
 {
@@ -50,7 +56,7 @@ pub fn answer_stat<S: Source>(alloc: Global, mut source: S, form: StatForm) -> S
     };
     let front = &front[..count];
     let mut whole = Rejoined::new(front, source);
-    let answer = whole_answer(alloc, front == LETTERS, &mut whole, form);
+    let answer = whole_answer(hasher, alloc, front == LETTERS, &mut whole, form);
     Stated {
         source: whole.into_rest(),
         answer,
@@ -58,17 +64,19 @@ pub fn answer_stat<S: Source>(alloc: Global, mut source: S, form: StatForm) -> S
 }
 
 /// The numbers of a file of this kind.
-fn whole_answer<S: Source>(
+fn whole_answer<H: ChunkHasher, S: Source>(
+    hasher: &H,
     alloc: Global,
     is_chunk_file: bool,
     source: &mut S,
     form: StatForm,
 ) -> Result<Answer, AllocError>
+    requires { H.can_hash hasher.now }
     ensures shown { AnswersOf is_chunk_file S.seen source.old source.new form result }
     ensures read { AnswersBadRead S.seen source.old source.new result }
 {
     if is_chunk_file {
-        return match check(alloc, source, INPUT_LIMIT) {
+        return match check_by(hasher, alloc, source, INPUT_LIMIT) {
             Ok(tree) => tree_answer(alloc, &tree, form),
             Err(fault) => Answer::of_fault(alloc, Fault::Check(fault)),
         };

@@ -6,7 +6,7 @@ use Rattle.prolly_check.proofs.CheckedFile.{at_canonical, at_references, at_end}
 use Rattle.prolly_check.proofs.verdict.checker.inspect.Goals as goal
 
 pub returns-in_err-references-clause-err : goal.returns-in_err-references-clause-err
-returns-in_err-references-clause-err c =
+returns-in_err-references-clause-err g c =
     let p = err_from_is_err_and c.from_residual-in_err-references.result
     c.from_residual-in_err-references.ensures.1 in
     rw (p.1, p.2) (at_canonical c.args.bytes.now c.in_ok-layout.layout.header
@@ -16,7 +16,7 @@ returns-in_err-references-clause-err c =
     c.in_err-references.ensures.err)
 
 pub returns-in_err-index-clause-err : goal.returns-in_err-index-clause-err
-returns-in_err-index-clause-err c =
+returns-in_err-index-clause-err g c =
     let p = err_from_is_err_and c.from_residual-in_err-index.result
     c.from_residual-in_err-index.ensures.1 in
     rw (p.1, p.2) (at_references c.args.bytes.now c.in_ok-layout.layout.header
@@ -25,12 +25,12 @@ returns-in_err-index-clause-err c =
     (rest_is c.args.bytes.now c.in_ok-layout.end) c.in_ok-references.ensures.ok
     c.in_err-index.field-0.0
     (c.in_err-index.ensures.err c.new-chunks.result
-    (subst (AreReferences c.new-chunks.result) (sym c.deref.ensures.value)
+    (subst (AreReferences c.new-chunks.result) (sym c.deref-2.ensures.value)
     c.in_ok-references.ensures.references)))
 
 pub returns-clause-ok : goal.returns-clause-ok
-returns-clause-ok c =
-    let are = subst (AreReferences c.new-chunks.result) (sym c.deref.ensures.value)
+returns-clause-ok g c =
+    let are = subst (AreReferences c.new-chunks.result) (sym c.deref-2.ensures.value)
     c.in_ok-references.ensures.references in
     at_end c.args.bytes.now c.in_ok-layout.layout.header c.in_ok-layout.layout.spans.items
     c.in_ok-layout.end c.in_ok-layout.ensures.ok c.new-chunks.result c.new-chunks.ensures

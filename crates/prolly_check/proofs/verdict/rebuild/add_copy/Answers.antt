@@ -1,10 +1,12 @@
 use Rattle.std.proofs.Common.{refl}
-use Rattle.prolly_check.proofs.RebuildSteps.{one_took}
+use Rattle.prolly_check.proofs.RebuildSteps.{all_took}
 use Rattle.prolly_check.proofs.verdict.rebuild.add_copy.Goals as goal
 
 pub returns : goal.returns
-returns c = λ bits version pairs b.
-    one_took c.args.chunks.now _ c.args.rebuild.now _ _
-    (rw c.in_ok-pair.ensures at c.in_ok-closed.ensures) _ _ c.deref_mut.ensures.value _ _
-    c.pass.ensures.passed c.pass.ensures.size bits version pairs b _ c.pass.result refl refl
+returns c = λ version pairs b.
+    let takes = rw c.in_ok-pair.ensures at c.in_ok-closed.ensures in
+    all_took c.args.file.now.chunks.now c.args.file.now.cut version pairs _ c.args.rebuild.now _ _
+    (takes.state c.args.file.now.cut pairs b.leaf)
+    (takes.events c.args.file.now.cut version pairs b.leaf) _ _ c.deref_mut.ensures.value _ _
+    c.pass_closed.ensures.passed c.pass_closed.ensures.size b _ c.pass_closed.result refl refl
     refl refl

@@ -1,19 +1,33 @@
-use Rattle.std.proofs.Common.{◌∷◌, []}
-use Rattle.std.proofs.lemmas.Result.{err_from_is_err_and}
-use Rattle.prolly_check.proofs.RebuildSteps.{more_taken, fault_taking}
+use Rattle.std.proofs.Common.{[], get_or, sym, ap, ◌∙◌, refl, Some}
+use Rattle.std.specs.Vec.{with_items}
+use Rattle.prolly_entry.specs.Cut.{sha512_cut}
+use Rattle.prolly_entry.specs.declared.version.Version.TheVariants.{One}
+use Rattle.prolly_tree.specs.Chunk.{chunk_of}
+use Rattle.prolly_check.specs.HeldPairs.{pairs_held}
+use Rattle.prolly_check.proofs.RebuildSteps.{all_took, some_pairs}
 use Rattle.prolly_check.proofs.verdict.rebuild.add_leaf.Goals as goal
 
-pub loop-key-preserved : goal.loop-key-preserved
-loop-key-preserved c =
-    more_taken c.args.chunks.now c.args.rebuild.now c.args.leaf c.loop-key.rebuild c.loop-key.leaf
-    c.loop-key.invariant
-    (_ ∷ []) c.next.new.self c.in-Some.ensures.next c.add_copy.new.rebuild c.in_ok-add_copy.ensures
+pub returns-then-not-pass_leaf : goal.returns-then-not-pass_leaf
+returns-then-not-pass_leaf c =
+    rw c.pairs.ensures at (rw (c.if-not-pass_leaf.ensures.same refl) at c.add_pairs.ensures)
 
-pub returns-in_err-add_copy : goal.returns-in_err-add_copy
-returns-in_err-add_copy c =
-    let p = err_from_is_err_and c.from_residual.result c.from_residual.ensures.1 in
-    rw (p.1, p.2)
-    (fault_taking c.args.chunks.now c.args.rebuild.now c.args.leaf c.loop-key.rebuild
-    c.loop-key.leaf c.loop-key.invariant
-    (_ ∷ []) c.next.new.self c.in-Some.ensures.next c.add_copy.new.rebuild
-    c.in_err-add_copy.field-0.0 c.in_err-add_copy.ensures)
+pub leaf_event-event-requires-clause-some : goal.leaf_event-event-requires-clause-some
+leaf_event-event-requires-clause-some c =
+    let whole = (c.args.file.now.are.each c.args.number _ c.requires).whole in
+    some_pairs (sha512_cut c.args.file.now.cut) _
+    (sym whole ∙ (c.if-not-pass_leaf.ensures.passed refl).whole)
+
+pub returns : goal.returns
+returns c = λ version pairs b.
+    let bits = c.args.file.now.cut in
+    let leaf = pairs_held (get_or c.args.file.now.chunks.now c.args.number []) in
+    let passed = c.if-not-pass_leaf.ensures.passed refl in
+    let whole = sym (c.args.file.now.are.each c.args.number _ c.requires).whole ∙ passed.whole in
+    all_took c.args.file.now.chunks.now bits version pairs leaf c.args.rebuild.now _
+    (Some (chunk_of One 0 leaf))
+    (passed.passes.state bits pairs leaf whole b.leaf)
+    (passed.passes.events bits version pairs leaf whole b.leaf) _ _
+    (c.deref_mut.ensures.value ∙ ap (λ v. v.items) passed.nodes) _ _
+    (rw (c.leaf_event-event.ensures, passed.references) at c.pass.ensures.passed)
+    c.pass.ensures.size b _ c.pass.result refl refl
+    (ap (λ v. with_items v c.pass.new.levels) passed.nodes) refl

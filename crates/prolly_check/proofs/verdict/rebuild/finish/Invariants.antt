@@ -7,8 +7,8 @@ use Rattle.prolly_check.proofs.verdict.rebuild.finish.Given as goal
 
 abbrev pub invariant-loop-references : goal.invariant-loop-references
 invariant-loop-references l = (bits : ℕ) (version : Version) (pairs : List Pair) →
-    HasTaken bits version l.chunks pairs l.fn.rebuild →
-    IsEnding bits version pairs l.chunks l.nodes.items l.last l.references.items
+    HasTaken bits version l.file.chunks.now pairs l.fn.rebuild →
+    IsEnding bits version pairs l.file.chunks.now l.nodes.items l.last l.references.items
 
 abbrev pub decreases-loop-references : goal.decreases-loop-references
 decreases-loop-references l = vec_len l.nodes

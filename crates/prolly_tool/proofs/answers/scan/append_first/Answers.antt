@@ -9,7 +9,7 @@ loop-left-preserved c =
     let left = c.loop-left.invariant.left in record {
       lines = one_line c.args.notation _ c.loop-left.leaf c.next.new.self c.loop-left.left
           c.loop-left.lines.items _ _ (omega arith) next
-          (c.in_ok-append_pair.ensures ∙ append_assoc c.loop-left.lines.items
+          (c.in_ok-append_pair_text.ensures ∙ append_assoc c.loop-left.lines.items
           (written c.args.notation c.in-Some.key.now)
           (separator c.args.notation ∷ written c.args.notation c.in-Some.value.now))
           c.in_ok-extend_from_slice.ensures.items ∙ c.loop-left.invariant.lines;

@@ -2,7 +2,7 @@ use Rattle.std.proofs.Common.{arith}
 use Rattle.std.proofs.lemmas.Result.{IfErr-weaker}
 use Rattle.prolly_check.proofs.CheckedFile.{not_refused}
 use Rattle.prolly_check.proofs.OneVerdict.{refusal, no_failed_read}
-use Rattle.prolly_check.proofs.verdict.checker.check.Goals as goal
+use Rattle.prolly_check.proofs.verdict.checker.check_by.Goals as goal
 
 pub returns-clause-files : goal.returns-clause-files
 returns-clause-files g c = λ honest content f within. IfErr-weaker c.of.result _ _
