@@ -21,7 +21,7 @@ use Rattle.prolly_laws.specs.Trees.{pairs_are}
 use Rattle.prolly_check.specs.Entries.{Child, IsChild, entry_of, Holds, AllHold, pairs_in, IsBad}
 use Rattle.prolly_check.specs.Entries.{IsWhole, AreWhole, IsNode, IsSomeLeaf, children_in}
 use Rattle.prolly_check.specs.Frames.{chunk_in, chunks_in}
-use Rattle.prolly_check.specs.HeldPairs.{pairs_held}
+pub use Rattle.prolly_check.specs.HeldPairs.{bytes_in, pairs_held}
 use Rattle.prolly_check.specs.FirstFault.{chunk_bytes}
 use Rattle.prolly_check.specs.Kinds.{kind_of}
 use Rattle.prolly_check.specs.Kinds.Entries.{Leaf, Node}
@@ -29,9 +29,6 @@ use Rattle.prolly_check.proofs.EntryLists.{leaf_pairs}
 use Rattle.prolly_check.specs.declared.verdict.fault.CheckFault.TheVariants as faults
 
 -- ---- the pairs that chunks hold
-
-abbrev pub bytes_in : List Chunk → List (List ℕ)
-bytes_in cs = map (λ c. c.bytes) cs
 
 pub bytes_append : (cs ds : List Chunk) → bytes_in (cs ++ ds) ≡ bytes_in cs ++ bytes_in ds
 bytes_append cs ds = map-append (λ c. c.bytes) cs ds

@@ -30,3 +30,9 @@ pub mod Chosen
 pub mod TreeWays
 -- Going down the tree of a file that was checked.
 pub mod FileDescents
+-- The leaf that follows whole leaves, and the pairs that the chunks of a file hold.
+pub mod NextLeaf
+-- Events that pass levels of nodes, and the closing of these, where what leaves the last one is due.
+pub mod Followed
+-- What the chunks of a file that were read so far say of those that must follow, step by step.
+pub mod FollowerSteps

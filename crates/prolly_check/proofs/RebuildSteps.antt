@@ -181,7 +181,7 @@ module _ (bits : ℕ) (version : Version) (pairs : List Pair) where
 
   -- ---- the levels above send a prefix of what the last one sends
 
-  sends_prefix : (level count : ℕ) → IsPrefix
+  pub sends_prefix : (level count : ℕ) → IsPrefix
       (sent_through cut version (suc level) count (clean_events level))
       (clean_events (level + count))
   sends_prefix level zero = grind (arith, append-nil)

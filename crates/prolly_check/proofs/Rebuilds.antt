@@ -69,7 +69,7 @@ module _ (cut : Cut) (version : Version) where
   )
 
   -- so do all levels together
-  sent_first : (level count : ℕ) (events : List Chunk) (event : Chunk) →
+  pub sent_first : (level count : ℕ) (events : List Chunk) (event : Chunk) →
       IsPrefix (sent_through cut version level count events ++ event ∷ [])
       (sent_through cut version level count (events ++ event ∷ []))
   sent_first level zero events event = ([], sym (append-nil (events ++ event ∷ [])))
@@ -173,7 +173,7 @@ behind_on bits version level (s ∷ states) events event h b =
           (inner_events level (sha512_cut bits) version faulty events) event (omega arith) b.1),
     )
 
-sent_on : (bits : ℕ) (version : Version) (level count : ℕ) (events : List Chunk) (event : Chunk) →
+pub sent_on : (bits : ℕ) (version : Version) (level count : ℕ) (events : List Chunk) (event : Chunk) →
     suc event.level < level →
     sent_through (sha512_cut bits) version level count (events ++ event ∷ []) ≡
     sent_through (sha512_cut bits) version level count events ++ event ∷ []

@@ -28,6 +28,8 @@ pub mod FoundPairs
 pub mod Leaves
 -- Rebuilding the chunks of pairs one by one, by levels that stand one above another.
 pub mod Rebuild
+-- What the chunks of a file that were read so far say of those that must follow.
+pub mod Follower
 -- The way of a look-up down a tree, by the references of its chunks.
 pub mod Way
 -- The way of a scan down a tree, for who knows the root alone.

@@ -12,7 +12,7 @@ ghost use Rattle.prolly_check.specs.Chunks.{AreNumbered, AreReferences, HasAt, I
 ghost use Rattle.prolly_check.specs.FirstFault.{reuse};
 ghost use Rattle.prolly_check.specs.Verdict.{UnlessMemory};
 
-use crate::entries::{LEAF, Pairs, pairs_of};
+use crate::entries::{Pairs, leaf_event, pairs_of};
 use crate::verdict::{CheckFault, chunk_at};
 use prolly_chunk::BorrowedEvent;
 use prolly_entry::Ref;
@@ -95,9 +95,7 @@ impl<'a> Chunks<'a> {
         requires some { 0 < length (pairs_held (get_or self.now number [])) }
         ensures { result ≡ chunk_of One 0 (pairs_held (get_or self.now number [])) }
     {
-        let chunk = self.chunk(number);
-        let (key, count) = pairs_of(self.layout.header.version, chunk).last_key_and_count();
-        BorrowedEvent::new(LEAF, key, count, chunk)
+        leaf_event(self.layout.header.version, self.chunk(number))
     }
 }
 

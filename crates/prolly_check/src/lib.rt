@@ -7,6 +7,7 @@ mod file;
 pub mod laws;
 mod look_up;
 mod numbers;
+mod stream;
 mod tree;
 mod verdict;
 

@@ -12,3 +12,4 @@ pub use digests::{ChunkDigest, ChunkHasher, ManyThreads, OneThread};
 pub use fault::CheckFault;
 pub(crate) use frames::{chunk_at, is_whole};
 pub(crate) use order::last_in;
+pub(crate) use rebuild::new_nodes;

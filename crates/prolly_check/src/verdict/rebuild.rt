@@ -41,7 +41,7 @@ struct Rebuild {
 }
 
 /// All levels of nodes, before the first chunk.
-fn new_nodes(
+pub(crate) fn new_nodes(
     alloc: Global,
     cut: Sha512Cut,
     version: Version,

@@ -1,0 +1,2 @@
+//! Checking a file of any size while it is read, by its root.
+mod follower;

@@ -1,0 +1,308 @@
+//! What the chunks of a file that were read so far say of those that must follow.
+ghost use Rattle.std.specs.Prelude.{◌≡◌, ◌≢◌, ◌↔◌, ◌<◌, ℕ, [], ◌∷◌, true, false, None, List};
+ghost use Rattle.std.specs.Prelude.{IsTrue, IfOk, IfErr, OnOk, OnErr, length};
+ghost use Rattle.std.specs.List.{list_any};
+ghost use Rattle.prolly_entry.specs.Cut.{sha512_cut};
+ghost use Rattle.prolly_entry.specs.Reference.{reference_of};
+ghost use Rattle.prolly_tree.specs.Chunk.{chunk_of};
+ghost use Rattle.prolly_tree.specs.Tree.{pair_is_boundary};
+ghost use Rattle.prolly_entry.specs.declared.version.Version.TheVariants.{One};
+ghost use Rattle.prolly_check.specs.Digests.{IsDigest};
+ghost use Rattle.prolly_check.specs.Entries.{IsWhole};
+ghost use Rattle.prolly_check.specs.Follower.{ClosesAll, ClosesBehind, EndsWith, Follows, IsAlike};
+ghost use Rattle.prolly_check.specs.Follower.{PassesOn, TakesNext};
+ghost use Rattle.prolly_check.specs.HeldPairs.{bytes_in, pairs_held};
+
+use crate::entries::{Pairs, leaf_event, pairs_of};
+use crate::verdict::{CheckFault, ChunkDigest, new_nodes};
+use prolly_chunk::{BorrowedEvent, ChunkEvent, LeafLevel, NodeLevel};
+use prolly_entry::{Cut, Ref, Sha512Cut, Version};
+use std::alloc::{AllocError, Global};
+use std::collections::VecDeque;
+
+/// What is kept of the chunks of a file that were read so far, to know which must follow: the open
+/// node of each level, and the nodes that have closed and were not read yet.
+///
+/// In a file a node stands just behind its last child. So as long as leaves are whole, each chunk
+/// that was read tells whether a node must follow, and which. A leaf that is not whole, and a node
+/// that is not due, can only belong to the end of the map. From there on all chunks are known.
+#[derive(Drop)]
+pub(crate) struct Follower {
+    cut: Sha512Cut,
+    version: Version,
+    nodes: Vec<NodeLevel<Sha512Cut>>,
+    /// The nodes that must follow, in this order.
+    due: VecDeque<ChunkEvent>,
+    /// The number of the chunk that belongs to the end, once one was read.
+    ending: Option<usize>,
+}
+
+impl Follower {
+    /// Before the first chunk of a file. Takes memory for an open node of each level.
+    pub(crate) fn new(
+        alloc: Global,
+        cut: Sha512Cut,
+        version: Version,
+    ) -> Result<Follower, AllocError>
+        ensures { IfOk result (λ follower. Follows [] follower × (follower.cut ≡ cut) ×
+            (follower.version ≡ version)) }
+    {
+        Ok(Follower {
+            cut,
+            version,
+            nodes: new_nodes(alloc, cut, version)?,
+            due: VecDeque::new(alloc),
+            ending: None,
+        })
+    }
+
+    /// Takes the next chunk, of this number, or tells the first chunk that is out of its place.
+    ///
+    /// Takes no hash of the chunk, and one of each node that it closes. After an `Err` the follower
+    /// is of no use.
+    pub(crate) fn take(
+        &mut self,
+        alloc: Global,
+        number: usize,
+        chunk: &[u8],
+        digest: ChunkDigest,
+    ) -> Result<(), CheckFault>
+        requires whole { IsWhole self.old.version chunk.now }
+        requires digest { IsDigest self.old.cut chunk.now digest }
+        ensures takes { TakesNext self.old self.new number chunk.now result }
+        ensures alike { IsAlike self.old self.new }
+    {
+        match self.ending {
+            None => {
+                if self.due.is_empty() {
+                    return self.go_on(alloc, number, chunk, digest);
+                }
+                self.expect(number, chunk)
+            }
+            Some(from) => {
+                if !pairs_of(self.version, chunk).is_empty() {
+                    return Err(CheckFault::NotCanonical { chunk: from });
+                }
+                self.expect(number, chunk)
+            }
+        }
+    }
+
+    /// Tests that so many chunks are all of the file, or tells that one more must follow.
+    pub(crate) fn finish(mut self, alloc: Global, number: usize) -> Result<(), CheckFault>
+        ensures { EndsWith self number result }
+    {
+        if self.ending.is_some() {
+            return test_none_due(&self.due, number);
+        }
+        if !self.due.is_empty() {
+            return Err(CheckFault::NotCanonical { chunk: number });
+        }
+        close_behind(alloc, self.cut, number, &mut self.nodes, &mut self.due)?;
+        test_none_due(&self.due, number)
+    }
+
+    /// Takes the next chunk where none is due: a whole leaf, or the first chunk of the end.
+    fn go_on(
+        &mut self,
+        alloc: Global,
+        number: usize,
+        chunk: &[u8],
+        digest: ChunkDigest,
+    ) -> Result<(), CheckFault>
+        requires whole { IsWhole self.old.version chunk.now }
+        requires digest { IsDigest self.old.cut chunk.now digest }
+        requires going { self.old.ending ≡ None }
+        requires none { self.old.due.items ≡ [] }
+        ensures takes { TakesNext self.old self.new number chunk.now result }
+        ensures alike { IsAlike self.old self.new }
+    {
+        if digest.is_whole_leaf {
+            let event = leaf_event(self.version, chunk);
+            pass_leaf(
+                alloc,
+                &mut self.nodes,
+                &event,
+                &digest.reference,
+                &mut self.due,
+            )?;
+            return Ok(());
+        }
+        if has_boundary(self.cut, pairs_of(self.version, chunk)) {
+            return Err(CheckFault::NotCanonical { chunk: number });
+        }
+        self.end(alloc, number, chunk, &digest.reference)
+    }
+
+    /// Takes the first chunk of the end, which is no whole leaf and has no boundary: the last leaf,
+    /// or a node that only the end closes.
+    fn end(
+        &mut self,
+        alloc: Global,
+        number: usize,
+        chunk: &[u8],
+        reference: &Ref,
+    ) -> Result<(), CheckFault>
+        requires whole { IsWhole self.old.version chunk.now }
+        requires reference { reference.now.0 ≡ reference_of chunk.now }
+        requires going { self.old.ending ≡ None }
+        requires none { self.old.due.items ≡ [] }
+        requires open { list_any (pair_is_boundary (sha512_cut self.old.cut))
+            (pairs_held chunk.now) ≡ false }
+        ensures takes { TakesNext self.old self.new number chunk.now result }
+        ensures alike { IsAlike self.old self.new }
+    {
+        self.ending = Some(number);
+        if pairs_of(self.version, chunk).is_empty() {
+            close_behind(alloc, self.cut, number, &mut self.nodes, &mut self.due)?;
+            return self.expect(number, chunk);
+        }
+        let event = leaf_event(self.version, chunk);
+        pass_leaf(alloc, &mut self.nodes, &event, reference, &mut self.due)?;
+        close_all(alloc, &mut self.nodes, &mut self.due)?;
+        Ok(())
+    }
+
+    /// Takes the next chunk where it is known: the first that is due.
+    fn expect(&mut self, number: usize, chunk: &[u8]) -> Result<(), CheckFault>
+        ensures due { OnOk result (bytes_in self.old.due.items ≡
+            chunk.now ∷ bytes_in self.new.due.items) }
+        ensures other { IfErr result (λ fault. (fault ≡ CheckFault.NotCanonical number) ×
+            ((rest : List (List ℕ)) → bytes_in self.old.due.items ≡ chunk.now ∷ rest → ⊥)) }
+        ensures alike { IsAlike self.old self.new × (self.new.nodes ≡ self.old.nodes) ×
+            (self.new.ending ≡ self.old.ending) }
+    {
+        match self.due.pop_front() {
+            Some(event) if event.bytes() == chunk => Ok(()),
+            _ => Err(CheckFault::NotCanonical { chunk: number }),
+        }
+    }
+}
+
+/// Whether one of the pairs is a boundary. Takes one hash of each pair up to the first boundary.
+fn has_boundary(cut: Sha512Cut, mut leaf: Pairs) -> bool
+    ensures { result ≡ list_any (pair_is_boundary (sha512_cut cut)) leaf.entry }
+{
+    while let Some(spelling) = leaf.next_spelling() {
+        if cut.is_boundary(spelling) {
+            return true;
+        }
+    }
+    false
+}
+
+/// Lets an event pass the levels. It is due, and so are then the nodes that it closes, one level
+/// after another.
+fn pass_on(
+    alloc: Global,
+    levels: &mut [NodeLevel<Sha512Cut>],
+    event: ChunkEvent,
+    due: &mut VecDeque<ChunkEvent>,
+) -> Result<(), AllocError>
+    ensures passes { OnOk result (PassesOn levels.old levels.new event
+        (bytes_in due.old.items) (bytes_in due.new.items)) }
+    ensures size { length levels.new ≡ length levels.old }
+{
+    match levels.split_first_mut() {
+        None => {
+            due.push_back(event)?;
+            Ok(())
+        }
+        Some((level, above)) => {
+            let closed = level.push(alloc, &event)?;
+            due.push_back(event)?;
+            match closed {
+                None => Ok(()),
+                Some(closed) => pass_on(alloc, above, closed, due),
+            }
+        }
+    }
+}
+
+/// Lets the event of a leaf that was read pass the levels. The nodes that it closes are due.
+fn pass_leaf(
+    alloc: Global,
+    levels: &mut [NodeLevel<Sha512Cut>],
+    leaf: &BorrowedEvent,
+    reference: &Ref,
+    due: &mut VecDeque<ChunkEvent>,
+) -> Result<(), AllocError>
+    requires reference { reference.now.0 ≡ reference_of leaf.now.bytes }
+    requires none { due.old.items ≡ [] }
+    ensures passes { OnOk result (PassesOn levels.old levels.new leaf.now []
+        (leaf.now.bytes ∷ bytes_in due.new.items)) }
+    ensures size { length levels.new ≡ length levels.old }
+{
+    let Some((level, above)) = levels.split_first_mut() else {
+        return Ok(());
+    };
+    match level.push_known(alloc, leaf, reference)? {
+        None => Ok(()),
+        Some(closed) => pass_on(alloc, above, closed, due),
+    }
+}
+
+/// Lets the leaf of the empty map pass the levels.
+fn pass_empty(
+    alloc: Global,
+    cut: Sha512Cut,
+    levels: &mut [NodeLevel<Sha512Cut>],
+    due: &mut VecDeque<ChunkEvent>,
+) -> Result<(), AllocError>
+    ensures passes { OnOk result (PassesOn levels.old levels.new (chunk_of One 0 [])
+        (bytes_in due.old.items) (bytes_in due.new.items)) }
+    ensures size { length levels.new ≡ length levels.old }
+{
+    match LeafLevel::new(alloc, cut)?.finish() {
+        None => Ok(()),
+        Some(leaf) => pass_on(alloc, levels, leaf, due),
+    }
+}
+
+/// Closes the levels behind whole leaves, of which so many chunks were read. What they close is due,
+/// and where there was no leaf at all, the leaf of the empty map.
+fn close_behind(
+    alloc: Global,
+    cut: Sha512Cut,
+    number: usize,
+    nodes: &mut Vec<NodeLevel<Sha512Cut>>,
+    due: &mut VecDeque<ChunkEvent>,
+) -> Result<(), AllocError>
+    requires { due.old.items ≡ [] }
+    ensures { OnOk result (ClosesBehind cut nodes.old.items number (bytes_in due.new.items)) }
+{
+    if number == 0 {
+        pass_empty(alloc, cut, nodes, due)?;
+        return close_all(alloc, nodes, due);
+    }
+    close_all(alloc, nodes, due)
+}
+
+/// Tests that no chunk must follow so many.
+fn test_none_due(due: &VecDeque<ChunkEvent>, number: usize) -> Result<(), CheckFault>
+    ensures none { OnOk result (due.now.items ≡ []) }
+    ensures some { IfErr result (λ fault. (fault ≡ CheckFault.NotCanonical number) ×
+        (due.now.items ≢ [])) }
+{
+    if due.is_empty() {
+        return Ok(());
+    }
+    Err(CheckFault::NotCanonical { chunk: number })
+}
+
+/// Closes the levels, from the lowest up. What they close is due.
+fn close_all(
+    alloc: Global,
+    nodes: &mut Vec<NodeLevel<Sha512Cut>>,
+    due: &mut VecDeque<ChunkEvent>,
+) -> Result<(), AllocError>
+    ensures { OnOk result (ClosesAll nodes.old.items (bytes_in due.old.items)
+        (bytes_in due.new.items)) }
+{
+    while nodes.len() > 0 {
+        if let Some(last) = nodes.remove(0).finish() {
+            pass_on(alloc, nodes, last, due)?;
+        }
+    }
+    Ok(())
+}
