@@ -141,7 +141,7 @@ leaf_event_is version chunk pairs key count w some are k n =
       bytes = bytes;
     }) (leaf_bytes version chunk w some)
 
-few_in_frames : (version : Version) (cs : List (List ℕ)) → AreWhole version cs →
+pub few_in_frames : (version : Version) (cs : List (List ℕ)) → AreWhole version cs →
     length (flat_map pairs_held cs) ≤ length (flat_map framed cs)
 few_in_frames version [] w = omega arith
 few_in_frames version (c ∷ cs) w =
@@ -153,7 +153,7 @@ few_in_frames version (c ∷ cs) w =
     omega arith
 
 pub few_held : (version : Version) (bytes : List ℕ) (spans : List (Range ℕ)) (place : ℕ) →
-    FramesTo bytes spans place → AreWhole version (chunks_in bytes spans) →
+    FramesTo bytes 6 spans place → AreWhole version (chunks_in bytes spans) →
     length (flat_map pairs_held (chunks_in bytes spans)) ≤ length bytes
 few_held version bytes spans place frames whole =
     search (rules, few_in_frames, length-append, length-drop)
@@ -217,7 +217,7 @@ module _ (bytes : List ℕ) (header : Header) (spans : List (Range ℕ)) (place 
 
   module _ (lawful : header_fault header_tests bytes ≡ None)
       (version_is : header.version ≡ version_of (slice_index bytes 4))
-      (bits_are : header.bits ≡ slice_index bytes 5) (frames : FramesTo bytes spans place)
+      (bits_are : header.bits ≡ slice_index bytes 5) (frames : FramesTo bytes 6 spans place)
       (all : has_no_frame (drop place bytes) ≡ true) where
     framed_so : (ending : Result (List ℕ) CheckFault) → ending_of (length spans)
         (drop place bytes) ≡ ending → IsFramed (drop 6 bytes) cs ending
@@ -319,10 +319,11 @@ module _ (bytes : List ℕ) (header : Header) (spans : List (Range ℕ)) (place 
 
 -- ---- one more frame of a file
 
-pub one_more : (bytes : List ℕ) (spans : List (Range ℕ)) (place len : ℕ) → FramesTo bytes spans place →
+pub one_more : (bytes : List ℕ) (from : ℕ) (spans : List (Range ℕ)) (place len : ℕ) →
+    FramesTo bytes from spans place →
     BeginsFrame (drop place bytes) len →
-    FramesTo bytes (spans ++ record { start = place + 9; end = place + 9 + len } ∷ []) (place + 9 + len)
-one_more bytes spans place len f b =
+    FramesTo bytes from (spans ++ record { start = place + 9; end = place + 9 + len } ∷ []) (place + 9 + len)
+one_more bytes from spans place len f b =
     let span : Range ℕ = record { start = place + 9; end = place + 9 + len } in
     let rest = drop place bytes in
     let long : length rest ≡ length bytes - place = length-drop place bytes in

@@ -1,6 +1,6 @@
 -- What the chunks of a file that were read so far say of those that must follow, step by step.
-use Rattle.std.proofs.Common.{rules, ◌≡◌, ℕ, zero, suc, ◌+◌, ◌<◌, ◌≤◌, Bool, true, false, List, []}
-use Rattle.std.proofs.Common.{◌∷◌, ◌++◌, length, map, take, drop, get_or, Option, Some, None, refl}
+use Rattle.std.proofs.Common.{◌≡◌, ℕ, zero, suc, ◌+◌, ◌<◌, Bool, true, false, List, []}
+use Rattle.std.proofs.Common.{◌∷◌, ◌++◌, length, take, drop, get_or, Option, Some, None, refl}
 use Rattle.std.proofs.Common.{sym, ap, ◌∙◌, subst, arith, append_assoc, append-nil, inl, inr, ◌⊎◌, Result, Ok, Err}
 use Rattle.std.specs.Option.{is_some}
 use Rattle.std.specs.Prelude.{MatchResult, OnOk, IfErr, ◌==◌}
@@ -19,7 +19,6 @@ use Rattle.prolly_entry.specs.declared.version.Version.{Version}
 use Rattle.prolly_entry.specs.lemmas.Lists.{all_front, all_back, all_append}
 use Rattle.prolly_tree.specs.Chunk.{Chunk, chunk_of}
 use Rattle.prolly_tree.specs.Events.{clean, leaf_events}
-use Rattle.prolly_tree.specs.Split.{split}
 use Rattle.prolly_tree.specs.Tree.{pair_is_boundary}
 use Rattle.prolly_tree.specs.lemmas.Splits.{flat}
 use Rattle.prolly_laws.specs.Splits.{split_splits}

@@ -36,3 +36,7 @@ pub mod NextLeaf
 pub mod Followed
 -- What the chunks of a file that were read so far say of those that must follow, step by step.
 pub mod FollowerSteps
+-- The chunks of a file that were read so far, one after another.
+pub mod ChunkSteps
+-- What the bytes behind a header tell of the file of a map.
+pub mod MapFiles

@@ -1,5 +1,5 @@
 -- The leaf that follows whole leaves, and the pairs that the chunks of a file hold.
-use Rattle.std.proofs.Common.{rules, ◌≡◌, ℕ, zero, suc, Bool, true, false, cond, ◌&&◌, ◌||◌, List}
+use Rattle.std.proofs.Common.{◌≡◌, ℕ, zero, suc, Bool, true, false, cond, ◌&&◌, ◌||◌, List}
 use Rattle.std.proofs.Common.{[], ◌∷◌, ◌++◌, length, map, refl, sym, ap, ◌∙◌, subst, arith, not}
 use Rattle.std.proofs.Common.{append_assoc, append-nil, nat_le, inl, inr, ◌⊎◌, ◌+◌}
 use Rattle.std.specs.List.{filter, flat_map, list_any, AllByRecursion}
@@ -17,7 +17,7 @@ use Rattle.prolly_tree.specs.Events.{events_through, events_beyond, with_group_e
 use Rattle.prolly_tree.specs.Events.{events_at_end, event_is_boundary}
 use Rattle.prolly_tree.specs.Pipeline.{pipeline_events}
 use Rattle.prolly_tree.specs.Split.{split, closed_groups, open_groups}
-use Rattle.prolly_tree.specs.Tree.{leaves, leaves_of, pair_is_boundary}
+use Rattle.prolly_tree.specs.Tree.{leaves_of, pair_is_boundary}
 use Rattle.prolly_tree.specs.lemmas.Splits.{flat, as_group, closes, Open, Ends, AllEnd, Parts}
 use Rattle.prolly_laws.specs.Splits.{parts, open_rest_of, split_parts, split_splits}
 use Rattle.prolly_chunk.specs.LeafLevel.{is_whole_leaf}

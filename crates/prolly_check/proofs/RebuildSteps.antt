@@ -307,7 +307,7 @@ levels_enough : (cut : Cut) (version : Version) (pairs : List Pair) → length p
 unfolding node_levels
 levels_enough cut version pairs few = few_levels cut version pairs 64 (omega arith)
 
-all_sent : (bits : ℕ) (version : Version) (pairs : List Pair) → length pairs < 2 ^ 64 →
+pub all_sent : (bits : ℕ) (version : Version) (pairs : List Pair) → length pairs < 2 ^ 64 →
     pipeline_events node_levels (sha512_cut bits) version clean pairs ≡ chunks (sha512_cut bits)
     version pairs
 all_sent bits version pairs few = search (rules, enough_stages, levels_enough)

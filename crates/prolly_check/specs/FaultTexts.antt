@@ -1,6 +1,8 @@
 -- What is said of a file that is no chunk file. (This project's texts.)
 use Rattle.std.specs.Prelude.{ℕ, List, ◌++◌, codes}
 use Rattle.std.specs.Fmt.{decimal}
+use Rattle.prolly_check.specs.declared.stream.fault.StreamFault.{StreamFault}
+use Rattle.prolly_check.specs.declared.stream.fault.StreamFault.TheVariants as stream
 use Rattle.prolly_check.specs.declared.verdict.fault.CheckFault.{CheckFault}
 use Rattle.prolly_check.specs.declared.verdict.fault.CheckFault.TheVariants as checks
 
@@ -20,3 +22,9 @@ check_fault_text (checks.NotCanonical chunk) = codes "chunk file: chunk " ++ dec
 check_fault_text checks.BadEnd = codes "chunk file: bad end record"
 check_fault_text (checks.Collision chunk) = codes "chunk file: reference of chunk " ++
     decimal chunk ++ codes " is used twice"
+
+-- What is said of a file that is not that of the tree of a root.
+abbrev pub stream_fault_text : StreamFault → List ℕ
+stream_fault_text (stream.Check fault) = check_fault_text fault
+stream_fault_text stream.Version = codes "chunk file: wrong version"
+stream_fault_text stream.OtherRoot = codes "chunk file: has another root"

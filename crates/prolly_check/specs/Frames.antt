@@ -20,10 +20,10 @@ chunks_in bytes spans = map (chunk_in bytes) spans
 abbrev pub IsWithin : List ℕ → Range ℕ → Type 0
 IsWithin bytes span = (span.start ≤ span.end) × (span.end ≤ length bytes)
 
--- Behind the header the frames of the chunks go up to the place.
-pub record FramesTo (bytes : List ℕ) (spans : List (Range ℕ)) (place : ℕ) : Type 0 where
+-- From the one place on the frames of the chunks go up to the other.
+pub record FramesTo (bytes : List ℕ) (from : ℕ) (spans : List (Range ℕ)) (place : ℕ) : Type 0 where
   pub reached : place ≤ length bytes
-  pub spelled : drop 6 bytes ≡ flat_map framed (chunks_in bytes spans) ++ drop place bytes
+  pub spelled : drop from bytes ≡ flat_map framed (chunks_in bytes spans) ++ drop place bytes
   pub small : AllByRecursion IsSmall (chunks_in bytes spans)
   pub within : AllByRecursion (IsWithin bytes) spans
 

@@ -28,6 +28,12 @@ pub mod FoundPairs
 pub mod Leaves
 -- Rebuilding the chunks of pairs one by one, by levels that stand one above another.
 pub mod Rebuild
+-- The bytes of a source as they come.
+pub mod Incoming
+-- What is kept of the chunks of a file that were read so far.
+pub mod ChunksRead
+-- What is wrong first with a file that is read once, in the order of its bytes.
+pub mod FirstFlaw
 -- What the chunks of a file that were read so far say of those that must follow.
 pub mod Follower
 -- The way of a look-up down a tree, by the references of its chunks.

@@ -17,5 +17,6 @@ pub use look_up::{
     pair_sought, step_at, step_of, test_chunk, value_in,
 };
 pub use numbers::{Level, Missing};
+pub use stream::{RootReport, StreamFault, check_by_root};
 pub use tree::{NoCounts, Tree};
 pub use verdict::{CheckFault, ChunkDigest, ChunkHasher, ManyThreads, OneThread, check, check_by};

@@ -1,2 +1,9 @@
 //! Checking a file of any size while it is read, by its root.
+mod chunks_read;
+mod fault;
 mod follower;
+mod incoming;
+mod root_checker;
+
+pub use fault::StreamFault;
+pub use root_checker::{RootReport, check_by_root};

@@ -10,6 +10,6 @@ pub(crate) use checker::inspect;
 pub use checker::{check, check_by};
 pub use digests::{ChunkDigest, ChunkHasher, ManyThreads, OneThread};
 pub use fault::CheckFault;
-pub(crate) use frames::{chunk_at, is_whole};
+pub(crate) use frames::{chunk_at, find_frames, is_whole, test_chunks};
 pub(crate) use order::last_in;
 pub(crate) use rebuild::new_nodes;

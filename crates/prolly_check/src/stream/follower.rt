@@ -28,8 +28,8 @@ use std::collections::VecDeque;
 /// that is not due, can only belong to the end of the map. From there on all chunks are known.
 #[derive(Drop)]
 pub(crate) struct Follower {
-    cut: Sha512Cut,
-    version: Version,
+    pub(crate) cut: Sha512Cut,
+    pub(crate) version: Version,
     nodes: Vec<NodeLevel<Sha512Cut>>,
     /// The nodes that must follow, in this order.
     due: VecDeque<ChunkEvent>,
@@ -71,6 +71,7 @@ impl Follower {
         requires digest { IsDigest self.old.cut chunk.now digest }
         ensures takes { TakesNext self.old self.new number chunk.now result }
         ensures alike { IsAlike self.old self.new }
+        ensures unread { IfErr result (λ fault. fault ≢ CheckFault.Read) }
     {
         match self.ending {
             None => {
@@ -90,7 +91,8 @@ impl Follower {
 
     /// Tests that so many chunks are all of the file, or tells that one more must follow.
     pub(crate) fn finish(mut self, alloc: Global, number: usize) -> Result<(), CheckFault>
-        ensures { EndsWith self number result }
+        ensures ends { EndsWith self number result }
+        ensures unread { IfErr result (λ fault. fault ≢ CheckFault.Read) }
     {
         if self.ending.is_some() {
             return test_none_due(&self.due, number);
@@ -116,6 +118,7 @@ impl Follower {
         requires none { self.old.due.items ≡ [] }
         ensures takes { TakesNext self.old self.new number chunk.now result }
         ensures alike { IsAlike self.old self.new }
+        ensures unread { IfErr result (λ fault. fault ≢ CheckFault.Read) }
     {
         if digest.is_whole_leaf {
             let event = leaf_event(self.version, chunk);
@@ -151,6 +154,7 @@ impl Follower {
             (pairs_held chunk.now) ≡ false }
         ensures takes { TakesNext self.old self.new number chunk.now result }
         ensures alike { IsAlike self.old self.new }
+        ensures unread { IfErr result (λ fault. fault ≢ CheckFault.Read) }
     {
         self.ending = Some(number);
         if pairs_of(self.version, chunk).is_empty() {

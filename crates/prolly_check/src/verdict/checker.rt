@@ -18,7 +18,7 @@ use crate::verdict::frames::{find_frames, test_chunks, test_ending};
 use crate::verdict::order::test_order;
 use crate::verdict::rebuild::test_rebuilt;
 use prolly_entry::{Ref, Sha512Cut, Version};
-use prolly_file::{Source, end_record, read_header, read_whole};
+use prolly_file::{HEADER_SIZE, Source, end_record, read_header, read_whole};
 use std::alloc::Global;
 
 /// Reads a source to its end, and accepts its bytes exactly where they are the file of a map, of a
@@ -136,7 +136,7 @@ fn lay_out(alloc: Global, bytes: &[u8]) -> Result<(Layout, usize), CheckFault>
     ensures err { IfErr result (UnlessMemory (λ fault. IsVerdict bytes.now (Err fault))) }
 {
     let header = read_header(bytes)?;
-    let frames = find_frames(alloc, bytes)?;
+    let frames = find_frames(alloc, bytes, HEADER_SIZE)?;
     test_ending(&bytes[frames.end..], frames.spans.len())?;
     test_chunks(header.version, bytes, &frames.spans)?;
     let layout = Layout {

@@ -10,7 +10,7 @@ ghost use Rattle.prolly_check.specs.Entries.{Holds, IsBad, IsWhole, AreWhole};
 use crate::entries::{LEAF, is_leaf, is_node};
 use crate::verdict::fault::CheckFault;
 use prolly_entry::Version;
-use prolly_file::{END_LETTER, END_SIZE, FRAME_LETTER, FRAME_START, HEADER_SIZE, frame_at};
+use prolly_file::{END_LETTER, END_SIZE, FRAME_LETTER, FRAME_START, frame_at};
 use std::alloc::{AllocError, Global};
 use std::ops::Range;
 
@@ -21,14 +21,14 @@ pub(crate) struct Frames {
     pub(crate) end: usize,
 }
 
-/// The frames behind the header, up to the first bytes that no whole frame begins.
-pub(crate) fn find_frames(alloc: Global, bytes: &[u8]) -> Result<Frames, AllocError>
-    requires { HEADER_SIZE ≤ length bytes.now }
-    ensures frames { IfOk result (λ r. FramesTo bytes.now r.spans.items r.end) }
+/// The frames from a place on, up to the first bytes that no whole frame begins.
+pub(crate) fn find_frames(alloc: Global, bytes: &[u8], from: usize) -> Result<Frames, AllocError>
+    requires { from ≤ length bytes.now }
+    ensures frames { IfOk result (λ r. FramesTo bytes.now from r.spans.items r.end) }
     ensures all { IfOk result (λ r. has_no_frame (drop r.end bytes.now) ≡ true) }
 {
     let mut spans = Vec::new(alloc);
-    let mut end = HEADER_SIZE;
+    let mut end = from;
     loop {
         let (_, rest) = bytes.split_at(end);
         let len = match frame_at(rest) {

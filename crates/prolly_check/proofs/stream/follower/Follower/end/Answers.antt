@@ -1,8 +1,7 @@
-use Rattle.std.proofs.Common.{◌≡◌, ◌∷◌, [], Some, ap, length, refl, sym, ◌∙◌, subst}
+use Rattle.std.proofs.Common.{◌≡◌, Some, ap, length, refl, sym, ◌∙◌}
 use Rattle.std.proofs.lemmas.List.{with_items_is}
 use Rattle.prolly_entry.specs.Cut.{sha512_cut}
 use Rattle.prolly_check.specs.HeldPairs.{bytes_in, pairs_held}
-use Rattle.prolly_check.specs.Follower.{ClosesAll, IsEnding}
 use Rattle.prolly_check.proofs.FollowerSteps.{all_behind, expected_first, leaf_closes, leaf_ends}
 use Rattle.prolly_check.proofs.FollowerSteps.{none_held, some_there}
 use Rattle.prolly_check.proofs.NextLeaf.{open_not_whole}

@@ -1,4 +1,4 @@
-use Rattle.std.proofs.Common.{◌≡◌, ◌∷◌, [], ap, inr, length, refl, sym, ◌∙◌, true}
+use Rattle.std.proofs.Common.{◌≡◌, ap, inr, length, sym, ◌∙◌, true}
 use Rattle.std.proofs.lemmas.List.{with_items_is}
 use Rattle.prolly_entry.specs.Cut.{sha512_cut}
 use Rattle.prolly_chunk.specs.LeafLevel.{is_whole_leaf}

@@ -1,4 +1,4 @@
-use Rattle.std.proofs.Common.{rules, ◌≡◌, [], ap, arith, inr, length, sym, ◌∙◌}
+use Rattle.std.proofs.Common.{rules, ◌≡◌, [], inr}
 use Rattle.prolly_check.specs.HeldPairs.{pairs_held}
 use Rattle.prolly_check.proofs.FollowerSteps.{expected_ending, expected_going, leaf_behind_end}
 use Rattle.prolly_check.proofs.FollowerSteps.{none_held, some_there}

@@ -1,0 +1,23 @@
+use Rattle.std.proofs.Common.{◌≡◌, ◌<◌, ◌≤◌, ◌-◌, ◌^◌, ◌++◌, true, length}
+use Rattle.prolly_check.proofs.ChunkSteps.{BodyRead}
+use Rattle.prolly_check.proofs.stream.root_checker.check_body.Given as goal
+
+abbrev pub invariant-loop-read : goal.invariant-loop-read
+invariant-loop-read g l = record {
+  honest : (g.S.Source.seen l.fn.source).is_honest ≡ true →
+      (g.S.Source.seen l.source).is_honest ≡ true;
+  read : (g.S.Source.seen l.fn.source).is_honest ≡ true →
+      BodyRead (l.fn.bytes.items ++ (g.S.Source.seen l.fn.source).left) l.bytes.items
+      (g.S.Source.seen l.source).left l.read l.size;
+  failures : (g.S.Source.seen l.source).failures ≡ (g.S.Source.seen l.fn.source).failures;
+  steady : (g.S.Source.seen l.fn.source).is_steady ≡ true →
+      (g.S.Source.seen l.source).is_steady ≡ true;
+  room : 0 < length l.part;
+  count : l.read.count ≤ l.size;
+  fits : l.size < 2 ^ 64;
+  cut : l.read.follower.cut ≡ l.fn.header.bits;
+  version : l.read.follower.version ≡ l.fn.header.version;
+}
+
+abbrev pub decreases-loop-read : goal.decreases-loop-read
+decreases-loop-read g l = 2 ^ 64 - l.size

@@ -1,0 +1,195 @@
+//! The chunks of a file that were read so far.
+ghost use Rattle.std.specs.Prelude.{◌≡◌, ◌≢◌, ◌<◌, ◌^◌, ◌+◌, [], true, length, IfErr, IfOk, OnOk};
+ghost use Rattle.std.specs.List.{AllByRecursion};
+ghost use Rattle.std.specs.Option.{option_map};
+ghost use Rattle.prolly_check.specs.ChunksRead.{AreRead, EndsChunks, EndsRecord, GoesOver};
+ghost use Rattle.prolly_check.specs.ChunksRead.{TakesChunk};
+ghost use Rattle.prolly_check.specs.Digests.{IsDigest};
+ghost use Rattle.prolly_check.specs.Entries.{AreWhole, IsWhole};
+ghost use Rattle.prolly_check.specs.Frames.{IsWithin, chunks_in};
+ghost use Rattle.prolly_check.specs.FirstFault.{last_behind, rises_behind};
+ghost use Rattle.prolly_check.specs.Follower.{IsAlike};
+ghost use Rattle.prolly_check.specs.HeldPairs.{pairs_held};
+
+use crate::entries::{Pairs, pairs_of};
+use crate::stream::follower::Follower;
+use crate::verdict::{CheckFault, ChunkDigest, ChunkHasher, chunk_at, last_in, test_chunks};
+use prolly_entry::{Ref, Sha512Cut, Version};
+use prolly_file::{END_LETTER, END_SIZE, FRAME_LETTER, end_record};
+use std::alloc::{AllocError, Global};
+use std::ops::Range;
+
+/// What is kept of the chunks of a file that were read so far: which must follow, how many they
+/// are, their last key, and the reference of the last one.
+#[derive(Drop)]
+pub(crate) struct ChunksRead {
+    follower: Follower,
+    count: usize,
+    last_key: Option<Vec<u8>>,
+    reference: Ref,
+}
+
+impl ChunksRead {
+    /// Before the first chunk.
+    pub(crate) fn new(
+        alloc: Global,
+        cut: Sha512Cut,
+        version: Version,
+    ) -> Result<ChunksRead, AllocError>
+        ensures { IfOk result (λ read. AreRead [] read × (read.follower.cut ≡ cut) ×
+            (read.follower.version ≡ version)) }
+    {
+        Ok(ChunksRead {
+            follower: Follower::new(alloc, cut, version)?,
+            count: 0,
+            last_key: None,
+            reference: Ref::of(&[]),
+        })
+    }
+
+    /// Takes the next chunk, which was tested and hashed, or tells its flaw. After an `Err` this is
+    /// of no use.
+    pub(crate) fn take(
+        &mut self,
+        alloc: Global,
+        chunk: &[u8],
+        digest: ChunkDigest,
+    ) -> Result<(), CheckFault>
+        requires whole { IsWhole self.old.follower.version chunk.now }
+        requires digest { IsDigest self.old.follower.cut chunk.now digest }
+        requires few { self.old.count + 1 < 2 ^ 64 }
+        ensures takes { TakesChunk self.old self.new chunk.now result }
+        ensures unread { IfErr result (λ fault. fault ≢ CheckFault.Read) }
+        ensures alike { IsAlike self.old.follower self.new.follower }
+        ensures count { OnOk result (self.new.count ≡ self.old.count + 1) }
+    {
+        let number = self.count;
+        if !self.rises_to(alloc, pairs_of(self.follower.version, chunk))? {
+            return Err(CheckFault::KeysOutOfOrder { chunk: number });
+        }
+        self.follower.take(alloc, number, chunk, digest)?;
+        self.count = number + 1;
+        self.reference = digest.reference;
+        Ok(())
+    }
+
+    /// Takes the chunks that lie there, up to the first that has a flaw.
+    ///
+    /// Takes a hash of each chunk, and of a leaf one of each pair up to its first boundary, which
+    /// `hasher` takes of all of them before the first one is looked at.
+    pub(crate) fn go_over<H: ChunkHasher>(
+        &mut self,
+        hasher: &H,
+        alloc: Global,
+        bytes: &[u8],
+        spans: &[Range<usize>],
+    ) -> Result<(), CheckFault>
+        requires can { H.can_hash hasher.now }
+        requires within { AllByRecursion (IsWithin bytes.now) spans.now }
+        requires few { self.old.count + length spans.now < 2 ^ 64 }
+        ensures over { GoesOver self.old self.new (chunks_in bytes.now spans.now) result }
+        ensures unread { IfErr result (λ fault. fault ≢ CheckFault.Read) }
+        ensures alike { IsAlike self.old.follower self.new.follower }
+        ensures count { OnOk result (self.new.count ≡ self.old.count + length spans.now) }
+    {
+        match test_chunks(self.follower.version, bytes, spans) {
+            Ok(()) => self.take_all(hasher, alloc, bytes, spans),
+            Err(CheckFault::BadChunk { chunk }) => {
+                self.take_all(hasher, alloc, bytes, &spans[..chunk])?;
+                Err(CheckFault::BadChunk { chunk: self.count })
+            }
+            Err(fault) => Err(fault),
+        }
+    }
+
+    /// Takes the chunks that lie there, which were tested.
+    fn take_all<H: ChunkHasher>(
+        &mut self,
+        hasher: &H,
+        alloc: Global,
+        bytes: &[u8],
+        spans: &[Range<usize>],
+    ) -> Result<(), CheckFault>
+        requires can { H.can_hash hasher.now }
+        requires within { AllByRecursion (IsWithin bytes.now) spans.now }
+        requires whole { AreWhole self.old.follower.version (chunks_in bytes.now spans.now) }
+        requires few { self.old.count + length spans.now < 2 ^ 64 }
+        ensures over { GoesOver self.old self.new (chunks_in bytes.now spans.now) result }
+        ensures unread { IfErr result (λ fault. fault ≢ CheckFault.Read) }
+        ensures alike { IsAlike self.old.follower self.new.follower }
+        ensures count { OnOk result (self.new.count ≡ self.old.count + length spans.now) }
+    {
+        let (cut, version) = (self.follower.cut, self.follower.version);
+        let digests = hasher.digests(alloc, cut, version, bytes, spans)?;
+        for number in 0..spans.len() {
+            self.take(alloc, chunk_at(bytes, &spans[number]), digests[number])?;
+        }
+        Ok(())
+    }
+
+    /// Tests that these bytes, which no whole frame begins, are the end record of the chunks, and
+    /// answers their number and the reference of the root.
+    pub(crate) fn finish(self, alloc: Global, bytes: &[u8]) -> Result<(u64, Ref), CheckFault>
+        ensures ends { EndsChunks self bytes.now result }
+        ensures unread { IfErr result (λ fault. fault ≢ CheckFault.Read) }
+    {
+        let Some((letter, rest)) = bytes.split_first() else {
+            return Err(CheckFault::Truncated);
+        };
+        match *letter {
+            FRAME_LETTER => Err(CheckFault::Truncated),
+            END_LETTER => self.test_end_record(alloc, rest),
+            _ => Err(CheckFault::BadFrame { chunk: self.count }),
+        }
+    }
+
+    /// Tests that the bytes behind the letter of an end record are those of the record, and no more.
+    fn test_end_record(self, alloc: Global, rest: &[u8]) -> Result<(u64, Ref), CheckFault>
+        ensures ends { EndsRecord self rest.now result }
+        ensures unread { IfErr result (λ fault. fault ≢ CheckFault.Read) }
+    {
+        let ChunksRead {
+            follower,
+            count,
+            reference,
+            last_key: _,
+        } = self;
+        follower.finish(alloc, count)?;
+        if rest.len() < END_SIZE - 1 {
+            return Err(CheckFault::Truncated);
+        }
+        if rest[..END_SIZE - 1] != end_record(&reference, count as u64)[1..] {
+            return Err(CheckFault::BadEnd);
+        }
+        if rest.len() >= END_SIZE {
+            return Err(CheckFault::Trailing);
+        }
+        Ok((count as u64, reference))
+    }
+
+    /// Whether the keys of a leaf rise behind those that were read. Keeps the last one.
+    fn rises_to(&mut self, alloc: Global, leaf: Pairs) -> Result<bool, AllocError>
+        ensures rises { IfOk result (λ rises. rises ≡ rises_behind
+            (option_map (λ key. key.items) self.old.last_key) leaf.entry) }
+        ensures last { IfOk result (λ rises. rises ≡ true →
+            option_map (λ key. key.items) self.new.last_key ≡
+            last_behind (option_map (λ key. key.items) self.old.last_key) leaf.entry) }
+        ensures same { (self.new.follower ≡ self.old.follower) × (self.new.count ≡ self.old.count) ×
+            (self.new.reference ≡ self.old.reference) }
+    {
+        let last = match &self.last_key {
+            Some(key) => Some(key.as_slice()),
+            None => None,
+        };
+        let Ok(last) = last_in(last, leaf) else {
+            return Ok(false);
+        };
+        let Some(key) = last else {
+            self.last_key = None;
+            return Ok(true);
+        };
+        let key = Vec::from_slice(alloc, key)?;
+        self.last_key = Some(key);
+        Ok(true)
+    }
+}

@@ -1,0 +1,87 @@
+//! The bytes of a source as they come.
+ghost use Rattle.std.specs.Prelude.{◌≡◌, ◌≢◌, ◌↔◌, ◌<◌, ◌≤◌, ◌++◌, [], true, false, length, vec_len};
+ghost use Rattle.std.specs.Prelude.{IfErr, IfOk, IsErrOf, OnOk, ◌⊎◌};
+ghost use Rattle.prolly_check.specs.Incoming.{IsFilled};
+
+use crate::verdict::CheckFault;
+use prolly_file::{FRAME_LETTER, Source, frame_at};
+
+/// How many bytes of a file are looked at together: as many as this, and more only where a frame is
+/// larger. Threads share the chunks of a window out, so it has to hold many of them.
+pub(crate) const WINDOW_BYTES: usize = 16_777_216;
+
+/// Reads on until a whole frame begins the bytes and the window is full, or the source is at its
+/// end, or no frame begins the bytes. Answers whether the source is at its end.
+///
+/// Takes memory as bytes come, up to twice the size of the frame: what a frame says of its length
+/// is not believed.
+pub(crate) fn fill<S: Source>(
+    source: &mut S,
+    part: &mut [u8],
+    bytes: &mut Vec<u8>,
+) -> Result<bool, CheckFault>
+    requires { 0 < length part.old }
+    ensures part { length part.new ≡ length part.old }
+    ensures bytes { (S.seen source.old).is_honest ≡ true → OnOk result
+        (bytes.old.items ++ (S.seen source.old).left ≡ bytes.new.items ++ (S.seen source.new).left) }
+    ensures over { (S.seen source.old).is_honest ≡ true →
+        IfOk result (λ is_over. is_over ≡ true → (S.seen source.new).left ≡ []) }
+    ensures filled { IfOk result (λ is_over. is_over ≡ false → IsFilled bytes.new.items) }
+    ensures read { IsErrOf result CheckFault.Read ↔ ((S.seen source.new).failures ≢ (S.seen
+        source.old).failures) }
+    ensures unfailed { OnOk result ((S.seen source.new).failures ≡ (S.seen source.old).failures) }
+    ensures only { IfErr result (λ fault. (fault ≡ CheckFault.Memory) ⊎ (fault ≡ CheckFault.Read)) }
+    ensures never { (S.seen source.old).is_steady ≡ true →
+        (S.seen source.new).failures ≡ (S.seen source.old).failures }
+    ensures honest { (S.seen source.old).is_honest ≡ true → (S.seen source.new).is_honest ≡ true }
+    ensures steady { (S.seen source.old).is_steady ≡ true → (S.seen source.new).is_steady ≡ true }
+{
+    let mut wanted = WINDOW_BYTES;
+    loop {
+        if read_up_to(source, part, bytes, wanted)? {
+            return Ok(true);
+        }
+        if bytes[0] != FRAME_LETTER {
+            return Ok(false);
+        }
+        if let Some(_) = frame_at(bytes) {
+            return Ok(false);
+        }
+        wanted = bytes.len() * 2;
+    }
+}
+
+/// Reads on until there are so many bytes, or the source is at its end. Answers whether it is.
+fn read_up_to<S: Source>(
+    source: &mut S,
+    part: &mut [u8],
+    bytes: &mut Vec<u8>,
+    wanted: usize,
+) -> Result<bool, CheckFault>
+    requires { 0 < length part.old }
+    ensures part { length part.new ≡ length part.old }
+    ensures bytes { (S.seen source.old).is_honest ≡ true → OnOk result
+        (bytes.old.items ++ (S.seen source.old).left ≡ bytes.new.items ++ (S.seen source.new).left) }
+    ensures over { (S.seen source.old).is_honest ≡ true →
+        IfOk result (λ is_over. is_over ≡ true → (S.seen source.new).left ≡ []) }
+    ensures enough { IfOk result (λ is_over. is_over ≡ false → wanted ≤ vec_len bytes.new) }
+    ensures read { IsErrOf result CheckFault.Read ↔ ((S.seen source.new).failures ≢ (S.seen
+        source.old).failures) }
+    ensures unfailed { OnOk result ((S.seen source.new).failures ≡ (S.seen source.old).failures) }
+    ensures only { IfErr result (λ fault. (fault ≡ CheckFault.Memory) ⊎ (fault ≡ CheckFault.Read)) }
+    ensures never { (S.seen source.old).is_steady ≡ true →
+        (S.seen source.new).failures ≡ (S.seen source.old).failures }
+    ensures honest { (S.seen source.old).is_honest ≡ true → (S.seen source.new).is_honest ≡ true }
+    ensures steady { (S.seen source.old).is_steady ≡ true → (S.seen source.new).is_steady ≡ true }
+{
+    while bytes.len() < wanted {
+        let Ok(count) = source.read(part) else {
+            return Err(CheckFault::Read);
+        };
+        if count == 0 {
+            return Ok(true);
+        }
+        bytes.extend_from_slice(&part[..count])?;
+    }
+    Ok(false)
+}
