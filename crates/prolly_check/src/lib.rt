@@ -14,7 +14,7 @@ mod verdict;
 pub use entries::{Pairs, pairs_of};
 pub use look_up::{
     ChildSought, ChunkFlaw, Due, Leaves, Mark, Sought, Step, falls_to, first_pairs_from,
-    pair_sought, step_at, step_of, test_chunk, value_in,
+    pair_sought, rest_from, step_at, step_of, test_chunk, value_in,
 };
 pub use numbers::{Level, Missing};
 pub use stream::{RootReport, StreamFault, check_by_root};

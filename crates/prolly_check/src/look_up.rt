@@ -9,7 +9,7 @@ mod step;
 pub(crate) use descent::way_to;
 pub use found::{pair_sought, value_in};
 pub(crate) use found::{find_nth, find_value};
-pub use leaves::Leaves;
+pub use leaves::{Leaves, rest_from};
 pub use scan::first_pairs_from;
 pub(crate) use scan::scan_pairs;
 pub use sought::{ChildSought, Mark, Sought};

@@ -148,6 +148,7 @@ limits_kept given (Ok command) fields = go command fields
     go (Nth file n root version notation) h = (h.2.2, lawful_trust given.1 root version h.3)
     go (Dump file out lines mode) h = tt
     go (Diff old new out stat notation mode) h = tt
-    go (Prove file key out mode) h = h.2.1.1.2.1
+    go (Prove file key root version out mode) h =
+        (h.2.1.1.2.1, lawful_trust given.1 root version h.3)
     go (Verify root key version proof notation) h = (h.1.1, h.2.1.2.1, h.3.1, h.3.2)
 limits_kept given (Err fault) refused = tt

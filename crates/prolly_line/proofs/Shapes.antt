@@ -333,6 +333,7 @@ unfolding clap_on_literals prove_shape
 prove_sound = all_sound prove_shape.rules refl
 
 pub record TakesProve (rows : List Row) : Type 0 where
+  pub format : HasNumber (codes "format") 1 2 rows
   pub file : HasWord (codes "file") rows
   pub key : HasWord (codes "key") rows
   pub out : HasWord (codes "out") rows
@@ -342,6 +343,7 @@ unfolding clap_on_literals prove_shape
 takes_prove rows accepted =
     let level = level_at (codes "prove") prove_shape rows prove_found accepted in
     record {
+      format = number_at prove_shape rows (codes "format") 1 2 prove_sound level refl refl;
       file = word_at prove_shape rows (codes "file") prove_sound level refl refl;
       key = word_at prove_shape rows (codes "key") prove_sound level refl refl;
       out = word_at prove_shape rows (codes "out") prove_sound level refl refl;

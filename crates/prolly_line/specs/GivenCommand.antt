@@ -190,10 +190,11 @@ HasFields (Diff old new out stat notation mode) given =
     × GivesFlag given.1 (codes "stat") stat
     × GivesNotation given.1 notation
     × GivesMode given.1 mode
-HasFields (Prove file key out mode) given =
+HasFields (Prove file key root version out mode) given =
     (given.0 ≡ codes "prove")
     × GivesWord given.1 (codes "file") (string_bytes file)
     × ((notation : Notation) × GivesKey given.1 notation key.items)
+    × GivesTrust given.1 root version
     × GivesWord given.1 (codes "out") (string_bytes out)
     × GivesMode given.1 mode
 HasFields (Verify root key version proof notation) given =
@@ -237,15 +238,17 @@ IsWithinLimits (Nth file n root version notation) =
     (n ≤ 4294967295) × IsLawfulTrust root version
 IsWithinLimits (Dump file out lines mode) = ⊤
 IsWithinLimits (Diff old new out stat notation mode) = ⊤
-IsWithinLimits (Prove file key out mode) = length key.items ≤ 1024
+IsWithinLimits (Prove file key root version out mode) =
+    (length key.items ≤ 1024) × IsLawfulTrust root version
 IsWithinLimits (Verify root key version proof notation) =
     IsReference root.0 × (length key.items ≤ 1024) × (1 ≤ version) × (version ≤ 2)
 
 -- ---- refusals
 
--- the subcommand looks up in a file, and may be given a root
+-- the subcommand reads a chunk file, and may be given a root
 abbrev pub MayTakeRoot : Text → Type 0
 MayTakeRoot name = (name ≡ codes "get") ⊎ (name ≡ codes "scan") ⊎ (name ≡ codes "nth")
+    ⊎ (name ≡ codes "prove")
 
 -- the subcommand takes a root, or may be given one
 abbrev pub TakesRoot : Text → Type 0
@@ -258,8 +261,7 @@ HasBadRoot given = TakesRoot given.0 × GivesBadRoot given.1
 -- the subcommand takes a key, and a root before it only if its word is the text of a reference
 abbrev pub ReadsKey : Text × List Row → Type 0
 ReadsKey given =
-    (given.0 ≡ codes "prove")
-    ⊎ (((given.0 ≡ codes "get") ⊎ (given.0 ≡ codes "scan"))
+    (((given.0 ≡ codes "get") ⊎ (given.0 ≡ codes "scan") ⊎ (given.0 ≡ codes "prove"))
     × ((root : Option Ref) × MayGiveRoot given.1 root))
     ⊎ ((given.0 ≡ codes "verify") × ((root : List ℕ) × GivesRoot given.1 root))
 

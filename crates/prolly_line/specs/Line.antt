@@ -134,10 +134,13 @@ files_words = words_rule (codes "files")
 abbrev pub with_mode : App → App
 with_mode app = with_rule (with_rule (with_rule app atomic_flag) sync_flag) force_flag
 
+-- the options that name the root that is trusted, and the version of its tree's chunks
+abbrev pub with_trust : App → App
+with_trust app = with_rule (with_rule app root_option) format_option
+
 -- `NAME [--text] [--root ROOT] [--format V] FILE`, a look-up in a file, or by a root that it trusts
 abbrev pub look_up_line : Text → App
-look_up_line name = with_rule (with_rule (with_rule (with_rule (new_app name) text_flag)
-    root_option) format_option) file_word
+look_up_line name = with_rule (with_trust (with_rule (new_app name) text_flag)) file_word
 
 -- `pack [--text] [--removals] [--atomic] [--sync] [--force] OUT`
 abbrev pub pack_line : App
@@ -192,10 +195,10 @@ abbrev pub diff_line : App
 diff_line = with_rule (with_rule (with_mode (with_rule (with_rule (with_rule
     (new_app (codes "diff")) text_flag) stat_flag) out_option)) old_word) new_word
 
--- `prove [--text] [--atomic] [--sync] [--force] FILE KEY OUT`
+-- `prove [--text] [--root ROOT] [--format V] [--atomic] [--sync] [--force] FILE KEY OUT`
 abbrev pub prove_line : App
-prove_line = with_rule (with_rule (with_rule (with_mode (with_rule (new_app (codes "prove"))
-    text_flag)) file_word) key_word) out_word
+prove_line = with_rule (with_rule (with_rule (with_mode (with_trust (with_rule
+    (new_app (codes "prove")) text_flag))) file_word) key_word) out_word
 
 -- `verify [--text] [--format V] ROOT KEY [PROOF]`
 abbrev pub verify_line : App

@@ -122,10 +122,13 @@ pub enum Command {
         notation: Notation,
         mode: WriteMode,
     },
-    /// Write a proof of what a file has at a key.
+    /// Write a proof of what a file has at a key. The root and the version say the same as for
+    /// `Get`.
     Prove {
         file: String,
         key: Vec<u8>,
+        root: Option<Ref>,
+        version: u8,
         out: String,
         mode: WriteMode,
     },

@@ -223,18 +223,20 @@ pub(crate) fn diff(alloc: Global, given: &ArgMatches<'_>) -> Result<Command, Par
     })
 }
 
-/// `prove [--text] [--atomic] [--sync] [--force] FILE KEY OUT`
+/// `prove [--text] [--root ROOT] [--format V] [--atomic] [--sync] [--force] FILE KEY OUT`
 pub(crate) fn prove(alloc: Global, given: &ArgMatches<'_>) -> Result<Command, ParseFault>
     requires { IsAccepted (codes "prove", rows_in given.now) }
     ensures { Answers (codes "prove", rows_in given.now) result }
 {
-    let key = key_of(alloc, given, notation_of(given))?;
+    let (root, version, key) = trusted_key(alloc, given, notation_of(given))?;
     let file = text_of(alloc, given, "file")?;
     let out = text_of(alloc, given, "out")?;
     let mode = mode_of(given);
     Ok(Command::Prove {
         file,
         key,
+        root,
+        version,
         out,
         mode,
     })

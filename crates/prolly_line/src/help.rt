@@ -294,9 +294,16 @@ pub(crate) const PROVE: Help<'static> = Help {
     details: "Writes a proof of what FILE has at the key: its value, or that it has none. The
 proof is the chunks of FILE from the root down to the one at which the look-up
 of the key ends. Whoever knows the root of FILE can check it by `verify`,
-without FILE. The chunk file is checked first, as by `check`.
+without FILE.
 
 With --text the key is taken as text, with the escapes of `pack --text`.
+
+Without --root the whole file is checked first, as by `check`: that takes time
+linear in it, no file over 1 GiB is read, and --format is ignored. With --root
+only what is needed is read: the lengths and levels of the frames, and one chunk
+a level, each compared with the reference above it, from ROOT down. So what is
+written is a proof for ROOT, whatever else the file holds; a chunk that does not
+fit is refused.
 
 Nothing is printed. The exit status is 0 also where FILE does not have the key.
 

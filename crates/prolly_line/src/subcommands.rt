@@ -4,7 +4,7 @@ ghost use Rattle.clap.specs.Words.{App, Rule, with_rule};
 ghost use Rattle.prolly_line.specs.Line.{build_line, check_line, diff_line, dump_line};
 ghost use Rattle.prolly_line.specs.Line.{explain_line, get_line, look_up_line, nth_line, pack_line};
 ghost use Rattle.prolly_line.specs.Line.{prove_line, scan_line, scratch_line, stat_line};
-ghost use Rattle.prolly_line.specs.Line.{verify_line, with_mode};
+ghost use Rattle.prolly_line.specs.Line.{verify_line, with_mode, with_trust};
 ghost use Rattle.prolly_line.specs.LocalArgs.{HasCommandLine, IsReadBy};
 
 use crate::assembly::{described, with_argument};
@@ -48,6 +48,22 @@ fn with_mode<'a>(
     with_argument(line, arguments::force_flag(alloc))
 }
 
+// Adds the options that name the root that is trusted, and the version of its tree's chunks.
+fn with_trust<'a>(
+    alloc: Global,
+    line: Result<Command<'a>, AllocError>,
+) -> Result<Command<'a>, AllocError>
+    ensures { (app : App) → IfOk line.entry (HasCommandLine app)
+        → IfOk result (HasCommandLine (with_trust app)) }
+{
+    let format = arguments::format_option(
+        alloc,
+        "The version of the tree's chunks (1 or 2); without --root, the file tells it",
+    );
+    let line = with_argument(line, arguments::root_option(alloc));
+    with_argument(line, format)
+}
+
 // `NAME [--text] [--root ROOT] [--format V] FILE SOUGHT`, a look-up in a file, or by a root that it
 // trusts; `text` says for the help of `--text` what is text then.
 fn look_up_line<'a>(
@@ -60,13 +76,8 @@ fn look_up_line<'a>(
     ensures { (rule : Rule) → IsReadBy rule sought.entry
         → IfOk result (HasCommandLine (with_rule (look_up_line name.now) rule)) }
 {
-    let format = arguments::format_option(
-        alloc,
-        "The version of the tree's chunks (1 or 2); without --root, the file tells it",
-    );
     let line = described(alloc, name, help).arg(arguments::text_flag(alloc, text));
-    let line = with_argument(line, arguments::root_option(alloc));
-    let line = with_argument(line, format);
+    let line = with_trust(alloc, line);
     let line = with_argument(line, arguments::file_word(alloc, CHUNK_FILE));
     with_argument(line, sought)
 }
@@ -201,12 +212,12 @@ pub(crate) fn nth_line<'a>(alloc: Global) -> Result<Command<'a>, AllocError>
     look_up_line(alloc, "nth", help::NTH, text, arguments::n_word(alloc))
 }
 
-/// `prove [--text] [--atomic] [--sync] [--force] FILE KEY OUT`
+/// `prove [--text] [--root ROOT] [--format V] [--atomic] [--sync] [--force] FILE KEY OUT`
 pub(crate) fn prove_line<'a>(alloc: Global) -> Result<Command<'a>, AllocError>
     ensures { IfOk result (HasCommandLine prove_line) }
 {
     let text = arguments::text_flag(alloc, "Take the key as text in place of hexadecimal");
-    let line = described(alloc, "prove", help::PROVE).arg(text);
+    let line = with_trust(alloc, described(alloc, "prove", help::PROVE).arg(text));
     let line = with_mode(alloc, line, ALWAYS_ASIDE);
     let line = with_argument(line, arguments::file_word(alloc, CHUNK_FILE));
     let line = with_argument(line, arguments::key_word(alloc));

@@ -1,21 +1,23 @@
 -- Going down from the root, from each chunk to the one that it refers to.
-use Rattle.std.proofs.Common.{◌≡◌, ℕ, List, [], ◌∷◌, ◌++◌, Option, Some, None, IfSome, ◌<◌, ◌-◌}
+use Rattle.std.proofs.Common.{◌≡◌, ℕ, zero, suc, List, [], ◌∷◌, ◌++◌, Option, Some, None, IfSome, ◌<◌, ◌-◌}
 use Rattle.std.proofs.Common.{length, get_or, arith, rules, refl, sym, ap, ◌∙◌, subst, Result, Ok}
 use Rattle.std.proofs.Common.{Err}
 use Rattle.std.specs.List.{AllByRecursion}
 use Rattle.std.specs.Option.{option_to_list}
-use Rattle.std.proofs.lemmas.List.{get_or_push, length-append, map-append}
+use Rattle.std.proofs.lemmas.List.{get_or_push, length-append, length-map, map-append}
 use Rattle.std.specs.Prelude.{All, IsErr, IsErrAnd}
 use Rattle.prolly_entry.specs.Byte.{IsByte}
 use Rattle.prolly_check.specs.Content.{Content}
+use Rattle.prolly_check.specs.HeldPairs.{pairs_held}
 use Rattle.prolly_check.specs.Kinds.{kind_of}
 use Rattle.prolly_check.specs.Sought.{Sought, EndsAt, LeadsOn, sought_of}
-use Rattle.prolly_check.specs.Way.{FallsTo, IsNamed, IsWayTo, Lead, LevelsFall, level_of}
+use Rattle.prolly_check.specs.Way.{FallsTo, IsNamed, IsOrdered, IsWayTo, Lead, LevelsFall, level_of}
 use Rattle.prolly_check.specs.declared.look_up.step.Due.{Due}
 use Rattle.prolly_check.specs.lemmas.Ways.{lead_more}
 use Rattle.prolly_entry.specs.declared.version.Version.{Version}
+use Rattle.prolly_tree.specs.Difference.{IsMap}
 use Rattle.prolly_tree.specs.Tree.{Tree}
-use Rattle.prolly_root.specs.Descent.{StandsBelow, StandsInPlace, chunks_on_way}
+use Rattle.prolly_root.specs.Descent.{IsTested, LastTested, StandsBelow, StandsInPlace, chunks_on_way}
 use Rattle.prolly_root.specs.ProofFault.{last_level}
 use Rattle.prolly_root.specs.declared.look_up.chunk_on_way.ChunkOnWay.{ChunkOnWay}
 use Rattle.prolly_root.specs.declared.root_fault.RootFault.{RootFault}
@@ -164,3 +166,50 @@ pub keeps_none : {T : Type 0} {is_place : Content → (level : ℕ) → Tree lev
     IsReaderOf is_place content old → IsReaderOf is_place content new
 keeps_none {is_place = is_place} {content = content} {old = old} {new = new} left is =
     keeps_levels is_place content old new left.0 left.1 left.2 (rw left.3 tt) is
+
+-- ---- the last chunk of a look-up
+
+pub last_same : (xs ys : List (List ℕ)) (x y : List ℕ) → xs ++ x ∷ [] ≡ ys ++ y ∷ [] → x ≡ y
+last_same [] [] x y e = cc
+last_same [] (b ∷ []) x y e = cc
+last_same [] (b ∷ c ∷ ys) x y e = cc
+last_same (a ∷ []) [] x y e = cc
+last_same (a ∷ c ∷ xs) [] x y e = cc
+last_same (a ∷ xs) (b ∷ ys) x y e = last_same xs ys x y cc
+
+pub last_tested : {T : Type 0} (version : Version) (levels : List (ChunkOnWay T)) →
+    AllByRecursion (IsTested version) levels → 0 < length levels → LastTested version levels
+last_tested version [] all some = absurd (omega arith)
+last_tested version (level ∷ []) all some =
+    record { above = []; last = level; are = refl; tested = all.0 }
+last_tested version (level ∷ below ∷ levels) all some =
+    let rest = last_tested version (below ∷ levels) all.1 (omega arith) in
+    record {
+      above = level ∷ rest.above;
+      last = rest.last;
+      are = ap (λ levels. level ∷ levels) rest.are;
+      tested = rest.tested;
+    }
+
+-- its pairs rise
+pub held_rise : (version : Version) (chunk : List ℕ) → IsOrdered version chunk →
+    IsMap (pairs_held chunk)
+held_rise version [] ordered = tt
+held_rise version (zero ∷ entries) ordered = ordered.rising
+held_rise version (suc level ∷ entries) ordered = tt
+
+-- it is the last of the chunks
+pub last_held : {T : Type 0} (version : Version) (levels : List (ChunkOnWay T))
+    (tested : LastTested version levels) (above : List (List ℕ)) (last : List ℕ) →
+    chunks_on_way levels ≡ above ++ last ∷ [] → tested.last.chunk.items ≡ last
+last_held version levels tested above last are =
+    last_same (chunks_on_way tested.above) above tested.last.chunk.items last
+    (sym (one_more tested.above levels tested.last tested.are) ∙ are)
+
+-- there is one, where a way was found
+pub found_last : {T : Type 0} (version : Version) (levels held : List (ChunkOnWay T)) →
+    held ≡ levels → AllByRecursion (IsTested version) levels → 0 < length (chunks_on_way levels) →
+    LastTested version held
+found_last version levels held are all some =
+    subst (LastTested version) (sym are) (last_tested version levels all
+    (omega (arith, length-map levels (λ level. level.chunk.items), some)))

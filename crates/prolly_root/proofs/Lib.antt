@@ -1,5 +1,7 @@
 -- The chunks of a proof, one after another: appending them and reading them.
 pub mod Passing
+-- That there is one proof for a root and a key.
+pub mod OneProof
 -- Going down from the root, from each chunk to the one that it refers to.
 pub mod Descending
 -- Going over the frames of a file.

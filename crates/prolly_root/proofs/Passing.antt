@@ -20,7 +20,7 @@ use Rattle.prolly_check.specs.Way.{FallsTo, IsNamed, level_of, Lead, LevelsFall}
 use Rattle.prolly_check.specs.declared.look_up.step.Due.{Due}
 use Rattle.prolly_root.specs.ProofFault.{HasPassed, IsChunkFault, IsFault, IsFrameFault, HasMore}
 use Rattle.prolly_root.specs.ProofFault.{last_level, EndsWithin, IsProofStartFault, IsWrongChunk}
-use Rattle.prolly_root.proofs.Descending.{Descended, none_passed, one_passed, way_ends}
+use Rattle.prolly_root.proofs.Descending.{Descended, last_same, none_passed, one_passed, way_ends}
 use Rattle.prolly_root.specs.declared.proof.fault.ProofFault.{ProofFault}
 use Rattle.prolly_tree.specs.LookUp.{find}
 use Rattle.std.specs.Borrow.{Bor}
@@ -224,14 +224,6 @@ last_apart : (start : List ℕ) (before : List (List ℕ)) (last follows : List 
     (start ++ flat_map framed (before ++ last ∷ [])) ++ follows ≡
     (start ++ flat_map framed before) ++ (framed last ++ follows)
 last_apart start before last follows = simp (flat_map-append, append_assoc, append-nil)
-
-last_same : (xs ys : List (List ℕ)) (x y : List ℕ) → xs ++ x ∷ [] ≡ ys ++ y ∷ [] → x ≡ y
-last_same [] [] x y e = cc
-last_same [] (b ∷ []) x y e = cc
-last_same [] (b ∷ c ∷ ys) x y e = cc
-last_same (a ∷ []) [] x y e = cc
-last_same (a ∷ c ∷ xs) [] x y e = cc
-last_same (a ∷ xs) (b ∷ ys) x y e = last_same xs ys x y cc
 
 -- ---- the chunk behind those that were passed
 

@@ -34,11 +34,11 @@ pub record IsAtDue {T : Type 0} (version : Version) (due : Due) (chunk : ChunkOn
 abbrev pub chunks_on_way : {T : Type 0} → List (ChunkOnWay T) → List (List ℕ)
 chunks_on_way levels = map (λ level. level.chunk.items) levels
 
--- The last chunk of the descent, which can be read.
-pub record LastTested {T : Type 0} (version : Version) (descent : Descent T) : Type 0 where
+-- The last of the chunks, which can be read.
+pub record LastTested {T : Type 0} (version : Version) (levels : List (ChunkOnWay T)) : Type 0 where
   pub above : List (ChunkOnWay T)
   pub last : ChunkOnWay T
-  pub are : descent.levels.items ≡ above ++ last ∷ []
+  pub are : levels ≡ above ++ last ∷ []
   pub tested : IsTested version last
 
 -- The chunks of the descent are the way of a look-up from the root of this reference to its end,
@@ -48,7 +48,7 @@ pub record IsDescent {T : Type 0} (version : Version) (root : List ℕ) (sought 
   pub way : IsWayTo version root sought (chunks_on_way descent.levels.items)
   pub there : way.there ≡ sought_of descent.sought
   pub all : AllByRecursion (IsTested version) descent.levels.items
-  pub end : LastTested version descent
+  pub end : LastTested version descent.levels.items
   pub last : way.last ≡ end.last.chunk.items
 
 -- The look-up ends at the chunk, or goes on from it at the one that is due.

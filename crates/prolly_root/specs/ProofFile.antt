@@ -30,6 +30,11 @@ pub record IsProof (version : Version) (root key bytes : List ℕ) (value : Opti
     pub is : bytes ≡ proof_file version chunks
     pub way : IsWay version root key chunks value
 
+-- The bytes are a proof of what the tree with the root of this reference has at the key.
+abbrev pub IsSomeProof : Version → List ℕ → List ℕ → List ℕ → Type 0
+IsSomeProof version root key bytes =
+    (value : Option (List ℕ)) × IsProof version root key bytes value
+
 -- The bytes are the proof of what the map of a file of this content has at the key, for the file's
 -- root: the key's value, or none.
 abbrev pub IsProofOf : Content → List ℕ → List ℕ → Type 0
@@ -55,3 +60,10 @@ ProofsAreRight = (version : Version) (bits : ℕ) (m : List Pair) (key bytes : L
 abbrev pub ProofsSayOne : Type 0
 ProofsSayOne = (version : Version) (root key bytes : List ℕ) (value other : Option (List ℕ)) →
     IsProof version root key bytes value → IsProof version root key bytes other → value ≡ other
+
+-- Law: there is one proof for a root and a key: two proofs are the same bytes, or else a chunk of
+-- the one and a different one of the other have one reference.
+abbrev pub ProofsAreOne : Type 0
+ProofsAreOne = (version : Version) (root key bytes others : List ℕ)
+    (value other : Option (List ℕ)) → (p : IsProof version root key bytes value) →
+    (q : IsProof version root key others other) → (bytes ≡ others) ⊎ Clash p.chunks q.chunks

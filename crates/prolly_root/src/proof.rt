@@ -6,5 +6,6 @@ mod start;
 mod verifier;
 
 pub use fault::ProofFault;
+pub(crate) use prover::proof_of;
 pub use prover::prove;
 pub use verifier::verify;

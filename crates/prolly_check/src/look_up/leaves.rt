@@ -88,8 +88,9 @@ impl<'a> Leaves<'a> {
     }
 }
 
-/// The pairs of a leaf whose key is not less than `from`. Takes no memory.
-fn rest_from<'a>(mut leaf: Pairs<'a>, from: &[u8]) -> Pairs<'a>
+/// The pairs of a leaf whose key is not less than `from`. Takes no memory, and time linear in the
+/// part of the leaf before them.
+pub fn rest_from<'a>(mut leaf: Pairs<'a>, from: &[u8]) -> Pairs<'a>
     requires { IsMap leaf }
     ensures { result ≡ pairs_from from.now leaf.entry }
 {

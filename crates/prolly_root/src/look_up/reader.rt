@@ -1,25 +1,30 @@
 //! Looking up by the root again and again, in a tree of which no more is read than that wants.
-ghost use Rattle.std.specs.Prelude.{◌≡◌, ◌≤◌, [], length, option_map, IfOk, IfErr, IfSome, OnErr};
+ghost use Rattle.std.specs.Prelude.{◌≡◌, ◌≤◌, ◌<◌, ℕ, [], ◌∷◌, ◌++◌, List, length, option_map, IfOk};
+ghost use Rattle.std.specs.Prelude.{IfErr, IfSome, OnErr, OnOk};
 ghost use Rattle.std.specs.List.{AllByRecursion};
 ghost use Rattle.std.specs.Option.{option_copied};
 ghost use Rattle.prolly_check.specs.Content.{Content};
 ghost use Rattle.prolly_check.specs.FoundPairs.{pair_found};
+ghost use Rattle.prolly_check.specs.HeldPairs.{pairs_held};
+ghost use Rattle.prolly_check.specs.Leaves.{pairs_from};
 ghost use Rattle.prolly_check.specs.Sought.{sought_of};
-ghost use Rattle.prolly_check.specs.Way.{IsCountWay, IsWay};
+ghost use Rattle.prolly_check.specs.Sought.Sought.{Key};
+ghost use Rattle.prolly_check.specs.Way.{IsCountWay, IsWay, IsWayTo};
 ghost use Rattle.prolly_entry.specs.Cut.{sha512_cut};
 ghost use Rattle.prolly_entry.specs.declared.version.Version.TheVariants.{Two};
 ghost use Rattle.prolly_root.specs.ChunkSource.{HasAsked};
 ghost use Rattle.prolly_root.specs.Descent.{IsDescent, StandsInPlace};
+ghost use Rattle.prolly_root.specs.ProofFile.{IsSomeProof};
 ghost use Rattle.prolly_root.specs.RootFault.{IsOrFails, MayFail, OnlyRead, TellsReads};
 ghost use Rattle.prolly_root.specs.Reader.{AreFirstFound, IsReaderOf, way_of};
 ghost use Rattle.prolly_tree.specs.File.{root_reference};
 
 use crate::chunk_source::ChunkSource;
 use crate::look_up::chunk_on_way::ChunkOnWay;
-use crate::look_up::descent::{Descent, go_down};
+use crate::look_up::descent::{Descent, go_down, last_pairs};
 use crate::root_fault::RootFault;
 use prolly_check::laws::tops_are_read;
-use prolly_check::{Sought, first_pairs_from, pair_sought, value_in};
+use prolly_check::{Pairs, Sought, first_pairs_from, pair_sought, rest_from, value_in};
 use prolly_entry::{Pair, Ref, Version};
 use std::alloc::{AllocError, Global};
 use std::marker::Model;
@@ -181,6 +186,69 @@ impl<T: Copy + Drop> Reader<T> {
         let pairs = first_pairs_from(alloc, descent.pairs(self.version), from, most)?;
         self.levels = descent.levels;
         Ok(pairs)
+    }
+
+    /// The proof of what the tree with the reader's root has at the key: of its value, or that it
+    /// has none. It is the one that [`prove`](crate::prove) makes of a map with this root, unless
+    /// two chunks have one reference: see
+    /// [`laws::proofs_are_right`](crate::laws::proofs_are_right).
+    pub fn prove<S: ChunkSource<Place = T>>(
+        &mut self,
+        alloc: Global,
+        source: &mut S,
+        key: &[u8],
+    ) -> Result<Vec<u8>, RootFault>
+        ensures of { (self.new.version ≡ self.old.version) × (self.new.root ≡ self.old.root) }
+        ensures proves { IfOk result (λ proof.
+            IsSomeProof self.old.version self.old.root key.now proof.items) }
+        ensures none { OnErr result (self.new.levels ≡ []) }
+        ensures kept { (content : Content) → S.has source.old content →
+            IsReaderOf S.is_place content self.old → IsReaderOf S.is_place content self.new }
+        ensures lawful { (content : Content) → S.has source.old content →
+            IsReaderOf S.is_place content self.old → IfErr result MayFail }
+        ensures keeps { (content : Content) → S.has source.old content → S.has source.new content }
+        ensures reads { TellsReads (S.failures source.old) (S.failures source.new) result }
+    {
+        let descent = self.descend(alloc, source, Sought::Key(key))?;
+        let proof = descent.proof(alloc, self.version)?;
+        self.levels = descent.levels;
+        Ok(proof)
+    }
+
+    /// Goes to where a look-up of the key ends. What is there is given by
+    /// [`leaf_from`](Reader::leaf_from).
+    pub fn seek<S: ChunkSource<Place = T>>(
+        &mut self,
+        alloc: Global,
+        source: &mut S,
+        key: &[u8],
+    ) -> Result<(), RootFault>
+        ensures of { (self.new.version ≡ self.old.version) × (self.new.root ≡ self.old.root) }
+        ensures found { OnOk result
+            (IsWayTo self.old.version self.old.root (Key key.now) (way_of self.new)) }
+        ensures none { OnErr result (self.new.levels ≡ []) }
+        ensures kept { (content : Content) → S.has source.old content →
+            IsReaderOf S.is_place content self.old → IsReaderOf S.is_place content self.new }
+        ensures lawful { (content : Content) → S.has source.old content →
+            IsReaderOf S.is_place content self.old → IfErr result MayFail }
+        ensures keeps { (content : Content) → S.has source.old content → S.has source.new content }
+        ensures reads { TellsReads (S.failures source.old) (S.failures source.new) result }
+    {
+        let descent = self.descend(alloc, source, Sought::Key(key))?;
+        self.levels = descent.levels;
+        Ok(())
+    }
+
+    /// The pairs whose key is not less than `from`, of the leaf at which the last look-up ended. A
+    /// look-up that ended at a node has none. They lie in the chunk that is kept, and take no
+    /// memory.
+    pub fn leaf_from(&self, from: &[u8]) -> Pairs<'_>
+        requires { 0 < length (way_of self.now) }
+        ensures { (above : List (List ℕ)) (last : List ℕ) →
+            way_of self.now ≡ above ++ last ∷ [] →
+            result ≡ pairs_from from.now (pairs_held last) }
+    {
+        rest_from(last_pairs(self.version, &self.levels), from)
     }
 
     /// How many chunks show what the last look-up has found.

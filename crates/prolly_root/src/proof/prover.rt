@@ -25,7 +25,11 @@ pub fn prove(alloc: Global, tree: &Tree, key: &[u8]) -> Result<Vec<u8>, AllocErr
 }
 
 /// The file of these chunks.
-fn proof_of(alloc: Global, version: Version, chunks: &[&[u8]]) -> Result<Vec<u8>, AllocError>
+pub(crate) fn proof_of(
+    alloc: Global,
+    version: Version,
+    chunks: &[&[u8]],
+) -> Result<Vec<u8>, AllocError>
     ensures { IfOk result (λ proof. AllByRecursion IsSmall (map (λ c. c.now) chunks.now) ×
         (proof.items ≡ proof_file version (map (λ c. c.now) chunks.now))) }
 {

@@ -3,6 +3,7 @@ use Rattle.prolly_check.specs.FirstFault.{chunk_bytes}
 use Rattle.prolly_check.specs.Way.{Clash}
 use Rattle.prolly_tree.specs.LookUp.{find}
 use Rattle.prolly_root.specs.ProofFile.{ShowsClash}
+use Rattle.prolly_root.proofs.OneProof.{proofs_are_one}
 use Rattle.prolly_root.proofs.Passing.{proofs_say_one}
 use Rattle.prolly_root.proofs.laws.proofs_are_right.Goals as goal
 
@@ -17,3 +18,6 @@ returns-clause-right c version bits m key bytes value rising lawful p =
 
 pub returns-clause-one : goal.returns-clause-one
 returns-clause-one c = proofs_say_one
+
+pub returns-clause-same : goal.returns-clause-same
+returns-clause-same c = proofs_are_one

@@ -6,7 +6,7 @@ use Rattle.prolly_root.proofs.Descending.{keeps_levels, keeps_none}
 use Rattle.prolly_root.proofs.look_up.reader.Reader.pairs_from.Goals as goal
 
 pub pairs-requires : goal.pairs-requires
-pairs-requires g c = subst (λ version. LastTested version c.in_ok-descent.descent)
+pairs-requires g c = subst (λ version. LastTested version c.in_ok-descent.descent.levels.items)
     (sym (ap (λ reader. reader.version) c.self.view_is ∙ c.in_ok-descent.ensures.of.0))
     c.in_ok-descent.ensures.found.end
 
