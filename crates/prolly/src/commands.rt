@@ -165,9 +165,23 @@ fn answer_or_refusal<T: Wait + Threads + Clock + Sync>(
         Command::Prove {
             file,
             key,
+            root,
+            version,
             out,
             mode,
-        } => proof::prove(rt, &on_all_processors(threads), &file, &key, &out, mode),
+        } => {
+            let version = Version::of(version).unwrap();
+            proof::prove(
+                rt,
+                &on_all_processors(threads),
+                &file,
+                root,
+                version,
+                &key,
+                &out,
+                mode,
+            )
+        }
         Command::Verify {
             root,
             key,

@@ -2,7 +2,8 @@
 use crate::file_id::Found;
 use crate::refusal::Refusal;
 use prolly_check::CheckFault;
-use prolly_file::FromRead;
+use prolly_file::{Blocks, FromRead, FromSeek};
+use prolly_root::FileChunks;
 use prolly_tool::{Fault, INPUT_LIMIT, NameFault};
 use std::fs;
 use std::fs::File;
@@ -76,4 +77,13 @@ impl Input {
 /// The chunk file of this name, to be read whole.
 pub fn chunk_file(rt: &HostRuntime, name: &str) -> Result<FromRead<File>, Refusal> {
     Input::open(rt, name)?.into_chunk_file(rt)
+}
+
+/// The chunks of a file of which any part is read, by blocks where the parts are short.
+pub type Chunks = FileChunks<Blocks<FromSeek<File>>>;
+
+/// The chunks of this file.
+pub fn chunks_of(rt: &HostRuntime, input: Input) -> Result<Chunks, Refusal> {
+    let blocks = Blocks::new(rt.alloc(), FromSeek::new(input.into_file()))?;
+    Ok(FileChunks::new(blocks))
 }

@@ -51,6 +51,11 @@ impl<'a> Target<'a> {
         }
     }
 
+    /// The name.
+    pub fn name(&self) -> &'a str {
+        self.name
+    }
+
     /// What the name leads to.
     pub fn found(&self) -> Found {
         self.found

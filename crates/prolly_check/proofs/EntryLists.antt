@@ -387,6 +387,25 @@ last_behind [] p = refl
 last_behind (q ∷ []) p = refl
 last_behind (q ∷ r ∷ ps) p = last_behind (r ∷ ps) p
 
+-- the last key of a pair with this key and those behind it
+unfoldable pub key_at_end : List ℕ → List Pair → List ℕ
+key_at_end key [] = key
+key_at_end key (p ∷ ps) = key_at_end p.key ps
+
+pub at_end : (p : Pair) (ps : List Pair) → last_key (p ∷ ps) ≡ key_at_end p.key ps
+unfolding key_at_end
+at_end p [] = refl
+at_end p (q ∷ ps) = at_end q ps
+
+pub one_behind : (p : Pair) (key : List ℕ) (ps : List Pair) →
+    key_at_end key (p ∷ ps) ≡ key_at_end p.key ps
+unfolding key_at_end
+one_behind p key ps = refl
+
+pub none_behind : (key : List ℕ) (ps : List Pair) → ps ≡ [] → key ≡ key_at_end key ps
+unfolding key_at_end
+none_behind key ps none = ap (key_at_end key) (sym none)
+
 -- some first pairs were read of all, the last one has this key, and so many they are
 pub record AreRead (all rest : List Pair) (last : List ℕ) (count : ℕ) : Type 0 where
   pub front : List Pair

@@ -90,6 +90,22 @@ impl<'a> Pairs<'a> {
         pairs.next()
     }
 
+    /// The key of the last pair, which stays. Takes no memory, and time linear in the pairs.
+    pub fn last_key(&self) -> Option<&'a [u8]>
+        ensures key { MatchOption result (self.now ≡ [])
+            (λ key. (0 < length self.now) × (key.now ≡ last_key self.now)) }
+        ensures short { IfSome result (λ key. length key.now ≤ 1024) }
+    {
+        let mut pairs = Pairs {
+            entries: self.entries,
+        };
+        let (mut last, _) = pairs.next()?;
+        while let Some((key, _)) = pairs.next() {
+            last = key;
+        }
+        Some(last)
+    }
+
     /// Whether no pair is left.
     pub fn is_empty(&self) -> bool
         ensures { result ≡ (length self.now == 0) }

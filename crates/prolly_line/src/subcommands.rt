@@ -217,8 +217,8 @@ pub(crate) fn prove_line<'a>(alloc: Global) -> Result<Command<'a>, AllocError>
     ensures { IfOk result (HasCommandLine prove_line) }
 {
     let text = arguments::text_flag(alloc, "Take the key as text in place of hexadecimal");
-    let line = with_trust(alloc, described(alloc, "prove", help::PROVE).arg(text));
-    let line = with_mode(alloc, line, ALWAYS_ASIDE);
+    let line = described(alloc, "prove", help::PROVE).arg(text);
+    let line = with_mode(alloc, with_trust(alloc, line), ALWAYS_ASIDE);
     let line = with_argument(line, arguments::file_word(alloc, CHUNK_FILE));
     let line = with_argument(line, arguments::key_word(alloc));
     with_argument(line, arguments::out_word(alloc, "The proof to make"))

@@ -1,9 +1,10 @@
 -- What the commands `prove` and `verify` answer.
-use Rattle.std.specs.Prelude.{◌⊎◌, ℕ, List, Option}
+use Rattle.std.specs.Prelude.{◌⊎◌, ℕ, List, Option, Result, Ok, Err}
 use Rattle.prolly_check.specs.Content.{Content}
 use Rattle.prolly_entry.specs.declared.version.Version.{Version}
 use Rattle.prolly_root.specs.ProofFault.{IsFault}
-use Rattle.prolly_root.specs.ProofFile.{IsProof, IsProofOf}
+use Rattle.prolly_root.specs.ProofFile.{IsProof, IsProofOf, IsSomeProof}
+use Rattle.prolly_root.specs.declared.root_fault.RootFault.{RootFault}
 use Rattle.prolly_text.specs.declared.notation.Notation.{Notation}
 use Rattle.prolly_tool.specs.Answers.{ShowsDone, ShowsFault}
 use Rattle.prolly_tool.specs.Input.{IsInputFault, IsReadWhole}
@@ -11,7 +12,7 @@ use Rattle.prolly_tool.specs.LookUps.{IsLookedUp, IsNoFile, ShowsValue}
 use Rattle.prolly_tool.specs.Outputs.{IsRefused}
 use Rattle.prolly_tool.specs.declared.answers.answer.Answer.{Answer}
 use Rattle.prolly_tool.specs.declared.faults.fault.Fault.{Fault}
-use Rattle.prolly_tool.specs.declared.faults.fault.Fault.TheVariants.{Proof, Write}
+use Rattle.prolly_tool.specs.declared.faults.fault.Fault.TheVariants.{Proof, Root, Write}
 
 -- ---- proofs that are made
 
@@ -35,6 +36,31 @@ IsProve key bytes failed took_all took_part untouched answer =
     (IsProvedOf key bytes failed took_all × ShowsDone answer)
     ⊎ (IsProvedOf key bytes failed took_part × ShowsFault answer Write)
     ⊎ (IsNoFile bytes failed answer × untouched)
+
+-- ---- proofs that are made by the root
+
+-- There is a proof of what the tree with this root has at the key, of which this holds.
+pub record ProofByRoot (version : Version) (root key : List ℕ) (holds : List ℕ → Type 0) : Type 0
+  where
+    pub proof : List ℕ
+    pub proves : IsSomeProof version root key proof
+    pub so : holds proof
+
+-- There is no proof, for a fault that there may be; the sink is as it was. `tells` says what is told
+-- of the calls of the source.
+abbrev pub IsUnproved : (RootFault → Type 0) → (Result (Unit {0}) RootFault → Type 0) → Type 0 →
+    RootFault → Type 0
+IsUnproved may tells untouched fault = may fault × tells (Err fault) × untouched
+
+-- The answer of `prove` to who names the root: the proof was written; writing it failed; or there is
+-- none. Of the sink, `took_all` says that it took all of a proof, `took_part` that it failed after a
+-- part of one, `untouched` that it is as it was.
+abbrev pub IsProveByRoot : (RootFault → Type 0) → (Result (Unit {0}) RootFault → Type 0) →
+    Version → List ℕ → List ℕ → (List ℕ → Type 0) → (List ℕ → Type 0) → Type 0 → Answer → Type 0
+IsProveByRoot may tells version root key took_all took_part untouched answer =
+    (ProofByRoot version root key took_all × tells (Ok tt) × ShowsDone answer)
+    ⊎ (ProofByRoot version root key took_part × tells (Ok tt) × ShowsFault answer Write)
+    ⊎ ((fault : RootFault) × IsUnproved may tells untouched fault × ShowsFault answer (Root fault))
 
 -- ---- proofs that are verified
 

@@ -23,7 +23,7 @@ pub use explain::answer_explain;
 pub use get::{answer_found, answer_get, answer_get_in};
 pub use nth::{answer_found_pair, answer_nth, answer_nth_in};
 pub use pack::{answer_pack, answer_pack_in};
-pub use proof::{answer_prove, answer_verify};
+pub use proof::{answer_prove, answer_prove_by_root, answer_verify};
 pub use root_scan::{RootScan, answer_scan_by_root};
 pub use scan::{answer_scan, answer_scan_in};
 pub use scratch::answer_scratch;

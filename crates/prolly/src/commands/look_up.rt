@@ -1,18 +1,17 @@
 //! The commands `get`, `scan` and `nth`, each of a file that is checked, and of one of which only a
 //! root is believed.
-use crate::inputs::{Input, chunk_file};
+use crate::inputs::{Chunks, Input, chunk_file, chunks_of};
 use crate::patient::Patient;
 use crate::refusal::Refusal;
 use crate::streams::Stream;
 use prolly_check::ChunkHasher;
 use prolly_entry::{Pair, Ref, Version};
-use prolly_file::{Blocks, FromSeek, ToWrite};
-use prolly_root::{ChunkSource, FileChunks, Reader, RootFault};
+use prolly_file::ToWrite;
+use prolly_root::{ChunkSource, Reader, RootFault};
 use prolly_tool::{
     Answer, Fault, Notation, RootScan, answer_found, answer_found_pair, answer_get_in,
     answer_nth_in, answer_scan_by_root, answer_scan_in,
 };
-use std::fs::File;
 
 /// A file of which nothing is believed but what the root of its tree vouches for, and how what is
 /// found in it is shown.
@@ -39,15 +38,6 @@ impl<'a> RootedFile<'a> {
     fn chunks(self, rt: &HostRuntime) -> Result<Chunks, Refusal> {
         chunks_of(rt, Input::open(rt, self.file)?)
     }
-}
-
-/// The chunks of a file of which any part is read, by blocks where the parts are short.
-type Chunks = FileChunks<Blocks<FromSeek<File>>>;
-
-/// The chunks of this file.
-fn chunks_of(rt: &HostRuntime, input: Input) -> Result<Chunks, Refusal> {
-    let blocks = Blocks::new(rt.alloc(), FromSeek::new(input.into_file()))?;
-    Ok(FileChunks::new(blocks))
 }
 
 /// `get [--text] [--root ROOT] [--format V] FILE KEY`

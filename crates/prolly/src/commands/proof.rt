@@ -1,5 +1,5 @@
 //! The commands `prove` and `verify`.
-use crate::inputs::Input;
+use crate::inputs::{Input, chunks_of};
 use crate::output_kind::OutputKind;
 use crate::patient::Patient;
 use crate::refusal::Refusal;
@@ -7,13 +7,15 @@ use crate::target::Target;
 use prolly_check::ChunkHasher;
 use prolly_entry::{Ref, Version};
 use prolly_file::{FromRead, ToWrite};
-use prolly_tool::{Answer, Fault, Notation, WriteMode, answer_prove, answer_verify};
+use prolly_tool::{Answer, Fault, Notation, WriteMode, answer_prove, answer_prove_by_root, answer_verify};
 
-/// `prove [--text] FILE KEY OUT [--sync] [--force]`
+/// `prove [--text] [--root ROOT] [--format V] FILE KEY OUT [--sync] [--force]`
 pub fn prove<H: ChunkHasher>(
     rt: &HostRuntime,
     hasher: &H,
     file: &str,
+    root: Option<Ref>,
+    version: Version,
     key: &[u8],
     out: &str,
     mode: WriteMode,
@@ -22,6 +24,22 @@ pub fn prove<H: ChunkHasher>(
 {
     let target = Target::look(rt, out, OutputKind::Proof, mode)?;
     let input = Input::open_beside(rt, file, target.found())?;
+    match root {
+        None => prove_checked(rt, hasher, input, key, target),
+        Some(root) => prove_from_root(rt, input, version, &root, key, target),
+    }
+}
+
+/// Writes a proof of what a file has that is checked.
+fn prove_checked<H: ChunkHasher>(
+    rt: &HostRuntime,
+    hasher: &H,
+    input: Input,
+    key: &[u8],
+    target: Target<'_>,
+) -> Result<Answer, Refusal>
+    requires { H.can_hash hasher.now }
+{
     let mut source = input.into_chunk_file(rt)?;
     let mut output = target.open(rt)?;
     let answer = answer_prove(
@@ -31,7 +49,29 @@ pub fn prove<H: ChunkHasher>(
         key,
         &mut ToWrite::new(&mut output),
     );
-    output.finish(rt, out, answer)
+    output.finish(rt, target.name(), answer)
+}
+
+/// Writes a proof of what a file has of which only the root is believed.
+fn prove_from_root(
+    rt: &HostRuntime,
+    input: Input,
+    version: Version,
+    root: &Ref,
+    key: &[u8],
+    target: Target<'_>,
+) -> Result<Answer, Refusal> {
+    let mut chunks = chunks_of(rt, input)?;
+    let mut output = target.open(rt)?;
+    let answer = answer_prove_by_root(
+        rt.alloc(),
+        &mut chunks,
+        version,
+        root,
+        key,
+        &mut ToWrite::new(&mut output),
+    );
+    output.finish(rt, target.name(), answer)
 }
 
 /// `verify [--text] [--format V] ROOT KEY [PROOF]`

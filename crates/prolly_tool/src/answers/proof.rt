@@ -1,8 +1,13 @@
 //! What `prove` and `verify` answer.
-ghost use Rattle.std.specs.Prelude.{◌≡◌, ◌≢◌, ◌⊎◌, true, IfOk, OnErr};
+ghost use Rattle.std.specs.Prelude.{◌≡◌, ◌≢◌, ◌⊎◌, true, IfErr, IfOk, OnErr};
+ghost use Rattle.prolly_root.specs.ProofFile.{IsSomeProof};
+ghost use Rattle.prolly_root.specs.RootFault.{TellsReads};
+ghost use Rattle.prolly_root.specs.declared.root_fault.RootFault.{RootFault as RootFaultValue};
 ghost use Rattle.prolly_tool.specs.LookUps.{ShowsFailedRead};
 ghost use Rattle.prolly_tool.specs.Outputs.{TookAll, TookPart};
-ghost use Rattle.prolly_tool.specs.Proofs.{IsProve, IsProvedOf, IsVerify};
+ghost use Rattle.prolly_tool.specs.Proofs.{IsProve, IsProveByRoot, IsProvedOf, IsUnproved, IsVerify};
+ghost use Rattle.prolly_tool.specs.Proofs.{ProofByRoot};
+ghost use Rattle.prolly_tool.specs.RootScans.{RefusesNone};
 ghost use Rattle.prolly_tool.specs.Answers.{ShowsFault};
 
 use crate::answers::answer::Answer;
@@ -11,7 +16,7 @@ use crate::input::{INPUT_LIMIT, input_of};
 use prolly_check::{ChunkHasher, check_by};
 use prolly_entry::{Ref, Version};
 use prolly_file::{Sink, Source, WriteFault, write_whole};
-use prolly_root::{prove, verify};
+use prolly_root::{ChunkSource, Reader, RootFault, prove, verify};
 use prolly_text::Notation;
 use std::alloc::{AllocError, Global};
 
@@ -52,6 +57,61 @@ pub fn answer_prove<H: ChunkHasher, S: Source, W: Sink>(
         Ok(()) => Ok(Answer::of_done(alloc)),
         Err(WriteFault) => Answer::of_fault(alloc, Fault::Write),
     }
+}
+
+/// What `prove` answers to who names the root: it writes the proof of what the tree with this root
+/// has at the key to the sink, and shows nothing; or it shows the line of the fault for which there
+/// is none, and writes nothing. That a key has no value is proved as a value is.
+///
+/// Of the source only the chunks on the way to the key are read, each compared with the reference
+/// above it. What the proof is of a map with the root is said by
+/// [`proofs_are_right`](prolly_root::laws::proofs_are_right): the one that [`answer_prove`] writes.
+/// Memory is taken for these chunks and for the proof. An `Err` is want of memory for the line of a
+/// fault; the sink is then as it was, or it failed.
+pub fn answer_prove_by_root<S: ChunkSource, W: Sink>(
+    alloc: Global,
+    source: &mut S,
+    version: Version,
+    root: &Ref,
+    key: &[u8],
+    sink: &mut W,
+) -> Result<Answer, AllocError>
+    ensures ok { IfOk result (IsProveByRoot
+        (RefusesNone (S.has source.old) version root.now.0)
+        (TellsReads (S.failures source.old) (S.failures source.new)) version root.now.0 key.now
+        (λ proof. TookAll W.seen proof sink.old sink.new)
+        (λ proof. TookPart W.seen proof sink.old sink.new)
+        (sink.new ≡ sink.old)) }
+    ensures err { OnErr result (ProofByRoot version root.now.0 key.now
+        (λ proof. TookPart W.seen proof sink.old sink.new) ⊎ ((fault : RootFaultValue) × IsUnproved
+        (RefusesNone (S.has source.old) version root.now.0)
+        (TellsReads (S.failures source.old) (S.failures source.new))
+        (sink.new ≡ sink.old) fault)) }
+{
+    let proof = match proof_in(alloc, source, version, root, key) {
+        Ok(proof) => proof,
+        Err(fault) => return Answer::of_fault(alloc, Fault::Root(fault)),
+    };
+    match write_whole(sink, &proof) {
+        Ok(()) => Ok(Answer::of_done(alloc)),
+        Err(WriteFault) => Answer::of_fault(alloc, Fault::Write),
+    }
+}
+
+/// The proof of what the source's tree with this root has at the key.
+fn proof_in<S: ChunkSource>(
+    alloc: Global,
+    source: &mut S,
+    version: Version,
+    root: &Ref,
+    key: &[u8],
+) -> Result<Vec<u8>, RootFault>
+    ensures proves { IfOk result (λ proof. IsSomeProof version root.now.0 key.now proof.items) }
+    ensures lawful { IfErr result (RefusesNone (S.has source.old) version root.now.0) }
+    ensures reads { TellsReads (S.failures source.old) (S.failures source.new) result }
+{
+    let mut reader = Reader::open(alloc, source, version, root)?;
+    reader.prove(alloc, source, key)
 }
 
 /// What `verify` answers: the value that the proof shows for the key, in this notation; nothing,
