@@ -1,4 +1,4 @@
-"""`get`, `nth` and `scan` with `--root`: looked up by the root, in a file of which little is read and nothing believed. Each
+"""`get`, `nth`, `scan` and `prove` with `--root`: looked up by the root, in a file of which little is read and nothing believed. Each
 look-up is compared with the map, and where a file was changed with the second reader."""
 
 import errno
@@ -25,6 +25,7 @@ from support.by_root import (
     Get,
     Kind,
     Nth,
+    Prove,
     Scan,
     chance_of,
     chunks_of,
@@ -81,15 +82,18 @@ def scans_of(chance, kind):
 
 
 def look_ups_of(chance, kind):
-    """Look-ups of each of the three in a map."""
+    """Look-ups of each kind in a map."""
     yield from map(Get, keys_of(chance, kind.pairs))
+    yield from map(Prove, keys_of(chance, kind.pairs)[::3])
     yield from map(Nth, numbers_of(chance, kind.pairs))
     yield from scans_of(chance, kind)
 
 
 def some_look_ups(kind, chance):
-    """A few look-ups of each of the three, in a map of some tens of pairs."""
-    yield from map(Get, [kind.pairs[0][0], kind.pairs[40][0], kind.pairs[40][0] + b"\0", b"\xff" * 30])
+    """A few look-ups of each kind, in a map of some tens of pairs."""
+    keys = [kind.pairs[0][0], kind.pairs[40][0], kind.pairs[40][0] + b"\0", b"\xff" * 30]
+    yield from map(Get, keys)
+    yield from map(Prove, keys[1:])
     if kind.version == 2:
         yield from map(Nth, numbers_of(chance, kind.pairs)[:10])
     for key in (b"", kind.pairs[20][0], kind.pairs[-9][0] + b"\0", ABOVE_ALL[:-1]):
@@ -97,8 +101,8 @@ def some_look_ups(kind, chance):
 
 
 def first_look_ups(kind):
-    """A look-up of each of the three, for a file that is refused at once."""
-    return [Get(b"b"), *([Nth(0)] if kind.version == 2 else []), Scan(b"")]
+    """A look-up of each kind, for a file that is refused at once."""
+    return [Get(b"b"), Prove(b"b"), *([Nth(0)] if kind.version == 2 else []), Scan(b"")]
 
 
 # ---- the map's own answers
@@ -155,7 +159,7 @@ def are_of_the_other_version(asked, version):
     told = 3 - version
     for pairs in ([], ABC[:1], ABC, numbered(60)):
         kind = Kind(pairs, 0, version)
-        for look_up in (Get(b"a"), Nth(0), Scan(b"", 1), Scan(b"")):
+        for look_up in (Get(b"a"), Prove(b"a"), Nth(0), Scan(b"", 1), Scan(b"")):
             wanted = NO_COUNTS if told == 1 and isinstance(look_up, Nth) else refusal(WRONG_VERSION)
             answer = asked.asks("the other version", kind.content, kind.root, told, look_up)
             asked.wants(f"the second reader, {look_up}", answer, wanted)
@@ -212,7 +216,7 @@ def are_changed_on_the_way(asked, pairs, bits, version):
     for look_up in some_look_ups(kind, chance):
         met = chunks_of(kind, look_up)
         for number in sorted(met) if len(met) < 8 else chance.sample(sorted(met), 8):
-            wanted = 4, Scan(look_up.key, met[number]).right(kind)[1] if met[number] else b"", refusal(another(number))[2]
+            wanted = 4, look_up.first(kind, met[number]) if met[number] else b"", refusal(another(number))[2]
             for _ in range(4 if isinstance(look_up, Get) else 1):
                 asked.finds(f"chunk {number} changed", changed_in(kind, chance, number), kind, look_up, wanted)
 
@@ -258,7 +262,7 @@ def are_among_other_trees(asked, pairs, bits, version):
         files[f"among others, {turn}"] = mixed
     for about, chunks in files.items():
         content = assembled(chunks, kind.root, bits, version)
-        for look_up in (Get(pairs[40][0]), *map(Nth, (0, 45) if version == 2 else ()), Scan(b""), Scan(pairs[40][0])):
+        for look_up in (Get(pairs[40][0]), Prove(pairs[40][0]), *map(Nth, (0, 45) if version == 2 else ()), Scan(b""), Scan(pairs[40][0])):
             asked.is_never_wrong(about, content, kind, look_up)
         for look_up in first_look_ups(other):
             asked.is_never_wrong(f"{about}, the other's root", content, other, look_up)
@@ -277,7 +281,7 @@ def bits_are_turned(asked, pairs, version):
         for bit in chance.sample(range(8), 2):
             changed = turned(kind.content, place, 1 << bit)
             numbers = [Nth(chance.randrange(4))] if version == 2 else []
-            for look_up in (Get(b"b"), Get(b"bb"), *numbers, Scan(chance.choice([b"", b"b"]))):
+            for look_up in (Get(b"b"), Get(b"bb"), Prove(chance.choice([b"b", b"bb"])), *numbers, Scan(chance.choice([b"", b"b"]))):
                 asked.is_never_wrong(f"byte {place}, bit {bit}", changed, kind, look_up)
 
 
@@ -319,9 +323,9 @@ def frames_are_others(asked, pairs, version):
 
 
 def placed_look_ups(kind):
-    """A look-up of each of the three that ends at the last pair, and of an absent key."""
+    """A look-up of each kind that ends at the last pair, and of an absent key."""
     numbers = [Nth(len(kind.pairs) - 1)] if kind.version == 2 else []
-    return [Get(b"b"), Get(b"bb"), *numbers, Scan(b"")]
+    return [Get(b"b"), Get(b"bb"), Prove(b"b"), Prove(b"bb"), *numbers, Scan(b"")]
 
 
 def give_other_bytes(place, version):
@@ -393,7 +397,7 @@ def read_little(place, bits, version):
     for count, keys in ((2_000, (0, 1_111, 1_999)), (400, (0, 200, 396))):
         kind = Kind(numbered(count), bits, version)
         place.lay(in_prl=kind.content)
-        look_ups = [*(Get(kind.pairs[number][0]) for number in keys), Get(b"\xff" * 9)]
+        look_ups = [*(Get(kind.pairs[number][0]) for number in keys), Get(b"\xff" * 9), Prove(kind.pairs[keys[1]][0])]
         if count == 400:
             look_ups += [Scan(b"", 1), Scan(kind.pairs[200][0], 9), Scan(kind.pairs[-4][0]), Scan(ABOVE_ALL[:-1], 1)]
             look_ups += map(Nth, (0, 200, 399, 400) if version == 2 else ())

@@ -1,4 +1,4 @@
-"""`get`, `nth` and `scan` with `--root`: each fault, the words, what may be read, and what becomes of the answer."""
+"""`get`, `nth`, `scan` and `prove` with `--root`: each fault, the words, what may be read, and what becomes of the answer."""
 
 import os
 
@@ -6,10 +6,10 @@ from cases.look_ups import LONG, NUMBERS, assembled, leaf
 from cases.proofs import BAD_ROOT, node
 from cases.scratch import ABC, numbered
 from oracle.checker import HEADER_SIZE
-from oracle.proof import MORE, TRUNCATED, WRONG_VERSION, another, bad_chunk, bad_frame, out_of_order
+from oracle.proof import HEADER, MORE, TRUNCATED, WRONG_VERSION, another, bad_chunk, bad_frame, out_of_order, proof_of
 from oracle.reader import MISSING
 from oracle.trees import END_SIZE, chunk_file, frame, header, record, reference, reference_text, tree
-from support.by_root import ALL, NO_COUNTS, NO_VALUE, Get, Kind, Nth, Scan, chunks_of, lines_of, refusal, turned
+from support.by_root import ALL, NO_COUNTS, NO_VALUE, Get, Kind, Nth, Prove, Scan, chunks_of, lines_of, refusal, turned
 from support.harness import BAD_KEY, FOLDER, Case, hexed, line
 
 READ_FAILED = b"prolly: chunk file: read failed\n"
@@ -193,6 +193,8 @@ def fault_cases():
     for name, chunks, key, wanted in chains():
         root = root_of(chunks)
         found.append(case_of(name, assembled(chunks, root), root, 1, Get(key), refusal(wanted) if isinstance(wanted, str) else wanted))
+        if isinstance(wanted, str):
+            found.append(case_of(name, assembled(chunks, root), root, 1, Prove(key), refusal(wanted)))
     root = tree(ABC, 0, 1).reference
     for name, content, wanted in spoiled():
         found.append(case_of(name, content, root, 1, Get(b"a"), refusal(wanted) if isinstance(wanted, str) else wanted))
@@ -226,7 +228,7 @@ def case_of(name, content, root, version, look_up, wanted):
 
 def cases(folder):
     """All cases of one run; files that are too large for a case's text are made in the folder."""
-    return fault_cases() + word_cases() + get_cases() + scan_cases() + nth_cases() + device_cases() + large_cases(folder)
+    return fault_cases() + word_cases() + get_cases() + scan_cases() + nth_cases() + prove_cases() + device_cases() + large_cases(folder)
 
 
 def word_cases():
@@ -242,13 +244,15 @@ def word_cases():
         ["nth", "--format", "2", "none", "0"],
         ["scan", "in.prl", "61", "1"],
         ["scan", "none", "6", "1"],
+        ["prove", "in.prl", "61", "p"],
+        ["prove", "none", "6", "in.prl"],
     ]
     found = [
         Case(f"{words[0]} --root: the root {word}, {' '.join(words[1:])}", [words[0], "--root", word, *words[1:]], status=2, err=BAD_ROOT, before=given)
         for word in bad
         for words in asked
     ]
-    for command, *behind in (["get", "61"], ["nth", "1"], ["scan", "61", "1"]):
+    for command, *behind in (["get", "61"], ["nth", "1"], ["scan", "61", "1"], ["prove", "61", "p"]):
         found += [
             Case(f"{command} --root: a dash for a root", [command, f"--root={'-' * 32}", "in.prl", *behind], status=2, err=BAD_ROOT, before=given),
             Case(
@@ -259,7 +263,7 @@ def word_cases():
                 before=given,
             ),
         ]
-    for command, *behind in (["get"], ["scan", "1"]):
+    for command, *behind in (["get"], ["scan", "1"], ["prove", "p"]):
         found += [
             Case(f"{command} --root: a key that is none", [command, "--root", good, "in.prl", "6g", *behind], status=2, err=BAD_KEY, before=given),
             Case(f"{command} --root: a key that is too long", [command, "--root", good, "in.prl", "61" * 1_025, *behind], status=2, err=BAD_KEY, before=given),
@@ -326,6 +330,35 @@ def nth_cases():
     ]
 
 
+def prove_cases():
+    """Where the words of a `prove` stand, what they say, and what becomes of OUT."""
+    text, given, of_two, counted_file = small_files()
+    proof, counted_proof = (proof_of(tree(ABC, 0, version), b"b", version) for version in (1, 2))
+    words, old = ["prove", "--root", text, "in.prl", "62", "p"], proof_of(tree(ABC, 0, 1), b"a", 1)
+    kind = Kind(ABC, 0, 1)
+    turned_file = {"in.prl": kind.with_byte(kind.way(b"b")[-1], 2, 1), "p": old}
+    fault = refusal(another(kind.way(b"b")[-1]))[2]
+    return [
+        Case("prove --root: a new OUT", words, before=given, after={"p": proof}),
+        Case("prove --root: OUT is replaced", [*words, "--atomic", "--sync"], before=given | {"p": old}, after={"p": proof}),
+        Case("prove --root: behind all", ["prove", "in.prl", "62", "p", "--root", text], before=given, after={"p": proof}),
+        Case("prove --root: format 1 told", ["prove", f"--root={text}", "--format=1", "in.prl", "62", "p"], before=given, after={"p": proof}),
+        Case("prove --root: format 2", ["prove", "in.prl", "62", "p", "--root", of_two, "--format", "2"], before=counted_file, after={"p": counted_proof}),
+        Case("prove --root: the default is format 1", ["prove", "--root", of_two, "in.prl", "62", "p"], status=4, err=refusal(WRONG_VERSION)[2], before=counted_file),
+        Case("prove: --format says nothing without a root", ["prove", "--format", "2", "in.prl", "62", "p"], before=given, after={"p": proof}),
+        Case("prove: --format 1 says nothing without a root", ["prove", "--format", "1", "in.prl", "62", "p"], before=counted_file, after={"p": counted_proof}),
+        Case("prove --root --text", [*words[:4], "b", "p", "--text"], before=given, after={"p": proof}),
+        Case("prove --root: a chunk on the way is another, and OUT is as it was", words, status=4, err=fault, before=turned_file),
+        Case("prove --root: a chunk elsewhere is another", [*words[:4], "63", "p", "--force"], before=turned_file | {"p": b"something"}, after={"p": proof_of(kind.top, b"c", 1)}),
+        Case("prove --root: no file, and OUT is as it was", words, status=5, err=b"prolly: cannot open in.prl\n", before={"p": old}),
+        Case("prove --root: a folder", words, status=5, err=READ_FAILED, before={"in.prl": FOLDER}),
+        Case("prove --root: OUT is FILE", [*words[:5], "in.prl"], status=5, err=b"prolly: OUT is also an input: in.prl\n", before=given),
+        Case("prove --root: OUT is a full device", [*words[:5], "/dev/full"], status=5, err=WRITE_FAILED, before=given),
+        Case("prove --root: OUT is of another kind", words, status=5, err=b"prolly: OUT is not a proof: p\n", before=given | {"p": HEADER[:3] + b"!"}),
+        Case("prove --root: nothing is printed", words, before=given, after={"p": proof}, stdout="full"),
+    ]
+
+
 # ---- files and devices
 
 
@@ -380,6 +413,8 @@ def large_cases(folder):
         Case("get --root: a bad chunk behind 5 GB", Get(key).words(kind.root, 1, str(bad)), status=4, err=refusal(another(kind.way(key)[-1] + 1))[2], memory=SMALL_MEMORY),
         Case("get --root: a root of 5 GB", Get(key).words(kind.root, 1, str(within)), status=6, err=b"prolly: out of memory\n", memory=100_000_000),
         Case("get --root: in little memory", Get(many.pairs[77_777][0]).words(many.root, 2, str(plain)), out=hexed(many.pairs[77_777][1]) + b"\n", memory=SMALL_MEMORY),
+        Case("prove --root: behind 5 GB", Prove(key).words(kind.root, 1, str(behind)), out=proof_of(kind.top, key, 1), memory=SMALL_MEMORY),
+        Case("prove --root: a bad chunk behind 5 GB", Prove(key).words(kind.root, 1, str(bad)), status=4, err=refusal(another(kind.way(key)[-1] + 1))[2], memory=SMALL_MEMORY),
         Case("scan --root: behind 5 GB", from_key.words(first.root, 1, str(few_behind)), out=lines_of(NUMBERS[300:600]), memory=SMALL_MEMORY),
         Case("scan --root: behind 5 GB in format 2", Scan(from_key.key, 50).words(second.root, 2, str(counted_behind)), out=lines_of(NUMBERS[300:350]), memory=SMALL_MEMORY),
         Case("scan --root: no pair behind 5 GB", Scan(NUMBERS[599][0] + b"\0", 9).words(first.root, 1, str(few_behind)), memory=SMALL_MEMORY),

@@ -15,7 +15,7 @@ from cases.surveys import as_json, explained, record_lines, record_numbers, tabl
 from oracle.escapes import escaped, text_lines
 from oracle.proof import WRONG_VERSION, proof_of
 from oracle.trees import END_SIZE, begun_file, chunk_file, overlay, record, records, reference_text, report, root_text, tree
-from support.by_root import ALL, NO_COUNTS, Get, Nth, Scan, refusal
+from support.by_root import ALL, NO_COUNTS, Get, Nth, Prove, Scan, refusal
 from support.harness import BAD_TEXT_KEY, NO_THREAD, SCARCE, file_differences, hexed, lay_out, shown
 
 FIVE_IN_THREE = [[(b"a", b"1"), (b"d", b"1")], [(b"b", b"1")], [(b"c", b"1"), (b"e", b"1")]]
@@ -112,6 +112,8 @@ def commands():
         Command("dump --hex", ["dump", "--hex", "abc.prl"], out=lines(ABC), before=reads),
         Command("dump --hex to a file", ["dump", "--hex", "abc.prl", "out.txt"], before=reads, made="out.txt", whole=lines(ABC)),
         Command("prove", ["prove", "counted.prl", "62", "p"], before=reads, made="p", whole=PROOF),
+        Command("prove --root", ["prove", "--root", ROOT, "--format", "2", "counted.prl", "62", "p"], before=reads, made="p", whole=PROOF),
+        Command("prove --root of the other format", Prove(b"b").words(REFERENCE, 1, "counted.prl"), status=4, err=refusal(WRONG_VERSION)[2], before=reads),
         Command("atomic prove", ["prove", "--atomic", "--sync", "counted.prl", "62", "p"], before=reads, made="p", whole=PROOF),
         Command("verify", ["verify", "--format", "2", ROOT, "62", "p"], out=b"31\n", before={"p": PROOF}),
         Command("verify of standard input", ["verify", "--format", "2", ROOT, "62"], PROOF, out=b"31\n"),

@@ -96,17 +96,26 @@ class Reader:
         pairs = self.last_pairs(sought)
         return pairs[sought.number] if sought.number < len(pairs) else None
 
+    def way(self, key):
+        """The chunks that a look-up of a key meets."""
+        chunks = []
+        self.last_pairs(SoughtKey(key), chunks)
+        return chunks
+
     def pairs_from(self, key):
         """The first pairs from a key on: those of one leaf."""
         return [pair for pair in self.last_pairs(SoughtKey(key)) if pair[0] >= key]
 
-    def last_pairs(self, sought):
-        """The pairs of the leaf at which a look-up ends; none where it ends at a node."""
+    def last_pairs(self, sought, met=None):
+        """The pairs of the leaf at which a look-up ends; none where it ends at a node. The chunks go behind those that were
+        met, if these are asked for."""
         frames = self.opened()
         found, first, wanted, above = frames[-1], 0, self.root, None
         while True:
             chunk = self.content[found.start : found.end]
             entries = read_linked(chunk, wanted, above, found.number, self.version)
+            if met is not None:
+                met.append(chunk)
             above = found.level
             if above == 0:
                 return entries

@@ -7,7 +7,7 @@ import subprocess
 from dataclasses import dataclass
 
 from oracle.checker import HEADER_SIZE, Fault
-from oracle.proof import ABSENT, FRAME_SIZE, way
+from oracle.proof import ABSENT, FRAME_SIZE, proof_of, proof_of_chunks, way
 from oracle.reader import Reader
 from oracle.trees import chunk_file, reference_text, tree
 from support.harness import hexed, line, shown
@@ -93,7 +93,7 @@ def random_pairs(chance, count):
     return sorted(pairs.items())
 
 
-# ---- the three look-ups
+# ---- the look-ups
 
 
 def words_of(command, root, version, *words):
@@ -128,6 +128,36 @@ class Get:
 
     def is_begun(self, answer, _):
         """Whether an answer is a fault, and nothing of what is right was printed before it that is wrong."""
+        return is_fault(answer) and answer[1] == b""
+
+
+@dataclass(frozen=True)
+class Prove:
+    """The proof of a key, written to standard output."""
+
+    key: bytes
+
+    def words(self, root, version, name="in.prl"):
+        """The words that ask for it."""
+        return words_of("prove", root, version, name, self.key.hex(), "/dev/stdout")
+
+    def right(self, kind):
+        """The answer for a map: what the second maker makes."""
+        return 0, proof_of(kind.top, self.key, kind.version), b""
+
+    def verdict(self, content, root, version):
+        """What the second reader answers."""
+        try:
+            return 0, proof_of_chunks(Reader(content, root, version).way(self.key), version), b""
+        except Fault as fault:
+            return refusal(fault)
+
+    def steps(self, _):
+        """The look-up that it takes."""
+        yield 0, self.key
+
+    def is_begun(self, answer, _):
+        """Whether an answer is a fault, before which nothing was written."""
         return is_fault(answer) and answer[1] == b""
 
 
@@ -195,6 +225,10 @@ class Scan:
         except Fault as fault:
             return 4, lines_of(printed), refusal(fault)[2]
         return 0, lines_of(printed[: self.limit]), b""
+
+    def first(self, kind, count):
+        """What is printed of so many pairs."""
+        return Scan(self.key, count).right(kind)[1]
 
     def steps(self, kind):
         """A look-up for each leaf, and one that finds none."""
