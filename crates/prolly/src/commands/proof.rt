@@ -7,7 +7,9 @@ use crate::target::Target;
 use prolly_check::ChunkHasher;
 use prolly_entry::{Ref, Version};
 use prolly_file::{FromRead, ToWrite};
-use prolly_tool::{Answer, Fault, Notation, WriteMode, answer_prove, answer_prove_by_root, answer_verify};
+use prolly_tool::{
+    Answer, Fault, Notation, WriteMode, answer_prove, answer_prove_by_root, answer_verify,
+};
 
 /// `prove [--text] [--root ROOT] [--format V] FILE KEY OUT [--sync] [--force]`
 pub fn prove<H: ChunkHasher>(
