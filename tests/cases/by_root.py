@@ -1,4 +1,4 @@
-"""`get`, `nth`, `scan` and `prove` with `--root`: looked up by the root, in a file of which little is read and nothing believed. Each
+"""`get`, `nth`, `scan`, `prove` and `dump` with `--root`: looked up by the root, in a file of which little is read and nothing believed. Each
 look-up is compared with the map, and where a file was changed with the second reader."""
 
 import errno
@@ -22,6 +22,7 @@ from support.by_root import (
     ALL,
     NO_COUNTS,
     Asked,
+    Dump,
     Get,
     Kind,
     Nth,
@@ -42,8 +43,11 @@ KEYS_OF_A_TREE = 24
 LAST_NUMBER = 2**32 - 1
 """The greatest number that can be asked for."""
 
+FORMS = ("", "--hex", "--text")
+"""The flags of a dump."""
+
 MOST_LOOK_UPS = 30
-"""Of a scan in a large tree, which goes over all starts of frames for each."""
+"""Of a scan or a dump in a large tree, which goes over all starts of frames for each."""
 
 
 # ---- what is asked for
@@ -87,6 +91,8 @@ def look_ups_of(chance, kind):
     yield from map(Prove, keys_of(chance, kind.pairs)[::3])
     yield from map(Nth, numbers_of(chance, kind.pairs))
     yield from scans_of(chance, kind)
+    if sum(part.level == 0 for part in kind.top.trees()) < MOST_LOOK_UPS:
+        yield from map(Dump, FORMS)
 
 
 def some_look_ups(kind, chance):
@@ -98,11 +104,12 @@ def some_look_ups(kind, chance):
         yield from map(Nth, numbers_of(chance, kind.pairs)[:10])
     for key in (b"", kind.pairs[20][0], kind.pairs[-9][0] + b"\0", ABOVE_ALL[:-1]):
         yield from (Scan(key, limit) for limit in (1, 7, ALL))
+    yield from map(Dump, FORMS)
 
 
 def first_look_ups(kind):
     """A look-up of each kind, for a file that is refused at once."""
-    return [Get(b"b"), Prove(b"b"), *([Nth(0)] if kind.version == 2 else []), Scan(b"")]
+    return [Get(b"b"), Prove(b"b"), *([Nth(0)] if kind.version == 2 else []), Scan(b""), Dump()]
 
 
 # ---- the map's own answers
@@ -159,7 +166,7 @@ def are_of_the_other_version(asked, version):
     told = 3 - version
     for pairs in ([], ABC[:1], ABC, numbered(60)):
         kind = Kind(pairs, 0, version)
-        for look_up in (Get(b"a"), Prove(b"a"), Nth(0), Scan(b"", 1), Scan(b"")):
+        for look_up in (Get(b"a"), Prove(b"a"), Nth(0), Scan(b"", 1), Scan(b""), Dump()):
             wanted = NO_COUNTS if told == 1 and isinstance(look_up, Nth) else refusal(WRONG_VERSION)
             answer = asked.asks("the other version", kind.content, kind.root, told, look_up)
             asked.wants(f"the second reader, {look_up}", answer, wanted)
@@ -224,7 +231,7 @@ def are_changed_on_the_way(asked, pairs, bits, version):
 def are_on_other_levels(asked, pairs, bits, version):
     """The level of a chunk is another: refused, or what is printed is right."""
     kind, chance = Kind(pairs, bits, version), chance_of(3)
-    for look_up in [*map(Get, (pairs[0][0], pairs[40][0], b"\xff" * 30)), *([Nth(40)] if version == 2 else []), Scan(pairs[25][0])]:
+    for look_up in [*map(Get, (pairs[0][0], pairs[40][0], b"\xff" * 30)), *([Nth(40)] if version == 2 else []), Scan(pairs[25][0]), Dump()]:
         numbers = {*list(chunks_of(kind, look_up))[:8], *chance.sample(range(len(kind.chunks)), min(12, len(kind.chunks)))}
         for number in sorted(numbers):
             for bits_turned in (1, 2, 3, 0xFF):
@@ -262,7 +269,7 @@ def are_among_other_trees(asked, pairs, bits, version):
         files[f"among others, {turn}"] = mixed
     for about, chunks in files.items():
         content = assembled(chunks, kind.root, bits, version)
-        for look_up in (Get(pairs[40][0]), Prove(pairs[40][0]), *map(Nth, (0, 45) if version == 2 else ()), Scan(b""), Scan(pairs[40][0])):
+        for look_up in (Get(pairs[40][0]), Prove(pairs[40][0]), *map(Nth, (0, 45) if version == 2 else ()), Scan(b""), Scan(pairs[40][0]), Dump()):
             asked.is_never_wrong(about, content, kind, look_up)
         for look_up in first_look_ups(other):
             asked.is_never_wrong(f"{about}, the other's root", content, other, look_up)
@@ -281,7 +288,7 @@ def bits_are_turned(asked, pairs, version):
         for bit in chance.sample(range(8), 2):
             changed = turned(kind.content, place, 1 << bit)
             numbers = [Nth(chance.randrange(4))] if version == 2 else []
-            for look_up in (Get(b"b"), Get(b"bb"), Prove(chance.choice([b"b", b"bb"])), *numbers, Scan(chance.choice([b"", b"b"]))):
+            for look_up in (Get(b"b"), Get(b"bb"), Prove(chance.choice([b"b", b"bb"])), *numbers, Scan(chance.choice([b"", b"b"])), Dump(chance.choice(FORMS))):
                 asked.is_never_wrong(f"byte {place}, bit {bit}", changed, kind, look_up)
 
 
@@ -325,7 +332,7 @@ def frames_are_others(asked, pairs, version):
 def placed_look_ups(kind):
     """A look-up of each kind that ends at the last pair, and of an absent key."""
     numbers = [Nth(len(kind.pairs) - 1)] if kind.version == 2 else []
-    return [Get(b"b"), Get(b"bb"), Prove(b"b"), Prove(b"bb"), *numbers, Scan(b"")]
+    return [Get(b"b"), Get(b"bb"), Prove(b"b"), Prove(b"bb"), *numbers, Scan(b""), *map(Dump, FORMS)]
 
 
 def give_other_bytes(place, version):
@@ -351,7 +358,7 @@ def reads_in(calls):
 def are_of_another_level(place):
     """A child that stands two levels below its node, of which the start of its frame told another level before."""
     a = leaf(FAR[0])
-    for version, root, look_ups in ((1, node(2, (b"a", a)), [Get(b"a")]), (2, counted_node(2, (b"a", a, 1)), [Nth(0), Scan(b"")])):
+    for version, root, look_ups in ((1, node(2, (b"a", a)), [Get(b"a")]), (2, counted_node(2, (b"a", a, 1)), [Nth(0), Scan(b""), Dump()])):
         place.lay(in_prl=assembled([a, root], bytes(20), 0, version))
         for look_up in look_ups:
             words = look_up.words(reference(root), version)
@@ -376,8 +383,8 @@ def fail_to_read(place, call, version):
             printed.append(answer[1])
         if number < 10:
             place.note("too few calls to tell")
-        # The last look-up of the scan ends at the root, which was read before: nothing is read once all is printed.
-        firsts = [lines_of(FAR[:count]) for count in range(len(FAR))] if isinstance(look_up, Scan) else [b""]
+        # The last look-up of a scan or a dump ends at the root, which was read before: nothing is read once all is printed.
+        firsts = [look_up.first(kind, count) for count in range(len(FAR))] if isinstance(look_up, (Scan, Dump)) else [b""]
         if [out for number, out in enumerate(printed) if out not in printed[:number]] != firsts:
             place.note(f"{words[0]}, {call} fails: printed {printed}")
 
@@ -401,6 +408,7 @@ def read_little(place, bits, version):
         if count == 400:
             look_ups += [Scan(b"", 1), Scan(kind.pairs[200][0], 9), Scan(kind.pairs[-4][0]), Scan(ABOVE_ALL[:-1], 1)]
             look_ups += map(Nth, (0, 200, 399, 400) if version == 2 else ())
+            look_ups.append(Dump())
         for look_up in look_ups:
             answer, calls = place.meddled(*look_up.words(kind.root, version))
             place.answers(answer, look_up.right(kind))

@@ -1,4 +1,4 @@
-"""`get`, `nth`, `scan` and `prove` with `--root`: each fault, the words, what may be read, and what becomes of the answer."""
+"""`get`, `nth`, `scan`, `prove` and `dump` with `--root`: each fault, the words, what may be read, and what becomes of the answer."""
 
 import os
 
@@ -6,10 +6,11 @@ from cases.look_ups import LONG, NUMBERS, assembled, leaf
 from cases.proofs import BAD_ROOT, node
 from cases.scratch import ABC, numbered
 from oracle.checker import HEADER_SIZE
+from oracle.escapes import text_lines
 from oracle.proof import HEADER, MORE, TRUNCATED, WRONG_VERSION, another, bad_chunk, bad_frame, out_of_order, proof_of
 from oracle.reader import MISSING
-from oracle.trees import END_SIZE, chunk_file, frame, header, record, reference, reference_text, tree
-from support.by_root import ALL, NO_COUNTS, NO_VALUE, Get, Kind, Nth, Prove, Scan, chunks_of, lines_of, refusal, turned
+from oracle.trees import END_SIZE, chunk_file, frame, header, record, records, reference, reference_text, tree
+from support.by_root import ALL, NO_COUNTS, NO_VALUE, Dump, Get, Kind, Nth, Prove, Scan, chunks_of, lines_of, refusal, turned
 from support.harness import BAD_KEY, FOLDER, Case, hexed, line
 
 READ_FAILED = b"prolly: chunk file: read failed\n"
@@ -206,6 +207,9 @@ def fault_cases():
         first = ABC.index(next(pair for pair in ABC if pair[0] >= key)) if printed else 0
         out = lines_of(ABC[first : first + printed])
         found.append(case_of(name, assembled(chunks, root), root, 1, Scan(key, limit), (4, out, refusal(fault)[2]) if fault else (0, out, b"")))
+        if (key, limit) == (b"", ALL):
+            out = records(ABC[:printed])
+            found.append(case_of(name, assembled(chunks, root), root, 1, Dump(), (4, out, refusal(fault)[2]) if fault else (0, out, b"")))
     return found
 
 
@@ -228,7 +232,7 @@ def case_of(name, content, root, version, look_up, wanted):
 
 def cases(folder):
     """All cases of one run; files that are too large for a case's text are made in the folder."""
-    return fault_cases() + word_cases() + get_cases() + scan_cases() + nth_cases() + prove_cases() + device_cases() + large_cases(folder)
+    return fault_cases() + word_cases() + get_cases() + scan_cases() + nth_cases() + prove_cases() + dump_cases() + device_cases() + large_cases(folder)
 
 
 def word_cases():
@@ -246,13 +250,15 @@ def word_cases():
         ["scan", "none", "6", "1"],
         ["prove", "in.prl", "61", "p"],
         ["prove", "none", "6", "in.prl"],
+        ["dump", "in.prl"],
+        ["dump", "--hex", "none", "in.prl"],
     ]
     found = [
         Case(f"{words[0]} --root: the root {word}, {' '.join(words[1:])}", [words[0], "--root", word, *words[1:]], status=2, err=BAD_ROOT, before=given)
         for word in bad
         for words in asked
     ]
-    for command, *behind in (["get", "61"], ["nth", "1"], ["scan", "61", "1"], ["prove", "61", "p"]):
+    for command, *behind in (["get", "61"], ["nth", "1"], ["scan", "61", "1"], ["prove", "61", "p"], ["dump"]):
         found += [
             Case(f"{command} --root: a dash for a root", [command, f"--root={'-' * 32}", "in.prl", *behind], status=2, err=BAD_ROOT, before=given),
             Case(
@@ -359,13 +365,46 @@ def prove_cases():
     ]
 
 
+def dump_cases():
+    """Where the words of a `dump` stand, what they say, and what becomes of OUT."""
+    text, given, of_two, counted_file = small_files()
+    whole, words, before = records(ABC), ["dump", "--root", text, "in.prl"], {"out.rec": records(ABC[:1])}
+    kind = Kind(ABC, 0, 1)
+    last = kind.way(b"c")[-1]
+    turned_file = {"in.prl": kind.with_byte(last, 2, 1)}
+    first, fault = records(ABC[:2]), refusal(another(last))[2]
+    return [
+        Case("dump --root: to standard output", words, out=whole, before=given),
+        Case("dump --root: to a file", [*words, "out.rec"], before=given, after={"out.rec": whole}),
+        Case("dump --root: OUT is replaced", [*words, "--atomic", "--sync", "out.rec"], before=given | before, after={"out.rec": whole}),
+        Case("dump --root: lines", [*words, "--hex"], out=lines_of(ABC), before=given),
+        Case("dump --root: lines of text to a file", [*words, "--text", "out.txt"], before=given, after={"out.txt": text_lines(ABC)}),
+        Case("dump --root: behind all", ["dump", "in.prl", "out.rec", "--root", text], before=given, after={"out.rec": whole}),
+        Case("dump --root: format 1 told", ["dump", f"--root={text}", "--format=1", "in.prl"], out=whole, before=given),
+        Case("dump --root: format 2", ["dump", "in.prl", "--root", of_two, "--format", "2"], out=whole, before=counted_file),
+        Case("dump --root: the default is format 1", ["dump", "--root", of_two, "in.prl"], status=4, err=refusal(WRONG_VERSION)[2], before=counted_file),
+        Case("dump: --format says nothing without a root", ["dump", "--format", "2", "in.prl"], out=whole, before=given),
+        Case("dump: --format 1 says nothing without a root", ["dump", "--format", "1", "in.prl"], out=whole, before=counted_file),
+        Case("dump --root: the last leaf is another", words, status=4, out=first, err=fault, before=turned_file),
+        Case("dump --root: the last leaf is another, and OUT is as it was", [*words, "out.rec"], status=4, err=fault, before=turned_file | before),
+        Case("dump --root: the last leaf is another, and there was no OUT", [*words, "out.rec"], status=4, err=fault, before=turned_file),
+        Case("dump --root --hex: the last leaf is another, and OUT is as it was", [*words, "--hex", "out.txt"], status=4, err=fault, before=turned_file | {"out.txt": b"before\n"}),
+        Case("dump --root: no file, and OUT is as it was", [*words, "out.rec"], status=5, err=b"prolly: cannot open in.prl\n", before=before),
+        Case("dump --root: a folder, and OUT is as it was", [*words, "out.rec"], status=5, err=READ_FAILED, before={"in.prl": FOLDER} | before),
+        Case("dump --root: OUT is FILE", [*words, "in.prl"], status=5, err=b"prolly: OUT is also an input: in.prl\n", before=given),
+        Case("dump --root: OUT is a full device", [*words, "/dev/full"], status=5, err=WRITE_FAILED, before=given),
+        Case("dump --root: OUT is of another kind", [*words, "out.txt"], status=5, err=b"prolly: OUT is not a record file: out.txt\n", before=given | {"out.txt": b"lines\n"}),
+        Case("dump --root: nothing is printed", [*words, "out.rec"], before=given, after={"out.rec": whole}, stdout="full"),
+    ]
+
+
 # ---- files and devices
 
 
 def device_cases():
     """What may be read, and what becomes of the answer."""
     found = []
-    for look_up, absent in ((Get(b"b"), Get(b"bb")), (Nth(1), Nth(3)), (Scan(b"b", 1), Scan(b"d", 1))):
+    for look_up, absent in ((Get(b"b"), Get(b"bb")), (Nth(1), Nth(3)), (Scan(b"b", 1), Scan(b"d", 1)), (Dump(), None), (Dump("--hex"), None)):
         for version in (1, 2) if isinstance(look_up, Get) else (2,):
             kind = Kind(ABC, 0, version)
             words, given, (status, out, _) = look_up.words(kind.root, version), {"in.prl": kind.content}, look_up.right(kind)
@@ -380,8 +419,9 @@ def device_cases():
                 Case(f"{named}: standard output is full", words, status=5, err=WRITE_FAILED, before=given, stdout="full"),
                 Case(f"{named}: nobody reads", words, status=5, err=WRITE_FAILED, before=given, stdout="unread"),
                 Case(f"{named}: standard output is closed", words, status=5, err=WRITE_FAILED, before=given, stdout="closed"),
-                Case(f"{named}: nothing for a full device", absent.words(kind.root, version), status=absent.right(kind)[0], before=given, stdout="full"),
             ]
+            if absent is not None:
+                found.append(Case(f"{named}: nothing for a full device", absent.words(kind.root, version), status=absent.right(kind)[0], before=given, stdout="full"))
     top, long_file = tree(LONG, 0, 2).reference, {"in.prl": chunk_file(LONG, 0, 2)}
     return [
         *found,
@@ -419,6 +459,9 @@ def large_cases(folder):
         Case("scan --root: behind 5 GB in format 2", Scan(from_key.key, 50).words(second.root, 2, str(counted_behind)), out=lines_of(NUMBERS[300:350]), memory=SMALL_MEMORY),
         Case("scan --root: no pair behind 5 GB", Scan(NUMBERS[599][0] + b"\0", 9).words(first.root, 1, str(few_behind)), memory=SMALL_MEMORY),
         Case("scan --root: a bad leaf behind 5 GB", from_key.words(first.root, 1, str(few_bad)), status=4, out=printed, err=refusal(another(last + 1))[2], memory=SMALL_MEMORY),
+        Case("dump --root: behind 5 GB", Dump().words(first.root, 1, str(few_behind)), out=records(NUMBERS[:600]), memory=SMALL_MEMORY),
+        Case("dump --root --hex: behind 5 GB in format 2", Dump("--hex").words(second.root, 2, str(counted_behind)), out=lines_of(NUMBERS[:600]), memory=SMALL_MEMORY),
+        Case("dump --root: a bad leaf behind 5 GB", Dump().words(first.root, 1, str(few_bad)), status=4, out=records(first.pairs[: chunks_of(first, Dump())[last]]), err=refusal(another(last + 1))[2], memory=SMALL_MEMORY),
         Case("nth --root: behind 5 GB", Nth(599).words(second.root, 2, str(counted_behind)), out=line(NUMBERS[599]), memory=SMALL_MEMORY),
         Case("nth --root: no pair behind 5 GB", Nth(600).words(second.root, 2, str(counted_behind)), status=1, memory=SMALL_MEMORY),
     ]

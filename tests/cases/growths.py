@@ -15,7 +15,7 @@ from cases.surveys import as_json, explained, record_lines, record_numbers, tabl
 from oracle.escapes import escaped, text_lines
 from oracle.proof import WRONG_VERSION, proof_of
 from oracle.trees import END_SIZE, begun_file, chunk_file, overlay, record, records, reference_text, report, root_text, tree
-from support.by_root import ALL, NO_COUNTS, Get, Nth, Prove, Scan, refusal
+from support.by_root import ALL, NO_COUNTS, Dump, Get, Nth, Prove, Scan, refusal
 from support.harness import BAD_TEXT_KEY, NO_THREAD, SCARCE, file_differences, hexed, lay_out, shown
 
 FIVE_IN_THREE = [[(b"a", b"1"), (b"d", b"1")], [(b"b", b"1")], [(b"c", b"1"), (b"e", b"1")]]
@@ -62,7 +62,7 @@ class Command:
     parts: list = field(default_factory=list)
     """Where a growth is refused, it holds a first part of one of these, or nothing."""
     is_printed_early: bool = False
-    """It prints as it goes, so where a growth is refused the first lines may be there."""
+    """It prints as it goes, so where a growth is refused the first lines, or the first records, may be there."""
     is_made_first: bool = False
     """The file is made before the line that tells of it, for which there may be no memory."""
 
@@ -111,6 +111,9 @@ def commands():
         Command("dump", ["dump", "abc.prl"], out=records(ABC), before=reads),
         Command("dump --hex", ["dump", "--hex", "abc.prl"], out=lines(ABC), before=reads),
         Command("dump --hex to a file", ["dump", "--hex", "abc.prl", "out.txt"], before=reads, made="out.txt", whole=lines(ABC)),
+        Command("dump --root", Dump().words(REFERENCE, 1, "abc.prl"), out=records(ABC), before=reads, is_printed_early=True),
+        Command("dump --root --hex", Dump("--hex").words(COUNTED_TREE.reference, 2, "counted.prl"), out=lines(ABC), before=reads, is_printed_early=True),
+        Command("dump --root to a file", [*Dump().words(REFERENCE, 1, "abc.prl"), "out.rec"], before=reads, made="out.rec", whole=records(ABC)),
         Command("prove", ["prove", "counted.prl", "62", "p"], before=reads, made="p", whole=PROOF),
         Command("prove --root", ["prove", "--root", ROOT, "--format", "2", "counted.prl", "62", "p"], before=reads, made="p", whole=PROOF),
         Command("prove --root of the other format", Prove(b"b").words(REFERENCE, 1, "counted.prl"), status=4, err=refusal(WRONG_VERSION)[2], before=reads),
@@ -274,7 +277,8 @@ def refuse(program, allocator, command, number):
 
 def is_printed_in_part(command, out):
     """Whether this is nothing, or the first lines where a command prints as it goes."""
-    return out == b"" or command.is_printed_early and out.endswith(b"\n") and command.out.startswith(out)
+    firsts = [records(ABC[:count]) for count in range(len(ABC))]
+    return out == b"" or command.is_printed_early and command.out.startswith(out) and (out.endswith(b"\n") or out in firsts)
 
 
 def whole_of(command):

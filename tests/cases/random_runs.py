@@ -14,7 +14,7 @@ from oracle.escapes import as_text, escaped, respelled, text_lines
 from oracle.proof import proof_of
 from oracle.readings import merged, packed, read, stop_of
 from oracle.trees import REMOVED, begun_file, chunk_file, overlay, record, records, reference_text, report, root_text, tall_file, tree
-from support.by_root import ALL, Get, Nth, Scan
+from support.by_root import ALL, Dump, Get, Nth, Prove, Scan
 from support.harness import Case, hexed
 
 SEED, COUNT = 20_240_601, 800
@@ -441,7 +441,7 @@ def by_root(chance):
 
 def sought_by_root(chance, content, root, wanted, believed, count):
     """The words of a look-up by a root, and what the second reader answers."""
-    command, written_in = chance.choice(["get", "nth", "scan"]), notation(chance)
+    command, written_in = chance.choice(["get", "nth", "scan", "prove", "dump"]), notation(chance)
     words = [command, *written_in.flags, "--root", reference_text(root), *(["--format", "2"] if believed == 2 else []), "in.prl"]
     if command == "get":
         words.append(written_in.word(wanted))
@@ -450,6 +450,11 @@ def sought_by_root(chance, content, root, wanted, believed, count):
         number = chance.randrange(count + 2)
         words.append(str(number))
         status, out, err = Nth(number).verdict(content, root, believed)
+    elif command == "prove":
+        words += [written_in.word(wanted), "/dev/stdout"]
+        return words, Prove(wanted).verdict(content, root, believed)
+    elif command == "dump":
+        return words, Dump(written_in.flags[0] if written_in.flags else "").verdict(content, root, believed)
     else:
         # A scan of no pair need not look at the file.
         limit = chance.choice([1, 2, 5, ALL])

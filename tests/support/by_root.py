@@ -7,9 +7,10 @@ import subprocess
 from dataclasses import dataclass
 
 from oracle.checker import HEADER_SIZE, Fault
+from oracle.escapes import text_lines
 from oracle.proof import ABSENT, FRAME_SIZE, proof_of, proof_of_chunks, way
 from oracle.reader import Reader
-from oracle.trees import chunk_file, reference_text, tree
+from oracle.trees import chunk_file, records, reference_text, tree
 from support.harness import hexed, line, shown
 from support.measured import HUNG
 
@@ -244,6 +245,55 @@ class Scan:
     def is_begun(self, answer, right):
         """Whether an answer is a fault behind the first lines of what is right."""
         return is_fault(answer) and right[1].startswith(answer[1]) and bool(LINES.fullmatch(answer[1]))
+
+
+@dataclass(frozen=True)
+class Dump:
+    """All pairs: as a record file, or as lines where a flag says so."""
+
+    flag: str = ""
+
+    def words(self, root, version, name="in.prl"):
+        """The words that ask for them."""
+        return words_of("dump", root, version, *([self.flag] if self.flag else []), name)
+
+    def written(self, pairs):
+        """What is written of pairs."""
+        return {"": records, "--hex": lines_of, "--text": text_lines}[self.flag](pairs)
+
+    def right(self, kind):
+        """The answer for a map."""
+        return 0, self.written(kind.pairs), b""
+
+    def verdict(self, content, root, version):
+        """What the second reader answers. What was written before a fault stays."""
+        status, found, fault = every_pair(content, root, version)
+        return status, self.written(found), fault
+
+    def first(self, kind, count):
+        """What is written of so many pairs."""
+        return self.written(kind.pairs[:count])
+
+    def steps(self, kind):
+        """A look-up for each leaf, and one that finds none."""
+        yield from Scan(b"").steps(kind)
+
+    def is_begun(self, answer, right):
+        """Whether an answer is a fault behind what is right."""
+        return is_fault(answer) and right[1].startswith(answer[1])
+
+
+def every_pair(content, root, version):
+    """The pairs that the second reader finds, leaf by leaf: the status, the pairs, and the line of what stops it."""
+    reader, found, key = Reader(content, root, version), [], b""
+    try:
+        while leaf := reader.pairs_from(key):
+            found += leaf
+            key = found[-1][0] + b"\0"
+    except Fault as fault:
+        status, _, line = refusal(fault)
+        return status, found, line
+    return 0, found, b""
 
 
 def answer_of(value):

@@ -141,10 +141,24 @@ fn answer_or_refusal<T: Wait + Threads + Clock + Sync>(
         }
         Command::Dump {
             file,
+            root,
+            version,
             out,
             lines,
             mode,
-        } => dump::dump(rt, &on_all_processors(threads), file, lines, out, mode),
+        } => {
+            let version = Version::of(version).unwrap();
+            dump::dump(
+                rt,
+                &on_all_processors(threads),
+                &file,
+                root,
+                version,
+                lines,
+                out,
+                mode,
+            )
+        }
         Command::Diff {
             old,
             new,

@@ -146,7 +146,7 @@ limits_kept given (Ok command) fields = go command fields
     go (Scan file from limit root version notation) h =
         (h.2.1.2.1, h.3.2, lawful_trust given.1 root version h.4)
     go (Nth file n root version notation) h = (h.2.2, lawful_trust given.1 root version h.3)
-    go (Dump file out lines mode) h = tt
+    go (Dump file root version out lines mode) h = lawful_trust given.1 root version h.2
     go (Diff old new out stat notation mode) h = tt
     go (Prove file key root version out mode) h =
         (h.2.1.1.2.1, lawful_trust given.1 root version h.3)

@@ -283,6 +283,7 @@ unfolding clap_on_literals dump_shape
 dump_sound = all_sound dump_shape.rules refl
 
 pub record TakesDump (rows : List Row) : Type 0 where
+  pub format : HasNumber (codes "format") 1 2 rows
   pub file : HasWord (codes "file") rows
 
 pub takes_dump : (rows : List Row) → IsAccepted (codes "dump", rows) → TakesDump rows
@@ -290,6 +291,7 @@ unfolding clap_on_literals dump_shape
 takes_dump rows accepted =
     let level = level_at (codes "dump") dump_shape rows dump_found accepted in
     record {
+      format = number_at dump_shape rows (codes "format") 1 2 dump_sound level refl refl;
       file = word_at dump_shape rows (codes "file") dump_sound level refl refl;
     }
 

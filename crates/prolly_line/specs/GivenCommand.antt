@@ -176,9 +176,10 @@ HasFields (Nth file n root version notation) given =
     × GivesNumber given.1 (codes "n") 0 4294967295 n
     × GivesTrust given.1 root version
     × GivesNotation given.1 notation
-HasFields (Dump file out lines mode) given =
+HasFields (Dump file root version out lines mode) given =
     (given.0 ≡ codes "dump")
     × GivesWord given.1 (codes "file") (string_bytes file)
+    × GivesTrust given.1 root version
     × GivesOption given.1 (codes "out") (option_map string_bytes out)
     × GivesLines given.1 lines
     × GivesMode given.1 mode
@@ -236,7 +237,7 @@ IsWithinLimits (Scan file from limit root version notation) =
     (length from.items ≤ 1024) × (limit ≤ 1000000) × IsLawfulTrust root version
 IsWithinLimits (Nth file n root version notation) =
     (n ≤ 4294967295) × IsLawfulTrust root version
-IsWithinLimits (Dump file out lines mode) = ⊤
+IsWithinLimits (Dump file root version out lines mode) = IsLawfulTrust root version
 IsWithinLimits (Diff old new out stat notation mode) = ⊤
 IsWithinLimits (Prove file key root version out mode) =
     (length key.items ≤ 1024) × IsLawfulTrust root version
@@ -248,7 +249,7 @@ IsWithinLimits (Verify root key version proof notation) =
 -- the subcommand reads a chunk file, and may be given a root
 abbrev pub MayTakeRoot : Text → Type 0
 MayTakeRoot name = (name ≡ codes "get") ⊎ (name ≡ codes "scan") ⊎ (name ≡ codes "nth")
-    ⊎ (name ≡ codes "prove")
+    ⊎ (name ≡ codes "prove") ⊎ (name ≡ codes "dump")
 
 -- the subcommand takes a root, or may be given one
 abbrev pub TakesRoot : Text → Type 0

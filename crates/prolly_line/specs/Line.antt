@@ -185,10 +185,10 @@ scan_line = with_rule (with_rule (look_up_line (codes "scan")) key_word) limit_w
 abbrev pub nth_line : App
 nth_line = with_rule (look_up_line (codes "nth")) n_word
 
--- `dump [--text] [--hex] [--atomic] [--sync] [--force] FILE [OUT]`
+-- `dump [--text] [--hex] [--root ROOT] [--format V] [--atomic] [--sync] [--force] FILE [OUT]`
 abbrev pub dump_line : App
-dump_line = with_rule (with_rule (with_mode (with_rule (with_rule (new_app (codes "dump"))
-    text_flag) hex_flag)) file_word) optional_out_word
+dump_line = with_rule (with_rule (with_mode (with_trust (with_rule (with_rule
+    (new_app (codes "dump")) text_flag) hex_flag))) file_word) optional_out_word
 
 -- `diff [--text] [--stat] [--out FILE] [--atomic] [--sync] [--force] OLD NEW`
 abbrev pub diff_line : App

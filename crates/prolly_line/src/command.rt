@@ -104,9 +104,12 @@ pub enum Command {
         notation: Notation,
     },
     /// Write the pairs of a file, in lines of the notation `lines`, and else as a record file: to
-    /// standard output where there is no output, and then the mode is ignored.
+    /// standard output where there is no output, and then the mode is ignored. The root and the
+    /// version say the same as for `Get`.
     Dump {
         file: String,
+        root: Option<Ref>,
+        version: u8,
         out: Option<String>,
         lines: Option<Notation>,
         mode: WriteMode,

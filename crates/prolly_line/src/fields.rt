@@ -185,17 +185,20 @@ pub(crate) fn nth(alloc: Global, given: &ArgMatches<'_>) -> Result<Command, Pars
     })
 }
 
-/// `dump [--text] [--hex] [--atomic] [--sync] [--force] FILE [OUT]`
+/// `dump [--text] [--hex] [--root ROOT] [--format V] [--atomic] [--sync] [--force] FILE [OUT]`
 pub(crate) fn dump(alloc: Global, given: &ArgMatches<'_>) -> Result<Command, ParseFault>
     requires { IsAccepted (codes "dump", rows_in given.now) }
     ensures { Answers (codes "dump", rows_in given.now) result }
 {
+    let (root, version) = trust_of(given)?;
     let file = text_of(alloc, given, "file")?;
     let out = option_of(alloc, given, "out")?;
     let lines = lines_of(given);
     let mode = mode_of(given);
     Ok(Command::Dump {
         file,
+        root,
+        version,
         out,
         lines,
         mode,

@@ -243,8 +243,7 @@ pub(crate) const DUMP: Help<'static> = Help {
     about: "Write the pairs of a chunk file as a record file, or as lines",
     details: "Writes all pairs of a chunk file as a record file. `scratch` and `build` make
 the same chunk file of it again, at equal --bits and --format; they take at most
-16,777,216 records from one file. The chunk file is checked first, as by
-`check`.
+16,777,216 records from one file.
 
 With --text or --hex these are lines, one for each pair in the order of keys:
 with --text a key, a tab and a value as text, of which `pack --text` makes the
@@ -252,6 +251,12 @@ record file, and with --hex alone HEXKEY HEXVALUE, of which `pack` makes it.
 
 What is written goes to OUT, or to standard output where OUT is not given; then
 --atomic, --sync and --force are ignored. Nothing else is printed.
+
+Without --root the whole file is checked first, as by `check`: that takes time
+linear in it, no file over 1 GiB is read, and --format is ignored. With --root
+the file is of any size, and each chunk is compared with the reference above it,
+from ROOT down, before a pair below it is written. So what is written is right
+for ROOT; at a chunk that does not fit it ends.
 
 OUT is replaced once what it is to hold is whole: after a fault it is as it was.
 An OUT that is a file of another kind is refused, unless --force is given.",

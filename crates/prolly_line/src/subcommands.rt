@@ -153,14 +153,14 @@ pub(crate) fn stat_line<'a>(alloc: Global) -> Result<Command<'a>, AllocError>
     )
 }
 
-/// `dump [--text] [--hex] [--atomic] [--sync] [--force] FILE [OUT]`
+/// `dump [--text] [--hex] [--root ROOT] [--format V] [--atomic] [--sync] [--force] FILE [OUT]`
 pub(crate) fn dump_line<'a>(alloc: Global) -> Result<Command<'a>, AllocError>
     ensures { IfOk result (HasCommandLine dump_line) }
 {
     let text = arguments::text_flag(alloc, DUMPED_TEXT);
     let line = described(alloc, "dump", help::DUMP).arg(text);
     let line = with_argument(line, arguments::hex_flag(alloc));
-    let line = with_mode(alloc, line, ALWAYS_ASIDE);
+    let line = with_mode(alloc, with_trust(alloc, line), ALWAYS_ASIDE);
     with_argument(
         with_argument(line, arguments::file_word(alloc, CHUNK_FILE)),
         arguments::optional_out_word(alloc),

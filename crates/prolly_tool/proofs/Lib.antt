@@ -16,5 +16,9 @@ pub mod Verifying
 pub mod FirstLines
 -- Scans by a root, leaf by leaf.
 pub mod ScanSteps
+-- Dumps by a root, leaf by leaf.
+pub mod RootDumpSteps
+-- How far a key is below the greatest one that there may be, by which a loop over rising keys ends.
+pub mod KeyRanks
 -- What `stat` answers of a file of either kind.
 pub mod Stating

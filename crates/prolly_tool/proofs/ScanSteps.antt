@@ -85,12 +85,12 @@ abbrev pub behind : List ℕ → List (List Pair) → List ℕ
 behind from [] = from
 behind from (found ∷ lists) = behind (from_behind from found) lists
 
-behind_more : (from : List ℕ) (lists : List (List Pair)) (found : List Pair) →
+pub behind_more : (from : List ℕ) (lists : List (List Pair)) (found : List Pair) →
     behind from (lists ++ found ∷ []) ≡ from_behind (behind from lists) found
 behind_more from [] found = refl
 behind_more from (one ∷ lists) found = behind_more (from_behind from one) lists found
 
-scanned_more : (version : Version) (root from : List ℕ) (lists : List (List Pair))
+pub scanned_more : (version : Version) (root from : List ℕ) (lists : List (List Pair))
     (ways : List (List (List ℕ))) (found : List Pair) (way : List (List ℕ)) →
     AreScanned version root from lists ways →
     IsScanWay version root (behind from lists) way found →
@@ -101,17 +101,17 @@ scanned_more version root from (one ∷ lists) [] found way are more = absurd ar
 scanned_more version root from (one ∷ lists) (other ∷ ways) found way are more =
     (are.0, scanned_more version root (from_behind from one) lists ways found way are.1 more)
 
-joined_more : (lists : List (List Pair)) (found : List Pair) →
+pub joined_more : (lists : List (List Pair)) (found : List Pair) →
     joined (lists ++ found ∷ []) ≡ joined lists ++ found
 joined_more lists found = flat_map-append (λ list. list) lists (found ∷ []) ∙
     ap (λ ps. joined lists ++ ps) (append-nil found)
 
-ends_empty : (lists : List (List Pair)) → EndsEmpty (lists ++ [] ∷ [])
+pub ends_empty : (lists : List (List Pair)) → EndsEmpty (lists ++ [] ∷ [])
 ends_empty [] = refl
 ends_empty (one ∷ []) = refl
 ends_empty (one ∷ two ∷ lists) = ends_empty (two ∷ lists)
 
-ends_full : (lists : List (List Pair)) (found : List Pair) → found ≢ [] →
+pub ends_full : (lists : List (List Pair)) (found : List Pair) → found ≢ [] →
     ¬ (EndsEmpty (lists ++ found ∷ []))
 ends_full [] found some ends = some ends
 ends_full (one ∷ []) found some ends = some ends
@@ -155,7 +155,7 @@ module _ {W : Type 0} (seen : W → SinkView) where
 
   -- More bytes are written behind those that the sink took.
   module _ (done own : List ℕ) (old mid new : W) (so_far : TookSoFar seen done old mid) where
-    took_also : TookBytes seen own mid new →
+    pub took_also : TookBytes seen own mid new →
         ((seen mid).is_keeping ≡ true → (seen new).is_keeping ≡ true) →
         TookSoFar seen (done ++ own) old new
     took_also t keeping = record {
@@ -196,7 +196,7 @@ module _ {W : Type 0} (seen : W → SinkView) where
       };
     }
 
-    until_also : (fault : OutputFault) → TookUntil seen fault own mid new →
+    pub until_also : (fault : OutputFault) → TookUntil seen fault own mid new →
         TookUntil seen fault (done ++ own) old new
     until_also fault t = until_also_in fault (until_cases fault own mid new t)
       where
@@ -427,10 +427,10 @@ module _ {W : Type 0} (seen : W → SinkView) (old mid new : W)
 
   module _ (counted : (seen new).failures ≡ (seen mid).failures)
       (settled : IsSettled (seen new)) where
-    all_flushed : (bytes : List ℕ) → TookBytes seen bytes old mid → TookAll seen bytes old new
+    pub all_flushed : (bytes : List ℕ) → TookBytes seen bytes old mid → TookAll seen bytes old new
     all_flushed bytes t = flushed seen bytes old mid (so_far_all bytes t) new same counted settled
 
-    prefix_flushed : (bytes : List ℕ) → TookPrefix seen bytes old mid →
+    pub prefix_flushed : (bytes : List ℕ) → TookPrefix seen bytes old mid →
         TookPrefix seen bytes old new
     prefix_flushed bytes t = record {
       unfailed = counted ∙ t.unfailed;
@@ -484,10 +484,10 @@ module _ {W : Type 0} (seen : W → SinkView) (old mid new : W)
       )
 
   module _ (counted : (seen new).failures ≡ after_failure (seen mid).failures) where
-    all_unflushed : (bytes : List ℕ) → TookBytes seen bytes old mid → TookPart seen bytes old new
+    pub all_unflushed : (bytes : List ℕ) → TookBytes seen bytes old mid → TookPart seen bytes old new
     all_unflushed bytes t = unflushed seen bytes old mid (so_far_all bytes t) new same counted
 
-    prefix_unflushed : (bytes : List ℕ) → TookPrefix seen bytes old mid →
+    pub prefix_unflushed : (bytes : List ℕ) → TookPrefix seen bytes old mid →
         TookPart seen bytes old new
     prefix_unflushed bytes t = record {
       failed = λ e. other_failures (seen old).failures

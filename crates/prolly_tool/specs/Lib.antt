@@ -28,6 +28,8 @@ pub mod Diff
 pub mod Proofs
 -- What `scan` answers to who names the root.
 pub mod RootScans
+-- What `dump` answers to who names the root.
+pub mod RootDumps
 -- What `explain` answers, and what a command says of a record file that it goes over once.
 pub mod Surveys
 -- What the command `stat` answers.

@@ -67,7 +67,7 @@ pub(crate) fn write_lines<W: Sink>(
 }
 
 /// Appends a line for each of the pairs.
-fn append_lines(
+pub(crate) fn append_lines(
     alloc: Global,
     lines: &mut Vec<u8>,
     notation: Notation,

@@ -1,5 +1,5 @@
 //! The command `dump`.
-use crate::inputs::Input;
+use crate::inputs::{Chunks, Input, chunks_of};
 use crate::output::OUTPUT_BYTES;
 use crate::output_kind::OutputKind;
 use crate::patient::Patient;
@@ -7,8 +7,9 @@ use crate::refusal::Refusal;
 use crate::streams::Stream;
 use crate::target::Target;
 use prolly_check::ChunkHasher;
+use prolly_entry::{Ref, Version};
 use prolly_file::{Buffered, FromRead, ToWrite};
-use prolly_tool::{Answer, Notation, RecordForm, WriteMode, answer_dump};
+use prolly_tool::{Answer, Notation, RecordForm, WriteMode, answer_dump, answer_dump_by_root};
 use std::alloc::AllocError;
 use std::fs::File;
 use std::io::Write;
@@ -21,11 +22,65 @@ fn dump_form(lines: Option<Notation>) -> RecordForm {
     }
 }
 
-/// `dump [--text] [--hex] FILE [OUT] [--sync] [--force]`
+/// What is dumped: a file that is read whole and checked, or one of which only a root is believed.
+#[derive(Drop)]
+enum Dumped {
+    Whole(FromRead<File>),
+    Rooted {
+        chunks: Chunks,
+        version: Version,
+        root: Ref,
+    },
+}
+
+impl Dumped {
+    /// The file, with the root, where one is given, and the version of its tree's chunks.
+    fn of(
+        rt: &HostRuntime,
+        input: Input,
+        root: Option<Ref>,
+        version: Version,
+    ) -> Result<Dumped, Refusal> {
+        match root {
+            None => Ok(Dumped::Whole(input.into_chunk_file(rt)?)),
+            Some(root) => Ok(Dumped::Rooted {
+                chunks: chunks_of(rt, input)?,
+                version,
+                root,
+            }),
+        }
+    }
+
+    /// Writes its pairs in this form.
+    fn write<H: ChunkHasher, W: Write + Drop>(
+        self,
+        rt: &HostRuntime,
+        hasher: &H,
+        form: RecordForm,
+        writer: W,
+    ) -> Result<Answer, AllocError>
+        requires { H.can_hash hasher.now }
+    {
+        let alloc = rt.alloc();
+        let mut sink = Buffered::with_capacity(alloc, OUTPUT_BYTES, ToWrite::new(writer))?;
+        match self {
+            Dumped::Whole(mut source) => answer_dump(hasher, alloc, &mut source, form, &mut sink),
+            Dumped::Rooted {
+                mut chunks,
+                version,
+                root,
+            } => answer_dump_by_root(alloc, &mut chunks, version, &root, form, &mut sink),
+        }
+    }
+}
+
+/// `dump [--text] [--hex] [--root ROOT] [--format V] FILE [OUT] [--sync] [--force]`
 pub fn dump<H: ChunkHasher>(
     rt: &HostRuntime,
     hasher: &H,
-    file: String,
+    file: &str,
+    root: Option<Ref>,
+    version: Version,
     lines: Option<Notation>,
     out: Option<String>,
     mode: WriteMode,
@@ -35,47 +90,25 @@ pub fn dump<H: ChunkHasher>(
     let form = dump_form(lines);
     match out {
         None => {
-            let input = Input::open_beside(rt, &file, Stream::Output.found(rt)?)?;
-            let source = input.into_chunk_file(rt)?;
-            Ok(dump_into(rt, hasher, source, form, Patient::new(rt, rt.stdout()))?)
+            let input = Input::open_beside(rt, file, Stream::Output.found(rt)?)?;
+            let dumped = Dumped::of(rt, input, root, version)?;
+            Ok(dumped.write(rt, hasher, form, Patient::new(rt, rt.stdout()))?)
         }
-        Some(out) => dump_to(rt, hasher, &file, form, &out, mode),
+        Some(out) => {
+            let target = Target::look(rt, &out, kind_of(form), mode)?;
+            let input = Input::open_beside(rt, file, target.found())?;
+            let dumped = Dumped::of(rt, input, root, version)?;
+            let mut output = target.open(rt)?;
+            let answer = dumped.write(rt, hasher, form, &mut output);
+            output.finish(rt, &out, answer)
+        }
     }
 }
 
-/// `dump [--text] [--hex] FILE OUT [--sync] [--force]`
-fn dump_to<H: ChunkHasher>(
-    rt: &HostRuntime,
-    hasher: &H,
-    file: &str,
-    form: RecordForm,
-    out: &str,
-    mode: WriteMode,
-) -> Result<Answer, Refusal>
-    requires { H.can_hash hasher.now }
-{
-    let kind = match form {
+/// The kind of an output in this form.
+fn kind_of(form: RecordForm) -> OutputKind {
+    match form {
         RecordForm::Records => OutputKind::RecordFile,
         RecordForm::Lines(_) => OutputKind::Lines,
-    };
-    let target = Target::look(rt, out, kind, mode)?;
-    let input = Input::open_beside(rt, file, target.found())?;
-    let source = input.into_chunk_file(rt)?;
-    let mut output = target.open(rt)?;
-    let answer = dump_into(rt, hasher, source, form, &mut output);
-    output.finish(rt, out, answer)
-}
-
-/// Writes the source's pairs in this form.
-fn dump_into<H: ChunkHasher, W: Write + Drop>(
-    rt: &HostRuntime,
-    hasher: &H,
-    mut source: FromRead<File>,
-    form: RecordForm,
-    writer: W,
-) -> Result<Answer, AllocError>
-    requires { H.can_hash hasher.now }
-{
-    let mut sink = Buffered::with_capacity(rt.alloc(), OUTPUT_BYTES, ToWrite::new(writer))?;
-    answer_dump(hasher, rt.alloc(), &mut source, form, &mut sink)
+    }
 }

@@ -1,7 +1,8 @@
 //! The command `scan` of a file of which only the root is believed.
 ghost use Rattle.std.specs.Prelude.{◌≡◌, ◌≢◌, ◌⊎◌, ◌↔◌, IfOk, IfErr, OnOk, OnErr, true, Err};
-ghost use Rattle.std.specs.Prelude.{IsTrue};
+ghost use Rattle.std.specs.Prelude.{All, IsTrue};
 ghost use Rattle.prolly_check.specs.ScanWay.{next_key};
+ghost use Rattle.prolly_entry.specs.Byte.{IsByte};
 ghost use Rattle.prolly_file.specs.Failures.{CountsFailure};
 ghost use Rattle.prolly_file.specs.Sink.{IsSettled};
 ghost use Rattle.prolly_tool.specs.LookUps.{pair_lines};
@@ -167,8 +168,9 @@ fn write_lines<W: Sink>(
 }
 
 /// The least key that is greater than this one.
-fn key_behind(alloc: Global, key: &[u8]) -> Result<Vec<u8>, AllocError>
-    ensures { IfOk result (λ next. next.items ≡ next_key key.now) }
+pub(crate) fn key_behind(alloc: Global, key: &[u8]) -> Result<Vec<u8>, AllocError>
+    ensures behind { IfOk result (λ next. next.items ≡ next_key key.now) }
+    ensures bytes { All IsByte key.now }
 {
     let mut next = Vec::from_slice(alloc, key)?;
     next.push(0)?;

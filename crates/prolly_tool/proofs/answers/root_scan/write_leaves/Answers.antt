@@ -164,7 +164,7 @@ loop-left-preserved g c =
           c.in_default-write_lines.ensures.ok) c.in_default-write_lines.ensures.keeping
           (subst (λ ps. slice_get ps (length ps - 1) ≡ Some last)
           (c.deref-in-loop-left.ensures.value ∙ all) (sym c.in-Some.ensures.value))
-          (c.in-Ok-key_behind.ensures ∙ ap next_key c.key.ensures.key)
+          (c.in-Ok-key_behind.ensures.behind ∙ ap next_key c.key.ensures.key)
           (omega (arith, c.len-count.ensures, c.in-Ok-pairs_from.pairs.ok, ap length all));
       keeps = λ content has. c.in-Ok-pairs_from.ensures.keeps content
           (c.loop-left.invariant.keeps content has);

@@ -1,0 +1,24 @@
+use Rattle.std.proofs.Common.{◌≡◌}
+use Rattle.prolly_check.specs.Content.{Content}
+use Rattle.prolly_root.specs.Reader.{IsReaderOf}
+use Rattle.prolly_tool.proofs.KeyRanks.{AreBytes, room_above}
+use Rattle.prolly_tool.proofs.RootDumpSteps.{IsDumping}
+use Rattle.prolly_tool.proofs.answers.root_dump.write_leaves.Given as goal
+
+abbrev pub invariant-loop-next : goal.invariant-loop-next
+invariant-loop-next g l = record {
+  version : l.reader.version ≡ l.fn.reader.version;
+  root : l.reader.root ≡ l.fn.reader.root;
+  dump : IsDumping g.W.Sink.seen l.fn.reader.version l.fn.reader.root l.form l.next.items
+      l.initial.sink l.sink;
+  bytes : AreBytes l.next.items;
+  reads : g.S.ChunkSource.failures l.source ≡ g.S.ChunkSource.failures l.initial.source;
+  keeps : (content : Content) → g.S.ChunkSource.has l.initial.source content →
+      g.S.ChunkSource.has l.source content;
+  opened : (content : Content) → g.S.ChunkSource.has l.initial.source content →
+      IsReaderOf g.S.ChunkSource.is_place content l.fn.reader →
+      IsReaderOf g.S.ChunkSource.is_place content l.reader;
+}
+
+abbrev pub decreases-loop-next : goal.decreases-loop-next
+decreases-loop-next g l = room_above l.next.items

@@ -1,0 +1,146 @@
+//! The command `dump` of a file of which only the root is believed.
+ghost use Rattle.std.specs.Prelude.{◌≡◌, ◌↔◌, true, Err, IfErr, IfOk, IsTrue, OnErr, OnOk};
+ghost use Rattle.prolly_text.specs.RecordForms.{written_records};
+ghost use Rattle.prolly_tree.specs.Difference.{puts};
+ghost use Rattle.prolly_tool.specs.Outputs.{TookBytes, TookUntil};
+ghost use Rattle.prolly_tool.specs.RootDumps.{IsDumpedByRoot, IsRootDump, IsSettledAs, TakesAllFor};
+ghost use Rattle.prolly_tool.specs.RootDumps.{TakesFor, TellsDumpReads};
+ghost use Rattle.prolly_tool.specs.RootScans.{RefusesNone, RefusesNoneOf};
+ghost use Rattle.prolly_tool.specs.declared.faults.output_fault.OutputFault.TheVariants.{Write};
+ghost use Rattle.prolly_tool.specs.declared.faults.root_output_fault.RootOutputFault.{RootOutputFault as StopValue};
+ghost use Rattle.prolly_tool.specs.declared.faults.root_output_fault.RootOutputFault.TheVariants.{Output};
+
+use crate::answers::answer::Answer;
+use crate::answers::root_scan::key_behind;
+use crate::faults::{Fault, OutputFault, RootOutputFault};
+use crate::lines::append_lines;
+use prolly_check::Pairs;
+use prolly_entry::{Ref, Version};
+use prolly_file::{Sink, write_all};
+use prolly_root::{ChunkSource, Reader};
+use prolly_text::RecordForm;
+use std::alloc::{AllocError, Global};
+
+/// What `dump` answers to who names the root: it writes the pairs of the tree with this root to the
+/// sink, as records that put them, and shows nothing; or it shows the line of the fault that
+/// stopped it, and what was found before that was written. An `Err` is want of memory for that
+/// line; the sink then has what was found before.
+///
+/// It goes on leaf by leaf, as a scan by the root does, and what is written of the map with the root
+/// is said by [`dumps_by_root_are_right`](crate::laws::dumps_by_root_are_right). It takes memory for
+/// one look-up, and for lines those of one leaf; a record file is written from where the pairs lie.
+/// The sink is called once for each leaf, or more often where it takes only a part, and flushed at
+/// the end.
+pub fn answer_dump_by_root<S: ChunkSource, W: Sink>(
+    alloc: Global,
+    source: &mut S,
+    version: Version,
+    root: &Ref,
+    form: RecordForm,
+    sink: &mut W,
+) -> Result<Answer, AllocError>
+    ensures ok { IfOk result (IsRootDump (λ outcome. IsDumpedByRoot
+        (RefusesNone (S.has source.old) version root.now.0) version root.now.0 form
+        (TakesAllFor W.seen sink.old sink.new) outcome ×
+        TellsDumpReads (S.failures source.old) (S.failures source.new) outcome)) }
+    ensures err { OnErr result ((stop : StopValue) × IsDumpedByRoot
+        (RefusesNone (S.has source.old) version root.now.0) version root.now.0 form
+        (TakesAllFor W.seen sink.old sink.new) (Err stop) ×
+        TellsDumpReads (S.failures source.old) (S.failures source.new) (Err stop)) }
+{
+    match write_dump(alloc, source, version, root, form, sink) {
+        Ok(()) => Ok(Answer::of_done(alloc)),
+        Err(stop) => Answer::of_fault(alloc, Fault::from(stop)),
+    }
+}
+
+/// Writes the pairs of a tree, and flushes the sink, also where a fault stops that.
+fn write_dump<S: ChunkSource, W: Sink>(
+    alloc: Global,
+    source: &mut S,
+    version: Version,
+    root: &Ref,
+    form: RecordForm,
+    sink: &mut W,
+) -> Result<(), RootOutputFault>
+    ensures dumped { IsDumpedByRoot (RefusesNone (S.has source.old) version root.now.0) version
+        root.now.0 form (TakesAllFor W.seen sink.old sink.new) result }
+    ensures reads { TellsDumpReads (S.failures source.old) (S.failures source.new) result }
+{
+    let reader = Reader::open(alloc, source, version, root)?;
+    let outcome = write_leaves(alloc, source, reader, form, sink);
+    settled(sink, outcome)
+}
+
+/// Writes the pairs of a tree, leaf by leaf, as the reader finds them.
+fn write_leaves<S: ChunkSource, W: Sink>(
+    alloc: Global,
+    source: &mut S,
+    mut reader: Reader<S::Place>,
+    form: RecordForm,
+    sink: &mut W,
+) -> Result<(), RootOutputFault>
+    ensures dumped { IsDumpedByRoot (RefusesNoneOf S.is_place (S.has source.old) reader)
+        reader.version reader.root form (TakesFor W.seen sink.old sink.new) result }
+    ensures keeping { (W.seen sink.old).is_keeping ≡ true → (W.seen sink.new).is_keeping ≡ true }
+    ensures reads { TellsDumpReads (S.failures source.old) (S.failures source.new) result }
+{
+    let mut lines = Vec::new(alloc);
+    let mut next = Vec::new(alloc);
+    loop {
+        reader.seek(alloc, source, &next)?;
+        let leaf = reader.leaf_from(&next);
+        let Some(last) = leaf.last_key() else {
+            return Ok(());
+        };
+        write_leaf(alloc, form, &mut lines, leaf, sink)?;
+        next = key_behind(alloc, last)?;
+    }
+}
+
+/// Writes the pairs of a leaf: from where they lie, or in lines that are put together here.
+fn write_leaf<W: Sink>(
+    alloc: Global,
+    form: RecordForm,
+    lines: &mut Vec<u8>,
+    leaf: Pairs<'_>,
+    sink: &mut W,
+) -> Result<(), OutputFault>
+    ensures ok { OnOk result
+        (TookBytes W.seen (written_records form (puts leaf.entry)) sink.old sink.new) }
+    ensures err { IfErr result (λ fault.
+        TookUntil W.seen fault (written_records form (puts leaf.entry)) sink.old sink.new) }
+    ensures keeping { (W.seen sink.old).is_keeping ≡ true → (W.seen sink.new).is_keeping ≡ true }
+{
+    match form {
+        RecordForm::Records => write_all(sink, leaf.spellings())?,
+        RecordForm::Lines(notation) => {
+            lines.clear();
+            append_lines(alloc, lines, notation, leaf)?;
+            write_all(sink, lines)?;
+        }
+    }
+    Ok(())
+}
+
+/// Flushes the sink, and answers the outcome, or else that this failed. A sink of which a write
+/// failed is left as it is.
+fn settled<W: Sink>(
+    sink: &mut W,
+    outcome: Result<(), RootOutputFault>,
+) -> Result<(), RootOutputFault>
+    ensures { IsSettledAs W.seen sink.old sink.new outcome result }
+{
+    if is_failed_write(&outcome) {
+        return outcome;
+    }
+    sink.flush()?;
+    outcome
+}
+
+/// Whether a write failed.
+fn is_failed_write(outcome: &Result<(), RootOutputFault>) -> bool
+    ensures { IsTrue result ↔ (outcome.now ≡ Err (Output Write)) }
+{
+    matches!(outcome, Err(RootOutputFault::Output(OutputFault::Write)))
+}
