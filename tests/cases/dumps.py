@@ -6,7 +6,8 @@ from pathlib import Path
 from cases.look_ups import LONG, NUMBERS
 from cases.scratch import ABC
 from oracle.escapes import text_lines
-from oracle.trees import REMOVED, chunk_file, overlay, record, records, report, root_text
+from oracle.trees import REMOVED, chunk_file, overlay, record, records, report, root_text, tree
+from support.by_root import words_of
 from support.harness import FOLDER, Case, hexed
 from support.place import Place
 
@@ -40,9 +41,14 @@ def cases(_):
 
 
 def written(name, pairs, bits, version):
-    """A file whose record file is printed, and written."""
+    """A file whose record file is printed, and written; and both by the root."""
     before = {"in.prl": chunk_file(pairs, bits, version)}
+    by_root = words_of("dump", tree(pairs, bits, version).reference, version, "in.prl")
     return [
+        Case(f"dump --root: {name}", by_root, out=records(pairs), before=before),
+        Case(f"dump --root: {name}, to a file", [*by_root, "out.rec"], before=before, after={"out.rec": records(pairs)}),
+        Case(f"dump --root: {name}, to lines", [*by_root, "--hex"], out=lines(pairs), before=before),
+        Case(f"dump --root: {name}, to lines of text", [*by_root, "--text"], out=text_lines(pairs), before=before),
         Case(f"dump: {name}", ["dump", "in.prl"], out=records(pairs), before=before),
         Case(f"dump: {name}, to a file", ["dump", "in.prl", "out.rec"], before=before, after={"out.rec": records(pairs)}),
     ]

@@ -2,9 +2,10 @@
 ghost use Rattle.std.specs.Prelude.{◌≡◌, IfOk};
 
 use crate::expect::{expect_bytes, expect_eq};
+use prolly_check::check;
 use prolly_entry::{Pair, Ref, Sha512Cut, Version};
-use prolly_file::{ScriptDevice, scratch_as};
-use prolly_root::{FileChunks, Reader, RootFault, Subtree};
+use prolly_file::{FromRead, ScriptDevice, scratch_as};
+use prolly_root::{FileChunks, Reader, RootFault, Subtree, prove};
 use prolly_test_parts::{joined, pairs_of};
 use std::alloc::Global;
 use std::process::Abort;
@@ -242,6 +243,84 @@ fn a_scan_finds_each_leaf_also_behind_a_failed_call(rt: HostRuntime) -> Result<(
     for version in [Version::One, Version::Two] {
         let rooted = Rooted::of(alloc, version, &[b"a", b"b", b"c"])?;
         expect_scans(&rt, alloc, &rooted)?;
+    }
+    Ok(())
+}
+
+/// The pairs from a key on of the leaf at which its look-up ends, as a record file has them, and the
+/// proof of the key.
+fn leaf_and_proof(
+    alloc: Global,
+    chunks: &mut Chunks,
+    reader: &mut Reader<Subtree>,
+    key: &[u8],
+) -> Result<(Vec<u8>, Vec<u8>), RootFault> {
+    reader.seek(alloc, chunks, key)?;
+    let leaf = reader.leaf_from(key).spellings().to_vec(alloc)?;
+    Ok((leaf, reader.prove(alloc, chunks, key)?))
+}
+
+/// Fails unless these are the leaf and the proof of a key, and tells whether a call failed, behind
+/// which they are asked for again.
+fn expect_leaf_and_proof(
+    rt: &impl Abort,
+    alloc: Global,
+    chunks: &mut Chunks,
+    rooted: &Rooted,
+    key: &[u8],
+    (leaf, proof): (&[u8], &[u8]),
+) -> Result<bool, Fail> {
+    let (mut reader, mut has_failed) = opened(rt, alloc, chunks, rooted)?;
+    let (found, made) = match leaf_and_proof(alloc, chunks, &mut reader, key) {
+        Ok(both) => both,
+        Err(fault) => {
+            expect_eq(rt, &fault, &RootFault::Read);
+            has_failed = true;
+            leaf_and_proof(alloc, chunks, &mut reader, key)?
+        }
+    };
+    expect_bytes(rt, &found, leaf);
+    expect_bytes(rt, &made, proof);
+    Ok(has_failed)
+}
+
+/// Asks for a leaf and a proof over devices whose first call fails, whose second does, and so on to
+/// one none of whose calls does. The proof is to be that of the checked file.
+fn expect_proved(
+    rt: &impl Abort,
+    alloc: Global,
+    rooted: &Rooted,
+    key: &[u8],
+    leaf: &[u8],
+) -> Result<(), Fail> {
+    let tree = check(alloc, &mut FromRead::new(rooted.file.as_slice()), 10_000)?;
+    let proof = prove(alloc, &tree, key)?;
+    for fail_at in 1..=MOST_CALLS {
+        let mut chunks = rooted.chunks(alloc, fail_at)?;
+        let wanted = (leaf, proof.as_slice());
+        if !expect_leaf_and_proof(rt, alloc, &mut chunks, rooted, key, wanted)? {
+            assert!(rt; fail_at > 1);
+            return Ok(());
+        }
+    }
+    Err("too many calls".into())
+}
+
+/// Keys, and the leaf from each on, as a record file has it.
+const SPELLED: [(&[u8], &[u8]); 3] = [
+    (b"b", b"\0\x01b\0\0\0\x011"),
+    (b"bb", b"\0\x01c\0\0\0\x011"),
+    (b"d", b""),
+];
+
+#[test]
+fn a_leaf_and_a_proof_are_found_also_behind_a_failed_call(rt: HostRuntime) -> Result<(), Fail> {
+    let alloc = rt.alloc();
+    for version in [Version::One, Version::Two] {
+        let rooted = Rooted::of(alloc, version, &[b"a", b"b", b"c"])?;
+        for (key, leaf) in &SPELLED {
+            expect_proved(&rt, alloc, &rooted, key, leaf)?;
+        }
     }
     Ok(())
 }

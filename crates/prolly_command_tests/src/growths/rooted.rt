@@ -1,11 +1,12 @@
 //! What look-ups and a scan by the root show where they are refused memory.
-use super::{FILE_OF_ONE, PROOF, expect_begun, expect_shown, expect_written};
+use super::{FILE_OF_ONE, PROOF, RECORD, expect_begun, expect_shown, expect_written};
 use crate::tools::look_up_answers::file_of_three;
 use prolly_entry::{Pair, Ref, Version};
 use prolly_file::{ScriptDevice, ScriptSink};
 use prolly_root::{FileChunks, Reader, RootFault};
 use prolly_tool::{
-    Notation, RootScan, answer_found, answer_found_pair, answer_prove_by_root, answer_scan_by_root,
+    Notation, RecordForm, RootScan, answer_dump_by_root, answer_found, answer_found_pair,
+    answer_prove_by_root, answer_scan_by_root,
 };
 use std::alloc::{AllocError, Global};
 use std::test::Fail;
@@ -89,5 +90,21 @@ fn a_proof_by_the_root_is_written_or_wants_memory(rt: HostRuntime) -> Result<(),
     let (version, root) = (Version::One, root_of_one());
     let answer = answer_prove_by_root(alloc, &mut chunks, version, &root, b"a", &mut sink);
     expect_written(&rt, answer, b"", sink.taken(), PROOF);
+    Ok(())
+}
+
+#[test]
+fn a_dump_by_the_root_is_written_or_wants_memory(rt: HostRuntime) -> Result<(), Fail> {
+    let alloc = rt.alloc();
+    let (version, root) = (Version::One, root_of_one());
+    for (form, whole) in [
+        (RecordForm::Records, RECORD),
+        (RecordForm::Lines(Notation::Hex), b"61 31\n"),
+    ] {
+        let mut chunks = chunks_of_one(alloc)?;
+        let mut sink = ScriptSink::new(alloc, 4_096, None);
+        let answer = answer_dump_by_root(alloc, &mut chunks, version, &root, form, &mut sink);
+        expect_begun(&rt, answer, 0, sink.taken(), whole);
+    }
     Ok(())
 }
