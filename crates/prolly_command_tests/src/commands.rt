@@ -50,16 +50,18 @@ const COMMANDS: &str = "\
     nth a.prl 4294967295 => nth (\"a.prl\", 4294967295, None, 1, Hex)\n\
     nth --root 00000000000000000000000000000000 --format 2 a.prl 0 => nth (\"a.prl\", 0, \
      Some(Ref([0, 0, 0, 0, 0, 0, 0, 0, 0, 0, 0, 0, 0, 0, 0, 0, 0, 0, 0, 0])), 2, Hex)\n\
-    dump a.prl => dump (\"a.prl\", None, None, WriteMode { atomic: false, sync: false, \
-     force: false })\n\
-    dump --sync a.prl --text --atomic a.txt => dump (\"a.prl\", Some(\"a.txt\"), \
-     Some(Text), WriteMode { atomic: true, sync: true, force: false })\n\
+    dump a.prl => dump (\"a.prl\", None, 1, None, None, WriteMode { atomic: false, sync: \
+     false, force: false })\n\
+    dump --sync a.prl --text --atomic a.txt => dump (\"a.prl\", None, 1, \
+     Some(\"a.txt\"), Some(Text), WriteMode { atomic: true, sync: true, force: false \
+     })\n\
     diff a.prl b.prl => diff (\"a.prl\", \"b.prl\", None, false, Hex, WriteMode { \
      atomic: false, sync: false, force: false })\n\
     diff a.prl --atomic --stat --out a.rec b.prl => diff (\"a.prl\", \"b.prl\", \
-     Some(\"a.rec\"), true, Hex, WriteMode { atomic: true, sync: false, force: false })\n\
-    prove a.prl 6B --sync a.prf => prove (\"a.prl\", [107], \"a.prf\", WriteMode { \
-     atomic: false, sync: true, force: false })\n\
+     Some(\"a.rec\"), true, Hex, WriteMode { atomic: true, sync: false, force: false \
+     })\n\
+    prove a.prl 6B --sync a.prf => prove (\"a.prl\", [107], None, 1, \"a.prf\", \
+     WriteMode { atomic: false, sync: true, force: false })\n\
     verify 00000000000000000000000000000000 00 => verify (Ref([0, 0, 0, 0, 0, 0, 0, 0, \
      0, 0, 0, 0, 0, 0, 0, 0, 0, 0, 0, 0]), [0], 1, None, Hex)\n\
     verify vvvvvvvvvvvvvvvvvvvvvvvvvvvvvvvv 00 a.prf --format 2 => verify (Ref([255, \
@@ -69,14 +71,14 @@ const COMMANDS: &str = "\
      false, sync: false, force: false })\n\
     get --text a.prl a\\x6cl => get (\"a.prl\", [97, 108, 108], None, 1, Text)\n\
     nth a.prl 3 --text => nth (\"a.prl\", 3, None, 1, Text)\n\
-    dump --hex a.prl => dump (\"a.prl\", None, Some(Hex), WriteMode { atomic: false, \
-     sync: false, force: false })\n\
-    dump --hex --text a.prl => dump (\"a.prl\", None, Some(Text), WriteMode { atomic: \
+    dump --hex a.prl => dump (\"a.prl\", None, 1, None, Some(Hex), WriteMode { atomic: \
      false, sync: false, force: false })\n\
+    dump --hex --text a.prl => dump (\"a.prl\", None, 1, None, Some(Text), WriteMode { \
+     atomic: false, sync: false, force: false })\n\
     diff --text a.prl b.prl => diff (\"a.prl\", \"b.prl\", None, false, Text, WriteMode \
      { atomic: false, sync: false, force: false })\n\
-    prove --text a.prl a b => prove (\"a.prl\", [97], \"b\", WriteMode { atomic: false, \
-     sync: false, force: false })\n\
+    prove --text a.prl a b => prove (\"a.prl\", [97], None, 1, \"b\", WriteMode { \
+     atomic: false, sync: false, force: false })\n\
     pack --force a.rec => pack (\"a.rec\", Hex, false, WriteMode { atomic: false, sync: \
      false, force: true })\n\
     scratch --out a.prl --force => scratch (12, 1, Some(\"a.prl\"), WriteMode { atomic: \
@@ -84,14 +86,21 @@ const COMMANDS: &str = "\
     build --force --sync a.prl b.rec => build ((12, 12, 64, 16777216, 16, 1), \
      (\"a.prl\", [\"b.rec\"], false, WriteMode { atomic: false, sync: true, force: true \
      }))\n\
-    dump a.prl --force --hex a.txt => dump (\"a.prl\", Some(\"a.txt\"), Some(Hex), \
-     WriteMode { atomic: false, sync: false, force: true })\n\
+    dump a.prl --force --hex a.txt => dump (\"a.prl\", None, 1, Some(\"a.txt\"), \
+     Some(Hex), WriteMode { atomic: false, sync: false, force: true })\n\
     diff --force a.prl b.prl --out a.rec --atomic => diff (\"a.prl\", \"b.prl\", \
-     Some(\"a.rec\"), false, Hex, WriteMode { atomic: true, sync: false, force: true })\n\
-    prove a.prl 61 a.prf --force => prove (\"a.prl\", [97], \"a.prf\", WriteMode { \
-     atomic: false, sync: false, force: true })\n\
+     Some(\"a.rec\"), false, Hex, WriteMode { atomic: true, sync: false, force: true \
+     })\n\
+    prove a.prl 61 a.prf --force => prove (\"a.prl\", [97], None, 1, \"a.prf\", \
+     WriteMode { atomic: false, sync: false, force: true })\n\
     verify --text 00000000000000000000000000000000 a => verify (Ref([0, 0, 0, 0, 0, 0, \
      0, 0, 0, 0, 0, 0, 0, 0, 0, 0, 0, 0, 0, 0]), [97], 1, None, Text)\n\
+    dump --root 00000000000000000000000000000000 --format 2 a.prl => dump (\"a.prl\", \
+     Some(Ref([0, 0, 0, 0, 0, 0, 0, 0, 0, 0, 0, 0, 0, 0, 0, 0, 0, 0, 0, 0])), 2, None, \
+     None, WriteMode { atomic: false, sync: false, force: false })\n\
+    prove --format 2 a.prl 61 a.prf --root 00000000000000000000000000000000 => prove \
+     (\"a.prl\", [97], Some(Ref([0, 0, 0, 0, 0, 0, 0, 0, 0, 0, 0, 0, 0, 0, 0, 0, 0, 0, 0, \
+     0])), 2, \"a.prf\", WriteMode { atomic: false, sync: false, force: false })\n\
 ";
 
 /// A command of this kind, with its fields.
@@ -178,10 +187,12 @@ fn writer(alloc: Global, command: &Command) -> Result<String, AllocError> {
     match command {
         Command::Dump {
             file,
+            root,
+            version,
             out,
             lines,
             mode,
-        } => told(alloc, "dump", &(file, out, lines, mode)),
+        } => told(alloc, "dump", &(file, root, version, out, lines, mode)),
         Command::Diff {
             old,
             new,
@@ -193,9 +204,11 @@ fn writer(alloc: Global, command: &Command) -> Result<String, AllocError> {
         Command::Prove {
             file,
             key,
+            root,
+            version,
             out,
             mode,
-        } => told(alloc, "prove", &(file, key, out, mode)),
+        } => told(alloc, "prove", &(file, key, root, version, out, mode)),
         Command::Verify {
             root,
             key,
