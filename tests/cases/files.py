@@ -17,8 +17,9 @@ from cases.diffs import difference, stat_line
 from cases.dumps import lines
 from cases.scratch import ABC, numbered
 from oracle.escapes import text_lines
-from oracle.proof import proof_of
+from oracle.proof import another, proof_of
 from oracle.trees import END_SIZE, chunk_file, records, reference_text, report, root_text, tree
+from support.by_root import Kind
 from support.place import DONE, Place, compiled
 
 A = records(ABC[:2])
@@ -31,6 +32,13 @@ CHANGES = difference(OLD, ABC)
 COUNTED = stat_line(OLD, ABC, (0, 1), (0, 1))
 PROOF = proof_of(tree(ABC, 0, 1), b"b", 1)
 COUNTED_ACROSS = stat_line(OLD, ABC, (0, 1), (0, 2))
+ROOTED = Kind(ABC, 0, 1)
+ROOT = ["--root", reference_text(ROOTED.root)]
+LAST = ROOTED.way(b"c")[-1]
+TURNED = ROOTED.with_byte(LAST, 2, 1)
+NOT_LAST = f"prolly: chunk file: {another(LAST)}\n".encode()
+"""What a command says that goes by the root, where the last leaf was changed."""
+
 BEFORE = b"what was there before"
 """What a file holds that is written to beside the program."""
 
@@ -40,9 +48,11 @@ BEFORES = {
     "pack": B,
     "dump": B,
     "dump --hex": b"what was there before\n",
+    "dump --root": B,
     "diff": B,
     "diff --stat": B,
     "prove": proof_of(tree(ABC, 0, 1), b"a", 1),
+    "prove --root": proof_of(tree(ABC, 0, 1), b"a", 1),
 }
 """What OUT held before: a file of the kind that each command writes."""
 
@@ -57,9 +67,11 @@ WRITERS = {
     "pack": (["pack", "out"], TEXT, A, (0, b"2\n", b"")),
     "dump": (["dump", "abc.prl", "out"], None, records(ABC), (0, b"", b"")),
     "dump --hex": (["dump", "--hex", "abc.prl", "out"], None, lines(ABC), (0, b"", b"")),
+    "dump --root": (["dump", *ROOT, "abc.prl", "out"], None, records(ABC), (0, b"", b"")),
     "diff": (["diff", "old.prl", "abc.prl", "--out", "out"], None, records(CHANGES), (1, b"", b"")),
     "diff --stat": (["diff", "--stat", "old.prl", "abc.prl", "--out", "out"], None, records(CHANGES), (1, COUNTED, b"")),
     "prove": (["prove", "abc.prl", "62", "out"], None, PROOF, (0, b"", b"")),
+    "prove --root": (["prove", *ROOT, "abc.prl", "62", "out"], None, PROOF, (0, b"", b"")),
 }
 """The commands that write OUT: their words, their standard input, what they make, and their answer."""
 
@@ -69,9 +81,11 @@ FAULTS = {
     "pack": (["pack", "out"], b"6\n", 3, b"prolly: line 0: not a pair in hexadecimal\n"),
     "dump": (["dump", "cut.prl", "out"], None, 4, b"prolly: chunk file: truncated\n"),
     "dump --hex": (["dump", "--hex", "cut.prl", "out"], None, 4, b"prolly: chunk file: truncated\n"),
+    "dump --root": (["dump", *ROOT, "turned.prl", "out"], None, 4, NOT_LAST),
     "diff": (["diff", "old.prl", "cut.prl", "--out", "out"], None, 4, b"prolly: new chunk file: truncated\n"),
     "diff --stat": (["diff", "--stat", "old.prl", "cut.prl", "--out", "out"], None, 4, b"prolly: new chunk file: truncated\n"),
     "prove": (["prove", "cut.prl", "62", "out"], None, 4, b"prolly: chunk file: truncated\n"),
+    "prove --root": (["prove", *ROOT, "turned.prl", "63", "out"], None, 4, NOT_LAST),
 }
 """The same over inputs that are at fault: their words, their standard input, and the status and line of the fault."""
 
@@ -92,7 +106,7 @@ def refusal(line):
 
 def laid(place):
     """Lays the files that the commands read."""
-    files = {"a_rec": A, "b_rec": B, "cut_rec": b"\0", "abc_prl": TREE, "old_prl": OLD_TREE, "cut_prl": TREE[:-1]}
+    files = {"a_rec": A, "b_rec": B, "cut_rec": b"\0", "abc_prl": TREE, "old_prl": OLD_TREE, "cut_prl": TREE[:-1], "turned_prl": TURNED}
     place.lay(**files)
     return files
 

@@ -41,9 +41,11 @@ KINDS = {
     "pack": "record file",
     "dump": "record file",
     "dump --hex": "file of lines",
+    "dump --root": "record file",
     "diff": "record file",
     "diff --stat": "record file",
     "prove": "proof",
+    "prove --root": "proof",
 }
 """What each command writes."""
 
