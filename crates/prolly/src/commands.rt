@@ -77,7 +77,14 @@ fn answer_or_refusal<T: Wait + Threads + Clock + Sync>(
             build::build_from(rt, threads, &config, &out, &files, quiet, mode)
         }
         Command::Explain { file, notation } => report::explain(rt, file, notation),
-        Command::Check { file } => report::check(rt, &on_all_processors(threads), file),
+        Command::Check {
+            file,
+            root,
+            version,
+        } => {
+            let version = Version::of(version).unwrap();
+            report::check(rt, &on_all_processors(threads), &file, root, version)
+        }
         Command::Stat {
             file,
             json,

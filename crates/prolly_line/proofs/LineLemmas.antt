@@ -139,7 +139,7 @@ limits_kept given (Ok command) fields = go command fields
     go (Build bits stages capacity max_records batch version out files quiet mode) h =
         (h.1.2, h.2.1, h.2.2, h.3.1, h.3.2, h.4.1, h.4.2, h.5.1, h.5.2, h.6.1, h.6.2)
     go (Explain file notation) h = tt
-    go (Check file) h = tt
+    go (Check file root version) h = lawful_trust given.1 root version h.2
     go (Stat file json notation) h = tt
     go (Get file key root version notation) h =
         (h.2.1.2.1, lawful_trust given.1 root version h.3)

@@ -149,6 +149,7 @@ unfolding clap_on_literals check_shape
 check_sound = all_sound check_shape.rules refl
 
 pub record TakesCheck (rows : List Row) : Type 0 where
+  pub format : HasNumber (codes "format") 1 2 rows
   pub file : HasWord (codes "file") rows
 
 pub takes_check : (rows : List Row) → IsAccepted (codes "check", rows) → TakesCheck rows
@@ -156,6 +157,7 @@ unfolding clap_on_literals check_shape
 takes_check rows accepted =
     let level = level_at (codes "check") check_shape rows check_found accepted in
     record {
+      format = number_at check_shape rows (codes "format") 1 2 check_sound level refl refl;
       file = word_at check_shape rows (codes "file") check_sound level refl refl;
     }
 

@@ -152,8 +152,10 @@ HasFields (Explain file notation) given =
     (given.0 ≡ codes "explain")
     × GivesWord given.1 (codes "file") (string_bytes file)
     × GivesNotation given.1 notation
-HasFields (Check file) given =
-    (given.0 ≡ codes "check") × GivesWord given.1 (codes "file") (string_bytes file)
+HasFields (Check file root version) given =
+    (given.0 ≡ codes "check")
+    × GivesWord given.1 (codes "file") (string_bytes file)
+    × GivesTrust given.1 root version
 HasFields (Stat file json notation) given =
     (given.0 ≡ codes "stat")
     × GivesWord given.1 (codes "file") (string_bytes file)
@@ -229,7 +231,7 @@ IsWithinLimits (Build bits stages capacity max_records batch version out files q
     × (1 ≤ batch) × (batch ≤ 1024)
     × (1 ≤ version) × (version ≤ 2)
 IsWithinLimits (Explain file notation) = ⊤
-IsWithinLimits (Check file) = ⊤
+IsWithinLimits (Check file root version) = IsLawfulTrust root version
 IsWithinLimits (Stat file json notation) = ⊤
 IsWithinLimits (Get file key root version notation) =
     (length key.items ≤ 1024) × IsLawfulTrust root version
@@ -249,7 +251,7 @@ IsWithinLimits (Verify root key version proof notation) =
 -- the subcommand reads a chunk file, and may be given a root
 abbrev pub MayTakeRoot : Text → Type 0
 MayTakeRoot name = (name ≡ codes "get") ⊎ (name ≡ codes "scan") ⊎ (name ≡ codes "nth")
-    ⊎ (name ≡ codes "prove") ⊎ (name ≡ codes "dump")
+    ⊎ (name ≡ codes "prove") ⊎ (name ≡ codes "dump") ⊎ (name ≡ codes "check")
 
 -- the subcommand takes a root, or may be given one
 abbrev pub TakesRoot : Text → Type 0

@@ -164,9 +164,9 @@ build_line = with_rule (with_rule (with_mode
 abbrev pub explain_line : App
 explain_line = with_rule (with_rule (new_app (codes "explain")) text_flag) file_word
 
--- `check FILE`
+-- `check [--root ROOT] [--format V] FILE`
 abbrev pub check_line : App
-check_line = with_rule (new_app (codes "check")) file_word
+check_line = with_trust (with_rule (new_app (codes "check")) file_word)
 
 -- `stat [--text] [--json] FILE`
 abbrev pub stat_line : App

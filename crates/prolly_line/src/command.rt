@@ -64,9 +64,12 @@ pub enum Command {
         file: String,
         notation: Notation,
     },
-    /// Say whether a file is a lawful chunk file.
+    /// Say whether a file is a lawful chunk file. The root and the version say the same as for
+    /// `Get`.
     Check {
         file: String,
+        root: Option<Ref>,
+        version: u8,
     },
     /// Print the numbers of a chunk file or of a record file: where `json` is set, in a line of
     /// JSON, in which keys are in hexadecimal, and then the notation is ignored.

@@ -89,13 +89,18 @@ pub(crate) fn explain(alloc: Global, given: &ArgMatches<'_>) -> Result<Command, 
     Ok(Command::Explain { file, notation })
 }
 
-/// `check FILE`
+/// `check [--root ROOT] [--format V] FILE`
 pub(crate) fn check(alloc: Global, given: &ArgMatches<'_>) -> Result<Command, ParseFault>
     requires { IsAccepted (codes "check", rows_in given.now) }
     ensures { Answers (codes "check", rows_in given.now) result }
 {
+    let (root, version) = trust_of(given)?;
     let file = text_of(alloc, given, "file")?;
-    Ok(Command::Check { file })
+    Ok(Command::Check {
+        file,
+        root,
+        version,
+    })
 }
 
 /// `stat [--text] [--json] FILE`

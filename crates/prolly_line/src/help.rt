@@ -156,9 +156,19 @@ pub(crate) const CHECK: Help<'static> = Help {
     details: "Reads a chunk file from end to end and says whether it is lawful: whether it is
 the one chunk file of its contents, to the byte.
 
-Prints `ok`, the text of the root, the number of --bits and that of chunks.",
-    example: "Example:
-  prolly check ab.prl",
+Prints `ok`, the text of the root, the number of --bits and that of chunks.
+
+Without --root the file is read whole: no file over 1 GiB is read, and --format
+is ignored. It may have any root, and no two of its chunks may have one
+reference.
+
+With --root the file may be of any size, and FILE may be a pipe: it is compared
+with the file of its own pairs while it is read, and takes the memory of a few
+chunks. What is told is the first place where it is another one; and a file
+whose root is not ROOT is refused.",
+    example: "Examples: a file, and one of any size whose root is known
+  prolly check ab.prl
+  prolly check --root nu05v9k058pmjdu7s5312ho13geggue6 days.prl",
 };
 
 pub(crate) const STAT: Help<'static> = Help {

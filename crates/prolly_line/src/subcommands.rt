@@ -133,11 +133,12 @@ pub(crate) fn explain_line<'a>(alloc: Global) -> Result<Command<'a>, AllocError>
     with_argument(line, arguments::file_word(alloc, "The record file"))
 }
 
-/// `check FILE`
+/// `check [--root ROOT] [--format V] FILE`
 pub(crate) fn check_line<'a>(alloc: Global) -> Result<Command<'a>, AllocError>
     ensures { IfOk result (HasCommandLine check_line) }
 {
-    described(alloc, "check", help::CHECK).arg(arguments::file_word(alloc, CHUNK_FILE))
+    let file = arguments::file_word(alloc, CHUNK_FILE);
+    with_trust(alloc, described(alloc, "check", help::CHECK).arg(file))
 }
 
 /// `stat [--text] [--json] FILE`

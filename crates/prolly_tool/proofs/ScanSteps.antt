@@ -398,6 +398,8 @@ stop_cases d v r l n took until (faults.Run f) lists goal a b t = absurd t
 stop_cases d v r l n took until (faults.Pack f) lists goal a b t = absurd t
 stop_cases d v r l n took until (faults.Check f) lists goal a b t =
     absurd t
+stop_cases d v r l n took until (faults.Stream f) lists goal a b t =
+    absurd t
 stop_cases d v r l n took until (faults.CheckOld f) lists goal a b t =
     absurd t
 stop_cases d v r l n took until (faults.CheckNew f) lists goal a b t =

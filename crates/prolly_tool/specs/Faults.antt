@@ -3,7 +3,9 @@ use Rattle.std.specs.Prelude.{ℕ, List, [], ◌∷◌, ◌++◌, codes}
 use Rattle.prolly_link.specs.FaultTexts.{run_text}
 use Rattle.prolly_link.specs.declared.fault.RunFault.{RunFault}
 use Rattle.prolly_link.specs.declared.fault.RunFault.TheVariants as runs
-use Rattle.prolly_check.specs.FaultTexts.{check_fault_text}
+use Rattle.prolly_check.specs.FaultTexts.{check_fault_text, stream_fault_text}
+use Rattle.prolly_check.specs.declared.stream.fault.StreamFault.{StreamFault}
+use Rattle.prolly_check.specs.declared.stream.fault.StreamFault.TheVariants as streams
 use Rattle.prolly_check.specs.declared.verdict.fault.CheckFault.{CheckFault}
 use Rattle.prolly_check.specs.declared.verdict.fault.CheckFault.TheVariants as checks
 use Rattle.prolly_root.specs.FaultTexts.{proof_fault_text, root_fault_text}
@@ -19,7 +21,7 @@ use Rattle.prolly_tool.specs.declared.faults.fault.Fault.TheVariants.{BadTextKey
 use Rattle.prolly_tool.specs.declared.faults.fault.Fault.TheVariants.{NotUnicode}
 use Rattle.prolly_tool.specs.declared.faults.fault.Fault.TheVariants.{OutIsStdout, CheckOld}
 use Rattle.prolly_tool.specs.declared.faults.fault.Fault.TheVariants.{CheckNew}
-use Rattle.prolly_tool.specs.declared.faults.fault.Fault.TheVariants.{Proof, Root, BadRoot}
+use Rattle.prolly_tool.specs.declared.faults.fault.Fault.TheVariants.{Proof, Root, BadRoot, Stream}
 use Rattle.prolly_text.specs.LinesFaults.{lines_text}
 
 -- What is said of one of two files, which is told first; want of memory is no file's fault.
@@ -35,6 +37,7 @@ fault_text Write = codes "write failed"
 fault_text (Run fault) = run_text fault
 fault_text (Pack fault) = lines_text fault
 fault_text (Check fault) = check_fault_text fault
+fault_text (Stream fault) = stream_fault_text fault
 fault_text (CheckOld fault) = side_fault_text (codes "old ") fault
 fault_text (CheckNew fault) = side_fault_text (codes "new ") fault
 fault_text (Proof fault) = proof_fault_text fault
@@ -77,6 +80,11 @@ check_status (checks.NotCanonical chunk) = 4
 check_status checks.BadEnd = 4
 check_status (checks.Collision chunk) = 4
 
+abbrev pub stream_status : StreamFault → ℕ
+stream_status (streams.Check fault) = check_status fault
+stream_status streams.Version = 4
+stream_status streams.OtherRoot = 4
+
 abbrev pub root_status : RootFault → ℕ
 root_status roots.Memory = 6
 root_status roots.Read = 5
@@ -102,6 +110,7 @@ fault_status (Pack (lines.BadText line)) = 3
 fault_status (Pack (lines.Pack (packs.KeyTooLong line))) = 3
 fault_status (Pack (lines.Pack (packs.ValueTooLong line))) = 3
 fault_status (Check fault) = check_status fault
+fault_status (Stream fault) = stream_status fault
 fault_status (CheckOld fault) = check_status fault
 fault_status (CheckNew fault) = check_status fault
 fault_status (Proof fault) = 4

@@ -15,7 +15,11 @@ use Rattle.prolly_tree.specs.File.{root_reference}
 use Rattle.prolly_tree.specs.LookUp.{find, nth, scan}
 use Rattle.prolly_file.specs.Source.{SourceView}
 use Rattle.prolly_check.specs.Content.{Content}
+use Rattle.prolly_check.specs.FirstFlaw.{IsFileOfRoot, IsStreamFault}
 use Rattle.prolly_check.specs.Verdict.{IsRefusal, IsFileOf}
+use Rattle.prolly_check.specs.declared.stream.fault.StreamFault.{StreamFault}
+use Rattle.prolly_check.specs.declared.stream.fault.StreamFault.TheVariants as streams
+use Rattle.prolly_check.specs.declared.stream.root_checker.RootReport.{RootReport}
 use Rattle.prolly_check.specs.declared.verdict.fault.CheckFault.{CheckFault}
 use Rattle.prolly_check.specs.declared.verdict.fault.CheckFault.TheVariants.{Read}
 use Rattle.prolly_root.specs.declared.root_fault.RootFault.{RootFault}
@@ -25,19 +29,31 @@ use Rattle.prolly_tool.specs.Answers.{Shows, ShowsLine, ShowsNothing, ShowsFault
 use Rattle.prolly_tool.specs.Input.{IsReadWhole}
 use Rattle.prolly_tool.specs.declared.answers.answer.Answer.{Answer}
 use Rattle.prolly_tool.specs.declared.faults.fault.Fault.{Fault}
-use Rattle.prolly_tool.specs.declared.faults.fault.Fault.TheVariants.{Check, Root, NoCounts}
+use Rattle.prolly_tool.specs.declared.faults.fault.Fault.TheVariants.{Check, Root, NoCounts, Stream}
 
 -- How many bytes a chunk file has at most that a command reads.
 abbrev pub file_limit : ℕ
 file_limit = 1073741824
 
+-- The line of a file with this root, and so many bits and chunks.
+abbrev pub ok_text : List ℕ → ℕ → ℕ → List ℕ
+ok_text root bits count =
+    codes "ok " ++ reference_text root ++ 0x20 ∷ decimal bits ++ 0x20 ∷ decimal count
+
 -- The line of a file that is lawful: `ok`, the text of the root, the numbers of bits and of chunks.
 abbrev pub check_text : Content → List ℕ
-check_text content =
-    codes "ok " ++ reference_text (root_reference (sha512_cut content.bits) content.version
-    content.pairs)
-    ++ 0x20 ∷ decimal content.bits ++ 0x20 ∷ decimal
+check_text content = ok_text
+    (root_reference (sha512_cut content.bits) content.version content.pairs) content.bits
     (length (chunks (sha512_cut content.bits) content.version content.pairs))
+
+-- The file is that of a map with this root, which the line says; or the answer shows why it is not,
+-- and where a read failed, just that.
+abbrev pub IsCheckByRoot : Version → List ℕ → List ℕ → Type 0 → Answer → Type 0
+IsCheckByRoot version root bytes failed answer =
+    ((report : RootReport) × IsFileOfRoot version root bytes report × (¬ failed) ×
+    ShowsLine answer (ok_text root report.bits report.chunks))
+    ⊎ ((fault : StreamFault) × IsStreamFault version root bytes fault ×
+    ((fault ≡ streams.Check Read) ↔ failed) × ShowsFault answer (Stream fault))
 
 -- A key and its value in this notation.
 abbrev pub pair_text : Notation → Pair → List ℕ

@@ -17,7 +17,7 @@ mod stat;
 
 pub use answer::Answer;
 pub use build::answer_build;
-pub use check::{answer_check, answer_check_by};
+pub use check::{answer_check, answer_check_by, answer_check_by_root};
 pub use diff::answer_diff;
 pub use dump::answer_dump;
 pub use explain::answer_explain;

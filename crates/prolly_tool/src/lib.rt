@@ -8,11 +8,11 @@ pub mod laws;
 mod lines;
 
 pub use answers::{
-    Answer, RootScan, StatForm, Stated, answer_build, answer_check, answer_check_by, answer_diff,
-    answer_dump, answer_dump_by_root, answer_explain, answer_found, answer_found_pair, answer_get,
-    answer_get_in, answer_nth, answer_nth_in, answer_pack, answer_pack_in, answer_prove,
-    answer_prove_by_root, answer_scan, answer_scan_by_root, answer_scan_in, answer_scratch,
-    answer_stat, answer_verify,
+    Answer, RootScan, StatForm, Stated, answer_build, answer_check, answer_check_by,
+    answer_check_by_root, answer_diff, answer_dump, answer_dump_by_root, answer_explain,
+    answer_found, answer_found_pair, answer_get, answer_get_in, answer_nth, answer_nth_in,
+    answer_pack, answer_pack_in, answer_prove, answer_prove_by_root, answer_scan,
+    answer_scan_by_root, answer_scan_in, answer_scratch, answer_stat, answer_verify,
 };
 pub use faults::{Fault, NameFault, OutputFault};
 pub use input::INPUT_LIMIT;

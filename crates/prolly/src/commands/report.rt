@@ -2,7 +2,10 @@
 use crate::inputs::{Input, chunk_file};
 use crate::refusal::Refusal;
 use prolly_check::ChunkHasher;
-use prolly_tool::{Answer, Notation, StatForm, answer_check_by, answer_explain, answer_stat};
+use prolly_entry::{Ref, Version};
+use prolly_tool::{
+    Answer, Notation, StatForm, answer_check_by, answer_check_by_root, answer_explain, answer_stat,
+};
 
 /// `explain [--text] FILE`
 pub fn explain(rt: &HostRuntime, file: String, notation: Notation) -> Result<Answer, Refusal> {
@@ -10,12 +13,27 @@ pub fn explain(rt: &HostRuntime, file: String, notation: Notation) -> Result<Ans
     Ok(answer_explain(rt.alloc(), &mut source, notation)?)
 }
 
-/// `check FILE`
-pub fn check<H: ChunkHasher>(rt: &HostRuntime, hasher: &H, file: String) -> Result<Answer, Refusal>
+/// `check [--root ROOT] [--format V] FILE`. With a root the file may be of any size.
+pub fn check<H: ChunkHasher>(
+    rt: &HostRuntime,
+    hasher: &H,
+    file: &str,
+    root: Option<Ref>,
+    version: Version,
+) -> Result<Answer, Refusal>
     requires { H.can_hash hasher.now }
 {
-    let mut source = chunk_file(rt, &file)?;
-    Ok(answer_check_by(hasher, rt.alloc(), &mut source)?)
+    let alloc = rt.alloc();
+    match root {
+        None => {
+            let mut source = chunk_file(rt, file)?;
+            Ok(answer_check_by(hasher, alloc, &mut source)?)
+        }
+        Some(root) => {
+            let mut source = Input::open(rt, file)?.into_source();
+            Ok(answer_check_by_root(hasher, alloc, &mut source, version, &root)?)
+        }
+    }
 }
 
 /// `stat [--json] [--text] FILE`. Of the two kinds of files a chunk file is read whole.

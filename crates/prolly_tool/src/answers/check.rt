@@ -1,15 +1,19 @@
 //! The command `check`: whether a file is a lawful chunk file.
-ghost use Rattle.std.specs.Prelude.{◌≡◌, IfOk};
+ghost use Rattle.std.specs.Prelude.{◌≡◌, ◌≢◌, true, IfOk};
 ghost use Rattle.prolly_check.specs.Content.{Content};
 ghost use Rattle.prolly_check.specs.Verdict.{IsFileOf};
-ghost use Rattle.prolly_tool.specs.LookUps.{AnswersFailedRead, AnswersLookUp, ShowsCheck};
-ghost use Rattle.prolly_tool.specs.LookUps.{check_text};
+ghost use Rattle.prolly_tool.specs.Answers.{ShowsFault};
+ghost use Rattle.prolly_tool.specs.LookUps.{AnswersFailedRead, AnswersLookUp, IsCheckByRoot};
+ghost use Rattle.prolly_tool.specs.LookUps.{ShowsCheck, check_text, ok_text};
 
 use crate::answers::answer::Answer;
 use crate::faults::Fault;
 use crate::input::INPUT_LIMIT;
 use crate::lines::append_number;
-use prolly_check::{ChunkHasher, OneThread, Tree, check_by};
+use prolly_check::{
+    CheckFault, ChunkHasher, OneThread, StreamFault, Tree, check_by, check_by_root,
+};
+use prolly_entry::{Ref, Version};
 use prolly_file::Source;
 use std::alloc::{AllocError, Global};
 
@@ -44,14 +48,48 @@ pub fn answer_check<S: Source>(alloc: Global, source: &mut S) -> Result<Answer, 
     answer_check_by(&OneThread, alloc, source)
 }
 
+/// What `check` answers to who names the root: the same line as [`answer_check_by`], where the bytes
+/// of the source are the chunk file of a map whose root this is, of this version; else the line of
+/// the first flaw in the order of the bytes, or of another root. The source may have any size: see
+/// [`check_by_root`]. An `Err` is want of memory for the answer's own text.
+pub fn answer_check_by_root<H: ChunkHasher, S: Source>(
+    hasher: &H,
+    alloc: Global,
+    source: &mut S,
+    version: Version,
+    root: &Ref,
+) -> Result<Answer, AllocError>
+    requires { H.can_hash hasher.now }
+    ensures shown { (S.seen source.old).is_honest ≡ true → IfOk result (IsCheckByRoot version
+        root.now.0 (S.seen source.old).left
+        ((S.seen source.new).failures ≢ (S.seen source.old).failures)) }
+    ensures read { (S.seen source.new).failures ≢ (S.seen source.old).failures →
+        IfOk result (λ answer. ShowsFault answer (Fault.Stream (StreamFault.Check
+        CheckFault.Read))) }
+{
+    let report = match check_by_root(hasher, alloc, source, version, root) {
+        Ok(report) => report,
+        Err(fault) => return Answer::of_fault(alloc, Fault::Stream(fault)),
+    };
+    let line = text_of(alloc, root, report.bits, report.chunks)?;
+    Answer::of_line(alloc, &line)
+}
+
 fn line_of(alloc: Global, tree: &Tree) -> Result<Vec<u8>, AllocError>
     ensures { IfOk result (λ line. (content : Content) → IsFileOf tree.now content →
         line.items ≡ check_text content) }
 {
+    text_of(alloc, &tree.root(), tree.bits(), tree.chunks())
+}
+
+/// The line of a lawful file with this root, and so many bits and chunks.
+fn text_of(alloc: Global, root: &Ref, bits: u8, chunks: u64) -> Result<Vec<u8>, AllocError>
+    ensures { IfOk result (λ line. line.items ≡ ok_text root.now.0 bits chunks) }
+{
     let mut line = Vec::new(alloc);
     line.extend_from_slice(b"ok ")?;
-    line.extend_from_slice(&tree.root().to_text())?;
-    append_number(alloc, &mut line, u64::from(tree.bits()))?;
-    append_number(alloc, &mut line, tree.chunks())?;
+    line.extend_from_slice(&root.to_text())?;
+    append_number(alloc, &mut line, u64::from(bits))?;
+    append_number(alloc, &mut line, chunks)?;
     Ok(line)
 }

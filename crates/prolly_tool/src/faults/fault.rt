@@ -1,9 +1,9 @@
 //! The faults of commands, each with its line and its status.
 ghost use Rattle.std.specs.Prelude.{◌≡◌, Some};
 ghost use Rattle.prolly_tool.specs.Faults.{fault_text, check_status, root_status, run_status};
-ghost use Rattle.prolly_tool.specs.Faults.{fault_status, side_fault_text};
+ghost use Rattle.prolly_tool.specs.Faults.{fault_status, side_fault_text, stream_status};
 
-use prolly_check::CheckFault;
+use prolly_check::{CheckFault, StreamFault};
 use prolly_file::SinkFault;
 use prolly_link::RunFault;
 use prolly_root::{ProofFault, RootFault};
@@ -28,6 +28,8 @@ pub enum Fault {
     Pack(LinesFault),
     /// A file is no lawful chunk file.
     Check(CheckFault),
+    /// A file is not that of the tree of a root.
+    Stream(StreamFault),
     /// The old file of two is no lawful chunk file.
     CheckOld(CheckFault),
     /// The new file of two is no lawful chunk file.
@@ -64,6 +66,7 @@ impl Fault {
             Fault::Check(fault) | Fault::CheckOld(fault) | Fault::CheckNew(fault) => {
                 check_status(fault)
             }
+            Fault::Stream(fault) => stream_status(fault),
             Fault::Root(fault) => root_status(fault),
             Fault::Proof(_) | Fault::NoCounts => 4,
             Fault::Read | Fault::Write | Fault::InputTooLong | Fault::OutIsStdout => 5,
@@ -122,6 +125,15 @@ fn check_status(fault: CheckFault) -> u8
     }
 }
 
+fn stream_status(fault: StreamFault) -> u8
+    ensures { result ≡ stream_status fault }
+{
+    match fault {
+        StreamFault::Check(fault) => check_status(fault),
+        _ => 4,
+    }
+}
+
 fn root_status(fault: RootFault) -> u8
     ensures { result ≡ root_status fault }
 {
@@ -159,6 +171,7 @@ impl Display for Fault {
             Fault::Run(fault) => fault.fmt(f),
             Fault::Pack(fault) => fault.fmt(f),
             Fault::Check(fault) => fault.fmt(f),
+            Fault::Stream(fault) => fault.fmt(f),
             Fault::CheckOld(fault) => SideText("old ", *fault).fmt(f),
             Fault::CheckNew(fault) => SideText("new ", *fault).fmt(f),
             Fault::Proof(fault) => fault.fmt(f),

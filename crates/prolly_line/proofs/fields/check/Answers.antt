@@ -4,3 +4,6 @@ use Rattle.prolly_line.proofs.fields.check.Goals as goal
 
 pub text_of-requires : goal.text_of-requires
 text_of-requires c = (takes_check (rows_in c.args.given.now) c.requires).file
+
+pub trust_of-requires : goal.trust_of-requires
+trust_of-requires c = (takes_check (rows_in c.args.given.now) c.requires).format
