@@ -1,4 +1,4 @@
-use Rattle.std.proofs.Common.{◌<◌, length, arith, sym, ap, ◌∙◌}
+use Rattle.std.proofs.Common.{length, arith, sym, ap, ◌∙◌}
 use Rattle.prolly_entry.specs.Pair.{Pair}
 use Rattle.prolly_tree.specs.Tree.{last_key}
 use Rattle.prolly_check.proofs.EntryLists.{at_end, key_at_end, none_behind, one_behind}
