@@ -41,11 +41,25 @@ pub record AreApart {A : Type 0} (spelling : A → List ℕ) (Lawful : A → Typ
   pub rests : (a b : A) (x y : List ℕ) → Lawful a → Lawful b → spelling a ++ x ≡ spelling b ++ y →
       x ≡ y
 
+pub drop_front : (xs ys : List ℕ) (n : ℕ) → n ≡ length xs → drop n (xs ++ ys) ≡ ys
+drop_front [] ys n e = ap (λ m. drop m ys) e
+drop_front (x ∷ xs) ys n e = ap (λ m. drop m (x ∷ xs ++ ys)) e ∙ drop_front xs ys (length xs) refl
+
 module _ {A : Type 0} (spelling : A → List ℕ) (Lawful : A → Type 0)
     (apart : AreApart spelling Lawful) where
   pub shorter : (bytes rest : List ℕ) (entry : A) → BeginsWith spelling Lawful bytes entry rest →
       length rest < length bytes
   shorter bytes rest entry b = grind (arith, length-append)
+
+  pub behind_first : (bytes rest : List ℕ) (entry : A) →
+      BeginsWith spelling Lawful bytes entry rest → rest ≡ drop (length bytes - length rest) bytes
+  behind_first bytes rest entry b =
+      let size = length bytes - length rest in
+      sym (ap (drop size) b.is ∙ drop_front (spelling entry) rest size (omega (
+        arith,
+        ap length b.is,
+        length-append (spelling entry) rest,
+      )))
 
   pub one_more : (bytes rest : List ℕ) (entry : A) → BeginsWith spelling Lawful bytes entry rest →
       AreEntries spelling Lawful rest → AreEntries spelling Lawful bytes
@@ -116,10 +130,6 @@ module _ {B : Type 0} (first : List ℕ → B) (behind : List ℕ → List ℕ) 
         entries_in first behind bytes ≡ first bytes ∷ entries_in first behind (behind bytes)
     first_in [] h = absurd (omega arith)
     first_in (b ∷ bytes) h = grind (arith, enough)
-
-pub drop_front : (xs ys : List ℕ) (n : ℕ) → n ≡ length xs → drop n (xs ++ ys) ≡ ys
-drop_front [] ys n e = ap (λ m. drop m ys) e
-drop_front (x ∷ xs) ys n e = ap (λ m. drop m (x ∷ xs ++ ys)) e ∙ drop_front xs ys (length xs) refl
 
 -- the functions read an entry from its spelling, and leave what is behind it
 pub record Reads {B : Type 0} (first : List ℕ → B) (behind : List ℕ → List ℕ) (spelled : List ℕ)
@@ -278,14 +288,8 @@ module _ (version : Version) (entries rest : List ℕ) (c : Child)
   pub node_less : IsNode version entries [] → IsNode version rest []
   node_less n = search (rules, some_node, one_less, node_apart)
 
-  pub behind_first : rest ≡ drop (length entries - length rest) entries
-  behind_first =
-      let size = length entries - length rest in
-      sym (ap (drop size) b.is ∙ drop_front (entry_of version c) rest size (omega (
-        arith,
-        ap length b.is,
-        length-append (entry_of version c) rest,
-      )))
+  pub child_behind : rest ≡ drop (length entries - length rest) entries
+  child_behind = behind_first (entry_of version) IsChild (node_apart version) entries rest c b
 
 pub node_left : (version : Version) (entries : List ℕ) → NoChildAt version entries →
     IsNode version entries [] → entries ≡ []

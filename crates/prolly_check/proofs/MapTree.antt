@@ -15,7 +15,7 @@ use Rattle.prolly_tree.specs.Split.{split}
 use Rattle.prolly_tree.specs.Tree.{Tree, pairs_below, tree_of, grow, LeveledTree}
 use Rattle.prolly_tree.specs.Tree.{bytes_of, child_entry, last_key}
 use Rattle.prolly_tree.specs.lemmas.Maps.{Rises, rises, rises_front, rises_back}
-use Rattle.prolly_tree.specs.lemmas.Maps.{Above, HasKey, above_key, has_last}
+use Rattle.prolly_tree.specs.lemmas.Maps.{Above, HasKey, above_key, above_last, has_last}
 use Rattle.prolly_tree.specs.lemmas.Trees.{in_front, in_back, Full, full_pairs}
 use Rattle.prolly_laws.specs.Trees.{tree_full, pairs_are}
 use Rattle.prolly_file.specs.Scratch.{keys_in}
@@ -29,7 +29,7 @@ use Rattle.prolly_check.specs.Way.{entry_keys}
 use Rattle.prolly_check.specs.Kinds.Entries.{Leaf, Node}
 use Rattle.prolly_check.proofs.EntryLists.{as_read, children_read, leaf_pairs}
 use Rattle.prolly_check.proofs.HeldPairs.{all_children, child_below, entries_are, top_is_whole}
-use Rattle.prolly_check.proofs.PairsFrom.{rising_is, above_last}
+use Rattle.prolly_check.proofs.PairsFrom.{rising_is}
 
 -- ---- the trees of a map
 

@@ -17,7 +17,7 @@ use Rattle.prolly_entry.specs.lemmas.Orders.{order_trans, order_same, greater_be
 use Rattle.prolly_tree.specs.LookUp.{find}
 use Rattle.prolly_tree.specs.Tree.{last_key}
 use Rattle.prolly_tree.specs.lemmas.Maps.{Above, Rises, rises_front, rises_back, above_more}
-use Rattle.prolly_tree.specs.lemmas.Maps.{find_above}
+use Rattle.prolly_tree.specs.lemmas.Maps.{above_last, find_above}
 use Rattle.prolly_file.specs.Scratch.{keys_in}
 use Rattle.prolly_check.specs.Leaves.{pairs_from}
 use Rattle.prolly_check.specs.ScanWay.{next_key, AreFirstFrom}
@@ -40,11 +40,6 @@ pub find_first : (xs ys : List Pair) (key : List ℕ) → find ys key ≡ None �
     find (xs ++ ys) key ≡ find xs key
 find_first [] ys key h = h
 find_first (p ∷ xs) ys key h = search (rules, find_first xs ys key h)
-
-pub above_last : (ps ys : List Pair) → 0 < length ps → Rises (ps ++ ys) → Above (last_key ps) ys
-above_last [] ys some h = absurd (omega arith)
-above_last (p ∷ []) ys some h = h.0
-above_last (p ∷ q ∷ ps) ys some h = above_last (q ∷ ps) ys (omega arith) h.1
 
 pub above_not : (x key : List ℕ) (ps : List Pair) → is_lt (key_order x key) ≡ false → Above x ps →
     Above key ps

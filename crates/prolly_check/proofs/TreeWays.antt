@@ -3,28 +3,25 @@ use Rattle.std.proofs.Common.{rules, ◌≡◌, ℕ, inl, inr, ◌⊎◌, List, 
 use Rattle.std.proofs.Common.{subst, arith, append_assoc, append-nil, zero, suc}
 use Rattle.std.specs.List.{AllByRecursion, flat_map}
 use Rattle.std.specs.Prelude.{option_map}
-use Rattle.std.specs.Str.{bytes_eq}
-use Rattle.std.proofs.lemmas.Bool.{cases_Bool, false≢true}
 use Rattle.std.proofs.lemmas.Grind.{common_steps}
 use Rattle.std.proofs.lemmas.List.{length-append}
 use Rattle.std.proofs.lemmas.List.Concat.{flat_map-append}
 use Rattle.std.proofs.lemmas.Option.{slice_get_past}
-use Rattle.std.proofs.lemmas.Slice.Eq.{bytes_eq-Decides}
 use Rattle.prolly_entry.specs.Cut.{sha512_cut}
 use Rattle.prolly_entry.specs.Pair.{Pair, IsPair}
 use Rattle.prolly_entry.specs.Reference.{reference_of}
 use Rattle.prolly_entry.specs.declared.version.Version.{Version}
 use Rattle.prolly_entry.specs.declared.version.Version.TheVariants.{Two}
 use Rattle.prolly_entry.specs.lemmas.Lists.{all_append}
-use Rattle.prolly_tree.specs.Chunk.{IsIn, chunk_of}
+use Rattle.prolly_tree.specs.Chunk.{IsIn}
 use Rattle.prolly_tree.specs.Difference.{IsMap}
 use Rattle.prolly_tree.specs.File.{root_reference}
 use Rattle.prolly_tree.specs.LookUp.{find, nth}
 use Rattle.prolly_tree.specs.Tree.{Tree, pairs_below, bytes_of, tree_of}
 use Rattle.prolly_tree.specs.lemmas.Maps.{Rises, rises}
 use Rattle.prolly_tree.specs.lemmas.Trees.{in_back, in_front}
-use Rattle.prolly_laws.specs.Trees.{pairs_are, top_in}
-use Rattle.prolly_check.specs.Descent.{HasTree, IsTreeOf}
+use Rattle.prolly_laws.specs.Trees.{pairs_are}
+use Rattle.prolly_check.specs.Descent.{IsTreeOf}
 use Rattle.prolly_check.specs.HeldPairs.{pairs_held}
 use Rattle.prolly_check.specs.FirstFault.{chunk_bytes}
 use Rattle.prolly_check.specs.Kinds.{kind_of}
@@ -35,6 +32,7 @@ use Rattle.prolly_check.specs.Sought.{Sought, EndsAt, LeadsOn, child_sought, ref
 use Rattle.prolly_check.specs.Sought.Sought.{Key, Number}
 use Rattle.prolly_check.specs.Way.{nth_sought, Clash, CountWaysAreRight, IsNamed, IsWayTo, Lead}
 use Rattle.prolly_check.specs.Way.{WaysAreRight}
+use Rattle.prolly_check.specs.lemmas.Clashes.{top_or_clash}
 use Rattle.prolly_check.proofs.Chosen.{AllPast, CanCount, ChosenIn, Has, IsPast, chosen}
 use Rattle.prolly_check.proofs.Chosen.{none_chosen, past_more, past_none}
 use Rattle.prolly_check.proofs.MapTree.{child_is, root_is, children_are, own_pairs}
@@ -122,25 +120,6 @@ tells_none sought there m pairs s all =
 -- ---- the ways of look-ups down a tree, for who knows the root alone
 
 module _ (version : Version) (cs : List (List ℕ)) where
-  -- a chunk that has the reference of a tree's top is that, or shows a clash
-  top_or_clash : (level : ℕ) (t : Tree level) (chunk : List ℕ) (chunks : List (List ℕ)) →
-      HasTree version cs level t → IsIn chunk chunks →
-      reference_of chunk ≡ reference_of (bytes_of version level t) →
-      (chunk ≡ bytes_of version level t) ⊎ Clash chunks cs
-  top_or_clash level t chunk chunks has is_in same =
-      let top = bytes_of version level t in
-      elim (cases_Bool (bytes_eq chunk top)) [
-        | inl e ↦ inl ((bytes_eq-Decides chunk top).0 e)
-        | inr e ↦ inr (record {
-          one = chunk;
-          other = top;
-          in_one = is_in;
-          in_other = has (chunk_of version level t) (top_in version level t);
-          differ = λ f. false≢true (sym e ∙ (bytes_eq-Decides chunk top).1 f);
-          same = same;
-        })
-      ]
-
   lifted : (chunk : List ℕ) (chunks : List (List ℕ)) → Clash chunks cs → Clash (chunk ∷ chunks) cs
   lifted chunk chunks c = grind arith
 
@@ -201,7 +180,7 @@ module _ (version : Version) (cs : List (List ℕ)) where
         Lead version there from before reference end → IsNamed version reference last →
         EndsAt end (kind_of version last) → Right end (before ++ last ∷ []) (pairs_held last)
     right rising [] last reference from there end level t is at lead named ends =
-        elim (top_or_clash level t last (last ∷ []) at.of.has (inl refl)
+        elim (top_or_clash version cs level t last (last ∷ []) at.of.has (inl refl)
         (named.is ∙ sym lead.0 ∙ is)) [
           | inl e ↦ inl (subst (λ c. Tells sought m end (pairs_held c)) (sym e)
               (subst (λ s. Tells sought m s (pairs_held (bytes_of version level t))) lead.1
@@ -211,7 +190,7 @@ module _ (version : Version) (cs : List (List ℕ)) where
           | inr clash ↦ inr clash
         ]
     right rising (chunk ∷ before) last reference from there end level t is at lead named ends =
-        elim (top_or_clash level t chunk (chunk ∷ (before ++ last ∷ [])) at.of.has (inl refl)
+        elim (top_or_clash version cs level t chunk (chunk ∷ (before ++ last ∷ [])) at.of.has (inl refl)
         (lead.0.is ∙ is)) [
           | inl e ↦
               let to = goes_to there lead.2 lead.1 level t at

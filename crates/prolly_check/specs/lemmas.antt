@@ -1,5 +1,7 @@
 -- Lemmas for the crates above, by subject: what a proof may use of ways and of chunks.
 -- Where a look-up goes on, and where it ends.
 pub mod Ways
+-- Chunks that have the reference of another one.
+pub mod Clashes
 -- Chunks of which no two have one reference.
 pub mod Chunks

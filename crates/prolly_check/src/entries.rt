@@ -62,7 +62,7 @@ impl<'a> Pairs<'a> {
             (length next.0.now ≤ 1024) × (length next.1.now ≤ 65536)) }
         ensures none { IfNone result (self.new ≡ []) }
     {
-        let (key, value, rest) = split_pair(self.entries)?;
+        let (key, value, rest) = split_first_pair(self.entries)?;
         self.entries = rest;
         Some((key, value))
     }
@@ -167,6 +167,21 @@ pub(crate) fn leaf_event(version: Version, chunk: &[u8]) -> BorrowedEvent<'_>
 {
     let (key, count) = pairs_of(version, chunk).last_key_and_count();
     BorrowedEvent::new(LEAF, key, count, chunk)
+}
+
+/// The key and the value of the first pair of the entries of a leaf, and the entries behind it.
+/// Takes no memory.
+pub fn split_first_pair(entries: &[u8]) -> Option<(&[u8], &[u8], &[u8])>
+    requires { IsSomeLeaf entries.now }
+    ensures first { MatchOption result (pairs_in entries.now ≡ []) (λ r. pairs_in entries.now ≡
+        record { key = r.0.now; value = r.1.now } ∷ pairs_in r.2.now) }
+    ensures leaf { IfSome result (λ r. IsSomeLeaf r.2.now) }
+    ensures lawful { IfSome result (λ r. (length r.0.now ≤ 1024) × (length r.1.now ≤ 65536)) }
+    ensures behind { IfSome result (λ r.
+        r.2.now ≡ drop (length entries.now - length r.2.now) entries.now) }
+{
+    let (key, value, rest) = split_pair(entries)?;
+    Some((key, value, rest))
 }
 
 /// The first child of the entries of a node, and the entries behind it. Takes no memory.

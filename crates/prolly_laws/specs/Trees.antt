@@ -4,7 +4,7 @@ use Rattle.prolly_entry.specs.declared.version.Version.{Version}
 use Rattle.prolly_entry.specs.Cut.{Cut}
 use Rattle.prolly_entry.specs.Pair.{Pair}
 use Rattle.prolly_tree.specs.Chunk.{chunk_of, post_order, IsIn, FewChunks, ChunksDiffer}
-use Rattle.prolly_tree.specs.File.{BegunIsPrefix, FileDecidesMap, RootsTellMaps}
+use Rattle.prolly_tree.specs.File.{BegunIsPrefix, FileDecidesMap, RootsTellMaps, TreesTellPairs}
 use Rattle.prolly_tree.specs.Tree.{Tree, tree_of, GrowsByNodes, KeepsPairs, FewLevels}
 use Rattle.prolly_tree.specs.lemmas.Trees.{Full}
 use Rattle.prolly_tree.proofs.trees.Distinct as distinct
@@ -55,3 +55,7 @@ file_decides = files.file_decides
 -- Different maps with one root show two different chunks with one reference.
 pub roots_tell : (version : Version) → RootsTellMaps version
 roots_tell = roots.roots_tell
+
+-- Different trees whose tops have one reference show two different chunks with one reference.
+pub trees_tell : (version : Version) → TreesTellPairs version
+trees_tell = roots.any_tell

@@ -23,7 +23,7 @@ use Rattle.prolly_root.specs.RootFault.{IsOrFails, MayFail, OnlyRead}
 use Rattle.prolly_root.specs.declared.root_fault.RootFault.{RootFault}
 use Rattle.prolly_root.specs.ChunkSource.{IsChildNumber, IsLawful, root_level, root_tree}
 use Rattle.prolly_root.specs.declared.look_up.chunk_on_way.ChunkOnWay.{ChunkOnWay}
-use Rattle.prolly_root.proofs.Walking.{level_is}
+use Rattle.prolly_root.specs.lemmas.Places.{level_is}
 
 -- ---- the child of a node
 
@@ -212,18 +212,3 @@ module _ {T : Type 0} (is_place : Content → (level : ℕ) → Tree level → T
   kept_falls above due lawful chunk k same = subst (FallsTo above)
       (sym (k.is ∙ same_chunk content lawful k.at.level k.at.t due.at.level due.at.t k.at.below
       due.at.below (sym k.at.named ∙ same ∙ due.at.named))) due.falls
-
--- ---- at the root
-
-pub root_stands : {T : Type 0} (is_place : Content → (level : ℕ) → Tree level → T → Type 0)
-    (content : Content) (root : List ℕ) (place : T) → RootIsTree → IsLawful content →
-    root ≡ root_reference (sha512_cut content.bits) content.version content.pairs →
-    is_place content (root_level content) (root_tree content) place →
-    StandsAt is_place content root place
-root_stands is_place content root place trees lawful named stands = record {
-  level = root_level content;
-  t = root_tree content;
-  below = trees content.version content.bits content.pairs lawful.lawful lawful.rising;
-  named = named;
-  stands = stands;
-}

@@ -21,7 +21,8 @@ use Rattle.prolly_root.specs.Walk.{IsBehind, IsFirstOfLevel, IsNth, NoneBetween,
 use Rattle.prolly_root.specs.Walk.{chunks_of_tree, IsFrame, IsWalk}
 use Rattle.prolly_root.specs.declared.file.subtree.Place.{Place}
 use Rattle.prolly_root.specs.declared.root_fault.RootFault.{RootFault}
-use Rattle.prolly_root.proofs.Walking.{IsLower, all_lower, level_is, top_last, apart, behind}
+use Rattle.prolly_root.specs.lemmas.Places.{level_is}
+use Rattle.prolly_root.proofs.Walking.{IsLower, all_lower, top_last, apart, behind}
 use Rattle.prolly_root.proofs.Walking.{ending, front, front_length}
 use Rattle.prolly_check.specs.Verdict.{IsFileOf}
 use Rattle.prolly_file.specs.Frame.{framed}

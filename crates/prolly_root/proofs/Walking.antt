@@ -67,11 +67,6 @@ top_last version zero leaf = refl
 top_last version (suc level) ts = map-append (λ c. c.bytes) (flat_map (post_order version level) ts)
     (chunk_of version (suc level) ts ∷ [])
 
-pub level_is : (version : Version) (level : ℕ) (t : Tree level) →
-    level_of (bytes_of version level t) ≡ level
-level_is version zero t = refl
-level_is version (suc level) t = refl
-
 -- a chunk that has a level, not above this one
 pub record StandsUpTo (level : ℕ) (chunk : List ℕ) : Type 0 where
   pub some : 0 < length chunk

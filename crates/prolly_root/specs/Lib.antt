@@ -18,3 +18,5 @@ pub mod Subtree
 pub mod Reader
 -- What is said of faults. (This project's texts.)
 pub mod FaultTexts
+-- Lemmas for the crates above, by subject.
+pub mod lemmas

@@ -11,9 +11,11 @@ pub mod laws;
 mod look_up;
 mod proof;
 mod root_fault;
+mod tested;
 
 pub use chunk_source::ChunkSource;
 pub use file::{FileChunks, Subtree};
 pub use look_up::Reader;
 pub use proof::{ProofFault, prove, verify};
 pub use root_fault::RootFault;
+pub use tested::tested_chunk;

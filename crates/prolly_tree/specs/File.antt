@@ -9,8 +9,8 @@ use Rattle.prolly_entry.specs.Prefix.{IsPrefix}
 use Rattle.prolly_entry.specs.Pair.{Pair, IsPair}
 use Rattle.prolly_entry.specs.Reference.{reference_of}
 use Rattle.prolly_entry.specs.Cut.{Cut}
-use Rattle.prolly_tree.specs.Tree.{bytes_of, tree_of}
-use Rattle.prolly_tree.specs.Chunk.{Chunk, chunks, begun_chunks, Collision}
+use Rattle.prolly_tree.specs.Tree.{Tree, bytes_of, pairs_below, tree_of}
+use Rattle.prolly_tree.specs.Chunk.{Chunk, chunks, begun_chunks, post_order, Collision}
 
 -- The header: the letters PRLY, the version's byte, the number of the cut.
 abbrev pub header : Version → ℕ → List ℕ
@@ -49,6 +49,14 @@ FileDecidesMap = (v w : Version) (c d : Cut) (m m' : List Pair) → AllByRecursi
     AllByRecursion IsPair m' →
     length m < 2 ^ 40 → length m' < 2 ^ 40 → file c v m ≡ file d w m' →
     (v ≡ w) × (c.bits ≡ d.bits) × (m ≡ m')
+
+-- Law: trees whose tops have one reference have the same pairs, or their chunks show a collision.
+abbrev pub TreesTellPairs : Version → Type 0
+TreesTellPairs version = (level level' : ℕ) (t : Tree level) (u : Tree level') →
+    AllByRecursion IsPair (pairs_below level t) → AllByRecursion IsPair (pairs_below level' u) →
+    reference_of (bytes_of version level t) ≡ reference_of (bytes_of version level' u) →
+    (pairs_below level t ≡ pairs_below level' u)
+    ⊎ Collision (post_order version level t) (post_order version level' u)
 
 -- Law: maps with one root are the same, or their chunks show a collision.
 abbrev pub RootsTellMaps : Version → Type 0

@@ -1,9 +1,7 @@
 //! A chunk on the way of a look-up by the root.
-ghost use Rattle.std.specs.Prelude.{◌≡◌, IfOk, IfErr, IfSome, IsOk, OnOk};
+ghost use Rattle.std.specs.Prelude.{◌≡◌, IfOk, IfSome};
 ghost use Rattle.prolly_check.specs.Content.{Content};
 ghost use Rattle.prolly_check.specs.Sought.{sought_of};
-ghost use Rattle.prolly_check.specs.Way.{IsNamed, IsOrdered};
-ghost use Rattle.prolly_entry.specs.Reference.{reference_of};
 ghost use Rattle.prolly_root.specs.ChunkSource.{HasAsked};
 ghost use Rattle.prolly_root.specs.Descent.{IsAtDue, IsTested, IsOnward, StandsAt, StandsBelow};
 ghost use Rattle.prolly_root.specs.Descent.{StandsInPlace, StepsDown};
@@ -11,8 +9,9 @@ ghost use Rattle.prolly_root.specs.RootFault.{IsOrFails, MayFail};
 
 use crate::chunk_source::ChunkSource;
 use crate::root_fault::RootFault;
+use crate::tested::tested_chunk;
 use prolly_check::laws::tops_are_read;
-use prolly_check::{Due, Mark, Sought, falls_to, step_of, test_chunk};
+use prolly_check::{Due, Mark, Sought, falls_to, step_of};
 use prolly_entry::{Ref, Version};
 use std::alloc::Global;
 
@@ -53,10 +52,7 @@ impl<T: Copy> ChunkOnWay<T> {
             IsOrFails (StandsInPlace S.is_place content) MayFail result }
         ensures asked { HasAsked S.has S.failures source.old source.new result }
     {
-        // By this law the chunk of a lawful tree can be read.
-        tops_are_read();
-        let chunk = source.chunk(alloc, &place)?;
-        test(version, &chunk, &reference, S::number(&place))?;
+        let chunk = tested_chunk(alloc, source, version, &reference, &place)?;
         Ok(ChunkOnWay {
             reference,
             place,
@@ -146,18 +142,5 @@ fn kept_or_read<T: Copy + Drop, S: ChunkSource<Place = T>>(
     match kept {
         Some(chunk) if chunk.reference == reference => Ok(chunk),
         _another => ChunkOnWay::read(alloc, source, version, reference, place),
-    }
-}
-
-/// Tests whether the chunk of this number has the reference and can be read.
-fn test(version: Version, chunk: &[u8], reference: &Ref, number: u64) -> Result<(), RootFault>
-    ensures named { OnOk result (IsNamed version reference.now.0 chunk.now) }
-    ensures fits { reference_of chunk.now ≡ reference.now.0 → IsOrdered version chunk.now →
-        IsOk result }
-    ensures read { IfErr result (λ fault. fault ≡ RootFault.Read → ⊥) }
-{
-    match test_chunk(version, chunk, reference) {
-        Ok(()) => Ok(()),
-        Err(flaw) => Err(RootFault::of_flaw(flaw, number)),
     }
 }

@@ -9,7 +9,7 @@ use Rattle.prolly_entry.specs.Spelling.{pair_spelling, child_spelling}
 use Rattle.prolly_entry.specs.Reference.{reference_of}
 use Rattle.prolly_tree.specs.Tree.{Tree, bytes_of, pairs_below, greatest_key, pair_count, tree_of}
 use Rattle.prolly_tree.specs.Chunk.{Chunk, chunk_of, post_order, chunks, IsIn, Collision}
-use Rattle.prolly_tree.specs.File.{RootsTellMaps}
+use Rattle.prolly_tree.specs.File.{RootsTellMaps, TreesTellPairs}
 use Rattle.prolly_entry.specs.lemmas.Lists.{all_front, all_back}
 use Rattle.prolly_entry.specs.lemmas.Spellings.{child_spellings_apart, reference_length}
 use Rattle.prolly_tree.proofs.trees.Sizes.{pairs_are}
@@ -194,11 +194,7 @@ module _ (version : Version) where
   level_byte (suc level) (suc level') t u e =
       cell (suc level) (suc level') (entries level t) (entries level' u) e
 
-  any_tell : (level level' : ℕ) (t : Tree level) (u : Tree level') →
-      AllByRecursion IsPair (pairs_below level t) → AllByRecursion IsPair (pairs_below level' u) →
-      reference_of (bytes_of version level t) ≡ reference_of (bytes_of version level' u) →
-      (pairs_below level t ≡ pairs_below level' u) ⊎
-      Collision (post_order version level t) (post_order version level' u)
+  pub any_tell : TreesTellPairs version
   any_tell level level' t u h k e = go (bytes_same (bytes_of version level t)
       (bytes_of version level' u))
     where

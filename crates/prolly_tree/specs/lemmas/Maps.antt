@@ -1,5 +1,5 @@
 -- Lists of pairs whose keys rise.
-use Rattle.std.proofs.Common.{◌≡◌, ℕ, ◌≤◌, ◌⊎◌, inl, inr, List, [], ◌∷◌, ◌++◌, length, map, refl}
+use Rattle.std.proofs.Common.{◌≡◌, ℕ, ◌<◌, ◌≤◌, ◌⊎◌, inl, inr, List, [], ◌∷◌, ◌++◌, length, map, refl}
 use Rattle.std.proofs.Common.{None, sym, ap, ◌∙◌, subst, arith}
 use Rattle.std.specs.List.{flat_map, AllByRecursion}
 use Rattle.prolly_entry.specs.Keys.{KeyBelow, Rising, RisingFrom}
@@ -88,6 +88,12 @@ pub above_key : (x key : List ℕ) (ps : List Pair) → Above x ps → HasKey ke
 above_key x key [] h k = absurd k
 above_key x key (p ∷ ps) h (inl e) = subst (λ y. KeyBelow x y) (sym e) h.0
 above_key x key (p ∷ ps) h (inr k) = above_key x key ps h.1 k
+
+-- In a rising list what is behind some pairs is above the last of them.
+pub above_last : (ps ys : List Pair) → 0 < length ps → Rises (ps ++ ys) → Above (last_key ps) ys
+above_last [] ys some h = absurd (omega arith)
+above_last (p ∷ []) ys some h = h.0
+above_last (p ∷ q ∷ ps) ys some h = above_last (q ∷ ps) ys (omega arith) h.1
 
 -- The last key of lawful pairs is lawful.
 pub last_key_short : (ps : List Pair) → AllByRecursion IsPair ps → length (last_key ps) ≤ 1024

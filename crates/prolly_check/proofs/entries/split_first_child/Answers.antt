@@ -1,6 +1,6 @@
 use Rattle.std.proofs.Common.{rules}
 use Rattle.prolly_check.specs.Entries.{IsChild, entry_of}
-use Rattle.prolly_check.proofs.EntryLists.{shorter, behind_first, next_child, no_next_child}
+use Rattle.prolly_check.proofs.EntryLists.{shorter, child_behind, next_child, no_next_child}
 use Rattle.prolly_check.proofs.EntryLists.{node_apart, node_less}
 use Rattle.prolly_check.proofs.entries.split_first_child.Goals as goal
 
@@ -13,7 +13,7 @@ returns c =
       node = node_less c.args.version entries rest _ begins c.requires;
       shorter = shorter (entry_of c.args.version) IsChild (node_apart c.args.version) entries rest _
           begins;
-      behind = behind_first c.args.version entries rest _ begins;
+      behind = child_behind c.args.version entries rest _ begins;
     }
 
 pub returns-in_err-child-clause-first : goal.returns-in_err-child-clause-first

@@ -1,26 +1,15 @@
-use Rattle.std.proofs.Common.{◌≡◌, ◌∙◌, rules}
-use Rattle.std.proofs.lemmas.Bool.{false≢true}
-use Rattle.prolly_tree.specs.Tree.{bytes_of}
+use Rattle.std.proofs.Common.{rules}
 use Rattle.prolly_root.specs.RootFault.{MayFail}
-use Rattle.prolly_root.proofs.LawfulSteps.{is_due}
 use Rattle.prolly_root.proofs.look_up.chunk_on_way.ChunkOnWay.read.Goals as goal
 
 pub returns-in_err-chunk-clause-lawful : goal.returns-in_err-chunk-clause-lawful
 returns-in_err-chunk-clause-lawful g c content has same at =
     let only : MayFail c.in_err-chunk.field-0.0 =
-    c.in_err-chunk.ensures.is content at.level at.t has at.stands in
+    c.in_err-chunk.ensures.lawful content has same at in
     search rules
-
-pub returns-in_err-test-clause-lawful : goal.returns-in_err-test-clause-lawful
-returns-in_err-test-clause-lawful g c content has same at =
-    let is : c.deref.result.now ≡ bytes_of content.version at.level at.t =
-    c.deref.ensures.value ∙ c.in_ok-chunk.ensures.is content at.level at.t has at.stands in
-    let due = is_due g.S.ChunkSource.is_place content c.args.reference.0 c.args.place at
-    c.tops_are_read.ensures.read c.args.version same c.deref.result.now is in
-    absurd (false≢true (c.in_err-test.ensures.fits due.0 due.1))
 
 pub returns-clause-lawful : goal.returns-clause-lawful
 returns-clause-lawful g c content has same at = record {
   at = at;
-  is = c.in_ok-chunk.ensures.is content at.level at.t has at.stands;
+  is = c.in_ok-chunk.ensures.lawful content has same at;
 }

@@ -1,4 +1,4 @@
-use Rattle.prolly_root.proofs.LawfulSteps.{root_stands}
+use Rattle.prolly_root.specs.lemmas.Places.{root_stands}
 use Rattle.prolly_root.proofs.look_up.reader.Reader.open.Goals as goal
 
 pub returns-clause-kept : goal.returns-clause-kept

@@ -1,6 +1,6 @@
 use Rattle.std.proofs.Common.{None}
 use Rattle.prolly_check.specs.lemmas.Ways.{no_flaw}
-use Rattle.prolly_root.proofs.look_up.chunk_on_way.test.Goals as goal
+use Rattle.prolly_root.proofs.tested.test.Goals as goal
 
 pub returns-in-Err-clause-fits : goal.returns-in-Err-clause-fits
 returns-in-Err-clause-fits c = λ is ordered. absurd (no_flaw c.args.version

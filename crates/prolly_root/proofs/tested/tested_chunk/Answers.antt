@@ -1,0 +1,24 @@
+use Rattle.std.proofs.Common.{◌≡◌, ◌∙◌, rules}
+use Rattle.std.proofs.lemmas.Bool.{false≢true}
+use Rattle.prolly_tree.specs.Tree.{bytes_of}
+use Rattle.prolly_root.specs.RootFault.{MayFail}
+use Rattle.prolly_root.proofs.LawfulSteps.{is_due}
+use Rattle.prolly_root.proofs.tested.tested_chunk.Goals as goal
+
+pub returns-in_err-chunk-clause-lawful : goal.returns-in_err-chunk-clause-lawful
+returns-in_err-chunk-clause-lawful g c content has same at =
+    let only : MayFail c.in_err-chunk.field-0.0 =
+    c.in_err-chunk.ensures.is content at.level at.t has at.stands in
+    search rules
+
+pub returns-in_err-test-clause-lawful : goal.returns-in_err-test-clause-lawful
+returns-in_err-test-clause-lawful g c content has same at =
+    let is : c.deref.result.now ≡ bytes_of content.version at.level at.t =
+    c.deref.ensures.value ∙ c.in_ok-chunk.ensures.is content at.level at.t has at.stands in
+    let due = is_due g.S.ChunkSource.is_place content c.args.reference.now.0 c.args.place.now at
+    c.tops_are_read.ensures.read c.args.version same c.deref.result.now is in
+    absurd (false≢true (c.in_err-test.ensures.fits due.0 due.1))
+
+pub returns-clause-lawful : goal.returns-clause-lawful
+returns-clause-lawful g c content has same at =
+    c.in_ok-chunk.ensures.is content at.level at.t has at.stands
