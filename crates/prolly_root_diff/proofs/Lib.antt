@@ -1,0 +1,18 @@
+-- Passing by equal subtrees.
+pub mod Passing
+-- Going down.
+pub mod Opening
+-- Lists of what is due, and heads of lists.
+pub mod Lists
+-- How far a walk has to go yet.
+pub mod Weights
+-- A walk goes on.
+pub mod Moving
+-- Taking pairs in hand.
+pub mod Taking
+-- The steps of a walk over two trees.
+pub mod Steps
+-- Walks from the first call to the last.
+pub mod Runs
+-- The subtrees that are due below one node.
+pub mod Subtrees

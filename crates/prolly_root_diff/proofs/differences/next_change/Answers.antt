@@ -1,0 +1,132 @@
+use Rattle.std.proofs.Common.{arith}
+use Rattle.prolly_root_diff.specs.Sides.{left_of}
+use Rattle.prolly_root_diff.proofs.Moving.{moves_on, opens_after, opens_before}
+use Rattle.prolly_root_diff.proofs.Moving as moving
+use Rattle.prolly_root_diff.proofs.Steps.{adds_first, changes_first, ends_there, goes_behind, goes_by}
+use Rattle.prolly_root_diff.proofs.Steps.{goes_down, passes_lighter, passes_on, removes_first}
+use Rattle.prolly_root_diff.proofs.Steps.{skips_on, stays}
+use Rattle.prolly_root_diff.proofs.Weights.{opens_lighter}
+use Rattle.prolly_root_diff.proofs.differences.next_change.Goals as goal
+
+pub walk-init : goal.walk-init
+walk-init g c = record {
+  moves = moving.stays c.args.version (record {
+    before = left_of c.args.before.now;
+    after = left_of c.args.after.now;
+  });
+  old = stays g.S.ChunkSource.has g.S.ChunkSource.failures g.S.ChunkSource.is_place c.args.version
+      c.args.old.now c.args.before.now;
+  new = stays g.R.ChunkSource.has g.R.ChunkSource.failures g.R.ChunkSource.is_place c.args.version
+      c.args.new.now c.args.after.now;
+}
+
+pub walk-smaller-in_ok-pass_first-in-Pass-2 : goal.walk-smaller-in_ok-pass_first-in-Pass-2
+walk-smaller-in_ok-pass_first-in-Pass-2 g c = passes_lighter c.args.version
+    (record { before = left_of c.args.before.now; after = left_of c.args.after.now })
+    c.walk.before c.pass_first.new.self c.walk.after c.pass_first-in-Pass.new.self
+    c.in-Pass.ensures c.in_ok-pass_first-in-Pass.ensures c.in_ok-pass_first-in-Pass-2.ensures
+
+pub walk-preserved-in_ok-pass_first-in-Pass-2 : goal.walk-preserved-in_ok-pass_first-in-Pass-2
+walk-preserved-in_ok-pass_first-in-Pass-2 g c = record {
+  moves = passes_on c.args.version
+      (record { before = left_of c.args.before.now; after = left_of c.args.after.now })
+      c.walk.before c.pass_first.new.self c.walk.after c.pass_first-in-Pass.new.self
+      c.walk.invariant.moves c.in-Pass.ensures c.in_ok-pass_first-in-Pass.ensures
+      c.in_ok-pass_first-in-Pass-2.ensures;
+  old = goes_behind g.S.ChunkSource.has g.S.ChunkSource.failures g.S.ChunkSource.is_place
+      c.args.version c.args.old.now c.walk.old c.args.before.now c.walk.before c.pass_first.new.self
+      c.walk.invariant.old c.in_ok-pass_first-in-Pass.ensures;
+  new = goes_behind g.R.ChunkSource.has g.R.ChunkSource.failures g.R.ChunkSource.is_place
+      c.args.version c.args.new.now c.walk.new c.args.after.now c.walk.after
+      c.pass_first-in-Pass.new.self c.walk.invariant.new c.in_ok-pass_first-in-Pass-2.ensures;
+}
+
+pub walk-smaller-in_default : goal.walk-smaller-in_default
+walk-smaller-in_default g c = omega (
+  arith,
+  opens_lighter c.args.version (left_of c.walk.before) (left_of c.open_first.new.self)
+      c.in_default.ensures.opens,
+)
+
+pub walk-preserved-in_default : goal.walk-preserved-in_default
+walk-preserved-in_default g c = record {
+  moves = moves_on c.args.version
+      (record { before = left_of c.args.before.now; after = left_of c.args.after.now })
+      (record { before = left_of c.walk.before; after = left_of c.walk.after })
+      (record { before = left_of c.open_first.new.self; after = left_of c.walk.after })
+      c.walk.invariant.moves (opens_before c.walks_are_right.ensures.opens c.args.version
+      (left_of c.walk.before) (left_of c.open_first.new.self) (left_of c.walk.after)
+      c.in_default.ensures.opens);
+  old = goes_down g.S.ChunkSource.has g.S.ChunkSource.failures g.S.ChunkSource.is_place
+      c.args.version c.args.old.now c.walk.old c.open_first.new.source c.args.before.now
+      c.walk.before c.open_first.new.self c.walk.invariant.old c.in_default.ensures.lawful
+      c.in_default.ensures.asked.0 c.in_default.ensures.asked.1;
+  new = c.walk.invariant.new;
+}
+
+pub walk-smaller-in_default-open_first : goal.walk-smaller-in_default-open_first
+walk-smaller-in_default-open_first g c = omega (
+  arith,
+  opens_lighter c.args.version (left_of c.walk.after) (left_of c.open_first-in-OpenNew.new.self)
+      c.in_default-open_first.ensures.opens,
+)
+
+pub walk-preserved-in_default-open_first : goal.walk-preserved-in_default-open_first
+walk-preserved-in_default-open_first g c = record {
+  moves = moves_on c.args.version
+      (record { before = left_of c.args.before.now; after = left_of c.args.after.now })
+      (record { before = left_of c.walk.before; after = left_of c.walk.after })
+      (record { before = left_of c.walk.before; after = left_of c.open_first-in-OpenNew.new.self })
+      c.walk.invariant.moves (opens_after c.walks_are_right.ensures.opens c.args.version
+      (left_of c.walk.before) (left_of c.walk.after) (left_of c.open_first-in-OpenNew.new.self)
+      c.in_default-open_first.ensures.opens);
+  old = c.walk.invariant.old;
+  new = goes_down g.R.ChunkSource.has g.R.ChunkSource.failures g.R.ChunkSource.is_place
+      c.args.version c.args.new.now c.walk.new c.open_first-in-OpenNew.new.source
+      c.args.after.now c.walk.after c.open_first-in-OpenNew.new.self c.walk.invariant.new
+      c.in_default-open_first.ensures.lawful c.in_default-open_first.ensures.asked.0
+      c.in_default-open_first.ensures.asked.1;
+}
+
+pub walk-preserved : goal.walk-preserved
+walk-preserved g c = record {
+  moves = skips_on c.args.version
+      (record { before = left_of c.args.before.now; after = left_of c.args.after.now })
+      c.walk.before c.pass_pair.new.self c.walk.after c.pass_pair-in-Skip.new.self
+      c.walk.invariant.moves c.in-Skip.ensures c.pass_pair.ensures.pair c.pass_pair.ensures.due
+      c.pass_pair-in-Skip.ensures.pair c.pass_pair-in-Skip.ensures.due;
+  old = goes_by g.S.ChunkSource.has g.S.ChunkSource.failures g.S.ChunkSource.is_place
+      c.args.version c.args.old.now c.walk.old c.args.before.now c.walk.before c.pass_pair.new.self
+      c.walk.invariant.old c.pass_pair.ensures.due;
+  new = goes_by g.R.ChunkSource.has g.R.ChunkSource.failures g.R.ChunkSource.is_place
+      c.args.version c.args.new.now c.walk.new c.args.after.now c.walk.after
+      c.pass_pair-in-Skip.new.self c.walk.invariant.new c.pass_pair-in-Skip.ensures.due;
+}
+
+pub returns-in-Removed-clause-gives : goal.returns-in-Removed-clause-gives
+returns-in-Removed-clause-gives g c = removes_first c.args.version
+    (record { before = left_of c.args.before.now; after = left_of c.args.after.now })
+    c.walk.before c.walk.after c.walk.invariant.moves c.in-Removed.ensures c.take.new.self
+    c.in_ok-take-in-Removed.field-0 c.in_ok-take-in-Removed.ensures.pair
+    c.in_ok-take-in-Removed.ensures.due
+
+pub returns-in-Added-clause-gives : goal.returns-in-Added-clause-gives
+returns-in-Added-clause-gives g c = adds_first c.args.version
+    (record { before = left_of c.args.before.now; after = left_of c.args.after.now })
+    c.walk.before c.walk.after c.walk.invariant.moves c.in-Added.ensures c.take-in-Added.new.self
+    c.in_ok-take-in-Added.field-0 c.in_ok-take-in-Added.ensures.pair
+    c.in_ok-take-in-Added.ensures.due
+
+pub returns-in-Changed-clause-gives : goal.returns-in-Changed-clause-gives
+returns-in-Changed-clause-gives g c = changes_first c.args.version
+    (record { before = left_of c.args.before.now; after = left_of c.args.after.now })
+    c.walk.before c.walk.after c.walk.invariant.moves c.in-Changed.ensures
+    c.take-in-Changed.new.self c.in_ok-old-in-Changed.old c.in_ok-old-in-Changed.ensures.pair
+    c.in_ok-old-in-Changed.ensures.due c.take-in-Changed-2.new.self
+    c.in_ok-take-in-Changed.field-0 c.in_ok-take-in-Changed.ensures.pair
+    c.in_ok-take-in-Changed.ensures.due
+
+pub returns-in-End-clause-gives : goal.returns-in-End-clause-gives
+returns-in-End-clause-gives g c = ends_there c.args.version
+    (record { before = left_of c.args.before.now; after = left_of c.args.after.now })
+    c.walk.before c.walk.after c.walk.invariant.moves c.in-End.ensures

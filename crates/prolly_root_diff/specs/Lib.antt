@@ -1,0 +1,8 @@
+-- What is left of a tree, for who knows it by references, and what two such rests come to.
+pub mod Left
+-- What a walk keeps of one tree.
+pub mod Sides
+-- How a walk over two trees goes on, and what it gives.
+pub mod Walks
+-- Lemmas for the crates above, by subject.
+pub mod lemmas

@@ -1,0 +1,262 @@
+-- A walk over two trees by their references.
+use Rattle.std.specs.Prelude.{◌≡◌, ℕ, ◌⊎◌, List, [], ◌∷◌, ◌++◌, Option, Some, None}
+use Rattle.std.specs.Prelude.{Bool, false, Result, Ok, Err}
+use Rattle.std.specs.Prelude.{◌<◌, ◌≢◌, length}
+use Rattle.prolly_entry.specs.Keys.{KeyBelow}
+use Rattle.prolly_entry.specs.Pair.{Pair, IsPair}
+use Rattle.prolly_entry.specs.declared.version.Version.{Version}
+use Rattle.prolly_tree.specs.Difference.{IsDifference, IsMap}
+use Rattle.prolly_tree.specs.File.{root_reference}
+use Rattle.std.specs.List.{AllByRecursion}
+use Rattle.std.specs.Prelude.{All}
+use Rattle.prolly_entry.specs.Byte.{IsByte}
+use Rattle.prolly_entry.specs.Cut.{sha512_cut}
+use Rattle.prolly_entry.specs.Record.{Record}
+use Rattle.prolly_check.specs.FirstFault.{chunk_bytes}
+use Rattle.prolly_check.specs.Way.{Clash}
+use Rattle.prolly_diff.specs.Differences.{AreAlike, AreMaps, IsFirstChange, Maps}
+use Rattle.prolly_tree.specs.lemmas.Maps.{FirstAbove}
+use Rattle.prolly_check.specs.Content.{Content}
+use Rattle.prolly_root.specs.RootFault.{MayFail, TellsFailure}
+use Rattle.prolly_root.specs.declared.root_fault.RootFault.{RootFault}
+use Rattle.prolly_tree.specs.Tree.{Tree}
+use Rattle.prolly_root_diff.specs.Left.{Due, IsLeft, Left, left_of_root}
+use Rattle.prolly_root_diff.specs.Sides.{IsAtRoot, IsSideOf, left_of}
+use Rattle.prolly_root_diff.specs.declared.fault.RootDiffFault.{RootDiffFault}
+use Rattle.prolly_root_diff.specs.declared.fault.RootDiffFault.TheVariants as faults
+use Rattle.prolly_root_diff.specs.declared.side.Side.{Side}
+use Rattle.prolly_root_diff.specs.declared.change.RootChange.{RootChange}
+use Rattle.prolly_root_diff.specs.declared.change.RootChange.TheVariants.{Added, Changed, Removed}
+use Rattle.prolly_root_diff.specs.declared.onward.Onward.{Onward}
+use Rattle.prolly_root_diff.specs.declared.onward.Onward.TheVariants as ways
+
+-- What is left of both trees.
+pub record Lefts : Type 0 where
+  pub before : Left
+  pub after : Left
+
+-- Nothing was read yet from these two roots.
+abbrev pub at_roots : List ℕ → List ℕ → Lefts
+at_roots old new = record { before = left_of_root old; after = left_of_root new }
+
+-- These maps are left of the trees with these chunks.
+abbrev pub AreLeft : Version → List (List ℕ) → List (List ℕ) → Maps → Lefts → Type 0
+AreLeft version cs ds maps lefts =
+    IsLeft version cs maps.before lefts.before × IsLeft version ds maps.after lefts.after
+
+-- Two different chunks of these have one reference.
+abbrev pub Clashing : List (List ℕ) → Type 0
+Clashing chunks = Clash chunks chunks
+
+-- So it is of what is left of any two trees of the version and of any bits; or else two different
+-- chunks of these that were read, or of the two trees, have one reference.
+abbrev pub Tells : Version → List (List ℕ) → Lefts → (List (List ℕ) → List (List ℕ) → Maps → Type 0)
+    → Type 0
+Tells version read lefts So = (cs ds : List (List ℕ)) (maps : Maps) → AreMaps maps →
+    AreLeft version cs ds maps lefts → So cs ds maps ⊎ Clashing (read ++ (cs ++ ds))
+
+-- Both maps begin alike, and behind that these are left.
+pub record GoOn (version : Version) (cs ds : List (List ℕ)) (maps : Maps) (lefts : Lefts) : Type 0
+  where
+    pub rest : Maps
+    pub alike : AreAlike maps rest
+    pub left : AreLeft version cs ds rest lefts
+
+-- By reading these chunks, or passing by what is equal, a walk went on from the one to the other.
+pub record Moves (version : Version) (old new : Lefts) : Type 0 where
+  pub read : List (List ℕ)
+  pub bytes : AllByRecursion (All IsByte) read
+  pub tells : Tells version read old (λ cs ds maps. GoOn version cs ds maps new)
+
+-- The first change of the two maps, behind which these are left.
+pub record FirstChange (version : Version) (cs ds : List (List ℕ)) (maps : Maps) (key : List ℕ)
+    (before after : Option (List ℕ)) (lefts : Lefts) : Type 0 where
+  pub rest : Maps
+  pub first : IsFirstChange maps key before after rest
+  pub left : AreLeft version cs ds rest lefts
+
+pub record Changes (version : Version) (old : Lefts) (key : List ℕ) (before after : Option (List ℕ))
+    (new : Lefts) : Type 0 where
+  pub read : List (List ℕ)
+  pub bytes : AllByRecursion (All IsByte) read
+  pub tells : Tells version read old (λ cs ds maps.
+      FirstChange version cs ds maps key before after new)
+
+-- The two maps are the same.
+pub record Ends (version : Version) (old : Lefts) : Type 0 where
+  pub read : List (List ℕ)
+  pub bytes : AllByRecursion (All IsByte) read
+  pub tells : Tells version read old (λ cs ds maps. IsDifference maps.before maps.after [])
+
+-- Nothing is in hand, nor due.
+abbrev pub IsAtEnd : Left → Type 0
+IsAtEnd left = (left.pairs ≡ []) × (left.due ≡ [])
+
+-- What a walk found: a change; or that there is none, and that nothing is left of either tree.
+abbrev pub Gives : Version → Lefts → Option RootChange → Lefts → Type 0
+Gives version old None new = Ends version old × IsAtEnd new.before × IsAtEnd new.after
+Gives version old (Some (Removed pair)) new =
+    Changes version old pair.key (Some pair.value) None new
+Gives version old (Some (Added pair)) new = Changes version old pair.key None (Some pair.value) new
+Gives version old (Some (Changed before after)) new =
+    Changes version old after.key (Some before.value) (Some after.value) new
+
+-- ---- how a walk goes on
+
+-- A pair is in hand, or nothing is left.
+abbrev pub IsReady : Left → Type 0
+IsReady left = left.pairs ≡ [] → left.due ≡ []
+
+-- Nothing is in hand, and a subtree is due.
+abbrev pub IsDue : Left → Type 0
+IsDue left = (left.pairs ≡ []) × (0 < length left.due)
+
+-- Nothing is in hand, and the first subtrees that are due have one reference.
+pub record BeginAlike (before after : Left) : Type 0 where
+  pub first : Due
+  pub second : Due
+  pub due : List Due
+  pub due' : List Due
+  pub before_is : before ≡ record { pairs = []; due = first ∷ due }
+  pub after_is : after ≡ record { pairs = []; due = second ∷ due' }
+  pub same : first.reference ≡ second.reference
+
+-- The pairs are the first that are in hand, where some are.
+abbrev pub FirstPair : List Pair → Option Pair → Type 0
+FirstPair pairs None = pairs ≡ []
+FirstPair pairs (Some first) = (rest : List Pair) × (pairs ≡ first ∷ rest)
+
+-- So a walk goes on from the first pairs of two trees, where there are some.
+abbrev pub ComesTo : Option Pair → Option Pair → Onward → Type 0
+ComesTo None None way = way ≡ ways.End
+ComesTo (Some p) None way = way ≡ ways.Removed
+ComesTo None (Some q) way = way ≡ ways.Added
+ComesTo (Some p) (Some q) ways.Removed = KeyBelow p.key q.key
+ComesTo (Some p) (Some q) ways.Added = KeyBelow q.key p.key
+ComesTo (Some p) (Some q) ways.Changed = (p.key ≡ q.key) × (p.value ≢ q.value)
+ComesTo (Some p) (Some q) ways.Skip = (p.key ≡ q.key) × (p.value ≡ q.value)
+ComesTo (Some p) (Some q) way = ⊥
+
+-- Both trees are ready, and it goes on so from their first pairs.
+pub record GoesByPairs (before after : Left) (way : Onward) : Type 0 where
+  pub before_ready : IsReady before
+  pub after_ready : IsReady after
+  pub p : Option Pair
+  pub q : Option Pair
+  pub first : FirstPair before.pairs p
+  pub second : FirstPair after.pairs q
+  pub comes : ComesTo p q way
+
+-- How a walk goes on.
+abbrev pub IsOnward : Left → Left → Onward → Type 0
+IsOnward before after ways.Pass = BeginAlike before after
+IsOnward before after ways.OpenOld = IsDue before
+IsOnward before after ways.OpenNew = IsDue after
+IsOnward before after way = GoesByPairs before after way
+
+-- The first pair in hand was taken.
+abbrev pub Takes : Left → Pair → Left → Type 0
+Takes old pair new = (old.pairs ≡ pair ∷ new.pairs) × (new.due ≡ old.due)
+
+-- These pairs were taken, of the least key that either has in hand.
+abbrev pub TakesFirst : Lefts → Option Pair → Option Pair → Lefts → Type 0
+TakesFirst old None None new = (old.before.pairs ≡ []) × (old.after.pairs ≡ [])
+TakesFirst old (Some p) None new = Takes old.before p new.before × (new.after ≡ old.after) ×
+    FirstAbove p.key old.after.pairs
+TakesFirst old None (Some q) new = Takes old.after q new.after × (new.before ≡ old.before) ×
+    FirstAbove q.key old.before.pairs
+TakesFirst old (Some p) (Some q) new = Takes old.before p new.before × Takes old.after q new.after ×
+    (p.key ≡ q.key)
+
+-- ---- the sources of two trees
+
+-- A source has what it had, and no call failed.
+pub record HasStill {S : Type 0} (has : S → Content → Type 0) (failures : S → ℕ) (old new : S)
+    : Type 0 where
+  pub has_still : (content : Content) → has old content → has new content
+  pub failures_are : failures new ≡ failures old
+
+-- So it is, and a walk went on in the tree that the source has.
+pub record GoesOn {S T : Type 0} (has : S → Content → Type 0) (failures : S → ℕ)
+    (is_place : Content → (level : ℕ) → Tree level → T → Type 0) (version : Version) (old new : S)
+    (before after : Side T) : Type 0 where
+  pub still : HasStill has failures old new
+  pub lawful : (content : Content) → has old content → version ≡ content.version →
+      IsSideOf is_place content before → IsSideOf is_place content after
+
+-- The fault is that of the source: a failed read is told where one more call failed, and only there;
+-- and what it has is not refused.
+pub record FailsAt {S T : Type 0} (has : S → Content → Type 0) (failures : S → ℕ)
+    (is_place : Content → (level : ℕ) → Tree level → T → Type 0) (version : Version) (old new : S)
+    (before : Side T) (fault : RootFault) : Type 0 where
+  pub has_still : (content : Content) → has old content → has new content
+  pub told : TellsFailure (failures old) (failures new) fault
+  pub lawful : (content : Content) → has old content → version ≡ content.version →
+      IsSideOf is_place content before → MayFail fault
+
+-- What a call tells of the source of the old tree, and of that of the new one.
+abbrev pub TellsOld : {S T C : Type 0} → (S → Content → Type 0) → (S → ℕ) →
+    (Content → (level : ℕ) → Tree level → T → Type 0) → Version → S → S → Side T → Side T →
+    Result C RootDiffFault → Type 0
+TellsOld has failures is_place version old new before after (Ok given) =
+    GoesOn has failures is_place version old new before after
+TellsOld has failures is_place version old new before after (Err (faults.Old fault)) =
+    FailsAt has failures is_place version old new before fault
+TellsOld has failures is_place version old new before after (Err fault) =
+    HasStill has failures old new
+
+abbrev pub TellsNew : {S T C : Type 0} → (S → Content → Type 0) → (S → ℕ) →
+    (Content → (level : ℕ) → Tree level → T → Type 0) → Version → S → S → Side T → Side T →
+    Result C RootDiffFault → Type 0
+TellsNew has failures is_place version old new before after (Ok given) =
+    GoesOn has failures is_place version old new before after
+TellsNew has failures is_place version old new before after (Err (faults.New fault)) =
+    FailsAt has failures is_place version old new before fault
+TellsNew has failures is_place version old new before after (Err fault) =
+    HasStill has failures old new
+
+-- ---- a walk
+
+-- A walk: the version of both trees, what it keeps of each, and whether a call failed.
+pub record Walk (T U : Type 0) : Type 0 where
+  pub version : Version
+  pub before : Side T
+  pub after : Side U
+  pub stopped : Bool
+
+-- What is left of both trees.
+abbrev pub lefts_of : {T U : Type 0} → Walk T U → Lefts
+lefts_of walk = record { before = left_of walk.before; after = left_of walk.after }
+
+-- It begins at these two roots.
+pub record IsBegun {T U : Type 0} (version : Version) (old new : List ℕ) (walk : Walk T U) : Type 0
+  where
+    pub version_is : walk.version ≡ version
+    pub before : IsAtRoot old walk.before
+    pub after : IsAtRoot new walk.after
+    pub lefts : lefts_of walk ≡ at_roots old new
+    pub goes : walk.stopped ≡ false
+
+-- ---- from the first call to the last
+
+-- A walk gave changes that these records say, one after another, and then that there is none.
+abbrev pub GivesAll : Version → Lefts → List Record → Type 0
+GivesAll version lefts [] = Ends version lefts
+GivesAll version lefts (r ∷ rs) = (before : Option (List ℕ)) × (rest : Lefts) ×
+    Changes version lefts r.key before r.value rest × GivesAll version rest rs
+
+-- Two different chunks, each of which was read or is one of these two trees, have one reference.
+pub record FoundClash (before after : List (List ℕ)) : Type 0 where
+  pub read : List (List ℕ)
+  pub bytes : AllByRecursion (All IsByte) read
+  pub clash : Clashing (read ++ (before ++ after))
+
+-- Law: what a walk from two roots gave is the difference of the maps of these roots, whatever the
+-- bits of their trees; or else two different chunks have one reference.
+abbrev pub WalksAreRight : Type 0
+WalksAreRight = (version : Version) (bits bits' : ℕ) (m m' : List Pair) (records : List Record) →
+    IsMap m → AllByRecursion IsPair m → IsMap m' → AllByRecursion IsPair m' →
+    GivesAll version (at_roots (root_reference (sha512_cut bits) version m)
+    (root_reference (sha512_cut bits') version m')) records →
+    IsDifference m m' records
+    ⊎ FoundClash (chunk_bytes version bits m) (chunk_bytes version bits' m')

@@ -1,0 +1,22 @@
+-- Walks that begin at the roots of lawful trees.
+use Rattle.std.proofs.Common.{◌≡◌, ℕ, List, [], ◌∷◌, map, sym, ap, ◌∙◌, subst}
+use Rattle.std.specs.List.{AllByRecursion}
+use Rattle.prolly_check.specs.Content.{Content}
+use Rattle.prolly_entry.specs.Cut.{sha512_cut}
+use Rattle.prolly_tree.specs.File.{root_reference}
+use Rattle.prolly_tree.specs.Tree.{Tree}
+use Rattle.prolly_root_diff.specs.Sides.{AreLastBelow, AreSiblingsOf, IsAtRoot, IsSideOf}
+use Rattle.prolly_root_diff.specs.declared.side.Side.{Side}
+
+-- What a walk keeps of a tree at its beginning is so of any content with this root.
+pub begins_in : {T : Type 0} (is_place : Content → (level : ℕ) → Tree level → T → Type 0)
+    (content : Content) (root : List ℕ) (side : Side T) → IsAtRoot root side →
+    root ≡ root_reference (sha512_cut content.bits) content.version content.pairs →
+    IsSideOf is_place content side
+begins_in is_place content root side at is =
+    subst (AllByRecursion (AreSiblingsOf is_place content)) (sym at.one) (
+      subst (AreLastBelow is_place content
+          (at.whole.next.0 ∷ map (λ r. r.0) at.whole.behind.items)) (sym at.top)
+          (ap (λ rs. at.whole.next.0 ∷ map (λ r. r.0) rs) at.alone ∙ ap (λ r. r ∷ []) (at.next ∙ is)),
+      tt,
+    )

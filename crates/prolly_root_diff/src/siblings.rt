@@ -1,0 +1,191 @@
+//! The subtrees that are due below one node.
+ghost use Rattle.std.specs.Prelude.{◌≡◌, ◌<◌, [], ◌∷◌, map, true, false, drop, None, IfOk, IfErr};
+ghost use Rattle.std.specs.Prelude.{MatchOption};
+ghost use Rattle.prolly_check.specs.Content.{Content};
+ghost use Rattle.prolly_check.specs.Entries.{IsNode, IsWhole, children_in};
+ghost use Rattle.prolly_check.specs.Way.{FallsTo, IsNamed, level_of};
+ghost use Rattle.prolly_root.specs.ChunkSource.{HasAsked};
+ghost use Rattle.prolly_root.specs.Descent.{StandsBelow};
+ghost use Rattle.prolly_root.specs.RootFault.{IsOrFails, MayFail, OnlyRead};
+ghost use Rattle.prolly_root_diff.specs.Sides.{AreChildrenOf, AreSiblingsOf, HaveSame};
+ghost use Rattle.prolly_root_diff.specs.Sides.{IsBehindFirst, IsTopThere, bound_of};
+ghost use Rattle.prolly_root_diff.specs.Sides.{level_above};
+
+use prolly_check::laws::tops_are_read;
+use prolly_check::{falls_to, split_first_child};
+use prolly_entry::{Ref, Version};
+use prolly_root::{ChunkSource, RootFault, tested_chunk};
+use std::alloc::{AllocError, Global};
+use std::collections::VecDeque;
+
+/// A level is below this number.
+const LEVELS: u16 = 256;
+
+/// The subtrees that are due below one node; or the whole tree, where nothing of it was read yet.
+#[derive(Drop)]
+pub(crate) struct Siblings<T> {
+    /// The reference of the next one.
+    pub(crate) next: Ref,
+    /// The references of those behind it.
+    pub(crate) behind: VecDeque<Ref>,
+    /// The node; none stands above the root.
+    pub(crate) parent: Option<Parent<T>>,
+}
+
+/// A node of which children are due.
+#[derive(Clone, Copy)]
+pub(crate) struct Parent<T> {
+    /// Where it stands.
+    pub(crate) place: T,
+    pub(crate) level: u8,
+    /// How many children it has.
+    pub(crate) count: usize,
+}
+
+impl<T: Copy + Drop> Siblings<T> {
+    /// The whole tree with this root.
+    pub(crate) fn of_root(alloc: Global, root: &Ref) -> Siblings<T>
+        ensures next { result.next ≡ root.now }
+        ensures alone { result.behind.items ≡ [] }
+        ensures top { result.parent ≡ None }
+    {
+        Siblings {
+            next: *root,
+            behind: VecDeque::new(alloc),
+            parent: None,
+        }
+    }
+
+    /// The children of the node with these bytes, which stands there; none where it has none.
+    pub(crate) fn below(
+        alloc: Global,
+        version: Version,
+        node: &[u8],
+        place: T,
+    ) -> Result<Option<Siblings<T>>, AllocError>
+        requires whole { IsWhole version node.now }
+        requires high { 0 < level_of node.now }
+        ensures { IfOk result (λ siblings. MatchOption siblings
+            (children_in version (drop 1 node.now) ≡ [])
+            (AreChildrenOf version node.now place)) }
+    {
+        let mut behind = references_in(alloc, version, &node[1..])?;
+        let count = behind.len();
+        let Some(next) = behind.pop_front() else {
+            return Ok(None);
+        };
+        let parent = Parent {
+            place,
+            level: node[0],
+            count,
+        };
+        Ok(Some(Siblings {
+            next,
+            behind,
+            parent: Some(parent),
+        }))
+    }
+
+    /// The level of the node above.
+    pub(crate) fn above(&self) -> Option<u8>
+        ensures { result ≡ level_above self.now }
+    {
+        match &self.parent {
+            None => None,
+            Some(parent) => Some(parent.level),
+        }
+    }
+
+    /// A number that the level of each of them is below.
+    pub(crate) fn bound(&self) -> u16
+        ensures { result ≡ bound_of self.now.parent }
+    {
+        match &self.parent {
+            None => LEVELS,
+            Some(parent) => u16::from(parent.level),
+        }
+    }
+
+    /// Goes on behind the next one, and answers whether there is one.
+    pub(crate) fn pass(&mut self) -> bool
+        ensures more { result ≡ true → IsBehindFirst self.old self.new }
+        ensures none { result ≡ false → self.old.behind.items ≡ [] }
+    {
+        match self.behind.pop_front() {
+            Some(next) => {
+                self.next = next;
+                true
+            }
+            None => false,
+        }
+    }
+
+    /// Finds the next one.
+    fn find<S: ChunkSource<Place = T>>(
+        &mut self,
+        source: &mut S,
+        version: Version,
+    ) -> Result<T, RootFault>
+        ensures same { HaveSame self.old self.new }
+        ensures lawful { (content : Content) → S.has source.old content →
+            version ≡ content.version → AreSiblingsOf S.is_place content self.old →
+            AreSiblingsOf S.is_place content self.new × IsOrFails (StandsBelow S.is_place content
+            self.old.next.0 (level_above self.old)) OnlyRead result }
+        ensures asked { HasAsked S.has S.failures source.old source.new result }
+    {
+        // By these laws the tops of a lawful tree's subtrees are found by their references.
+        tops_are_read();
+        match &mut self.parent {
+            None => source.root(version),
+            Some(parent) => {
+                let left = self.behind.len() as u64;
+                let number = (parent.count as u64).saturating_sub(left).saturating_sub(1);
+                source.child(&mut parent.place, parent.level.saturating_sub(1), number)
+            }
+        }
+    }
+
+    /// Reads the chunk of the next one. Gives its place, too.
+    pub(crate) fn read<S: ChunkSource<Place = T>>(
+        &mut self,
+        alloc: Global,
+        source: &mut S,
+        version: Version,
+    ) -> Result<(Vec<u8>, T), RootFault>
+        ensures named { IfOk result (λ read. IsNamed version self.old.next.0 read.0.items) }
+        ensures falls { IfOk result (λ read. FallsTo (level_above self.old) read.0.items) }
+        ensures same { HaveSame self.old self.new }
+        ensures lawful { (content : Content) → S.has source.old content →
+            version ≡ content.version → AreSiblingsOf S.is_place content self.old →
+            AreSiblingsOf S.is_place content self.new × IsOrFails (λ read. IsTopThere S.is_place
+            content self.old.next.0 (read.0.items, read.1)) MayFail result }
+        ensures asked { HasAsked S.has S.failures source.old source.new result }
+    {
+        let place = self.find(source, version)?;
+        let chunk = tested_chunk(alloc, source, version, &self.next, &place)?;
+        if !falls_to(self.above(), &chunk) {
+            return Err(RootFault::Level {
+                chunk: S::number(&place),
+            });
+        }
+        Ok((chunk, place))
+    }
+}
+
+/// The references of the children of these entries of a node.
+fn references_in(
+    alloc: Global,
+    version: Version,
+    mut entries: &[u8],
+) -> Result<VecDeque<Ref>, AllocError>
+    requires { IsNode version entries.now [] }
+    ensures { IfOk result (λ references. map (λ r. r.0) references.items ≡
+        map (λ c. c.reference) (children_in version entries.now)) }
+{
+    let mut references = VecDeque::new(alloc);
+    while let Some((child, rest)) = split_first_child(version, entries) {
+        references.push_back(child.reference)?;
+        entries = rest;
+    }
+    Ok(references)
+}

@@ -1,0 +1,154 @@
+//! What is left of one tree.
+ghost use Rattle.std.specs.Prelude.{◌≡◌, ◌<◌, [], ◌∷◌, length, List, true, false, None, OnOk, IfOk, IfErr};
+ghost use Rattle.std.specs.Prelude.{MatchOption};
+ghost use Rattle.prolly_check.specs.Content.{Content};
+ghost use Rattle.prolly_entry.specs.Pair.{Pair as PairValue};
+ghost use Rattle.prolly_root.specs.ChunkSource.{HasAsked};
+ghost use Rattle.prolly_root.specs.RootFault.{IsOrFails, MayFail};
+ghost use Rattle.prolly_root_diff.specs.Left.{Due, Opens};
+ghost use Rattle.prolly_root_diff.specs.Sides.{IsAtRoot, IsSideOf, PassesFirst, PutBehindFirst};
+ghost use Rattle.prolly_root_diff.specs.Sides.{left_of};
+ghost use Rattle.prolly_root_diff.specs.Walks.{IsDue, IsReady};
+
+use crate::leaf::Leaf;
+use crate::siblings::Siblings;
+use prolly_check::laws::tops_are_read;
+use prolly_entry::{Pair, Ref, Version};
+use prolly_root::{ChunkSource, RootFault};
+use std::alloc::{AllocError, Global};
+use std::collections::VecDeque;
+
+/// The level of a leaf.
+const LEAF: u8 = 0;
+
+/// What is left of a tree: the pairs in hand, and behind them the subtrees that are due.
+#[derive(Drop)]
+pub(crate) struct Side<T> {
+    /// Those that are left of the leaf in hand.
+    pub(crate) leaf: Leaf,
+    /// The subtrees, those below the lowest node first.
+    pub(crate) due: VecDeque<Siblings<T>>,
+}
+
+impl<T: Copy + Drop> Side<T> {
+    /// All of the tree with this root.
+    pub(crate) fn of_root(alloc: Global, root: &Ref) -> Result<Side<T>, AllocError>
+        ensures { IfOk result (IsAtRoot root.now.0) }
+    {
+        let mut due = VecDeque::new(alloc);
+        due.push_front(Siblings::of_root(alloc, root))?;
+        Ok(Side {
+            leaf: Leaf::none(alloc),
+            due,
+        })
+    }
+
+    /// Whether a pair is in hand, or nothing is left.
+    pub(crate) fn is_ready(&self) -> bool
+        ensures yes { result ≡ true → IsReady (left_of self.now) }
+        ensures no { result ≡ false → IsDue (left_of self.now) }
+    {
+        !self.leaf.is_empty() || self.due.is_empty()
+    }
+
+    /// The reference of the first subtree that is due, and a number that its level is below.
+    pub(crate) fn first_due(&self) -> Option<(Ref, u16)>
+        ensures { MatchOption result ((left_of self.now).due ≡ []) (λ first. (rest : List Due) ×
+            ((left_of self.now).due ≡ record { reference = first.0.0; bound = first.1 } ∷ rest)) }
+    {
+        let siblings = self.due.front()?;
+        Some((siblings.next, siblings.bound()))
+    }
+
+    /// Goes on behind the first subtree that is due.
+    pub(crate) fn pass_first(&mut self) -> Result<(), AllocError>
+        requires { IsDue (left_of self.old) }
+        ensures { OnOk result (PassesFirst self.old self.new) }
+    {
+        let Some(siblings) = self.due.pop_front() else {
+            return Ok(());
+        };
+        put_others(&mut self.due, siblings)
+    }
+
+    /// Reads the chunk of the first subtree that is due, where no pair is in hand.
+    pub(crate) fn open_first<S: ChunkSource<Place = T>>(
+        &mut self,
+        alloc: Global,
+        source: &mut S,
+        version: Version,
+    ) -> Result<(), RootFault>
+        requires { IsDue (left_of self.old) }
+        ensures opens { OnOk result (Opens version (left_of self.old) (left_of self.new)) }
+        ensures lawful { (content : Content) → S.has source.old content →
+            version ≡ content.version → IsSideOf S.is_place content self.old →
+            IsOrFails (λ _. IsSideOf S.is_place content self.new) MayFail result }
+        ensures asked { HasAsked S.has S.failures source.old source.new result }
+    {
+        // By this law the children of a chunk of a lawful tree are the trees below it.
+        tops_are_read();
+        let Some(mut siblings) = self.due.pop_front() else {
+            return Ok(());
+        };
+        let (chunk, place) = siblings.read(alloc, source, version)?;
+        put_others(&mut self.due, siblings)?;
+        if chunk[0] == LEAF {
+            self.leaf = Leaf::of(version, chunk);
+            return Ok(());
+        }
+        match Siblings::below(alloc, version, &chunk, place)? {
+            None => Ok(()),
+            Some(children) => Ok(put_first(&mut self.due, children)?),
+        }
+    }
+
+    /// The key and the value of the first pair in hand.
+    pub(crate) fn first(&self) -> Option<(&[u8], &[u8])>
+        ensures { MatchOption result (self.now.leaf ≡ []) (λ first. (rest : List PairValue) ×
+            (self.now.leaf ≡ record { key = first.0.now; value = first.1.now } ∷ rest)) }
+    {
+        self.leaf.first()
+    }
+
+    /// Goes on behind the first pair in hand.
+    pub(crate) fn pass_pair(&mut self)
+        ensures pair { (first : PairValue) (rest : List PairValue) →
+            self.old.leaf ≡ first ∷ rest → self.new.leaf ≡ rest }
+        ensures due { self.new.due ≡ self.old.due }
+    {
+        self.leaf.pass();
+    }
+
+    /// Takes the first pair in hand.
+    pub(crate) fn take(&mut self, alloc: Global) -> Result<Pair, AllocError>
+        requires { 0 < length self.old.leaf }
+        ensures pair { IfOk result (λ first. self.old.leaf ≡ first ∷ self.new.leaf) }
+        ensures due { self.new.due ≡ self.old.due }
+    {
+        self.leaf.take(alloc)
+    }
+}
+
+/// Puts the subtrees behind the next one of these before the others, where some are.
+fn put_others<T: Copy + Drop>(
+    due: &mut VecDeque<Siblings<T>>,
+    mut siblings: Siblings<T>,
+) -> Result<(), AllocError>
+    ensures { OnOk result (PutBehindFirst siblings due.old.items due.new.items) }
+{
+    if !siblings.pass() {
+        return Ok(());
+    }
+    put_first(due, siblings)
+}
+
+/// Puts these before the others.
+fn put_first<T: Copy + Drop>(
+    due: &mut VecDeque<Siblings<T>>,
+    siblings: Siblings<T>,
+) -> Result<(), AllocError>
+    ensures { OnOk result (due.new.items ≡ siblings ∷ due.old.items) }
+{
+    due.push_front(siblings)?;
+    Ok(())
+}
