@@ -5,6 +5,7 @@
 //! tested, the test goes on.
 use crate::expect::{expect_bytes, expect_eq};
 use crate::rooted::{Chunks, Rooted, Shown, Sought, expect_shown, keys_from, look_up, open};
+use crate::rooted_differences::changes_between;
 use prolly_check::{CheckFault, check};
 use prolly_entry::{
     Pair, Record, RecordFault, Ref, Sha512Cut, Version, append_child, append_child_as, append_pair,
@@ -14,6 +15,7 @@ use prolly_file::{
     FromRead, ScratchFault, ScriptSink, Sink, SinkFault, WholeFault, read_whole, scratch_as,
 };
 use prolly_root::{Reader, RootFault, Subtree};
+use prolly_root_diff::RootDiffFault;
 use prolly_test_parts::{joined, pairs_of};
 use std::alloc::{AllocError, Global};
 use std::process::Abort;
@@ -234,4 +236,24 @@ fn expect_scan(rt: &impl Abort, alloc: Global) -> Result<(), Fail> {
 #[test]
 fn a_scan_wants_memory_and_goes_on_later(rt: HostRuntime) -> Result<(), Fail> {
     expect_scan(&rt, rt.alloc())
+}
+
+#[test]
+fn a_difference_by_the_roots_wants_memory_and_gives_no_more(rt: HostRuntime) -> Result<(), Fail> {
+    let alloc = rt.alloc();
+    let before = Rooted::of(alloc, Version::Two, &[b"a", b"b"])?;
+    let after = Rooted::of(alloc, Version::Two, &[b"b", b"c"])?;
+    let mut old = before.chunks(alloc, 0)?;
+    let mut new = after.chunks(alloc, 0)?;
+    let (changes, fault) = changes_between(&rt, alloc, (&before, &after), &mut old, &mut new)?;
+    let whole: &[u8] = b"-a1+c1";
+    expect_eq(&rt, &whole.starts_with(&changes), &true);
+    match fault {
+        None => expect_bytes(&rt, &changes, whole),
+        Some(RootDiffFault::Old(fault) | RootDiffFault::New(fault)) => {
+            expect_eq(&rt, &fault, &RootFault::Memory);
+        }
+        Some(fault) => expect_eq(&rt, &fault, &RootDiffFault::Memory),
+    }
+    Ok(())
 }

@@ -16,3 +16,5 @@ mod growths;
 mod levels;
 #[cfg(test)]
 mod rooted;
+#[cfg(test)]
+mod rooted_differences;

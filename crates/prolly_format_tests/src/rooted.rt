@@ -31,10 +31,18 @@ pub(crate) struct Rooted {
 impl Rooted {
     /// The file of these keys, each with the value 1, of 0 bits: each pair is a leaf.
     pub(crate) fn of(alloc: Global, version: Version, keys: &[&[u8]]) -> Result<Rooted, Fail> {
+        Rooted::of_pairs(alloc, version, &pairs_of(alloc, keys)?)
+    }
+
+    /// The file of these pairs, of 0 bits.
+    pub(crate) fn of_pairs(
+        alloc: Global,
+        version: Version,
+        pairs: &[Pair],
+    ) -> Result<Rooted, Fail> {
         let cut = Sha512Cut::new(0).ok_or("bits")?;
-        let pairs = pairs_of(alloc, keys)?;
         let mut file = Vec::new(alloc);
-        let root = scratch_as(alloc, cut, version, &pairs, 12, &mut file)?;
+        let root = scratch_as(alloc, cut, version, pairs, 12, &mut file)?;
         Ok(Rooted {
             version,
             root,

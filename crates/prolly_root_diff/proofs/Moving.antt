@@ -15,7 +15,8 @@ use Rattle.prolly_diff.specs.lemmas.Walks.{alike_more, alike_none, maps_behind}
 use Rattle.prolly_root_diff.specs.Left.{Due, IsLeft, Left, Opens, OpensFirst, PassBy}
 use Rattle.std.proofs.Common.{arith}
 use Rattle.prolly_root_diff.proofs.Lists.{left_is}
-use Rattle.prolly_root_diff.proofs.Weights.{to_go, weighs, weights}
+use Rattle.prolly_root_diff.specs.ToGo.{to_go, weights}
+use Rattle.prolly_root_diff.proofs.Weights.{weighs}
 use Rattle.prolly_root_diff.specs.Walks.{AreLeft, BeginAlike, Clashing, GoOn, Lefts, Moves, Tells}
 use Rattle.prolly_root_diff.proofs.Passing.{passes_equal}
 

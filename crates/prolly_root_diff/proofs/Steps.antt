@@ -18,8 +18,8 @@ use Rattle.prolly_root_diff.specs.declared.side.Side.{Side}
 use Rattle.prolly_root_diff.specs.declared.siblings.Parent.{Parent}
 use Rattle.prolly_root_diff.proofs.Moving.{moves_on, other_way, pass_lighter, pass_moves}
 use Rattle.prolly_root_diff.proofs.Subtrees.{put_dues, put_lawful}
-use Rattle.prolly_root_diff.proofs.Taking.{adds, changes, ends, keeps, removes}
-use Rattle.prolly_root_diff.proofs.Weights.{to_go}
+use Rattle.prolly_root_diff.proofs.Taking.{adds, changes, ends, keeps, removes, takes_lighter}
+use Rattle.prolly_root_diff.specs.ToGo.{far, to_go}
 
 -- ---- one tree
 
@@ -138,6 +138,34 @@ module _ {T U : Type 0} (version : Version) (start : Lefts) (before new_before :
             ),
             comes.0,
           ) comes.1
+
+  pub skips_lighter : GoesByPairs (left_of before) (left_of after) ways.Skip →
+      Follows before new_before → new_before.due ≡ before.due → Follows after new_after →
+      new_after.due ≡ after.due → far New < far Old
+  skips_lighter g f due f' due' = by_pairs g.p g.q g.first g.second g.comes
+    where
+      by_pairs : (p q : Option Pair) → FirstPair before.leaf p → FirstPair after.leaf q →
+          ComesTo p q ways.Skip → far New < far Old
+      by_pairs None None first second comes = cc
+      by_pairs None (Some q) first second comes = cc
+      by_pairs (Some p) None first second comes = cc
+      by_pairs (Some p) (Some q) first second comes = omega (
+        arith,
+        takes_lighter (left_of before) p (left_of new_before) (
+          first.1 ∙ ap (λ ps. p ∷ ps) (sym (f p first.0 first.1)),
+          ap (λ d. flat_map dues d.items) due,
+        ),
+        takes_lighter (left_of after) q (left_of new_after) (
+          second.1 ∙ ap (λ qs. q ∷ qs) (sym (f' q second.0 second.1)),
+          ap (λ d. flat_map dues d.items) due',
+        ),
+      )
+
+-- a pair was taken
+pub takes_nearer : {T : Type 0} (old new : Side T) (p : Pair) → old.leaf ≡ p ∷ new.leaf →
+    new.due ≡ old.due → to_go (left_of new) < to_go (left_of old)
+takes_nearer old new p taken due = takes_lighter (left_of old) p (left_of new)
+    (taken, ap (λ d. flat_map dues d.items) due)
 
 module _ {T U : Type 0} (version : Version) (start : Lefts) (before : Side T) (after : Side U)
     (moves : Moves version start (record { before = left_of before; after = left_of after })) where

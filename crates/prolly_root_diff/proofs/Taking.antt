@@ -16,7 +16,7 @@ use Rattle.prolly_root_diff.specs.Left.{IsLeft, Left, pairs_of, tops_of}
 use Rattle.prolly_root_diff.specs.Walks.{AreLeft, Changes, Ends, FirstChange}
 use Rattle.prolly_root_diff.specs.Walks.{GoOn, IsReady, Lefts, Moves, Takes, TakesFirst, Tells}
 use Rattle.prolly_root_diff.proofs.Moving.{told}
-use Rattle.prolly_root_diff.proofs.Weights.{to_go, weights}
+use Rattle.prolly_root_diff.specs.ToGo.{to_go, weights}
 
 -- ---- in the map
 

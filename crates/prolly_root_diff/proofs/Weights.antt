@@ -12,18 +12,7 @@ use Rattle.prolly_check.specs.Kinds.{Entries, kind_of}
 use Rattle.prolly_check.specs.Way.{level_of}
 use Rattle.prolly_check.specs.Kinds.Entries.{Leaf, Node}
 use Rattle.prolly_root_diff.specs.Left.{Due, Left, Opens, due_of, opened}
-
--- what a subtree weighs whose top's level is below the number
-unfoldable pub weight : ℕ → ℕ
-weight zero = 1
-weight (suc n) = 2 ^ 64 * weight n
-
-abbrev pub weights : List Due → ℕ
-weights [] = 0
-weights (d ∷ ds) = weight d.bound + weights ds
-
-abbrev pub to_go : Left → ℕ
-to_go left = length left.pairs + weights left.due
+use Rattle.prolly_root_diff.specs.ToGo.{to_go, weight, weights}
 
 pub weighs : (n : ℕ) → 0 < weight n
 unfolding weight

@@ -4,5 +4,7 @@ pub mod Left
 pub mod Sides
 -- How a walk over two trees goes on, and what it gives.
 pub mod Walks
+-- How far a walk has to go yet.
+pub mod ToGo
 -- Lemmas for the crates above, by subject.
 pub mod lemmas

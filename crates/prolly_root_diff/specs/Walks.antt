@@ -245,6 +245,17 @@ GivesAll version lefts [] = Ends version lefts
 GivesAll version lefts (r ∷ rs) = (before : Option (List ℕ)) × (rest : Lefts) ×
     Changes version lefts r.key before r.value rest × GivesAll version rest rs
 
+-- A walk gave changes that these records say, one after another, and this is left behind them.
+abbrev pub GivesFirst : Version → Lefts → List Record → Lefts → Type 0
+GivesFirst version lefts [] rest = lefts ≡ rest
+GivesFirst version lefts (r ∷ rs) rest = (before : Option (List ℕ)) × (mid : Lefts) ×
+    Changes version lefts r.key before r.value mid × GivesFirst version mid rs rest
+
+-- The difference of the maps begins with these records.
+pub record BeginsWithRecords (old new : List Pair) (records : List Record) : Type 0 where
+  pub more : List Record
+  pub is : IsDifference old new (records ++ more)
+
 -- Two different chunks, each of which was read or is one of these two trees, have one reference.
 pub record FoundClash (before after : List (List ℕ)) : Type 0 where
   pub read : List (List ℕ)
@@ -259,4 +270,14 @@ WalksAreRight = (version : Version) (bits bits' : ℕ) (m m' : List Pair) (recor
     GivesAll version (at_roots (root_reference (sha512_cut bits) version m)
     (root_reference (sha512_cut bits') version m')) records →
     IsDifference m m' records
+    ⊎ FoundClash (chunk_bytes version bits m) (chunk_bytes version bits' m')
+
+-- Law: with what a walk from two roots gave so far the difference of the maps of these roots begins;
+-- or else two different chunks have one reference.
+abbrev pub FirstAreRight : Type 0
+FirstAreRight = (version : Version) (bits bits' : ℕ) (m m' : List Pair) (records : List Record)
+    (rest : Lefts) → IsMap m → AllByRecursion IsPair m → IsMap m' → AllByRecursion IsPair m' →
+    GivesFirst version (at_roots (root_reference (sha512_cut bits) version m)
+    (root_reference (sha512_cut bits') version m')) records rest →
+    BeginsWithRecords m m' records
     ⊎ FoundClash (chunk_bytes version bits m) (chunk_bytes version bits' m')

@@ -1,6 +1,7 @@
 //! The walk over two trees.
 ghost use Rattle.std.specs.Prelude.{◌≡◌, true, false, Err, IfOk, IfErr, OnErr, OnOk};
 ghost use Rattle.prolly_root_diff.specs.Sides.{left_of};
+ghost use Rattle.prolly_root_diff.specs.ToGo.{ComesNearer};
 ghost use Rattle.prolly_root_diff.specs.Walks.{Gives, IsBegun, TellsNew, TellsOld, lefts_of};
 
 use crate::change::RootChange;
@@ -21,7 +22,9 @@ use std::marker::Model;
 /// That holds whatever the sources do. The trees that the sources have are never refused.
 ///
 /// Memory is taken for a leaf of each tree, and for the references of the children of the nodes
-/// above it. Of each tree at most the chunks are read that lead to a change, and of these each once.
+/// above it. A chunk is read where the other tree has not the same one in its place, and once. So
+/// these are the chunks that the other tree lacks, and now and then one beside them; a change wants
+/// at most those on its way down, and those beside it.
 #[derive(Drop)]
 pub struct RootDifferences<T, U> {
     version: Version,
@@ -78,6 +81,8 @@ impl<T: Copy + Drop, U: Copy + Drop> RootDifferences<T, U> {
         ensures version { self.new.version ≡ self.old.version }
         ensures gives { IfOk result (λ change. Gives self.old.version (lefts_of self.old) change
             (lefts_of self.new)) }
+        ensures nearer { IfOk result (λ change. ComesNearer (lefts_of self.old) change
+            (lefts_of self.new)) }
         ensures stops { OnErr result (self.new.stopped ≡ true) }
         ensures goes_on { OnOk result (self.new.stopped ≡ false) }
         ensures stopped { self.old.stopped ≡ true → result ≡ Err RootDiffFault.Stopped }
@@ -122,6 +127,9 @@ fn next_change<
     after: &mut Side<U>,
 ) -> Result<Option<RootChange>, RootDiffFault>
     ensures gives { IfOk result (λ change. Gives version
+        (record { before = left_of before.old; after = left_of after.old }) change
+        (record { before = left_of before.new; after = left_of after.new })) }
+    ensures nearer { IfOk result (λ change. ComesNearer
         (record { before = left_of before.old; after = left_of after.old }) change
         (record { before = left_of before.new; after = left_of after.new })) }
     ensures only { IfErr result (λ fault. fault ≡ RootDiffFault.Stopped → ⊥) }

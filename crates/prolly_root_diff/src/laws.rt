@@ -1,7 +1,7 @@
 //! Laws of what is left of two trees. They are the contract of a function that does nothing: to call
 //! it is to know the laws, and to prove the crate is to prove them.
 ghost use Rattle.prolly_root_diff.specs.Left.{BeginsAtRoot, OpensFirst, PassesEqual};
-ghost use Rattle.prolly_root_diff.specs.Walks.{WalksAreRight};
+ghost use Rattle.prolly_root_diff.specs.Walks.{FirstAreRight, WalksAreRight};
 
 use prolly_check::laws::tops_are_read;
 
@@ -12,6 +12,7 @@ pub fn walks_are_right()
     ensures begins { BeginsAtRoot }
     ensures opens { OpensFirst }
     ensures passes { PassesEqual }
+    ensures first { FirstAreRight }
     ensures all { WalksAreRight }
 {
     tops_are_read();

@@ -2,6 +2,7 @@ use Rattle.std.proofs.Common.{arith}
 use Rattle.prolly_root_diff.specs.Sides.{left_of}
 use Rattle.prolly_root_diff.proofs.Moving.{moves_on, opens_after, opens_before}
 use Rattle.prolly_root_diff.proofs.Moving as moving
+use Rattle.prolly_root_diff.proofs.Steps.{skips_lighter, takes_nearer}
 use Rattle.prolly_root_diff.proofs.Steps.{adds_first, changes_first, ends_there, goes_behind, goes_by}
 use Rattle.prolly_root_diff.proofs.Steps.{goes_down, passes_lighter, passes_on, removes_first}
 use Rattle.prolly_root_diff.proofs.Steps.{skips_on, stays}
@@ -14,6 +15,7 @@ walk-init g c = record {
     before = left_of c.args.before.now;
     after = left_of c.args.after.now;
   });
+  nearer = omega arith;
   old = stays g.S.ChunkSource.has g.S.ChunkSource.failures g.S.ChunkSource.is_place c.args.version
       c.args.old.now c.args.before.now;
   new = stays g.R.ChunkSource.has g.R.ChunkSource.failures g.R.ChunkSource.is_place c.args.version
@@ -33,6 +35,14 @@ walk-preserved-in_ok-pass_first-in-Pass-2 g c = record {
       c.walk.before c.pass_first.new.self c.walk.after c.pass_first-in-Pass.new.self
       c.walk.invariant.moves c.in-Pass.ensures c.in_ok-pass_first-in-Pass.ensures
       c.in_ok-pass_first-in-Pass-2.ensures;
+  nearer = omega (
+    arith,
+    c.walk.invariant.nearer,
+    passes_lighter c.args.version
+        (record { before = left_of c.args.before.now; after = left_of c.args.after.now })
+        c.walk.before c.pass_first.new.self c.walk.after c.pass_first-in-Pass.new.self
+        c.in-Pass.ensures c.in_ok-pass_first-in-Pass.ensures c.in_ok-pass_first-in-Pass-2.ensures,
+  );
   old = goes_behind g.S.ChunkSource.has g.S.ChunkSource.failures g.S.ChunkSource.is_place
       c.args.version c.args.old.now c.walk.old c.args.before.now c.walk.before c.pass_first.new.self
       c.walk.invariant.old c.in_ok-pass_first-in-Pass.ensures;
@@ -57,6 +67,12 @@ walk-preserved-in_default g c = record {
       c.walk.invariant.moves (opens_before c.walks_are_right.ensures.opens c.args.version
       (left_of c.walk.before) (left_of c.open_first.new.self) (left_of c.walk.after)
       c.in_default.ensures.opens);
+  nearer = omega (
+    arith,
+    c.walk.invariant.nearer,
+    opens_lighter c.args.version (left_of c.walk.before) (left_of c.open_first.new.self)
+        c.in_default.ensures.opens,
+  );
   old = goes_down g.S.ChunkSource.has g.S.ChunkSource.failures g.S.ChunkSource.is_place
       c.args.version c.args.old.now c.walk.old c.open_first.new.source c.args.before.now
       c.walk.before c.open_first.new.self c.walk.invariant.old c.in_default.ensures.lawful
@@ -80,6 +96,12 @@ walk-preserved-in_default-open_first g c = record {
       c.walk.invariant.moves (opens_after c.walks_are_right.ensures.opens c.args.version
       (left_of c.walk.before) (left_of c.walk.after) (left_of c.open_first-in-OpenNew.new.self)
       c.in_default-open_first.ensures.opens);
+  nearer = omega (
+    arith,
+    c.walk.invariant.nearer,
+    opens_lighter c.args.version (left_of c.walk.after) (left_of c.open_first-in-OpenNew.new.self)
+        c.in_default-open_first.ensures.opens,
+  );
   old = c.walk.invariant.old;
   new = goes_down g.R.ChunkSource.has g.R.ChunkSource.failures g.R.ChunkSource.is_place
       c.args.version c.args.new.now c.walk.new c.open_first-in-OpenNew.new.source
@@ -95,6 +117,15 @@ walk-preserved g c = record {
       c.walk.before c.pass_pair.new.self c.walk.after c.pass_pair-in-Skip.new.self
       c.walk.invariant.moves c.in-Skip.ensures c.pass_pair.ensures.pair c.pass_pair.ensures.due
       c.pass_pair-in-Skip.ensures.pair c.pass_pair-in-Skip.ensures.due;
+  nearer = omega (
+    arith,
+    c.walk.invariant.nearer,
+    skips_lighter c.args.version
+        (record { before = left_of c.args.before.now; after = left_of c.args.after.now })
+        c.walk.before c.pass_pair.new.self c.walk.after c.pass_pair-in-Skip.new.self
+        c.in-Skip.ensures c.pass_pair.ensures.pair c.pass_pair.ensures.due
+        c.pass_pair-in-Skip.ensures.pair c.pass_pair-in-Skip.ensures.due,
+  );
   old = goes_by g.S.ChunkSource.has g.S.ChunkSource.failures g.S.ChunkSource.is_place
       c.args.version c.args.old.now c.walk.old c.args.before.now c.walk.before c.pass_pair.new.self
       c.walk.invariant.old c.pass_pair.ensures.due;
@@ -130,3 +161,36 @@ pub returns-in-End-clause-gives : goal.returns-in-End-clause-gives
 returns-in-End-clause-gives g c = ends_there c.args.version
     (record { before = left_of c.args.before.now; after = left_of c.args.after.now })
     c.walk.before c.walk.after c.walk.invariant.moves c.in-End.ensures
+
+pub walk-smaller : goal.walk-smaller
+walk-smaller g c = skips_lighter c.args.version
+    (record { before = left_of c.args.before.now; after = left_of c.args.after.now })
+    c.walk.before c.pass_pair.new.self c.walk.after c.pass_pair-in-Skip.new.self
+    c.in-Skip.ensures c.pass_pair.ensures.pair c.pass_pair.ensures.due
+    c.pass_pair-in-Skip.ensures.pair c.pass_pair-in-Skip.ensures.due
+
+pub returns-in-Removed-clause-nearer : goal.returns-in-Removed-clause-nearer
+returns-in-Removed-clause-nearer g c = omega (
+  arith,
+  c.walk.invariant.nearer,
+  takes_nearer c.walk.before c.take.new.self c.in_ok-take-in-Removed.field-0
+      c.in_ok-take-in-Removed.ensures.pair c.in_ok-take-in-Removed.ensures.due,
+)
+
+pub returns-in-Added-clause-nearer : goal.returns-in-Added-clause-nearer
+returns-in-Added-clause-nearer g c = omega (
+  arith,
+  c.walk.invariant.nearer,
+  takes_nearer c.walk.after c.take-in-Added.new.self c.in_ok-take-in-Added.field-0
+      c.in_ok-take-in-Added.ensures.pair c.in_ok-take-in-Added.ensures.due,
+)
+
+pub returns-in-Changed-clause-nearer : goal.returns-in-Changed-clause-nearer
+returns-in-Changed-clause-nearer g c = omega (
+  arith,
+  c.walk.invariant.nearer,
+  takes_nearer c.walk.before c.take-in-Changed.new.self c.in_ok-old-in-Changed.old
+      c.in_ok-old-in-Changed.ensures.pair c.in_ok-old-in-Changed.ensures.due,
+  takes_nearer c.walk.after c.take-in-Changed-2.new.self c.in_ok-take-in-Changed.field-0
+      c.in_ok-take-in-Changed.ensures.pair c.in_ok-take-in-Changed.ensures.due,
+)

@@ -1,13 +1,15 @@
-use Rattle.std.proofs.Common.{◌+◌}
+use Rattle.std.proofs.Common.{◌≤◌}
 use Rattle.prolly_root_diff.specs.Sides.{left_of}
 use Rattle.prolly_root_diff.specs.Walks.{GoesOn, Moves}
-use Rattle.prolly_root_diff.proofs.Weights.{to_go}
+use Rattle.prolly_root_diff.specs.ToGo.{far}
 use Rattle.prolly_root_diff.proofs.differences.next_change.Given as goal
 
 abbrev pub invariant-walk : goal.invariant-walk
 invariant-walk g l = record {
   moves : Moves l.version (record { before = left_of l.fn.before; after = left_of l.fn.after })
       (record { before = left_of l.before; after = left_of l.after });
+  nearer : far (record { before = left_of l.before; after = left_of l.after }) ≤
+      far (record { before = left_of l.fn.before; after = left_of l.fn.after });
   old : GoesOn g.S.ChunkSource.has g.S.ChunkSource.failures g.S.ChunkSource.is_place l.version
       l.fn.old l.old l.fn.before l.before;
   new : GoesOn g.R.ChunkSource.has g.R.ChunkSource.failures g.R.ChunkSource.is_place l.version
@@ -15,4 +17,4 @@ invariant-walk g l = record {
 }
 
 abbrev pub decreases-walk : goal.decreases-walk
-decreases-walk g l = to_go (left_of l.before) + to_go (left_of l.after)
+decreases-walk g l = far (record { before = left_of l.before; after = left_of l.after })
