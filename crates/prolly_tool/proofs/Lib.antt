@@ -22,3 +22,5 @@ pub mod RootDumpSteps
 pub mod KeyRanks
 -- What `stat` answers of a file of either kind.
 pub mod Stating
+-- Writing a difference by the roots, change by change.
+pub mod RootDiffSteps

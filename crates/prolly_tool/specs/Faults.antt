@@ -21,13 +21,19 @@ use Rattle.prolly_tool.specs.declared.faults.fault.Fault.TheVariants.{BadTextKey
 use Rattle.prolly_tool.specs.declared.faults.fault.Fault.TheVariants.{NotUnicode}
 use Rattle.prolly_tool.specs.declared.faults.fault.Fault.TheVariants.{OutIsStdout, CheckOld}
 use Rattle.prolly_tool.specs.declared.faults.fault.Fault.TheVariants.{CheckNew}
-use Rattle.prolly_tool.specs.declared.faults.fault.Fault.TheVariants.{Proof, Root, BadRoot, Stream}
+use Rattle.prolly_tool.specs.declared.faults.fault.Fault.TheVariants.{Proof, Root, RootOld, RootNew}
+use Rattle.prolly_tool.specs.declared.faults.fault.Fault.TheVariants.{BadRoot, Stream}
 use Rattle.prolly_text.specs.LinesFaults.{lines_text}
 
 -- What is said of one of two files, which is told first; want of memory is no file's fault.
 abbrev pub side_fault_text : List ℕ → CheckFault → List ℕ
 side_fault_text side checks.Memory = check_fault_text checks.Memory
 side_fault_text side fault = side ++ check_fault_text fault
+
+-- So it is where its root is known.
+abbrev pub root_side_text : List ℕ → RootFault → List ℕ
+root_side_text side roots.Memory = root_fault_text roots.Memory
+root_side_text side fault = side ++ root_fault_text fault
 
 -- What is said of a fault.
 abbrev pub fault_text : Fault → List ℕ
@@ -42,6 +48,8 @@ fault_text (CheckOld fault) = side_fault_text (codes "old ") fault
 fault_text (CheckNew fault) = side_fault_text (codes "new ") fault
 fault_text (Proof fault) = proof_fault_text fault
 fault_text (Root fault) = root_fault_text fault
+fault_text (RootOld fault) = root_side_text (codes "old ") fault
+fault_text (RootNew fault) = root_side_text (codes "new ") fault
 fault_text NoCounts = codes "chunk file: no counts"
 fault_text InputTooLong = codes "input too long"
 fault_text BadKey = codes "not a key in hexadecimal"
@@ -115,6 +123,8 @@ fault_status (CheckOld fault) = check_status fault
 fault_status (CheckNew fault) = check_status fault
 fault_status (Proof fault) = 4
 fault_status (Root fault) = root_status fault
+fault_status (RootOld fault) = root_status fault
+fault_status (RootNew fault) = root_status fault
 fault_status NoCounts = 4
 fault_status InputTooLong = 5
 fault_status BadKey = 2

@@ -26,6 +26,8 @@ pub mod Counts
 pub mod Diff
 -- What the commands `prove` and `verify` answer.
 pub mod Proofs
+-- What `diff` answers to who names the roots.
+pub mod RootDiffs
 -- What `scan` answers to who names the root.
 pub mod RootScans
 -- What `dump` answers to who names the root.

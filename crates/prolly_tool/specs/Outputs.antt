@@ -18,6 +18,12 @@ pub record TookBytes {W : Type 0} (seen : W → SinkView) (bytes : List ℕ) (ol
   pub unfailed : (seen new).failures ≡ (seen old).failures
   pub took : (seen old).is_keeping ≡ true → (seen new).taken ≡ (seen old).taken ++ bytes
 
+-- So far the sink took these bytes, and goes on.
+pub record TookSoFar {W : Type 0} (seen : W → SinkView) (bytes : List ℕ) (old new : W)
+    : Type 0 where
+  pub all : TookBytes seen bytes old new
+  pub keeping : (seen old).is_keeping ≡ true → (seen new).is_keeping ≡ true
+
 -- The sink took all of these bytes, no call of it failed, and where it had held no byte back before
 -- it holds none back now.
 pub record TookAll {W : Type 0} (seen : W → SinkView) (bytes : List ℕ) (old new : W) : Type 0 where

@@ -8,10 +8,10 @@ pub mod laws;
 mod lines;
 
 pub use answers::{
-    Answer, RootScan, StatForm, Stated, answer_build, answer_check, answer_check_by,
-    answer_check_by_root, answer_diff, answer_dump, answer_dump_by_root, answer_explain,
-    answer_found, answer_found_pair, answer_get, answer_get_in, answer_nth, answer_nth_in,
-    answer_pack, answer_pack_in, answer_prove, answer_prove_by_root, answer_scan,
+    Answer, RootDiff, RootScan, StatForm, Stated, answer_build, answer_check, answer_check_by,
+    answer_check_by_root, answer_diff, answer_diff_by_root, answer_dump, answer_dump_by_root,
+    answer_explain, answer_found, answer_found_pair, answer_get, answer_get_in, answer_nth,
+    answer_nth_in, answer_pack, answer_pack_in, answer_prove, answer_prove_by_root, answer_scan,
     answer_scan_by_root, answer_scan_in, answer_scratch, answer_stat, answer_verify,
 };
 pub use faults::{Fault, NameFault, OutputFault};

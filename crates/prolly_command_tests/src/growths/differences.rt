@@ -8,7 +8,7 @@ use prolly_tool::{Notation, RecordForm, answer_diff};
 use std::test::Fail;
 
 /// The record file of b=1 and c=1.
-const RECORDS: &[u8] = b"\0\x01b\0\0\0\x011\0\x01c\0\0\0\x011";
+pub(super) const RECORDS: &[u8] = b"\0\x01b\0\0\0\x011\0\x01c\0\0\0\x011";
 
 #[test]
 fn changes_are_written_or_want_memory(rt: HostRuntime) -> Result<(), Fail> {

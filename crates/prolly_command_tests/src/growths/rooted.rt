@@ -1,12 +1,13 @@
 //! What look-ups and a scan by the root show where they are refused memory.
+use super::differences::RECORDS;
 use super::{FILE_OF_ONE, PROOF, RECORD, expect_begun, expect_shown, expect_written};
 use crate::tools::look_up_answers::file_of_three;
 use prolly_entry::{Pair, Ref, Version};
 use prolly_file::{ScriptDevice, ScriptSink};
 use prolly_root::{FileChunks, Reader, RootFault};
 use prolly_tool::{
-    Notation, RecordForm, RootScan, answer_dump_by_root, answer_found, answer_found_pair,
-    answer_prove_by_root, answer_scan_by_root,
+    Notation, RecordForm, RootDiff, RootScan, answer_diff_by_root, answer_dump_by_root,
+    answer_found, answer_found_pair, answer_prove_by_root, answer_scan_by_root,
 };
 use std::alloc::{AllocError, Global};
 use std::test::Fail;
@@ -105,6 +106,32 @@ fn a_dump_by_the_root_is_written_or_wants_memory(rt: HostRuntime) -> Result<(), 
         let mut sink = ScriptSink::new(alloc, 4_096, None);
         let answer = answer_dump_by_root(alloc, &mut chunks, version, &root, form, &mut sink);
         expect_begun(&rt, answer, 0, sink.taken(), whole);
+    }
+    Ok(())
+}
+
+#[test]
+fn changes_by_the_roots_are_written_or_want_memory(rt: HostRuntime) -> Result<(), Fail> {
+    let alloc = rt.alloc();
+    let root = Ref::from_text(ROOT_OF_THREE).ok_or("the text of a root")?;
+    // A leaf is the same in both versions, and so is the root of a=1.
+    let mut file = FILE_OF_ONE.to_vec(alloc)?;
+    file[4] = 2;
+    for (form, whole) in [
+        (RecordForm::Records, RECORDS),
+        (RecordForm::Lines(Notation::Hex), b"62 31\n63 31\n"),
+    ] {
+        let mut sink = ScriptSink::new(alloc, 4_096, None);
+        let mut old = chunks_of(file.to_vec(alloc)?);
+        let mut new = chunks_of(file_of_three(alloc, Version::Two)?);
+        let diff = RootDiff {
+            version: Version::Two,
+            old: &root_of_one(),
+            new: &root,
+            form,
+        };
+        let answer = answer_diff_by_root(alloc, &mut old, &mut new, &diff, &mut sink);
+        expect_begun(&rt, answer, 1, sink.taken(), whole);
     }
     Ok(())
 }

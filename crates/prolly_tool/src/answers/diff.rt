@@ -105,7 +105,8 @@ fn answer_of(
     })
 }
 
-fn status_of(changed: bool) -> u8
+/// The status that tells whether there are changes.
+pub(crate) fn status_of(changed: bool) -> u8
     ensures { result ≡ status_of changed }
 {
     if changed { 1 } else { 0 }

@@ -178,7 +178,7 @@ pub(crate) fn key_behind(alloc: Global, key: &[u8]) -> Result<Vec<u8>, AllocErro
 }
 
 /// Flushes the sink.
-fn flush<W: Sink>(sink: &mut W) -> Result<(), Fault>
+pub(crate) fn flush<W: Sink>(sink: &mut W) -> Result<(), Fault>
     ensures bytes { (W.seen sink.old).is_keeping ≡ true →
         (W.seen sink.new).taken ≡ (W.seen sink.old).taken }
     ensures settled { OnOk result (IsSettled (W.seen sink.new)) }
@@ -191,7 +191,7 @@ fn flush<W: Sink>(sink: &mut W) -> Result<(), Fault>
 
 /// Flushes the sink before the fault is told, and answers it, or else that this failed. A sink of
 /// which a write failed is left as it is.
-fn fault_flushed<W: Sink>(sink: &mut W, fault: Fault) -> Fault
+pub(crate) fn fault_flushed<W: Sink>(sink: &mut W, fault: Fault) -> Fault
     ensures { ((fault ≡ Write) × (result ≡ fault) × (sink.new ≡ sink.old))
         ⊎ ((fault ≢ Write) × IsFlushed W.seen sink.old sink.new fault result) }
 {

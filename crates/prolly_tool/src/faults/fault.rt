@@ -1,7 +1,8 @@
 //! The faults of commands, each with its line and its status.
 ghost use Rattle.std.specs.Prelude.{◌≡◌, Some};
 ghost use Rattle.prolly_tool.specs.Faults.{fault_text, check_status, root_status, run_status};
-ghost use Rattle.prolly_tool.specs.Faults.{fault_status, side_fault_text, stream_status};
+ghost use Rattle.prolly_tool.specs.Faults.{fault_status, root_side_text, side_fault_text};
+ghost use Rattle.prolly_tool.specs.Faults.stream_status;
 
 use prolly_check::{CheckFault, StreamFault};
 use prolly_file::SinkFault;
@@ -38,6 +39,10 @@ pub enum Fault {
     Proof(ProofFault),
     /// A file has no answer to a look-up by a root.
     Root(RootFault),
+    /// The old file of two has not the tree of its root.
+    RootOld(RootFault),
+    /// The new file of two has not the tree of its root.
+    RootNew(RootFault),
     /// A chunk file of version One has no counts, by which a pair is found by its number.
     NoCounts,
     /// Standard input is longer than the program reads.
@@ -67,7 +72,9 @@ impl Fault {
                 check_status(fault)
             }
             Fault::Stream(fault) => stream_status(fault),
-            Fault::Root(fault) => root_status(fault),
+            Fault::Root(fault) | Fault::RootOld(fault) | Fault::RootNew(fault) => {
+                root_status(fault)
+            }
             Fault::Proof(_) | Fault::NoCounts => 4,
             Fault::Read | Fault::Write | Fault::InputTooLong | Fault::OutIsStdout => 5,
             Fault::BadKey | Fault::BadTextKey | Fault::BadRoot | Fault::NotUnicode => 2,
@@ -176,6 +183,8 @@ impl Display for Fault {
             Fault::CheckNew(fault) => SideText("new ", *fault).fmt(f),
             Fault::Proof(fault) => fault.fmt(f),
             Fault::Root(fault) => fault.fmt(f),
+            Fault::RootOld(fault) => RootSideText("old ", *fault).fmt(f),
+            Fault::RootNew(fault) => RootSideText("new ", *fault).fmt(f),
             Fault::NoCounts => f.write_str("chunk file: no counts"),
             Fault::InputTooLong => f.write_str("input too long"),
             Fault::BadKey => f.write_str("not a key in hexadecimal"),
@@ -197,6 +206,23 @@ impl Display for SideText<'_> {
     fn fmt<W: fmt::Write>(&self, f: &mut Formatter<W>) -> fmt::Result {
         let SideText(side, fault) = *self;
         if fault != CheckFault::Memory {
+            f.write_str(side)?;
+        }
+        fault.fmt(f)
+    }
+}
+
+/// Why one of two files has not the tree of its root, to be shown: which of them, and then the
+/// fault.
+#[derive(Clone, Copy)]
+pub struct RootSideText<'a>(pub &'a str, pub RootFault);
+
+impl Display for RootSideText<'_> {
+    ghost output = { λ shown. Some (root_side_text shown.0.now shown.1) };
+
+    fn fmt<W: fmt::Write>(&self, f: &mut Formatter<W>) -> fmt::Result {
+        let RootSideText(side, fault) = *self;
+        if fault != RootFault::Memory {
             f.write_str(side)?;
         }
         fault.fmt(f)

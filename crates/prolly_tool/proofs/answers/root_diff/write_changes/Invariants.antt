@@ -1,0 +1,19 @@
+use Rattle.std.proofs.Common.{◌≡◌}
+use Rattle.prolly_root_diff.specs.ToGo.{far}
+use Rattle.prolly_root_diff.specs.Walks.{lefts_of}
+use Rattle.prolly_tool.proofs.RootDiffSteps.{IsUnderWay, KeepsTo}
+use Rattle.prolly_tool.proofs.answers.root_diff.write_changes.Given as goal
+
+abbrev pub invariant-walk : goal.invariant-walk
+invariant-walk g l = record {
+  version : l.walk.version ≡ l.diff.version;
+  gave : IsUnderWay g.W.Sink.seen l.diff.version l.diff.old.now.0 l.diff.new.now.0
+      l.diff.form (lefts_of l.walk) l.changed l.fn.sink l.sink;
+  old : KeepsTo g.S.ChunkSource.has g.S.ChunkSource.failures g.S.ChunkSource.is_place
+      l.diff.version l.diff.old.now.0 l.fn.old l.old l.walk.before;
+  new : KeepsTo g.R.ChunkSource.has g.R.ChunkSource.failures g.R.ChunkSource.is_place
+      l.diff.version l.diff.new.now.0 l.fn.new l.new l.walk.after;
+}
+
+abbrev pub decreases-walk : goal.decreases-walk
+decreases-walk g l = far (lefts_of l.walk)
