@@ -24,6 +24,7 @@ from cases import (
     build,
     by_root,
     by_root_words,
+    checked_by_root,
     command_line,
     damaged,
     demo,
@@ -59,10 +60,10 @@ KNOWN_SIZES = [(0, 1, 45), (1, 1, 53), (2, 1, 127), (3, 1, 234), (1, 2, 53), (2,
 """Numbers of pairs, versions and sizes of chunk files, as docs/format.md gives them."""
 
 
-WITH_RUNS = (by_root, growths, kept, files, links, as_text, dumps, diffs, proofs, readers, progress, examples, installed, streams, scale, demo, misuse)
+WITH_RUNS = (by_root, growths, kept, files, links, as_text, dumps, diffs, proofs, readers, progress, examples, installed, streams, scale, demo, misuse, checked_by_root)
 """The parts that have runs of their own, those first that take long."""
 
-WITH_CASES = (damaged, build, random_runs, as_text, diffs, scratch, pack, command_line, look_ups, dumps, proofs, by_root_words, surveys)
+WITH_CASES = (damaged, build, random_runs, as_text, diffs, scratch, pack, command_line, look_ups, dumps, proofs, by_root_words, surveys, checked_by_root)
 """The parts that have cases."""
 
 PARTS = [(name_of(part), "all_runs") for part in WITH_RUNS] + [(name_of(part), "cases") for part in WITH_CASES]

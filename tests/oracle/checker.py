@@ -1,6 +1,6 @@
 """A second checker of chunk files, written after docs/format.md and nothing else."""
 
-from oracle.trees import END_SIZE, chunk_file, tree
+from oracle.trees import END_SIZE, chunk_file, reference, tree
 
 HEADER_SIZE, KEY_LIMIT, VALUE_LIMIT, BITS_LIMIT = 6, 1_024, 65_536, 24
 
@@ -94,3 +94,59 @@ def compare(chunks, end, pairs, bits, version):
             raise Fault(f"chunk {number} is not canonical")
     if end != chunk_file(pairs, bits, version)[-END_SIZE:]:
         raise Fault("bad end record")
+
+
+# ---- in the order of the bytes, where the root is known
+
+
+def flaw_by_root(content, version, root):
+    """The first fault of a file that is read once and compared with a root, or none."""
+    try:
+        found, bits = read_header(content)
+        if found != version:
+            raise Fault("wrong version")
+        chunks, pairs, rest = chunks_in_order(content[HEADER_SIZE:], bits, version)
+        end_in_order(chunks, pairs, rest, bits, version)
+        if reference(chunks[-1]) != root:
+            raise Fault("has another root")
+    except Fault as fault:
+        return str(fault).encode()
+    return None
+
+
+def chunks_in_order(content, bits, version):
+    """The chunks, the pairs that they hold, and what is left where no whole frame begins."""
+    chunks, held, place = [], [], 0
+    while content[place : place + 1] == b"C":
+        end = place + 9 + int.from_bytes(content[place + 1 : place + 9], "big")
+        if len(content) < place + 9 or len(content) < end:
+            break
+        chunks.append(content[place + 9 : end])
+        held.append(read_chunk(chunks[-1], len(chunks) - 1, version))
+        begin_as_lawful(chunks, pairs_in_order(held), bits, version)
+        place = end
+    return chunks, pairs_in_order(held), content[place:]
+
+
+def begin_as_lawful(chunks, pairs, bits, version):
+    """The chunks beside those that the pairs in them make, of which there may be more."""
+    lawful = [part.chunk for part in tree(pairs, bits, version).trees()]
+    for number, chunk in enumerate(chunks):
+        if lawful[number : number + 1] != [chunk]:
+            raise Fault(f"chunk {number} is not canonical")
+
+
+def end_in_order(chunks, pairs, rest, bits, version):
+    """What stands behind the last whole frame beside the end record."""
+    if rest[:1] in (b"", b"C"):
+        raise Fault("truncated")
+    if rest[:1] != b"E":
+        raise Fault(f"bad frame {len(chunks)}")
+    if len(list(tree(pairs, bits, version).trees())) != len(chunks):
+        raise Fault(f"chunk {len(chunks)} is not canonical")
+    if len(rest) < END_SIZE:
+        raise Fault("truncated")
+    if rest[:END_SIZE] != chunk_file(pairs, bits, version)[-END_SIZE:]:
+        raise Fault("bad end record")
+    if len(rest) > END_SIZE:
+        raise Fault("bytes after the end")

@@ -79,6 +79,7 @@ const UNUSABLE_WORDS: &[&str] = &[
     "verify --format 3 00000000000000000000000000000000 00",
     "get --format 3 --root 00000000000000000000000000000000 a.prl 00",
     "get --format 0 a.prl 00",
+    "check --format 3 a.prl",
     "get a.prl 00 --root",
     "forget a.prl",
 ];

@@ -18,7 +18,10 @@ const COMMANDS: &str = "\
      false })\n\
     scratch --sync --out a.prl => scratch (12, 1, Some(\"a.prl\"), WriteMode { atomic: \
      false, sync: true, force: false })\n\
-    check a.prl => check (\"a.prl\",)\n\
+    check a.prl => check (\"a.prl\", None, 1)\n\
+    check --root 00000000000000000000000000000000 --format 2 a.prl => check \
+     (\"a.prl\", Some(Ref([0, 0, 0, 0, 0, 0, 0, 0, 0, 0, 0, 0, 0, 0, 0, 0, 0, 0, 0, 0])), \
+     2)\n\
     get a.prl 61fF => get (\"a.prl\", [97, 255], None, 1, Hex)\n\
     get --root 00000000000000000000000000000000 a.prl 61 => get (\"a.prl\", [97], \
      Some(Ref([0, 0, 0, 0, 0, 0, 0, 0, 0, 0, 0, 0, 0, 0, 0, 0, 0, 0, 0, 0])), 1, Hex)\n\
@@ -150,7 +153,11 @@ pub(crate) fn fields_of(alloc: Global, command: &Command) -> Result<String, Allo
 fn reader(alloc: Global, command: &Command) -> Result<String, AllocError> {
     match command {
         Command::Explain { file, notation } => told(alloc, "explain", &(file, notation)),
-        Command::Check { file } => told(alloc, "check", &(file,)),
+        Command::Check {
+            file,
+            root,
+            version,
+        } => told(alloc, "check", &(file, root, version)),
         Command::Stat {
             file,
             json,

@@ -10,6 +10,7 @@ use std::process::Abort;
 use std::test::Fail;
 
 mod accepted;
+mod by_root;
 mod chunks;
 mod damaged;
 mod dumps;

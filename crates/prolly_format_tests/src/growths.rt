@@ -6,7 +6,7 @@
 use crate::expect::{expect_bytes, expect_eq};
 use crate::rooted::{Chunks, Rooted, Shown, Sought, expect_shown, keys_from, look_up, open};
 use crate::rooted_differences::changes_between;
-use prolly_check::{CheckFault, check};
+use prolly_check::{CheckFault, OneThread, StreamFault, check, check_by_root};
 use prolly_entry::{
     Pair, Record, RecordFault, Ref, Sha512Cut, Version, append_child, append_child_as, append_pair,
     append_record, records,
@@ -141,6 +141,22 @@ fn expect_checked(rt: &impl Abort, alloc: Global) -> Result<(), Fail> {
 #[test]
 fn a_check_wants_memory(rt: HostRuntime) -> Result<(), Fail> {
     expect_checked(&rt, rt.alloc())
+}
+
+/// Checks a file by its root, and fails unless it is accepted or memory was refused.
+fn expect_checked_by_root(rt: &impl Abort, alloc: Global) -> Result<(), Fail> {
+    let rooted = Rooted::of(alloc, Version::Two, &[b"a", b"b", b"c"])?;
+    let mut source = FromRead::new(rooted.file.as_slice());
+    match check_by_root(&OneThread, alloc, &mut source, Version::Two, &rooted.root) {
+        Ok(report) => expect_eq(rt, &(report.bits, report.chunks), &(0, 6)),
+        Err(fault) => expect_eq(rt, &fault, &StreamFault::Check(CheckFault::Memory)),
+    }
+    Ok(())
+}
+
+#[test]
+fn a_check_by_the_root_wants_memory(rt: HostRuntime) -> Result<(), Fail> {
+    expect_checked_by_root(&rt, rt.alloc())
 }
 
 /// A sink whose memory is refused has failed, and takes the bytes the next time.

@@ -87,7 +87,7 @@ fn number_of(command: &Command) -> u8 {
             files: _,
             ..
         } => 2,
-        Command::Check { file: _ } => 3,
+        Command::Check { file: _, .. } => 3,
         Command::Get {
             file: _,
             key: _,

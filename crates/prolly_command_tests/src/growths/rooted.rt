@@ -2,12 +2,14 @@
 use super::differences::RECORDS;
 use super::{FILE_OF_ONE, PROOF, RECORD, expect_begun, expect_shown, expect_written};
 use crate::tools::look_up_answers::file_of_three;
+use prolly_check::OneThread;
 use prolly_entry::{Pair, Ref, Version};
-use prolly_file::{ScriptDevice, ScriptSink};
+use prolly_file::{FromRead, ScriptDevice, ScriptSink};
 use prolly_root::{FileChunks, Reader, RootFault};
 use prolly_tool::{
-    Notation, RecordForm, RootDiff, RootScan, answer_diff_by_root, answer_dump_by_root,
-    answer_found, answer_found_pair, answer_prove_by_root, answer_scan_by_root,
+    Notation, RecordForm, RootDiff, RootScan, answer_check_by_root, answer_diff_by_root,
+    answer_dump_by_root, answer_found, answer_found_pair, answer_prove_by_root,
+    answer_scan_by_root,
 };
 use std::alloc::{AllocError, Global};
 use std::test::Fail;
@@ -80,6 +82,16 @@ fn a_scan_by_the_root_is_written_or_wants_memory(rt: HostRuntime) -> Result<(), 
     };
     let answer = answer_scan_by_root(alloc, &mut chunks, &scan, &mut sink);
     expect_begun(&rt, answer, 0, sink.taken(), b"61 31\n");
+    Ok(())
+}
+
+#[test]
+fn a_check_by_the_root_is_shown_or_wants_memory(rt: HostRuntime) -> Result<(), Fail> {
+    let alloc = rt.alloc();
+    let mut source = FromRead::new(FILE_OF_ONE);
+    let (version, root) = (Version::One, root_of_one());
+    let answer = answer_check_by_root(&OneThread, alloc, &mut source, version, &root);
+    expect_shown(&rt, answer, 0, b"ok siohomb4dih8dpq7rscofpf57l9lfog4 0 1\n");
     Ok(())
 }
 

@@ -2,7 +2,7 @@
 ghost use Rattle.std.specs.Prelude.{◌≡◌, Some};
 ghost use Rattle.prolly_tool.specs.Faults.{fault_text, check_status, root_status, run_status};
 ghost use Rattle.prolly_tool.specs.Faults.{fault_status, root_side_text, side_fault_text};
-ghost use Rattle.prolly_tool.specs.Faults.stream_status;
+ghost use Rattle.prolly_tool.specs.Faults.{stream_status};
 
 use prolly_check::{CheckFault, StreamFault};
 use prolly_file::SinkFault;
