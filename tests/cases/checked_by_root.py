@@ -78,7 +78,7 @@ def words():
         out=f"ok {reference_text(tree(ABC, 0, 1).reference)} 0 6\n".encode(),
         before={"in.prl": chunk_file(ABC, 0)},
     )
-    missing = Case("check --root: no file", ["check", "--root", root, "in.prl"], status=5, err=b"prolly: in.prl: No such file or directory (os error 2)\n")
+    missing = Case("check --root: no file", ["check", "--root", root, "in.prl"], status=5, err=b"prolly: cannot open in.prl\n")
     return [*found, ignored, missing]
 
 

@@ -158,14 +158,13 @@ the one chunk file of its contents, to the byte.
 
 Prints `ok`, the text of the root, the number of --bits and that of chunks.
 
-Without --root the file is read whole: no file over 1 GiB is read, and --format
-is ignored. It may have any root, and no two of its chunks may have one
-reference.
+Without --root the file may have any root. It is held in memory, and no file
+over 1 GiB is read. No two of its chunks may have one reference. --format is
+ignored.
 
-With --root the file may be of any size, and FILE may be a pipe: it is compared
-with the file of its own pairs while it is read, and takes the memory of a few
-chunks. What is told is the first place where it is another one; and a file
-whose root is not ROOT is refused.",
+With --root the file of another root is refused. FILE may be of any size, and
+may be a pipe: 16 MiB of it are held in memory, or more where a chunk is larger.
+The first fault in the order of the bytes is told.",
     example: "Examples: a file, and one of any size whose root is known
   prolly check ab.prl
   prolly check --root nu05v9k058pmjdu7s5312ho13geggue6 days.prl",
