@@ -22,19 +22,9 @@ use Rattle.prolly_root_diff.proofs.Passing.{passes_equal}
 
 -- ---- clashes
 
-module _ (read cs ds : List (List ℕ)) where
-  abbrev Every : List (List ℕ)
-  Every = read ++ (cs ++ ds)
-
-  in_before : (c : List ℕ) → IsIn c cs → IsIn c Every
-  in_before c h = in_back c read (cs ++ ds) (in_front c cs ds h)
-
-  in_after : (c : List ℕ) → IsIn c ds → IsIn c Every
-  in_after c h = in_back c read (cs ++ ds) (in_back c cs ds h)
-
 -- what clashes with few that were read clashes with more
-more_first : (xs ys zs : List (List ℕ)) → Clashing (xs ++ zs) → Clashing ((xs ++ ys) ++ zs)
-more_first xs ys zs = wider (xs ++ zs) (xs ++ zs) ((xs ++ ys) ++ zs) ((xs ++ ys) ++ zs) put put
+more_first : (xs ys zs : List (List ℕ)) → Clashing xs zs → Clashing (xs ++ ys) zs
+more_first xs ys zs = wider (xs ++ zs) zs ((xs ++ ys) ++ zs) zs put (λ c h. h)
   where
     split : (c : List ℕ) (us vs : List (List ℕ)) → IsIn c (us ++ vs) → IsIn c us ⊎ IsIn c vs
     split c [] vs h = inr h
@@ -52,10 +42,9 @@ more_first xs ys zs = wider (xs ++ zs) (xs ++ zs) ((xs ++ ys) ++ zs) ((xs ++ ys)
         joined (inl k) = in_front c (xs ++ ys) zs (in_front c xs ys k)
         joined (inr k) = in_back c (xs ++ ys) zs k
 
-more_last : (xs ys zs : List (List ℕ)) → Clashing (ys ++ zs) → Clashing ((xs ++ ys) ++ zs)
-more_last xs ys zs c = subst Clashing (sym (append_assoc xs ys zs))
-    (wider (ys ++ zs) (ys ++ zs) (xs ++ (ys ++ zs)) (xs ++ (ys ++ zs))
-    (λ c. in_back c xs (ys ++ zs)) (λ c. in_back c xs (ys ++ zs)) c)
+more_last : (xs ys zs : List (List ℕ)) → Clashing ys zs → Clashing (xs ++ ys) zs
+more_last xs ys zs c = subst (λ l. Clash l zs) (sym (append_assoc xs ys zs))
+    (wider (ys ++ zs) zs (xs ++ (ys ++ zs)) zs (λ c. in_back c xs (ys ++ zs)) (λ c h. h) c)
 
 -- ---- one behind another
 
@@ -74,13 +63,13 @@ module _ (version : Version) (old mid : Lefts) (moves : Moves version old mid)
   pub told : Tells version read mid So → Tells version (moves.read ++ read) old Then
   told tells cs ds maps m left = first (moves.tells cs ds maps m left)
     where
-      then : (on : GoOn version cs ds maps mid) → So cs ds on.rest ⊎ Clashing (read ++ (cs ++ ds)) →
-          Then cs ds maps ⊎ Clashing ((moves.read ++ read) ++ (cs ++ ds))
+      then : (on : GoOn version cs ds maps mid) → So cs ds on.rest ⊎ Clashing read (cs ++ ds) →
+          Then cs ds maps ⊎ Clashing (moves.read ++ read) (cs ++ ds)
       then on (inl so) = inl (lift cs ds maps on.rest m on.alike so)
       then on (inr clash) = inr (more_last moves.read read (cs ++ ds) clash)
 
-      first : GoOn version cs ds maps mid ⊎ Clashing (moves.read ++ (cs ++ ds)) →
-          Then cs ds maps ⊎ Clashing ((moves.read ++ read) ++ (cs ++ ds))
+      first : GoOn version cs ds maps mid ⊎ Clashing moves.read (cs ++ ds) →
+          Then cs ds maps ⊎ Clashing (moves.read ++ read) (cs ++ ds)
       first (inl on) = then on (tells cs ds on.rest (maps_behind maps on.rest on.alike m) on.left)
       first (inr clash) = inr (more_first moves.read read (cs ++ ds) clash)
 
@@ -122,12 +111,12 @@ module _ (law : OpensFirst) where
           AreLeft version cs ds maps (record { before = old; after = after }) →
           IsLeft version cs maps.before new ⊎ Clash (o.chunk ∷ []) cs →
           GoOn version cs ds maps (record { before = new; after = after })
-          ⊎ Clashing ((o.chunk ∷ []) ++ (cs ++ ds))
+          ⊎ Clashing (o.chunk ∷ []) (cs ++ ds)
       go cs ds maps left (inl is) =
           inl (record { rest = maps; alike = alike_none maps; left = (is, left.1) })
       go cs ds maps left (inr clash) = inr (wider (o.chunk ∷ []) cs
-          ((o.chunk ∷ []) ++ (cs ++ ds)) ((o.chunk ∷ []) ++ (cs ++ ds))
-          (λ c. in_front c (o.chunk ∷ []) (cs ++ ds)) (in_before (o.chunk ∷ []) cs ds) clash)
+          ((o.chunk ∷ []) ++ (cs ++ ds)) (cs ++ ds)
+          (λ c. in_front c (o.chunk ∷ []) (cs ++ ds)) (λ c. in_front c cs ds) clash)
 
   pub opens_after : (version : Version) (before old new : Left) → Opens version old new →
       Moves version (record { before = before; after = old }) (record { before = before; after = new })
@@ -141,12 +130,12 @@ module _ (law : OpensFirst) where
           AreLeft version cs ds maps (record { before = before; after = old }) →
           IsLeft version ds maps.after new ⊎ Clash (o.chunk ∷ []) ds →
           GoOn version cs ds maps (record { before = before; after = new })
-          ⊎ Clashing ((o.chunk ∷ []) ++ (cs ++ ds))
+          ⊎ Clashing (o.chunk ∷ []) (cs ++ ds)
       go cs ds maps left (inl is) =
           inl (record { rest = maps; alike = alike_none maps; left = (left.0, is) })
       go cs ds maps left (inr clash) = inr (wider (o.chunk ∷ []) ds
-          ((o.chunk ∷ []) ++ (cs ++ ds)) ((o.chunk ∷ []) ++ (cs ++ ds))
-          (λ c. in_front c (o.chunk ∷ []) (cs ++ ds)) (in_after (o.chunk ∷ []) cs ds) clash)
+          ((o.chunk ∷ []) ++ (cs ++ ds)) (cs ++ ds)
+          (λ c. in_front c (o.chunk ∷ []) (cs ++ ds)) (λ c. in_back c cs ds) clash)
 
 -- ---- passing by
 
@@ -174,7 +163,7 @@ passes version first second due due' same = record {
         GoOn version cs ds maps (record {
           before = record { pairs = []; due = due };
           after = record { pairs = []; due = due' };
-        }) ⊎ Clashing ([] ++ (cs ++ ds))
+        }) ⊎ Clashing [] (cs ++ ds)
     go cs ds maps (inl p) = inl (record {
       rest = p.rest;
       alike = p.alike;

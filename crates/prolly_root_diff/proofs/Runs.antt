@@ -17,7 +17,7 @@ module _ (version : Version) (cs ds : List (List ℕ)) where
       IsDifference maps.before maps.after records ⊎ FoundClash cs ds
   gives_all [] lefts maps m left ends = go (ends.tells cs ds maps m left)
     where
-      go : IsDifference maps.before maps.after [] ⊎ Clashing (ends.read ++ (cs ++ ds)) →
+      go : IsDifference maps.before maps.after [] ⊎ Clashing ends.read (cs ++ ds) →
           IsDifference maps.before maps.after [] ⊎ FoundClash cs ds
       go (inl is) = inl is
       go (inr clash) = inr (record { read = ends.read; bytes = ends.bytes; clash = clash })
@@ -31,7 +31,7 @@ module _ (version : Version) (cs ds : List (List ℕ)) where
       first f (inr clash) = inr clash
 
       go : FirstChange version cs ds maps r.key all.0 r.value all.1 ⊎
-          Clashing (all.2.read ++ (cs ++ ds)) →
+          Clashing all.2.read (cs ++ ds) →
           ((rest : Maps) → AreMaps rest → AreLeft version cs ds rest all.1 →
           IsDifference rest.before rest.after rs ⊎ FoundClash cs ds) →
           IsDifference maps.before maps.after (r ∷ rs) ⊎ FoundClash cs ds
@@ -54,7 +54,7 @@ module _ (version : Version) (cs ds : List (List ℕ)) where
       first f (inr clash) = inr clash
 
       go : FirstChange version cs ds maps r.key all.0 r.value all.1 ⊎
-          Clashing (all.2.read ++ (cs ++ ds)) →
+          Clashing all.2.read (cs ++ ds) →
           ((behind : Maps) → AreMaps behind → AreLeft version cs ds behind all.1 →
           BeginsWithRecords behind.before behind.after rs ⊎ FoundClash cs ds) →
           BeginsWithRecords maps.before maps.after (r ∷ rs) ⊎ FoundClash cs ds

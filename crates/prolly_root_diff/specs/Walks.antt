@@ -44,16 +44,18 @@ abbrev pub AreLeft : Version → List (List ℕ) → List (List ℕ) → Maps �
 AreLeft version cs ds maps lefts =
     IsLeft version cs maps.before lefts.before × IsLeft version ds maps.after lefts.after
 
--- Two different chunks of these have one reference.
-abbrev pub Clashing : List (List ℕ) → Type 0
-Clashing chunks = Clash chunks chunks
+-- Two different chunks have one reference: one of the trees, and another one of them, or one of those
+-- that were read. (That two chunks that were read have one would say nothing: there are more chunks
+-- than references.)
+abbrev pub Clashing : List (List ℕ) → List (List ℕ) → Type 0
+Clashing read trees = Clash (read ++ trees) trees
 
--- So it is of what is left of any two trees of the version and of any bits; or else two different
--- chunks of these that were read, or of the two trees, have one reference.
+-- So it is of what is left of any two trees of the version and of any bits; or else a chunk of them
+-- clashes.
 abbrev pub Tells : Version → List (List ℕ) → Lefts → (List (List ℕ) → List (List ℕ) → Maps → Type 0)
     → Type 0
 Tells version read lefts So = (cs ds : List (List ℕ)) (maps : Maps) → AreMaps maps →
-    AreLeft version cs ds maps lefts → So cs ds maps ⊎ Clashing (read ++ (cs ++ ds))
+    AreLeft version cs ds maps lefts → So cs ds maps ⊎ Clashing read (cs ++ ds)
 
 -- Both maps begin alike, and behind that these are left.
 pub record GoOn (version : Version) (cs ds : List (List ℕ)) (maps : Maps) (lefts : Lefts) : Type 0
@@ -256,11 +258,12 @@ pub record BeginsWithRecords (old new : List Pair) (records : List Record) : Typ
   pub more : List Record
   pub is : IsDifference old new (records ++ more)
 
--- Two different chunks, each of which was read or is one of these two trees, have one reference.
+-- A chunk of these two trees has the reference of a different chunk, which was read or is one of them,
+-- too.
 pub record FoundClash (before after : List (List ℕ)) : Type 0 where
   pub read : List (List ℕ)
   pub bytes : AllByRecursion (All IsByte) read
-  pub clash : Clashing (read ++ (before ++ after))
+  pub clash : Clashing read (before ++ after)
 
 -- Law: what a walk from two roots gave is the difference of the maps of these roots, whatever the
 -- bits of their trees; or else two different chunks have one reference.
