@@ -148,7 +148,7 @@ def usage_cases():
         missing(["verify", "r"], ["KEY"], "verify <ROOT> <KEY> [PROOF]"),
         wrong(["verify", "r", "61", "p", "x"], "unexpected argument 'x' found", "verify [OPTIONS] <ROOT> <KEY> [PROOF]"),
         unknown(["verify", "r", "61", "--atomic"], "--atomic", "verify <ROOT> <KEY> [PROOF]"),
-        unknown(["check", "f", "--force"], "--force", "check <FILE>"),
+        wrong(["check", "f", "--force"], "unexpected argument '--force' found\n\n  tip: a similar argument exists: '--format'", "check --format <V> <FILE>"),
         wrong(["build", "--force", "--force", "o"], "the argument '--force' cannot be used multiple times", "build [OPTIONS] <OUT> [FILES]..."),
         wrong(["prove", "--force", "f", "61", "o", "x"], "unexpected argument 'x' found", "prove [OPTIONS] <FILE> <KEY> <OUT>"),
         missing(["dump", "--force"], ["FILE"], "dump --force <FILE> [OUT]"),

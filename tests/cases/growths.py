@@ -88,6 +88,8 @@ def commands():
         kept("atomic build of three files", FIVE_IN_THREE),
         stopped(),
         Command("check", ["check", "abc.prl"], out=b"ok " + root_text(ABC, 0).strip() + b" 0 6\n", before=reads),
+        Command("check --root", ["check", "--root", reference_text(REFERENCE), "abc.prl"], out=b"ok " + root_text(ABC, 0).strip() + b" 0 6\n", before=reads),
+        Command("check --root of another root", ["check", "--root", reference_text(REFERENCE), "old.prl"], status=4, err=refusal("has another root")[2], before=both),
         *surveyed(),
         Command("stat", ["stat", "counted.prl"], out=table(ABC, 0, 2), before=reads),
         Command("stat --json", ["stat", "--json", "abc.prl"], out=tree_json(ABC, 0, 1), before=reads),
@@ -277,7 +279,7 @@ def refuse(program, allocator, command, number):
 
 def is_printed_in_part(command, out):
     """Whether this is nothing, or the first lines where a command prints as it goes."""
-    firsts = [records(ABC[:count]) for count in range(len(ABC))]
+    firsts = [records(ABC[:count]) for count in range(len(ABC) + 1)]
     return out == b"" or command.is_printed_early and command.out.startswith(out) and (out.endswith(b"\n") or out in firsts)
 
 

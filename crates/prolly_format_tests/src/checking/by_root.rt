@@ -1,18 +1,21 @@
 //! Files that are checked while they are read, by their root.
+ghost use Rattle.std.specs.Prelude.{◌<◌};
 
+use super::damaged::FAULTS;
 use super::{FILE_OF_NONE, checked, file_cut_by, file_of_three, flip, put};
 use crate::expect::expect_eq;
 use prolly_check::{CheckFault, ManyThreads, OneThread, RootReport, StreamFault, check_by_root};
 use prolly_entry::{Ref, Version};
-use prolly_file::FromRead;
+use prolly_file::{FromRead, ScriptSource};
 use prolly_test_parts::pairs_of;
-use std::alloc::Global;
+use std::alloc::{AllocError, Global};
 use std::num::NonZeroUsize;
 use std::process::Abort;
 use std::test::Fail;
 use std::thread::Threads;
 
 /// A file, its version, and the root by which it is checked.
+#[derive(Drop)]
 struct Named {
     file: Vec<u8>,
     version: Version,
@@ -35,10 +38,39 @@ impl Named {
         Named::of(alloc, file_of_three(alloc, version)?, version)
     }
 
-    /// What is said of the first bytes of the file, so many.
-    fn checked(&self, alloc: Global, len: usize) -> Result<RootReport, StreamFault> {
-        let mut source = FromRead::new(&self.file[..len]);
+    /// What is said of these bytes in place of the file.
+    fn answer_to(&self, alloc: Global, bytes: &[u8]) -> Result<RootReport, StreamFault> {
+        let mut source = FromRead::new(bytes);
         check_by_root(&OneThread, alloc, &mut source, self.version, &self.root)
+    }
+
+    /// What is said of the file.
+    fn checked(&self, alloc: Global) -> Result<RootReport, StreamFault> {
+        self.answer_to(alloc, &self.file)
+    }
+
+    /// What is said of the file where a read gives so many bytes, and the read of this number fails.
+    fn checked_in_parts(
+        &self,
+        alloc: Global,
+        step: usize,
+        fail_at: Option<u64>,
+    ) -> Result<Result<RootReport, StreamFault>, AllocError>
+        requires { 0 < step }
+    {
+        let mut source = ScriptSource::new(self.file.to_vec(alloc)?, step, fail_at);
+        let (version, root) = (self.version, &self.root);
+        Ok(check_by_root(&OneThread, alloc, &mut source, version, root))
+    }
+
+    /// Fails unless the same is said of the file wherever the reads cut it.
+    fn expect_same_in_parts(&self, rt: &impl Abort, alloc: Global) -> Result<(), AllocError> {
+        let whole = self.checked(alloc);
+        for last in 0..self.file.len() {
+            let answer = (last, self.checked_in_parts(alloc, last + 1, None)?);
+            expect_eq(rt, &answer, &(last, whole));
+        }
+        Ok(())
     }
 
     /// What so many threads say of the file.
@@ -55,14 +87,14 @@ impl Named {
 
     /// Fails unless the file is refused for this fault.
     fn expect_refused(&self, rt: &impl Abort, alloc: Global, place: usize, fault: StreamFault) {
-        let answer = (place, self.checked(alloc, self.file.len()));
+        let answer = (place, self.checked(alloc));
         expect_eq(rt, &answer, &(place, Err(fault)));
     }
 
     /// Fails unless the file is refused where it ends early.
     fn expect_refused_parts(&self, rt: &impl Abort, alloc: Global) {
         for len in 0..self.file.len() {
-            let answer = (len, self.checked(alloc, len));
+            let answer = (len, self.answer_to(alloc, &self.file[..len]));
             let truncated = StreamFault::Check(CheckFault::Truncated);
             expect_eq(rt, &answer, &(len, Err(truncated)));
         }
@@ -72,40 +104,45 @@ impl Named {
     fn expect_refused_where_flipped(&mut self, rt: &impl Abort, alloc: Global) {
         for place in 0..self.file.len() {
             flip(&mut self.file, place);
-            let answer = self.checked(alloc, self.file.len());
+            let answer = self.checked(alloc);
             assert!(rt; answer.is_err(), "at {place}");
             flip(&mut self.file, place);
         }
     }
 }
 
-/// Places in the file of three, and what is wrong once the highest bit there is flipped. The chunk
-/// of a wrong length comes before the frame behind it.
-const FAULTS: [(usize, CheckFault); 15] = [
-    (0, CheckFault::BadHeader),
-    (4, CheckFault::BadHeader),
-    (5, CheckFault::BadHeader),
-    (6, CheckFault::BadFrame { chunk: 0 }),
-    (98, CheckFault::BadFrame { chunk: 3 }),
-    (205, CheckFault::BadFrame { chunk: 6 }),
-    (7, CheckFault::Truncated),
-    (14, CheckFault::BadChunk { chunk: 0 }),
-    (15, CheckFault::BadChunk { chunk: 0 }),
-    (18, CheckFault::KeysOutOfOrder { chunk: 1 }),
-    (23, CheckFault::NotCanonical { chunk: 2 }),
-    (51, CheckFault::NotCanonical { chunk: 2 }),
-    (55, CheckFault::NotCanonical { chunk: 2 }),
-    (206, CheckFault::BadEnd),
-    (233, CheckFault::BadEnd),
-];
+/// A place whose flipped bit makes a frame longer: the chunk in it comes before the frame behind it.
+const FRAME_LENGTH: usize = 14;
+
+/// What is wrong with the file of three by its root, once the highest bit of a place is flipped.
+fn fault_by_root(place: usize, fault: CheckFault) -> CheckFault {
+    if place == FRAME_LENGTH {
+        return CheckFault::BadChunk { chunk: 0 };
+    }
+    fault
+}
 
 #[test]
 fn names_the_first_fault_in_the_order_of_the_bytes(rt: HostRuntime) -> Result<(), Fail> {
     let mut named = Named::of_three(rt.alloc(), Version::One)?;
     for &(place, fault) in &FAULTS {
+        let fault = StreamFault::Check(fault_by_root(place, fault));
         flip(&mut named.file, place);
-        named.expect_refused(&rt, rt.alloc(), place, StreamFault::Check(fault));
+        named.expect_refused(&rt, rt.alloc(), place, fault);
+        named.expect_same_in_parts(&rt, rt.alloc())?;
         flip(&mut named.file, place);
+    }
+    Ok(())
+}
+
+#[test]
+fn tells_each_read_that_fails(rt: HostRuntime) -> Result<(), Fail> {
+    let named = Named::of_three(rt.alloc(), Version::Two)?;
+    // Five reads give bytes, and the sixth tells that there are no more.
+    for number in 1..7 {
+        let answer = named.checked_in_parts(rt.alloc(), 64, Some(number))?;
+        let read = StreamFault::Check(CheckFault::Read);
+        expect_eq(&rt, &(number, answer), &(number, Err(read)));
     }
     Ok(())
 }
@@ -154,7 +191,7 @@ fn expect_accepted<T: Threads + Sync>(
 ) -> Result<(), Fail> {
     let chunks = checked(alloc, &named.file)?.chunks();
     let report = Ok(RootReport { bits, chunks });
-    expect_eq(rt, &named.checked(alloc, named.file.len()), &report);
+    expect_eq(rt, &named.checked(alloc), &report);
     for count in [1, 2, 3, 16] {
         if let Some(count) = NonZeroUsize::new(count) {
             expect_eq(rt, &named.checked_by(threads, count, alloc), &report);

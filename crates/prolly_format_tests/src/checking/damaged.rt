@@ -9,7 +9,7 @@ use std::process::Abort;
 use std::test::Fail;
 
 /// Places in the file of three, and what is wrong once the highest bit there is flipped.
-const FAULTS: [(usize, CheckFault); 15] = [
+pub(super) const FAULTS: [(usize, CheckFault); 15] = [
     (0, CheckFault::BadHeader),
     (4, CheckFault::BadHeader),
     (5, CheckFault::BadHeader),
