@@ -3,7 +3,7 @@ use Rattle.std.proofs.Common.{◌≡◌, ℕ, zero, suc, ◌-◌, List, [], ◌�
 use Rattle.std.proofs.Common.{inr, Option, Some, Result, Ok, Err, refl, sym, ap, ◌∙◌, subst, arith}
 use Rattle.prolly_check.specs.Chunks.{chunks_of}
 use Rattle.prolly_check.specs.Content.{Content}
-use Rattle.prolly_check.specs.Descent.{ChildIsTree, HasTree, IsTreeOf, RootIsTree}
+use Rattle.prolly_check.specs.Descent.{ChildIsTree, HasTree, IsTreeOf}
 use Rattle.prolly_check.specs.Descent.{TopIsRead, child_of}
 use Rattle.prolly_check.specs.Entries.{Child}
 use Rattle.prolly_check.specs.Kinds.{kind_of}
@@ -11,17 +11,15 @@ use Rattle.prolly_check.specs.Sought.{Sought, IsChildOf}
 use Rattle.prolly_check.specs.Way.{FallsTo, IsOrdered, level_of}
 use Rattle.prolly_check.specs.declared.look_up.sought.ChildSought.{ChildSought}
 use Rattle.prolly_check.specs.lemmas.Chunks.{one_chunk}
-use Rattle.prolly_entry.specs.Cut.{sha512_cut}
 use Rattle.prolly_entry.specs.Reference.{reference_of}
 use Rattle.prolly_entry.specs.declared.version.Version.{Version}
 use Rattle.prolly_tree.specs.Chunk.{IsIn, chunk_of}
-use Rattle.prolly_tree.specs.File.{root_reference}
 use Rattle.prolly_tree.specs.Tree.{Tree, bytes_of}
 use Rattle.prolly_tree.specs.lemmas.Trees.{in_back}
 use Rattle.prolly_root.specs.Descent.{StandsAt, StandsBelow, StandsInPlace}
 use Rattle.prolly_root.specs.RootFault.{IsOrFails, MayFail, OnlyRead}
 use Rattle.prolly_root.specs.declared.root_fault.RootFault.{RootFault}
-use Rattle.prolly_root.specs.ChunkSource.{IsChildNumber, IsLawful, root_level, root_tree}
+use Rattle.prolly_root.specs.ChunkSource.{IsChildNumber, IsLawful}
 use Rattle.prolly_root.specs.declared.look_up.chunk_on_way.ChunkOnWay.{ChunkOnWay}
 use Rattle.prolly_root.specs.lemmas.Places.{level_is}
 
