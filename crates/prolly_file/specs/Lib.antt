@@ -30,6 +30,8 @@ pub mod Header
 pub mod Frame
 -- A frame, and what stands behind it.
 pub mod FrameLaws
+-- Which bytes are an end record.
+pub mod EndRecord
 -- How far a writer of a chunk file is.
 pub mod Writer
 -- What the plain builder answers.

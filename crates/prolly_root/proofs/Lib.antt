@@ -6,6 +6,8 @@ pub mod OneProof
 pub mod Descending
 -- Going over the frames of a file.
 pub mod Walking
+-- The last bytes of a chunk file.
+pub mod Endings
 -- Going down in a lawful tree, from a node to the top of a tree below it.
 pub mod LawfulSteps
 -- The chunks of a level one behind another, and the trees whose tops they are.

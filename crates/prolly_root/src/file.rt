@@ -1,9 +1,11 @@
 //! The chunks of a file: its frames, one after another, and the trees that stand among them.
 
+mod end_record;
 mod file_chunks;
 mod marks;
 mod subtree;
 mod walk;
 
+pub use end_record::named_root;
 pub use file_chunks::FileChunks;
 pub use subtree::Subtree;

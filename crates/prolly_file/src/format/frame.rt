@@ -3,6 +3,7 @@ ghost use Rattle.std.specs.Prelude.{◌≡◌, ◌^◌, ◌<◌, ◌≤◌, ◌+
 ghost use Rattle.std.specs.Prelude.{length, take, drop, IfSome};
 ghost use Rattle.std.specs.Int.{w64, from_be_bytes};
 ghost use Rattle.prolly_tree.specs.File.{end_record};
+ghost use Rattle.prolly_file.specs.EndRecord.{IsNoEnd, NamesRoot};
 ghost use Rattle.prolly_file.specs.Frame.{frame_start, framed, has_no_frame, IsSmall, BeginsFrame};
 
 use byteorder::{BigEndian, ByteOrder};
@@ -117,4 +118,18 @@ pub fn end_record(root: &Ref, chunks: u64) -> [u8; END_SIZE]
     BigEndian::write_u64(&mut record[21..], chunks);
     record[1..21].copy_from_slice(&root.0);
     record
+}
+
+/// The root that an end record names, or none where these bytes are no end record. The number of
+/// chunks may be any.
+pub fn read_end(bytes: &[u8]) -> Option<Ref>
+    ensures names { IfSome result (λ root. NamesRoot root.0 bytes.now) }
+    ensures none { result ≡ None → IsNoEnd bytes.now }
+{
+    if bytes.len() != END_SIZE || bytes[0] != END_LETTER {
+        return None;
+    }
+    let mut root = [0; 20];
+    root.copy_from_slice(&bytes[1..21]);
+    Some(Ref(root))
 }

@@ -1,0 +1,123 @@
+-- The last bytes of a chunk file.
+use Rattle.std.proofs.Common.{◌≡◌, ◌∙◌, ℕ, ◌-◌, ◌<◌, ◌≤◌, List, ◌∷◌, ◌++◌, length, take, drop}
+use Rattle.std.proofs.Common.{Result, Ok, Err, refl, sym, ap, subst, arith, append_assoc}
+use Rattle.std.specs.Int.{w64, to_be_bytes}
+use Rattle.std.specs.List.{flat_map}
+use Rattle.std.proofs.Math.Seq.{drop-append_seam, take-append_seam, take-length}
+use Rattle.std.proofs.lemmas.List.{length-append, length-drop}
+use Rattle.prolly_check.specs.Content.{Content}
+use Rattle.prolly_check.specs.Verdict.{IsFileOf}
+use Rattle.prolly_check.specs.declared.verdict.fault.CheckFault.{CheckFault}
+use Rattle.prolly_check.specs.declared.verdict.fault.CheckFault.TheVariants as checks
+use Rattle.prolly_entry.specs.Cut.{sha512_cut}
+use Rattle.prolly_entry.specs.declared.reference.Ref.{Ref}
+use Rattle.prolly_entry.specs.lemmas.Spellings.{reference_length}
+use Rattle.prolly_tree.specs.Chunk.{chunks}
+use Rattle.prolly_tree.specs.File.{header, root_reference}
+use Rattle.prolly_tree.specs.File.{frame}
+use Rattle.prolly_tree.specs.Tree.{bytes_of, tree_of}
+use Rattle.prolly_file.specs.EndRecord.{IsNoEnd, NamesRoot}
+use Rattle.prolly_root.specs.NamedRoot.{NamesRootOf, TellsRoot, last_bytes}
+use Rattle.std.specs.Prelude.{IfSome, Option, Some, None, ok_or}
+
+module _ (bytes : List ℕ) (content : Content) (f : IsFileOf bytes content) where
+  abbrev root : List ℕ
+  root = root_reference (sha512_cut content.bits) content.version content.pairs
+
+  abbrev count : List ℕ
+  count = to_be_bytes w64 (length (chunks (sha512_cut content.bits) content.version content.pairs))
+
+  abbrev ending : List ℕ
+  ending = 0x45 ∷ root ++ count
+
+  abbrev front : List ℕ
+  front = header content.version content.bits ++
+      flat_map frame (chunks (sha512_cut content.bits) content.version content.pairs)
+
+  apart : bytes ≡ front ++ ending
+  apart = f.is ∙ sym (append_assoc (header content.version content.bits)
+      (flat_map frame (chunks (sha512_cut content.bits) content.version content.pairs)) ending)
+
+  root_length : length root ≡ 20
+  root_length = reference_length (bytes_of content.version
+      (tree_of (sha512_cut content.bits) content.version content.pairs).level
+      (tree_of (sha512_cut content.bits) content.version content.pairs).tree)
+
+  ending_length : length ending ≡ 29
+  ending_length = omega (arith, length-append root count, root_length)
+
+  front_length : 6 ≤ length front
+  front_length = omega (
+    arith,
+    length-append (header content.version content.bits)
+        (flat_map frame (chunks (sha512_cut content.bits) content.version content.pairs)),
+  )
+
+  -- there is room for a header and an end record
+  pub has_room : length bytes < 35 → ⊥
+  has_room short = omega (
+    arith,
+    short,
+    ap length apart,
+    length-append front ending,
+    ending_length,
+    front_length,
+  )
+
+  last_is : last_bytes bytes ≡ ending
+  last_is = ap (λ n. drop n bytes) before ∙ ap (drop (length front)) apart ∙
+      drop-append_seam front ending
+    where
+      before : length bytes - 29 ≡ length front
+      before = omega (arith, ap length apart, length-append front ending, ending_length)
+
+  -- they are an end record with the root
+  names : NamesRoot root (last_bytes bytes)
+  names = record {
+    count = count;
+    is = last_is;
+    root_size = root_length;
+    count_size = refl;
+  }
+
+  -- and with no other
+  one_root : (other : List ℕ) → NamesRoot other (last_bytes bytes) → other ≡ root
+  one_root other n =
+      let same : other ++ n.count ≡ root ++ count = ap (drop 1) (sym n.is ∙ last_is) in
+      sym (take-append_seam other n.count) ∙
+      ap (λ k. take k (other ++ n.count)) (n.root_size ∙ sym root_length) ∙
+      ap (take (length root)) same ∙ take-append_seam root count
+
+  -- what is told of a lawful file's end is its root
+  pub names_root : (result : Result Ref CheckFault) → TellsRoot bytes result →
+      NamesRootOf content result
+  names_root (Ok other) tells = one_root other.0 tells.1
+  names_root (Err checks.Memory) tells = tells
+  names_root (Err checks.Read) tells = tells
+  names_root (Err checks.TooLong) tells = tells
+  names_root (Err checks.BadHeader) tells = tells
+  names_root (Err (checks.BadFrame chunk)) tells = tells
+  names_root (Err checks.Truncated) tells = absurd (has_room tells)
+  names_root (Err checks.Trailing) tells = tells
+  names_root (Err (checks.BadChunk chunk)) tells = tells
+  names_root (Err (checks.KeysOutOfOrder chunk)) tells = tells
+  names_root (Err (checks.NotCanonical chunk)) tells = tells
+  names_root (Err checks.BadEnd) tells = absurd (tells.1 root names)
+  names_root (Err (checks.Collision chunk)) tells = tells
+
+-- what is told of the last bytes is told of the file
+pub tells_last : (bytes read : List ℕ) (named : Option Ref) → 35 ≤ length bytes →
+    read ≡ take 29 (last_bytes bytes) → IfSome named (λ root. NamesRoot root.0 read) →
+    (named ≡ None → IsNoEnd read) → TellsRoot bytes (ok_or named checks.BadEnd)
+tells_last bytes read named room is some none = go named some none
+  where
+    same : read ≡ last_bytes bytes
+    same = is ∙ ap (λ n. take n (last_bytes bytes)) (sym long) ∙ take-length (last_bytes bytes)
+      where
+        long : length (last_bytes bytes) ≡ 29
+        long = omega (arith, length-drop (length bytes - 29) bytes, room)
+
+    go : (named : Option Ref) → IfSome named (λ root. NamesRoot root.0 read) →
+        (named ≡ None → IsNoEnd read) → TellsRoot bytes (ok_or named checks.BadEnd)
+    go (Some root) some none = (room, subst (NamesRoot root.0) same some)
+    go None some none = (room, λ root n. none refl root (subst (NamesRoot root) (sym same) n))
