@@ -16,3 +16,11 @@ pub mod Steps
 pub mod Runs
 -- The subtrees that are due below one node.
 pub mod Subtrees
+-- What a walk notes, step by step.
+pub mod Noting
+-- What two trees share, and what a walk over them read.
+pub mod Shares
+-- What the notes of a walk tell of the chunks that the old tree lacks.
+pub mod Lacking
+-- Counting the notes whose references are unknown.
+pub mod Counting

@@ -29,7 +29,7 @@ begins_at_root root_is version bits m rising lawful =
     }
 
 -- children, as trees with their level
-abbrev leveled : (level : ℕ) → List (Tree level) → List LeveledTree
+abbrev pub leveled : (level : ℕ) → List (Tree level) → List LeveledTree
 leveled level ts = map (λ t. record { level = level; tree = t }) ts
 
 leveled_pairs : (level : ℕ) (ts : List (Tree level)) (trees : List LeveledTree) →
@@ -50,7 +50,7 @@ leveled_tops version level n (t ∷ ts) trees due e =
 
 module _ (child_is : (version : Version) → ChildIsTree version) (version : Version)
     (cs : List (List ℕ)) where
-  children_each : (level : ℕ) (before after : List (Tree level)) →
+  pub children_each : (level : ℕ) (before after : List (Tree level)) →
       IsTreeOf version cs (suc level) (before ++ after) →
       AllByRecursion (λ t. IsTreeOf version cs t.level t.tree) (leveled level after)
   children_each level before [] b = tt

@@ -1,5 +1,5 @@
 -- The subtrees that are due below one node.
-use Rattle.std.proofs.Common.{◌≡◌, ℕ, zero, suc, ◌-◌, ◌<◌, ◌^◌, inl, inr, List, [], ◌∷◌, ◌++◌}
+use Rattle.std.proofs.Common.{◌≡◌, ℕ, zero, suc, ◌-◌, ◌<◌, ◌^◌, ◌⊎◌, inl, inr, List, [], ◌∷◌, ◌++◌}
 use Rattle.std.proofs.Common.{map, length, drop, Option, Some, None, Result, Ok, Err, refl, sym, ap}
 use Rattle.std.proofs.Common.{◌∙◌, subst, arith, append_assoc, option_map}
 use Rattle.std.specs.List.{AllByRecursion, flat_map}
@@ -21,7 +21,9 @@ use Rattle.prolly_root.specs.Descent.{StandsAt, StandsBelow}
 use Rattle.prolly_root.specs.RootFault.{IsOrFails, OnlyRead}
 use Rattle.prolly_root.specs.declared.root_fault.RootFault.{RootFault}
 use Rattle.prolly_root.specs.lemmas.Places.{level_is, root_stands}
-use Rattle.prolly_root_diff.specs.Left.{Opens, due_of, opened}
+use Rattle.prolly_root_diff.specs.Left.{Due, due_of, opened}
+use Rattle.prolly_root_diff.specs.Notes.{Reads}
+use Rattle.prolly_root_diff.specs.declared.notes.Note.{Note}
 use Rattle.prolly_root_diff.specs.Sides.{AreChildrenOf, AreLastBelow, AreLastChildren, AreOne}
 use Rattle.prolly_root_diff.specs.Sides.{AreSiblingsOf, HaveSame, IsBehindFirst, IsTopThere}
 use Rattle.prolly_root_diff.specs.Sides.{PutBehindFirst, bound_of, due_at, dues, left_of, level_above}
@@ -95,24 +97,29 @@ module _ {T : Type 0} where
   falls_below None chunk falls byte = byte
   falls_below (Some p) chunk falls byte = omega (arith, falls)
 
-  pub opens_node : (version : Version) (old new : Side T) (first left s : Siblings T)
-      (others all : List (Siblings T)) (chunk : List ℕ) (place : T) → old.leaf ≡ [] →
+  pub reads_node : (version : Version) (old new : Side T) (first left s : Siblings T)
+      (others all : List (Siblings T)) (chunk : List ℕ) (note : Note) → note.reference ≡ left.next →
+      note.length ≡ length chunk → (place : T) → old.leaf ≡ [] →
       old.due.items ≡ first ∷ others → HaveSame first left → PutBehindFirst left others all →
       IsNamed version first.next.0 chunk → FallsTo (level_above first) chunk →
       level_of chunk < 256 → length chunk < 2 ^ 64 → 0 < level_of chunk →
       AreChildrenOf version chunk place s → new.leaf ≡ [] → new.due.items ≡ s ∷ all →
-      Opens version (left_of old) (left_of new)
-  opens_node version old new first left s others all chunk place none was same put named falls byte
-      short high c none' is = record {
-        first = due_at (bound_of first.parent) first.next;
-        due = map (due_at (bound_of first.parent)) first.behind.items ++ flat_map dues others;
-        chunk = chunk;
-        was = left_is (left_of old) _ none (ap (flat_map dues) was);
-        named = named;
-        falls = falls_below first.parent chunk falls byte;
-        short = short;
-        is = left_is (left_of new) _ none' (ap (flat_map dues) is ∙
-            ap (λ ds. dues s ++ ds) (put_dues first left others all same put)) ∙ by_chunk chunk high c;
+      Reads version (left_of old) (left_of new) note
+  reads_node version old new first left s others all chunk note noted long place none was same put
+      named falls byte short high c none' is = record {
+        opens = record {
+          first = due_at (bound_of first.parent) first.next;
+          due = map (due_at (bound_of first.parent)) first.behind.items ++ flat_map dues others;
+          chunk = chunk;
+          was = left_is (left_of old) _ none (ap (flat_map dues) was);
+          named = named;
+          falls = falls_below first.parent chunk falls byte;
+          short = short;
+          is = left_is (left_of new) _ none' (ap (flat_map dues) is ∙ ap (λ ds. dues s ++ ds)
+              (put_dues first left others all same put)) ∙ by_chunk chunk high c;
+        };
+        reference = ap (λ r. r.0) (noted ∙ same.next) ∙ sym named.is;
+        length = long;
       }
     where
       by_chunk : (chunk : List ℕ) → 0 < level_of chunk → AreChildrenOf version chunk place s →
@@ -128,6 +135,50 @@ module _ {T : Type 0} where
         pairs = [];
         due = ds ++ (map (due_at (bound_of first.parent)) first.behind.items ++ flat_map dues others);
       }) (children_due version (suc level) entries place s c)
+
+  -- a leaf was read, or a node without children
+  pub reads_low : (version : Version) (old new : Side T) (first left : Siblings T)
+      (others all : List (Siblings T)) (chunk : List ℕ) (note : Note) → note.reference ≡ left.next →
+      note.length ≡ length chunk → old.leaf ≡ [] →
+      old.due.items ≡ first ∷ others → HaveSame first left → PutBehindFirst left others all →
+      IsNamed version first.next.0 chunk → FallsTo (level_above first) chunk →
+      level_of chunk < 256 → length chunk < 2 ^ 64 →
+      (kind_of version chunk ≡ Leaf new.leaf)
+      ⊎ ((kind_of version chunk ≡ Node []) × (new.leaf ≡ [])) →
+      new.due.items ≡ all → Reads version (left_of old) (left_of new) note
+  reads_low version old new first left others all chunk note noted long none was same put named falls
+      byte short kind is =
+      let due = map (due_at (bound_of first.parent)) first.behind.items ++ flat_map dues others in
+      record {
+        opens = record {
+          first = due_at (bound_of first.parent) first.next;
+          due = due;
+          chunk = chunk;
+          was = left_is (left_of old) _ none (ap (flat_map dues) was);
+          named = named;
+          falls = falls_below first.parent chunk falls byte;
+          short = short;
+          is = ap (λ ds. record { pairs = new.leaf; due = ds })
+              (ap (flat_map dues) is ∙ put_dues first left others all same put) ∙ by_kind due kind;
+        };
+        reference = ap (λ r. r.0) (noted ∙ same.next) ∙ sym named.is;
+        length = long;
+      }
+    where
+      by_kind : (due : List Due) → (kind_of version chunk ≡ Leaf new.leaf)
+          ⊎ ((kind_of version chunk ≡ Node []) × (new.leaf ≡ [])) →
+          record { pairs = new.leaf; due = due } ≡
+          opened (level_of chunk) (kind_of version chunk) due
+      by_kind due (inl e) = ap (λ entries. opened (level_of chunk) entries due) (sym e)
+      by_kind due (inr e) = ap (λ ps. record { pairs = ps; due = due }) e.1 ∙
+          ap (λ entries. opened (level_of chunk) entries due) (sym e.0)
+
+-- the entries of a node without children
+pub no_children : (version : Version) (chunk : List ℕ) → 0 < level_of chunk →
+    children_in version (drop 1 chunk) ≡ [] → kind_of version chunk ≡ Node []
+no_children version [] high none = absurd (omega (arith, high))
+no_children version (zero ∷ entries) high none = absurd (omega (arith, high))
+no_children version (suc level ∷ entries) high none = ap Node none
 
 -- ---- in a lawful tree
 

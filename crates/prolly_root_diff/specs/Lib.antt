@@ -4,6 +4,8 @@ pub mod Left
 pub mod Sides
 -- How a walk over two trees goes on, and what it gives.
 pub mod Walks
+-- What a walk notes of the chunks that it reads, and what that says of the trees.
+pub mod Notes
 -- How far a walk has to go yet.
 pub mod ToGo
 -- Lemmas for the crates above, by subject.

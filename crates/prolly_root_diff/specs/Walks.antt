@@ -7,6 +7,7 @@ use Rattle.prolly_entry.specs.Pair.{Pair, IsPair}
 use Rattle.prolly_entry.specs.declared.version.Version.{Version}
 use Rattle.prolly_tree.specs.Difference.{IsDifference, IsMap}
 use Rattle.prolly_tree.specs.File.{root_reference}
+use Rattle.prolly_tree.specs.LookUp.{find}
 use Rattle.std.specs.List.{AllByRecursion}
 use Rattle.std.specs.Prelude.{All}
 use Rattle.prolly_entry.specs.Byte.{IsByte}
@@ -24,6 +25,7 @@ use Rattle.prolly_root_diff.specs.Left.{Due, IsLeft, Left, left_of_root}
 use Rattle.prolly_root_diff.specs.Sides.{IsAtRoot, IsSideOf, left_of}
 use Rattle.prolly_root_diff.specs.declared.fault.RootDiffFault.{RootDiffFault}
 use Rattle.prolly_root_diff.specs.declared.fault.RootDiffFault.TheVariants as faults
+use Rattle.prolly_root_diff.specs.declared.notes.Notes.{Notes}
 use Rattle.prolly_root_diff.specs.declared.side.Side.{Side}
 use Rattle.prolly_root_diff.specs.declared.change.RootChange.{RootChange}
 use Rattle.prolly_root_diff.specs.declared.change.RootChange.TheVariants.{Added, Changed, Removed}
@@ -219,12 +221,14 @@ TellsNew has failures is_place version old new before after (Err fault) =
 
 -- ---- a walk
 
--- A walk: the version of both trees, what it keeps of each, and whether a call failed.
+-- A walk: the version of both trees, what it keeps of each, whether a call failed, and what it noted,
+-- where it takes notes.
 pub record Walk (T U : Type 0) : Type 0 where
   pub version : Version
   pub before : Side T
   pub after : Side U
   pub stopped : Bool
+  pub notes : Option Notes
 
 -- What is left of both trees.
 abbrev pub lefts_of : {T U : Type 0} → Walk T U → Lefts
@@ -284,3 +288,14 @@ FirstAreRight = (version : Version) (bits bits' : ℕ) (m m' : List Pair) (recor
     (root_reference (sha512_cut bits') version m')) records rest →
     BeginsWithRecords m m' records
     ⊎ FoundClash (chunk_bytes version bits m) (chunk_bytes version bits' m')
+
+-- Law: what a walk from two roots says that the old map had at the key of its next change, it had; or
+-- else two different chunks have one reference.
+abbrev pub BeforeIsRight : Type 0
+BeforeIsRight = (version : Version) (bits bits' : ℕ) (m m' : List Pair) (records : List Record)
+    (mid next : Lefts) (key : List ℕ) (before after : Option (List ℕ)) → IsMap m →
+    AllByRecursion IsPair m → IsMap m' → AllByRecursion IsPair m' →
+    GivesFirst version (at_roots (root_reference (sha512_cut bits) version m)
+    (root_reference (sha512_cut bits') version m')) records mid →
+    Changes version mid key before after next →
+    (find m key ≡ before) ⊎ FoundClash (chunk_bytes version bits m) (chunk_bytes version bits' m')

@@ -1,14 +1,21 @@
 //! The walk over two trees.
-ghost use Rattle.std.specs.Prelude.{◌≡◌, true, false, Err, IfOk, IfErr, OnErr, OnOk};
+ghost use Rattle.std.specs.Prelude.{◌≡◌, ◌≤◌, ◌^◌, true, false, Err, None, Some, IfOk, IfErr, OnErr};
+ghost use Rattle.std.specs.Prelude.{OnOk, IfSome};
+ghost use Rattle.std.specs.List.{sum_by};
+ghost use Rattle.std.specs.Option.{is_some};
+ghost use Rattle.prolly_root_diff.specs.Notes.{AreNoted, TellsMissing};
 ghost use Rattle.prolly_root_diff.specs.Sides.{left_of};
 ghost use Rattle.prolly_root_diff.specs.ToGo.{ComesNearer};
-ghost use Rattle.prolly_root_diff.specs.Walks.{Gives, IsBegun, TellsNew, TellsOld, lefts_of};
+ghost use Rattle.prolly_root_diff.specs.Walks.{Gives, IsBegun, Lefts, TellsNew, TellsOld, lefts_of};
+ghost use Rattle.prolly_root_diff.specs.declared.notes.Notes.{Notes as NotesValue};
 
 use crate::change::RootChange;
 use crate::fault::RootDiffFault;
 use crate::laws::walks_are_right;
+use crate::notes::{Notes, note_new, note_old};
 use crate::onward::{Onward, way_onward};
 use crate::side::Side;
+use prolly_check::Missing;
 use prolly_entry::{Ref, Version};
 use prolly_root::ChunkSource;
 use std::alloc::{AllocError, Global};
@@ -32,6 +39,8 @@ pub struct RootDifferences<T, U> {
     after: Side<U>,
     /// Whether a call failed.
     stopped: bool,
+    /// What was read, where that is asked for.
+    notes: Option<Notes>,
 }
 
 impl<T, U> Model for RootDifferences<T, U> {
@@ -44,6 +53,7 @@ impl<T, U> Model for RootDifferences<T, U> {
       before = d.before;
       after = d.after;
       stopped = d.stopped;
+      notes = d.notes;
     } };
 }
 
@@ -51,21 +61,41 @@ impl<T: Copy + Drop, U: Copy + Drop> RootDifferences<T, U> {
     /// What turns the map of the one root into that of the other. Both roots, and the version of
     /// the chunks, come from who is trusted. Trees of different bits will do.
     ///
-    /// Nothing is read yet.
+    /// Nothing is read yet, and nothing will be noted.
     pub fn new(
         alloc: Global,
         version: Version,
         old: &Ref,
         new: &Ref,
     ) -> Result<RootDifferences<T, U>, AllocError>
-        ensures { IfOk result (IsBegun version old.now.0 new.now.0) }
+        ensures begun { IfOk result (IsBegun version old.now.0 new.now.0) }
+        ensures silent { IfOk result (λ walk. walk.notes ≡ None) }
     {
         Ok(RootDifferences {
             version,
             before: Side::of_root(alloc, old)?,
             after: Side::of_root(alloc, new)?,
             stopped: false,
+            notes: None,
         })
+    }
+
+    /// The same, and each chunk that is read will be noted for [`missing`](Self::missing). That
+    /// takes 20 bytes of memory for a chunk of the old tree, and 32 for one of the new tree.
+    pub fn noting(
+        alloc: Global,
+        version: Version,
+        old: &Ref,
+        new: &Ref,
+    ) -> Result<RootDifferences<T, U>, AllocError>
+        ensures begun { IfOk result (IsBegun version old.now.0 new.now.0) }
+        ensures notes { IfOk result (λ walk. is_some walk.notes ≡ true) }
+        ensures noted { IfOk result (λ walk. AreNoted version (lefts_of walk) (lefts_of walk)
+            walk.notes) }
+    {
+        let mut walk = RootDifferences::new(alloc, version, old, new)?;
+        walk.notes = Some(Notes::none(alloc));
+        Ok(walk)
     }
 
     /// The next change, or none where the rest of both maps is the same. Behind that there is none
@@ -88,6 +118,10 @@ impl<T: Copy + Drop, U: Copy + Drop> RootDifferences<T, U> {
         ensures stopped { self.old.stopped ≡ true → result ≡ Err RootDiffFault.Stopped }
         ensures only { IfErr result (λ fault. fault ≡ RootDiffFault.Stopped →
             self.old.stopped ≡ true) }
+        ensures notes { OnOk result (is_some self.new.notes ≡ is_some self.old.notes) }
+        ensures noted { OnOk result ((from : Lefts) →
+            AreNoted self.old.version from (lefts_of self.old) self.old.notes →
+            AreNoted self.old.version from (lefts_of self.new) self.new.notes) }
 
         // The one tree, where its source has it, is not refused, and a failed read is told.
         ensures old { TellsOld S.has S.failures S.is_place self.old.version old.old old.new
@@ -106,9 +140,31 @@ impl<T: Copy + Drop, U: Copy + Drop> RootDifferences<T, U> {
             self.version,
             &mut self.before,
             &mut self.after,
+            &mut self.notes,
         )?;
         self.stopped = false;
         Ok(change)
+    }
+
+    /// What is missing: how many chunks of the new tree have a reference that no chunk of the old
+    /// one has, and how many bytes these are. It is asked for behind the last change, and not of
+    /// what was read alone: the walk may read a chunk in the one tree before it finds it in the
+    /// other.
+    ///
+    /// None where nothing is noted; and where of the new tree 2^64 bytes or more were read. Takes no
+    /// memory, and time O(n log m) for n chunks that were read of the new tree and m of the old.
+    pub fn missing(&mut self) -> Option<Missing>
+        ensures are { IfSome result (TellsMissing self.old.version (lefts_of self.old)
+            self.old.notes) }
+        ensures none { result ≡ None → (notes : NotesValue) → self.old.notes ≡ Some notes →
+            2 ^ 64 ≤ sum_by (λ n. n.length) notes.new.items }
+    {
+        // By this law what was noted tells what is missing.
+        walks_are_right();
+        match &mut self.notes {
+            None => None,
+            Some(notes) => notes.missing(),
+        }
     }
 }
 
@@ -125,6 +181,7 @@ fn next_change<
     version: Version,
     before: &mut Side<T>,
     after: &mut Side<U>,
+    notes: &mut Option<Notes>,
 ) -> Result<Option<RootChange>, RootDiffFault>
     ensures gives { IfOk result (λ change. Gives version
         (record { before = left_of before.old; after = left_of after.old }) change
@@ -133,6 +190,11 @@ fn next_change<
         (record { before = left_of before.old; after = left_of after.old }) change
         (record { before = left_of before.new; after = left_of after.new })) }
     ensures only { IfErr result (λ fault. fault ≡ RootDiffFault.Stopped → ⊥) }
+    ensures notes { OnOk result (is_some notes.new ≡ is_some notes.old) }
+    ensures noted { OnOk result ((from : Lefts) → AreNoted version from
+        (record { before = left_of before.old; after = left_of after.old }) notes.old →
+        AreNoted version from
+        (record { before = left_of before.new; after = left_of after.new }) notes.new) }
     ensures old { TellsOld S.has S.failures S.is_place version old.old old.new before.old before.new
         result }
     ensures new { TellsNew R.has R.failures R.is_place version new.old new.new after.old after.new
@@ -146,16 +208,14 @@ fn next_change<
                 before.pass_first()?;
                 after.pass_first()?;
             }
-            Onward::OpenOld => {
-                if let Err(fault) = before.open_first(alloc, old, version) {
-                    return Err(RootDiffFault::Old(fault));
-                }
-            }
-            Onward::OpenNew => {
-                if let Err(fault) = after.open_first(alloc, new, version) {
-                    return Err(RootDiffFault::New(fault));
-                }
-            }
+            Onward::OpenOld => match before.open_first(alloc, old, version) {
+                Ok(chunk) => note_old(notes, chunk)?,
+                Err(fault) => return Err(RootDiffFault::Old(fault)),
+            },
+            Onward::OpenNew => match after.open_first(alloc, new, version) {
+                Ok(chunk) => note_new(notes, chunk)?,
+                Err(fault) => return Err(RootDiffFault::New(fault)),
+            },
             Onward::Skip => {
                 before.pass_pair();
                 after.pass_pair();

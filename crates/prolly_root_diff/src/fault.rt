@@ -5,7 +5,7 @@ use std::alloc::AllocError;
 /// The first fault that is met.
 #[derive(Clone, Copy, Debug, PartialEq, Eq)]
 pub enum RootDiffFault {
-    /// Memory was refused, for a change that was found.
+    /// Memory was refused, for a change that was found or for a note.
     Memory,
     /// The old tree could not be read on.
     Old(RootFault),

@@ -11,6 +11,7 @@ mod differences;
 mod fault;
 pub mod laws;
 mod leaf;
+mod notes;
 mod onward;
 mod siblings;
 mod side;

@@ -5,12 +5,14 @@ ghost use Rattle.prolly_check.specs.Content.{Content};
 ghost use Rattle.prolly_entry.specs.Pair.{Pair as PairValue};
 ghost use Rattle.prolly_root.specs.ChunkSource.{HasAsked};
 ghost use Rattle.prolly_root.specs.RootFault.{IsOrFails, MayFail};
-ghost use Rattle.prolly_root_diff.specs.Left.{Due, Opens};
+ghost use Rattle.prolly_root_diff.specs.Left.{Due};
+ghost use Rattle.prolly_root_diff.specs.Notes.{Reads};
 ghost use Rattle.prolly_root_diff.specs.Sides.{IsAtRoot, IsSideOf, PassesFirst, PutBehindFirst};
 ghost use Rattle.prolly_root_diff.specs.Sides.{left_of};
 ghost use Rattle.prolly_root_diff.specs.Walks.{IsDue, IsReady};
 
 use crate::leaf::Leaf;
+use crate::notes::Note;
 use crate::siblings::Siblings;
 use prolly_check::laws::tops_are_read;
 use prolly_entry::{Pair, Ref, Version};
@@ -77,9 +79,9 @@ impl<T: Copy + Drop> Side<T> {
         alloc: Global,
         source: &mut S,
         version: Version,
-    ) -> Result<(), RootFault>
+    ) -> Result<Note, RootFault>
         requires { IsDue (left_of self.old) }
-        ensures opens { OnOk result (Opens version (left_of self.old) (left_of self.new)) }
+        ensures opens { IfOk result (Reads version (left_of self.old) (left_of self.new)) }
         ensures lawful { (content : Content) → S.has source.old content →
             version ≡ content.version → IsSideOf S.is_place content self.old →
             IsOrFails (λ _. IsSideOf S.is_place content self.new) MayFail result }
@@ -88,17 +90,24 @@ impl<T: Copy + Drop> Side<T> {
         // By this law the children of a chunk of a lawful tree are the trees below it.
         tops_are_read();
         let Some(mut siblings) = self.due.pop_front() else {
-            return Ok(());
+            return Err(RootFault::Missing);
         };
         let (chunk, place) = siblings.read(alloc, source, version)?;
+        let note = Note {
+            reference: siblings.next,
+            length: chunk.len() as u64,
+        };
         put_others(&mut self.due, siblings)?;
         if chunk[0] == LEAF {
             self.leaf = Leaf::of(version, chunk);
-            return Ok(());
+            return Ok(note);
         }
         match Siblings::below(alloc, version, &chunk, place)? {
-            None => Ok(()),
-            Some(children) => Ok(put_first(&mut self.due, children)?),
+            None => Ok(note),
+            Some(children) => {
+                put_first(&mut self.due, children)?;
+                Ok(note)
+            }
         }
     }
 

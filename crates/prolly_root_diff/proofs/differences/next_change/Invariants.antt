@@ -1,6 +1,8 @@
-use Rattle.std.proofs.Common.{◌≤◌}
+use Rattle.std.proofs.Common.{◌≡◌, ◌≤◌}
+use Rattle.std.specs.Option.{is_some}
+use Rattle.prolly_root_diff.specs.Notes.{AreNoted}
 use Rattle.prolly_root_diff.specs.Sides.{left_of}
-use Rattle.prolly_root_diff.specs.Walks.{GoesOn, Moves}
+use Rattle.prolly_root_diff.specs.Walks.{GoesOn, Lefts, Moves}
 use Rattle.prolly_root_diff.specs.ToGo.{far}
 use Rattle.prolly_root_diff.proofs.differences.next_change.Given as goal
 
@@ -14,6 +16,10 @@ invariant-walk g l = record {
       l.fn.old l.old l.fn.before l.before;
   new : GoesOn g.R.ChunkSource.has g.R.ChunkSource.failures g.R.ChunkSource.is_place l.version
       l.fn.new l.new l.fn.after l.after;
+  notes : is_some l.notes ≡ is_some l.fn.notes;
+  noted : (from : Lefts) → AreNoted l.version from
+      (record { before = left_of l.fn.before; after = left_of l.fn.after }) l.fn.notes →
+      AreNoted l.version from (record { before = left_of l.before; after = left_of l.after }) l.notes;
 }
 
 abbrev pub decreases-walk : goal.decreases-walk
