@@ -39,6 +39,21 @@ PROVED_KEYS = 25
 ROOTED_KEYS = 25
 """How many keys are looked up by the root."""
 
+COMPARED_TREES = ((RECORDS, 12), (RECORDS, 6), (MORE_RECORDS, 12), (MORE_RECORDS, 6))
+"""How many pairs trees have, and by which cuts they are made, that are compared by their roots."""
+
+COMPARED_FILES = 8
+"""Of how many record files they are built."""
+
+ROOTED_TURNS = 9
+"""How often a command is run whose time is some milliseconds."""
+
+CHOSEN_BITS = (4, 6, 8, 12)
+"""The cuts that a user chooses from."""
+
+LARGE_FILES, LARGE_RECORDS = 4, 60_000_000
+"""Of how many files, and records in all, a chunk file is made that is larger than what is read whole."""
+
 SCANNED_BITS = (12, 4)
 """By which cuts the trees are made that are scanned."""
 
@@ -75,10 +90,15 @@ def main():
     with tempfile.TemporaryDirectory() as folder:
         os.chdir(folder)
         show_commands(program, parts, turns)
+        show_checks(program, parts, turns)
         show_diff(program, parts, turns)
+        show_diffs_by_root(program)
+        show_bits(program)
         show_proofs(program)
         show_rooted(program)
+        show_dumps_by_root(program, turns)
         show_scans(program, turns)
+        show_large_check(program)
         show_builds(program, parts, turns)
         show_long_builds(program, parts, turns)
         show_growth(program, parts, turns)
@@ -241,6 +261,97 @@ def show_commands(program, parts, turns):
     remove(["records", "tree", "again"])
 
 
+def show_checks(program, parts, turns):
+    """`check` on all cores and on one, of small chunks and of long values, by the root, and of two files."""
+    one_core = tuple(sorted(os.sched_getaffinity(0))[:1])
+    for count, value_bytes, bits in ((RECORDS, SHORT_VALUE, 12), (RECORDS, SHORT_VALUE, 0), (LONG_RECORDS, LONG_VALUE, 12)):
+        write_records("records", range(count), value_bytes)
+        root = Command([*build(program, ["records"]), "--bits", str(bits)]).run().out.decode().split()[0]
+        commands = {
+            "check": Command([program, "check", "tree"]),
+            "check --root": Command([program, "check", "--root", root, "tree"]),
+            "check, one core": Command([program, "check", "tree"], cores=one_core),
+            "diff of a file and itself": Command([program, "diff", "tree", "tree"]),
+        }
+        figures = in_turn(parts, commands, turns, count, value_bytes)
+        figures.show_hashes(f"{count} pairs with values of {value_bytes} bytes, --bits {bits}")
+        figures.show("check")
+        for name in list(commands)[1:]:
+            figures.show(name, "check")
+        remove(["records", "tree"])
+
+
+def show_large_check(program):
+    """A check by the root of a file that no command reads whole."""
+    names = write_parts(LARGE_FILES, LARGE_RECORDS)
+    root, chunks = Command(build(program, names)).run().out.decode().split()[:2]
+    remove(names)
+    done = Command([program, "check", "--root", root, "tree"]).run()
+    print(
+        f"check --root of {LARGE_RECORDS} pairs, {chunks} chunks, {os.path.getsize('tree') / 1e6:.0f} MB:"
+        f" {done.seconds:.1f} s, processor {done.busy:.1f} s, peak {done.peak / 1e6:.0f} MB"
+    )
+    remove(["tree"])
+
+
+def make_two(program, count, bits):
+    """Two trees that differ in a few keys, `old` and `new`. Gives the options that name their roots."""
+    names = write_parts(COMPARED_FILES, count)
+    write_records("changes", range(0, count, count // CHANGES), CHANGED_VALUE)
+    old, new = (
+        Command([*build(program, files, tree), "--bits", str(bits)]).run().out.decode().split()[0]
+        for tree, files in (("old", names), ("new", [*names, "changes"]))
+    )
+    remove([*names, "changes"])
+    return ["--old-root", old, "--new-root", new]
+
+
+def show_diffs_by_root(program):
+    """Two trees that differ in a few keys, compared by their roots."""
+    for count, bits in COMPARED_TREES:
+        roots = make_two(program, count, bits)
+        words = [program, "diff", *roots, "old", "new"]
+        printing, counting = (many_runs([*words, *flags]) for flags in ((), ("--stat",)))
+        print(
+            f"diff by the roots of {CHANGES} changes of {count} pairs, --bits {bits}:"
+            f" {spread(seconds_of(printing))}, peak {max(done.peak for done in printing) / 1e6:.0f} MB;"
+            f" --stat {spread(seconds_of(counting))}: {counting[0].out.decode().strip()}"
+        )
+        remove(["old", "new"])
+
+
+def many_runs(words, found=1):
+    """Some runs of a command that ends with this status."""
+    runs = [run(words) for _ in range(ROOTED_TURNS)]
+    if any(done.status != found for done in runs):
+        sys.exit(f"{words} failed: {runs[0].err.decode()}")
+    return runs
+
+
+def seconds_of(runs):
+    """What each of some runs took."""
+    return [done.seconds for done in runs]
+
+
+def show_bits(program):
+    """What the bits decide: the chunks, what a few changes make new, a proof, a look-up, the file."""
+    key = (RECORDS // 2).to_bytes(16, "big").hex()
+    for bits in CHOSEN_BITS:
+        roots = make_two(program, RECORDS, bits)
+        counts = run([program, "diff", "--stat", *roots, "old", "new"]).out.decode().split()
+        asking = many_runs([program, "get", "--root", roots[1], "old", key], 0)
+        proving = many_runs([program, "prove", "--root", roots[1], "old", key, "proof"], 0)
+        chunks = int(run([program, "check", "old"]).out.decode().split()[3])
+        size, records = os.path.getsize("old"), RECORDS * (SHORT_VALUE + 22)
+        print(
+            f"--bits {bits} of {RECORDS} pairs: {chunks} chunks of {size / chunks / 1e3:.2f} kB,"
+            f" a file of {size / records:.2f} times the records; {CHANGES} changes make {counts[7]} chunks and"
+            f" {int(counts[9]) / 1e3:.1f} kB new; a proof has {os.path.getsize('proof') / 1e3:.1f} kB;"
+            f" get --root {median(seconds_of(asking)) * 1000:.1f} ms, prove --root {median(seconds_of(proving)) * 1000:.1f} ms"
+        )
+        remove(["old", "new", "proof"])
+
+
 def show_diff(program, parts, turns):
     """The walk over two trees that differ in a few keys, beside the check of both."""
     write_records("records", range(RECORDS))
@@ -297,6 +408,22 @@ def show_rooted(program):
             f" check {checking.seconds:.2f} s, peak {checking.peak / 1e6:.0f} MB"
         )
     remove(["tree"])
+
+
+def show_dumps_by_root(program, turns):
+    """All pairs by the root, beside a dump that checks the file first."""
+    write_records("records", range(RECORDS))
+    for bits in SCANNED_BITS:
+        root = Command([*build(program, ["records"]), "--bits", str(bits)]).run().out.decode().split()[0]
+        by_root, whole = [], []
+        for _ in range(turns):
+            by_root.append(Command([program, "dump", "--root", root, "tree", "again"], makes="again").run().seconds)
+            whole.append(Command([program, "dump", "tree", "again"], makes="again").run().seconds)
+        print(
+            f"dump of {RECORDS} pairs, --bits {bits}: --root {spread(by_root)}, without it {spread(whole)},"
+            f" {ratio(by_root, whole)} of it"
+        )
+    remove(["records", "tree", "again"])
 
 
 def show_scans(program, turns):

@@ -8,7 +8,7 @@ from support.harness import BAD_KEY, BAD_TEXT_KEY, Case
 TEXTS = Path(__file__).parent.parent / "texts"
 
 COMMANDS = [
-    "pack", "scratch", "build", "explain", "check", "stat", "get", "scan", "nth", "dump", "diff", "prove", "verify",
+    "pack", "scratch", "build", "explain", "check", "root", "stat", "get", "scan", "nth", "dump", "diff", "prove", "verify",
 ]
 
 
@@ -102,6 +102,8 @@ def usage_cases():
         unknown(["explain", "f", "--max-records", "1"], "--max-records", "explain <FILE>"),
         wrong(["explain", "--text", "--text", "f"], "the argument '--text' cannot be used multiple times", "explain [OPTIONS] <FILE>"),
         missing(["check"], ["FILE"], "check <FILE>"),
+        missing(["root"], ["FILE"], "root <FILE>"),
+        wrong(["root", "f", "x"], "unexpected argument 'x' found", "root <FILE>"),
         missing(["stat"], ["FILE"], "stat <FILE>"),
         missing(["stat", "--json"], ["FILE"], "stat --json <FILE>"),
         wrong(["stat", "f", "x"], "unexpected argument 'x' found", "stat [OPTIONS] <FILE>"),
@@ -133,6 +135,8 @@ def usage_cases():
         missing(["diff"], ["OLD", "NEW"], "diff <OLD> <NEW>"),
         missing(["diff", "f"], ["NEW"], "diff <OLD> <NEW>"),
         wrong(["diff", "f", "g", "x"], "unexpected argument 'x' found", "diff [OPTIONS] <OLD> <NEW>"),
+        wrong(["diff", "--old-root"], "a value is required for '--old-root <ROOT>' but none was supplied"),
+        wrong(["diff", "--new-root", "r", "--new-root", "r", "f", "g"], "the argument '--new-root <ROOT>' cannot be used multiple times", "diff [OPTIONS] <OLD> <NEW>"),
         unknown(["check", "f", "--text"], "--text", "check <FILE>"),
         unknown(["diff", "f", "g", "--removals"], "--removals", "diff <OLD> <NEW>"),
         unknown(["dump", "f", "--stat"], "--stat", "dump <FILE> [OUT]"),
@@ -168,6 +172,7 @@ def number_cases():
         bad_number(["scratch", "--bits", ""], "", "--bits <Q>", "cannot parse integer from empty string"),
         bad_number(["scratch", "--format", "0"], "0", "--format <V>", "0 is not in 1..=2"),
         bad_number(["scratch", "--format", "3"], "3", "--format <V>", "3 is not in 1..=2"),
+        bad_number(["diff", "--format", "3", "--old-root", "r", "f", "g"], "3", "--format <V>", "3 is not in 1..=2"),
         bad_number(["verify", "--format", "0", "r", "61"], "0", "--format <V>", "0 is not in 1..=2"),
         bad_number(["verify", "--format", "3", "r", "61"], "3", "--format <V>", "3 is not in 1..=2"),
         bad_number(["get", "--root", "r", "--format", "0", "f", "61"], "0", "--format <V>", "0 is not in 1..=2"),

@@ -101,10 +101,10 @@ def differences():
     return found
 
 
-def told(name, before, changes):
+def told(name, before, changes, options=()):
     """A difference that is printed, and written."""
     status = DIFFERENT if changes else ALIKE
-    words = ["diff", "old.prl", "new.prl"]
+    words = ["diff", *options, "old.prl", "new.prl"]
     return [
         Case(f"diff: {name}", words, status=status, out=lines(changes), before=before),
         Case(f"diff --text: {name}", [*words, "--text"], status=status, out=text_lines(changes), before=before),
@@ -173,10 +173,10 @@ def stats():
     return found
 
 
-def counted(name, before, changes, line):
+def counted(name, before, changes, line, options=()):
     """A difference that is counted, and counted and written."""
     status = DIFFERENT if changes else ALIKE
-    words = ["diff", "--stat", "old.prl", "new.prl"]
+    words = ["diff", "--stat", *options, "old.prl", "new.prl"]
     return [
         Case(f"diff --stat: {name}", words, status=status, out=line, before=before),
         Case(f"diff --stat: {name}, to a file", [*words, "--out", "d.rec"], status=status, out=line, before=before, after={"d.rec": records(changes)}),

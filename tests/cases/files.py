@@ -34,10 +34,13 @@ PROOF = proof_of(tree(ABC, 0, 1), b"b", 1)
 COUNTED_ACROSS = stat_line(OLD, ABC, (0, 1), (0, 2))
 ROOTED = Kind(ABC, 0, 1)
 ROOT = ["--root", reference_text(ROOTED.root)]
+ROOTS = ["--old-root", reference_text(Kind(OLD, 0, 1).root), "--new-root", reference_text(ROOTED.root)]
 LAST = ROOTED.way(b"c")[-1]
 TURNED = ROOTED.with_byte(LAST, 2, 1)
 NOT_LAST = f"prolly: chunk file: {another(LAST)}\n".encode()
 """What a command says that goes by the root, where the last leaf was changed."""
+NEW_NOT_LAST = f"prolly: new chunk file: {another(LAST)}\n".encode()
+"""What a `diff` says of it."""
 
 BEFORE = b"what was there before"
 """What a file holds that is written to beside the program."""
@@ -51,6 +54,8 @@ BEFORES = {
     "dump --root": B,
     "diff": B,
     "diff --stat": B,
+    "diff by the roots": B,
+    "diff --stat by the roots": B,
     "prove": proof_of(tree(ABC, 0, 1), b"a", 1),
     "prove --root": proof_of(tree(ABC, 0, 1), b"a", 1),
 }
@@ -70,6 +75,8 @@ WRITERS = {
     "dump --root": (["dump", *ROOT, "abc.prl", "out"], None, records(ABC), (0, b"", b"")),
     "diff": (["diff", "old.prl", "abc.prl", "--out", "out"], None, records(CHANGES), (1, b"", b"")),
     "diff --stat": (["diff", "--stat", "old.prl", "abc.prl", "--out", "out"], None, records(CHANGES), (1, COUNTED, b"")),
+    "diff by the roots": (["diff", *ROOTS, "old.prl", "abc.prl", "--out", "out"], None, records(CHANGES), (1, b"", b"")),
+    "diff --stat by the roots": (["diff", "--stat", *ROOTS, "old.prl", "abc.prl", "--out", "out"], None, records(CHANGES), (1, COUNTED, b"")),
     "prove": (["prove", "abc.prl", "62", "out"], None, PROOF, (0, b"", b"")),
     "prove --root": (["prove", *ROOT, "abc.prl", "62", "out"], None, PROOF, (0, b"", b"")),
 }
@@ -84,6 +91,8 @@ FAULTS = {
     "dump --root": (["dump", *ROOT, "turned.prl", "out"], None, 4, NOT_LAST),
     "diff": (["diff", "old.prl", "cut.prl", "--out", "out"], None, 4, b"prolly: new chunk file: truncated\n"),
     "diff --stat": (["diff", "--stat", "old.prl", "cut.prl", "--out", "out"], None, 4, b"prolly: new chunk file: truncated\n"),
+    "diff by the roots": (["diff", *ROOTS, "old.prl", "turned.prl", "--out", "out"], None, 4, NEW_NOT_LAST),
+    "diff --stat by the roots": (["diff", "--stat", *ROOTS, "old.prl", "turned.prl", "--out", "out"], None, 4, NEW_NOT_LAST),
     "prove": (["prove", "cut.prl", "62", "out"], None, 4, b"prolly: chunk file: truncated\n"),
     "prove --root": (["prove", *ROOT, "turned.prl", "63", "out"], None, 4, NOT_LAST),
 }

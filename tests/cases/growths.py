@@ -8,6 +8,7 @@ from dataclasses import dataclass, field
 from pathlib import Path
 
 from cases.diffs import difference, stat_line
+from cases.diffs_by_root import by_roots
 from cases.dumps import lines
 from cases.proofs import verdict
 from cases.scratch import ABC
@@ -36,6 +37,7 @@ ROOT = reference_text(COUNTED_TREE.reference)
 PROOF = proof_of(COUNTED_TREE, b"b", 2)
 
 REFERENCE = tree(ABC, 0, 1).reference
+OLD_AND_NEW = by_roots(tree(OLD, 0, 1).reference, REFERENCE, 1)
 
 MIXED = [(b"\t", b"\xff\\"), ("é".encode(), b"")]
 """Pairs whose text has escapes, and a character that has none."""
@@ -90,6 +92,8 @@ def commands():
         Command("check", ["check", "abc.prl"], out=b"ok " + root_text(ABC, 0).strip() + b" 0 6\n", before=reads),
         Command("check --root", ["check", "--root", reference_text(REFERENCE), "abc.prl"], out=b"ok " + root_text(ABC, 0).strip() + b" 0 6\n", before=reads),
         Command("check --root of another root", ["check", "--root", reference_text(REFERENCE), "old.prl"], status=4, err=refusal("has another root")[2], before=both),
+        Command("root", ["root", "abc.prl"], out=root_text(ABC, 0), before=reads),
+        Command("root of no file", ["root", "out"], status=4, err=refusal("bad end record")[2], before={"out": chunks + b"E"}),
         *surveyed(),
         Command("stat", ["stat", "counted.prl"], out=table(ABC, 0, 2), before=reads),
         Command("stat --json", ["stat", "--json", "abc.prl"], out=tree_json(ABC, 0, 1), before=reads),
@@ -137,6 +141,19 @@ def commands():
             whole=records(CHANGES),
             is_made_first=True,
         ),
+        Command("diff by the roots", ["diff", *OLD_AND_NEW, "old.prl", "abc.prl"], status=1, out=lines(CHANGES), before=both, is_printed_early=True),
+        Command("diff --stat by the roots", ["diff", "--stat", *OLD_AND_NEW, "old.prl", "abc.prl"], status=1, out=COUNTED, before=both),
+        Command(
+            "diff --stat by the roots to a file",
+            ["diff", "--stat", *OLD_AND_NEW, "old.prl", "abc.prl", "--out", "out.rec"],
+            status=1,
+            out=COUNTED,
+            before=both,
+            made="out.rec",
+            whole=records(CHANGES),
+            is_made_first=True,
+        ),
+        Command("diff by the roots to a file", ["diff", *OLD_AND_NEW, "old.prl", "abc.prl", "--out", "out.rec"], status=1, before=both, made="out.rec", whole=records(CHANGES)),
         Command("diff of equal maps", ["diff", "counted.prl", "abc.prl"], before=reads),
         Command("diff to a file", ["diff", "old.prl", "abc.prl", "--out", "out.rec"], status=1, before=both, made="out.rec", whole=records(CHANGES)),
         Command("atomic diff", ["diff", "--atomic", "--sync", "old.prl", "abc.prl", "--out", "out.rec"], status=1, before=both, made="out.rec", whole=records(CHANGES)),

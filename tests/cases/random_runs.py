@@ -6,14 +6,17 @@ from dataclasses import dataclass
 from functools import partial
 
 from cases.diffs import difference, stat_line
+from cases.diffs_by_root import by_roots
 from cases.dumps import lines
+from cases.named_root import asked as asked_root
 from cases.proofs import verdict
 from cases.surveys import as_json, explained, record_lines, record_numbers, table, tree_json
-from oracle.checker import lawful_or_fault
+from oracle.checker import Fault, lawful_or_fault
 from oracle.escapes import as_text, escaped, respelled, text_lines
 from oracle.proof import proof_of
 from oracle.readings import merged, packed, read, stop_of
 from oracle.trees import REMOVED, begun_file, chunk_file, overlay, record, records, reference_text, report, root_text, tall_file, tree
+from oracle.walker import Walk
 from support.by_root import ALL, Dump, Get, Nth, Prove, Scan
 from support.harness import Case, hexed
 
@@ -32,7 +35,7 @@ def cases(_):
 
 def runs(seed, count):
     """So many runs; a difference is named with the seed that brings it back."""
-    kinds = [build, build, build, scratch, pack, look_up, look_up, dump, diff, prove, verify, by_root, in_numbers]
+    kinds = [build, build, build, scratch, pack, look_up, look_up, dump, diff, diff_by_root, prove, verify, by_root, named_root, in_numbers]
     for number in range(count):
         chance = random.Random(f"{seed} {number}")
         case = chance.choice(kinds)(chance)
@@ -337,6 +340,58 @@ def diff(chance):
         before={"old.prl": old_content, "new.prl": new_content} | before,
         after=after,
     )
+
+
+def diff_by_root(chance):
+    """Two chunk files of one format that share pairs, of which each may be damaged, compared by roots, mostly their own."""
+    version = chance.choice([1, 2])
+    old = some_pairs(chance)
+    new = overlay([old, changes(chance, 6)]) if chance.random() < 0.7 else some_pairs(chance)
+    kinds = [(pairs, chance.choice([0, 0, 1, 2, 12]), version) for pairs in (old, new)]
+    files = [chunk_file(*kind) for kind in kinds]
+    files = [turned(chance, content) if chance.random() < 0.15 else content for content in files]
+    own_roots = [tree(*kind).reference for kind in kinds]
+    roots = [root if chance.random() < 0.9 else tree(some_pairs(chance), 0, version).reference for root in own_roots]
+    found, error = walked(Walk(*files, *roots, version))
+    status = 4 if error else 1 if found else 0
+    is_written, is_counted = chance.random() < 0.5, chance.random() < 0.3 and roots == own_roots
+    written_in = notation(chance)
+    printed = b"" if is_written else written_in.told(lines(found))
+    if is_counted:
+        # Of what was found before a fault no numbers are told.
+        printed = b"" if error else stat_line(old, new, *((bits, version) for _, bits, _ in kinds))
+    words = [*(["--stat"] if is_counted else []), *(["--out", "out.rec"] if is_written else [])]
+    before, after, flags = written(chance, "out.rec", records(found) if is_written and not error else None, status if error else 0)
+    return Case(
+        "",
+        ["diff", *written_in.flags, *words, *flags, *by_roots(*roots, version), "old.prl", "new.prl"],
+        status=status,
+        out=printed,
+        err=error,
+        before={"old.prl": files[0], "new.prl": files[1]} | before,
+        after=after,
+    )
+
+
+def walked(walk):
+    """What a walk finds, and the line of what stops it, if anything does."""
+    found = []
+    try:
+        found.extend(walk.changes())
+    except Fault as fault:
+        return found, f"prolly: {fault}\n".encode()
+    return found, b""
+
+
+def named_root(chance):
+    """The root that a chunk file names, which may be damaged."""
+    content = chunk_file(some_pairs(chance), chance.choice([0, 1, 12]), chance.choice([1, 2]))
+    kind = chance.random()
+    if kind < 0.4:
+        content = turned(chance, content)
+    if 0.4 < kind < 0.5:
+        content = content[: chance.randrange(len(content))]
+    return asked_root("", content)
 
 
 def kind_of(content):

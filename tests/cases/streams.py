@@ -94,6 +94,7 @@ def waits_for_output(place):
         (["dump", "in.prl"], 0, records(pairs)),
         (["dump", "--hex", "in.prl"], 0, text),
         (["diff", "none.prl", "in.prl"], 1, text),
+        (["diff", "--old-root", reference_text(tree([], 4, 1).reference), "--new-root", reference_text(tree(pairs, 4, 1).reference), "none.prl", "in.prl"], 1, text),
         (["scan", "in.prl", "", "20000"], 0, text),
         (["scan", "--root", reference_text(tree(pairs, 4, 1).reference), "in.prl", "", "20000"], 0, text),
     ]

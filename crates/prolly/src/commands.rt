@@ -12,6 +12,7 @@ mod scratch;
 
 ghost use Rattle.prolly_line.specs.GivenCommand.{IsWithinLimits};
 
+use crate::commands::diff::DiffRequest;
 use crate::hashing::on_all_processors;
 use crate::refusal::Refusal;
 use prolly_entry::Version;
@@ -85,6 +86,7 @@ fn answer_or_refusal<T: Wait + Threads + Clock + Sync>(
             let version = Version::of(version).unwrap();
             report::check(rt, &on_all_processors(threads), &file, root, version)
         }
+        Command::Root { file } => report::root(rt, &file),
         Command::Stat {
             file,
             json,
@@ -169,20 +171,30 @@ fn answer_or_refusal<T: Wait + Threads + Clock + Sync>(
         Command::Diff {
             old,
             new,
+            roots,
+            version,
             out,
             stat,
             notation,
             mode,
-        } => diff::diff(
-            rt,
-            &on_all_processors(threads),
-            old,
-            new,
-            stat,
-            notation,
-            out,
-            mode,
-        ),
+        } => {
+            let version = Version::of(version).unwrap();
+            let request = DiffRequest {
+                roots,
+                version,
+                stat,
+                notation,
+            };
+            diff::diff(
+                rt,
+                &on_all_processors(threads),
+                &old,
+                &new,
+                request,
+                out,
+                mode,
+            )
+        }
         Command::Prove {
             file,
             key,

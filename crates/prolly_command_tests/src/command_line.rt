@@ -26,6 +26,7 @@ fn kind_of(answer: &Parsed) -> &'static str {
         Err(ParseFault::Usage(_)) => "usage",
         Err(ParseFault::Help(_)) => "help",
         Err(ParseFault::BadRoot) => "bad root",
+        Err(ParseFault::LoneRoot) => "lone root",
         Err(ParseFault::BadKey) => "bad key",
         Err(ParseFault::BadTextKey) => "bad key of text",
     }
@@ -74,6 +75,10 @@ const UNUSABLE_WORDS: &[&str] = &[
     "dump a.prl a.rec b.rec",
     "diff a.prl",
     "diff a.prl b.prl a.rec",
+    "diff --format 0 a.prl b.prl",
+    "diff --old-root a.prl b.prl",
+    "root",
+    "root a.prl b.prl",
     "prove a.prl 00",
     "verify 00",
     "verify --format 3 00000000000000000000000000000000 00",
@@ -146,6 +151,19 @@ const BAD_WORDS: &[(&str, &str)] = &[
         "bad key of text",
     ),
     ("get --text --root 0 a.prl \\q", "bad root"),
+    ("diff --old-root 0 a.prl b.prl", "lone root"),
+    (
+        "diff --new-root 00000000000000000000000000000000 a.prl b.prl",
+        "lone root",
+    ),
+    (
+        "diff --old-root 00000000000000000000000000000000 --new-root 0 a.prl b.prl",
+        "bad root",
+    ),
+    (
+        "diff --old-root 0 --new-root 00000000000000000000000000000000 a.prl b.prl",
+        "bad root",
+    ),
     // What clap refuses is no bad key, and no bad root.
     ("scan a.prl 6x", "usage"),
     ("scan --root 0 a.prl 6x 1000001", "usage"),

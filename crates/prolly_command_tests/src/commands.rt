@@ -19,9 +19,9 @@ const COMMANDS: &str = "\
     scratch --sync --out a.prl => scratch (12, 1, Some(\"a.prl\"), WriteMode { atomic: \
      false, sync: true, force: false })\n\
     check a.prl => check (\"a.prl\", None, 1)\n\
-    check --root 00000000000000000000000000000000 --format 2 a.prl => check \
-     (\"a.prl\", Some(Ref([0, 0, 0, 0, 0, 0, 0, 0, 0, 0, 0, 0, 0, 0, 0, 0, 0, 0, 0, 0])), \
-     2)\n\
+    check --root 00000000000000000000000000000000 --format 2 a.prl => check (\"a.prl\", \
+     Some(Ref([0, 0, 0, 0, 0, 0, 0, 0, 0, 0, 0, 0, 0, 0, 0, 0, 0, 0, 0, 0])), 2)\n\
+    root a.prl => root \"a.prl\"\n\
     get a.prl 61fF => get (\"a.prl\", [97, 255], None, 1, Hex)\n\
     get --root 00000000000000000000000000000000 a.prl 61 => get (\"a.prl\", [97], \
      Some(Ref([0, 0, 0, 0, 0, 0, 0, 0, 0, 0, 0, 0, 0, 0, 0, 0, 0, 0, 0, 0])), 1, Hex)\n\
@@ -40,8 +40,8 @@ const COMMANDS: &str = "\
      => build ((1, 2, 3, 4, 5, 2), (\"out.prl\", [], false, WriteMode { atomic: false, \
      sync: false, force: false }))\n\
     build --max-records 2 out.prl x.rec y.rec => build ((12, 12, 64, 2, 16, 1), \
-     (\"out.prl\", [\"x.rec\", \"y.rec\"], false, WriteMode { atomic: false, sync: false, \
-     force: false }))\n\
+     (\"out.prl\", [\"x.rec\", \"y.rec\"], false, WriteMode { atomic: false, sync: \
+     false, force: false }))\n\
     build --quiet out.prl => build ((12, 12, 64, 16777216, 16, 1), (\"out.prl\", [], \
      true, WriteMode { atomic: false, sync: false, force: false }))\n\
     explain a.rec => explain (\"a.rec\", Hex)\n\
@@ -58,18 +58,18 @@ const COMMANDS: &str = "\
     dump --sync a.prl --text --atomic a.txt => dump (\"a.prl\", None, 1, \
      Some(\"a.txt\"), Some(Text), WriteMode { atomic: true, sync: true, force: false \
      })\n\
-    diff a.prl b.prl => diff (\"a.prl\", \"b.prl\", None, false, Hex, WriteMode { \
-     atomic: false, sync: false, force: false })\n\
-    diff a.prl --atomic --stat --out a.rec b.prl => diff (\"a.prl\", \"b.prl\", \
-     Some(\"a.rec\"), true, Hex, WriteMode { atomic: true, sync: false, force: false \
-     })\n\
+    diff a.prl b.prl => diff ((\"a.prl\", \"b.prl\", None, 1), (None, false, Hex, \
+     WriteMode { atomic: false, sync: false, force: false }))\n\
+    diff a.prl --atomic --stat --out a.rec b.prl => diff ((\"a.prl\", \"b.prl\", None, \
+     1), (Some(\"a.rec\"), true, Hex, WriteMode { atomic: true, sync: false, force: \
+     false }))\n\
     prove a.prl 6B --sync a.prf => prove (\"a.prl\", [107], None, 1, \"a.prf\", \
      WriteMode { atomic: false, sync: true, force: false })\n\
     verify 00000000000000000000000000000000 00 => verify (Ref([0, 0, 0, 0, 0, 0, 0, 0, \
      0, 0, 0, 0, 0, 0, 0, 0, 0, 0, 0, 0]), [0], 1, None, Hex)\n\
     verify vvvvvvvvvvvvvvvvvvvvvvvvvvvvvvvv 00 a.prf --format 2 => verify (Ref([255, \
-     255, 255, 255, 255, 255, 255, 255, 255, 255, 255, 255, 255, 255, 255, 255, 255, 255, \
-     255, 255]), [0], 2, Some(\"a.prf\"), Hex)\n\
+     255, 255, 255, 255, 255, 255, 255, 255, 255, 255, 255, 255, 255, 255, 255, 255, \
+     255, 255, 255]), [0], 2, Some(\"a.prf\"), Hex)\n\
     pack --removals --text a.rec => pack (\"a.rec\", Text, true, WriteMode { atomic: \
      false, sync: false, force: false })\n\
     get --text a.prl a\\x6cl => get (\"a.prl\", [97, 108, 108], None, 1, Text)\n\
@@ -78,8 +78,8 @@ const COMMANDS: &str = "\
      false, sync: false, force: false })\n\
     dump --hex --text a.prl => dump (\"a.prl\", None, 1, None, Some(Text), WriteMode { \
      atomic: false, sync: false, force: false })\n\
-    diff --text a.prl b.prl => diff (\"a.prl\", \"b.prl\", None, false, Text, WriteMode \
-     { atomic: false, sync: false, force: false })\n\
+    diff --text a.prl b.prl => diff ((\"a.prl\", \"b.prl\", None, 1), (None, false, \
+     Text, WriteMode { atomic: false, sync: false, force: false }))\n\
     prove --text a.prl a b => prove (\"a.prl\", [97], None, 1, \"b\", WriteMode { \
      atomic: false, sync: false, force: false })\n\
     pack --force a.rec => pack (\"a.rec\", Hex, false, WriteMode { atomic: false, sync: \
@@ -91,9 +91,15 @@ const COMMANDS: &str = "\
      }))\n\
     dump a.prl --force --hex a.txt => dump (\"a.prl\", None, 1, Some(\"a.txt\"), \
      Some(Hex), WriteMode { atomic: false, sync: false, force: true })\n\
-    diff --force a.prl b.prl --out a.rec --atomic => diff (\"a.prl\", \"b.prl\", \
-     Some(\"a.rec\"), false, Hex, WriteMode { atomic: true, sync: false, force: true \
-     })\n\
+    diff --force a.prl b.prl --out a.rec --atomic => diff ((\"a.prl\", \"b.prl\", None, \
+     1), (Some(\"a.rec\"), false, Hex, WriteMode { atomic: true, sync: false, force: \
+     true }))\n\
+    diff --new-root vvvvvvvvvvvvvvvvvvvvvvvvvvvvvvvv a.prl b.prl --format 2 --old-root \
+     00000000000000000000000000000000 => diff ((\"a.prl\", \"b.prl\", Some(RootPair { \
+     old: Ref([0, 0, 0, 0, 0, 0, 0, 0, 0, 0, 0, 0, 0, 0, 0, 0, 0, 0, 0, 0]), new: \
+     Ref([255, 255, 255, 255, 255, 255, 255, 255, 255, 255, 255, 255, 255, 255, 255, \
+     255, 255, 255, 255, 255]) }), 2), (None, false, Hex, WriteMode { atomic: false, \
+     sync: false, force: false }))\n\
     prove a.prl 61 a.prf --force => prove (\"a.prl\", [97], None, 1, \"a.prf\", \
      WriteMode { atomic: false, sync: false, force: true })\n\
     verify --text 00000000000000000000000000000000 a => verify (Ref([0, 0, 0, 0, 0, 0, \
@@ -102,8 +108,8 @@ const COMMANDS: &str = "\
      Some(Ref([0, 0, 0, 0, 0, 0, 0, 0, 0, 0, 0, 0, 0, 0, 0, 0, 0, 0, 0, 0])), 2, None, \
      None, WriteMode { atomic: false, sync: false, force: false })\n\
     prove --format 2 a.prl 61 a.prf --root 00000000000000000000000000000000 => prove \
-     (\"a.prl\", [97], Some(Ref([0, 0, 0, 0, 0, 0, 0, 0, 0, 0, 0, 0, 0, 0, 0, 0, 0, 0, 0, \
-     0])), 2, \"a.prf\", WriteMode { atomic: false, sync: false, force: false })\n\
+     (\"a.prl\", [97], Some(Ref([0, 0, 0, 0, 0, 0, 0, 0, 0, 0, 0, 0, 0, 0, 0, 0, 0, 0, \
+     0, 0])), 2, \"a.prf\", WriteMode { atomic: false, sync: false, force: false })\n\
 ";
 
 /// A command of this kind, with its fields.
@@ -158,6 +164,7 @@ fn reader(alloc: Global, command: &Command) -> Result<String, AllocError> {
             root,
             version,
         } => told(alloc, "check", &(file, root, version)),
+        Command::Root { file } => told(alloc, "root", file),
         Command::Stat {
             file,
             json,
@@ -203,11 +210,17 @@ fn writer(alloc: Global, command: &Command) -> Result<String, AllocError> {
         Command::Diff {
             old,
             new,
+            roots,
+            version,
             out,
             stat,
             notation,
             mode,
-        } => told(alloc, "diff", &(old, new, out, stat, notation, mode)),
+        } => told(
+            alloc,
+            "diff",
+            &((old, new, roots, version), (out, stat, notation, mode)),
+        ),
         Command::Prove {
             file,
             key,

@@ -4,6 +4,7 @@ use prolly_tool::Answer;
 use std::process::Abort;
 
 mod build_answers;
+mod diff_answers;
 mod dump_answers;
 pub(crate) mod look_up_answers;
 mod name_answers;

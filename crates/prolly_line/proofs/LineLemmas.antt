@@ -13,16 +13,18 @@ use Rattle.clap.proofs.OnLiterals.{clap_on_literals}
 use Rattle.prolly_entry.specs.declared.reference.Ref.{Ref}
 use Rattle.prolly_line.specs.AcceptedWords.{Answers, IsRefusedAt}
 use Rattle.prolly_line.specs.GivenCommand.{GivesTrust, HasFields, IsAskedFor, IsGivenBy}
-use Rattle.prolly_line.specs.GivenCommand.{IsLawfulTrust}
+use Rattle.prolly_line.specs.GivenCommand.{AreLawfulRoots, IsLawfulTrust, MayGiveRoots}
 use Rattle.prolly_line.specs.GivenCommand.{IsRefusalOf, IsRefusedBy, IsWithinLimits}
 use Rattle.prolly_line.specs.Line.{line_faults, line_given, program_line}
 use Rattle.prolly_line.specs.declared.command.Command.{Command}
 use Rattle.prolly_line.specs.declared.command.Command.TheVariants.{Pack, Scratch, Build, Explain}
-use Rattle.prolly_line.specs.declared.command.Command.TheVariants.{Check, Stat, Get, Scan, Nth}
-use Rattle.prolly_line.specs.declared.command.Command.TheVariants.{Dump, Diff, Prove, Verify}
+use Rattle.prolly_line.specs.declared.command.Command.TheVariants.{Check, Root, Stat, Get, Scan}
+use Rattle.prolly_line.specs.declared.command.Command.TheVariants.{Nth, Dump, Diff, Prove, Verify}
 use Rattle.prolly_line.specs.declared.command.ParseFault.{ParseFault}
+use Rattle.prolly_line.specs.declared.command.RootPair.{RootPair}
 use Rattle.prolly_line.specs.declared.command.ParseFault.TheVariants.{Memory, Usage, Help}
-use Rattle.prolly_line.specs.declared.command.ParseFault.TheVariants.{BadRoot, BadKey, BadTextKey}
+use Rattle.prolly_line.specs.declared.command.ParseFault.TheVariants.{BadRoot, LoneRoot, BadKey}
+use Rattle.prolly_line.specs.declared.command.ParseFault.TheVariants.{BadTextKey}
 
 -- ---- clap's model holds of the line
 
@@ -102,6 +104,7 @@ refused_by c words e fault line kinds refusal = go fault (error_at c words e lin
           (kind_of e, among, r)
     ]
     go BadRoot k r = absurd r
+    go LoneRoot k r = absurd r
     go BadKey k r = absurd r
     go BadTextKey k r = absurd r
 
@@ -119,6 +122,7 @@ answers_words words given (Err fault) entered refused = (tt, go fault refused)
     go (Usage text) r = absurd r
     go (Help text) r = absurd r
     go BadRoot r = (entered.0, (given, entered.1, r))
+    go LoneRoot r = (entered.0, (given, entered.1, r))
     go BadKey r = (entered.0, (given, entered.1, r))
     go BadTextKey r = (entered.0, (given, entered.1, r))
 
@@ -127,6 +131,12 @@ lawful_trust : (rows : List Row) (root : Option Ref) (version : ℕ) → GivesTr
     IsLawfulTrust root version
 lawful_trust rows None version h = (tt, h.1.1, h.1.2)
 lawful_trust rows (Some root) version h = (h.0.1, h.1.1, h.1.2)
+
+-- so are the roots of two trees
+lawful_roots : (rows : List Row) (roots : Option RootPair) → MayGiveRoots rows roots →
+    AreLawfulRoots roots
+lawful_roots rows None h = tt
+lawful_roots rows (Some roots) h = (h.0.1, h.1.1)
 
 -- the fields that an accepted subcommand gives are within the limits
 pub limits_kept : (given : Text × List Row) (answer : Result Command ParseFault) →
@@ -140,6 +150,7 @@ limits_kept given (Ok command) fields = go command fields
         (h.1.2, h.2.1, h.2.2, h.3.1, h.3.2, h.4.1, h.4.2, h.5.1, h.5.2, h.6.1, h.6.2)
     go (Explain file notation) h = tt
     go (Check file root version) h = lawful_trust given.1 root version h.2
+    go (Root file) h = tt
     go (Stat file json notation) h = tt
     go (Get file key root version notation) h =
         (h.2.1.2.1, lawful_trust given.1 root version h.3)
@@ -147,7 +158,8 @@ limits_kept given (Ok command) fields = go command fields
         (h.2.1.2.1, h.3.2, lawful_trust given.1 root version h.4)
     go (Nth file n root version notation) h = (h.2.2, lawful_trust given.1 root version h.3)
     go (Dump file root version out lines mode) h = lawful_trust given.1 root version h.2
-    go (Diff old new out stat notation mode) h = tt
+    go (Diff old new roots version out stat notation mode) h =
+        (lawful_roots given.1 roots h.3, h.4.1, h.4.2)
     go (Prove file key root version out mode) h =
         (h.2.1.1.2.1, lawful_trust given.1 root version h.3)
     go (Verify root key version proof notation) h = (h.1.1, h.2.1.2.1, h.3.1, h.3.2)

@@ -1,4 +1,4 @@
--- An accepted subcommand is one of the thirteen.
+-- An accepted subcommand is one of the fourteen.
 use Rattle.std.proofs.Common.{◌≡◌, ◌∙◌, List, false, true, refl, sym, subst, codes}
 use Rattle.std.specs.Str.{bytes_eq}
 use Rattle.std.proofs.lemmas.Slice.Eq.{bytes_eq-Decides}
@@ -18,6 +18,7 @@ pub record IsStrange (name : Text) : Type 0 where
   pub build : name ≡ codes "build" → ⊥
   pub explain : name ≡ codes "explain" → ⊥
   pub check : name ≡ codes "check" → ⊥
+  pub root : name ≡ codes "root" → ⊥
   pub stat : name ≡ codes "stat" → ⊥
   pub get : name ≡ codes "get" → ⊥
   pub scan : name ≡ codes "scan" → ⊥
@@ -42,22 +43,25 @@ none_strange = (
         (
           (λ strange. strange.check refl),
           (
-            (λ strange. strange.stat refl),
+            (λ strange. strange.root refl),
             (
-              (λ strange. strange.get refl),
+              (λ strange. strange.stat refl),
               (
-                (λ strange. strange.scan refl),
+                (λ strange. strange.get refl),
                 (
-                  (λ strange. strange.nth refl),
+                  (λ strange. strange.scan refl),
                   (
-                    (λ strange. strange.dump refl),
+                    (λ strange. strange.nth refl),
                     (
-                      (λ strange. strange.diff refl),
+                      (λ strange. strange.dump refl),
                       (
-                        (λ strange. strange.prove refl),
+                        (λ strange. strange.diff refl),
                         (
-                          (λ strange. strange.verify refl),
-                          ((λ strange. strange.help refl), tt),
+                          (λ strange. strange.prove refl),
+                          (
+                            (λ strange. strange.verify refl),
+                            ((λ strange. strange.help refl), tt),
+                          ),
                         ),
                       ),
                     ),
@@ -84,15 +88,16 @@ not_help given accepted is =
     let bad : true ≡ false = sym same ∙ past in
     cc
 
--- and so an accepted subcommand has the name of one of the thirteen
+-- and so an accepted subcommand has the name of one of the fourteen
 pub not_strange : (name : Text) (rows : List Row) → IsAccepted (name, rows)
     → (name ≡ codes "pack" → ⊥) → (name ≡ codes "scratch" → ⊥) → (name ≡ codes "build" → ⊥) →
-    (name ≡ codes "explain" → ⊥) → (name ≡ codes "check" → ⊥) → (name ≡ codes "stat" → ⊥)
+    (name ≡ codes "explain" → ⊥) → (name ≡ codes "check" → ⊥) → (name ≡ codes "root" → ⊥) →
+    (name ≡ codes "stat" → ⊥)
     → (name ≡ codes "get" → ⊥) → (name ≡ codes "scan" → ⊥) → (name ≡ codes "nth" → ⊥)
     → (name ≡ codes "dump" → ⊥) → (name ≡ codes "diff" → ⊥) → (name ≡ codes "prove" → ⊥) →
     (name ≡ codes "verify" → ⊥) → ⊥
-not_strange name rows accepted pack scratch build explain check stat get scan nth dump diff prove
-    verify =
+not_strange name rows accepted pack scratch build explain check root stat get scan nth dump diff
+    prove verify =
     let level = accepted_level accepted.0 (name, rows) accepted.1 accepted.2 in
     let is : level.0.name ≡ name = found_name name (built program_line).subs level.0 no_aliases
     level.1 in
@@ -105,6 +110,7 @@ not_strange name rows accepted pack scratch build explain check stat get scan nt
       build = build;
       explain = explain;
       check = check;
+      root = root;
       stat = stat;
       get = get;
       scan = scan;

@@ -9,7 +9,7 @@ use Rattle.prolly_line.proofs.Passes.{Each, IsSound}
 use Rattle.prolly_line.proofs.Sound.{all_sound}
 use Rattle.prolly_line.specs.AcceptedWords.{HasNumber, HasWord, IsAccepted}
 use Rattle.prolly_line.specs.Line.{build_line, check_line, diff_line, dump_line, explain_line}
-use Rattle.prolly_line.specs.Line.{get_line, nth_line, pack_line, program_line, prove_line}
+use Rattle.prolly_line.specs.Line.{get_line, nth_line, pack_line, program_line, prove_line, root_line}
 use Rattle.prolly_line.specs.Line.{scan_line, scratch_line, stat_line, verify_line}
 
 -- a subcommand as it is built under the program's line
@@ -159,6 +159,30 @@ takes_check rows accepted =
     record {
       format = number_at check_shape rows (codes "format") 1 2 check_sound level refl refl;
       file = word_at check_shape rows (codes "file") check_sound level refl refl;
+    }
+
+-- ---- root
+
+unfoldable root_shape : Shape
+root_shape = built_of root_line
+
+root_found : shape_at (codes "root") ≡ Some root_shape
+unfolding clap_on_literals root_shape
+root_found = refl
+
+root_sound : IsSoundShape root_shape
+unfolding clap_on_literals root_shape
+root_sound = all_sound root_shape.rules refl
+
+pub record TakesRoot (rows : List Row) : Type 0 where
+  pub file : HasWord (codes "file") rows
+
+pub takes_root : (rows : List Row) → IsAccepted (codes "root", rows) → TakesRoot rows
+unfolding clap_on_literals root_shape
+takes_root rows accepted =
+    let level = level_at (codes "root") root_shape rows root_found accepted in
+    record {
+      file = word_at root_shape rows (codes "file") root_sound level refl refl;
     }
 
 -- ---- stat
@@ -311,6 +335,7 @@ unfolding clap_on_literals diff_shape
 diff_sound = all_sound diff_shape.rules refl
 
 pub record TakesDiff (rows : List Row) : Type 0 where
+  pub format : HasNumber (codes "format") 1 2 rows
   pub old : HasWord (codes "old") rows
   pub new : HasWord (codes "new") rows
 
@@ -319,6 +344,7 @@ unfolding clap_on_literals diff_shape
 takes_diff rows accepted =
     let level = level_at (codes "diff") diff_shape rows diff_found accepted in
     record {
+      format = number_at diff_shape rows (codes "format") 1 2 diff_sound level refl refl;
       old = word_at diff_shape rows (codes "old") diff_sound level refl refl;
       new = word_at diff_shape rows (codes "new") diff_sound level refl refl;
     }

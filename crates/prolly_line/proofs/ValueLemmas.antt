@@ -1,6 +1,7 @@
 -- What the getters of clap's matches give, by the rows of the subcommand.
 use Rattle.std.proofs.Common.{◌<◌, ◌≤◌, ◌^◌, ◌≡◌, ◌∙◌, ℕ, List, Option, Some, None, refl, sym, ap}
-use Rattle.std.proofs.Common.{subst, arith, option_map}
+use Rattle.std.proofs.Common.{subst, arith, option_map, true, false}
+use Rattle.std.specs.Prelude.{is_some}
 use Rattle.std.specs.Prelude.{Result, Ok}
 use Rattle.std.specs.Borrow.{Bor}
 use Rattle.std.specs.Str.Parse.{ParsesUnsigned}
@@ -74,3 +75,10 @@ pub word_read : (f : Found) (id : Text) (r : Option (Bor Text)) (s : Bor Text) �
     → first_of id (rows_of f) ≡ Some s.now
 word_read f id r s e is = sym (first_value-rows f id) ∙
     (sym e ∙ ap (option_map (λ (x : Bor Text). x.now)) is)
+
+-- the getter of text gives the first word under a name, where there is one
+pub word_given : (f : Found) (id : Text) (r : Option (Bor Text)) →
+    option_map (λ x. x.now) r ≡ first_value f id →
+    (is_some r ≡ true → HasWord id (rows_of f)) × (is_some r ≡ false → first_of id (rows_of f) ≡ None)
+word_given f id None e = (λ yes. cc, λ no. sym (first_value-rows f id) ∙ sym e)
+word_given f id (Some s) e = (λ yes. (s.now, sym (first_value-rows f id) ∙ sym e), λ no. cc)

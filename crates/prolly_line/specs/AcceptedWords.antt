@@ -6,12 +6,12 @@ use Rattle.clap.specs.declared.parser.matches.ArgMatches.{ArgMatches}
 use Rattle.prolly_line.specs.Line.{line_faults, line_given}
 use Rattle.prolly_entry.specs.declared.reference.Ref.{Ref}
 use Rattle.prolly_line.specs.GivenCommand.{GivesBadKey, GivesBadRoot, GivesNumber, HasBadKey}
-use Rattle.prolly_line.specs.GivenCommand.{HasBadRoot}
+use Rattle.prolly_line.specs.GivenCommand.{GivesBadPair, GivesLoneRoot, HasBadRoot, HasLoneRoot}
 use Rattle.prolly_line.specs.GivenCommand.{HasFields, MayGiveRoot}
 use Rattle.prolly_line.specs.declared.command.Command.{Command}
 use Rattle.prolly_line.specs.declared.command.ParseFault.{ParseFault}
-use Rattle.prolly_line.specs.declared.command.ParseFault.TheVariants.{Memory, BadRoot, BadKey}
-use Rattle.prolly_line.specs.declared.command.ParseFault.TheVariants.{BadTextKey}
+use Rattle.prolly_line.specs.declared.command.ParseFault.TheVariants.{Memory, BadRoot, LoneRoot}
+use Rattle.prolly_line.specs.declared.command.ParseFault.TheVariants.{BadKey, BadTextKey}
 use Rattle.prolly_text.specs.declared.notation.Notation.TheVariants.{Hex, Text as AsText}
 
 -- the rows that the matches of a subcommand hold
@@ -42,6 +42,7 @@ HasWord name rows = (text : Text) × (first_of name rows ≡ Some text)
 abbrev pub IsRefusedAt : Text × List Row → ParseFault → Type 0
 IsRefusedAt given Memory = ⊤
 IsRefusedAt given BadRoot = HasBadRoot given
+IsRefusedAt given LoneRoot = HasLoneRoot given
 IsRefusedAt given BadKey = HasBadKey given Hex
 IsRefusedAt given BadTextKey = HasBadKey given AsText
 IsRefusedAt given _ = ⊥
@@ -49,6 +50,12 @@ IsRefusedAt given _ = ⊥
 -- the answer to an accepted subcommand
 abbrev pub Answers : Text × List Row → Result Command ParseFault → Type 0
 Answers given answer = MatchResult answer (λ command. HasFields command given) (IsRefusedAt given)
+
+-- the two roots are refused in this way
+abbrev pub AreRefusedRoots : List Row → ParseFault → Type 0
+AreRefusedRoots rows BadRoot = GivesBadPair rows
+AreRefusedRoots rows LoneRoot = GivesLoneRoot rows
+AreRefusedRoots rows _ = ⊥
 
 -- the word for the key is refused in this way
 abbrev pub IsRefusedKey : List Row → ParseFault → Type 0

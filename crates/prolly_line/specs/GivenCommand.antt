@@ -16,11 +16,13 @@ use Rattle.prolly_line.specs.Line.{line_faults, line_given}
 use Rattle.prolly_line.specs.declared.command.Command.{Command}
 use Rattle.prolly_line.specs.declared.command.WriteMode.{WriteMode}
 use Rattle.prolly_line.specs.declared.command.Command.TheVariants.{Pack, Scratch, Build, Explain}
-use Rattle.prolly_line.specs.declared.command.Command.TheVariants.{Check, Stat, Get, Scan, Nth}
-use Rattle.prolly_line.specs.declared.command.Command.TheVariants.{Dump, Diff, Prove, Verify}
+use Rattle.prolly_line.specs.declared.command.Command.TheVariants.{Check, Root, Stat, Get, Scan}
+use Rattle.prolly_line.specs.declared.command.Command.TheVariants.{Nth, Dump, Diff, Prove, Verify}
 use Rattle.prolly_line.specs.declared.command.ParseFault.{ParseFault}
+use Rattle.prolly_line.specs.declared.command.RootPair.{RootPair}
 use Rattle.prolly_line.specs.declared.command.ParseFault.TheVariants.{Memory, Usage, Help}
-use Rattle.prolly_line.specs.declared.command.ParseFault.TheVariants.{BadRoot, BadKey, BadTextKey}
+use Rattle.prolly_line.specs.declared.command.ParseFault.TheVariants.{BadRoot, LoneRoot, BadKey}
+use Rattle.prolly_line.specs.declared.command.ParseFault.TheVariants.{BadTextKey}
 
 -- ---- what the rows of a subcommand give
 
@@ -98,9 +100,13 @@ abbrev pub bad_key : Notation → ParseFault
 bad_key Hex = BadKey
 bad_key AsText = BadTextKey
 
+-- the reference of which the word under a name is the text
+abbrev pub GivesRootAs : Text → List Row → List ℕ → Type 0
+GivesRootAs name rows root = GivesWord rows name (reference_text root) × IsReference root
+
 -- the reference of which the word for the root is the text
 abbrev pub GivesRoot : List Row → List ℕ → Type 0
-GivesRoot rows root = GivesWord rows (codes "root") (reference_text root) × IsReference root
+GivesRoot rows root = GivesRootAs (codes "root") rows root
 
 -- the same of a root that may be missing: there is none where the words have no word for it
 abbrev pub MayGiveRoot : List Row → Option Ref → Type 0
@@ -114,11 +120,37 @@ abbrev pub GivesTrust : List Row → Option Ref → ℕ → Type 0
 GivesTrust rows root version =
     MayGiveRoot rows root × GivesNumber rows (codes "format") 1 2 version
 
+-- the word under a name is the text of no reference
+abbrev pub GivesBadRootAs : Text → List Row → Type 0
+GivesBadRootAs name rows =
+    (text : Text) × (first_of name rows ≡ Some text) ×
+    ((root : List ℕ) → IsReference root → reference_text root ≢ text)
+
 -- the word for the root is the text of no reference
 abbrev pub GivesBadRoot : List Row → Type 0
-GivesBadRoot rows =
-    (text : Text) × (first_of (codes "root") rows ≡ Some text) ×
-    ((root : List ℕ) → IsReference root → reference_text root ≢ text)
+GivesBadRoot rows = GivesBadRootAs (codes "root") rows
+
+-- a word stands under the one name, and none under the other
+abbrev pub HasOnly : Text → Text → List Row → Type 0
+HasOnly name other rows =
+    ((text : Text) × (first_of name rows ≡ Some text)) × (first_of other rows ≡ None)
+
+-- the roots of two trees, the old one and the new one, or none where the words have neither
+abbrev pub MayGiveRoots : List Row → Option RootPair → Type 0
+MayGiveRoots rows None =
+    (first_of (codes "old-root") rows ≡ None) × (first_of (codes "new-root") rows ≡ None)
+MayGiveRoots rows (Some roots) = GivesRootAs (codes "old-root") rows roots.old.0
+    × GivesRootAs (codes "new-root") rows roots.new.0
+
+-- one of the two roots is given without the other
+abbrev pub GivesLoneRoot : List Row → Type 0
+GivesLoneRoot rows = HasOnly (codes "old-root") (codes "new-root") rows
+    ⊎ HasOnly (codes "new-root") (codes "old-root") rows
+
+-- one of the two words for roots is the text of no reference, and the other word is there
+abbrev pub GivesBadPair : List Row → Type 0
+GivesBadPair rows = (GivesLoneRoot rows → ⊥)
+    × (GivesBadRootAs (codes "old-root") rows ⊎ GivesBadRootAs (codes "new-root") rows)
 
 -- ---- the command
 
@@ -156,6 +188,9 @@ HasFields (Check file root version) given =
     (given.0 ≡ codes "check")
     × GivesWord given.1 (codes "file") (string_bytes file)
     × GivesTrust given.1 root version
+HasFields (Root file) given =
+    (given.0 ≡ codes "root")
+    × GivesWord given.1 (codes "file") (string_bytes file)
 HasFields (Stat file json notation) given =
     (given.0 ≡ codes "stat")
     × GivesWord given.1 (codes "file") (string_bytes file)
@@ -185,10 +220,12 @@ HasFields (Dump file root version out lines mode) given =
     × GivesOption given.1 (codes "out") (option_map string_bytes out)
     × GivesLines given.1 lines
     × GivesMode given.1 mode
-HasFields (Diff old new out stat notation mode) given =
+HasFields (Diff old new roots version out stat notation mode) given =
     (given.0 ≡ codes "diff")
     × GivesWord given.1 (codes "old") (string_bytes old)
     × GivesWord given.1 (codes "new") (string_bytes new)
+    × MayGiveRoots given.1 roots
+    × GivesNumber given.1 (codes "format") 1 2 version
     × GivesOption given.1 (codes "out") (option_map string_bytes out)
     × GivesFlag given.1 (codes "stat") stat
     × GivesNotation given.1 notation
@@ -218,6 +255,10 @@ abbrev pub IsLawfulTrust : Option Ref → ℕ → Type 0
 IsLawfulTrust root version =
     IfSome root (λ root. IsReference root.0) × (1 ≤ version) × (version ≤ 2)
 
+-- roots that may be missing are references
+abbrev pub AreLawfulRoots : Option RootPair → Type 0
+AreLawfulRoots roots = IfSome roots (λ roots. IsReference roots.old.0 × IsReference roots.new.0)
+
 -- the numbers of the command, and the length of its key, are within their limits, and its root is
 -- a reference
 abbrev pub IsWithinLimits : Command → Type 0
@@ -232,6 +273,7 @@ IsWithinLimits (Build bits stages capacity max_records batch version out files q
     × (1 ≤ version) × (version ≤ 2)
 IsWithinLimits (Explain file notation) = ⊤
 IsWithinLimits (Check file root version) = IsLawfulTrust root version
+IsWithinLimits (Root file) = ⊤
 IsWithinLimits (Stat file json notation) = ⊤
 IsWithinLimits (Get file key root version notation) =
     (length key.items ≤ 1024) × IsLawfulTrust root version
@@ -240,7 +282,8 @@ IsWithinLimits (Scan file from limit root version notation) =
 IsWithinLimits (Nth file n root version notation) =
     (n ≤ 4294967295) × IsLawfulTrust root version
 IsWithinLimits (Dump file root version out lines mode) = IsLawfulTrust root version
-IsWithinLimits (Diff old new out stat notation mode) = ⊤
+IsWithinLimits (Diff old new roots version out stat notation mode) =
+    AreLawfulRoots roots × (1 ≤ version) × (version ≤ 2)
 IsWithinLimits (Prove file key root version out mode) =
     (length key.items ≤ 1024) × IsLawfulTrust root version
 IsWithinLimits (Verify root key version proof notation) =
@@ -257,9 +300,14 @@ MayTakeRoot name = (name ≡ codes "get") ⊎ (name ≡ codes "scan") ⊎ (name 
 abbrev pub TakesRoot : Text → Type 0
 TakesRoot name = MayTakeRoot name ⊎ (name ≡ codes "verify")
 
--- the subcommand takes a root, and its word for the root is the text of no reference
+-- the subcommand takes a root, or two of them, and a word for one is the text of no reference
 abbrev pub HasBadRoot : Text × List Row → Type 0
-HasBadRoot given = TakesRoot given.0 × GivesBadRoot given.1
+HasBadRoot given = (TakesRoot given.0 × GivesBadRoot given.1)
+    ⊎ ((given.0 ≡ codes "diff") × GivesBadPair given.1)
+
+-- the subcommand takes two roots, and is given one of them alone
+abbrev pub HasLoneRoot : Text × List Row → Type 0
+HasLoneRoot given = (given.0 ≡ codes "diff") × GivesLoneRoot given.1
 
 -- the subcommand takes a key, and a root before it only if its word is the text of a reference
 abbrev pub ReadsKey : Text × List Row → Type 0
@@ -286,6 +334,9 @@ IsRefusedBy words (Help text) =
 IsRefusedBy words BadRoot =
     (line_faults words ≡ [])
     × ((given : Text × List Row) × (line_given words ≡ Some given) × HasBadRoot given)
+IsRefusedBy words LoneRoot =
+    (line_faults words ≡ [])
+    × ((given : Text × List Row) × (line_given words ≡ Some given) × HasLoneRoot given)
 IsRefusedBy words BadKey =
     (line_faults words ≡ [])
     × ((given : Text × List Row) × (line_given words ≡ Some given) × HasBadKey given Hex)
@@ -299,5 +350,6 @@ IsRefusalOf kind Memory = ⊤
 IsRefusalOf kind (Usage text) = (kind ≢ OutOfMemory) × (IsAskedFor kind → ⊥)
 IsRefusalOf kind (Help text) = IsAskedFor kind
 IsRefusalOf kind BadRoot = ⊥
+IsRefusalOf kind LoneRoot = ⊥
 IsRefusalOf kind BadKey = ⊥
 IsRefusalOf kind BadTextKey = ⊥

@@ -65,6 +65,12 @@ format_option = number_option (codes "format") 1 2 (codes "1")
 abbrev pub root_option : Rule
 root_option = option_rule (codes "root")
 
+abbrev pub old_root_option : Rule
+old_root_option = option_rule (codes "old-root")
+
+abbrev pub new_root_option : Rule
+new_root_option = option_rule (codes "new-root")
+
 abbrev pub out_option : Rule
 out_option = option_rule (codes "out")
 
@@ -138,6 +144,10 @@ with_mode app = with_rule (with_rule (with_rule app atomic_flag) sync_flag) forc
 abbrev pub with_trust : App → App
 with_trust app = with_rule (with_rule app root_option) format_option
 
+-- the options that name the roots of two trees that are trusted, and the version of their chunks
+abbrev pub with_roots : App → App
+with_roots app = with_rule (with_rule (with_rule app old_root_option) new_root_option) format_option
+
 -- `NAME [--text] [--root ROOT] [--format V] FILE`, a look-up in a file, or by a root that it trusts
 abbrev pub look_up_line : Text → App
 look_up_line name = with_rule (with_trust (with_rule (new_app name) text_flag)) file_word
@@ -168,6 +178,10 @@ explain_line = with_rule (with_rule (new_app (codes "explain")) text_flag) file_
 abbrev pub check_line : App
 check_line = with_trust (with_rule (new_app (codes "check")) file_word)
 
+-- `root FILE`
+abbrev pub root_line : App
+root_line = with_rule (new_app (codes "root")) file_word
+
 -- `stat [--text] [--json] FILE`
 abbrev pub stat_line : App
 stat_line = with_rule (with_rule (with_rule (new_app (codes "stat")) text_flag) json_flag)
@@ -190,10 +204,11 @@ abbrev pub dump_line : App
 dump_line = with_rule (with_rule (with_mode (with_trust (with_rule (with_rule
     (new_app (codes "dump")) text_flag) hex_flag))) file_word) optional_out_word
 
--- `diff [--text] [--stat] [--out FILE] [--atomic] [--sync] [--force] OLD NEW`
+-- `diff [--text] [--stat] [--old-root ROOT] [--new-root ROOT] [--format V] [--out FILE] [--atomic]
+-- [--sync] [--force] OLD NEW`
 abbrev pub diff_line : App
-diff_line = with_rule (with_rule (with_mode (with_rule (with_rule (with_rule
-    (new_app (codes "diff")) text_flag) stat_flag) out_option)) old_word) new_word
+diff_line = with_rule (with_rule (with_mode (with_rule (with_roots (with_rule (with_rule
+    (new_app (codes "diff")) text_flag) stat_flag)) out_option)) old_word) new_word
 
 -- `prove [--text] [--root ROOT] [--format V] [--atomic] [--sync] [--force] FILE KEY OUT`
 abbrev pub prove_line : App
@@ -221,9 +236,9 @@ abbrev pub program_line : App
 program_line = with_subcommand (with_subcommand (with_subcommand (with_subcommand
     (with_subcommand (with_subcommand (with_subcommand (with_subcommand
     (with_subcommand (with_subcommand (with_subcommand (with_subcommand (with_subcommand
-    bare_line pack_line.top) scratch_line.top) build_line.top) explain_line.top) check_line.top)
-    stat_line.top) get_line.top) scan_line.top) nth_line.top) dump_line.top)
-    diff_line.top) prove_line.top) verify_line.top
+    (with_subcommand bare_line pack_line.top) scratch_line.top) build_line.top) explain_line.top)
+    check_line.top) root_line.top) stat_line.top) get_line.top) scan_line.top) nth_line.top)
+    dump_line.top) diff_line.top) prove_line.top) verify_line.top
 
 -- the kinds of error that clap may give at the words; none where it takes them
 unfoldable pub line_faults : List Text → Kinds

@@ -135,6 +135,13 @@ pub(crate) fn root_option<'a>(alloc: Global) -> Arg<'a>
     )
 }
 
+/// The root of one of two trees that are trusted; `what` says for its help of which one.
+pub(crate) fn tree_root_option<'a>(alloc: Global, name: &'a str, what: &'a str) -> Arg<'a>
+    ensures { IsReadBy (option_rule name.now) result }
+{
+    text_option(alloc, name, "ROOT").help(what)
+}
+
 /// `--atomic`; `what` says for its help what it changes.
 pub(crate) fn atomic_flag<'a>(alloc: Global, what: &'a str) -> Arg<'a>
     ensures { IsReadBy atomic_flag result }

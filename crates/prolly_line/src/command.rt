@@ -26,6 +26,15 @@ pub struct WriteMode {
     pub force: bool,
 }
 
+/// The roots of two trees.
+#[derive(Clone, Copy, Debug, PartialEq, Eq)]
+pub struct RootPair {
+    /// That of the tree as it was.
+    pub old: Ref,
+    /// That of the tree as it is now.
+    pub new: Ref,
+}
+
 /// What the program is asked to do. File names are the words as they stand. A notation is that of
 /// keys and values, in the words and in the lines that are read or printed.
 #[derive(Drop)]
@@ -70,6 +79,10 @@ pub enum Command {
         file: String,
         root: Option<Ref>,
         version: u8,
+    },
+    /// Print the root that a chunk file names.
+    Root {
+        file: String,
     },
     /// Print the numbers of a chunk file or of a record file: where `json` is set, in a line of
     /// JSON, in which keys are in hexadecimal, and then the notation is ignored.
@@ -119,10 +132,14 @@ pub enum Command {
     },
     /// Say what turns the map of the file `old` into that of the file `new`: in a record file
     /// where there is an output, and else the mode is ignored. What is printed is how much has
-    /// changed where `stat` is set, and else the changes, in lines, where there is no output.
+    /// changed where `stat` is set, and else the changes, in lines, where there is no output. With
+    /// roots it is the trees of these that are compared, in chunks of the version, and without them
+    /// the files, whose own versions count then.
     Diff {
         old: String,
         new: String,
+        roots: Option<RootPair>,
+        version: u8,
         out: Option<String>,
         stat: bool,
         notation: Notation,
@@ -160,6 +177,8 @@ pub enum ParseFault {
     Help(String),
     /// The word for the root is not the text of a reference: 32 figures and letters from a to v.
     BadRoot,
+    /// Of the roots of two trees one is given alone.
+    LoneRoot,
     /// The word for the key is not hexadecimal, or writes more than 1,024 bytes. It is told only
     /// where the word for the root, if there is one, is good.
     BadKey,
@@ -223,6 +242,7 @@ fn command_of(alloc: Global, name: &str, given: &ArgMatches<'_>) -> Result<Comma
         "build" => fields::build(alloc, given),
         "explain" => fields::explain(alloc, given),
         "check" => fields::check(alloc, given),
+        "root" => fields::root(alloc, given),
         "stat" => fields::stat(alloc, given),
         "get" => fields::get(alloc, given),
         "scan" => fields::scan(alloc, given),

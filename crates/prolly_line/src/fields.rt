@@ -8,7 +8,7 @@ ghost use Rattle.prolly_line.specs.GivenCommand.{GivesKey, GivesNotation, GivesT
 use crate::command::{Command, ParseFault};
 use crate::values::{
     byte_of, flag_of, key_of, lines_of, mode_of, notation_of, number_of, option_of, root_of,
-    text_of, texts_of, trust_of,
+    roots_of, text_of, texts_of, trust_of,
 };
 use clap::ArgMatches;
 use prolly_entry::Ref;
@@ -101,6 +101,15 @@ pub(crate) fn check(alloc: Global, given: &ArgMatches<'_>) -> Result<Command, Pa
         root,
         version,
     })
+}
+
+/// `root FILE`
+pub(crate) fn root(alloc: Global, given: &ArgMatches<'_>) -> Result<Command, ParseFault>
+    requires { IsAccepted (codes "root", rows_in given.now) }
+    ensures { Answers (codes "root", rows_in given.now) result }
+{
+    let file = text_of(alloc, given, "file")?;
+    Ok(Command::Root { file })
 }
 
 /// `stat [--text] [--json] FILE`
@@ -210,7 +219,8 @@ pub(crate) fn dump(alloc: Global, given: &ArgMatches<'_>) -> Result<Command, Par
     })
 }
 
-/// `diff [--text] [--stat] [--out FILE] [--atomic] [--sync] [--force] OLD NEW`
+/// `diff [--text] [--stat] [--old-root ROOT] [--new-root ROOT] [--format V] [--out FILE] [--atomic]
+/// [--sync] [--force] OLD NEW`
 pub(crate) fn diff(alloc: Global, given: &ArgMatches<'_>) -> Result<Command, ParseFault>
     requires { IsAccepted (codes "diff", rows_in given.now) }
     ensures { Answers (codes "diff", rows_in given.now) result }
@@ -218,12 +228,16 @@ pub(crate) fn diff(alloc: Global, given: &ArgMatches<'_>) -> Result<Command, Par
     let stat = flag_of(given, "stat");
     let notation = notation_of(given);
     let mode = mode_of(given);
+    let roots = roots_of(given)?;
+    let version = byte_of(given, "format");
     let old = text_of(alloc, given, "old")?;
     let new = text_of(alloc, given, "new")?;
     let out = option_of(alloc, given, "out")?;
     Ok(Command::Diff {
         old,
         new,
+        roots,
+        version,
         out,
         stat,
         notation,
@@ -256,7 +270,7 @@ pub(crate) fn verify(alloc: Global, given: &ArgMatches<'_>) -> Result<Command, P
     ensures { Answers (codes "verify", rows_in given.now) result }
 {
     let notation = notation_of(given);
-    let root = root_of(given)?;
+    let root = root_of(given, "root")?;
     let key = key_of(alloc, given, notation)?;
     let version = byte_of(given, "format");
     let proof = option_of(alloc, given, "proof")?;

@@ -121,10 +121,14 @@ is as it was, unless only standard output failed.
 No command reads a whole chunk file of more than 1,073,741,824 bytes, which
 about 28,200,000 records of 38 bytes make.
 
---bits and --format decide what the chunk file holds. --stages and --max-records
-are limits: a tree of more levels, or a file of more records, is refused.
---capacity and --batch change only how much memory the threads use and how often
-they wait for one another, never the chunk file.
+--bits and --format decide what the chunk file holds. Choose --bits before the
+first build, since another number is another root. The default, 12, suits trees
+that are loaded and scanned: a chunk of short pairs has some 150 kB. 5 to 7 suit
+trees that are compared, sent or proved, with 1 to 5 kB a chunk.
+
+--stages and --max-records are limits: a tree of more levels, or a file of more
+records, is refused. --capacity and --batch change only how much memory the
+threads use and how often they wait for one another, never the chunk file.
 
 Where standard error is a terminal, a build that takes longer than a second
 shows its progress there. With --quiet it does not.",
@@ -168,6 +172,17 @@ The first fault in the order of the bytes is told.",
     example: "Examples: a file, and one of any size whose root is known
   prolly check ab.prl
   prolly check --root nu05v9k058pmjdu7s5312ho13geggue6 days.prl",
+};
+
+pub(crate) const ROOT: Help<'static> = Help {
+    about: "Print the root that a chunk file names",
+    details: "Prints the text of the root that a chunk file names in its last 29 bytes.
+
+Nothing is checked: only these bytes and the first six are read, and nobody
+vouches for what stands there. Where the root was lost it is found so, and then
+`check --root` says whether FILE has it. FILE may be of any size.",
+    example: "Example: check a chunk file of any size whose root was lost
+  prolly check --root \"$(prolly root days.prl)\" days.prl",
 };
 
 pub(crate) const STAT: Help<'static> = Help {
@@ -277,8 +292,7 @@ An OUT that is a file of another kind is refused, unless --force is given.",
 pub(crate) const DIFF: Help<'static> = Help {
     about: "Say what turns the map of a chunk file into that of another",
     details: "Says what turns the map of OLD into that of NEW: for each key that they do not
-have alike, in the order of keys, what NEW has. Both chunk files are checked
-first, as by `check`.
+have alike, in the order of keys, what NEW has.
 
 Without --out these are lines that `pack` reads, `HEXKEY HEXVALUE` or, for a key
 that NEW lacks, `HEXKEY -`; with --text they are the lines that
@@ -294,13 +308,22 @@ is another one, R that of keys that NEW lacks. N is the number of chunks of NEW
 that OLD does not have, and B that of their bytes: what a holder of OLD lacks of
 NEW.
 
+Without roots both files are checked first, as by `check`: that takes time
+linear in them, no file over 1 GiB is read, and --format is ignored. With
+--old-root and --new-root, which go together, files may be of any size. Of their
+chunks only those are read that the other tree does not have, and a few beside
+them, each compared with the reference above it, from its root down. So what is
+printed is right for these roots, whatever else the files hold; at a chunk that
+does not fit it ends. The lengths and levels of all frames are read.
+
 The exit status is 0 where the maps are equal, and 1 where they are not.
 
 FILE is replaced once the record file is whole: after a fault it is as it was. A
 FILE that has bytes and does not begin as a record file does is refused, unless
 --force is given.",
-    example: "Example: the changes of a day, as a record file
-  prolly diff monday.prl tuesday.prl --out changes.rec",
+    example: "Examples: the changes of a day as a record file, and the same by the roots
+  prolly diff monday.prl tuesday.prl --out changes.rec
+  prolly diff --old-root \"$MONDAY\" --new-root \"$TUESDAY\" monday.prl tuesday.prl",
 };
 
 pub(crate) const PROVE: Help<'static> = Help {

@@ -13,5 +13,5 @@ mod line;
 mod subcommands;
 mod values;
 
-pub use command::{Command, ParseFault, WriteMode, parse};
+pub use command::{Command, ParseFault, RootPair, WriteMode, parse};
 pub use prolly_text::Notation;

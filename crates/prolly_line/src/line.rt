@@ -7,7 +7,7 @@ use crate::assembly::{described, with_subcommand, with_three};
 use crate::help;
 use crate::subcommands::{
     build_line, check_line, diff_line, dump_line, explain_line, get_line, nth_line, pack_line,
-    prove_line, scan_line, scratch_line, stat_line, verify_line,
+    prove_line, root_line, scan_line, scratch_line, stat_line, verify_line,
 };
 use clap::Command;
 use std::alloc::{AllocError, Global};
@@ -37,9 +37,10 @@ pub(crate) fn program_line<'a>(alloc: Global) -> Result<Command<'a>, AllocError>
         line,
         explain_line(alloc),
         check_line(alloc),
-        stat_line(alloc),
+        root_line(alloc),
     );
-    let line = with_three(line, get_line(alloc), scan_line(alloc), nth_line(alloc));
-    let line = with_three(line, dump_line(alloc), diff_line(alloc), prove_line(alloc));
+    let line = with_three(line, stat_line(alloc), get_line(alloc), scan_line(alloc));
+    let line = with_three(line, nth_line(alloc), dump_line(alloc), diff_line(alloc));
+    let line = with_subcommand(line, prove_line(alloc));
     with_subcommand(line, verify_line(alloc))
 }

@@ -3,8 +3,8 @@ ghost use Rattle.std.specs.Prelude.{IfOk};
 ghost use Rattle.clap.specs.Words.{App, Rule, with_rule};
 ghost use Rattle.prolly_line.specs.Line.{build_line, check_line, diff_line, dump_line};
 ghost use Rattle.prolly_line.specs.Line.{explain_line, get_line, look_up_line, nth_line, pack_line};
-ghost use Rattle.prolly_line.specs.Line.{prove_line, scan_line, scratch_line, stat_line};
-ghost use Rattle.prolly_line.specs.Line.{verify_line, with_mode, with_trust};
+ghost use Rattle.prolly_line.specs.Line.{prove_line, root_line, scan_line, scratch_line, stat_line};
+ghost use Rattle.prolly_line.specs.Line.{verify_line, with_mode, with_roots, with_trust};
 ghost use Rattle.prolly_line.specs.LocalArgs.{HasCommandLine, IsReadBy};
 
 use crate::assembly::{described, with_argument};
@@ -61,6 +61,34 @@ fn with_trust<'a>(
         "The version of the tree's chunks (1 or 2); without --root, the file tells it",
     );
     let line = with_argument(line, arguments::root_option(alloc));
+    with_argument(line, format)
+}
+
+// Adds the options that name the roots of two trees that are trusted, and the version of their
+// chunks.
+fn with_roots<'a>(
+    alloc: Global,
+    line: Result<Command<'a>, AllocError>,
+) -> Result<Command<'a>, AllocError>
+    ensures { (app : App) → IfOk line.entry (HasCommandLine app)
+        → IfOk result (HasCommandLine (with_roots app)) }
+{
+    let old = arguments::tree_root_option(
+        alloc,
+        "old-root",
+        "Trust ROOT, the text of OLD's root, in place of the whole file; needs --new-root",
+    );
+    let new = arguments::tree_root_option(
+        alloc,
+        "new-root",
+        "Trust ROOT, the text of NEW's root, in place of the whole file; needs --old-root",
+    );
+    let format = arguments::format_option(
+        alloc,
+        "The version of both trees' chunks (1 or 2); without roots, the files tell it",
+    );
+    let line = with_argument(line, old);
+    let line = with_argument(line, new);
     with_argument(line, format)
 }
 
@@ -141,6 +169,13 @@ pub(crate) fn check_line<'a>(alloc: Global) -> Result<Command<'a>, AllocError>
     with_trust(alloc, described(alloc, "check", help::CHECK).arg(file))
 }
 
+/// `root FILE`
+pub(crate) fn root_line<'a>(alloc: Global) -> Result<Command<'a>, AllocError>
+    ensures { IfOk result (HasCommandLine root_line) }
+{
+    described(alloc, "root", help::ROOT).arg(arguments::file_word(alloc, CHUNK_FILE))
+}
+
 /// `stat [--text] [--json] FILE`
 pub(crate) fn stat_line<'a>(alloc: Global) -> Result<Command<'a>, AllocError>
     ensures { IfOk result (HasCommandLine stat_line) }
@@ -168,7 +203,8 @@ pub(crate) fn dump_line<'a>(alloc: Global) -> Result<Command<'a>, AllocError>
     )
 }
 
-/// `diff [--text] [--stat] [--out FILE] [--atomic] [--sync] [--force] OLD NEW`
+/// `diff [--text] [--stat] [--old-root ROOT] [--new-root ROOT] [--format V] [--out FILE] [--atomic]
+/// [--sync] [--force] OLD NEW`
 pub(crate) fn diff_line<'a>(alloc: Global) -> Result<Command<'a>, AllocError>
     ensures { IfOk result (HasCommandLine diff_line) }
 {
@@ -183,6 +219,7 @@ pub(crate) fn diff_line<'a>(alloc: Global) -> Result<Command<'a>, AllocError>
     );
     let line = described(alloc, "diff", help::DIFF).arg(text);
     let line = with_argument(line, arguments::stat_flag(alloc));
+    let line = with_roots(alloc, line);
     let line = with_mode(alloc, with_argument(line, out), ALWAYS_ASIDE);
     with_argument(with_argument(line, old), new)
 }

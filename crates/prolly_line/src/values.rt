@@ -1,16 +1,17 @@
 //! The values of one option or word, from what clap found.
-ghost use Rattle.std.specs.Prelude.{◌≡◌, ◌⊎◌, Some, IfOk, IfErr, ℕ, List, map, string_bytes};
-ghost use Rattle.std.specs.Prelude.{option_map, codes};
+ghost use Rattle.std.specs.Prelude.{◌≡◌, ◌⊎◌, Some, None, IfOk, IfErr, ℕ, List, map, string_bytes};
+ghost use Rattle.std.specs.Prelude.{option_map, codes, true, false};
 ghost use Rattle.clap.specs.Words.{first_of};
 ghost use Rattle.prolly_line.specs.GivenCommand.{GivesFlag, GivesKey, GivesMode, GivesOption};
 ghost use Rattle.prolly_line.specs.GivenCommand.{GivesWord};
-ghost use Rattle.prolly_line.specs.GivenCommand.{GivesBadRoot, GivesRoot, GivesTrust, GivesWords};
+ghost use Rattle.prolly_line.specs.GivenCommand.{GivesBadRoot, GivesBadRootAs, GivesRootAs};
+ghost use Rattle.prolly_line.specs.GivenCommand.{GivesTrust, GivesWords, MayGiveRoots};
 ghost use Rattle.prolly_line.specs.GivenCommand.{GivesLines, GivesNotation, IsKeyText, bad_key};
 ghost use Rattle.prolly_line.specs.AcceptedWords.{HasNumber, HasWord, IsRefusedKey, ReadsNumber};
-ghost use Rattle.prolly_line.specs.AcceptedWords.{rows_in};
+ghost use Rattle.prolly_line.specs.AcceptedWords.{AreRefusedRoots, rows_in};
 ghost use Rattle.prolly_line.specs.declared.command.ParseFault.TheVariants.{BadRoot, Memory};
 
-use crate::command::{ParseFault, WriteMode};
+use crate::command::{ParseFault, RootPair, WriteMode};
 use clap::ArgMatches;
 use prolly_entry::Ref;
 use prolly_text::{Notation, TextFault};
@@ -178,14 +179,14 @@ fn bad_key(notation: Notation) -> ParseFault
     }
 }
 
-/// The root of a subcommand that takes one.
-pub(crate) fn root_of(given: &ArgMatches<'_>) -> Result<Ref, ParseFault>
-    requires { HasWord (codes "root") (rows_in given.now) }
-    ensures root { IfOk result (λ root. GivesRoot (rows_in given.now) root.0) }
+/// The root of a subcommand that takes one under this name.
+pub(crate) fn root_of(given: &ArgMatches<'_>, name: &str) -> Result<Ref, ParseFault>
+    requires { HasWord name.now (rows_in given.now) }
+    ensures root { IfOk result (λ root. GivesRootAs name.now (rows_in given.now) root.0) }
     ensures refused { IfErr result (λ fault.
-        (fault ≡ BadRoot) × GivesBadRoot (rows_in given.now)) }
+        (fault ≡ BadRoot) × GivesBadRootAs name.now (rows_in given.now)) }
 {
-    let text = word_of(given, "root").as_bytes();
+    let text = word_of(given, name).as_bytes();
     Ref::from_text(text).ok_or(ParseFault::BadRoot)
 }
 
@@ -198,7 +199,33 @@ pub(crate) fn trust_of(given: &ArgMatches<'_>) -> Result<(Option<Ref>, u8), Pars
 {
     let root = match given.get_str("root") {
         None => None,
-        Some(_) => Some(root_of(given)?),
+        Some(_) => Some(root_of(given, "root")?),
     };
     Ok((root, byte_of(given, "format")))
+}
+
+/// The roots of two trees, where they are given: both of them, or none.
+pub(crate) fn roots_of(given: &ArgMatches<'_>) -> Result<Option<RootPair>, ParseFault>
+    ensures roots { IfOk result (MayGiveRoots (rows_in given.now)) }
+    ensures refused { IfErr result (AreRefusedRoots (rows_in given.now)) }
+{
+    let is_old_given = is_given(given, "old-root");
+    if is_old_given != is_given(given, "new-root") {
+        return Err(ParseFault::LoneRoot);
+    }
+    if !is_old_given {
+        return Ok(None);
+    }
+    Ok(Some(RootPair {
+        old: root_of(given, "old-root")?,
+        new: root_of(given, "new-root")?,
+    }))
+}
+
+// Whether a word stands under this name.
+fn is_given(given: &ArgMatches<'_>, name: &str) -> bool
+    ensures yes { result ≡ true → HasWord name.now (rows_in given.now) }
+    ensures no { result ≡ false → first_of name.now (rows_in given.now) ≡ None }
+{
+    given.get_str(name).is_some()
 }

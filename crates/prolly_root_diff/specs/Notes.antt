@@ -130,9 +130,9 @@ pub record AreOf (notes : List Note) (missing : Missing) : Type 0 where
   pub chunks_are : missing.chunks ≡ length notes
   pub bytes_are : missing.bytes ≡ sum_by (λ n. n.length) notes
 
--- The numbers are those of the chunks that the tree of the new root has and whose references that of
--- the old root lacks, for whatever maps and bits the walk and its notes came here from their roots and
--- nothing is left of either tree; or else two different chunks have one reference.
+-- Where a walk came here from the roots of two maps and noted this, and nothing is left of either
+-- tree, the numbers are those of the chunks of the new tree whose references the old one lacks; or
+-- else two different chunks have one reference.
 abbrev pub TellsMissing : Version → Lefts → Option Notes → Missing → Type 0
 TellsMissing version to notes missing = (bits bits' : ℕ) (m m' : List Pair) → IsMap m →
     AllByRecursion IsPair m → IsMap m' → AllByRecursion IsPair m' →

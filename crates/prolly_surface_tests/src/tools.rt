@@ -63,8 +63,11 @@ fn packed(alloc: Global, text: &[u8], out: &mut Vec<u8>) -> Result<u64, PackFaul
 fn text_of(fault: ParseFault) -> Option<String> {
     match fault {
         ParseFault::Usage(text) | ParseFault::Help(text) => Some(text),
-        ParseFault::Memory | ParseFault::BadKey | ParseFault::BadRoot | ParseFault::BadTextKey =>
-            None,
+        ParseFault::Memory
+        | ParseFault::BadKey
+        | ParseFault::BadRoot
+        | ParseFault::BadTextKey
+        | ParseFault::LoneRoot => None,
     }
 }
 

@@ -52,7 +52,7 @@ all_counted old records counts h =
 
 -- ---- the line
 
-line_is : (old new : Content) (records : List Record) (counts : ChangeCounts)
+pub line_is : (old new : Content) (records : List Record) (counts : ChangeCounts)
     (missing : Missing) → AreCounts old.pairs records counts →
     AreSo (lacking (chunks_of old) (chunks_of new)) missing →
     stat_text counts.added counts.changed counts.removed missing.chunks missing.bytes ≡

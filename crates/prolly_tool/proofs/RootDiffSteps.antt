@@ -1,10 +1,13 @@
 -- Writing a difference by the roots, change by change.
 use Rattle.std.proofs.Common.{◌≡◌, ◌≢◌, ◌⊎◌, inl, inr, ℕ, List, [], ◌∷◌, ◌++◌, Bool, true, false, Option}
-use Rattle.std.proofs.Common.{Some, None, Ok, Err, refl, sym, ap, ◌∙◌, subst, append-nil}
+use Rattle.std.proofs.Common.{Some, None, Result, Ok, Err, refl, sym, ap, ◌∙◌, subst, append-nil}
 use Rattle.std.proofs.lemmas.Bool.{false≢true}
 use Rattle.std.proofs.lemmas.List.Concat.{flat_map-append}
 use Rattle.prolly_check.specs.Content.{Content}
 use Rattle.prolly_entry.specs.Cut.{sha512_cut}
+use Rattle.prolly_check.specs.FirstFault.{chunk_bytes}
+use Rattle.prolly_check.specs.Numbers.{AreSo, lacking}
+use Rattle.prolly_entry.specs.Pair.{Pair}
 use Rattle.prolly_entry.specs.Record.{Record}
 use Rattle.prolly_entry.specs.declared.version.Version.{Version}
 use Rattle.prolly_file.specs.Failures.{after_failure}
@@ -14,8 +17,11 @@ use Rattle.prolly_root.specs.RootFault.{TellsFailure}
 use Rattle.prolly_root.specs.declared.root_fault.RootFault.{RootFault}
 use Rattle.prolly_root.specs.declared.root_fault.RootFault.TheVariants as roots
 use Rattle.prolly_root_diff.specs.Sides.{IsAtRoot, IsSideOf}
-use Rattle.prolly_root_diff.specs.Walks.{Changes, Ends, FailsAt, Gives, GivesAll, GivesFirst, GoesOn}
-use Rattle.prolly_root_diff.specs.Walks.{HasStill, Lefts, TellsNew, TellsOld, at_roots}
+use Rattle.prolly_root_diff.specs.Notes.{AreNoted, TellsMissing}
+use Rattle.prolly_root_diff.specs.Walks.{BeforeIsRight, Changes, Ends, FailsAt, FoundClash, Gives}
+use Rattle.prolly_root_diff.specs.Walks.{GivesAll, GivesFirst, GoesOn, HasStill, IsAtEnd, Lefts}
+use Rattle.prolly_root_diff.specs.Walks.{TellsNew, TellsOld, Walk, at_roots, lefts_of}
+use Rattle.prolly_root_diff.specs.declared.notes.Notes.{Notes}
 use Rattle.prolly_root_diff.specs.declared.change.RootChange.{RootChange}
 use Rattle.prolly_root_diff.specs.declared.change.RootChange.TheVariants.{Added, Changed, Removed}
 use Rattle.prolly_root_diff.specs.declared.fault.RootDiffFault.{RootDiffFault}
@@ -27,16 +33,22 @@ use Rattle.prolly_text.specs.RecordForms.{spelled, written_records}
 use Rattle.prolly_text.specs.declared.lines.form.RecordForm.{RecordForm}
 use Rattle.prolly_tree.specs.File.{root_reference}
 use Rattle.prolly_tree.specs.Tree.{Tree}
-use Rattle.prolly_tool.specs.Counts.{are_some}
-use Rattle.prolly_tool.specs.Outputs.{TookAll, TookPart, TookSoFar}
-use Rattle.prolly_tool.specs.RootDiffs.{GaveFirst, IsDoneDiff, IsStoppedDiff, fault_of}
+use Rattle.prolly_tool.specs.Counts.{AreCounts, are_some, counts_line}
+use Rattle.prolly_tool.specs.Diff.{AreStopped, AreWritten}
+use Rattle.prolly_tool.specs.Outputs.{TookAll, TookSoFar, TookUntil}
+use Rattle.prolly_tool.specs.RootDiffs.{Counts, GaveFirst, IsDoneDiff, IsStatLine, IsStoppedDiff}
+use Rattle.prolly_tool.specs.RootDiffs.{OfRoots, TellsDiffReads, TellsNumbers, before_of, fault_of}
+use Rattle.std.specs.Prelude.{IfErr, IfOk}
+use Rattle.prolly_tool.specs.declared.answers.root_diff.Told.{Told}
+use Rattle.prolly_tool.specs.declared.answers.diff.ChangeCounts.{ChangeCounts}
 use Rattle.prolly_tool.specs.OutputFault.{told}
-use Rattle.prolly_tool.specs.RootDiffs.{WroteOwn, record_of}
+use Rattle.prolly_tool.specs.RootDiffs.{WroteIn, record_of}
 use Rattle.prolly_tool.specs.declared.faults.output_fault.OutputFault.{OutputFault}
 use Rattle.prolly_tool.specs.declared.faults.output_fault.OutputFault.TheVariants as outputs
-use Rattle.prolly_tool.specs.RootScans.{RefusesNone}
+use Rattle.prolly_tool.specs.RootScans.{IsFlushed, RefusesNone}
 use Rattle.prolly_tool.specs.declared.faults.fault.Fault.{Fault}
 use Rattle.prolly_tool.specs.declared.faults.fault.Fault.TheVariants as faults
+use Rattle.prolly_tool.proofs.Counting.{line_is}
 use Rattle.prolly_tool.proofs.Writing.{flushed, took_more, took_none, took_until, unflushed}
 
 -- ---- the trees
@@ -99,116 +111,285 @@ module _ {S T : Type 0} (has : S → Content → Type 0) (failures : S → ℕ)
       (subst (λ x. TellsNew {C = Option RootChange} has failures is_place walked mid new side later
       (Err x)) is tells)
 
--- ---- the changes
+-- ---- the sink
 
--- These changes were given and written so far.
-pub record IsUnderWay {W : Type 0} (seen : W → SinkView) (version : Version) (old new : List ℕ)
-    (form : RecordForm) (rest : Lefts) (changed : Bool) (sink sink' : W) : Type 0 where
-  pub records : List Record
-  pub gives : GivesFirst version (at_roots old new) records rest
-  pub took : TookSoFar seen (written_records form records) sink sink'
-  pub some : changed ≡ are_some records
+-- The records were written so far, where a form is given.
+abbrev pub WroteSoFar : {W : Type 0} → (W → SinkView) → Option RecordForm → W → W → List Record →
+    Type 0
+WroteSoFar seen form sink mid = AreWritten form (λ bytes. TookSoFar seen bytes sink mid) (mid ≡ sink)
 
-pub change_given : (version : Version) (lefts : Lefts) (change : RootChange) (next : Lefts) →
-    Gives version lefts (Some change) next → (before : Option (List ℕ)) ×
-    Changes version lefts (record_of change).key before (record_of change).value next
-change_given version lefts (Removed pair) next given = (Some pair.value, given)
-change_given version lefts (Added pair) next given = (None, given)
-change_given version lefts (Changed before after) next given = (Some before.value, given)
+-- They were written, and the sink was flushed.
+abbrev pub WroteAll : {W : Type 0} → (W → SinkView) → Option RecordForm → W → W → List Record →
+    Type 0
+WroteAll seen form sink mid = AreWritten form (λ bytes. TookAll seen bytes sink mid) (mid ≡ sink)
 
-some_more : (records : List Record) (r : Record) → true ≡ are_some (records ++ r ∷ [])
-some_more [] r = refl
-some_more (s ∷ records) r = refl
+-- A part of them was, until writing failed.
+abbrev pub WrotePart : {W : Type 0} → (W → SinkView) → Option RecordForm → W → W → List Record →
+    Type 0
+WrotePart seen form sink mid =
+    AreStopped form (λ fault bytes. TookUntil seen fault bytes sink mid) outputs.Write
 
 one_more : (form : RecordForm) (done : List Record) (own : Record) →
     written_records form (done ++ own ∷ []) ≡ written_records form done ++ spelled form own
 one_more form done own = flat_map-append (spelled form) done (own ∷ []) ∙
     ap (λ bytes. written_records form done ++ bytes) (append-nil (spelled form own))
 
+module _ {W : Type 0} (seen : W → SinkView) where
+  wrote_none : (form : Option RecordForm) (sink : W) → WroteSoFar seen form sink sink []
+  wrote_none None sink = refl
+  wrote_none (Some form) sink = took_none seen sink
+
+  wrote_more : (form : Option RecordForm) (sink mid after : W) (done : List Record)
+      (own : Record) (x : Unit {0}) → WroteSoFar seen form sink mid done →
+      WroteIn seen form own mid after (Ok x) → WroteSoFar seen form sink after (done ++ own ∷ [])
+  wrote_more None sink mid after done own x so_far wrote = wrote ∙ so_far
+  wrote_more (Some form) sink mid after done own x so_far wrote =
+      subst (λ bytes. TookSoFar seen bytes sink after) (sym (one_more form done own))
+      (took_more seen (written_records form done) sink mid so_far x (spelled form own) after wrote)
+
+  wrote_until : (form : Option RecordForm) (sink mid after : W) (done : List Record)
+      (own : Record) → WroteSoFar seen form sink mid done →
+      WroteIn seen form own mid after (Err outputs.Write) →
+      WrotePart seen form sink after (done ++ own ∷ [])
+  wrote_until None sink mid after done own so_far wrote = absurd wrote
+  wrote_until (Some form) sink mid after done own so_far wrote =
+      took_until seen (written_records form done) sink mid so_far outputs.Write
+      (written_records form (done ++ own ∷ [])) (spelled form own) [] after
+      (one_more form done own ∙ ap (λ bytes. written_records form done ++ bytes)
+      (sym (append-nil (spelled form own)))) wrote
+
+  left_so : (form : Option RecordForm) (sink mid after : W) (done : List Record) (own : Record) →
+      WroteSoFar seen form sink mid done → WroteIn seen form own mid after (Err outputs.Memory) →
+      WroteSoFar seen form sink after done
+  left_so None sink mid after done own so_far wrote = absurd wrote
+  left_so (Some form) sink mid after done own so_far same =
+      subst (λ s. TookSoFar seen (written_records form done) sink s) (sym same) so_far
+
+  module _ (sink mid after : W)
+      (same : (seen mid).is_keeping ≡ true → (seen after).taken ≡ (seen mid).taken) where
+    all_flushed : (form : Option RecordForm) (f : RecordForm) → form ≡ Some f →
+        (seen after).failures ≡ (seen mid).failures → IsSettled (seen after) →
+        (done : List Record) → WroteSoFar seen form sink mid done →
+        WroteAll seen form sink after done
+    all_flushed None f is counted settled done so_far = cc
+    all_flushed (Some form) f is counted settled done so_far =
+        flushed seen (written_records form done) sink mid so_far after same counted settled
+
+    part_flushed : (form : Option RecordForm) (f : RecordForm) → form ≡ Some f →
+        (seen after).failures ≡ after_failure (seen mid).failures → (done : List Record) →
+        WroteSoFar seen form sink mid done → WrotePart seen form sink after done
+    part_flushed None f is counted done so_far = cc
+    part_flushed (Some form) f is counted done so_far =
+        unflushed seen (written_records form done) sink mid so_far after same counted
+
+-- ---- the numbers
+
+-- The numbers are those of these records.
+abbrev pub AreCounted : Bool → Version → List ℕ → List ℕ → List Record → ChangeCounts → Type 0
+AreCounted stat version old new records counts = stat ≡ true →
+    OfRoots version old new (λ before after. AreCounts before.pairs records counts)
+
+module _ (version : Version) (old new : List ℕ) where
+  none_counted : (stat : Bool) (counts : ChangeCounts) →
+      ((m : List Pair) → AreCounts m [] counts) → AreCounted stat version old new [] counts
+  none_counted stat counts none = λ asked bits bits' m m' rising lawful rising' lawful' is is'.
+      inl (none m)
+
+  more_counted : BeforeIsRight → (stat : Bool) (records : List Record) (mid next : Lefts)
+      (change : RootChange) (counts later : ChangeCounts) →
+      GivesFirst version (at_roots old new) records mid →
+      Changes version mid (record_of change).key (before_of change) (record_of change).value next →
+      (stat ≡ true → Counts change counts later) →
+      AreCounted stat version old new records counts →
+      AreCounted stat version old new (records ++ record_of change ∷ []) later
+  more_counted right stat records mid next change counts later given changes count counted =
+      λ asked bits bits' m m' rising lawful rising' lawful' is is'.
+      join (counted asked bits bits' m m' rising lawful rising' lawful' is is')
+      (right version bits bits' m m' records mid next (record_of change).key (before_of change)
+      (record_of change).value rising lawful rising' lawful'
+      (subst (λ r. GivesFirst version r records mid) (roots is is') given) changes)
+      (count asked m records)
+    where
+      roots : {x y : List ℕ} → old ≡ x → new ≡ y → at_roots old new ≡ at_roots x y
+      roots e f = ap (λ r. at_roots r new) e ∙ ap (at_roots _) f
+
+      join : {A B C Z : Type 0} → A ⊎ Z → B ⊎ Z → (A → B → C) → C ⊎ Z
+      join (inl a) (inl b) both = inl (both a b)
+      join (inl a) (inr z) both = inr z
+      join (inr z) b both = inr z
+
+  -- the line behind the last change
+  line_told : {T U : Type 0} (stat : Bool) (walk : Walk T U) → walk.version ≡ version →
+      (records : List Record) (counts : ChangeCounts) (line : List ℕ) →
+      AreNoted version (at_roots old new) (lefts_of walk) walk.notes →
+      IsAtEnd (lefts_of walk).before → IsAtEnd (lefts_of walk).after →
+      AreCounted stat version old new records counts → TellsNumbers stat walk counts line →
+      IsStatLine stat version old new records line
+  line_told false walk same records counts line noted at_end at_end' counted tells = tells
+  line_told true walk same records counts line noted at_end at_end' counted tells =
+      λ bits bits' m m' rising lawful rising' lawful' is is'.
+      join bits bits' m m' (counted refl bits bits' m m' rising lawful rising' lawful' is is')
+      (subst (λ v. TellsMissing v (lefts_of walk) walk.notes tells.0) same tells.1
+      bits bits' m m' rising lawful rising' lawful'
+      (subst (λ r. AreNoted version r (lefts_of walk) walk.notes)
+      (ap (λ r. at_roots r new) is ∙ ap (at_roots _) is') noted) at_end at_end')
+    where
+      join : (bits bits' : ℕ) (m m' : List Pair) →
+          AreCounts m records counts
+          ⊎ FoundClash (chunk_bytes version bits m) (chunk_bytes version bits' m') →
+          AreSo (lacking (chunk_bytes version bits m) (chunk_bytes version bits' m')) tells.0
+          ⊎ FoundClash (chunk_bytes version bits m) (chunk_bytes version bits' m') →
+          (line ≡ counts_line (record { version = version; bits = bits; pairs = m })
+          (record { version = version; bits = bits'; pairs = m' }) records)
+          ⊎ FoundClash (chunk_bytes version bits m) (chunk_bytes version bits' m')
+      join bits bits' m m' (inl a) (inl b) = inl (tells.2 ∙
+          line_is (record { version = version; bits = bits; pairs = m })
+          (record { version = version; bits = bits'; pairs = m' }) records counts tells.0 a b)
+      join bits bits' m m' (inl a) (inr z) = inr z
+      join bits bits' m m' (inr z) b = inr z
+
+-- ---- the changes
+
+-- These changes were given, written and counted so far, and this is what the walk noted.
+pub record IsUnderWay {W : Type 0} (seen : W → SinkView) (version : Version) (old new : List ℕ)
+    (form : Option RecordForm) (stat : Bool) (rest : Lefts) (notes : Option Notes)
+    (changed : Bool) (counts : ChangeCounts) (sink sink' : W) : Type 0 where
+  pub records : List Record
+  pub gives : GivesFirst version (at_roots old new) records rest
+  pub took : WroteSoFar seen form sink sink' records
+  pub some : changed ≡ are_some records
+  pub counted : AreCounted stat version old new records counts
+  pub noted : AreNoted version (at_roots old new) rest notes
+
+pub change_given : (version : Version) (lefts : Lefts) (change : RootChange) (next : Lefts) →
+    Gives version lefts (Some change) next →
+    Changes version lefts (record_of change).key (before_of change) (record_of change).value next
+change_given version lefts (Removed pair) next given = given
+change_given version lefts (Added pair) next given = given
+change_given version lefts (Changed before after) next given = given
+
+some_more : (records : List Record) (r : Record) → true ≡ are_some (records ++ r ∷ [])
+some_more [] r = refl
+some_more (s ∷ records) r = refl
+
 module _ {W : Type 0} (seen : W → SinkView) (version : Version) (old new : List ℕ)
-    (form : RecordForm) where
-  pub begins : (lefts : Lefts) → lefts ≡ at_roots old new → (sink : W) →
-      IsUnderWay seen version old new form lefts false sink sink
-  begins lefts same sink = record {
+    (form : Option RecordForm) (stat : Bool) where
+  pub begins : (lefts : Lefts) → lefts ≡ at_roots old new → (notes : Option Notes) →
+      AreNoted version lefts lefts notes → (counts : ChangeCounts) →
+      ((m : List Pair) → AreCounts m [] counts) → (sink : W) →
+      IsUnderWay seen version old new form stat lefts notes false counts sink sink
+  begins lefts same notes noted counts none sink = record {
     records = [];
     gives = sym same;
-    took = took_none seen sink;
+    took = wrote_none seen form sink;
     some = refl;
+    counted = none_counted version old new stat counts none;
+    noted = subst (λ l. AreNoted version l lefts notes) same noted;
   }
 
-  module _ (rest : Lefts) (changed : Bool) (sink mid : W)
-      (w : IsUnderWay seen version old new form rest changed sink mid) where
-    -- what was given was written
-    pub gave_so_far : GaveFirst version old new
-        (λ records. TookSoFar seen (written_records form records) sink mid)
-    gave_so_far = record { records = w.records; rest = rest; gives = w.gives; so = w.took }
+  module _ (rest : Lefts) (notes : Option Notes) (changed : Bool) (counts : ChangeCounts)
+      (sink mid : W) (w : IsUnderWay seen version old new form stat rest notes changed counts sink mid)
+    where
+      -- what was given was written
+      pub gave_so_far : GaveFirst version old new (WroteSoFar seen form sink mid)
+      gave_so_far = record { records = w.records; rest = rest; gives = w.gives; so = w.took }
 
-    pub all_given : Ends version rest → IsDoneDiff version old new form
-        (λ bytes. TookSoFar seen bytes sink mid) changed
-    all_given ends = record {
-      records = w.records;
-      gives = gives_no_more version (at_roots old new) rest w.records w.gives ends;
-      so = (w.took, w.some);
-    }
-
-    module _ (change : RootChange) (next : Lefts) (given : Gives version rest (Some change) next) where
-      abbrev own : Record
-      own = record_of change
-
-      gives_own : GivesFirst version (at_roots old new) (w.records ++ own ∷ []) next
-      gives_own =
-          let c = change_given version rest change next given in
-          gives_more version (at_roots old new) rest next w.records own c.0 w.gives c.1
-
-      pub goes_on : {X E : Type 0} (x : X) (after : W) →
-          Writes {T = X} {E = E} (spelled form own) (seen mid) (seen after) (Ok x) →
-          IsUnderWay seen version old new form next true sink after
-      goes_on x after writes = record {
-        records = w.records ++ own ∷ [];
-        gives = gives_own;
-        took = subst (λ bytes. TookSoFar seen bytes sink after) (sym (one_more form w.records own))
-            (took_more seen (written_records form w.records) sink mid w.took x (spelled form own)
-            after writes);
-        some = some_more w.records own;
+      pub all_given : {T U : Type 0} (walk : Walk T U) → walk.version ≡ version →
+          AreNoted version (at_roots old new) (lefts_of walk) walk.notes →
+          IsAtEnd (lefts_of walk).before → IsAtEnd (lefts_of walk).after → (line : List ℕ) →
+          TellsNumbers stat walk counts line → Ends version rest →
+          IsDoneDiff version old new stat (WroteSoFar seen form sink mid) changed line
+      all_given walk same noted at_end at_end' line tells ends = record {
+        records = w.records;
+        gives = gives_no_more version (at_roots old new) rest w.records w.gives ends;
+        so = (
+          w.took,
+          w.some,
+          line_told version old new stat walk same w.records counts line noted at_end at_end' w.counted
+              tells,
+        );
       }
 
-      pub write_fails : {X E : Type 0} (x : E) (after : W) →
-          Writes {T = X} {E = E} (spelled form own) (seen mid) (seen after) (Err x) →
-          GaveFirst version old new
-          (λ records. TookPart seen (written_records form records) sink after)
-      write_fails x after writes = record {
-        records = w.records ++ own ∷ [];
-        rest = next;
-        gives = gives_own;
-        so = took_until seen (written_records form w.records) sink mid w.took x
-            (written_records form (w.records ++ own ∷ [])) (spelled form own) [] after
-            (one_more form w.records own ∙ ap (λ bytes. written_records form w.records ++ bytes)
-            (sym (append-nil (spelled form own)))) writes;
-      }
+      -- so it is with what is told behind the last change, or with want of memory for it
+      pub all_told : {T U : Type 0} (walk : Walk T U) → walk.version ≡ version →
+          AreNoted version (at_roots old new) (lefts_of walk) walk.notes →
+          Gives version rest None (lefts_of walk) → (result : Result Told Fault) →
+          IfOk result (λ told. told.changed ≡ changed) →
+          IfOk result (λ told. TellsNumbers stat walk counts told.line.items) →
+          IfOk result (λ told. IsDoneDiff version old new stat (WroteSoFar seen form sink mid)
+          told.changed told.line.items)
+      all_told walk same noted ends (Err fault) flag line = tt
+      all_told walk same noted ends (Ok told) flag line =
+          subst (λ b. IsDoneDiff version old new stat (WroteSoFar seen form sink mid) b
+          told.line.items) (sym flag)
+          (all_given walk same noted ends.1 ends.2 told.line.items line ends.0)
 
-      pub unwritten : (may_old may_new : RootFault → Type 0) (fault : OutputFault) (after : W) →
-          WroteOwn seen (spelled form own) mid after (Err fault) →
-          IsStoppedDiff may_old may_new version old new form
-          (λ bytes. TookSoFar seen bytes sink after) (λ bytes. TookPart seen bytes sink after)
-          (told fault)
-      unwritten may_old may_new outputs.Memory after same =
-          subst (λ s. GaveFirst version old new
-          (λ records. TookSoFar seen (written_records form records) sink s)) (sym same) gave_so_far
-      unwritten may_old may_new outputs.Write after writes = write_fails outputs.Write after writes
+      pub untold : (may_old may_new : RootFault → Type 0) (took_part : List Record → Type 0)
+          (result : Result Told Fault) → IfErr result (λ fault. fault ≡ faults.Memory) →
+          IfErr result (IsStoppedDiff may_old may_new version old new (WroteSoFar seen form sink mid)
+          took_part)
+      untold may_old may_new took_part (Ok told) is = tt
+      untold may_old may_new took_part (Err fault) is =
+          subst (IsStoppedDiff may_old may_new version old new (WroteSoFar seen form sink mid)
+          took_part) (sym is) gave_so_far
+
+      module _ (change : RootChange) (next : Lefts) (given : Gives version rest (Some change) next) where
+        abbrev own : Record
+        own = record_of change
+
+        gives_own : GivesFirst version (at_roots old new) (w.records ++ own ∷ []) next
+        gives_own = gives_more version (at_roots old new) rest next w.records own (before_of change)
+            w.gives (change_given version rest change next given)
+
+        pub goes_on : BeforeIsRight → (noted : Option Notes) →
+            AreNoted version (at_roots old new) next noted → (later : ChangeCounts) →
+            (stat ≡ true → Counts change counts later) → (x : Unit {0}) (after : W) →
+            WroteIn seen form own mid after (Ok x) →
+            IsUnderWay seen version old new form stat next noted true later sink after
+        goes_on right noted are later count x after wrote = record {
+          records = w.records ++ own ∷ [];
+          gives = gives_own;
+          took = wrote_more seen form sink mid after w.records own x w.took wrote;
+          some = some_more w.records own;
+          counted = more_counted version old new right stat w.records rest next change counts later
+              w.gives (change_given version rest change next given) count w.counted;
+          noted = are;
+        }
+
+        pub unwritten : (may_old may_new : RootFault → Type 0) (fault : OutputFault) (after : W) →
+            WroteIn seen form own mid after (Err fault) →
+            IsStoppedDiff may_old may_new version old new (WroteSoFar seen form sink after)
+            (WrotePart seen form sink after) (told fault)
+        unwritten may_old may_new outputs.Memory after wrote = record {
+          records = w.records;
+          rest = rest;
+          gives = w.gives;
+          so = left_so seen form sink mid after w.records own w.took wrote;
+        }
+        unwritten may_old may_new outputs.Write after wrote = record {
+          records = w.records ++ own ∷ [];
+          rest = next;
+          gives = gives_own;
+          so = wrote_until seen form sink mid after w.records own w.took wrote;
+        }
 
 -- ---- faults
 
 module _ (may_old may_new : RootFault → Type 0) (version : Version)
-    (old new : List ℕ) (form : RecordForm) (took took_part : List ℕ → Type 0) where
-  pub walk_stopped : (fault : RootDiffFault) →
-      GaveFirst version old new (λ records. took (written_records form records)) →
+    (old new : List ℕ) (took took_part : List Record → Type 0) where
+  pub walk_stopped : (fault : RootDiffFault) → GaveFirst version old new took →
       ((f : RootFault) → fault ≡ walks.Old f → may_old f) →
       ((f : RootFault) → fault ≡ walks.New f → may_new f) →
-      IsStoppedDiff may_old may_new version old new form took took_part (fault_of fault)
+      IsStoppedDiff may_old may_new version old new took took_part (fault_of fault)
   walk_stopped walks.Memory gave a b = gave
   walk_stopped walks.Stopped gave a b = gave
   walk_stopped (walks.Old f) gave a b = (gave, a f refl)
   walk_stopped (walks.New f) gave a b = (gave, b f refl)
+
+  pub memory_stopped : (fault : Fault) → fault ≡ faults.Memory → GaveFirst version old new took →
+      IsStoppedDiff may_old may_new version old new took took_part fault
+  memory_stopped fault is gave =
+      subst (IsStoppedDiff may_old may_new version old new took took_part) (sym is) gave
 
 -- ---- the flush
 
@@ -219,79 +400,99 @@ gives_first version lefts (r ∷ records) gives =
     let more = gives_first version gives.1 records gives.3 in
     (more.0, (gives.0, gives.1, gives.2, more.1))
 
+-- without a form nothing is flushed
+pub done_unwritten : {W : Type 0} (seen : W → SinkView) (version : Version) (old new : List ℕ)
+    (form : Option RecordForm) (stat : Bool) (sink mid : W) (changed : Bool) (line : List ℕ) →
+    form ≡ None → IsDoneDiff version old new stat (WroteSoFar seen form sink mid) changed line →
+    IsDoneDiff version old new stat (WroteAll seen form sink mid) changed line
+done_unwritten seen version old new form stat sink mid changed line is done =
+    subst (λ f. IsDoneDiff version old new stat (WroteAll seen f sink mid) changed line) (sym is)
+    (subst (λ f. IsDoneDiff version old new stat (WroteSoFar seen f sink mid) changed line) is done)
+
+pub stopped_unwritten : {W : Type 0} (seen : W → SinkView) (version : Version) (old new : List ℕ)
+    (form : Option RecordForm) (sink mid : W) (may_old may_new : RootFault → Type 0)
+    (fault : Fault) → form ≡ None →
+    IsStoppedDiff may_old may_new version old new (WroteSoFar seen form sink mid)
+    (WrotePart seen form sink mid) fault →
+    IsStoppedDiff may_old may_new version old new (WroteAll seen form sink mid)
+    (WrotePart seen form sink mid) fault
+stopped_unwritten seen version old new form sink mid may_old may_new fault is stopped =
+    subst (λ f. IsStoppedDiff may_old may_new version old new (WroteAll seen f sink mid)
+    (WrotePart seen f sink mid) fault) (sym is)
+    (subst (λ f. IsStoppedDiff may_old may_new version old new (WroteSoFar seen f sink mid)
+    (WrotePart seen f sink mid) fault) is stopped)
+
 module _ {W : Type 0} (seen : W → SinkView) (version : Version) (old new : List ℕ)
-    (form : RecordForm) (sink mid after : W)
+    (form : Option RecordForm) (f : RecordForm) (is_form : form ≡ Some f) (sink mid after : W)
     (same : (seen mid).is_keeping ≡ true → (seen after).taken ≡ (seen mid).taken) where
-  pub done_flushed : (changed : Bool) →
-      IsDoneDiff version old new form (λ bytes. TookSoFar seen bytes sink mid) changed →
+  pub done_flushed : (stat changed : Bool) (line : List ℕ) →
+      IsDoneDiff version old new stat (WroteSoFar seen form sink mid) changed line →
       (seen after).failures ≡ (seen mid).failures → IsSettled (seen after) →
-      IsDoneDiff version old new form (λ bytes. TookAll seen bytes sink after) changed
-  done_flushed changed d counted settled = record {
+      IsDoneDiff version old new stat (WroteAll seen form sink after) changed line
+  done_flushed stat changed line d counted settled = record {
     records = d.records;
     gives = d.gives;
     so = (
-      flushed seen (written_records form d.records) sink mid d.so.0 after same counted settled,
+      all_flushed seen sink mid after same form f is_form counted settled d.records d.so.0,
       d.so.1,
+      d.so.2,
     );
   }
 
-  pub done_unflushed : (changed : Bool) →
-      IsDoneDiff version old new form (λ bytes. TookSoFar seen bytes sink mid) changed →
+  pub done_unflushed : (stat changed : Bool) (line : List ℕ) →
+      IsDoneDiff version old new stat (WroteSoFar seen form sink mid) changed line →
       (seen after).failures ≡ after_failure (seen mid).failures →
-      GaveFirst version old new (λ records. TookPart seen (written_records form records) sink after)
-  done_unflushed changed d counted =
+      GaveFirst version old new (WrotePart seen form sink after)
+  done_unflushed stat changed line d counted =
       let first = gives_first version (at_roots old new) d.records d.gives in
       record {
         records = d.records;
         rest = first.0;
         gives = first.1;
-        so = unflushed seen (written_records form d.records) sink mid d.so.0 after same counted;
+        so = part_flushed seen sink mid after same form f is_form counted d.records d.so.0;
       }
 
-  abbrev Gave : (W → W → List ℕ → Type 0) → W → Type 0
-  Gave took last = GaveFirst version old new (λ records. took sink last (written_records form records))
-
-  gave_flushed : Gave (λ s t bytes. TookSoFar seen bytes s t) mid →
+  gave_flushed : GaveFirst version old new (WroteSoFar seen form sink mid) →
       (seen after).failures ≡ (seen mid).failures → IsSettled (seen after) →
-      Gave (λ s t bytes. TookAll seen bytes s t) after
+      GaveFirst version old new (WroteAll seen form sink after)
   gave_flushed g counted settled = record {
     records = g.records;
     rest = g.rest;
     gives = g.gives;
-    so = flushed seen (written_records form g.records) sink mid g.so after same counted settled;
+    so = all_flushed seen sink mid after same form f is_form counted settled g.records g.so;
   }
 
-  gave_unflushed : Gave (λ s t bytes. TookSoFar seen bytes s t) mid →
+  gave_unflushed : GaveFirst version old new (WroteSoFar seen form sink mid) →
       (seen after).failures ≡ after_failure (seen mid).failures →
-      Gave (λ s t bytes. TookPart seen bytes s t) after
+      GaveFirst version old new (WrotePart seen form sink after)
   gave_unflushed g counted = record {
     records = g.records;
     rest = g.rest;
     gives = g.gives;
-    so = unflushed seen (written_records form g.records) sink mid g.so after same counted;
+    so = part_flushed seen sink mid after same form f is_form counted g.records g.so;
   }
 
   module _ (may_old may_new : RootFault → Type 0) where
     abbrev Before : Fault → Type 0
-    Before = IsStoppedDiff may_old may_new version old new form
-        (λ bytes. TookSoFar seen bytes sink mid) (λ bytes. TookPart seen bytes sink mid)
+    Before = IsStoppedDiff may_old may_new version old new (WroteSoFar seen form sink mid)
+        (WrotePart seen form sink mid)
 
     abbrev After : Fault → Type 0
-    After = IsStoppedDiff may_old may_new version old new form
-        (λ bytes. TookAll seen bytes sink after) (λ bytes. TookPart seen bytes sink after)
+    After = IsStoppedDiff may_old may_new version old new (WroteAll seen form sink after)
+        (WrotePart seen form sink after)
 
     abbrev Tells : Fault → Fault → Type 0
     Tells fault told = ((told ≡ fault) × ((seen after).failures ≡ (seen mid).failures) ×
         IsSettled (seen after))
         ⊎ ((told ≡ faults.Write) × ((seen after).failures ≡ after_failure (seen mid).failures))
 
-    gave_told : (fault told : Fault) → Gave (λ s t bytes. TookSoFar seen bytes s t) mid →
-        (Gave (λ s t bytes. TookAll seen bytes s t) after → After fault) → Tells fault told →
-        After told
+    gave_told : (fault told : Fault) → GaveFirst version old new (WroteSoFar seen form sink mid) →
+        (GaveFirst version old new (WroteAll seen form sink after) → After fault) →
+        Tells fault told → After told
     gave_told fault told g is (inl t) = subst After (sym t.0) (is (gave_flushed g t.1 t.2))
     gave_told fault told g is (inr t) = subst After (sym t.0) (gave_unflushed g t.1)
 
-    pub stopped_told : (fault told : Fault) → fault ≢ faults.Write → Before fault →
+    stopped_told : (fault told : Fault) → fault ≢ faults.Write → Before fault →
         Tells fault told → After told
     stopped_told (faults.RootOld f) told other d t =
         gave_told (faults.RootOld f) told d.0 (λ g. (g, d.1)) t
@@ -313,24 +514,41 @@ module _ {W : Type 0} (seen : W → SinkView) (version : Version) (old new : Lis
     stopped_told faults.BadKey told other d t = absurd d
     stopped_told faults.BadTextKey told other d t = absurd d
     stopped_told faults.BadRoot told other d t = absurd d
+    stopped_told faults.LoneRoot told other d t = absurd d
     stopped_told faults.NotUnicode told other d t = absurd d
     stopped_told faults.OutIsStdout told other d t = absurd d
 
 -- where writing failed nothing is flushed
-pub stopped_written : {W : Type 0} (seen : W → SinkView) (version : Version) (old new : List ℕ)
-    (form : RecordForm) (sink mid after : W) (may_old may_new : RootFault → Type 0)
+stopped_written : {W : Type 0} (seen : W → SinkView) (version : Version) (old new : List ℕ)
+    (form : Option RecordForm) (sink mid after : W) (may_old may_new : RootFault → Type 0)
     (fault told : Fault) → fault ≡ faults.Write → told ≡ fault → after ≡ mid →
-    IsStoppedDiff may_old may_new version old new form (λ bytes. TookSoFar seen bytes sink mid)
-    (λ bytes. TookPart seen bytes sink mid) fault →
-    IsStoppedDiff may_old may_new version old new form (λ bytes. TookAll seen bytes sink after)
-    (λ bytes. TookPart seen bytes sink after) told
+    IsStoppedDiff may_old may_new version old new (WroteSoFar seen form sink mid)
+    (WrotePart seen form sink mid) fault →
+    IsStoppedDiff may_old may_new version old new (WroteAll seen form sink after)
+    (WrotePart seen form sink after) told
 stopped_written seen version old new form sink mid after may_old may_new fault told is same left d =
-    subst (λ w. IsStoppedDiff may_old may_new version old new form
-    (λ bytes. TookAll seen bytes sink w) (λ bytes. TookPart seen bytes sink w) told) (sym left)
-    (subst (IsStoppedDiff may_old may_new version old new form
-    (λ bytes. TookAll seen bytes sink mid) (λ bytes. TookPart seen bytes sink mid))
-    (sym (same ∙ is)) (subst (IsStoppedDiff may_old may_new version old new form
-    (λ bytes. TookSoFar seen bytes sink mid) (λ bytes. TookPart seen bytes sink mid)) is d))
+    subst (λ w. IsStoppedDiff may_old may_new version old new (WroteAll seen form sink w)
+    (WrotePart seen form sink w) told) (sym left)
+    (subst (IsStoppedDiff may_old may_new version old new (WroteAll seen form sink mid)
+    (WrotePart seen form sink mid)) (sym (same ∙ is))
+    (subst (IsStoppedDiff may_old may_new version old new (WroteSoFar seen form sink mid)
+    (WrotePart seen form sink mid)) is d))
+
+-- where a fault stopped the walk, the sink was flushed, or writing had failed
+pub stopped_flushed : {W : Type 0} (seen : W → SinkView) (version : Version) (old new : List ℕ)
+    (form : Option RecordForm) (f : RecordForm) → form ≡ Some f → (sink mid after : W)
+    (may_old may_new : RootFault → Type 0) (fault told : Fault) →
+    IsStoppedDiff may_old may_new version old new (WroteSoFar seen form sink mid)
+    (WrotePart seen form sink mid) fault →
+    ((fault ≡ faults.Write) × (told ≡ fault) × (after ≡ mid))
+    ⊎ ((fault ≢ faults.Write) × IsFlushed seen mid after fault told) →
+    IsStoppedDiff may_old may_new version old new (WroteAll seen form sink after)
+    (WrotePart seen form sink after) told
+stopped_flushed seen version old new form f is sink mid after may_old may_new fault told d (inl w) =
+    stopped_written seen version old new form sink mid after may_old may_new fault told w.0 w.1 w.2 d
+stopped_flushed seen version old new form f is sink mid after may_old may_new fault told d (inr o) =
+    stopped_told seen version old new form f is sink mid after o.1.same may_old may_new fault told o.0
+    d o.1.tells
 
 -- ---- what is told of the sources
 
@@ -348,6 +566,16 @@ module _ (own : RootFault → Fault) (other : (f : RootFault) → own f ≡ faul
       TellsBeside own old new faults.Write
   later_tells fault (inl failed) = inl (inr refl, failed.1)
   later_tells fault (inr none) = inr (λ e. other roots.Read (sym e), none.1)
+
+  pub memory_tells : (fault : Fault) → fault ≡ faults.Memory →
+      ((f : RootFault) → own f ≡ faults.Memory → ⊥) → new ≡ old → TellsBeside own old new fault
+  memory_tells fault is none same = inr (λ e. none roots.Read (sym e ∙ is), same)
+
+  pub told_reads : ((f : RootFault) → own f ≡ faults.Memory → ⊥) → new ≡ old →
+      (result : Result Told Fault) → IfErr result (λ fault. fault ≡ faults.Memory) →
+      TellsDiffReads own old new result
+  told_reads none same (Ok told) is = same
+  told_reads none same (Err fault) is = memory_tells fault is none same
 
   pub told_tells : (fault told : Fault) → TellsBeside own old new fault →
       (told ≡ fault) ⊎ (told ≡ faults.Write) → TellsBeside own old new told
@@ -377,6 +605,18 @@ module _ (own : RootFault → Fault) (one : (f g : RootFault) → own f ≡ own 
     own_tells (roots.Chunk chunk) t = inr (not_read (roots.Chunk chunk) refl, t)
     own_tells (roots.KeysOutOfOrder chunk) t = inr (not_read (roots.KeysOutOfOrder chunk) refl, t)
     own_tells (roots.Level chunk) t = inr (not_read (roots.Level chunk) refl, t)
+
+pub old_write : (f : RootFault) → faults.RootOld f ≡ faults.Write → ⊥
+old_write f e = cc
+
+pub new_write : (f : RootFault) → faults.RootNew f ≡ faults.Write → ⊥
+new_write f e = cc
+
+pub old_memory : (f : RootFault) → faults.RootOld f ≡ faults.Memory → ⊥
+old_memory f e = cc
+
+pub new_memory : (f : RootFault) → faults.RootNew f ≡ faults.Memory → ⊥
+new_memory f e = cc
 
 one_old : (f g : RootFault) → faults.RootOld f ≡ faults.RootOld g → f ≡ g
 one_old f g e = cc

@@ -417,6 +417,7 @@ stop_cases d v r l n took until faults.BadKey lists goal a b t =
 stop_cases d v r l n took until faults.BadTextKey lists goal a b t =
     absurd t
 stop_cases d v r l n took until faults.BadRoot lists goal a b t = absurd t
+stop_cases d v r l n took until faults.LoneRoot lists goal a b t = absurd t
 stop_cases d v r l n took until faults.NotUnicode lists goal a b t =
     absurd t
 stop_cases d v r l n took until faults.OutIsStdout lists goal a b t =

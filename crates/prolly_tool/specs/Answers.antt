@@ -5,11 +5,13 @@ use Rattle.prolly_line.specs.declared.command.ParseFault.TheVariants.{Memory, Us
 use Rattle.prolly_line.specs.declared.command.ParseFault.TheVariants.{BadKey as BadKeyWord}
 use Rattle.prolly_line.specs.declared.command.ParseFault.TheVariants.{BadTextKey as BadTextKeyWord}
 use Rattle.prolly_line.specs.declared.command.ParseFault.TheVariants.{BadRoot as BadRootWord}
+use Rattle.prolly_line.specs.declared.command.ParseFault.TheVariants.{LoneRoot as LoneRootWord}
 use Rattle.prolly_text.specs.Names.{shown_name}
 use Rattle.prolly_tool.specs.declared.answers.answer.Answer.{Answer}
 use Rattle.prolly_tool.specs.declared.faults.fault.Fault.{Fault}
 use Rattle.prolly_tool.specs.declared.faults.name_fault.NameFault.{NameFault}
 use Rattle.prolly_tool.specs.declared.faults.fault.Fault.TheVariants.{BadKey, BadTextKey, BadRoot}
+use Rattle.prolly_tool.specs.declared.faults.fault.Fault.TheVariants.{LoneRoot}
 use Rattle.prolly_tool.specs.declared.faults.fault.Fault.TheVariants.{Memory as OutOfMemory}
 use Rattle.prolly_tool.specs.Faults.{fault_text, fault_status, fault_line}
 use Rattle.prolly_tool.specs.Names.{name_fault_text}
@@ -49,5 +51,6 @@ ShowsRefusal answer Memory = ShowsFault answer OutOfMemory
 ShowsRefusal answer BadKeyWord = ShowsFault answer BadKey
 ShowsRefusal answer BadTextKeyWord = ShowsFault answer BadTextKey
 ShowsRefusal answer BadRootWord = ShowsFault answer BadRoot
+ShowsRefusal answer LoneRootWord = ShowsFault answer LoneRoot
 ShowsRefusal answer (Usage text) = Shows answer 2 [] (string_bytes text)
 ShowsRefusal answer (Help text) = Shows answer 0 (string_bytes text) []

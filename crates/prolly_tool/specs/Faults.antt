@@ -22,7 +22,7 @@ use Rattle.prolly_tool.specs.declared.faults.fault.Fault.TheVariants.{NotUnicode
 use Rattle.prolly_tool.specs.declared.faults.fault.Fault.TheVariants.{OutIsStdout, CheckOld}
 use Rattle.prolly_tool.specs.declared.faults.fault.Fault.TheVariants.{CheckNew}
 use Rattle.prolly_tool.specs.declared.faults.fault.Fault.TheVariants.{Proof, Root, RootOld, RootNew}
-use Rattle.prolly_tool.specs.declared.faults.fault.Fault.TheVariants.{BadRoot, Stream}
+use Rattle.prolly_tool.specs.declared.faults.fault.Fault.TheVariants.{BadRoot, LoneRoot, Stream}
 use Rattle.prolly_text.specs.LinesFaults.{lines_text}
 
 -- What is said of one of two files, which is told first; want of memory is no file's fault.
@@ -55,6 +55,7 @@ fault_text InputTooLong = codes "input too long"
 fault_text BadKey = codes "not a key in hexadecimal"
 fault_text BadTextKey = codes "not a key of text"
 fault_text BadRoot = codes "not the text of a root"
+fault_text LoneRoot = codes "one of --old-root and --new-root is missing"
 fault_text NotUnicode = codes "a word is not UTF-8"
 fault_text OutIsStdout = codes "OUT is also standard output"
 
@@ -130,6 +131,7 @@ fault_status InputTooLong = 5
 fault_status BadKey = 2
 fault_status BadTextKey = 2
 fault_status BadRoot = 2
+fault_status LoneRoot = 2
 fault_status NotUnicode = 2
 fault_status OutIsStdout = 5
 

@@ -18,6 +18,8 @@ pub mod Answers
 pub mod Build
 -- What the commands that read a chunk file print.
 pub mod LookUps
+-- What the command `root` answers.
+pub mod NamedRoots
 -- What the command `dump` answers.
 pub mod Dump
 -- How many changes the difference of two maps has, and the line that tells it.

@@ -1,5 +1,11 @@
 -- What `diff` answers to who names the roots.
-use Rattle.std.specs.Prelude.{◌≡◌, ◌≢◌, ℕ, ◌⊎◌, List, [], Some, None, Result, Ok, Err, Bool}
+use Rattle.std.specs.Prelude.{◌≡◌, ◌≢◌, ℕ, ◌⊎◌, List, [], ◌∷◌, ◌++◌, Option, Some, None, Result, Ok, Err, Bool}
+use Rattle.std.specs.Prelude.{true, false}
+use Rattle.std.specs.List.{AllByRecursion}
+use Rattle.prolly_check.specs.Chunks.{chunks_of}
+use Rattle.prolly_check.specs.Content.{Content}
+use Rattle.prolly_entry.specs.Cut.{sha512_cut}
+use Rattle.prolly_entry.specs.Pair.{IsPair, Pair}
 use Rattle.prolly_entry.specs.Record.{Record}
 use Rattle.prolly_entry.specs.declared.version.Version.{Version}
 use Rattle.prolly_file.specs.Failures.{after_failure}
@@ -9,17 +15,24 @@ use Rattle.prolly_tool.specs.declared.faults.output_fault.OutputFault.{OutputFau
 use Rattle.prolly_tool.specs.declared.faults.output_fault.OutputFault.TheVariants as outputs
 use Rattle.prolly_root.specs.declared.root_fault.RootFault.{RootFault}
 use Rattle.prolly_root.specs.declared.root_fault.RootFault.TheVariants.{Read}
-use Rattle.prolly_root_diff.specs.Walks.{GivesAll, GivesFirst, Lefts, at_roots}
+use Rattle.prolly_check.specs.declared.numbers.Missing.{Missing}
+use Rattle.prolly_root_diff.specs.Notes.{TellsMissing}
+use Rattle.prolly_root_diff.specs.Walks.{FoundClash, GivesAll, GivesFirst, Lefts, Walk, at_roots}
+use Rattle.prolly_root_diff.specs.Walks.{lefts_of}
 use Rattle.prolly_root_diff.specs.declared.change.RootChange.{RootChange}
 use Rattle.prolly_root_diff.specs.declared.change.RootChange.TheVariants.{Added, Changed, Removed}
 use Rattle.prolly_root_diff.specs.declared.fault.RootDiffFault.{RootDiffFault}
 use Rattle.prolly_root_diff.specs.declared.fault.RootDiffFault.TheVariants as walks
-use Rattle.prolly_text.specs.RecordForms.{written_records}
+use Rattle.prolly_text.specs.RecordForms.{spelled}
 use Rattle.prolly_text.specs.declared.lines.form.RecordForm.{RecordForm}
 use Rattle.prolly_tool.specs.Answers.{Shows, ShowsFault}
-use Rattle.prolly_tool.specs.Counts.{are_some}
+use Rattle.prolly_tool.specs.Counts.{AreCounts, are_some, counts_line, stat_text}
 use Rattle.prolly_tool.specs.Diff.{status_of}
+use Rattle.prolly_tree.specs.Difference.{IsMap}
+use Rattle.prolly_tree.specs.File.{root_reference}
+use Rattle.prolly_tree.specs.LookUp.{find}
 use Rattle.prolly_tool.specs.declared.answers.answer.Answer.{Answer}
+use Rattle.prolly_tool.specs.declared.answers.diff.ChangeCounts.{ChangeCounts}
 use Rattle.prolly_tool.specs.declared.faults.fault.Fault.{Fault}
 use Rattle.prolly_tool.specs.declared.faults.fault.Fault.TheVariants.{Memory, RootNew, RootOld, Write}
 
@@ -30,6 +43,12 @@ abbrev pub record_of : RootChange → Record
 record_of (Removed pair) = record { key = pair.key; value = None }
 record_of (Added pair) = record { key = pair.key; value = Some pair.value }
 record_of (Changed before after) = record { key = after.key; value = Some after.value }
+
+-- What the old map has at the key of the change.
+abbrev pub before_of : RootChange → Option (List ℕ)
+before_of (Removed pair) = Some pair.value
+before_of (Added pair) = None
+before_of (Changed before after) = Some before.value
 
 -- A walk from the two roots gave all changes, and this holds of their records.
 pub record GaveAll (version : Version) (old new : List ℕ) (holds : List Record → Type 0) : Type 0
@@ -56,6 +75,13 @@ WroteOwn seen own old new (Err outputs.Memory) = new ≡ old
 WroteOwn seen own old new (Err outputs.Write) =
     Writes {T = Unit {0}} {E = OutputFault} own (seen old) (seen new) (Err outputs.Write)
 
+-- So it is in the form that is given; where none is, nothing is written.
+abbrev pub WroteIn : {W : Type 0} → (W → SinkView) → Option RecordForm → Record → W → W →
+    Result (Unit {0}) OutputFault → Type 0
+WroteIn seen None r old new (Ok done) = new ≡ old
+WroteIn seen None r old new (Err fault) = ⊥
+WroteIn seen (Some form) r old new result = WroteOwn seen (spelled form r) old new result
+
 -- The fault of the command that a fault of the walk is.
 abbrev pub fault_of : RootDiffFault → Fault
 fault_of walks.Memory = Memory
@@ -63,28 +89,61 @@ fault_of walks.Stopped = Memory
 fault_of (walks.Old fault) = RootOld fault
 fault_of (walks.New fault) = RootNew fault
 
+-- ---- the numbers
+
+-- This holds of whatever contents of the version have these roots, whose pairs are maps; or else two
+-- different chunks have one reference.
+abbrev pub OfRoots : Version → List ℕ → List ℕ → (Content → Content → Type 0) → Type 0
+OfRoots version old new holds = (bits bits' : ℕ) (m m' : List Pair) → IsMap m →
+    AllByRecursion IsPair m → IsMap m' → AllByRecursion IsPair m' →
+    old ≡ root_reference (sha512_cut bits) version m →
+    new ≡ root_reference (sha512_cut bits') version m' →
+    let before : Content = record { version = version; bits = bits; pairs = m } in
+    let after : Content = record { version = version; bits = bits'; pairs = m' } in
+    holds before after ⊎ FoundClash (chunks_of before) (chunks_of after)
+
+-- One change more is counted.
+abbrev pub Counts : RootChange → ChangeCounts → ChangeCounts → Type 0
+Counts change before after = (old : List Pair) (records : List Record) →
+    AreCounts old records before → find old (record_of change).key ≡ before_of change →
+    AreCounts old (records ++ record_of change ∷ []) after
+
+-- The line tells these counts, and what is missing where a walk came with its notes; where it is not
+-- asked for, there is none.
+abbrev pub TellsNumbers : {T U : Type 0} → Bool → Walk T U → ChangeCounts → List ℕ → Type 0
+TellsNumbers false walk counts line = line ≡ []
+TellsNumbers true walk counts line = (missing : Missing) ×
+    TellsMissing walk.version (lefts_of walk) walk.notes missing ×
+    (line ≡ stat_text counts.added counts.changed counts.removed missing.chunks missing.bytes)
+
+-- The line is that of the numbers, where it is asked for.
+abbrev pub IsStatLine : Bool → Version → List ℕ → List ℕ → List Record → List ℕ → Type 0
+IsStatLine false version old new records line = line ≡ []
+IsStatLine true version old new records line =
+    OfRoots version old new (λ before after. line ≡ counts_line before after records)
+
 -- ---- what comes of it
 
--- All changes were given, and written in this form; and the flag tells whether there are some. Of
--- the sink, `took` says that it took all of these bytes.
-abbrev pub IsDoneDiff : Version → List ℕ → List ℕ → RecordForm → (List ℕ → Type 0) → Bool → Type 0
-IsDoneDiff version old new form took changed = GaveAll version old new
-    (λ records. took (written_records form records) × (changed ≡ are_some records))
+-- All changes were given, and `took` holds of their records; the flag tells whether there are some,
+-- and the line their numbers, where it is asked for.
+abbrev pub IsDoneDiff : Version → List ℕ → List ℕ → Bool → (List Record → Type 0) → Bool → List ℕ →
+    Type 0
+IsDoneDiff version old new stat took changed line = GaveAll version old new (λ records.
+    took records × (changed ≡ are_some records) × IsStatLine stat version old new records line)
 
 -- This fault stopped the walk. Where it is one of the trees, or want of memory, what was given
 -- before was written; where writing failed, a part of it was. `may_old` and `may_new` say which
 -- faults of the trees there may be.
 abbrev pub IsStoppedDiff : (RootFault → Type 0) → (RootFault → Type 0) → Version → List ℕ →
-    List ℕ → RecordForm → (List ℕ → Type 0) → (List ℕ → Type 0) → Fault → Type 0
-IsStoppedDiff may_old may_new version old new form took took_part (RootOld fault) =
-    GaveFirst version old new (λ records. took (written_records form records)) × may_old fault
-IsStoppedDiff may_old may_new version old new form took took_part (RootNew fault) =
-    GaveFirst version old new (λ records. took (written_records form records)) × may_new fault
-IsStoppedDiff may_old may_new version old new form took took_part Memory =
-    GaveFirst version old new (λ records. took (written_records form records))
-IsStoppedDiff may_old may_new version old new form took took_part Write =
-    GaveFirst version old new (λ records. took_part (written_records form records))
-IsStoppedDiff may_old may_new version old new form took took_part fault = ⊥
+    List ℕ → (List Record → Type 0) → (List Record → Type 0) → Fault → Type 0
+IsStoppedDiff may_old may_new version old new took took_part (RootOld fault) =
+    GaveFirst version old new took × may_old fault
+IsStoppedDiff may_old may_new version old new took took_part (RootNew fault) =
+    GaveFirst version old new took × may_new fault
+IsStoppedDiff may_old may_new version old new took took_part Memory = GaveFirst version old new took
+IsStoppedDiff may_old may_new version old new took took_part Write =
+    GaveFirst version old new took_part
+IsStoppedDiff may_old may_new version old new took took_part fault = ⊥
 
 -- What is told of the calls of one of the sources, whose failures were so many before and after:
 -- where none failed, no failed read of it is told, and where one did, that is told, or that writing
@@ -95,13 +154,13 @@ TellsDiffReads own old new (Err fault) =
     (((fault ≡ own Read) ⊎ (fault ≡ Write)) × (new ≡ after_failure old))
     ⊎ ((fault ≢ own Read) × (new ≡ old))
 
--- The answer: all changes were written, and the status tells whether there are some; or the fault
--- that stopped the walk is shown.
+-- The answer: all changes were written, the status tells whether there are some, and the line is
+-- shown where it is asked for; or the fault that stopped the walk is shown.
 abbrev pub IsRootDiff : (RootFault → Type 0) → (RootFault → Type 0) → Version → List ℕ → List ℕ →
-    RecordForm → (List ℕ → Type 0) → (List ℕ → Type 0) → (Result Bool Fault → Type 0) → Answer →
-    Type 0
-IsRootDiff may_old may_new version old new form took took_part tells answer =
-    ((changed : Bool) × IsDoneDiff version old new form took changed × tells (Ok changed) ×
-    Shows answer (status_of changed) [] [])
-    ⊎ ((fault : Fault) × IsStoppedDiff may_old may_new version old new form took took_part fault ×
+    Bool → (List Record → Type 0) → (List Record → Type 0) → (Result Bool Fault → Type 0) →
+    Answer → Type 0
+IsRootDiff may_old may_new version old new stat took took_part tells answer =
+    ((changed : Bool) × (line : List ℕ) × IsDoneDiff version old new stat took changed line ×
+    tells (Ok changed) × Shows answer (status_of changed) line [])
+    ⊎ ((fault : Fault) × IsStoppedDiff may_old may_new version old new took took_part fault ×
     tells (Err fault) × ShowsFault answer fault)

@@ -1,10 +1,12 @@
-//! The commands that say how a file is: `explain`, `check` and `stat`.
+//! The commands that say how a file is: `explain`, `check`, `root` and `stat`.
 use crate::inputs::{Input, chunk_file};
 use crate::refusal::Refusal;
 use prolly_check::ChunkHasher;
 use prolly_entry::{Ref, Version};
+use prolly_file::FromSeek;
 use prolly_tool::{
-    Answer, Notation, StatForm, answer_check_by, answer_check_by_root, answer_explain, answer_stat,
+    Answer, Notation, StatForm, answer_check_by, answer_check_by_root, answer_explain, answer_root,
+    answer_stat,
 };
 
 /// `explain [--text] FILE`
@@ -34,6 +36,12 @@ pub fn check<H: ChunkHasher>(
             Ok(answer_check_by_root(hasher, alloc, &mut source, version, &root)?)
         }
     }
+}
+
+/// `root FILE`. The file may be of any size.
+pub fn root(rt: &HostRuntime, file: &str) -> Result<Answer, Refusal> {
+    let mut device = FromSeek::new(Input::open(rt, file)?.into_file());
+    Ok(answer_root(rt.alloc(), &mut device)?)
 }
 
 /// `stat [--json] [--text] FILE`. Of the two kinds of files a chunk file is read whole.

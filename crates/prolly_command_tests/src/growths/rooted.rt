@@ -1,6 +1,7 @@
 //! What look-ups and a scan by the root show where they are refused memory.
 use super::differences::RECORDS;
 use super::{FILE_OF_ONE, PROOF, RECORD, expect_begun, expect_shown, expect_written};
+use crate::expect::expect_bytes;
 use crate::tools::look_up_answers::file_of_three;
 use prolly_check::OneThread;
 use prolly_entry::{Pair, Ref, Version};
@@ -8,7 +9,7 @@ use prolly_file::{FromRead, ScriptDevice, ScriptSink};
 use prolly_root::{FileChunks, Reader, RootFault};
 use prolly_tool::{
     Notation, RecordForm, RootDiff, RootScan, answer_check_by_root, answer_diff_by_root,
-    answer_dump_by_root, answer_found, answer_found_pair, answer_prove_by_root,
+    answer_dump_by_root, answer_found, answer_found_pair, answer_prove_by_root, answer_root,
     answer_scan_by_root,
 };
 use std::alloc::{AllocError, Global};
@@ -96,6 +97,15 @@ fn a_check_by_the_root_is_shown_or_wants_memory(rt: HostRuntime) -> Result<(), F
 }
 
 #[test]
+fn a_root_is_shown_or_wants_memory(rt: HostRuntime) -> Result<(), Fail> {
+    let alloc = rt.alloc();
+    let mut device = ScriptDevice::new(FILE_OF_ONE.to_vec(alloc)?, None);
+    let answer = answer_root(alloc, &mut device);
+    expect_shown(&rt, answer, 0, b"siohomb4dih8dpq7rscofpf57l9lfog4\n");
+    Ok(())
+}
+
+#[test]
 fn a_proof_by_the_root_is_written_or_wants_memory(rt: HostRuntime) -> Result<(), Fail> {
     let alloc = rt.alloc();
     let mut chunks = chunks_of_one(alloc)?;
@@ -140,10 +150,34 @@ fn changes_by_the_roots_are_written_or_want_memory(rt: HostRuntime) -> Result<()
             version: Version::Two,
             old: &root_of_one(),
             new: &root,
-            form,
+            form: Some(form),
+            stat: false,
         };
         let answer = answer_diff_by_root(alloc, &mut old, &mut new, &diff, &mut sink);
         expect_begun(&rt, answer, 1, sink.taken(), whole);
     }
+    Ok(())
+}
+
+#[test]
+fn the_numbers_by_the_roots_are_shown_or_want_memory(rt: HostRuntime) -> Result<(), Fail> {
+    let alloc = rt.alloc();
+    let root = Ref::from_text(ROOT_OF_THREE).ok_or("the text of a root")?;
+    let mut file = FILE_OF_ONE.to_vec(alloc)?;
+    file[4] = 2;
+    let mut sink = ScriptSink::new(alloc, 4_096, None);
+    let mut old = chunks_of(file);
+    let mut new = chunks_of(file_of_three(alloc, Version::Two)?);
+    let diff = RootDiff {
+        version: Version::Two,
+        old: &root_of_one(),
+        new: &root,
+        form: None,
+        stat: true,
+    };
+    let answer = answer_diff_by_root(alloc, &mut old, &mut new, &diff, &mut sink);
+    let line = b"added 2 changed 0 removed 0 chunks 5 bytes 176\n";
+    expect_shown(&rt, answer, 1, line);
+    expect_bytes(&rt, sink.taken(), b"");
     Ok(())
 }

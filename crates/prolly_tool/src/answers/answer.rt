@@ -142,6 +142,7 @@ impl Answer {
             ParseFault::BadKey => Answer::of_fault(alloc, Fault::BadKey),
             ParseFault::BadTextKey => Answer::of_fault(alloc, Fault::BadTextKey),
             ParseFault::BadRoot => Answer::of_fault(alloc, Fault::BadRoot),
+            ParseFault::LoneRoot => Answer::of_fault(alloc, Fault::LoneRoot),
             ParseFault::Usage(text) => Ok(Answer {
                 status: 2,
                 out: Vec::new(alloc),

@@ -131,7 +131,11 @@ fn shown_of(
 }
 
 /// The line that tells how many changes there are, and what is missing.
-fn stat_line(alloc: Global, counts: &ChangeCounts, missing: &Missing) -> Result<Vec<u8>, AllocError>
+pub(crate) fn stat_line(
+    alloc: Global,
+    counts: &ChangeCounts,
+    missing: &Missing,
+) -> Result<Vec<u8>, AllocError>
     ensures { IfOk result (λ line. line.items ≡ stat_text counts.now.added counts.now.changed
         counts.now.removed missing.now.chunks missing.now.bytes) }
 {
@@ -191,6 +195,9 @@ fn write_changes<W: Sink>(
     Ok(counts)
 }
 
+/// Of each kind fewer changes are counted, so that their sum has room.
+const MOST: u64 = 1 << 62;
+
 /// The numbers of changes of each kind.
 #[derive(Clone, Copy)]
 pub(crate) struct ChangeCounts {
@@ -212,6 +219,13 @@ impl ChangeCounts {
             changed: 0,
             removed: 0,
         }
+    }
+
+    /// Whether one change more can be counted.
+    pub(crate) fn has_room(&self) -> bool
+        ensures { result ≡ true → self.now.added + self.now.changed + self.now.removed + 1 < 2 ^ 64 }
+    {
+        self.added < MOST && self.changed < MOST && self.removed < MOST
     }
 
     /// Counts one change more, of a key that has `before` in the old map and `after` in the new

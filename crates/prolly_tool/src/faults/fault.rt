@@ -53,6 +53,8 @@ pub enum Fault {
     BadTextKey,
     /// The word for a root is not the text of a reference.
     BadRoot,
+    /// Of the roots of two trees one is given alone.
+    LoneRoot,
     /// A word of the command line is not UTF-8.
     NotUnicode,
     /// The output is the file to which standard output goes.
@@ -77,7 +79,11 @@ impl Fault {
             }
             Fault::Proof(_) | Fault::NoCounts => 4,
             Fault::Read | Fault::Write | Fault::InputTooLong | Fault::OutIsStdout => 5,
-            Fault::BadKey | Fault::BadTextKey | Fault::BadRoot | Fault::NotUnicode => 2,
+            Fault::BadKey
+            | Fault::BadTextKey
+            | Fault::BadRoot
+            | Fault::LoneRoot
+            | Fault::NotUnicode => 2,
         }
     }
 }
@@ -190,6 +196,7 @@ impl Display for Fault {
             Fault::BadKey => f.write_str("not a key in hexadecimal"),
             Fault::BadTextKey => f.write_str("not a key of text"),
             Fault::BadRoot => f.write_str("not the text of a root"),
+            Fault::LoneRoot => f.write_str("one of --old-root and --new-root is missing"),
             Fault::NotUnicode => f.write_str("a word is not UTF-8"),
             Fault::OutIsStdout => f.write_str("OUT is also standard output"),
         }

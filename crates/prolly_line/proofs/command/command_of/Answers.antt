@@ -7,7 +7,8 @@ pub unreachable-requires : goal.unreachable-requires
 unreachable-requires c =
     not_strange c.args.name.now (rows_in c.args.given.now) c.requires c.in_default.not-pack
     c.in_default.not-scratch
-    c.in_default.not-build c.in_default.not-explain c.in_default.not-check c.in_default.not-stat
+    c.in_default.not-build c.in_default.not-explain c.in_default.not-check c.in_default.not-root
+    c.in_default.not-stat
     c.in_default.not-get c.in_default.not-scan
     c.in_default.not-nth
     c.in_default.not-dump
@@ -49,6 +50,13 @@ check-requires c = subst (λ name. IsAccepted (name, rows_in c.args.given.now)) 
 pub returns-in-check : goal.returns-in-check
 returns-in-check c = subst (λ name. Answers (name, rows_in c.args.given.now) c.check.result)
     (sym c.in-check.is) c.check.ensures
+
+pub root-requires : goal.root-requires
+root-requires c = subst (λ name. IsAccepted (name, rows_in c.args.given.now)) c.in-root.is c.requires
+
+pub returns-in-root : goal.returns-in-root
+returns-in-root c = subst (λ name. Answers (name, rows_in c.args.given.now) c.root.result)
+    (sym c.in-root.is) c.root.ensures
 
 pub stat-requires : goal.stat-requires
 stat-requires c = subst (λ name. IsAccepted (name, rows_in c.args.given.now)) c.in-stat.is c.requires

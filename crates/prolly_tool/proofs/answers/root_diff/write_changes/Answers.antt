@@ -1,54 +1,103 @@
-use Rattle.std.proofs.Common.{Some, ◌∙◌, subst}
-use Rattle.prolly_root_diff.specs.Walks.{Ends, Gives, lefts_of}
-use Rattle.prolly_tool.specs.Outputs.{TookPart, TookSoFar}
+use Rattle.std.proofs.Common.{None, Some, ◌∙◌, subst, sym}
+use Rattle.prolly_root_diff.specs.Notes.{AreNoted}
+use Rattle.prolly_root_diff.specs.Walks.{Gives, at_roots, lefts_of}
 use Rattle.prolly_tool.specs.RootScans.{RefusesNone}
-use Rattle.prolly_tool.proofs.RootDiffSteps.{all_given, begins, gave_so_far, goes_on, keeps_first}
-use Rattle.prolly_tool.proofs.RootDiffSteps.{keeps_on, may_new, may_old, output_new, output_old}
-use Rattle.prolly_tool.proofs.RootDiffSteps.{unwritten, walk_stopped, walk_tells_new}
+use Rattle.prolly_tool.specs.declared.faults.fault.Fault.TheVariants.{RootNew, RootOld}
+use Rattle.prolly_tool.proofs.RootDiffSteps.{WrotePart, WroteSoFar, all_told, begins, gave_so_far}
+use Rattle.prolly_tool.proofs.RootDiffSteps.{goes_on, keeps_first, keeps_on, may_new, may_old}
+use Rattle.prolly_tool.proofs.RootDiffSteps.{memory_stopped, memory_tells, new_memory, new_write}
+use Rattle.prolly_tool.proofs.RootDiffSteps.{old_memory, old_write, output_new, output_old, told_reads}
+use Rattle.prolly_tool.proofs.RootDiffSteps.{untold, unwritten, walk_stopped, walk_tells_new}
 use Rattle.prolly_tool.proofs.RootDiffSteps.{walk_tells_old}
 use Rattle.prolly_tool.proofs.answers.root_diff.write_changes.Goals as goal
 
 pub walk-init : goal.walk-init
 walk-init g c = record {
-  version = c.in-Ok.ensures.version_is;
+  version = c.in-Ok.ensures.begun.version_is;
   gave = begins g.W.Sink.seen c.args.diff.now.version c.args.diff.now.old.now.0
-      c.args.diff.now.new.now.0 c.args.diff.now.form
-      (lefts_of c.in-Ok.walk) c.in-Ok.ensures.lefts c.args.sink.now;
+      c.args.diff.now.new.now.0 c.args.diff.now.form c.args.diff.now.stat
+      (lefts_of c.in-Ok.walk) c.in-Ok.ensures.begun.lefts c.in-Ok.walk.notes c.in-Ok.ensures.noted
+      c.none-counts.result c.none-counts.ensures c.args.sink.now;
   old = keeps_first g.S.ChunkSource.has g.S.ChunkSource.failures g.S.ChunkSource.is_place
       c.args.diff.now.version c.args.diff.now.old.now.0 c.args.old.now
-      c.in-Ok.walk.before c.in-Ok.ensures.before;
+      c.in-Ok.walk.before c.in-Ok.ensures.begun.before;
   new = keeps_first g.R.ChunkSource.has g.R.ChunkSource.failures g.R.ChunkSource.is_place
       c.args.diff.now.version c.args.diff.now.new.now.0 c.args.new.now
-      c.in-Ok.walk.after c.in-Ok.ensures.after;
+      c.in-Ok.walk.after c.in-Ok.ensures.begun.after;
 }
 
 pub returns-in-Ok-None-clause-ok : goal.returns-in-Ok-None-clause-ok
-returns-in-Ok-None-clause-ok g c = all_given g.W.Sink.seen c.args.diff.now.version c.args.diff.now.old.now.0
-    c.args.diff.now.new.now.0 c.args.diff.now.form
-    (lefts_of c.walk.walk) c.walk.changed c.args.sink.now c.walk.sink c.walk.invariant.gave
-    (subst (λ v. Ends v (lefts_of c.walk.walk)) c.walk.invariant.version
-    (rw c.in-Ok-None.field-0-is at c.in-Ok-None.ensures.gives).0)
+returns-in-Ok-None-clause-ok g c = all_told g.W.Sink.seen c.args.diff.now.version c.args.diff.now.old.now.0
+    c.args.diff.now.new.now.0 c.args.diff.now.form c.args.diff.now.stat
+    (lefts_of c.walk.walk) c.walk.walk.notes c.walk.changed c.walk.counts c.args.sink.now
+    c.walk.sink c.walk.invariant.gave c.next.new.self
+    (c.in-Ok-None.ensures.version ∙ c.walk.invariant.version)
+    (subst (λ v. AreNoted v (at_roots c.args.diff.now.old.now.0 c.args.diff.now.new.now.0)
+    (lefts_of c.next.new.self) c.next.new.self.notes) c.walk.invariant.version
+    (c.in-Ok-None.ensures.noted (at_roots c.args.diff.now.old.now.0 c.args.diff.now.new.now.0)
+    (subst (λ v. AreNoted v (at_roots c.args.diff.now.old.now.0 c.args.diff.now.new.now.0)
+    (lefts_of c.walk.walk) c.walk.walk.notes) (sym c.walk.invariant.version)
+    c.walk.invariant.gave.noted)))
+    (subst (λ v. Gives v (lefts_of c.walk.walk) None (lefts_of c.next.new.self))
+    c.walk.invariant.version (rw c.in-Ok-None.field-0-is at c.in-Ok-None.ensures.gives))
+    c.told_of.result c.told_of.ensures.changed c.told_of.ensures.line
+
+pub returns-in-Ok-None-clause-err : goal.returns-in-Ok-None-clause-err
+returns-in-Ok-None-clause-err g c = untold g.W.Sink.seen c.args.diff.now.version c.args.diff.now.old.now.0
+    c.args.diff.now.new.now.0 c.args.diff.now.form c.args.diff.now.stat
+    (lefts_of c.walk.walk) c.walk.walk.notes c.walk.changed c.walk.counts c.args.sink.now
+    c.walk.sink c.walk.invariant.gave
+    (RefusesNone (g.S.ChunkSource.has c.args.old.now) c.args.diff.now.version
+    c.args.diff.now.old.now.0) (RefusesNone (g.R.ChunkSource.has c.args.new.now) c.args.diff.now.version
+    c.args.diff.now.new.now.0)
+    (WrotePart g.W.Sink.seen c.args.diff.now.form c.args.sink.now c.walk.sink) c.told_of.result
+    c.told_of.ensures.err
 
 pub returns-in-Ok-None-clause-reads_old : goal.returns-in-Ok-None-clause-reads_old
-returns-in-Ok-None-clause-reads_old g c = c.in-Ok-None.ensures.old.still.failures_are ∙
-    c.walk.invariant.old.still.failures_are
+returns-in-Ok-None-clause-reads_old g c = told_reads RootOld old_write _ _ old_memory
+    (c.in-Ok-None.ensures.old.still.failures_are ∙ c.walk.invariant.old.still.failures_are)
+    c.told_of.result c.told_of.ensures.err
 
 pub returns-in-Ok-None-clause-reads_new : goal.returns-in-Ok-None-clause-reads_new
-returns-in-Ok-None-clause-reads_new g c = c.in-Ok-None.ensures.new.still.failures_are ∙
-    c.walk.invariant.new.still.failures_are
+returns-in-Ok-None-clause-reads_new g c = told_reads RootNew new_write _ _ new_memory
+    (c.in-Ok-None.ensures.new.still.failures_are ∙ c.walk.invariant.new.still.failures_are)
+    c.told_of.result c.told_of.ensures.err
+
+pub returns-in-Err-count-clause-err : goal.returns-in-Err-count-clause-err
+returns-in-Err-count-clause-err g c = memory_stopped
+    (RefusesNone (g.S.ChunkSource.has c.args.old.now) c.args.diff.now.version
+    c.args.diff.now.old.now.0) (RefusesNone (g.R.ChunkSource.has c.args.new.now) c.args.diff.now.version
+    c.args.diff.now.new.now.0)
+    c.args.diff.now.version c.args.diff.now.old.now.0 c.args.diff.now.new.now.0
+    (WroteSoFar g.W.Sink.seen c.args.diff.now.form c.args.sink.now c.walk.sink)
+    (WrotePart g.W.Sink.seen c.args.diff.now.form c.args.sink.now c.walk.sink)
+    c.in-Err-count.fault c.in-Err-count.ensures.err (gave_so_far g.W.Sink.seen c.args.diff.now.version c.args.diff.now.old.now.0
+    c.args.diff.now.new.now.0 c.args.diff.now.form c.args.diff.now.stat
+    (lefts_of c.walk.walk) c.walk.walk.notes c.walk.changed c.walk.counts c.args.sink.now
+    c.walk.sink c.walk.invariant.gave)
+
+pub returns-in-Err-count-clause-reads_old : goal.returns-in-Err-count-clause-reads_old
+returns-in-Err-count-clause-reads_old g c = memory_tells RootOld old_write _ _ c.in-Err-count.fault
+    c.in-Err-count.ensures.err old_memory
+    (c.in-Ok-Some.ensures.old.still.failures_are ∙ c.walk.invariant.old.still.failures_are)
+
+pub returns-in-Err-count-clause-reads_new : goal.returns-in-Err-count-clause-reads_new
+returns-in-Err-count-clause-reads_new g c = memory_tells RootNew new_write _ _ c.in-Err-count.fault
+    c.in-Err-count.ensures.err new_memory
+    (c.in-Ok-Some.ensures.new.still.failures_are ∙ c.walk.invariant.new.still.failures_are)
 
 pub returns-in-Err-clause-err : goal.returns-in-Err-clause-err
 returns-in-Err-clause-err g c = rw c.fault_of.ensures (walk_stopped
     (RefusesNone (g.S.ChunkSource.has c.args.old.now) c.args.diff.now.version
-    c.args.diff.now.old.now.0) (RefusesNone (g.R.ChunkSource.has c.args.new.now)
-    c.args.diff.now.version c.args.diff.now.new.now.0)
-    c.args.diff.now.version c.args.diff.now.old.now.0
-    c.args.diff.now.new.now.0 c.args.diff.now.form
-    (λ bytes. TookSoFar g.W.Sink.seen bytes c.args.sink.now c.walk.sink)
-    (λ bytes. TookPart g.W.Sink.seen bytes c.args.sink.now c.walk.sink) c.in-Err.fault
+    c.args.diff.now.old.now.0) (RefusesNone (g.R.ChunkSource.has c.args.new.now) c.args.diff.now.version
+    c.args.diff.now.new.now.0)
+    c.args.diff.now.version c.args.diff.now.old.now.0 c.args.diff.now.new.now.0
+    (WroteSoFar g.W.Sink.seen c.args.diff.now.form c.args.sink.now c.walk.sink)
+    (WrotePart g.W.Sink.seen c.args.diff.now.form c.args.sink.now c.walk.sink) c.in-Err.fault
     (gave_so_far g.W.Sink.seen c.args.diff.now.version c.args.diff.now.old.now.0
-    c.args.diff.now.new.now.0 c.args.diff.now.form
-    (lefts_of c.walk.walk) c.walk.changed c.args.sink.now c.walk.sink c.walk.invariant.gave)
+    c.args.diff.now.new.now.0 c.args.diff.now.form c.args.diff.now.stat
+    (lefts_of c.walk.walk) c.walk.walk.notes c.walk.changed c.walk.counts c.args.sink.now
+    c.walk.sink c.walk.invariant.gave)
     (may_old g.S.ChunkSource.has g.S.ChunkSource.failures g.S.ChunkSource.is_place
     c.args.diff.now.version c.args.diff.now.old.now.0 c.args.old.now
     c.walk.walk.version c.walk.invariant.version c.walk.old c.next.new.old c.walk.walk.before
@@ -72,37 +121,47 @@ returns-in-Err-clause-reads_new g c = rw c.fault_of.ensures (walk_tells_new g.R.
 
 pub returns-in-Err-write_change-clause-err : goal.returns-in-Err-write_change-clause-err
 returns-in-Err-write_change-clause-err g c = rw c.from.ensures (unwritten g.W.Sink.seen c.args.diff.now.version c.args.diff.now.old.now.0
-    c.args.diff.now.new.now.0 c.args.diff.now.form
-    (lefts_of c.walk.walk) c.walk.changed c.args.sink.now c.walk.sink c.walk.invariant.gave
+    c.args.diff.now.new.now.0 c.args.diff.now.form c.args.diff.now.stat
+    (lefts_of c.walk.walk) c.walk.walk.notes c.walk.changed c.walk.counts c.args.sink.now
+    c.walk.sink c.walk.invariant.gave
     c.in-Ok-Some.change (lefts_of c.next.new.self)
     (subst (λ v. Gives v (lefts_of c.walk.walk) (Some c.in-Ok-Some.change)
     (lefts_of c.next.new.self)) c.walk.invariant.version
     (rw c.in-Ok-Some.field-0-is at c.in-Ok-Some.ensures.gives))
     (RefusesNone (g.S.ChunkSource.has c.args.old.now) c.args.diff.now.version
-    c.args.diff.now.old.now.0) (RefusesNone (g.R.ChunkSource.has c.args.new.now)
-    c.args.diff.now.version c.args.diff.now.new.now.0)
+    c.args.diff.now.old.now.0) (RefusesNone (g.R.ChunkSource.has c.args.new.now) c.args.diff.now.version
+    c.args.diff.now.new.now.0)
     c.in-Err-write_change.fault c.write_change.new.sink c.in-Err-write_change.ensures)
 
 pub returns-in-Err-write_change-clause-reads_old : goal.returns-in-Err-write_change-clause-reads_old
 returns-in-Err-write_change-clause-reads_old g c = rw c.from.ensures (output_old
-    c.in-Err-write_change.fault _ _ (c.in-Ok-Some.ensures.old.still.failures_are ∙
-    c.walk.invariant.old.still.failures_are))
+    c.in-Err-write_change.fault _ _
+    (c.in-Ok-Some.ensures.old.still.failures_are ∙ c.walk.invariant.old.still.failures_are))
 
 pub returns-in-Err-write_change-clause-reads_new : goal.returns-in-Err-write_change-clause-reads_new
 returns-in-Err-write_change-clause-reads_new g c = rw c.from.ensures (output_new
-    c.in-Err-write_change.fault _ _ (c.in-Ok-Some.ensures.new.still.failures_are ∙
-    c.walk.invariant.new.still.failures_are))
+    c.in-Err-write_change.fault _ _
+    (c.in-Ok-Some.ensures.new.still.failures_are ∙ c.walk.invariant.new.still.failures_are))
 
 pub walk-preserved : goal.walk-preserved
 walk-preserved g c = record {
   version = c.in-Ok-Some.ensures.version ∙ c.walk.invariant.version;
   gave = goes_on g.W.Sink.seen c.args.diff.now.version c.args.diff.now.old.now.0
-      c.args.diff.now.new.now.0 c.args.diff.now.form
-      (lefts_of c.walk.walk) c.walk.changed c.args.sink.now c.walk.sink c.walk.invariant.gave
+      c.args.diff.now.new.now.0 c.args.diff.now.form c.args.diff.now.stat
+      (lefts_of c.walk.walk) c.walk.walk.notes c.walk.changed c.walk.counts c.args.sink.now
+      c.walk.sink c.walk.invariant.gave
       c.in-Ok-Some.change (lefts_of c.next.new.self)
       (subst (λ v. Gives v (lefts_of c.walk.walk) (Some c.in-Ok-Some.change)
       (lefts_of c.next.new.self)) c.walk.invariant.version
       (rw c.in-Ok-Some.field-0-is at c.in-Ok-Some.ensures.gives))
+      c.walks_are_right.ensures.before c.next.new.self.notes
+      (subst (λ v. AreNoted v (at_roots c.args.diff.now.old.now.0 c.args.diff.now.new.now.0)
+      (lefts_of c.next.new.self) c.next.new.self.notes) c.walk.invariant.version
+      (c.in-Ok-Some.ensures.noted (at_roots c.args.diff.now.old.now.0 c.args.diff.now.new.now.0)
+      (subst (λ v. AreNoted v (at_roots c.args.diff.now.old.now.0 c.args.diff.now.new.now.0)
+      (lefts_of c.walk.walk) c.walk.walk.notes) (sym c.walk.invariant.version)
+      c.walk.invariant.gave.noted)))
+      c.count.new.counts c.in_default-count.ensures.ok
       c.in_default-write_change.field-0 c.write_change.new.sink c.in_default-write_change.ensures;
   old = keeps_on g.S.ChunkSource.has g.S.ChunkSource.failures g.S.ChunkSource.is_place
       c.args.diff.now.version c.args.diff.now.old.now.0 c.args.old.now
