@@ -21,8 +21,8 @@ LONE_ROOT = b"prolly: one of --old-root and --new-root is missing\n"
 SPOILED = 90
 """Pairs of files in which a byte of a chunk is turned, and as many in which frames stand in another order."""
 
-MOST_READ = 30
-"""Chunks of each file that ten changed values are to cost, of a million pairs."""
+MANY_PAIRS = ((6, 1_000_000, 30), (4, 30_000, 40))
+"""Bits, numbers of pairs, and how many chunks of each file ten changed values are to cost at most."""
 
 
 def by_roots(old_root, new_root, version):
@@ -182,12 +182,12 @@ def walked(name, old_file, new_file, before, after):
 
 def all_runs(program, folder):
     """Runs over files of which chunks that both have are spoiled, and over files whose chunks stand far apart."""
-    for bits, count in ((6, 1_000_000), (4, 30_000)):
-        yield f"diff by the roots: what is read at --bits {bits}", chained(program, lambda place, bits=bits, count=count: reads_the_change_alone(place, bits, count))
+    for kind in MANY_PAIRS:
+        yield f"diff by the roots: what is read at --bits {kind[0]}", chained(program, lambda place, kind=kind: reads_the_change_alone(place, *kind))
     yield "diff by the roots: frames far apart", chained(program, compares_far_chunks)
 
 
-def reads_the_change_alone(place, bits, count):
+def reads_the_change_alone(place, bits, count, most):
     """Of the chunks that both files have none is believed, and none is read: each may be anything behind its level."""
     chance = random.Random(bits)
     old = numbered(count)
@@ -201,8 +201,8 @@ def reads_the_change_alone(place, bits, count):
     references = [[reference(chunk) for chunk in part] for part in chunks]
     for name, content, own, other in (("old", files[0], references[0], set(references[1])), ("new", files[1], references[1], set(references[0]))):
         lacking = sum(found not in other for found in own)
-        if lacking > MOST_READ:
-            place.note(f"{lacking} chunks of {name} are its own, wanted at most {MOST_READ}")
+        if lacking > most:
+            place.note(f"{lacking} chunks of {name} are its own, wanted at most {most}")
         place.path(f"{name}.prl").write_bytes(with_shared_spoiled(content, own, other))
     options = ["--old-root", roots[0], "--new-root", roots[1]]
     changes = difference(old, new.items())

@@ -132,7 +132,7 @@ def missing(told, page):
     top, commands = told
     for text in [top, *commands.values()]:
         words = text.replace("Usage:", "").replace("Arguments:", "").replace("Options:", "").replace("Commands:", "")
-        words = re.sub(r"<([A-Z]+)>", r"\1", words).replace("`", "")
+        words = re.sub(r"<([A-Z]+)>", r"\1", words).replace("`", "").replace('"', "")
         yield from (f"{word!r} is missing" for word in sorted(set(words.split()) - found))
 
 

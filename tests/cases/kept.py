@@ -44,6 +44,8 @@ KINDS = {
     "dump --root": "record file",
     "diff": "record file",
     "diff --stat": "record file",
+    "diff by the roots": "record file",
+    "diff --stat by the roots": "record file",
     "prove": "proof",
     "prove --root": "proof",
 }
