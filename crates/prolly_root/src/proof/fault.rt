@@ -41,7 +41,7 @@ impl ProofFault {
     ghost use Rattle.prolly_root.specs.FaultTexts.{proof_fault_text};
 
     /// The fault that the chunk of this number has.
-    pub(crate) fn of_flaw(flaw: ChunkFlaw, chunk: usize) -> ProofFault
+    pub fn of_flaw(flaw: ChunkFlaw, chunk: usize) -> ProofFault
         ensures { result ≡ proof_fault chunk flaw }
     {
         match flaw {

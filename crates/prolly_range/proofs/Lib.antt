@@ -1,0 +1,10 @@
+-- What of a set of keys may stand below trees.
+mod Parts
+-- Chunks that are taken one after another.
+mod Taking
+-- Bytes that begin as a proof, or as none.
+mod Starts
+-- What is due below a chunk.
+mod Below
+-- A proof is accepted, chunk by chunk.
+mod Accepting

@@ -1,0 +1,16 @@
+-- Sets of keys, and where in a tree they may stand.
+pub mod KeySet
+-- The proof of what a map has at the keys of a set.
+pub mod SetProof
+-- The children of a node in which keys are sought.
+pub mod Children
+-- The chunks that are due, as a walk keeps them.
+pub mod Dues
+-- The frames of a proof, as they come.
+pub mod Frames
+-- What is wrong with the start of bytes that are no proof.
+pub mod Start
+-- Reading a proof, chunk by chunk.
+pub mod Verifier
+-- What is said of a proof that shows nothing more. (This project's texts.)
+pub mod FaultTexts

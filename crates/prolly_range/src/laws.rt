@@ -1,0 +1,15 @@
+//! Laws of proofs of sets of keys. They are the contract of a function that does nothing: to call it
+//! is to know the laws, and to prove the crate is to prove them.
+ghost use Rattle.prolly_range.specs.SetProof.{SetProofsAreRight, TakenAreRight};
+
+use prolly_check::laws::tops_are_read;
+
+/// Whoever knows the root of a map knows by a proof what the map has at the keys of a set, and there
+/// is one such proof; so does who has taken the first chunks of it know the first of the pairs; or
+/// there are two different chunks with one reference.
+pub fn set_proofs_are_right()
+    ensures first { TakenAreRight }
+    ensures all { SetProofsAreRight }
+{
+    tops_are_read();
+}

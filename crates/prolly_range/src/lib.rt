@@ -1,0 +1,20 @@
+//! Proofs of what a map has at all keys of a set, as at those of a range.
+//!
+//! The proof is the chunks of the map's tree that the set meets, each once, from the root down. Who
+//! knows the root's reference learns from it the pairs of these keys, and that there is no other.
+#![tactic(auto)]
+
+mod children;
+mod due;
+mod fault;
+mod frames;
+mod key_set;
+pub mod laws;
+mod proved;
+mod start;
+mod verifier;
+
+pub use fault::SetFault;
+pub use key_set::KeySet;
+pub use proved::{PairsWanted, ProvedChunk};
+pub use verifier::SetVerifier;

@@ -1,0 +1,280 @@
+//! What the proof of a set of keys shows, for who knows the root alone.
+ghost use Rattle.std.specs.Prelude.{◌≡◌, ◌≢◌, ◌↔◌, ◌<◌, ◌++◌, [], ◌∷◌, length, vec_len, true, false, map, drop};
+ghost use Rattle.std.specs.Prelude.{ℕ, Err, IfErr, IfOk, IsErrOf, MatchOption, OnErr, OnOk};
+ghost use Rattle.prolly_entry.specs.declared.version.Version.{Version as VersionValue};
+ghost use Rattle.prolly_file.specs.Writer.{next_count};
+ghost use Rattle.prolly_check.specs.Way.{FallsTo, IsNamed};
+ghost use Rattle.prolly_root.specs.ProofFault.{IsChunkFault};
+ghost use Rattle.prolly_range.specs.Dues.{due_of};
+ghost use Rattle.prolly_range.specs.KeySet.{set_of};
+ghost use Rattle.prolly_range.specs.SetProof.{root_due, set_start};
+ghost use Rattle.prolly_range.specs.Start.{IsSetStartFault};
+ghost use Rattle.prolly_range.specs.Verifier.{ComesTo, IsNextFault, IsRestOf, IsStartFault, MayFail};
+
+use crate::due::{Due, put_below};
+use crate::fault::SetFault;
+use crate::frames::{next_frame, read_up_to};
+use crate::key_set::KeySet;
+use crate::proved::ProvedChunk;
+use crate::start::{START_SIZE, test_start};
+use prolly_check::{falls_to, test_chunk};
+use prolly_entry::{Ref, Version};
+use prolly_file::{FRAME_START, Source};
+use prolly_root::ProofFault;
+use std::alloc::{AllocError, Global};
+use std::collections::VecDeque;
+use std::marker::Model;
+
+/// How many bytes are asked for at a time.
+const PART_BYTES: usize = 65_536;
+
+/// Reads the proof of what a map has at the keys of a set, chunk by chunk, from a [`Source`] of any
+/// size, which is lent to each call.
+///
+/// Taken together the pairs that the chunks show are the first ones of any map with this root whose
+/// keys are of the set, and all of them at the end; or two different chunks have one reference: see
+/// [`laws::set_proofs_are_right`](crate::laws::set_proofs_are_right). That holds whatever the source
+/// gives.
+///
+/// Memory is taken for one chunk, and for the references of the children in which keys are sought
+/// of the nodes above it.
+#[derive(Drop)]
+pub struct SetVerifier<'a> {
+    version: Version,
+    /// The chunks that are due, the next one first.
+    due: VecDeque<Due<'a>>,
+    /// How many chunks were taken.
+    count: usize,
+    /// Whether a call failed.
+    stopped: bool,
+    /// Room for what is read at a time.
+    part: Vec<u8>,
+}
+
+impl<'a> Model for SetVerifier<'a> {
+    ghost use Rattle.std.specs.Prelude.{◌<◌, map, vec_len};
+    ghost use Rattle.prolly_range.specs.Dues.{due_of};
+    ghost use Rattle.prolly_range.specs.Verifier.{VerifierView};
+
+    ghost Value = { VerifierView };
+
+    ghost view = { λ v. record {
+      version = v.version;
+      due = map due_of v.due.items;
+      count = v.count;
+      stopped = v.stopped;
+    } };
+
+    ghost invariant = { λ v. 0 < vec_len v.part };
+}
+
+impl<'a> SetVerifier<'a> {
+    /// Begins to read a proof. Its root and the version of its chunks have to come from who is
+    /// trusted, and not from who made the proof.
+    pub fn open<S: Source>(
+        alloc: Global,
+        version: Version,
+        root: &Ref,
+        set: KeySet<'a>,
+        source: &mut S,
+    ) -> Result<SetVerifier<'a>, SetFault>
+        ensures begins { IfOk result (λ verifier. verifier ≡ record {
+          version = version;
+          due = root_due root.now.0 (set_of set.entry) ∷ [];
+          count = 0;
+          stopped = false;
+        }) }
+        ensures start { (S.seen source.old).is_honest ≡ true → OnOk result
+            ((S.seen source.old).left ≡ set_start version ++ (S.seen source.new).left) }
+        ensures fault { (S.seen source.old).is_honest ≡ true →
+            IfErr result (IsStartFault version (S.seen source.old).left) }
+        ensures read { IsErrOf result SetFault.Read ↔ ((S.seen source.new).failures ≢ (S.seen
+            source.old).failures) }
+        ensures honest { (S.seen source.old).is_honest ≡ true →
+            (S.seen source.new).is_honest ≡ true }
+        ensures steady { (S.seen source.old).is_steady ≡ true →
+            (S.seen source.new).is_steady ≡ true }
+    {
+        let mut part = part_buffer(alloc)?;
+        let due = whole_due(alloc, root, set)?;
+        read_start(alloc, source, &mut part, version)?;
+        Ok(SetVerifier {
+            version,
+            due,
+            count: 0,
+            stopped: false,
+            part,
+        })
+    }
+
+    /// The next chunk of the proof, or none at its end. Behind that there is none at each further
+    /// call.
+    ///
+    /// After an `Err` nothing more is shown: each further call fails, and reads nothing.
+    pub fn next<S: Source>(
+        &mut self,
+        alloc: Global,
+        source: &mut S,
+    ) -> Result<Option<ProvedChunk<'a>>, SetFault>
+        ensures version { self.new.version ≡ self.old.version }
+        ensures comes { IfOk result (λ chunk. ComesTo self.old.version self.old.due chunk
+            self.new.due (S.seen source.old).is_honest (S.seen source.old).left
+            (S.seen source.new).left) }
+        ensures count { IfOk result (λ chunk. MatchOption chunk (self.new.count ≡ self.old.count)
+            (λ _. self.new.count ≡ next_count self.old.count)) }
+        ensures fault { (S.seen source.old).is_honest ≡ true → self.old.stopped ≡ false →
+            IfErr result (IsNextFault self.old.version self.old.due self.old.count
+            (S.seen source.old).left) }
+
+        // A proof is accepted.
+        ensures accepts { (S.seen source.old).is_honest ≡ true → self.old.stopped ≡ false →
+            IsRestOf self.old.version self.old.due (S.seen source.old).left →
+            IfErr result MayFail }
+
+        ensures stops { OnErr result (self.new.stopped ≡ true) }
+        ensures goes_on { OnOk result (self.new.stopped ≡ false) }
+        ensures stopped { self.old.stopped ≡ true → result ≡ Err SetFault.Stopped }
+        ensures read { IsErrOf result SetFault.Read ↔ ((S.seen source.new).failures ≢ (S.seen
+            source.old).failures) }
+        ensures honest { (S.seen source.old).is_honest ≡ true →
+            (S.seen source.new).is_honest ≡ true }
+        ensures steady { (S.seen source.old).is_steady ≡ true →
+            (S.seen source.new).is_steady ≡ true }
+    {
+        if self.stopped {
+            return Err(SetFault::Stopped);
+        }
+        self.stopped = true;
+        let chunk = next_chunk(
+            alloc,
+            source,
+            self.version,
+            &mut self.part,
+            &mut self.due,
+            self.count,
+        )?;
+        if chunk.is_some() {
+            self.count = self.count.saturating_add(1);
+        }
+        self.stopped = false;
+        Ok(chunk)
+    }
+}
+
+/// The whole tree is due.
+fn whole_due<'a>(
+    alloc: Global,
+    root: &Ref,
+    set: KeySet<'a>,
+) -> Result<VecDeque<Due<'a>>, AllocError>
+    ensures { IfOk result (λ due.
+        map due_of due.items ≡ root_due root.now.0 (set_of set.entry) ∷ []) }
+{
+    let mut due = VecDeque::new(alloc);
+    due.push_front(Due {
+        reference: *root,
+        above: None,
+        set,
+    })?;
+    Ok(due)
+}
+
+/// Room for a part.
+fn part_buffer(alloc: Global) -> Result<Vec<u8>, AllocError>
+    ensures { IfOk result (λ part. vec_len part ≡ PART_BYTES) }
+{
+    vec![in alloc; 0; PART_BYTES]
+}
+
+/// Reads what a proof over chunks of the version begins with.
+fn read_start<S: Source>(
+    alloc: Global,
+    source: &mut S,
+    part: &mut [u8],
+    version: Version,
+) -> Result<(), SetFault>
+    requires { 0 < length part.old }
+    ensures part { length part.new ≡ length part.old }
+    ensures start { (S.seen source.old).is_honest ≡ true → OnOk result
+        ((S.seen source.old).left ≡ set_start version ++ (S.seen source.new).left) }
+    ensures fault { (S.seen source.old).is_honest ≡ true →
+        IfErr result (IsStartFault version (S.seen source.old).left) }
+    ensures read { IsErrOf result SetFault.Read ↔ ((S.seen source.new).failures ≢ (S.seen
+        source.old).failures) }
+    ensures honest { (S.seen source.old).is_honest ≡ true → (S.seen source.new).is_honest ≡ true }
+    ensures steady { (S.seen source.old).is_steady ≡ true → (S.seen source.new).is_steady ≡ true }
+{
+    let mut front = Vec::new(alloc);
+    let _ = read_up_to(source, part, &mut front, START_SIZE)?;
+    match test_start(version, &front) {
+        Ok(()) => Ok(()),
+        Err(fault) => Err(SetFault::Proof(fault)),
+    }
+}
+
+/// The next chunk of a proof, or none where nothing is due, and the source is at its end.
+fn next_chunk<'a, S: Source>(
+    alloc: Global,
+    source: &mut S,
+    version: Version,
+    part: &mut [u8],
+    due: &mut VecDeque<Due<'a>>,
+    number: usize,
+) -> Result<Option<ProvedChunk<'a>>, SetFault>
+    requires { 0 < length part.old }
+    ensures part { length part.new ≡ length part.old }
+    ensures comes { IfOk result (λ chunk. ComesTo version (map due_of due.old.items) chunk
+        (map due_of due.new.items) (S.seen source.old).is_honest (S.seen source.old).left
+        (S.seen source.new).left) }
+    ensures fault { (S.seen source.old).is_honest ≡ true → IfErr result (IsNextFault version
+        (map due_of due.old.items) number (S.seen source.old).left) }
+    ensures read { IsErrOf result SetFault.Read ↔ ((S.seen source.new).failures ≢ (S.seen
+        source.old).failures) }
+    ensures honest { (S.seen source.old).is_honest ≡ true → (S.seen source.new).is_honest ≡ true }
+    ensures steady { (S.seen source.old).is_steady ≡ true → (S.seen source.new).is_steady ≡ true }
+{
+    let Some(first) = due.pop_front() else {
+        test_end(alloc, source, part)?;
+        return Ok(None);
+    };
+    let frame = next_frame(alloc, source, part, number)?;
+    test_due(version, &frame[FRAME_START..], &first, number)?;
+    put_below(alloc, version, &frame[FRAME_START..], first.set, due)?;
+    Ok(Some(ProvedChunk::new(version, frame, first.set)))
+}
+
+/// Tests whether the source is at its end.
+fn test_end<S: Source>(alloc: Global, source: &mut S, part: &mut [u8]) -> Result<(), SetFault>
+    requires { 0 < length part.old }
+    ensures part { length part.new ≡ length part.old }
+    ensures over { (S.seen source.old).is_honest ≡ true →
+        OnOk result ((S.seen source.old).left ≡ []) }
+    ensures fault { (S.seen source.old).is_honest ≡ true → (version : VersionValue) (number : ℕ) →
+        IfErr result (IsNextFault version [] number (S.seen source.old).left) }
+    ensures read { IsErrOf result SetFault.Read ↔ ((S.seen source.new).failures ≢ (S.seen
+        source.old).failures) }
+    ensures honest { (S.seen source.old).is_honest ≡ true → (S.seen source.new).is_honest ≡ true }
+    ensures steady { (S.seen source.old).is_steady ≡ true → (S.seen source.new).is_steady ≡ true }
+{
+    let mut behind = Vec::new(alloc);
+    if read_up_to(source, part, &mut behind, 1)? {
+        return Ok(());
+    }
+    Err(SetFault::Proof(ProofFault::Trailing))
+}
+
+/// Tests whether the chunk of this number is the one that is due, and one that a tree may have there.
+fn test_due(version: Version, chunk: &[u8], due: &Due<'_>, number: usize) -> Result<(), SetFault>
+    ensures named { OnOk result (IsNamed version due.now.reference.0 chunk.now) }
+    ensures falls { OnOk result (FallsTo due.now.above chunk.now) }
+    ensures err { IfErr result (λ fault. (flaw : ProofFault) × (fault ≡ SetFault.Proof flaw) ×
+        IsChunkFault version due.now.reference.0 due.now.above chunk.now number flaw) }
+{
+    if let Err(flaw) = test_chunk(version, chunk, &due.reference) {
+        return Err(SetFault::Proof(ProofFault::of_flaw(flaw, number)));
+    }
+    if !falls_to(due.above, chunk) {
+        return Err(SetFault::Proof(ProofFault::Level { chunk: number }));
+    }
+    Ok(())
+}
