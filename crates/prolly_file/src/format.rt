@@ -9,4 +9,4 @@ pub use frame::{
     end_record, frame_at, frame_start, front_frame, read_end, read_start,
 };
 pub use header::{HEADER_SIZE, Header, HeaderFault, read_header};
-pub use writer::{FileWriter, WriteFault, write_all, write_whole};
+pub use writer::{FileWriter, WriteFault, write_all, write_frame, write_whole};

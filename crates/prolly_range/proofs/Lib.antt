@@ -8,3 +8,9 @@ mod Starts
 mod Below
 -- A proof is accepted, chunk by chunk.
 mod Accepting
+-- How far a walk has to go yet.
+mod Weights
+-- Where the chunks that are due stand in a lawful tree.
+mod Locating
+-- Writing the chunks of a proof, one after another.
+mod Writing

@@ -29,7 +29,7 @@ use Rattle.prolly_range.proofs.Parts.{met_keep, wanted_below}
 
 -- what is met of the entries is met of the trees
 module _ (version : Version) (level : ℕ) where
-  abbrev as_child : Met (Tree level) → Met Child
+  abbrev pub as_child : Met (Tree level) → Met Child
   as_child m = record { number = m.number; item = child_of version level m.item; set = m.set }
 
   first_child : (number : ℕ) (t : Tree level) (part : Option KeySet)

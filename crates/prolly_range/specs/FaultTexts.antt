@@ -1,8 +1,10 @@
--- What is said of a proof that shows nothing more. (This project's texts.)
+-- What is said of a proof that shows nothing more, or was not written. (This project's texts.)
 use Rattle.std.specs.Prelude.{ℕ, List, codes}
-use Rattle.prolly_root.specs.FaultTexts.{proof_fault_text}
+use Rattle.prolly_root.specs.FaultTexts.{proof_fault_text, root_fault_text}
 use Rattle.prolly_range.specs.declared.fault.SetFault.{SetFault}
 use Rattle.prolly_range.specs.declared.fault.SetFault.TheVariants.{Memory, Proof, Read, Stopped}
+use Rattle.prolly_range.specs.declared.prove_fault.ProveFault.{ProveFault}
+use Rattle.prolly_range.specs.declared.prove_fault.ProveFault.TheVariants.{Chunks, Write}
 
 -- The text of each fault.
 abbrev pub set_fault_text : SetFault → List ℕ
@@ -10,3 +12,7 @@ set_fault_text Memory = codes "out of memory"
 set_fault_text Read = codes "proof: read failed"
 set_fault_text (Proof fault) = proof_fault_text fault
 set_fault_text Stopped = codes "proof: an earlier call failed"
+
+abbrev pub prove_fault_text : ProveFault → List ℕ
+prove_fault_text (Chunks fault) = root_fault_text fault
+prove_fault_text Write = codes "write failed"

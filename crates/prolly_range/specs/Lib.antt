@@ -14,3 +14,7 @@ pub mod Start
 pub mod Verifier
 -- What is said of a proof that shows nothing more. (This project's texts.)
 pub mod FaultTexts
+-- How far a walk has to go yet.
+pub mod ToGo
+-- Writing a proof, from a source of chunks.
+pub mod Prover

@@ -9,6 +9,7 @@ use crate::key_set::KeySet;
 use prolly_check::split_first_child;
 use prolly_entry::{Child, Ref, Version};
 use std::alloc::{AllocError, Global};
+use std::collections::VecDeque;
 
 /// A child of a node in which keys are sought.
 #[derive(Clone, Copy)]
@@ -26,12 +27,12 @@ pub(crate) fn children_met<'a>(
     version: Version,
     mut entries: &[u8],
     set: KeySet<'a>,
-) -> Result<Vec<ChildMet<'a>>, AllocError>
+) -> Result<VecDeque<ChildMet<'a>>, AllocError>
     requires { IsNode version entries.now [] }
     ensures { IfOk result (λ met. map met_of met.items ≡ map seen_met
         (met_in (λ c. c.key) 0 (Some (set_of set.entry)) (children_in version entries.now))) }
 {
-    let mut met = Vec::new(alloc);
+    let mut met = VecDeque::new(alloc);
     let mut number = 0;
     let mut left = Some(set);
     while let Some(sought) = left {
@@ -48,7 +49,7 @@ pub(crate) fn children_met<'a>(
 
 /// Adds the child of this number, where keys are sought in it.
 fn add_child<'a>(
-    met: &mut Vec<ChildMet<'a>>,
+    met: &mut VecDeque<ChildMet<'a>>,
     number: u64,
     child: &Child<'_>,
     set: Option<KeySet<'a>>,
@@ -57,7 +58,7 @@ fn add_child<'a>(
         map seen_met (met_first number (value_of child.now) (option_map set_of set.entry) [])) }
 {
     if let Some(set) = set {
-        met.push(ChildMet {
+        met.push_back(ChildMet {
             number,
             reference: child.reference,
             set,

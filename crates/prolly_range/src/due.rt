@@ -15,7 +15,7 @@ use std::alloc::{AllocError, Global};
 use std::collections::VecDeque;
 
 /// The level of a leaf.
-const LEAF: u8 = 0;
+pub(crate) const LEAF: u8 = 0;
 
 /// A chunk that is due.
 #[derive(Clone, Copy)]
@@ -29,7 +29,7 @@ pub(crate) struct Due<'a> {
 
 impl<'a> Due<'a> {
     /// The child of a node of this level.
-    fn below(level: u8, child: &ChildMet<'a>) -> Due<'a>
+    pub(crate) fn below(level: u8, child: &ChildMet<'a>) -> Due<'a>
         ensures { due_of result ≡ seen_due level (met_of child.now) }
     {
         Due {
@@ -57,7 +57,7 @@ pub(crate) fn put_below<'a>(
     }
     let mut met = children_met(alloc, version, &chunk[1..], set)?;
     // The last one is put first, so that the first one comes to stand before the others.
-    while let Some(child) = met.pop() {
+    while let Some(child) = met.pop_back() {
         due.push_front(Due::below(chunk[0], &child))?;
     }
     Ok(())

@@ -10,11 +10,16 @@ mod fault;
 mod frames;
 mod key_set;
 pub mod laws;
+mod located;
+mod prove_fault;
 mod proved;
+mod prover;
 mod start;
 mod verifier;
 
 pub use fault::SetFault;
 pub use key_set::KeySet;
+pub use prove_fault::ProveFault;
 pub use proved::{PairsWanted, ProvedChunk};
+pub use prover::prove_set;
 pub use verifier::SetVerifier;

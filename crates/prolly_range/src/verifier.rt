@@ -9,6 +9,7 @@ ghost use Rattle.prolly_range.specs.Dues.{due_of};
 ghost use Rattle.prolly_range.specs.KeySet.{set_of};
 ghost use Rattle.prolly_range.specs.SetProof.{root_due, set_start};
 ghost use Rattle.prolly_range.specs.Start.{IsSetStartFault};
+ghost use Rattle.prolly_range.specs.ToGo.{ComesNearer};
 ghost use Rattle.prolly_range.specs.Verifier.{ComesTo, IsNextFault, IsRestOf, IsStartFault, MayFail};
 
 use crate::due::{Due, put_below};
@@ -120,6 +121,7 @@ impl<'a> SetVerifier<'a> {
         ensures comes { IfOk result (λ chunk. ComesTo self.old.version self.old.due chunk
             self.new.due (S.seen source.old).is_honest (S.seen source.old).left
             (S.seen source.new).left) }
+        ensures nearer { IfOk result (λ chunk. ComesNearer self.old.due chunk self.new.due) }
         ensures count { IfOk result (λ chunk. MatchOption chunk (self.new.count ≡ self.old.count)
             (λ _. self.new.count ≡ next_count self.old.count)) }
         ensures fault { (S.seen source.old).is_honest ≡ true → self.old.stopped ≡ false →
@@ -226,6 +228,8 @@ fn next_chunk<'a, S: Source>(
     ensures comes { IfOk result (λ chunk. ComesTo version (map due_of due.old.items) chunk
         (map due_of due.new.items) (S.seen source.old).is_honest (S.seen source.old).left
         (S.seen source.new).left) }
+    ensures nearer { IfOk result (λ chunk. ComesNearer (map due_of due.old.items) chunk
+        (map due_of due.new.items)) }
     ensures fault { (S.seen source.old).is_honest ≡ true → IfErr result (IsNextFault version
         (map due_of due.old.items) number (S.seen source.old).left) }
     ensures read { IsErrOf result SetFault.Read ↔ ((S.seen source.new).failures ≢ (S.seen

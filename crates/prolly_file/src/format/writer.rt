@@ -179,8 +179,8 @@ pub fn write_whole<W: Sink>(sink: &mut W, bytes: &[u8]) -> Result<(), WriteFault
     Ok(())
 }
 
-/// Writes the frame of a chunk, its start and then its bytes.
-fn write_frame<W: Sink>(sink: &mut W, bytes: &[u8]) -> Result<(), WriteFault>
+/// Writes the frame of a chunk, its start and then its bytes, and does not flush the sink.
+pub fn write_frame<W: Sink>(sink: &mut W, bytes: &[u8]) -> Result<(), WriteFault>
     ensures { Writes (framed bytes.now) (W.seen sink.old) (W.seen sink.new) result }
 {
     write_all(sink, &frame_start(bytes.len() as u64))?;

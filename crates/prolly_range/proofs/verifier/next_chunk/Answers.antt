@@ -7,6 +7,7 @@ use Rattle.prolly_range.specs.KeySet.{set_of}
 use Rattle.prolly_range.specs.SetProof.{due_below}
 use Rattle.prolly_range.specs.Verifier.{IsNextFault}
 use Rattle.prolly_range.proofs.Accepting.{behind_nine, shown}
+use Rattle.prolly_range.proofs.Weights.{comes_nearer}
 use Rattle.prolly_range.proofs.verifier.next_chunk.Goals as goal
 
 pub returns-in_err-test_end-clause-fault : goal.returns-in_err-test_end-clause-fault
@@ -67,3 +68,9 @@ returns-clause-comes g c =
       read = λ honest. c.in_ok-frame.ensures.bytes honest ∙
           ap (λ x. x ++ (g.S.Source.seen c.next_frame.new.source).left) c.in_ok-frame.ensures.frame.is;
     }
+
+pub returns-clause-nearer : goal.returns-clause-nearer
+returns-clause-nearer g c =
+    let taken = returns-clause-comes g c in
+    comes_nearer c.args.version (map due_of c.args.due.now.items)
+    (map due_of c.put_below.new.due.items) taken.chunk c.new.result taken.takes taken.small

@@ -1,0 +1,106 @@
+-- Writing the proof of a set of keys, from a source of chunks.
+use Rattle.std.specs.Prelude.{◌≡◌, ℕ, suc, true, List, [], ◌++◌, Option, Some, None, Result, Ok, Err}
+use Rattle.std.specs.List.{AllByRecursion, flat_map}
+use Rattle.prolly_check.specs.Chunks.{chunks_of}
+use Rattle.prolly_check.specs.Content.{Content}
+use Rattle.prolly_check.specs.Descent.{IsTreeOf}
+use Rattle.prolly_entry.specs.Pair.{Pair}
+use Rattle.prolly_entry.specs.Reference.{reference_of}
+use Rattle.prolly_entry.specs.declared.version.Version.{Version}
+use Rattle.prolly_file.specs.Failures.{after_failure}
+use Rattle.prolly_file.specs.Frame.{framed, IsSmall}
+use Rattle.prolly_file.specs.Sink.{SinkView, TakesPrefix}
+use Rattle.prolly_root.specs.ChunkSource.{IsChildNumber}
+use Rattle.prolly_root.specs.Descent.{StandsBelow}
+use Rattle.prolly_root.specs.RootFault.{MayFail, TellsFailure}
+use Rattle.prolly_tree.specs.Tree.{Tree, bytes_of}
+use Rattle.prolly_range.specs.Children.{SeenMet}
+use Rattle.prolly_range.specs.Dues.{due_of}
+use Rattle.prolly_range.specs.KeySet.{KeySet}
+use Rattle.prolly_range.specs.SetProof.{AreTaken, Due, IsSetProof, Takes}
+use Rattle.prolly_range.specs.declared.located.Located.{Located}
+use Rattle.prolly_range.specs.declared.prove_fault.ProveFault.{ProveFault}
+use Rattle.prolly_range.specs.declared.prove_fault.ProveFault.TheVariants as faults
+
+-- What is due at a place.
+abbrev pub located_due : {T : Type 0} → Located T → Due
+located_due located = due_of located.due
+
+-- ---- chunk by chunk
+
+-- The chunk is the first that is due; or there is none, where nothing is due.
+abbrev pub ProvesNext : Version → List Due → Option (List ℕ) → List Due → Type 0
+ProvesNext version old None new = (old ≡ []) × (new ≡ [])
+ProvesNext version old (Some chunk) new = (pairs : List Pair) × Takes version old chunk pairs new ×
+    IsSmall chunk
+
+-- ---- in a lawful tree
+
+-- The chunk that is due is the top of a tree of the content, and stands in its place.
+abbrev pub IsLocated : {T : Type 0} → (Content → (level : ℕ) → Tree level → T → Type 0) → Content →
+    Located T → Type 0
+IsLocated is_place content located = StandsBelow is_place content located.due.reference.0
+    located.due.above located.place
+
+-- The child is the top of one of these trees.
+pub record IsChildThere (content : Content) (level : ℕ) (ts : List (Tree level)) (met : SeenMet)
+    : Type 0 where
+  pub t : Tree level
+  pub at : IsChildNumber level ts met.number t
+  pub of : IsTreeOf content.version (chunks_of content) level t
+  pub named : met.reference ≡ reference_of (bytes_of content.version level t)
+
+-- The children are tops of the trees below the node that stands in this place.
+pub record AreChildrenThere {T : Type 0}
+    (is_place : Content → (level : ℕ) → Tree level → T → Type 0) (content : Content) (level : ℕ)
+    (place : T) (met : List SeenMet) : Type 0 where
+  pub ts : List (Tree level)
+  pub stands : is_place content (suc level) ts place
+  pub each : AllByRecursion (IsChildThere content level ts) met
+
+-- ---- what a sink took
+
+-- It took the frames of all chunks that are due, one after another; and no call of it failed.
+pub record WritesRest (version : Version) (due : List Due) (old new : SinkView) : Type 0 where
+  pub chunks : List (List ℕ)
+  pub pairs : List Pair
+  pub small : AllByRecursion IsSmall chunks
+  pub taken : AreTaken version due chunks pairs []
+  pub wrote : old.is_keeping ≡ true → new.taken ≡ old.taken ++ flat_map framed chunks
+
+-- It took the proof of the set of keys.
+pub record WritesProof (version : Version) (root : List ℕ) (set : KeySet) (old new : SinkView)
+    : Type 0 where
+  pub bytes : List ℕ
+  pub pairs : List Pair
+  pub proof : IsSetProof version root set bytes pairs
+  pub wrote : old.is_keeping ≡ true → new.taken ≡ old.taken ++ bytes
+
+-- It took a part of what chunks come to that are taken one after another, from the beginning on.
+pub record WritesPart (version : Version) (due : List Due) (start : List ℕ) (old new : SinkView)
+    : Type 0 where
+  pub chunks : List (List ℕ)
+  pub pairs : List Pair
+  pub rest : List Due
+  pub taken : AreTaken version due chunks pairs rest
+  pub wrote : old.is_keeping ≡ true →
+      TakesPrefix old.taken new.taken (start ++ flat_map framed chunks)
+
+-- ---- faults
+
+-- That a read failed is told where a call of the source of chunks failed, and only there.
+abbrev pub TellsSource : {T : Type 0} → ℕ → ℕ → Result T ProveFault → Type 0
+TellsSource old new (Ok done) = new ≡ old
+TellsSource old new (Err (faults.Chunks fault)) = TellsFailure old new fault
+TellsSource old new (Err faults.Write) = new ≡ old
+
+-- That a write failed is told where a call of the sink failed, and only there.
+abbrev pub TellsSink : {T : Type 0} → ℕ → ℕ → Result T ProveFault → Type 0
+TellsSink old new (Ok done) = new ≡ old
+TellsSink old new (Err (faults.Chunks fault)) = new ≡ old
+TellsSink old new (Err faults.Write) = new ≡ after_failure old
+
+-- There is no fault but a failed write, a failed read, or want of memory.
+abbrev pub MayFailTo : ProveFault → Type 0
+MayFailTo (faults.Chunks fault) = MayFail fault
+MayFailTo faults.Write = Unit {0}

@@ -1,0 +1,137 @@
+//! The chunks that are due, and where they stand.
+ghost use Rattle.std.specs.Prelude.{◌≡◌, ◌<◌, ◌-◌, ◌++◌, ◌∷◌, [], map, IfOk, OnOk};
+ghost use Rattle.std.specs.List.{AllByRecursion};
+ghost use Rattle.prolly_check.specs.Content.{Content};
+ghost use Rattle.prolly_check.specs.Entries.{IsWhole};
+ghost use Rattle.prolly_check.specs.Kinds.{kind_of};
+ghost use Rattle.prolly_check.specs.Way.{FallsTo, IsNamed, level_of};
+ghost use Rattle.prolly_root.specs.ChunkSource.{HasAsked};
+ghost use Rattle.prolly_root.specs.RootFault.{IsOrFails, MayFail};
+ghost use Rattle.prolly_tree.specs.Tree.{bytes_of};
+ghost use Rattle.prolly_range.specs.Children.{met_of};
+ghost use Rattle.prolly_range.specs.Dues.{seen_due};
+ghost use Rattle.prolly_range.specs.KeySet.{set_of};
+ghost use Rattle.prolly_range.specs.Prover.{AreChildrenThere, IsLocated, located_due};
+ghost use Rattle.prolly_range.specs.SetProof.{due_below};
+
+use crate::children::{ChildMet, children_met};
+use crate::due::{Due, LEAF};
+use prolly_check::falls_to;
+use prolly_check::laws::tops_are_read;
+use prolly_entry::Version;
+use prolly_root::{ChunkSource, RootFault, tested_chunk};
+use std::alloc::{AllocError, Global};
+use std::collections::VecDeque;
+
+/// A chunk that is due, and where it stands.
+#[derive(Clone, Copy)]
+pub(crate) struct Located<'a, T> {
+    pub(crate) due: Due<'a>,
+    pub(crate) place: T,
+}
+
+impl<'a, T: Copy + Drop> Located<'a, T> {
+    /// Reads the chunk.
+    pub(crate) fn read<S: ChunkSource<Place = T>>(
+        &self,
+        alloc: Global,
+        source: &mut S,
+        version: Version,
+    ) -> Result<Vec<u8>, RootFault>
+        ensures named { IfOk result (λ chunk.
+            IsNamed version self.now.due.reference.0 chunk.items) }
+        ensures falls { IfOk result (λ chunk. FallsTo self.now.due.above chunk.items) }
+        ensures lawful { (content : Content) → S.has source.old content →
+            version ≡ content.version → (l : IsLocated S.is_place content self.now) →
+            IsOrFails (λ chunk. chunk.items ≡ bytes_of content.version l.at.level l.at.t)
+            MayFail result }
+        ensures asked { HasAsked S.has S.failures source.old source.new result }
+    {
+        let chunk = tested_chunk(alloc, source, version, &self.due.reference, &self.place)?;
+        if !falls_to(self.due.above, &chunk) {
+            return Err(RootFault::Level {
+                chunk: S::number(&self.place),
+            });
+        }
+        Ok(chunk)
+    }
+
+    /// What is due below the chunk, which has these bytes and was tested.
+    pub(crate) fn below<S: ChunkSource<Place = T>>(
+        self,
+        alloc: Global,
+        source: &mut S,
+        version: Version,
+        chunk: &[u8],
+    ) -> Result<VecDeque<Located<'a, T>>, RootFault>
+        requires { IsWhole version chunk.now }
+        ensures due { IfOk result (λ found. map located_due found.items ≡
+            due_below (level_of chunk.now) (set_of self.entry.due.set) (kind_of version chunk.now)) }
+        ensures lawful { (content : Content) → S.has source.old content →
+            version ≡ content.version → (l : IsLocated S.is_place content self.entry) →
+            chunk.now ≡ bytes_of content.version l.at.level l.at.t → IsOrFails (λ found.
+            AllByRecursion (IsLocated S.is_place content) found.items) MayFail result }
+        ensures asked { HasAsked S.has S.failures source.old source.new result }
+    {
+        // By this law the children of a chunk of a lawful tree are the tops of the trees below it.
+        tops_are_read();
+        if chunk[0] == LEAF {
+            return Ok(VecDeque::new(alloc));
+        }
+        let met = children_met(alloc, version, &chunk[1..], self.due.set)?;
+        locate(alloc, source, chunk[0], self.place, met)
+    }
+}
+
+/// Finds where these children of a node stand, which has this level and stands in this place.
+fn locate<'a, T: Copy + Drop, S: ChunkSource<Place = T>>(
+    alloc: Global,
+    source: &mut S,
+    level: u8,
+    mut place: T,
+    mut met: VecDeque<ChildMet<'a>>,
+) -> Result<VecDeque<Located<'a, T>>, RootFault>
+    requires { 0 < level }
+    ensures due { IfOk result (λ found.
+        map located_due found.items ≡ map (seen_due level) (map met_of met.entry.items)) }
+    ensures lawful { (content : Content) → S.has source.old content →
+        AreChildrenThere S.is_place content (level - 1) place (map met_of met.entry.items) →
+        IsOrFails (λ found. AllByRecursion (IsLocated S.is_place content) found.items)
+        MayFail result }
+    ensures asked { HasAsked S.has S.failures source.old source.new result }
+{
+    let mut found = VecDeque::new(alloc);
+    while let Some(child) = met.pop_front() {
+        let there = source.child(&mut place, level - 1, child.number)?;
+        let located = Located {
+            due: Due::below(level, &child),
+            place: there,
+        };
+        keep(&mut found, located)?;
+    }
+    Ok(found)
+}
+
+/// Adds one behind the others.
+fn keep<'a, T: Copy + Drop>(
+    found: &mut VecDeque<Located<'a, T>>,
+    located: Located<'a, T>,
+) -> Result<(), AllocError>
+    ensures { OnOk result (found.new.items ≡ found.old.items ++ located.entry ∷ []) }
+{
+    found.push_back(located)?;
+    Ok(())
+}
+
+/// Puts these before the others.
+pub(crate) fn put_first<'a, T: Copy + Drop>(
+    due: &mut VecDeque<Located<'a, T>>,
+    mut first: VecDeque<Located<'a, T>>,
+) -> Result<(), AllocError>
+    ensures { OnOk result (due.new.items ≡ first.entry.items ++ due.old.items) }
+{
+    while let Some(last) = first.pop_back() {
+        due.push_front(last)?;
+    }
+    Ok(())
+}
