@@ -6,6 +6,7 @@
 use crate::expect::{expect_bytes, expect_eq};
 use crate::rooted::{Chunks, Rooted, Shown, Sought, expect_shown, keys_from, look_up, open};
 use crate::rooted_differences::changes_between;
+use crate::set_proofs::{Tree, range};
 use prolly_check::{CheckFault, OneThread, StreamFault, check, check_by_root};
 use prolly_entry::{
     Pair, Record, RecordFault, Ref, Sha512Cut, Version, append_child, append_child_as, append_pair,
@@ -14,6 +15,7 @@ use prolly_entry::{
 use prolly_file::{
     FromRead, ScratchFault, ScriptSink, Sink, SinkFault, WholeFault, read_whole, scratch_as,
 };
+use prolly_range::{ProveFault, SetFault};
 use prolly_root::{Reader, RootFault, Subtree};
 use prolly_root_diff::RootDiffFault;
 use prolly_test_parts::{joined, pairs_of};
@@ -272,4 +274,27 @@ fn a_difference_by_the_roots_wants_memory_and_gives_no_more(rt: HostRuntime) -> 
         Some(fault) => expect_eq(&rt, &fault, &RootDiffFault::Memory),
     }
     Ok(())
+}
+
+/// Writes the proof of a range and reads it. A sink whose memory is refused has failed.
+fn expect_set_proof(rt: &impl Abort, alloc: Global) -> Result<(), Fail> {
+    let tree = Tree::of(alloc, Version::Two, 0, b"abc")?;
+    let set = range(b"b", None);
+    let (proof, fault) = tree.proof_at(alloc, set, (0, 0))?;
+    if let Some(fault) = fault {
+        let is_memory = fault == ProveFault::Chunks(RootFault::Memory);
+        expect_eq(rt, &(is_memory || fault == ProveFault::Write), &true);
+        return Ok(());
+    }
+    let (shown, fault) = tree.shown(rt, alloc, set, proof, 0)?;
+    match fault {
+        None => expect_bytes(rt, &shown, b"bbcc"),
+        Some(fault) => expect_eq(rt, &fault, &SetFault::Memory),
+    }
+    Ok(())
+}
+
+#[test]
+fn a_proof_of_a_range_wants_memory(rt: HostRuntime) -> Result<(), Fail> {
+    expect_set_proof(&rt, rt.alloc())
 }

@@ -18,3 +18,5 @@ mod levels;
 mod rooted;
 #[cfg(test)]
 mod rooted_differences;
+#[cfg(test)]
+mod set_proofs;

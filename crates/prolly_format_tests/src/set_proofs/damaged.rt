@@ -1,0 +1,141 @@
+//! Proofs of ranges that were changed, cut or put together anew.
+use super::{Tree, range};
+use crate::expect::expect_eq;
+use prolly_entry::Version;
+use prolly_range::{KeySet, SetFault};
+use prolly_root::ProofFault;
+use prolly_test_parts::joined;
+use std::alloc::{AllocError, Global};
+use std::process::Abort;
+use std::test::Fail;
+
+/// The range of which most of these proofs are: three leaves of five.
+const FROM: &[u8] = b"b";
+
+const TO: &[u8] = b"e";
+
+/// The map of these, and the range.
+const KEYS: &[u8] = b"abcde";
+
+/// The first fault of bytes as a proof of the range.
+fn fault_of(
+    rt: &impl Abort,
+    alloc: Global,
+    tree: &Tree,
+    proof: Vec<u8>,
+) -> Result<Option<SetFault>, AllocError> {
+    let (_, fault) = tree.shown(rt, alloc, range(FROM, Some(TO)), proof, 0)?;
+    Ok(fault)
+}
+
+/// Fails unless this is the first fault of the bytes.
+fn expect_fault(
+    rt: &impl Abort,
+    alloc: Global,
+    tree: &Tree,
+    proof: Vec<u8>,
+    fault: ProofFault,
+) -> Result<(), AllocError> {
+    let told = fault_of(rt, alloc, tree, proof)?;
+    expect_eq(rt, &told, &Some(SetFault::Proof(fault)));
+    Ok(())
+}
+
+/// The bytes with a bit of one of them turned.
+fn turned(alloc: Global, bytes: &[u8], place: usize) -> Result<Vec<u8>, AllocError> {
+    let mut turned = bytes.to_vec(alloc)?;
+    if let Some(byte) = turned.get_mut(place) {
+        *byte ^= [1, 2, 4, 8, 16, 32, 64, 128][place % 8];
+    }
+    Ok(turned)
+}
+
+#[test]
+fn refuses_a_turned_bit_in_each_byte(rt: HostRuntime) -> Result<(), Fail> {
+    let alloc = rt.alloc();
+    for version in [Version::One, Version::Two] {
+        let tree = Tree::of(alloc, version, 0, KEYS)?;
+        let proof = tree.proof(&rt, alloc, range(FROM, Some(TO)))?;
+        for place in 0..proof.len() {
+            let fault = fault_of(&rt, alloc, &tree, turned(alloc, &proof, place)?)?;
+            assert!(rt; fault.is_some(), "at {place}");
+        }
+    }
+    Ok(())
+}
+
+#[test]
+fn refuses_each_part_that_ends_early(rt: HostRuntime) -> Result<(), Fail> {
+    let alloc = rt.alloc();
+    let tree = Tree::of(alloc, Version::Two, 0, KEYS)?;
+    let proof = tree.proof(&rt, alloc, range(FROM, Some(TO)))?;
+    for len in 0..proof.len() {
+        expect_fault(
+            &rt,
+            alloc,
+            &tree,
+            proof[..len].to_vec(alloc)?,
+            ProofFault::Truncated,
+        )?;
+    }
+    Ok(())
+}
+
+#[test]
+fn refuses_bytes_behind_the_last_chunk(rt: HostRuntime) -> Result<(), Fail> {
+    let alloc = rt.alloc();
+    let tree = Tree::of(alloc, Version::One, 0, KEYS)?;
+    let proof = tree.proof(&rt, alloc, range(FROM, Some(TO)))?;
+    let longer = joined(alloc, &[&proof, b"C"])?;
+    expect_fault(&rt, alloc, &tree, longer, ProofFault::Trailing)?;
+    Ok(())
+}
+
+#[test]
+fn refuses_the_proof_of_another_range(rt: HostRuntime) -> Result<(), Fail> {
+    let alloc = rt.alloc();
+    let tree = Tree::of(alloc, Version::One, 0, KEYS)?;
+    let more = tree.proof(&rt, alloc, range(b"a", Some(TO)))?;
+    let fewer = tree.proof(&rt, alloc, range(FROM, Some(b"c")))?;
+    for proof in [more, fewer] {
+        assert!(rt; fault_of(&rt, alloc, &tree, proof)?.is_some());
+    }
+    Ok(())
+}
+
+#[test]
+fn refuses_the_proof_of_another_tree(rt: HostRuntime) -> Result<(), Fail> {
+    let alloc = rt.alloc();
+    let tree = Tree::of(alloc, Version::One, 0, KEYS)?;
+    let set: KeySet<'_> = range(FROM, Some(TO));
+    let other = Tree::of(alloc, Version::One, 0, b"abcd")?.proof(&rt, alloc, set)?;
+    expect_fault(&rt, alloc, &tree, other, ProofFault::Reference { chunk: 0 })?;
+    let counted = Tree::of(alloc, Version::Two, 0, KEYS)?.proof(&rt, alloc, set)?;
+    expect_fault(&rt, alloc, &tree, counted, ProofFault::Version)?;
+    Ok(())
+}
+
+#[test]
+fn refuses_the_proof_of_one_key(rt: HostRuntime) -> Result<(), Fail> {
+    let alloc = rt.alloc();
+    let tree = Tree::of(alloc, Version::One, 0, KEYS)?;
+    let proof = tree.proof(&rt, alloc, range(FROM, Some(TO)))?;
+    let Some(frames) = proof.strip_prefix(b"PRLP\x11") else {
+        return Err("start".into());
+    };
+    let single = joined(alloc, &[b"PRLP\x01", frames])?;
+    expect_fault(&rt, alloc, &tree, single, ProofFault::Header)?;
+    Ok(())
+}
+
+#[test]
+fn takes_no_memory_for_a_length_that_lies(rt: HostRuntime) -> Result<(), Fail> {
+    let alloc = rt.alloc();
+    let tree = Tree::of(alloc, Version::One, 0, KEYS)?;
+    for length in [1 << 40, u64::MAX - 9] {
+        let frame = length.to_be_bytes();
+        let proof = joined(alloc, &[b"PRLP\x11C", &frame, b"\0"])?;
+        expect_fault(&rt, alloc, &tree, proof, ProofFault::Truncated)?;
+    }
+    Ok(())
+}
