@@ -77,6 +77,13 @@ impl Tree {
         })
     }
 
+    /// The bytes of the file.
+    pub fn bytes(&self) -> &[u8]
+        ensures { result.now ≡ self.now }
+    {
+        &self.bytes
+    }
+
     /// The reference of the root. Hashes the root's chunk.
     pub fn root(&self) -> Ref
         ensures { (content : Content) → IsFileOf self.now content →

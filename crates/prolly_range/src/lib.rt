@@ -4,6 +4,7 @@
 //! knows the root's reference learns from it the pairs of these keys, and that there is no other.
 #![tactic(auto)]
 
+mod checked;
 mod children;
 mod due;
 mod fault;
@@ -17,6 +18,7 @@ mod prover;
 mod start;
 mod verifier;
 
+pub use checked::prove_checked_set;
 pub use fault::SetFault;
 pub use key_set::KeySet;
 pub use prove_fault::ProveFault;

@@ -1,0 +1,39 @@
+//! The proof of a set of keys, from a file that was checked.
+ghost use Rattle.std.specs.Prelude.{IfErr, OnOk};
+ghost use Rattle.prolly_check.specs.Content.{Content};
+ghost use Rattle.prolly_check.specs.Verdict.{IsFileOf};
+ghost use Rattle.prolly_entry.specs.Cut.{sha512_cut};
+ghost use Rattle.prolly_file.specs.Sink.{IsSettled};
+ghost use Rattle.prolly_tree.specs.File.{root_reference};
+ghost use Rattle.prolly_range.specs.KeySet.{set_of};
+ghost use Rattle.prolly_range.specs.Prover.{MayFailTo, TellsSink, WritesProof};
+
+use crate::key_set::KeySet;
+use crate::prove_fault::ProveFault;
+use crate::prover::prove_set;
+use prolly_check::Tree;
+use prolly_file::{FromSeek, Sink};
+use prolly_root::FileChunks;
+use std::alloc::Global;
+use std::io::Cursor;
+
+/// Writes the proof of what a checked tree has at the keys of the set, and flushes the sink.
+///
+/// Takes memory as [`prove_set`](crate::prove_set) does.
+pub fn prove_checked_set<W: Sink>(
+    alloc: Global,
+    tree: &Tree,
+    set: KeySet<'_>,
+    sink: &mut W,
+) -> Result<(), ProveFault>
+    ensures proves { (content : Content) → IsFileOf tree.now content →
+        OnOk result (WritesProof content.version
+        (root_reference (sha512_cut content.bits) content.version content.pairs) (set_of set.entry)
+        (W.seen sink.old) (W.seen sink.new)) }
+    ensures settled { OnOk result (IsSettled (W.seen sink.new)) }
+    ensures lawful { (content : Content) → IsFileOf tree.now content → IfErr result MayFailTo }
+    ensures writes { TellsSink (W.seen sink.old).failures (W.seen sink.new).failures result }
+{
+    let mut chunks = FileChunks::new(FromSeek::new(Cursor::new(tree.bytes())));
+    prove_set(alloc, &mut chunks, tree.version(), &tree.root(), set, sink)
+}
