@@ -8,6 +8,8 @@ pub mod Trees
 pub mod Stages
 -- Overlays of neighbours, and merging inputs that end with a fault.
 pub mod Merging
+-- What of a map goes on unchanged where changes are laid over it.
+pub mod Passing
 -- Worked examples, by computation: whole files and, where a cut shows its boundaries, the order of
 -- chunks.
 pub mod Examples

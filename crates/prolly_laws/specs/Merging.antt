@@ -5,15 +5,21 @@ use Rattle.prolly_entry.specs.Overlay.{raw_overlay, AllRising, NeighboursOverlay
 use Rattle.prolly_entry.specs.Record.{Record}
 use Rattle.prolly_tree.specs.CutShort.{CutBehindStop, AreFrontsOf, FrontsMergeToFront}
 use Rattle.prolly_tree.specs.Merge.{Input, merged_part, NeighboursMergeFirst}
+use Rattle.prolly_tree.specs.MergeSteps.{MergeGoesOn}
 use Rattle.prolly_tree.specs.MergedParts.{MergedPartRises, OverlayIsSmall}
 use Rattle.prolly_tree.proofs.merging.CutShort as cut_short
 use Rattle.prolly_tree.proofs.merging.Fronts as fronts
 use Rattle.prolly_tree.proofs.merging.Joins as joins
 use Rattle.prolly_tree.proofs.merging.MergedParts as sizes
+use Rattle.prolly_tree.proofs.merging.MergeSteps as steps
 
 -- Two neighbours may be merged first.
 pub merge_joined : {F : Type 0} → NeighboursMergeFirst F
 merge_joined = joins.merge_joined
+
+-- A merged part goes on key by key.
+pub merged_step : {F : Type 0} → MergeGoesOn F
+merged_step = steps.merged_step
 
 -- Two neighbours may be overlaid first.
 pub overlay_of_two : NeighboursOverlayFirst

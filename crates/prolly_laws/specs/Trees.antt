@@ -5,6 +5,7 @@ use Rattle.prolly_entry.specs.Cut.{Cut}
 use Rattle.prolly_entry.specs.Pair.{Pair}
 use Rattle.prolly_tree.specs.Chunk.{chunk_of, post_order, IsIn, FewChunks, ChunksDiffer}
 use Rattle.prolly_tree.specs.File.{BegunIsPrefix, FileDecidesMap, RootsTellMaps, TreesTellPairs}
+use Rattle.prolly_tree.specs.Leaves.{KeepsLeaves}
 use Rattle.prolly_tree.specs.Tree.{Tree, tree_of, GrowsByNodes, KeepsPairs, FewLevels}
 use Rattle.prolly_tree.specs.lemmas.Trees.{Full}
 use Rattle.prolly_tree.proofs.trees.Distinct as distinct
@@ -31,6 +32,10 @@ grow_is = sizes.grow_is
 -- The pairs below the tree of a map are the map.
 pub pairs_are : (cut : Cut) (version : Version) → KeepsPairs cut version
 pairs_are = sizes.pairs_are
+
+-- The leaves below the tree of a map are the map's leaves.
+pub leaves_are : (cut : Cut) (version : Version) → KeepsLeaves cut version
+leaves_are = sizes.leaves_are
 
 -- The tree of a map has few chunks.
 pub few_chunks : (cut : Cut) (version : Version) → FewChunks cut version

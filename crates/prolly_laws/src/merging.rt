@@ -3,6 +3,7 @@ ghost use Rattle.prolly_entry.specs.Overlay.{OneRawOverlay, OverlayIsMap, Divisi
 ghost use Rattle.prolly_entry.specs.Overlay.{NeighboursOverlayFirst, OverlayStep};
 ghost use Rattle.prolly_tree.specs.CutShort.{CutBehindStop, FrontsMergeToFront};
 ghost use Rattle.prolly_tree.specs.Merge.{NeighboursMergeFirst};
+ghost use Rattle.prolly_tree.specs.MergeSteps.{MergeGoesOn};
 ghost use Rattle.prolly_tree.specs.MergedParts.{MergedPartRises, OverlayIsSmall};
 
 /// Lists with rising keys have one overlay.
@@ -28,6 +29,11 @@ pub fn neighbours_are_overlaid_first()
 /// Two neighbours may be merged first.
 pub fn neighbours_merge_first<Fault>()
     ensures { NeighboursMergeFirst Fault }
+{}
+
+/// A merged part goes on key by key.
+pub fn merges_go_on<Fault>()
+    ensures { MergeGoesOn Fault }
 {}
 
 /// Inputs that were cut short behind their stop have the same stop, and the same merged part.

@@ -2,6 +2,7 @@
 ghost use Rattle.std.specs.Prelude.{ℕ, List};
 ghost use Rattle.prolly_entry.specs.declared.version.Version.{Version};
 ghost use Rattle.prolly_entry.specs.Cut.{Cut};
+ghost use Rattle.prolly_tree.specs.Leaves.{KeepsLeaves};
 ghost use Rattle.prolly_tree.specs.Tree.{GrowsByNodes, KeepsPairs, FewLevels};
 ghost use Rattle.prolly_tree.specs.Chunk.{FewChunks, ChunksDiffer};
 ghost use Rattle.prolly_tree.specs.File.{BegunIsPrefix, FileDecidesMap, RootsTellMaps};
@@ -14,6 +15,11 @@ pub fn trees_grow()
 /// The pairs below the tree of a map are the map.
 pub fn trees_keep_pairs()
     ensures { (cut : Cut) (version : Version) → KeepsPairs cut version }
+{}
+
+/// The leaves below the tree of a map are the map's leaves.
+pub fn trees_keep_leaves()
+    ensures { (cut : Cut) (version : Version) → KeepsLeaves cut version }
 {}
 
 /// The tree of n pairs has at most 3 n + 1 chunks, and that of 2 ^ k pairs at most k + 1 levels.

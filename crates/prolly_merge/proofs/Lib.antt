@@ -2,8 +2,6 @@
 pub mod Equal
 -- Relations between two lists, while a loop goes over them.
 pub mod EachLemmas
--- One step of a merge.
-pub mod MergeSteps
 -- How a merger goes on, and how it stops.
 pub mod Places
 -- The steps of a merger, from its start on.

@@ -26,7 +26,9 @@ use Rattle.prolly_merge.specs.Head.{Stops}
 use Rattle.prolly_merge.specs.Places.{Place, heads_of, AllFit, after, wholes, lefts, Continues}
 use Rattle.prolly_merge.specs.Places.{ComeFirst, Halts}
 use Rattle.prolly_merge.specs.Merged.{SendsAll}
-use Rattle.prolly_merge.proofs.MergeSteps.{not_below_above, Live, rests, merged_step}
+use Rattle.prolly_laws.specs.Merging.{merged_step}
+use Rattle.prolly_tree.specs.MergeSteps.{SaysOn, rests}
+use Rattle.prolly_tree.specs.lemmas.Merging.{not_below_above}
 use Rattle.prolly_merge.proofs.Equal.{ready_ended, ended_same}
 
 -- ---- the beginning
@@ -147,7 +149,7 @@ cons_nil : (r : Record) (m : List Record) → r ∷ m ≡ [] → ⊥
 cons_nil r m e = cc
 
 live_one : (key : List ℕ) (h : Head) (f : Input RunFault) → Allows key h → Fits h f →
-    Live (after (in_hand h) f)
+    SaysOn (after (in_hand h) f)
 live_one key (Ended e) f allows fit = λ _. ap (λ i. i.fault) fit ∙ ap fault_in allows
 live_one key (Ready r) f allows fit = λ none. absurd (cons_nil r f.records none)
 
@@ -157,7 +159,7 @@ not_below_one key (Ended e) f allows fit = subst (λ i. NotBelow key i.records) 
 not_below_one key (Ready r) f allows fit = allows
 
 lefts_live : (key : List ℕ) (ps : List Place) (fs : List (Input RunFault)) →
-    AllByRecursion (Allows key) (heads_of ps) → AllFit ps fs → AllByRecursion Live (lefts ps fs)
+    AllByRecursion (Allows key) (heads_of ps) → AllFit ps fs → AllByRecursion SaysOn (lefts ps fs)
 lefts_live key [] fs allows fit = tt
 lefts_live key (p ∷ ps) [] allows fit = tt
 lefts_live key (p ∷ ps) (f ∷ fs) allows fit =

@@ -13,7 +13,7 @@ use std::sync::Wait;
 
 /// What an input gave last: its next record, or its end.
 #[derive(Drop)]
-pub(crate) enum Head {
+pub enum Head {
     Ready(Record),
     Ended(End),
 }
@@ -33,22 +33,22 @@ pub(crate) fn receive<I: In<Record>, R: Wait>(rt: &R, input: &mut I) -> Head
 }
 
 /// An input, and what it gave last.
-pub(crate) struct Peeked<I> {
-    pub(crate) input: I,
-    pub(crate) head: Head,
+pub struct Peeked<I> {
+    pub input: I,
+    pub head: Head,
 }
 
 impl<I: In<Record>> Peeked<I> {
     /// The input with its first head.
-    pub(crate) fn new<R: Wait>(rt: &R, mut input: I) -> Peeked<I>
+    pub fn new<R: Wait>(rt: &R, mut input: I) -> Peeked<I>
         ensures { Opens I.link I.progress I.Follows I.received input result }
     {
         let head = receive(rt, &mut input);
         Peeked { input, head }
     }
 
-    /// Gives the head, and receives the next one.
-    pub(crate) fn next<R: Wait>(&mut self, rt: &R) -> Head
+    /// Gives the head, and receives the next one. An end is given again.
+    pub fn next<R: Wait>(&mut self, rt: &R) -> Head
         ensures given { result ≡ self.old.head }
         ensures advances { Advances I.link I.progress I.Follows self.old self.new }
         ensures received { I.received self.old.input self.new.input ≡ in_hand self.new.head }
@@ -58,7 +58,7 @@ impl<I: In<Record>> Peeked<I> {
     }
 
     /// The input, received to its end.
-    pub(crate) fn finish<R: Wait>(self, rt: &R) -> I
+    pub fn finish<R: Wait>(self, rt: &R) -> I
         requires { IsHeld self.head (I.progress self.input) }
         ensures { Finishes I.link I.progress I.Follows I.received self result }
     {

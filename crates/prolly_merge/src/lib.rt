@@ -10,5 +10,6 @@ mod many;
 mod round;
 mod two;
 
+pub use heads::{Head, Peeked};
 pub use many::{Merged, merge};
 pub use two::{MergedTwo, merge_two};

@@ -19,4 +19,4 @@ pub use gated::Gated;
 pub use inner::{inner_stage, inner_stage_as};
 pub use leaf::leaf_stage;
 pub use prolly_chunk::ChunkEvent;
-pub use staged::Staged;
+pub use staged::{Staged, send_closed, send_event};

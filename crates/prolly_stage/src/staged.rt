@@ -36,7 +36,7 @@ pub(crate) fn give_up<T: Drop, I: In<T>, O: Out<ChunkEvent>, R: Wait>(
 }
 
 /// Sends an event. An `Err` has sent nothing.
-pub(crate) fn send_event<O: Out<ChunkEvent>, R: Wait>(
+pub fn send_event<O: Out<ChunkEvent>, R: Wait>(
     rt: &R,
     out: &mut O,
     event: ChunkEvent,
@@ -53,7 +53,7 @@ pub(crate) fn send_event<O: Out<ChunkEvent>, R: Wait>(
 }
 
 /// Sends the event of a chunk, if one closed. An `Err` has sent nothing.
-pub(crate) fn send_closed<O: Out<ChunkEvent>, R: Wait>(
+pub fn send_closed<O: Out<ChunkEvent>, R: Wait>(
     rt: &R,
     out: &mut O,
     closed: Option<ChunkEvent>,

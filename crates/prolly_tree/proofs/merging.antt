@@ -8,3 +8,7 @@ pub mod CutShort
 pub mod MergedParts
 -- Maps by what they say of each key, and their differences.
 pub mod Differences
+-- How a merged part goes on, one key after another.
+pub mod MergeSteps
+-- Overlays of lists that are cut at a key.
+pub mod Passing

@@ -13,3 +13,5 @@ pub mod Prefixes
 pub mod Steps
 -- What the writer takes of a list of events.
 pub mod Writers
+-- What the leaf stage sends goes on behind closed leaves, and a leaf that no change touches stays.
+pub mod Passing

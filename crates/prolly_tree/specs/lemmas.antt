@@ -3,6 +3,8 @@
 pub mod Maps
 -- The difference of two maps, from that of what is behind their first pairs.
 pub mod Differences
+-- Keys and records, where inputs are merged.
+pub mod Merging
 -- How a list is split into groups.
 pub mod Splits
 -- Trees, their chunks and their files.

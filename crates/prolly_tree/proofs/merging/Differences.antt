@@ -13,6 +13,11 @@ use Rattle.prolly_entry.specs.lemmas.RisingRecords.{AllAbove, IsRising, is_risin
 use Rattle.prolly_tree.specs.LookUp.{find}
 use Rattle.prolly_tree.specs.Difference.{IsChangeTo, IsDifference, IsMap, puts, OneDifference}
 use Rattle.prolly_tree.specs.Difference.{DifferenceTurns, EqualsDifferNowhere, DifferencesCompose}
+use Rattle.prolly_tree.specs.Applying.{AppliedTwice, NoneApplied, FilesApply}
+use Rattle.prolly_tree.specs.File.{file}
+use Rattle.prolly_entry.specs.Cut.{Cut}
+use Rattle.prolly_entry.specs.declared.version.Version.{Version}
+use Rattle.prolly_tree.proofs.merging.Joins.{overlay_of_two}
 
 -- ---- a map as the records that put its pairs
 
@@ -184,3 +189,39 @@ differences_compose a b c d e h k l first second =
     ∙ over_word (change_of e key) (change_of d key) (change_of (puts a) key) (find b key)
     (turns a b d h first key)
     ∙ word_turns (find b key) (find c key) (change_of e key) (second.says key))
+
+-- To lay changes over what came of others is to lay both over the map, or their overlay.
+pub applied_twice : AppliedTwice
+applied_twice m d e h r s =
+    let n = overlay (puts m ∷ d ∷ []) in
+    let one : (key : List ℕ) → found_by (or_else (change_of d key) (change_of (puts m) key)) ≡
+    find n key = λ key. sym (overlay_finds (puts m ∷ d ∷ []) key (puts_rise m h, (r, tt))) in (
+      same_finds (overlay (puts n ∷ e ∷ [])) (overlay (puts m ∷ d ∷ e ∷ []))
+          (overlay_rises (puts n ∷ e ∷ [])) (overlay_rises (puts m ∷ d ∷ e ∷ []))
+          (λ key. overlay_finds (puts n ∷ e ∷ []) key (
+            puts_rise n (overlay_rises (puts m ∷ d ∷ [])),
+            (s, tt),
+          )
+          ∙ ap (λ w. found_by (or_else (change_of e key) w)) (puts_say n key)
+          ∙ sym (over_word (change_of e key) (change_of d key) (change_of (puts m) key)
+          (find n key) (one key))
+          ∙ sym (later_word (change_of e key) (change_of d key) (change_of (puts m) key))
+          ∙ sym (overlay_finds (puts m ∷ d ∷ e ∷ []) key (puts_rise m h, (r, (s, tt))))),
+      ap pairs_put (overlay_of_two (puts m ∷ []) [] d e (puts_rise m h, (r, (s, tt)))),
+    )
+
+-- No changes leave a map as it is.
+pub none_applied : NoneApplied
+none_applied m h = same_finds (overlay (puts m ∷ [] ∷ [])) m (overlay_rises (puts m ∷ [] ∷ [])) h
+    (λ key. overlay_finds (puts m ∷ [] ∷ []) key (puts_rise m h, (tt, tt))
+    ∙ ap found_by (puts_say m key) ∙ word_turns (find m key) (find m key) None refl)
+
+-- So it is of the files.
+pub files_apply : (cut : Cut) (version : Version) → FilesApply cut version
+files_apply cut version = (
+  λ m h. ap (file cut version) (none_applied m h),
+  λ old new d h k is. ap (file cut version) (difference_turns old new d h k is),
+  λ m d e h r s.
+      let twice = applied_twice m d e h r s in
+      ap (file cut version) (twice.0 ∙ twice.1),
+)

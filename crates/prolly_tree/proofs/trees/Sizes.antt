@@ -11,6 +11,7 @@ use Rattle.prolly_tree.specs.Split.{split}
 use Rattle.prolly_tree.specs.Tree.{Tree, grow, grow_within, nodes, child_is_boundary}
 use Rattle.prolly_tree.specs.Tree.{pair_is_boundary, pairs_below, leaves, leaves_of, GrowsByNodes}
 use Rattle.prolly_tree.specs.Tree.{KeepsPairs}
+use Rattle.prolly_tree.specs.Leaves.{leaves_below, KeepsLeaves}
 use Rattle.prolly_tree.specs.Chunk.{post_order, chunks, chunk_of, FewChunks}
 use Rattle.prolly_tree.specs.lemmas.Splits.{flat}
 use Rattle.prolly_tree.proofs.splits.Splits.{few_groups, split_splits}
@@ -160,3 +161,40 @@ module _ (cut : Cut) (version : Version) where
       (leaf_some (split (pair_is_boundary cut) 1 m))
       ∙ leaf_pairs m (split (pair_is_boundary cut) 1 m)
       (split_splits (pair_is_boundary cut) 1 m).whole
+
+  -- ---- the leaves below
+
+  leaves_in_nodes : (level : ℕ) (groups : List (List (Tree level))) →
+      flat_map (leaves_below (suc level)) groups ≡ flat_map (leaves_below level) (flat groups)
+  leaves_in_nodes level [] = refl
+  leaves_in_nodes level (g ∷ gs) =
+      ap (λ ls. flat_map (leaves_below level) g ++ ls) (leaves_in_nodes level gs)
+      ∙ sym (flat_map-append (leaves_below level) g (flat gs))
+
+  leaves_within : (steps level : ℕ) (ts : List (Tree level)) → length ts ≤ suc steps →
+      0 < length ts →
+      leaves_below (grow_within steps cut version level ts).level
+      (grow_within steps cut version level ts).tree ≡ flat_map (leaves_below level) ts
+  leaves_within steps level [] h k = absurd (omega arith)
+  leaves_within steps level (t ∷ []) h k = sym (append-nil (leaves_below level t))
+  leaves_within zero level (t ∷ u ∷ ts) h k = absurd (omega arith)
+  leaves_within (suc steps) level (t ∷ u ∷ ts) h k =
+      let s = split_splits (child_is_boundary cut version level) 2 (t ∷ u ∷ ts) in
+      let less : length (nodes cut version level (t ∷ u ∷ ts)) < suc (suc (length ts)) =
+      fewer cut version level t u ts in
+      let h' : suc (suc (length ts)) ≤ suc (suc steps) = h in
+      let some : 0 < length (nodes cut version level (t ∷ u ∷ ts)) =
+      some_groups (nodes cut version level (t ∷ u ∷ ts))
+      (subst (λ xs. 0 < length xs) (sym s.whole) k) in
+      leaves_within steps (suc level) (nodes cut version level (t ∷ u ∷ ts)) (omega arith) some
+      ∙ leaves_in_nodes level (nodes cut version level (t ∷ u ∷ ts))
+      ∙ ap (flat_map (leaves_below level)) s.whole
+
+  each_leaf : (ls : List (List Pair)) → flat_map (leaves_below 0) ls ≡ ls
+  each_leaf [] = refl
+  each_leaf (l ∷ ls) = ap (λ xs. l ∷ xs) (each_leaf ls)
+
+  pub leaves_are : KeepsLeaves cut version
+  unfolding grow
+  leaves_are m = leaves_within (length (leaves cut m)) 0 (leaves cut m) (omega arith)
+      (leaf_some (split (pair_is_boundary cut) 1 m)) ∙ each_leaf (leaves cut m)

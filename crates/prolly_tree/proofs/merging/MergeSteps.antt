@@ -1,4 +1,4 @@
--- One step of a merge.
+-- How a merged part goes on, one key after another.
 use Rattle.std.proofs.Common.{◌≡◌, ℕ, Bool, true, false, not, cond, List, [], ◌∷◌, map, Option}
 use Rattle.std.proofs.Common.{Some, None, Ordering, refl, sym, ap, ◌∙◌, subst}
 use Rattle.std.specs.declared.cmp.Ordering.TheVariants.{Less, Equal, Greater}
@@ -7,23 +7,16 @@ use Rattle.std.proofs.lemmas.Bool.{false≢true}
 use Rattle.std.specs.List.{filter, AllByRecursion}
 use Rattle.prolly_entry.specs.Record.{Record}
 use Rattle.prolly_entry.specs.Keys.{key_order, KeyBelow}
-use Rattle.prolly_entry.specs.Overlay.{raw_overlay, last_change_of, AllRising, NotBelow, rest_after}
+use Rattle.prolly_entry.specs.Overlay.{raw_overlay, AllRising, NotBelow, rest_after}
 use Rattle.prolly_tree.specs.Merge.{Input, Stop, stop_at, earlier_stop, stop, is_within}
-use Rattle.prolly_tree.specs.Merge.{raw_merged_part, stop_fault}
+use Rattle.prolly_tree.specs.Merge.{stop_fault}
 use Rattle.prolly_entry.specs.Position.{Position, last_position, is_before}
 use Rattle.prolly_entry.specs.lemmas.RisingRecords.{IsRising, AllAbove, is_rising}
 use Rattle.prolly_entry.specs.lemmas.Overlays.{rising_raw, merge_step}
 use Rattle.prolly_entry.specs.lemmas.Orders.{eq_true, order_same, order_self, order_trans}
-use Rattle.prolly_entry.specs.lemmas.Orders.{greater_below, not_eq_above}
-
-pub not_below_above : (x y : List ℕ) → is_lt (key_order x y) ≡ false →
-    is_eq (key_order x y) ≡ false → KeyBelow y x
-not_below_above x y h k = go (key_order x y) refl
-  where
-    go : (o : Ordering) → key_order x y ≡ o → KeyBelow y x
-    go Less e = absurd (false≢true (sym h ∙ ap is_lt e))
-    go Equal e = absurd (false≢true (sym k ∙ ap is_eq e))
-    go Greater e = greater_below x y e
+use Rattle.prolly_entry.specs.lemmas.Orders.{not_eq_above}
+use Rattle.prolly_tree.specs.MergeSteps.{MergeGoesOn, SaysOn, rests}
+use Rattle.prolly_tree.specs.lemmas.Merging.{not_below_above}
 
 -- what is above what is not below the key is not below it
 above_at_least : (key x y : List ℕ) → is_lt (key_order x key) ≡ false → KeyBelow x y →
@@ -109,14 +102,6 @@ module _ {F : Type 0} where
   StopAtLeast key None = Unit {0}
   StopAtLeast key (Some s) = AtLeast key s.position
 
-  -- a fault has come only where records are left
-  abbrev pub Live : Input F → Type 0
-  Live i = i.records ≡ [] → i.fault ≡ None
-
-  abbrev pub rests : List ℕ → List (Input F) → List (Input F)
-  rests key inputs = map (λ i. record { records = rest_after key i.records; fault = i.fault })
-      inputs
-
   abbrev records_of : List (Input F) → List (List Record)
   records_of inputs = map (λ i. i.records) inputs
 
@@ -162,7 +147,7 @@ module _ {F : Type 0} where
   own_rest key m (Some f) h k = ap (λ p. stop_at p (Some f)) (last_rest key m h k)
 
   stop_at_least : (key : List ℕ) (inputs : List (Input F)) → AllRising (records_of inputs) →
-      AllByRecursion (NotBelow key) (records_of inputs) → AllByRecursion Live inputs →
+      AllByRecursion (NotBelow key) (records_of inputs) → AllByRecursion SaysOn inputs →
       StopAtLeast key (stop inputs)
   unfolding StopAtLeast
   stop_at_least key [] h k l = tt
@@ -172,7 +157,7 @@ module _ {F : Type 0} where
       (stop_at_least key inputs h.1 k.1 l.1)
 
   stop_rests : (key : List ℕ) (inputs : List (Input F)) → AllRising (records_of inputs) →
-      AllByRecursion (NotBelow key) (records_of inputs) → AllByRecursion Live inputs →
+      AllByRecursion (NotBelow key) (records_of inputs) → AllByRecursion SaysOn inputs →
       stop (rests key inputs) ≡ lowered key (stop inputs)
   unfolding lowered
   stop_rests key [] h k l = refl
@@ -231,14 +216,8 @@ module _ {F : Type 0} where
   lists_of_rests key (i ∷ inputs) = ap (λ ls. rest_after key i.records ∷ ls)
       (lists_of_rests key inputs)
 
-  -- The merged part begins with the least key, and goes on as that of what is left, with the same
-  -- fault.
-  pub merged_step : (inputs : List (Input F)) (key : List ℕ) (value : Option (List ℕ)) →
-      AllRising (records_of inputs) → AllByRecursion (NotBelow key) (records_of inputs) →
-      AllByRecursion Live inputs → last_change_of (records_of inputs) key ≡ Some value →
-      (raw_merged_part inputs ≡ record { key = key; value = value } ∷ raw_merged_part
-      (rests key inputs))
-      × (stop_fault (stop inputs) ≡ stop_fault (stop (rests key inputs)))
+  -- The merged part begins with the least key, and goes on as that of what is left.
+  pub merged_step : MergeGoesOn F
   merged_step inputs key value h k l e =
       let o = stop inputs in
       let first : Record = record { key = key; value = value } in
