@@ -68,7 +68,7 @@ impl<'a> Pairs<'a> {
     }
 
     /// The spelling of the next pair. Takes no memory.
-    pub(crate) fn next_spelling(&mut self) -> Option<&'a [u8]>
+    pub fn next_spelling(&mut self) -> Option<&'a [u8]>
         ensures next { MatchOption result (self.old ≡ []) (λ spelling. (p : PairValue) ×
             (spelling.now ≡ pair_spelling p) × (self.old ≡ p ∷ self.new)) }
         ensures none { IfNone result (self.new ≡ []) }
@@ -159,7 +159,7 @@ pub fn pairs_of(version: Version, chunk: &[u8]) -> Pairs<'_>
 
 /// The event of a chunk that was tested, and is a leaf with pairs. Takes no memory and no hash, and
 /// goes over the pairs once.
-pub(crate) fn leaf_event(version: Version, chunk: &[u8]) -> BorrowedEvent<'_>
+pub fn leaf_event(version: Version, chunk: &[u8]) -> BorrowedEvent<'_>
     requires whole { IsWhole version chunk.now }
     requires some { 0 < length (pairs_held chunk.now) }
     ensures event { result ≡ chunk_of One 0 (pairs_held chunk.now) }

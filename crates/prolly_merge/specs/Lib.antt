@@ -16,3 +16,5 @@ pub mod MergeStep
 pub mod Turn
 -- Which of many inputs is next.
 pub mod Choice
+-- Lemmas for the crates above, by subject.
+pub mod lemmas

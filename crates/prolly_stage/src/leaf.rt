@@ -80,7 +80,7 @@ fn send_leaves<C: Cut, I: In<Pair>, O: Out<ChunkEvent>, R: Wait>(
 }
 
 /// Takes a pair, and sends the leaf that it closes, if any. An `Err` has sent nothing.
-fn take_pair<C: Cut, O: Out<ChunkEvent>, R: Wait>(
+pub fn take_pair<C: Cut, O: Out<ChunkEvent>, R: Wait>(
     rt: &R,
     alloc: Global,
     leaves: &mut LeafLevel<C>,
