@@ -1,3 +1,5 @@
+-- Leaves with pairs.
+pub mod Leaves
 -- What was taken, step by step.
 pub mod Steps
 -- How the leaves of an old tree are seen to be cut.

@@ -38,15 +38,20 @@ impl Model for OldLeaf {
 
 impl OldLeaf {
     /// The leaf with these bytes, which has pairs, and whose reference was compared. Goes over the
-    /// pairs once, and takes memory for the last key. (No version matters: a leaf is the same in
-    /// each.)
-    pub fn new(alloc: Global, reference: Ref, chunk: Vec<u8>) -> Result<OldLeaf, AllocError>
-        requires whole { IsWhole One chunk.items }
+    /// pairs once, and takes memory for the last key. (A leaf is the same in each version.)
+    #[tactic(auto, using(crate::proofs::Leaves::whole_one))]
+    pub fn new(
+        alloc: Global,
+        version: Version,
+        reference: Ref,
+        chunk: Vec<u8>,
+    ) -> Result<OldLeaf, AllocError>
+        requires whole { IsWhole version chunk.items }
         requires some { 0 < length (pairs_held chunk.items) }
         requires reference { reference.0 ≡ reference_of chunk.items }
         ensures { IfOk result (λ leaf. leaf ≡ pairs_held chunk.items) }
     {
-        let event = leaf_event(Version::One, &chunk);
+        let event = leaf_event(version, &chunk);
         let (level, count) = (event.level(), event.count());
         let key = Vec::from_slice(alloc, event.key())?;
         let event = ChunkEvent::new(level, key, reference, chunk, count);

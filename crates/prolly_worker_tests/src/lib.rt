@@ -4,6 +4,8 @@
 #![tactic(auto)]
 
 #[cfg(test)]
+mod applying;
+#[cfg(test)]
 mod growths;
 #[cfg(test)]
 mod links;
