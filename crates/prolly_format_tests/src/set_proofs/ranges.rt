@@ -1,8 +1,10 @@
 //! All ranges of small maps.
 use super::{Tree, range};
 use crate::expect::{expect_bytes, expect_eq};
+use prolly_check::check;
 use prolly_entry::Version;
-use prolly_range::{KeySet, ProveFault, SetFault};
+use prolly_file::{FromRead, ScriptSink};
+use prolly_range::{KeySet, ProveFault, SetFault, prove_checked_set};
 use prolly_root::RootFault;
 use std::alloc::{AllocError, Global};
 use std::process::Abort;
@@ -97,6 +99,32 @@ fn each_range_of_small_maps_is_proved(rt: HostRuntime) -> Result<(), Fail> {
             let tree = Tree::of(alloc, version, bits, keys)?;
             expect_all_proved(&rt, alloc, &tree, keys)?;
         }
+    }
+    Ok(())
+}
+
+/// Fails unless the proof of a range from the checked file is that by the root.
+fn expect_same_checked(
+    rt: &impl Abort,
+    alloc: Global,
+    tree: &Tree,
+    set: KeySet<'_>,
+) -> Result<(), Fail> {
+    let checked = check(alloc, &mut FromRead::new(tree.file.as_slice()), 1_000)?;
+    let mut sink = ScriptSink::new(alloc, 7, None);
+    let fault = prove_checked_set(alloc, &checked, set, &mut sink).err();
+    expect_eq(rt, &fault, &None);
+    expect_bytes(rt, sink.taken(), &tree.proof(rt, alloc, set)?);
+    Ok(())
+}
+
+#[test]
+fn a_checked_file_is_proved_as_by_its_root(rt: HostRuntime) -> Result<(), Fail> {
+    let alloc = rt.alloc();
+    for version in [Version::One, Version::Two] {
+        let tree = Tree::of(alloc, version, 0, b"abcde")?;
+        expect_same_checked(&rt, alloc, &tree, range(b"b", Some(b"e")))?;
+        expect_same_checked(&rt, alloc, &tree, range(b"", None))?;
     }
     Ok(())
 }
