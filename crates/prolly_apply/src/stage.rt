@@ -24,6 +24,7 @@ use std::sync::Wait;
 const OLD_TREE: u32 = u32::MAX;
 
 /// What the stage gives back: both inputs have ended, and the output is closed.
+#[derive(Drop)]
 pub struct Applied<L, I, O: Out<ChunkEvent>> {
     pub old: L,
     pub changes: I,

@@ -6,7 +6,7 @@ use prolly_link::{End, RunFault};
 use std::alloc::AllocError;
 
 /// Why the stage stops before both inputs have come to a clean end.
-#[derive(Clone, Copy, Debug, PartialEq, Eq)]
+#[derive(Clone, Copy, Debug)]
 pub(crate) enum Stop {
     /// Memory was refused.
     Memory,

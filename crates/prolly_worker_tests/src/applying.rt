@@ -2,11 +2,11 @@
 use crate::links::comparing::{expect_bytes, expect_eq};
 use prolly_apply::{Applied, OldLeaf, apply_stage};
 use prolly_check::{pairs_of, test_chunk};
-use prolly_entry::{KeyCut, Pair, Record, Version};
+use prolly_entry::{KeyCut, Pair, Record, Ref, Version};
 use prolly_link::{ClosedList, End, ListIn, ListOut, RunFault};
 use prolly_merge::merge;
 use prolly_stage::{ChunkEvent, Staged, leaf_stage};
-use std::alloc::Global;
+use std::alloc::{AllocError, Global};
 use std::process::Abort;
 use std::sync::Wait;
 use std::test::Fail;
@@ -20,10 +20,7 @@ const OLD_FAULT: End = End::Fault(RunFault::Read { file: u32::MAX });
 const FILE_FAULT: End = End::Fault(RunFault::OutOfOrder { file: 0, place: 7 });
 
 fn pair(alloc: Global, key: &[u8], value: &[u8]) -> Result<Pair, Fail> {
-    Ok(Pair::new(
-        Vec::from_slice(alloc, key)?,
-        Vec::from_slice(alloc, value)?,
-    )?)
+    Ok(Pair::new(Vec::from_slice(alloc, key)?, Vec::from_slice(alloc, value)?)?)
 }
 
 /// The pairs of a map: each binary digit says whether it has a key.
@@ -64,7 +61,12 @@ fn changes_of(alloc: Global, digits: u32) -> Result<Vec<Record>, Fail> {
 }
 
 /// The leaves of these pairs.
-fn leaves_of<R: Wait>(rt: &R, alloc: Global, pairs: Vec<Pair>, last: End) -> ClosedList<ChunkEvent> {
+fn leaves_of<R: Wait>(
+    rt: &R,
+    alloc: Global,
+    pairs: Vec<Pair>,
+    last: End,
+) -> ClosedList<ChunkEvent> {
     let input = ListIn::new(pairs, last);
     let Staged { input, out } = leaf_stage(rt, alloc, KeyCut, input, ListOut::new(alloc));
     drop(input);
@@ -92,7 +94,11 @@ fn old_leaves<R: Wait>(
     count: usize,
 ) -> Result<Vec<OldLeaf>, Fail> {
     let mut leaves = Vec::new(alloc);
-    for event in leaves_of(rt, alloc, pairs, CLEAN).items {
+    let made = leaves_of(rt, alloc, pairs, CLEAN);
+    if made.last != CLEAN {
+        Err(AllocError)?;
+    }
+    for event in made.items {
         if leaves.len() < count {
             if let Some(leaf) = old_leaf(alloc, event)? {
                 leaves.push(leaf)?;
@@ -112,6 +118,21 @@ fn pairs_in(alloc: Global, leaves: &[OldLeaf]) -> Result<Vec<Pair>, Fail> {
         }
     }
     Ok(all)
+}
+
+/// Lays a change of the last key over a map of all keys.
+pub(crate) fn apply_one<R: Wait>(rt: &R, alloc: Global) -> Result<ClosedList<ChunkEvent>, Fail> {
+    let leaves = old_leaves(rt, alloc, map_of(alloc, 31)?, 3)?;
+    let changes = ListIn::new(changes_of(alloc, 81)?, CLEAN);
+    let old = ListIn::new(leaves, CLEAN);
+    let Applied {
+        old,
+        changes,
+        out,
+        refused: _,
+    } = apply_stage(rt, alloc, KeyCut, old, changes, ListOut::new(alloc));
+    drop((old, changes));
+    Ok(out)
 }
 
 /// Compares the stage with a merge of both inputs and a stage of leaves behind it.
@@ -196,7 +217,7 @@ fn expect_refused<R: Abort + Wait>(
     let mut leaves = Vec::new(alloc);
     for chunk in chunks {
         let chunk = Vec::from_slice(alloc, chunk)?;
-        let event = ChunkEvent::new(0, Vec::new(alloc), prolly_entry::Ref::of(&chunk), chunk, 0);
+        let event = ChunkEvent::new(0, Vec::new(alloc), Ref::of(&chunk), chunk, 0);
         if let Some(leaf) = old_leaf(alloc, event)? {
             leaves.push(leaf)?;
         }
@@ -227,7 +248,12 @@ fn trees_of_other_bits_are_refused(rt: HostRuntime) -> Result<(), Fail> {
     let alloc = rt.alloc();
     let whole: &[u8] = b"\0\0\x01a\0\0\0\x011\0\x02b!\0\0\0\x011";
     // The first leaf does not end with a boundary, and another one follows.
-    expect_refused(&rt, alloc, &[b"\0\0\x01a\0\0\0\x011", b"\0\0\x02b!\0\0\0\x011"], 0)?;
+    expect_refused(
+        &rt,
+        alloc,
+        &[b"\0\0\x01a\0\0\0\x011", b"\0\0\x02b!\0\0\0\x011"],
+        0,
+    )?;
     // The second leaf has a boundary before its last pair.
     let inside: &[u8] = b"\0\0\x02c!\0\0\0\x011\0\x02d!\0\0\0\x011";
     expect_refused(&rt, alloc, &[whole, inside], 1)

@@ -4,6 +4,7 @@
 //! `tests/growths_of_calls.py` refuses these tests each growth in turn. Where it is one for a
 //! test's own values, the test ends in want of memory; where it is one of the calls that are
 //! tested, the test goes on.
+use crate::applying::apply_one;
 use crate::links::comparing::{expect_bytes, expect_eq};
 use crate::loading::{THREE_PUTS, bytes_of, load_all};
 use crate::merging::{bytes_of_pairs, bytes_of_records, list_of, lists_of};
@@ -135,4 +136,12 @@ fn expect_nodes<R: Abort + Wait>(rt: &R, alloc: Global) -> Result<(), Fail> {
 fn stages_send_a_first_part(rt: HostRuntime) -> Result<(), Fail> {
     expect_leaves(&rt, rt.alloc())?;
     expect_nodes(&rt, rt.alloc())
+}
+
+#[test]
+fn a_stage_over_an_old_tree_sends_a_first_part(rt: HostRuntime) -> Result<(), Fail> {
+    let sent = apply_one(&rt, rt.alloc())?;
+    let levels = levels_of(rt.alloc(), &sent.items)?;
+    expect_front(&rt, &levels, sent.last, &[0, 0, 0]);
+    Ok(())
 }
