@@ -68,7 +68,7 @@ def pairs_of_maps():
     yield "the empty key is new", ABC, [(b"", b""), *ABC]
     yield "no key is the same", [(b"a", b"1"), (b"c", b"1")], [(b"b", b"1"), (b"d", b"1")]
     yield "the greatest pair", LONG, ABC
-    for count in (0, 1, 10, len(NUMBERS)):
+    for count in (0, 1, 10, 1_000, len(NUMBERS)):
         yield f"3,000 pairs, {count} changed", NUMBERS, changed(NUMBERS, count, chance)
     for number in range(12):
         old = some_map(chance, chance.choice([1, 10, 200, 1_000]))
