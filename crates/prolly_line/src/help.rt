@@ -123,8 +123,12 @@ about 28,200,000 records of 38 bytes make.
 
 --bits and --format decide what the chunk file holds. Choose --bits before the
 first build, since another number is another root. The default, 12, suits trees
-that are loaded and scanned: a chunk of short pairs has some 150 kB. 5 to 7 suit
-trees that are compared, sent or proved, with 1 to 5 kB a chunk.
+that are loaded and scanned; 5 to 7 suit trees that are compared, sent or
+proved. Of a million pairs of 38 bytes --bits make
+  4   chunks of 0.6 kB; ten changes make 50 kB new; a proof has 4.8 kB
+  6   chunks of 2.5 kB; ten changes make 101 kB new; a proof has 9.5 kB
+  8   chunks of 9.7 kB; ten changes make 298 kB new; a proof has 35 kB
+  12  chunks of 159 kB; ten changes make 3.2 MB new; a proof has 272 kB
 
 --stages and --max-records are limits: a tree of more levels, or a file of more
 records, is refused. --capacity and --batch change only how much memory the
